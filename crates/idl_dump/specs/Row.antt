@@ -3,8 +3,8 @@ use Rattle.std.specs.Prelude.{ℕ, Bool, true, false, ◌||◌, List, [], ◌∷
 use Rattle.std.specs.List.{repeat}
 use Rattle.std.specs.Str.{bytes_eq}
 use Rattle.idl_lex.specs.tokens.Tokens.{Token}
-use Rattle.idl_site.specs.Item.{Item, item_length}
-use Rattle.idl_site.specs.Part.{Part as item}
+use Rattle.idl_parts.specs.Item.{Item, item_length}
+use Rattle.idl_parts.specs.Part.{Part as item}
 use Rattle.idl_tree.specs.declared.several.Several.{Several}
 use Rattle.idl_value.specs.Evaluation.{joined}
 use Rattle.idl_value.specs.Spelled.{escaped, path_word, value_word}

@@ -5,7 +5,7 @@ ghost use Rattle.std.specs.List.{repeat};
 ghost use Rattle.std.specs.Str.{bytes_eq};
 ghost use Rattle.idl_dump.specs.Row.{behind_site, next_path, next_value, row_of, site_text, spaced, text_word, token_text, unit_text};
 ghost use Rattle.idl_dump.specs.HeldRow.{rest_at};
-ghost use Rattle.idl_site.specs.Item.{item_at, item_length, items_length};
+ghost use Rattle.idl_parts.specs.Item.{item_at, item_length, items_length};
 ghost use Rattle.idl_tree.specs.Name.{spell_name};
 ghost use Rattle.idl_value.specs.Spelled.{escaped, path_word};
 
@@ -14,7 +14,7 @@ use idl_base::Seq;
 use idl_entity::Path;
 use idl_entity::paths::Names;
 use idl_lex::Token;
-use idl_site::Site;
+use idl_parts::Site;
 use idl_tree::{ScopedName, Several, name_length};
 use idl_value::{Value, joined, push_name, push_part, push_value};
 use std::alloc::AllocError;

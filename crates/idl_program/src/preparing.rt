@@ -6,9 +6,9 @@ ghost use Rattle.idl_program.specs.Options.{AreAsked, before_equals, defined_by,
 
 use crate::failure::OptionsFault;
 use crate::request::Options;
+use idl_project::{MAX_ROOTS, Sources};
 use idl_source::path::directory_at;
 use idl_source::{Directory, Line, Name, Refusal, first_part, join};
-use idl_workspace::{MAX_ROOTS, Sources};
 use indexmap::IndexSet;
 use std::alloc::{AllocError, Global};
 

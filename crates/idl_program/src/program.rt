@@ -14,8 +14,8 @@ use crate::loader::Loader;
 use crate::loading::compile_all;
 use crate::preparing::prepared;
 use crate::request::{Options, Request, request_of};
+use idl_project::CompiledRoot;
 use idl_session::{Session, Sink, Source, WriteFailed, run, write_all, write_lines};
-use idl_workspace::CompiledRoot;
 use std::alloc::Global;
 use std::mem::forget;
 

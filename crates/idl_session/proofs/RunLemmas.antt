@@ -19,7 +19,7 @@ use Rattle.idl_session.specs.declared.stop.Stop.{Stop}
 use Rattle.idl_session.specs.declared.stop.Stop.TheVariants.{ReadFailed, WriteFailed}
 use Rattle.idl_session.proofs.ReplyLemmas.{append-none}
 use Rattle.idl_session.proofs.StreamLemmas.{prepend-none, prepend-prepend, onto-none, onto-onto, lines-more, clash}
-use Rattle.idl_workspace.specs.UpToDate.{State}
+use Rattle.idl_project.specs.UpToDate.{State}
 
 commands_after-drop : (n : ℕ) (ls : List (List ℕ)) → commands_after n ls ≡ commands_after 0 (drop n ls)
 commands_after-drop zero ls = refl

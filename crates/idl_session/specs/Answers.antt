@@ -3,10 +3,10 @@
 use Rattle.std.specs.Prelude.{◌≡◌, ℕ, List, [], ◌∷◌, ◌++◌, Result}
 use Rattle.idl_source.specs.declared.refusal.Refusal.{Refusal}
 use Rattle.idl_source.specs.declared.refusal.Refusal.TheVariants as refusal
-use Rattle.idl_workspace.specs.Edited.{IsEdited}
-use Rattle.idl_workspace.specs.Edits.{Edit}
-use Rattle.idl_workspace.specs.UpToDate.{State}
-use Rattle.idl_workspace.specs.declared.work.Work.{Work}
+use Rattle.idl_project.specs.Edited.{IsEdited}
+use Rattle.idl_project.specs.Edits.{Edit}
+use Rattle.idl_project.specs.UpToDate.{State}
+use Rattle.idl_project.specs.declared.work.Work.{Work}
 use Rattle.idl_session.specs.Commands.{Command, Malformed, Unfinished, Make, Ask, TellWork, commands_of}
 use Rattle.idl_session.specs.replies.Replies.{refused_reply, edit_reply, query_reply, work_reply}
 use Rattle.idl_session.specs.replies.Rows.{rows_for}

@@ -2,7 +2,7 @@
 use Rattle.std.specs.Prelude.{◌≡◌, ℕ, List, ◌++◌, false, Option}
 use Rattle.std.specs.Option.{option_map}
 use Rattle.idl_source.specs.devices.Device.{prepend, append, WritesPart}
-use Rattle.idl_workspace.specs.UpToDate.{State}
+use Rattle.idl_project.specs.UpToDate.{State}
 use Rattle.idl_session.specs.Answers.{Answers, Replies}
 use Rattle.idl_session.specs.Commands.{Command, command_of, commands_of, complete_commands}
 use Rattle.idl_session.specs.Requests.{Request, lines_taken}

@@ -1,7 +1,7 @@
 -- What a run leaves where a device fails.
 use Rattle.std.specs.Prelude.{◌≡◌, ℕ, ◌+◌, List, ◌∷◌, ◌++◌, Option}
 use Rattle.idl_source.specs.devices.Device.{prepend, append, WritesPart}
-use Rattle.idl_workspace.specs.UpToDate.{State}
+use Rattle.idl_project.specs.UpToDate.{State}
 use Rattle.idl_session.specs.Answers.{Answers, Replies}
 use Rattle.idl_session.specs.Commands.{Command, commands_of, complete_commands}
 use Rattle.idl_session.specs.declared.stop.Stop.{Stop}

@@ -8,8 +8,8 @@ ghost use Rattle.idl_session.specs.Stopping.{IsCounted, IsLeft};
 use crate::line_buffer::read_line;
 use crate::serve::{Input, serve};
 use crate::stop::Stop;
+use idl_project::Session;
 use idl_source::{Sink, Source};
-use idl_workspace::Session;
 
 /// Serves the commands that a source gives, one after the other until it ends, and writes the replies to a sink.
 ///

@@ -2,15 +2,15 @@
 
 ghost use Rattle.std.specs.Prelude.{◌≡◌, ℕ, List, true, Err, IfOk, MatchBool, map, nat_eq, length};
 ghost use Rattle.idl_source.specs.texts.Line.{IsLine};
-ghost use Rattle.idl_workspace.specs.Edited.{IsEdited};
-ghost use Rattle.idl_workspace.specs.Edits.{Define, Search, after, are_too_long};
+ghost use Rattle.idl_project.specs.Edited.{IsEdited};
+ghost use Rattle.idl_project.specs.Edits.{Define, Search, after, are_too_long};
 ghost use Rattle.idl_session.specs.replies.Announced.{IsAnnounced};
 ghost use Rattle.idl_session.specs.Headings.{HasLine, edit_by, edit_with, words_after};
 
 use crate::announced::Announced;
 use crate::heading::{Change, Placement};
+use idl_project::{Session, Work};
 use idl_source::{Line, Name, Refusal, first_part};
-use idl_workspace::{Session, Work};
 use std::alloc::{AllocError, Global};
 
 /// Places the gathered lines.

@@ -7,8 +7,8 @@ ghost use Rattle.idl_session.specs.Requests.{request_in_words, define_request, c
 ghost use Rattle.idl_session.specs.Headings.{request_by, words_after, HasLines};
 ghost use Rattle.std.specs.List.{list_all};
 
+use idl_project::Span;
 use idl_source::first_part;
-use idl_workspace::Span;
 
 /// Where announced lines go.
 #[derive(Clone, Copy)]

@@ -17,11 +17,11 @@ mod serve;
 mod stop;
 
 pub use commands::run;
-pub use idl_source::devices::{BufferSink, ReadFailed, SliceSource, WriteFailed, write_all};
-pub use idl_source::{Line, Name, Refusal, Sink, Source};
-pub use idl_workspace::{
+pub use idl_project::{
     Finding, MAX_BODY, MAX_DIRECTORIES, MAX_MACROS, MAX_ROOTS, Row, Session, Span, Work,
 };
+pub use idl_source::devices::{BufferSink, ReadFailed, SliceSource, WriteFailed, write_all};
+pub use idl_source::{Line, Name, Refusal, Sink, Source};
 pub use laws::complete_commands;
 pub use reply::write_lines;
 pub use stop::Stop;

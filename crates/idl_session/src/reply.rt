@@ -9,9 +9,9 @@ ghost use Rattle.idl_session.specs.replies.Rows.{rows_of};
 
 use crate::rows::Rows;
 use arrayvec::ArrayVec;
+use idl_project::{Row, Work};
 use idl_source::devices::{WriteFailed, write_all};
 use idl_source::{Refusal, Sink};
-use idl_workspace::{Row, Work};
 use itoa::Buffer;
 use std::marker::Model;
 

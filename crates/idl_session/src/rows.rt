@@ -5,8 +5,8 @@ ghost use Rattle.std.specs.Option.{option_map};
 ghost use Rattle.idl_session.specs.replies.Rows.{rows_for, rows_of};
 
 use crate::heading::Question;
+use idl_project::{Row, Session};
 use idl_source::Name;
-use idl_workspace::{Row, Session};
 
 /// Rows that a session lends: those of a root, or the names of files.
 #[derive(Clone, Copy)]

@@ -20,9 +20,9 @@ use crate::line_buffer::LineBuffer;
 use crate::reply::{write_ok, write_refused, write_rows, write_work};
 use crate::rows::{Rows, ask};
 use crate::stop::Stop;
+use idl_project::{Session, Work};
 use idl_source::devices::WriteFailed;
 use idl_source::{Name, Refusal, Sink, Source};
-use idl_workspace::{Session, Work};
 
 /// What was read of a source: a command line, and the bytes after it.
 #[derive(Drop)]

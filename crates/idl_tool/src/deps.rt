@@ -12,9 +12,9 @@ use crate::program::Devices;
 use crate::request::Deps;
 use idl_make::{is_make_name, push_need, push_need_if_there, push_target};
 use idl_program::{Loader, Status, Subject, compile_all, prepared};
+use idl_project::{CompiledRoot, Sources};
 use idl_session::{Sink, WriteFailed, write_all, write_lines};
 use idl_source::Name;
-use idl_workspace::{CompiledRoot, Sources};
 use std::alloc::{AllocError, Global};
 use std::mem::forget;
 

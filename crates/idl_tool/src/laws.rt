@@ -4,7 +4,7 @@ ghost use Rattle.std.specs.Prelude.{◌≡◌, ℕ, All, List, flat_map};
 ghost use Rattle.idl_make.specs.Make.{IsMakeRule, rules_read, rules_text};
 ghost use Rattle.idl_tool.specs.Deps.{needs_in, needs_of, rules_in};
 ghost use Rattle.idl_tool.specs.declared.request.Deps.{Deps};
-ghost use Rattle.idl_workspace.specs.Project.{Inputs};
+ghost use Rattle.idl_project.specs.Project.{Inputs};
 
 use idl_make::rules_read_back;
 

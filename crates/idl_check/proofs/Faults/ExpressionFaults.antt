@@ -7,12 +7,12 @@ use Rattle.idl_check.specs.walk.AllFaults.{evaluation_faults, first_token, place
 use Rattle.idl_check.specs.told.Values.{code_of, evaluation_for, evaluation_in}
 use Rattle.idl_check.specs.walk.Walk.{Walk, begin_of, is_repeated, noted, token_of, value_visit}
 use Rattle.idl_fault.specs.declared.code.Code.TheVariants.{RepeatedLabel}
-use Rattle.idl_site.proofs.ExpressionSpelling.{expression_spells-parts}
-use Rattle.idl_site.proofs.UnitSpelling.{counted}
-use Rattle.idl_site.specs.ExpressionParts.{expression_parts}
-use Rattle.idl_site.specs.Item.{items, items_length}
-use Rattle.idl_site.specs.declared.site.Target.{Target as Purpose}
-use Rattle.idl_site.specs.declared.site.Target.TheVariants as purpose
+use Rattle.idl_parts.proofs.ExpressionSpelling.{expression_spells-parts}
+use Rattle.idl_parts.proofs.UnitSpelling.{counted}
+use Rattle.idl_parts.specs.ExpressionParts.{expression_parts}
+use Rattle.idl_parts.specs.Item.{items, items_length}
+use Rattle.idl_parts.specs.declared.part.Target.{Target as Purpose}
+use Rattle.idl_parts.specs.declared.part.Target.TheVariants as purpose
 use Rattle.idl_tree.specs.Expression.{spell_expression}
 use Rattle.idl_tree.specs.declared.expression.Expression.{Expression}
 use Rattle.idl_unit.specs.TokenRules.{fault_at}

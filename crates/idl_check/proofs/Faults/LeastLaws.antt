@@ -28,9 +28,9 @@ use Rattle.idl_scope.specs.declared.fault.NameFault.TheVariants.{At, Memory}
 use Rattle.idl_scope.specs.declared.found.Found.{Found}
 use Rattle.idl_env.specs.declared.keys.key.Key.{Key}
 use Rattle.idl_env.specs.declared.keys.key.Key.TheVariants.{Cursor}
-use Rattle.idl_site.proofs.UnitSpelling.{counted, unit_spells}
-use Rattle.idl_site.specs.Item.{items, items_length}
-use Rattle.idl_site.specs.UnitParts.{unit_parts}
+use Rattle.idl_parts.proofs.UnitSpelling.{counted, unit_spells}
+use Rattle.idl_parts.specs.Item.{items, items_length}
+use Rattle.idl_parts.specs.UnitParts.{unit_parts}
 use Rattle.idl_syntax.specs.Parse.{pragma_faults}
 use Rattle.idl_tree.specs.Lexeme.{lexeme_of, lexemes}
 use Rattle.idl_tree.specs.Pragma.{pragma_of}

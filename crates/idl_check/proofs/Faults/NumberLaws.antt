@@ -22,12 +22,12 @@ use Rattle.idl_env.specs.declared.answering.answer.Answer.{Answer}
 use Rattle.idl_env.specs.declared.answering.answer.Scope.{Scope}
 use Rattle.idl_env.specs.declared.keys.key.Key.{Key}
 use Rattle.idl_env.specs.declared.keys.key.Key.TheVariants.{Cursor}
-use Rattle.idl_site.specs.Item.{items, items_length}
-use Rattle.idl_site.specs.ConstructionParts.{construction_parts}
-use Rattle.idl_site.specs.Part.{Parts, Declares, Plain, if_some, keyword_part, punctuation}
-use Rattle.idl_site.specs.UnitParts.{attribute_parts, bases_parts, constant_parts, exception_parts, forward_parts, native_parts, operation_parts, readonly_attribute_parts, typedef_parts, unit_parts}
-use Rattle.idl_site.specs.declared.site.Declaration.TheVariants as declaration
-use Rattle.idl_site.proofs.UnitSpelling.{counted, unit_spells}
+use Rattle.idl_parts.specs.Item.{items, items_length}
+use Rattle.idl_parts.specs.ConstructionParts.{construction_parts}
+use Rattle.idl_parts.specs.Part.{Parts, Declares, Plain, if_some, keyword_part, punctuation}
+use Rattle.idl_parts.specs.UnitParts.{attribute_parts, bases_parts, constant_parts, exception_parts, forward_parts, native_parts, operation_parts, readonly_attribute_parts, typedef_parts, unit_parts}
+use Rattle.idl_parts.specs.declared.part.Declaration.TheVariants as declaration
+use Rattle.idl_parts.proofs.UnitSpelling.{counted, unit_spells}
 use Rattle.idl_tree.specs.Interface.{spell_local}
 use Rattle.idl_tree.specs.Lexeme.{Word, lexeme_of, lexemes}
 use Rattle.idl_tree.specs.Unit.{spell}

@@ -10,12 +10,12 @@ use Rattle.idl_fault.specs.declared.code.Code.TheVariants.{BadOneway}
 use Rattle.idl_memo.specs.Query.{outcome}
 use Rattle.idl_env.specs.declared.answering.answer.Answer.{Answer}
 use Rattle.idl_env.specs.declared.keys.key.Key.{Key}
-use Rattle.idl_site.specs.ExpressionParts.{expression_parts, value_parts}
-use Rattle.idl_site.specs.Item.{Item, items, items_length}
-use Rattle.idl_site.specs.Part.{Part as item}
-use Rattle.idl_site.specs.declared.site.Target.{Target as Purpose}
-use Rattle.idl_site.specs.declared.site.Target.TheVariants as purpose
-use Rattle.idl_site.specs.declared.site.Use.{Use}
+use Rattle.idl_parts.specs.ExpressionParts.{expression_parts, value_parts}
+use Rattle.idl_parts.specs.Item.{Item, items, items_length}
+use Rattle.idl_parts.specs.Part.{Part as item}
+use Rattle.idl_parts.specs.declared.part.Target.{Target as Purpose}
+use Rattle.idl_parts.specs.declared.part.Target.TheVariants as purpose
+use Rattle.idl_parts.specs.declared.part.Use.{Use}
 use Rattle.idl_tree.specs.Expression.{spell_expression}
 use Rattle.idl_tree.specs.declared.expression.Expression.{Expression}
 use Rattle.idl_tree.specs.declared.name.ScopedName.{ScopedName}

@@ -45,8 +45,8 @@ use Rattle.idl_entity.specs.declared.entity.Entity.{Entity}
 use Rattle.idl_env.specs.declared.keys.key.Key.TheVariants.{Cursor}
 use Rattle.idl_entity.specs.declared.kind.Kind.TheVariants as kind
 use Rattle.idl_entity.specs.declared.kind.Stage.TheVariants.{Ahead, Complete}
-use Rattle.idl_site.specs.Part.{Part as item}
-use Rattle.idl_site.specs.declared.site.Declaration.{Declaration}
+use Rattle.idl_parts.specs.Part.{Part as item}
+use Rattle.idl_parts.specs.declared.part.Declaration.{Declaration}
 use Rattle.idl_unit.specs.TokenRules.{first}
 
 -- it stays where it is declared already, and is finished by no unit's end

@@ -23,13 +23,13 @@ use Rattle.idl_env.specs.Facts.{UnitFacts, World, answers, path_around, scopes_i
 use Rattle.idl_env.specs.Turns.{turns_for}
 use Rattle.idl_env.specs.declared.answering.answer.Scope.{Scope}
 use Rattle.idl_env.specs.declared.keys.key.Key.TheVariants.{Cursor}
-use Rattle.idl_site.specs.Item.{item_of, items}
-use Rattle.idl_site.specs.Part.{Part, Parts, Declares, Uses, if_some, punctuation, spell_part, spell_parts}
-use Rattle.idl_site.specs.UnitParts.{bases_parts, unit_parts}
-use Rattle.idl_site.proofs.UnitSpelling.{unit_spells}
-use Rattle.idl_site.specs.declared.site.Declaration.{Declaration}
-use Rattle.idl_site.specs.declared.site.Declaration.TheVariants as declaration
-use Rattle.idl_site.specs.declared.site.Use.TheVariants.{AsBase}
+use Rattle.idl_parts.specs.Item.{item_of, items}
+use Rattle.idl_parts.specs.Part.{Part, Parts, Declares, Uses, if_some, punctuation, spell_part, spell_parts}
+use Rattle.idl_parts.specs.UnitParts.{bases_parts, unit_parts}
+use Rattle.idl_parts.proofs.UnitSpelling.{unit_spells}
+use Rattle.idl_parts.specs.declared.part.Declaration.{Declaration}
+use Rattle.idl_parts.specs.declared.part.Declaration.TheVariants as declaration
+use Rattle.idl_parts.specs.declared.part.Use.TheVariants.{AsBase}
 use Rattle.idl_tree.specs.Lexeme.{Lexemes, Identifier, lexemes}
 use Rattle.idl_tree.specs.Unit.{spell}
 use Rattle.idl_tree.specs.declared.declarations.interface.Forward.{Forward}

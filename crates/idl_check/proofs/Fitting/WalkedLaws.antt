@@ -59,14 +59,14 @@ use Rattle.idl_scope.specs.declared.fault.NameFault.{NameFault}
 use Rattle.idl_scope.specs.declared.fault.NameFault.TheVariants.{At as Faulty, Memory}
 use Rattle.idl_scope.specs.declared.found.Found.{Found}
 use Rattle.idl_entity.specs.declared.kind.Stage.TheVariants.{Complete, Open}
-use Rattle.idl_site.specs.Item.{Item, items}
-use Rattle.idl_site.specs.Part.{Part as item}
-use Rattle.idl_site.specs.UnitParts.{unit_parts}
-use Rattle.idl_site.specs.declared.site.Declaration.{Declaration}
-use Rattle.idl_site.specs.declared.site.Target.{Target as Purpose}
-use Rattle.idl_site.specs.declared.site.Target.TheVariants as purpose
-use Rattle.idl_site.specs.declared.site.Use.{Use}
-use Rattle.idl_site.specs.declared.site.Use.TheVariants.{AsBase, AsType}
+use Rattle.idl_parts.specs.Item.{Item, items}
+use Rattle.idl_parts.specs.Part.{Part as item}
+use Rattle.idl_parts.specs.UnitParts.{unit_parts}
+use Rattle.idl_parts.specs.declared.part.Declaration.{Declaration}
+use Rattle.idl_parts.specs.declared.part.Target.{Target as Purpose}
+use Rattle.idl_parts.specs.declared.part.Target.TheVariants as purpose
+use Rattle.idl_parts.specs.declared.part.Use.{Use}
+use Rattle.idl_parts.specs.declared.part.Use.TheVariants.{AsBase, AsType}
 use Rattle.idl_tree.specs.declared.name.ScopedName.{ScopedName}
 use Rattle.idl_tree.specs.declared.unit.Tree.{Tree}
 use Rattle.idl_value.specs.declared.outcome.Outcome.{Outcome}

@@ -31,16 +31,16 @@ use Rattle.idl_scope.specs.declared.fault.NameFault.TheVariants.{At, Memory}
 use Rattle.idl_scope.specs.declared.found.Found.{Found}
 use Rattle.idl_env.specs.declared.keys.key.Key.{Key}
 use Rattle.idl_entity.specs.declared.kind.Kind.TheVariants.{Enumeration, Union}
-use Rattle.idl_site.specs.Item.{Item}
-use Rattle.idl_site.specs.Part.{Part as item}
-use Rattle.idl_site.specs.declared.site.Declaration.{Declaration}
-use Rattle.idl_site.specs.declared.site.Declaration.TheVariants as declaration
-use Rattle.idl_site.specs.declared.site.Shape.{Shape}
-use Rattle.idl_site.specs.declared.site.Shape.TheVariants as shape
-use Rattle.idl_site.specs.declared.site.Target.{Target as Purpose}
-use Rattle.idl_site.specs.declared.site.Target.TheVariants as purpose
-use Rattle.idl_site.specs.declared.site.Use.{Use}
-use Rattle.idl_site.specs.declared.site.Use.TheVariants.{AsBase, AsType, AsElement, AsConstantType, AsDiscriminator, AsOperand}
+use Rattle.idl_parts.specs.Item.{Item}
+use Rattle.idl_parts.specs.Part.{Part as item}
+use Rattle.idl_parts.specs.declared.part.Declaration.{Declaration}
+use Rattle.idl_parts.specs.declared.part.Declaration.TheVariants as declaration
+use Rattle.idl_parts.specs.declared.part.Shape.{Shape}
+use Rattle.idl_parts.specs.declared.part.Shape.TheVariants as shape
+use Rattle.idl_parts.specs.declared.part.Target.{Target as Purpose}
+use Rattle.idl_parts.specs.declared.part.Target.TheVariants as purpose
+use Rattle.idl_parts.specs.declared.part.Use.{Use}
+use Rattle.idl_parts.specs.declared.part.Use.TheVariants.{AsBase, AsType, AsElement, AsConstantType, AsDiscriminator, AsOperand}
 use Rattle.idl_tree.specs.declared.declarations.data_type.BasicType.TheVariants as basic
 use Rattle.idl_tree.specs.declared.name.ScopedName.{ScopedName}
 use Rattle.idl_unit.specs.TokenRules.{first}

@@ -4,11 +4,11 @@ use Rattle.std.proofs.lemmas.Grind.{flat_map-append}
 use Rattle.std.proofs.lemmas.List.{append-nil, map-append}
 use Rattle.std.proofs.lemmas.List.Elements.{All-append, All-cons, All-nil}
 use Rattle.idl_check.specs.walk.Sections.{AreBracketed, IsFormed, Single, Returned, Whole, is_single, is_tokens, section_sites}
-use Rattle.idl_site.specs.ExpressionParts.{expression_parts, value_parts}
-use Rattle.idl_site.specs.Item.{Item, item_of, items}
-use Rattle.idl_site.specs.Part.{Part, Parts, GivesBack, ValueEnds, Part as item}
-use Rattle.idl_site.specs.declared.site.Target.{Target as Purpose}
-use Rattle.idl_site.specs.declared.site.Use.{Use}
+use Rattle.idl_parts.specs.ExpressionParts.{expression_parts, value_parts}
+use Rattle.idl_parts.specs.Item.{Item, item_of, items}
+use Rattle.idl_parts.specs.Part.{Part, Parts, GivesBack, ValueEnds, Part as item}
+use Rattle.idl_parts.specs.declared.part.Target.{Target as Purpose}
+use Rattle.idl_parts.specs.declared.part.Use.{Use}
 use Rattle.idl_tree.specs.Lexeme.{Lexemes}
 use Rattle.idl_tree.specs.declared.expression.Expression.{Expression}
 use Rattle.idl_tree.specs.declared.name.ScopedName.{ScopedName}

@@ -3,16 +3,16 @@ use Rattle.std.proofs.Common.{◌≡◌, ℕ, ◌+◌, ◌-◌, ◌≤◌, Bool,
 use Rattle.std.specs.Prelude.{not}
 use Rattle.idl_check.specs.walk.Sections.{is_single}
 use Rattle.idl_check.proofs.Nests.Scenes.{AtTop, IsPlaced, Scene, is_operation_way, is_other, scene_after}
-use Rattle.idl_site.specs.Item.{Item}
-use Rattle.idl_site.specs.Part.{Part as item}
-use Rattle.idl_site.specs.declared.site.Declaration.{Declaration}
-use Rattle.idl_site.specs.declared.site.Declaration.TheVariants as declaration
-use Rattle.idl_site.specs.declared.site.Shape.{Shape}
-use Rattle.idl_site.specs.declared.site.Shape.TheVariants.{Basic, Text, Sequence as Elements}
-use Rattle.idl_site.specs.declared.site.Target.{Target as Purpose}
-use Rattle.idl_site.specs.declared.site.Target.TheVariants as purpose
-use Rattle.idl_site.specs.declared.site.Use.{Use}
-use Rattle.idl_site.specs.declared.site.Use.TheVariants.{AsBase, AsType, AsElement, AsConstantType, AsDiscriminator, AsOperand, Raised, RaisedBySet}
+use Rattle.idl_parts.specs.Item.{Item}
+use Rattle.idl_parts.specs.Part.{Part as item}
+use Rattle.idl_parts.specs.declared.part.Declaration.{Declaration}
+use Rattle.idl_parts.specs.declared.part.Declaration.TheVariants as declaration
+use Rattle.idl_parts.specs.declared.part.Shape.{Shape}
+use Rattle.idl_parts.specs.declared.part.Shape.TheVariants.{Basic, Text, Sequence as Elements}
+use Rattle.idl_parts.specs.declared.part.Target.{Target as Purpose}
+use Rattle.idl_parts.specs.declared.part.Target.TheVariants as purpose
+use Rattle.idl_parts.specs.declared.part.Use.{Use}
+use Rattle.idl_parts.specs.declared.part.Use.TheVariants.{AsBase, AsType, AsElement, AsConstantType, AsDiscriminator, AsOperand, Raised, RaisedBySet}
 use Rattle.idl_tree.specs.declared.declarations.data_type.BasicType.{BasicType}
 use Rattle.idl_tree.specs.declared.declarations.data_type.BasicType.TheVariants.{Discrete}
 

@@ -10,16 +10,16 @@ use Rattle.idl_check.proofs.Nests.Scenes.{ArePlaced, AtTop, IsFrom, Scene, last_
 use Rattle.idl_check.proofs.Nests.LevelSites.{AreFit, AreSame, Around, around_after, arounds, arounds-append, fit-append, is_declared_at, is_inside, is_level_at, is_level_value, opens_union, popped, same-here, IsFit, IsKnown, known-level, level-site}
 use Rattle.idl_tree.specs.Lexeme.{Lexemes, Punctuation}
 use Rattle.idl_lex.specs.declared.kinds.mark.Mark.TheVariants as mark
-use Rattle.idl_site.specs.ConstructionParts.{discriminator_parts}
-use Rattle.idl_site.specs.ExpressionParts.{expression_parts, value_parts}
-use Rattle.idl_site.specs.Item.{Item, item_of, items}
-use Rattle.idl_site.specs.Part.{Part, Parts, Declares, Plain, ScopeBegins, ScopeEnds, ValueEnds, all_parts, if_some, listed, punctuation, GivesBack, Switches, Uses, Part as item}
-use Rattle.idl_site.proofs.ConstructionEquations.{union_brace}
-use Rattle.idl_site.specs.declared.site.Declaration.{Declaration}
-use Rattle.idl_site.specs.declared.site.Declaration.TheVariants as declaration
-use Rattle.idl_site.specs.declared.site.Target.{Target as Purpose}
-use Rattle.idl_site.specs.declared.site.Target.TheVariants as purpose
-use Rattle.idl_site.specs.declared.site.Use.TheVariants.{AsDiscriminator}
+use Rattle.idl_parts.specs.ConstructionParts.{discriminator_parts}
+use Rattle.idl_parts.specs.ExpressionParts.{expression_parts, value_parts}
+use Rattle.idl_parts.specs.Item.{Item, item_of, items}
+use Rattle.idl_parts.specs.Part.{Part, Parts, Declares, Plain, ScopeBegins, ScopeEnds, ValueEnds, all_parts, if_some, listed, punctuation, GivesBack, Switches, Uses, Part as item}
+use Rattle.idl_parts.proofs.ConstructionEquations.{union_brace}
+use Rattle.idl_parts.specs.declared.part.Declaration.{Declaration}
+use Rattle.idl_parts.specs.declared.part.Declaration.TheVariants as declaration
+use Rattle.idl_parts.specs.declared.part.Target.{Target as Purpose}
+use Rattle.idl_parts.specs.declared.part.Target.TheVariants as purpose
+use Rattle.idl_parts.specs.declared.part.Use.TheVariants.{AsDiscriminator}
 use Rattle.idl_tree.specs.declared.declarations.construction.Discriminator.{Discriminator}
 use Rattle.idl_tree.specs.declared.declarations.construction.Discriminator.TheVariants as discriminator
 use Rattle.idl_tree.specs.declared.expression.Expression.{Expression}

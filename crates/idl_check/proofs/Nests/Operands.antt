@@ -8,13 +8,13 @@ use Rattle.idl_check.specs.walk.Judging.{used_name, used_names}
 use Rattle.idl_check.specs.walk.Sections.{is_tokens}
 use Rattle.idl_lex.specs.declared.kinds.mark.Mark.{Mark}
 use Rattle.idl_lex.specs.declared.kinds.mark.Mark.TheVariants as mark
-use Rattle.idl_site.proofs.ExpressionEquations.{and_parts-made, exclusive_or_parts-made, expression_parts-made, primary_parts-literal, primary_parts-name, primary_parts-parentheses, product_parts-made, shift_parts-made, sum_parts-made, unary_parts-made}
-use Rattle.idl_site.proofs.Such.{Such}
-use Rattle.idl_site.specs.ExpressionParts.{and_parts, exclusive_or_parts, expression_parts, operator_parts, primary_parts, product_parts, shift_parts, sum_parts, unary_parts}
-use Rattle.idl_site.specs.Item.{Item, item_of, items}
-use Rattle.idl_site.specs.Part.{Part, Parts, Plain, Uses, punctuation, Part as item}
-use Rattle.idl_site.specs.declared.site.Use.{Use}
-use Rattle.idl_site.specs.declared.site.Use.TheVariants.{AsBase, AsType, AsElement, AsConstantType, AsDiscriminator, AsOperand, Raised, RaisedBySet}
+use Rattle.idl_parts.proofs.ExpressionEquations.{and_parts-made, exclusive_or_parts-made, expression_parts-made, primary_parts-literal, primary_parts-name, primary_parts-parentheses, product_parts-made, shift_parts-made, sum_parts-made, unary_parts-made}
+use Rattle.idl_parts.proofs.Such.{Such}
+use Rattle.idl_parts.specs.ExpressionParts.{and_parts, exclusive_or_parts, expression_parts, operator_parts, primary_parts, product_parts, shift_parts, sum_parts, unary_parts}
+use Rattle.idl_parts.specs.Item.{Item, item_of, items}
+use Rattle.idl_parts.specs.Part.{Part, Parts, Plain, Uses, punctuation, Part as item}
+use Rattle.idl_parts.specs.declared.part.Use.{Use}
+use Rattle.idl_parts.specs.declared.part.Use.TheVariants.{AsBase, AsType, AsElement, AsConstantType, AsDiscriminator, AsOperand, Raised, RaisedBySet}
 use Rattle.idl_tree.specs.Expression.{product_mark, shift_mark, spell_literal, spell_unary_operator, sum_mark}
 use Rattle.idl_tree.specs.Lexeme.{Lexemes}
 use Rattle.idl_tree.specs.reading.ReadExpression.{made_and, made_exclusive_or, made_expression, made_product, made_shift, made_sum, made_unary}

@@ -1,21 +1,21 @@
 -- The sites of each unit are bracketed, and nest: by its grammar.
-use Rattle.idl_site.specs.declared.site.Declaration.{Declaration}
+use Rattle.idl_parts.specs.declared.part.Declaration.{Declaration}
 use Rattle.std.proofs.Common.{◌≡◌, ◌∙◌, ℕ, Bool, true, false, List, [], ◌∷◌, ◌++◌, Option, None, Some, append_assoc, flat_map, is_some, refl, sym, ap, subst, arith}
 use Rattle.std.proofs.lemmas.List.{map-append}
 use Rattle.idl_lex.specs.declared.kinds.keyword.Keyword.{Keyword}
 use Rattle.idl_lex.specs.declared.kinds.keyword.Keyword.TheVariants as word
 use Rattle.idl_lex.specs.declared.kinds.mark.Mark.TheVariants as mark
-use Rattle.idl_site.specs.ConstructionParts.{construction_parts, member_parts, member_type_parts}
-use Rattle.idl_site.specs.ExpressionParts.{value_parts}
-use Rattle.idl_site.specs.Item.{item_of, items}
-use Rattle.idl_site.specs.Part.{Part, Parts, Declares, Plain, Says, ScopeBegins, ScopeEnds, TypeEnds, Uses, declared, if_some, keyword_part, listed, punctuation, raised, used}
-use Rattle.idl_site.specs.TypeParts.{bound_parts, constant_type_parts, declarator_parts, type_parts}
-use Rattle.idl_site.specs.UnitParts.{attribute_names, attribute_names_parts, attribute_parts, bases_parts, constant_parts, context_parts, direction_parts, exception_parts, exceptions_parts, given_back, interface_parts, native_parts, oneway_parts, operation_parts, parameter_parts, raises_parts, readonly_attribute_parts, readonly_names_parts, result_parts, typedef_parts, ended, unit_parts}
-use Rattle.idl_site.specs.declared.site.Declaration.TheVariants as declaration
-use Rattle.idl_site.specs.declared.site.Shape.TheVariants.{Text}
-use Rattle.idl_site.specs.declared.site.Target.TheVariants as purpose
-use Rattle.idl_site.specs.declared.site.Use.{Use}
-use Rattle.idl_site.specs.declared.site.Use.TheVariants.{AsBase, Raised, RaisedBySet}
+use Rattle.idl_parts.specs.ConstructionParts.{construction_parts, member_parts, member_type_parts}
+use Rattle.idl_parts.specs.ExpressionParts.{value_parts}
+use Rattle.idl_parts.specs.Item.{item_of, items}
+use Rattle.idl_parts.specs.Part.{Part, Parts, Declares, Plain, Says, ScopeBegins, ScopeEnds, TypeEnds, Uses, declared, if_some, keyword_part, listed, punctuation, raised, used}
+use Rattle.idl_parts.specs.TypeParts.{bound_parts, constant_type_parts, declarator_parts, type_parts}
+use Rattle.idl_parts.specs.UnitParts.{attribute_names, attribute_names_parts, attribute_parts, bases_parts, constant_parts, context_parts, direction_parts, exception_parts, exceptions_parts, given_back, interface_parts, native_parts, oneway_parts, operation_parts, parameter_parts, raises_parts, readonly_attribute_parts, readonly_names_parts, result_parts, typedef_parts, ended, unit_parts}
+use Rattle.idl_parts.specs.declared.part.Declaration.TheVariants as declaration
+use Rattle.idl_parts.specs.declared.part.Shape.TheVariants.{Text}
+use Rattle.idl_parts.specs.declared.part.Target.TheVariants as purpose
+use Rattle.idl_parts.specs.declared.part.Use.{Use}
+use Rattle.idl_parts.specs.declared.part.Use.TheVariants.{AsBase, Raised, RaisedBySet}
 use Rattle.idl_tree.specs.Interface.{spell_direction, spell_local}
 use Rattle.idl_tree.specs.Lexeme.{Word, Punctuation, Lexemes}
 use Rattle.idl_tree.specs.declared.declarations.attribute.Attribute.{Attribute}

@@ -24,9 +24,9 @@ use Rattle.idl_entity.specs.declared.entity.Entity.{Entity}
 use Rattle.idl_env.specs.declared.keys.key.Key.{Key}
 use Rattle.idl_env.specs.declared.keys.key.Key.TheVariants.{Nameless}
 use Rattle.idl_entity.specs.declared.kind.Kind.{Kind}
-use Rattle.idl_site.specs.Item.{items, items_length}
-use Rattle.idl_site.specs.UnitParts.{unit_parts}
-use Rattle.idl_site.proofs.UnitSpelling.{counted, unit_spells}
+use Rattle.idl_parts.specs.Item.{items, items_length}
+use Rattle.idl_parts.specs.UnitParts.{unit_parts}
+use Rattle.idl_parts.proofs.UnitSpelling.{counted, unit_spells}
 use Rattle.idl_tree.specs.Lexeme.{lexeme_of, lexemes}
 use Rattle.idl_tree.specs.Unit.{spell}
 use Rattle.idl_tree.specs.declared.unit.Tree.{Tree}

@@ -27,19 +27,19 @@ use Rattle.idl_scope.specs.declared.fault.NameFault.TheVariants.{At, Memory}
 use Rattle.idl_scope.specs.declared.found.Found.{Found}
 use Rattle.idl_env.specs.declared.keys.key.Key.{Key}
 use Rattle.idl_entity.specs.declared.kind.Kind.TheVariants.{Union as UnionKind}
-use Rattle.idl_site.specs.Item.{Item, items}
-use Rattle.idl_site.specs.ConstructionParts.{case_step, construction_parts, construction_step, member_step, member_type_step, structure_step, union_step}
-use Rattle.idl_site.specs.Part.{Part, Parts, if_some, listed, punctuation, spell_parts, Part as item}
-use Rattle.idl_site.specs.TypeParts.{bound_parts, data_type_step, plain_parts, sequence_step, type_parts, type_parts_as}
-use Rattle.idl_site.specs.UnitParts.{bases_parts, context_parts, oneway_parts, operation_parts, parameter_parts, raises_parts, result_parts, unit_parts}
-use Rattle.idl_site.proofs.UnitSpelling.{unit_spells}
-use Rattle.idl_site.specs.declared.site.Declaration.{Declaration}
-use Rattle.idl_site.specs.declared.site.Declaration.TheVariants as declaration
-use Rattle.idl_site.specs.declared.site.Shape.TheVariants.{Basic, Text}
-use Rattle.idl_site.specs.declared.site.Target.{Target as Purpose}
-use Rattle.idl_site.specs.declared.site.Target.TheVariants as purpose
-use Rattle.idl_site.specs.declared.site.Use.{Use}
-use Rattle.idl_site.specs.declared.site.Use.TheVariants.{AsType}
+use Rattle.idl_parts.specs.Item.{Item, items}
+use Rattle.idl_parts.specs.ConstructionParts.{case_step, construction_parts, construction_step, member_step, member_type_step, structure_step, union_step}
+use Rattle.idl_parts.specs.Part.{Part, Parts, if_some, listed, punctuation, spell_parts, Part as item}
+use Rattle.idl_parts.specs.TypeParts.{bound_parts, data_type_step, plain_parts, sequence_step, type_parts, type_parts_as}
+use Rattle.idl_parts.specs.UnitParts.{bases_parts, context_parts, oneway_parts, operation_parts, parameter_parts, raises_parts, result_parts, unit_parts}
+use Rattle.idl_parts.proofs.UnitSpelling.{unit_spells}
+use Rattle.idl_parts.specs.declared.part.Declaration.{Declaration}
+use Rattle.idl_parts.specs.declared.part.Declaration.TheVariants as declaration
+use Rattle.idl_parts.specs.declared.part.Shape.TheVariants.{Basic, Text}
+use Rattle.idl_parts.specs.declared.part.Target.{Target as Purpose}
+use Rattle.idl_parts.specs.declared.part.Target.TheVariants as purpose
+use Rattle.idl_parts.specs.declared.part.Use.{Use}
+use Rattle.idl_parts.specs.declared.part.Use.TheVariants.{AsType}
 use Rattle.idl_tree.specs.Construction.{spell_construction}
 use Rattle.idl_tree.specs.DataType.{spell_basic, spell_discrete, spell_sign, spell_size, spell_string_word, spell_type}
 use Rattle.idl_tree.specs.Interface.{spell_bases, spell_context, spell_local, spell_oneway, spell_parameter, spell_raises, spell_result}

@@ -33,13 +33,13 @@ use Rattle.idl_scope.specs.declared.fault.NameFault.TheVariants.{At, Memory}
 use Rattle.idl_scope.specs.declared.found.Found.{Found}
 use Rattle.idl_env.specs.declared.keys.key.Key.{Key}
 use Rattle.idl_entity.specs.declared.kind.Kind.TheVariants.{Union}
-use Rattle.idl_site.specs.Item.{Item, item_length, items_length}
-use Rattle.idl_site.specs.Part.{Part as item}
-use Rattle.idl_site.specs.declared.site.Declaration.{Declaration}
-use Rattle.idl_site.specs.declared.site.Target.{Target as Purpose}
-use Rattle.idl_site.specs.declared.site.Target.TheVariants as purpose
-use Rattle.idl_site.specs.declared.site.Use.{Use}
-use Rattle.idl_site.specs.declared.site.Use.TheVariants.{AsBase}
+use Rattle.idl_parts.specs.Item.{Item, item_length, items_length}
+use Rattle.idl_parts.specs.Part.{Part as item}
+use Rattle.idl_parts.specs.declared.part.Declaration.{Declaration}
+use Rattle.idl_parts.specs.declared.part.Target.{Target as Purpose}
+use Rattle.idl_parts.specs.declared.part.Target.TheVariants as purpose
+use Rattle.idl_parts.specs.declared.part.Use.{Use}
+use Rattle.idl_parts.specs.declared.part.Use.TheVariants.{AsBase}
 use Rattle.idl_tree.specs.declared.expression.Expression.{Expression}
 use Rattle.idl_tree.specs.declared.name.ScopedName.{ScopedName}
 use Rattle.idl_unit.specs.TokenRules.{fault_at, first}

@@ -26,16 +26,16 @@ use Rattle.idl_scope.specs.declared.fault.NameFault.{NameFault}
 use Rattle.idl_scope.specs.declared.fault.NameFault.TheVariants.{At, Memory}
 use Rattle.idl_scope.specs.declared.found.Found.{Found}
 use Rattle.idl_env.specs.declared.keys.key.Key.{Key}
-use Rattle.idl_site.specs.ExpressionParts.{expression_parts, value_parts}
-use Rattle.idl_site.specs.Item.{Item, item_of, items}
-use Rattle.idl_site.specs.Part.{Parts, Declares, ValueEnds, punctuation, Part as item}
-use Rattle.idl_site.specs.TypeParts.{constant_type_parts}
-use Rattle.idl_site.specs.UnitParts.{unit_parts}
-use Rattle.idl_site.specs.declared.site.Declaration.TheVariants as declaration
-use Rattle.idl_site.specs.declared.site.Target.{Target as Purpose}
-use Rattle.idl_site.specs.declared.site.Target.TheVariants as purpose
-use Rattle.idl_site.specs.declared.site.Use.{Use}
-use Rattle.idl_site.specs.declared.site.Use.TheVariants.{AsOperand}
+use Rattle.idl_parts.specs.ExpressionParts.{expression_parts, value_parts}
+use Rattle.idl_parts.specs.Item.{Item, item_of, items}
+use Rattle.idl_parts.specs.Part.{Parts, Declares, ValueEnds, punctuation, Part as item}
+use Rattle.idl_parts.specs.TypeParts.{constant_type_parts}
+use Rattle.idl_parts.specs.UnitParts.{unit_parts}
+use Rattle.idl_parts.specs.declared.part.Declaration.TheVariants as declaration
+use Rattle.idl_parts.specs.declared.part.Target.{Target as Purpose}
+use Rattle.idl_parts.specs.declared.part.Target.TheVariants as purpose
+use Rattle.idl_parts.specs.declared.part.Use.{Use}
+use Rattle.idl_parts.specs.declared.part.Use.TheVariants.{AsOperand}
 use Rattle.idl_tree.specs.declared.expression.Expression.{Expression}
 use Rattle.idl_tree.specs.declared.name.ScopedName.{ScopedName}
 use Rattle.idl_tree.specs.declared.unit.Constant.{Constant}

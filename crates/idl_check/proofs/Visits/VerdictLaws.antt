@@ -25,8 +25,8 @@ use Rattle.idl_entity.specs.declared.entity.Entity.{Entity}
 use Rattle.idl_env.specs.declared.keys.key.Key.{Key}
 use Rattle.idl_env.specs.declared.keys.key.Key.TheVariants.{Cursor, Nameless}
 use Rattle.idl_entity.specs.declared.kind.Kind.{Kind}
-use Rattle.idl_site.specs.Item.{items}
-use Rattle.idl_site.specs.UnitParts.{unit_parts}
+use Rattle.idl_parts.specs.Item.{items}
+use Rattle.idl_parts.specs.UnitParts.{unit_parts}
 use Rattle.idl_tree.specs.Lexeme.{Lexeme, lexeme_of, lexemes}
 use Rattle.idl_tree.specs.reading.ReadUnit.{unit_at}
 use Rattle.idl_tree.specs.Unit.{spell}

@@ -10,7 +10,7 @@ use Rattle.idl_memo.proofs.QueryLaws.{outcome-and_then}
 use Rattle.idl_scope.specs.Lookup.{Lookup}
 use Rattle.idl_env.specs.declared.answering.answer.Answer.{Answer}
 use Rattle.idl_env.specs.declared.keys.key.Key.{Key}
-use Rattle.idl_site.specs.Item.{Item}
+use Rattle.idl_parts.specs.Item.{Item}
 use Rattle.idl_unit.specs.declared.fault.Fault.{Fault}
 use Rattle.idl_check.proofs.Visits.ApartLaws.{faults-apart, with_fault}
 use Rattle.idl_check.proofs.Faults.FaultOrder.{Leads, fold-led, leads-later}

@@ -11,10 +11,10 @@ use Rattle.idl_entity.specs.declared.kind.Kind.TheVariants.{Attribute, Member as
 use Rattle.idl_entity.specs.declared.kind.Stage.TheVariants.{Complete}
 use Rattle.idl_entity.specs.declared.signature.Member.{Member}
 use Rattle.idl_entity.specs.declared.signature.Signature.{Signature}
-use Rattle.idl_site.specs.declared.site.Declaration.{Declaration}
-use Rattle.idl_site.specs.declared.site.Declaration.TheVariants as declaration
-use Rattle.idl_site.specs.declared.site.Use.{Use}
-use Rattle.idl_site.specs.declared.site.Use.TheVariants.{Raised, RaisedBySet}
+use Rattle.idl_parts.specs.declared.part.Declaration.{Declaration}
+use Rattle.idl_parts.specs.declared.part.Declaration.TheVariants as declaration
+use Rattle.idl_parts.specs.declared.part.Use.{Use}
+use Rattle.idl_parts.specs.declared.part.Use.TheVariants.{Raised, RaisedBySet}
 use Rattle.idl_tree.specs.declared.declarations.operation.Direction.TheVariants.{In, Out}
 use Rattle.idl_tree.specs.declared.several.Several.{Several}
 use Rattle.idl_value.specs.Evaluation.{joined}

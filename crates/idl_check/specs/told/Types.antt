@@ -12,10 +12,10 @@ use Rattle.idl_entity.specs.declared.data_type.Layer.TheVariants.{Sequence}
 use Rattle.idl_entity.specs.declared.unvalued.Unvalued.TheVariants.{Float, Double, LongDouble, Any, Object}
 use Rattle.idl_entity.specs.declared.entity.Entity.{Entity}
 use Rattle.idl_entity.specs.declared.kind.Kind.TheVariants.{Enumeration, Alias}
-use Rattle.idl_site.specs.declared.site.Shape.{Shape}
-use Rattle.idl_site.specs.declared.site.Shape.TheVariants as shape
-use Rattle.idl_site.specs.declared.site.Use.{Use}
-use Rattle.idl_site.specs.declared.site.Use.TheVariants.{AsConstantType, AsDiscriminator}
+use Rattle.idl_parts.specs.declared.part.Shape.{Shape}
+use Rattle.idl_parts.specs.declared.part.Shape.TheVariants as shape
+use Rattle.idl_parts.specs.declared.part.Use.{Use}
+use Rattle.idl_parts.specs.declared.part.Use.TheVariants.{AsConstantType, AsDiscriminator}
 use Rattle.idl_tree.specs.declared.declarations.data_type.BasicType.{BasicType}
 use Rattle.idl_tree.specs.declared.declarations.data_type.BasicType.TheVariants as basic
 use Rattle.idl_value.specs.ConstantType.{discriminates, target_of}

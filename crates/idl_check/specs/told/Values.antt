@@ -3,8 +3,8 @@ use Rattle.std.specs.Prelude.{ℕ, ◌^◌, pos, List, [], ◌∷◌, ◌++◌, 
 use Rattle.idl_fault.specs.declared.code.Code.{Code}
 use Rattle.idl_fault.specs.declared.code.Code.TheVariants as code
 use Rattle.idl_tree.specs.declared.expression.Expression.{Expression}
-use Rattle.idl_site.specs.declared.site.Target.{Target as Purpose}
-use Rattle.idl_site.specs.declared.site.Target.TheVariants as purpose
+use Rattle.idl_parts.specs.declared.part.Target.{Target as Purpose}
+use Rattle.idl_parts.specs.declared.part.Target.TheVariants as purpose
 use Rattle.idl_value.specs.Evaluation.{Evaluation, Faulty, Operands, bound_of, value_of}
 use Rattle.idl_value.specs.declared.outcome.Code.{Code as ValueCode}
 use Rattle.idl_value.specs.declared.outcome.Code.TheVariants as value_code

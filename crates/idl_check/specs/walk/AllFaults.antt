@@ -20,11 +20,11 @@ use Rattle.idl_scope.specs.declared.fault.NameFault.{NameFault}
 use Rattle.idl_scope.specs.declared.found.Found.{Found}
 use Rattle.idl_env.specs.declared.keys.key.Key.{Key}
 use Rattle.idl_env.specs.declared.keys.key.Key.TheVariants.{Cursor}
-use Rattle.idl_site.specs.Item.{Item, items}
-use Rattle.idl_site.specs.Part.{Part as item}
-use Rattle.idl_site.specs.UnitParts.{unit_parts}
-use Rattle.idl_site.specs.declared.site.Target.{Target as Purpose}
-use Rattle.idl_site.specs.declared.site.Use.{Use}
+use Rattle.idl_parts.specs.Item.{Item, items}
+use Rattle.idl_parts.specs.Part.{Part as item}
+use Rattle.idl_parts.specs.UnitParts.{unit_parts}
+use Rattle.idl_parts.specs.declared.part.Target.{Target as Purpose}
+use Rattle.idl_parts.specs.declared.part.Use.{Use}
 use Rattle.idl_syntax.specs.Parse.{pragma_faults}
 use Rattle.idl_tree.specs.Pragma.{pragma_of}
 use Rattle.idl_tree.specs.declared.name.ScopedName.{ScopedName}

@@ -18,8 +18,8 @@ use Rattle.idl_env.specs.declared.additions.addition.Step.TheVariants.{Stays}
 use Rattle.idl_env.specs.declared.answering.answer.Scope.{Scope}
 use Rattle.idl_entity.specs.declared.identity.FixedIdentity.{FixedIdentity}
 use Rattle.idl_entity.specs.declared.identity.Identity.{Identity}
-use Rattle.idl_site.specs.Item.{Item, items_length}
-use Rattle.idl_site.specs.declared.site.Use.{Use}
+use Rattle.idl_parts.specs.Item.{Item, items_length}
+use Rattle.idl_parts.specs.declared.part.Use.{Use}
 use Rattle.idl_tree.specs.declared.name.ScopedName.{ScopedName}
 use Rattle.idl_tree.specs.declared.pragma.Pragma.{Pragma}
 use Rattle.idl_unit.specs.declared.fault.Fault.{Fault}

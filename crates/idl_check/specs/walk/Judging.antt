@@ -17,9 +17,9 @@ use Rattle.idl_env.specs.declared.answering.answer.Answer.{Answer}
 use Rattle.idl_env.specs.declared.answering.answer.Scope.{Scope}
 use Rattle.idl_env.specs.declared.keys.key.Key.{Key}
 use Rattle.idl_env.specs.declared.keys.key.Key.TheVariants.{Cursor, Nameless}
-use Rattle.idl_site.specs.Item.{Item, item_length, items}
-use Rattle.idl_site.specs.Part.{Part as item}
-use Rattle.idl_site.specs.UnitParts.{unit_parts}
+use Rattle.idl_parts.specs.Item.{Item, item_length, items}
+use Rattle.idl_parts.specs.Part.{Part as item}
+use Rattle.idl_parts.specs.UnitParts.{unit_parts}
 use Rattle.idl_tree.specs.Lexeme.{lexemes}
 use Rattle.idl_tree.specs.Pragma.{pragma_of}
 use Rattle.idl_tree.specs.Unit.{spell}

@@ -1,10 +1,10 @@
 -- A unit's sites as expressions and other sites, in order: the beginning of each expression has its
 -- end, and between them stand the names of the expression and the tokens around them.
 use Rattle.std.specs.Prelude.{◌≡◌, Bool, true, false, List, [], ◌∷◌, All, flat_map}
-use Rattle.idl_site.specs.ExpressionParts.{value_parts}
-use Rattle.idl_site.specs.Item.{Item, items}
-use Rattle.idl_site.specs.Part.{Part as item}
-use Rattle.idl_site.specs.declared.site.Target.{Target as Purpose}
+use Rattle.idl_parts.specs.ExpressionParts.{value_parts}
+use Rattle.idl_parts.specs.Item.{Item, items}
+use Rattle.idl_parts.specs.Part.{Part as item}
+use Rattle.idl_parts.specs.declared.part.Target.{Target as Purpose}
 use Rattle.idl_tree.specs.declared.expression.Expression.{Expression}
 
 pub data Section : Type 0 where

@@ -1,9 +1,9 @@
 -- The values of a unit's expressions, in the order of their tokens.
 use Rattle.std.specs.Prelude.{◌≡◌, List, [], ◌∷◌, flat_map, Option}
 use Rattle.idl_check.specs.told.Values.{evaluation_for}
-use Rattle.idl_site.specs.Item.{Item}
-use Rattle.idl_site.specs.Part.{Part as item}
-use Rattle.idl_site.specs.declared.site.Target.{Target as Purpose}
+use Rattle.idl_parts.specs.Item.{Item}
+use Rattle.idl_parts.specs.Part.{Part as item}
+use Rattle.idl_parts.specs.declared.part.Target.{Target as Purpose}
 use Rattle.idl_tree.specs.declared.expression.Expression.{Expression}
 use Rattle.idl_value.specs.Evaluation.{Operands, Valued}
 use Rattle.idl_value.specs.Names.{AreGiven}

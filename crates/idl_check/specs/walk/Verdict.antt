@@ -19,9 +19,9 @@ use Rattle.idl_env.specs.declared.additions.addition.Step.{Step}
 use Rattle.idl_env.specs.declared.additions.addition.Step.TheVariants.{Stays, Opens}
 use Rattle.idl_env.specs.declared.answering.answer.Scope.{Scope}
 use Rattle.idl_env.specs.declared.keys.key.Key.TheVariants.{Cursor, Opened, Nameless}
-use Rattle.idl_site.specs.Item.{Item, items}
-use Rattle.idl_site.specs.Part.{Part as item}
-use Rattle.idl_site.specs.UnitParts.{unit_parts}
+use Rattle.idl_parts.specs.Item.{Item, items}
+use Rattle.idl_parts.specs.Part.{Part as item}
+use Rattle.idl_parts.specs.UnitParts.{unit_parts}
 use Rattle.idl_syntax.specs.Parse.{pragma_faults}
 use Rattle.idl_tree.specs.Lexeme.{Lexeme, lexemes}
 use Rattle.idl_tree.specs.Pragma.{pragma_of}

@@ -20,7 +20,7 @@ use idl_base::{Bytes, Seq, Shared};
 use idl_entity::{DataType, Entity, EntityParts, Kind, Nature, Path, Stage};
 use idl_env::{Addition, Facts, Scope};
 use idl_fault::Code;
-use idl_site::Declaration;
+use idl_parts::Declaration;
 use idl_value::{Target, Value};
 use std::alloc::{AllocError, Global};
 

@@ -8,7 +8,7 @@ ghost use Rattle.idl_check.specs.told.Bodies.{begun_body, comes_out, goes_in, is
 use crate::told::last_type::LastType;
 use idl_base::{Seq, Shared};
 use idl_entity::{DataType, Entity, Kind, Member, Path, Signature, Stage};
-use idl_site::{Declaration, Use};
+use idl_parts::{Declaration, Use};
 use idl_tree::Several;
 use idl_tree::declarations::Direction;
 use idl_value::{Value, joined};

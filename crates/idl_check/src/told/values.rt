@@ -9,7 +9,7 @@ ghost use Rattle.idl_value.specs.Evaluation.{first_of};
 
 use idl_base::Shared;
 use idl_fault::Code;
-use idl_site::Target as Purpose;
+use idl_parts::Target as Purpose;
 use idl_tree::Expression;
 use idl_value::{Code as ValueCode, Outcome, Target, Value, evaluate, evaluate_bound};
 use std::alloc::{AllocError, Global};

@@ -5,7 +5,7 @@ use Rattle.idl_source.specs.names.Name.{is_name}
 use Rattle.idl_source.specs.Refusal.{number_of}
 use Rattle.idl_source.specs.declared.refusal.Refusal.{Refusal}
 use Rattle.idl_source.specs.declared.refusal.Refusal.TheVariants.{BadName, NoSuchRoot}
-use Rattle.idl_workspace.specs.declared.work.Work.{Work}
+use Rattle.idl_project.specs.declared.work.Work.{Work}
 
 abbrev pub whole_line : List ℕ → List ℕ
 whole_line line = line ++ 10 ∷ []

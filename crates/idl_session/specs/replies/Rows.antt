@@ -1,7 +1,7 @@
 -- The rows that answer a question, and rows that are lent.
 use Rattle.std.specs.Prelude.{ℕ, List, Option}
-use Rattle.idl_workspace.specs.Project.{Project}
-use Rattle.idl_workspace.specs.UpToDate.{diagnostics_of, listing_of, dump_of, absent_of}
+use Rattle.idl_project.specs.Project.{Project}
+use Rattle.idl_project.specs.UpToDate.{diagnostics_of, listing_of, dump_of, absent_of}
 use Rattle.idl_session.specs.declared.heading.Question.{Question}
 use Rattle.idl_session.specs.declared.heading.Question.TheVariants.{Diagnostics, Listing, Dump, Absent}
 use Rattle.idl_session.specs.declared.rows.Rows.{Rows}

@@ -1,7 +1,7 @@
 use Rattle.std.proofs.Common.{◌≡◌, ◌≤◌, ◌++◌, drop, map}
 use Rattle.idl_dump.specs.HeldRow.{rest_at}
 use Rattle.idl_dump.specs.Row.{unit_text}
-use Rattle.idl_site.specs.Item.{item_at, items_length}
+use Rattle.idl_parts.specs.Item.{item_at, items_length}
 use Rattle.idl_dump.proofs.row.push_sites.Given as goal
 
 -- those so far and those of the rest are all

@@ -1,7 +1,7 @@
 use Rattle.std.proofs.Common.{◌≡◌, List, ℕ, Option, IfErr, refl, subst, rules}
 use Rattle.idl_source.specs.devices.Device.{append, WritesPart}
 use Rattle.idl_source.specs.declared.refusal.Refusal.TheVariants as refusal
-use Rattle.idl_workspace.specs.declared.work.Work.{Work}
+use Rattle.idl_project.specs.declared.work.Work.{Work}
 use Rattle.idl_session.specs.Headings.{edit_by}
 use Rattle.idl_session.specs.replies.Replies.{refused_reply, edit_reply, query_reply, work_reply}
 use Rattle.idl_session.specs.Requests.{Malformed, Make, Ask, TellWork, request_kept}

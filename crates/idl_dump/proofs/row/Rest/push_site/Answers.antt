@@ -3,7 +3,7 @@ use Rattle.std.proofs.lemmas.Result.{on_ok_weaker}
 use Rattle.idl_tree.proofs.NameLemmas.{text-length}
 use Rattle.idl_dump.specs.HeldRow.{rest_at}
 use Rattle.idl_dump.specs.Row.{behind_site}
-use Rattle.idl_site.specs.Item.{item_at, item_length}
+use Rattle.idl_parts.specs.Item.{item_at, item_length}
 use Rattle.idl_tree.specs.Interface.{spell_text}
 use Rattle.idl_dump.proofs.row.Rest.push_site.Goals as goal
 

@@ -6,8 +6,8 @@ use Rattle.idl_check.specs.walk.Verdict.{judged}
 use Rattle.idl_check.specs.walk.Walk.{walk}
 use Rattle.idl_memo.specs.Query.{and_then}
 use Rattle.idl_env.specs.Facts.{answers}
-use Rattle.idl_site.specs.Item.{item_at, items, items_length}
-use Rattle.idl_site.specs.UnitParts.{unit_parts}
+use Rattle.idl_parts.specs.Item.{item_at, items, items_length}
+use Rattle.idl_parts.specs.UnitParts.{unit_parts}
 use Rattle.idl_check.proofs.walk.judge.Judge.by_names.Goals as goal
 
 pub returns-then-is_misplaced : goal.returns-then-is_misplaced

@@ -6,7 +6,7 @@ use Rattle.idl_check.specs.walk.Walk.{walk}
 use Rattle.idl_env.proofs.AnswerLaws.PlaceLemmas.{from_here}
 use Rattle.idl_env.specs.Facts.{answers}
 use Rattle.idl_env.specs.Turns.{turns_for}
-use Rattle.idl_site.specs.Item.{item_at, items_length}
+use Rattle.idl_parts.specs.Item.{item_at, items_length}
 use Rattle.idl_check.proofs.walk.walker.Walker.walk.Goals as goal
 
 pub returns-then-is_over-clause-walked : goal.returns-then-is_over-clause-walked

@@ -4,7 +4,7 @@ use Rattle.idl_check.specs.walk.Walk.{walk}
 use Rattle.idl_check.proofs.Visits.VisitLemmas.{runs_over}
 use Rattle.idl_env.specs.Facts.{answers}
 use Rattle.idl_env.specs.Turns.{turns_for}
-use Rattle.idl_site.specs.Item.{item_at}
+use Rattle.idl_parts.specs.Item.{item_at}
 use Rattle.idl_check.proofs.walk.walker.Walker.walk.Given as goal
 
 -- what is left, over the log so far, is the whole

@@ -1,0 +1,11 @@
+pub mod ConstructionEquations
+pub mod ConstructionSpelling
+pub mod ExpressionEquations
+pub mod ExpressionSpelling
+pub mod InterfaceSpelling
+pub mod LengthLemmas
+pub mod PartSpelling
+pub mod PushLemmas
+pub mod Such
+pub mod TypeSpelling
+pub mod UnitSpelling

@@ -1,0 +1,210 @@
+//! Structs, unions and enums.
+
+ghost use Rattle.std.specs.Prelude.{OnOk};
+ghost use Rattle.idl_parts.specs.ConstructionParts.{case_parts, construction_parts, discriminator_parts, enumeration_parts, label_parts, member_parts, member_type_parts, structure_parts, union_parts};
+ghost use Rattle.idl_parts.specs.Item.{Pushes};
+ghost use Rattle.idl_parts.specs.Part.{all_parts, listed};
+ghost use Rattle.idl_parts.specs.TypeParts.{declarator_parts};
+
+use crate::data_type::{discrete_len, push_declarator, push_type};
+use crate::expression::push_value;
+use crate::listed::push_declared;
+use crate::part::{Declaration, Site, Target, Use};
+use idl_tree::Several;
+use idl_tree::declarations::{
+    Case, Construction, Declarator, Discriminator, Enumeration, Label, Member, MemberType,
+    Structure, Union,
+};
+use std::alloc::AllocError;
+
+/// A struct, a union or an enum.
+#[cycle(construction)]
+#[tactic(auto, unfolding(crate::specs::ConstructionParts::construction_parts))]
+pub fn push_construction<'a>(
+    sites: &mut Vec<Site<'a>>,
+    construction: &'a Construction,
+) -> Result<(), AllocError>
+    ensures { OnOk result
+        (Pushes sites.old.items sites.new.items (construction_parts construction.now)) }
+{
+    match construction {
+        Construction::Structure(structure) => push_structure(sites, structure.get()),
+        Construction::Union(union) => push_union(sites, union.get()),
+        Construction::Enumeration(enumeration) => push_enumeration(sites, enumeration),
+    }
+}
+
+/// A struct.
+#[cycle(construction)]
+#[tactic(auto, unfolding(crate::specs::ConstructionParts::structure_parts))]
+fn push_structure<'a>(sites: &mut Vec<Site<'a>>, structure: &'a Structure) -> Result<(), AllocError>
+    ensures { OnOk result
+        (Pushes sites.old.items sites.new.items (structure_parts structure.now)) }
+{
+    let Structure { name, first, rest } = structure;
+    sites.push(Site::Tokens(1))?;
+    sites.push(Site::Declared(Declaration::Structure, name))?;
+    sites.push(Site::Tokens(1))?;
+    sites.push(Site::ScopeBegins(Declaration::Structure, name))?;
+    push_member(sites, first)?;
+    for member in rest.as_slice() {
+        push_member(sites, member)?;
+    }
+    sites.push(Site::ScopeEnds)?;
+    sites.push(Site::Tokens(1))?;
+    Ok(())
+}
+
+/// Members of one type.
+#[cycle(construction)]
+#[tactic(auto, unfolding(crate::specs::ConstructionParts::member_parts))]
+pub fn push_member<'a>(sites: &mut Vec<Site<'a>>, member: &'a Member) -> Result<(), AllocError>
+    ensures { OnOk result (Pushes sites.old.items sites.new.items (member_parts member.now)) }
+{
+    let Member { kind, declarators } = member;
+    push_member_type(sites, kind)?;
+    push_declarators(sites, Declaration::Member, declarators)?;
+    sites.push(Site::Tokens(1))?;
+    Ok(())
+}
+
+/// A type, or one that is declared in place.
+#[cycle(construction)]
+#[tactic(auto, unfolding(crate::specs::ConstructionParts::member_type_parts))]
+pub fn push_member_type<'a>(
+    sites: &mut Vec<Site<'a>>,
+    kind: &'a MemberType,
+) -> Result<(), AllocError>
+    ensures { OnOk result (Pushes sites.old.items sites.new.items (member_type_parts kind.now)) }
+{
+    match kind {
+        MemberType::Type(kind) => push_type(sites, kind, Use::AsType),
+        MemberType::Construction(construction) => push_construction(sites, construction.get()),
+    }
+}
+
+/// A union.
+#[cycle(construction)]
+#[tactic(auto, unfolding(crate::specs::ConstructionParts::union_parts))]
+fn push_union<'a>(sites: &mut Vec<Site<'a>>, union: &'a Union) -> Result<(), AllocError>
+    ensures { OnOk result (Pushes sites.old.items sites.new.items (union_parts union.now)) }
+{
+    let Union {
+        name,
+        discriminator,
+        first,
+        rest,
+    } = union;
+    sites.push(Site::Tokens(1))?;
+    sites.push(Site::Declared(Declaration::Union, name))?;
+    sites.push(Site::Tokens(2))?;
+    push_discriminator(sites, discriminator)?;
+    sites.push(Site::Tokens(2))?;
+    sites.push(Site::ScopeBegins(Declaration::Union, name))?;
+    push_case(sites, first)?;
+    for case in rest.as_slice() {
+        push_case(sites, case)?;
+    }
+    sites.push(Site::ScopeEnds)?;
+    sites.push(Site::Tokens(1))?;
+    Ok(())
+}
+
+/// A member of a union, with its labels.
+#[cycle(construction)]
+#[tactic(auto, unfolding(crate::specs::ConstructionParts::case_parts))]
+fn push_case<'a>(sites: &mut Vec<Site<'a>>, case: &'a Case) -> Result<(), AllocError>
+    ensures { OnOk result (Pushes sites.old.items sites.new.items (case_parts case.now)) }
+{
+    let Case {
+        labels,
+        kind,
+        declarator,
+    } = case;
+    push_labels(sites, labels)?;
+    push_member_type(sites, kind)?;
+    push_declarator(sites, Declaration::Member, declarator)?;
+    sites.push(Site::Tokens(1))?;
+    Ok(())
+}
+
+/// The labels of a case.
+fn push_labels<'a>(sites: &mut Vec<Site<'a>>, labels: &'a Several<Label>) -> Result<(), AllocError>
+    ensures { OnOk result (Pushes sites.old.items sites.new.items (all_parts label_parts labels.now)) }
+{
+    push_label(sites, &labels.first)?;
+    for label in labels.rest.as_slice() {
+        push_label(sites, label)?;
+    }
+    Ok(())
+}
+
+/// A label.
+fn push_label<'a>(sites: &mut Vec<Site<'a>>, label: &'a Label) -> Result<(), AllocError>
+    ensures { OnOk result (Pushes sites.old.items sites.new.items (label_parts label.now)) }
+{
+    match label {
+        Label::Case(value) => {
+            sites.push(Site::Tokens(1))?;
+            push_value(sites, Target::Label, value)?;
+            sites.push(Site::Tokens(1))?;
+        }
+        Label::Default => {
+            sites.push(Site::Default)?;
+            sites.push(Site::Tokens(2))?;
+        }
+    }
+    Ok(())
+}
+
+/// The type of a union's discriminator.
+fn push_discriminator<'a>(
+    sites: &mut Vec<Site<'a>>,
+    discriminator: &'a Discriminator,
+) -> Result<(), AllocError>
+    ensures { OnOk result
+        (Pushes sites.old.items sites.new.items (discriminator_parts discriminator.now)) }
+{
+    match discriminator {
+        Discriminator::Discrete(discrete) => {
+            sites.push(Site::Switches(*discrete))?;
+            sites.push(Site::Tokens(discrete_len(*discrete)))?;
+        }
+        Discriminator::Name(name) => sites.push(Site::Used(Use::AsDiscriminator, name))?,
+    }
+    Ok(())
+}
+
+/// An enum.
+fn push_enumeration<'a>(
+    sites: &mut Vec<Site<'a>>,
+    enumeration: &'a Enumeration,
+) -> Result<(), AllocError>
+    ensures { OnOk result
+        (Pushes sites.old.items sites.new.items (enumeration_parts enumeration.now)) }
+{
+    sites.push(Site::Tokens(1))?;
+    sites.push(Site::Enumerates(&enumeration.enumerators))?;
+    sites.push(Site::Declared(Declaration::Enumeration, &enumeration.name))?;
+    sites.push(Site::Tokens(1))?;
+    push_declared(sites, Declaration::Enumerator, &enumeration.enumerators)?;
+    sites.push(Site::Tokens(1))?;
+    Ok(())
+}
+
+/// Declared names, with commas between.
+pub fn push_declarators<'a>(
+    sites: &mut Vec<Site<'a>>,
+    declaration: Declaration,
+    declarators: &'a Several<Declarator>,
+) -> Result<(), AllocError>
+    ensures { OnOk result (Pushes sites.old.items sites.new.items
+        (listed (declarator_parts declaration) declarators.now)) }
+{
+    push_declarator(sites, declaration, &declarators.first)?;
+    for declarator in declarators.rest.as_slice() {
+        sites.push(Site::Tokens(1))?;
+        push_declarator(sites, declaration, declarator)?;
+    }
+    Ok(())
+}

@@ -1,0 +1,82 @@
+-- The files that a root asked for: those of its log, entry by entry, and those of a root that is held.
+use Rattle.std.proofs.Common.{◌≡◌, ℕ, Bool, true, false, cond, ◌||◌, ◌+◌, ◌<◌, ◌≤◌, List, [], ◌∷◌, ◌++◌, Option, None, Some, length, take, flat_map, append-nil, ap, refl, sym, ◌∙◌, Bor, if◌then◌else◌}
+use Rattle.std.proofs.lemmas.Grind.{flat_map-append}
+use Rattle.std.proofs.lemmas.List.{take_all, take_more}
+use Rattle.std.proofs.lemmas.List.Elements.{All-head, All-tail}
+use Rattle.std.proofs.lemmas.Option.{slice_get-get_or}
+use Rattle.std.specs.Cmp.Lexicographic.{bytes_decides}
+use Rattle.std.specs.List.{list_any, slice_get}
+use Rattle.std.specs.Map.{keys_of, lookup}
+use Rattle.std.specs.Option.{IfNone, IfSome, option_copied, option_map, option_to_list}
+use Rattle.std.specs.Str.{bytes_eq}
+use Rattle.idl_event.specs.declared.asked.key.Answer.{Answer}
+use Rattle.idl_event.specs.declared.asked.key.Key.{Key}
+use Rattle.idl_event.specs.declared.asked.key.Key.TheVariants as key
+use Rattle.idl_project.specs.Asked.{asked_file, asked_files, asked_over}
+use Rattle.idl_project.specs.UpToDate.{AreKept, IsKept}
+use Rattle.idl_project.specs.declared.kept_root.KeptRoot.{KeptRoot}
+
+module _ (log : List (Key × Option Answer)) (i : ℕ) where
+  -- the files, with one entry more
+  pub asked-more : (names found : List (List ℕ)) → i < length log → names ≡ flat_map asked_file (take i log) → found ≡ flat_map asked_file (option_to_list (slice_get log i))
+      → names ++ found ≡ flat_map asked_file (take (i + 1) log)
+  asked-more names found below before here =
+      let e : Key × Option Answer = (key.Search, None) in
+      ap (λ ns. ns ++ found) before
+      ∙ ap (λ ns. flat_map asked_file (take i log) ++ ns) (here ∙ ap (λ o. flat_map asked_file (option_to_list o)) (slice_get-get_or log i e below))
+      ∙ sym (ap (flat_map asked_file) (take_more log i e below) ∙ flat_map-append asked_file (take i log) _)
+
+  -- with an entry that is of none
+  pub asked-no_more : (names : List (List ℕ)) → i < length log → names ≡ flat_map asked_file (take i log) → [] ≡ flat_map asked_file (option_to_list (slice_get log i))
+      → names ≡ flat_map asked_file (take (i + 1) log)
+  asked-no_more names below before here = sym (append-nil names) ∙ asked-more names [] below before here
+
+  -- with all entries
+  pub asked-all : (names : List (List ℕ)) → length log ≤ i → names ≡ flat_map asked_file (take i log) → names ≡ asked_files log
+  unfolding asked_files
+  asked-all names past before = before ∙ ap (flat_map asked_file) (take_all i log past)
+
+-- what is kept of a root asked for what compiling the root asks for
+asked-kept : (bank : Key → Option Answer) (name : List ℕ) (kept : KeptRoot) → IsKept bank (name, kept) → asked_files kept.result.value.log ≡ asked_over bank name
+asked-kept bank name kept is = ap (λ (left : _). asked_files left.1) is.over ∙ ap (asked_over bank) is.text
+
+-- of roots that are kept a name is found with what compiling it asks for, and no other name is found
+pub lookup-asked : (bank : Key → Option Answer) (held : List (List ℕ × KeptRoot)) (name : List ℕ) → AreKept bank held
+    → option_map (λ (k : KeptRoot). asked_files k.result.value.log) (lookup (bytes_eq name) held)
+    ≡ (if list_any (bytes_eq name) (keys_of held) then Some (asked_over bank name) else None)
+lookup-asked bank [] name h = refl
+lookup-asked bank (e ∷ es) name h = by (bytes_eq name e.0) refl (lookup-asked bank es name (All-tail (λ (root : List ℕ × KeptRoot). IsKept bank root) e es h))
+  where
+    by : (b : Bool) → bytes_eq name e.0 ≡ b
+        → option_map (λ (k : KeptRoot). asked_files k.result.value.log) (lookup (bytes_eq name) es) ≡ (if list_any (bytes_eq name) (keys_of es) then Some (asked_over bank name) else None)
+        → option_map (λ (k : KeptRoot). asked_files k.result.value.log) (cond b (Some e.1) (lookup (bytes_eq name) es))
+        ≡ (if (b || list_any (bytes_eq name) (keys_of es)) then Some (asked_over bank name) else None)
+    by true same rest =
+        let kept : IsKept bank e = All-head (λ (root : List ℕ × KeptRoot). IsKept bank root) e es h in
+        ap Some (asked-kept bank e.0 e.1 kept ∙ ap (asked_over bank) (sym ((bytes_decides name e.0).0 same)))
+    by false other rest = rest
+
+module _ (bank : Key → Option Answer) (held : List (List ℕ × KeptRoot)) (name : List ℕ) (up : AreKept bank held) where
+  abbrev pub Asks : Bool → Option (List (List ℕ)) → Type 0
+  Asks b found = found ≡ (if b then Some (asked_over bank name) else None)
+
+  -- what is found asked for what is answered for the name
+  pub some-asked : (found : Option (Bor KeptRoot)) → option_copied found ≡ lookup (bytes_eq name) held
+      → IfSome found (λ k. asked_files k.now.result.value.log ≡ (if list_any (bytes_eq name) (keys_of held) then asked_over bank name else []))
+  some-asked None e = tt
+  some-asked (Some k) e =
+      by (list_any (bytes_eq name) (keys_of held)) (ap (option_map (λ (k : KeptRoot). asked_files k.result.value.log)) e ∙ lookup-asked bank held name up)
+    where
+      by : (b : Bool) → Asks b (Some (asked_files k.now.result.value.log)) → asked_files k.now.result.value.log ≡ (if b then asked_over bank name else [])
+      by true h = cc
+      by false h = absurd (cc)
+
+  -- where nothing is found, nothing is answered
+  pub none-asked : (found : Option (Bor KeptRoot)) → option_copied found ≡ lookup (bytes_eq name) held
+      → IfNone found ((if list_any (bytes_eq name) (keys_of held) then asked_over bank name else []) ≡ [])
+  none-asked None e = by (list_any (bytes_eq name) (keys_of held)) (ap (option_map (λ (k : KeptRoot). asked_files k.result.value.log)) e ∙ lookup-asked bank held name up)
+    where
+      by : (b : Bool) → Asks b None → (if b then asked_over bank name else []) ≡ []
+      by true h = absurd (cc)
+      by false h = refl
+  none-asked (Some k) e = tt

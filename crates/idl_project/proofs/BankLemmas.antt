@@ -1,0 +1,57 @@
+-- Banks of inputs of which one part is another.
+use Rattle.std.proofs.Common.{◌≡◌, ℕ, Bool, true, false, cond, List, [], ◌∷◌, Option, Some, refl, sym, ap, ◌∙◌, if◌then◌else◌}
+use Rattle.std.specs.Cmp.Lexicographic.{bytes_decides}
+use Rattle.std.specs.FinMap as finite
+use Rattle.std.specs.Map.{lookup}
+use Rattle.std.specs.Option.{option_map}
+use Rattle.std.specs.Str.{bytes_eq}
+use Rattle.idl_event.specs.declared.asked.key.Answer.TheVariants as answer
+use Rattle.idl_event.specs.declared.asked.key.Key.{Key}
+use Rattle.idl_event.specs.declared.asked.key.Key.TheVariants as key
+use Rattle.idl_event.specs.Key.{key_eq}
+use Rattle.idl_memo.specs.Cause.{changed}
+use Rattle.idl_source.specs.texts.Texts.{Texts}
+use Rattle.idl_project.specs.Bank.{IsSameBeside, bank_of}
+use Rattle.idl_project.specs.Project.{Inputs, Macros}
+
+one_of : {X Y : Type 0} (f : X → Y) (b : Bool) (w old : Option X) → option_map f (cond b w old) ≡ (if b then option_map f w else option_map f old)
+one_of f true w old = refl
+one_of f false w old = refl
+
+module _ (inputs : Inputs) (macros : Macros) (word : List ℕ) (body : Option (List ℕ))
+    (is : (q : List ℕ) → lookup (bytes_eq q) macros ≡ cond (bytes_eq word q) body (lookup (bytes_eq q) inputs.macros)) where
+  macro_at : (k : Key) → bank_of (record inputs { macros = macros }) k ≡ changed key_eq (bank_of inputs) (key.Macro word) (option_map (λ b. answer.Macro (b ∷ [])) body) k
+  unfolding bank_of changed
+  macro_at (key.Macro q) = ap (option_map (λ b. answer.Macro (b ∷ []))) (is q) ∙ one_of (λ b. answer.Macro (b ∷ [])) (bytes_eq word q) body (lookup (bytes_eq q) inputs.macros)
+  macro_at (key.File name) = refl
+  macro_at key.Search = refl
+
+  -- macros that are the same, but for one word
+  pub macros-changed : bank_of (record inputs { macros = macros }) ≡ changed key_eq (bank_of inputs) (key.Macro word) (option_map (λ b. answer.Macro (b ∷ [])) body)
+  macros-changed i k = macro_at k i
+
+module _ (inputs : Inputs) (files : Texts) (name : List ℕ) (beside : IsSameBeside name inputs.files files) where
+  file_by : (q : List ℕ) (b : Bool) → bytes_eq name q ≡ b
+      → option_map answer.File (finite.get files q) ≡ (if b then option_map answer.File (finite.get files name) else option_map answer.File (finite.get inputs.files q))
+  file_by q true same = ap (λ n. option_map answer.File (finite.get files n)) (sym ((bytes_decides name q).0 same))
+  file_by q false other = ap (option_map answer.File) (beside q other)
+
+  file_at : (k : Key) → bank_of (record inputs { files = files }) k ≡ changed key_eq (bank_of inputs) (key.File name) (option_map answer.File (finite.get files name)) k
+  unfolding bank_of changed
+  file_at (key.Macro word) = refl
+  file_at (key.File q) = file_by q (bytes_eq name q) refl
+  file_at key.Search = refl
+
+  -- files that are the same, but for one name
+  pub files-changed : bank_of (record inputs { files = files }) ≡ changed key_eq (bank_of inputs) (key.File name) (option_map answer.File (finite.get files name))
+  files-changed i k = file_at k i
+
+search_at : (inputs : Inputs) (directories : List (List ℕ)) (k : Key) → bank_of (record inputs { search = directories }) k ≡ changed key_eq (bank_of inputs) key.Search (Some (answer.Search directories)) k
+unfolding bank_of changed
+search_at inputs directories (key.Macro word) = refl
+search_at inputs directories (key.File name) = refl
+search_at inputs directories key.Search = refl
+
+-- another search list
+pub search-changed : (inputs : Inputs) (directories : List (List ℕ)) → bank_of (record inputs { search = directories }) ≡ changed key_eq (bank_of inputs) key.Search (Some (answer.Search directories))
+search-changed inputs directories i k = search_at inputs directories k i

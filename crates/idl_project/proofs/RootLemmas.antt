@@ -1,0 +1,157 @@
+-- The roots that are held: what is found among them, and what is held with one more or one less.
+use Rattle.std.proofs.Common.{◌≡◌, ℕ, Bool, true, false, cond, ◌||◌, List, [], ◌∷◌, ◌++◌, All, Contains, IsTrue, Option, None, Some, is_some, map-id, subst, refl, sym, ap, ◌∙◌, if◌then◌else◌}
+use Rattle.std.proofs.lemmas.Bool.{true≢false}
+use Rattle.std.proofs.lemmas.Map.Keys.{IsDistinct-head, IsDistinct-tail}
+use Rattle.std.proofs.lemmas.Map.Made.{is_some-lookup}
+use Rattle.std.proofs.lemmas.List.{map-append, append-nil}
+use Rattle.std.proofs.lemmas.List.Elements.{All-head, All-nil, All-tail, All-push, All-contains_itself}
+use Rattle.std.specs.List.{list_any, AllByRecursion, IsDistinct}
+use Rattle.std.specs.Map.{lookup, keys_of, remove_entry}
+use Rattle.std.specs.Option.{option_map}
+use Rattle.std.proofs.lemmas.Map.Views.{All-map-remove_entry, list_any-from_Contains}
+use Rattle.std.specs.Str.{bytes_eq}
+use Rattle.std.specs.Cmp.Lexicographic.{bytes_decides, nat_list_eq_equiv}
+use Rattle.idl_event.specs.Key.{key_eq}
+use Rattle.idl_event.specs.declared.asked.key.Answer.{Answer}
+use Rattle.idl_event.specs.declared.asked.key.Key.{Key}
+use Rattle.idl_memo.specs.Cause.{changed}
+use Rattle.idl_source.specs.names.Name.{is_name}
+use Rattle.idl_project.specs.Compile.{compile_over}
+use Rattle.idl_project.specs.Bank.{bank_of}
+use Rattle.idl_project.specs.Project.{Inputs, Project, no_inputs}
+use Rattle.idl_project.specs.Renewed.{IsRenewed}
+use Rattle.idl_project.specs.UpToDate.{AreKept, IsKept, IsUpToDate, State, project_held}
+use Rattle.idl_project.specs.WellFormed.{IsWellFormed}
+use Rattle.idl_project.specs.Work.{staying, work_between, work_of}
+use Rattle.idl_project.specs.declared.work.Work.{Work}
+use Rattle.idl_project.specs.declared.kept_root.KeptRoot.{KeptRoot}
+use Rattle.idl_project.proofs.FormLemmas.{none-formed}
+
+-- of roots that are kept a name is found with what compiling it gives, and no other name is found
+pub lookup-held : (bank : Key → Option Answer) (held : List (List ℕ × KeptRoot)) (name : List ℕ) → AreKept bank held
+    → option_map (λ (k : KeptRoot). k.compiled.value) (lookup (bytes_eq name) held) ≡ (if list_any (bytes_eq name) (keys_of held) then Some (compile_over bank name) else None)
+lookup-held bank [] name h = refl
+lookup-held bank (e ∷ es) name h = by (bytes_eq name e.0) refl (lookup-held bank es name (All-tail (λ (root : List ℕ × KeptRoot). IsKept bank root) e es h))
+  where
+    by : (b : Bool) → bytes_eq name e.0 ≡ b
+        → option_map (λ (k : KeptRoot). k.compiled.value) (lookup (bytes_eq name) es) ≡ (if list_any (bytes_eq name) (keys_of es) then Some (compile_over bank name) else None)
+        → option_map (λ (k : KeptRoot). k.compiled.value) (cond b (Some e.1) (lookup (bytes_eq name) es))
+        ≡ (if (b || list_any (bytes_eq name) (keys_of es)) then Some (compile_over bank name) else None)
+    by true same rest =
+        let kept : IsKept bank e = All-head (λ (root : List ℕ × KeptRoot). IsKept bank root) e es h in
+        ap Some (kept.rows ∙ ap (compile_over bank) (sym ((bytes_decides name e.0).0 same)))
+    by false other rest = rest
+
+-- what isn't a name isn't that of a root
+pub list_any-bad_name : (names : List (List ℕ)) (name : List ℕ) → All (λ n. IsTrue (is_name n)) names → ¬ IsTrue (is_name name)
+    → list_any (bytes_eq name) names ≡ false
+list_any-bad_name [] name h bad = refl
+list_any-bad_name (n ∷ ns) name h bad = by (bytes_eq name n) refl (list_any-bad_name ns name (All-tail (λ (n : List ℕ). IsTrue (is_name n)) n ns h) bad)
+  where
+    by : (b : Bool) → bytes_eq name n ≡ b → list_any (bytes_eq name) ns ≡ false → (b || list_any (bytes_eq name) ns) ≡ false
+    by true same rest = absurd (bad (ap is_name ((bytes_decides name n).0 same) ∙ All-head (λ (n : List ℕ). IsTrue (is_name n)) n ns h))
+    by false other rest = rest
+
+-- what holds of all holds of one of them
+among : (P : List ℕ → Type 0) (before after : List (List ℕ)) (name : List ℕ) → AllByRecursion P (before ++ name ∷ after) → P name
+among P [] after name h = h.0
+among P (n ∷ ns) after name h = among P ns after name h.1
+
+-- of distinct names, one isn't among those before it
+pub list_any-before : (names : List (List ℕ)) (name : List ℕ) (after : List (List ℕ)) → IsDistinct bytes_eq (names ++ name ∷ after)
+    → list_any (bytes_eq name) names ≡ false
+list_any-before [] name after distinct = refl
+list_any-before (n ∷ ns) name after distinct =
+    ap (λ b. b || list_any (bytes_eq name) ns)
+    (nat_list_eq_equiv.symm name n ∙ among (λ (m : List ℕ). bytes_eq n m ≡ false) ns after name (IsDistinct-head bytes_eq n (ns ++ name ∷ after) distinct))
+    ∙ list_any-before ns name after (IsDistinct-tail bytes_eq n (ns ++ name ∷ after) distinct)
+
+-- the names with one more, and then others
+pub keys_of-push : (held : List (List ℕ × KeptRoot)) (name : List ℕ) (kept : KeptRoot) (after : List (List ℕ))
+    → keys_of (held ++ (name, kept) ∷ []) ++ after ≡ keys_of held ++ name ∷ after
+keys_of-push [] name kept after = refl
+keys_of-push (e ∷ es) name kept after = ap (λ names. e.0 ∷ names) (keys_of-push es name kept after)
+
+-- what isn't that of a root has nothing kept
+pub lookup-absent : (held : List (List ℕ × KeptRoot)) (name : List ℕ) → list_any (bytes_eq name) (keys_of held) ≡ false → lookup (bytes_eq name) held ≡ None
+lookup-absent held name new = none _ (is_some-lookup (bytes_eq name) held ∙ new)
+  where
+    none : (r : Option KeptRoot) → is_some r ≡ false → r ≡ None
+    none None h = refl
+    none (Some kept) h = absurd (true≢false h)
+
+-- nothing
+pub none-up_to_date : (inputs : Inputs) (held : List (List ℕ × KeptRoot)) → inputs ≡ no_inputs → held ≡ [] → IsUpToDate inputs held
+none-up_to_date inputs held no_input no_root = record {
+  formed = subst (λ (p : Project). IsWellFormed p) (λ i. project_held (sym no_input i) (sym no_root i)) none-formed;
+  kept = subst (AreKept (bank_of inputs)) (sym no_root) (All-nil (λ (root : List ℕ × KeptRoot). IsKept (bank_of inputs) root));
+}
+
+-- one more root, with what is kept of it
+pub IsUpToDate-push : (inputs : Inputs) (held : List (List ℕ × KeptRoot)) (name : List ℕ) (kept : KeptRoot) → AreKept (bank_of inputs) held → IsKept (bank_of inputs) (name, kept)
+    → IsWellFormed (record { inputs = inputs; roots = keys_of held ++ name ∷ [] }) → IsUpToDate inputs (held ++ (name, kept) ∷ [])
+IsUpToDate-push inputs held name kept are is formed =
+    let names : keys_of (held ++ (name, kept) ∷ []) ≡ keys_of held ++ name ∷ [] = map-append (λ (e : List ℕ × KeptRoot). e.0) held ((name, kept) ∷ []) in
+    record {
+      formed = subst (λ (ns : List (List ℕ)). IsWellFormed (record { inputs = inputs; roots = ns })) (sym names) formed;
+      kept = All-push (λ (root : List ℕ × KeptRoot). IsKept (bank_of inputs) root) held (name, kept) are is;
+    }
+
+-- what is kept of all roots is kept of those that stay
+pub AreKept-remove : (bank : Key → Option Answer) (held : List (List ℕ × KeptRoot)) (test : List ℕ → Bool) → AreKept bank held → AreKept bank (remove_entry test held)
+AreKept-remove bank held test are =
+    subst (AreKept bank) (map-id (remove_entry test held))
+    (All-map-remove_entry test (λ (e : List ℕ × KeptRoot). e) (λ (root : List ℕ × KeptRoot). IsKept bank root) held (subst (AreKept bank) (sym (map-id held)) are))
+
+-- the roots that stay were there
+pub remaining-there : (held : List (List ℕ × KeptRoot)) (test : List ℕ → Bool) → All (Contains (keys_of held)) (keys_of (remove_entry test held))
+remaining-there held test = All-map-remove_entry test (λ (e : List ℕ × KeptRoot). e.0) (Contains (keys_of held)) held (All-contains_itself (keys_of held))
+
+-- After an edit that changes one answer: the same roots, with what is kept of them over the changed answers.
+pub IsUpToDate-edited : (state : State) (now new : Inputs) (held : List (List ℕ × KeptRoot)) (renewed : List (List ℕ × KeptRoot) × Work) (asked at : Key) (given answer : Option Answer) (work : Work)
+    → record { project = record { inputs = now; roots = keys_of held }; work = work } ≡ state
+    → IsRenewed state.project asked given renewed
+    → asked ≡ at → given ≡ answer → bank_of new ≡ changed key_eq (bank_of now) at answer
+    → IsWellFormed (record { inputs = new; roots = keys_of renewed.0 }) → IsUpToDate new renewed.0
+IsUpToDate-edited state now new held renewed asked at given answer work is again asks gives changes formed = record {
+  formed = formed;
+  kept = subst (λ (bank : Key → Option Answer). AreKept bank renewed.0)
+      (ap (λ (s : State). changed key_eq (bank_of s.project.inputs) asked given) (sym is) ∙ ap (λ (k : Key). changed key_eq (bank_of now) k given) asks ∙ ap (changed key_eq (bank_of now) at) gives ∙ sym changes)
+      again.kept;
+}
+
+-- and the work is that between the two projects
+pub work-edited : (state : State) (now new : Inputs) (held : List (List ℕ × KeptRoot)) (renewed : List (List ℕ × KeptRoot) × Work) (asked at : Key) (given answer : Option Answer) (work : Work)
+    → record { project = record { inputs = now; roots = keys_of held }; work = work } ≡ state
+    → IsRenewed state.project asked given renewed
+    → asked ≡ at → given ≡ answer → bank_of new ≡ changed key_eq (bank_of now) at answer
+    → renewed.1 ≡ work_of state.project (record { inputs = new; roots = keys_of renewed.0 })
+work-edited state now new held renewed asked at given answer work is again asks gives changes =
+    let banks : changed key_eq (bank_of state.project.inputs) asked given ≡ bank_of new =
+    ap (λ (s : State). changed key_eq (bank_of s.project.inputs) asked given) (sym is) ∙ ap (λ (k : Key). changed key_eq (bank_of now) k given) asks ∙ ap (changed key_eq (bank_of now) at) gives ∙ sym changes in
+    again.work ∙ (λ i. work_between (bank_of state.project.inputs) state.project.roots (banks i) (sym again.roots i))
+
+-- all of these were roots before, and stay
+pub staying-all : (before roots : List (List ℕ)) → All (Contains before) roots → staying before roots ≡ roots
+staying-all before [] h = refl
+staying-all before (n ∷ ns) h =
+    ap (λ b. cond b (n ∷ staying before ns) (staying before ns)) (list_any-from_Contains nat_list_eq_equiv n before (All-head (Contains before) n ns h))
+    ∙ ap (λ (rest : List (List ℕ)). n ∷ rest) (staying-all before ns (All-tail (Contains before) n ns h))
+
+-- those of two lists
+staying-append : (before roots more : List (List ℕ)) → staying before (roots ++ more) ≡ staying before roots ++ staying before more
+staying-append before [] more = refl
+staying-append before (n ∷ ns) more = by (list_any (bytes_eq n) before) (staying-append before ns more)
+  where
+    by : (b : Bool) → staying before (ns ++ more) ≡ staying before ns ++ staying before more
+        → cond b (n ∷ staying before (ns ++ more)) (staying before (ns ++ more)) ≡ cond b (n ∷ staying before ns) (staying before ns) ++ staying before more
+    by true rest = ap (λ (rest : List (List ℕ)). n ∷ rest) rest
+    by false rest = rest
+
+-- with one more that wasn't there, all before it stay
+pub staying-push : (before : List (List ℕ)) (name : List ℕ) → list_any (bytes_eq name) before ≡ false → staying before (before ++ name ∷ []) ≡ before
+staying-push before name new =
+    staying-append before before (name ∷ [])
+    ∙ ap (λ b. staying before before ++ cond b (name ∷ []) []) new
+    ∙ append-nil (staying before before)
+    ∙ staying-all before before (All-contains_itself before)

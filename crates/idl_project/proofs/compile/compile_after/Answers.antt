@@ -1,0 +1,16 @@
+-- The rows and the absent files are those of the expansion that the result is.
+use Rattle.std.proofs.Common.{◌≡◌, ◌∙◌, ap}
+use Rattle.idl_prep.specs.Root.{absent_files}
+use Rattle.idl_root.specs.Compile.{compile}
+use Rattle.idl_project.specs.Compile.{end_of}
+use Rattle.idl_project.proofs.KeptLemmas.{compile-kept}
+use Rattle.idl_project.proofs.compile.compile_after.Goals as goal
+
+pub returns : goal.returns
+returns g c =
+    let bank = g.B.Bank.at c.args.bank.now in
+    let kept = c.args.kept.now in
+    let rows : c.in_ok-rows.field-0.compiled ≡ compile (end_of bank kept.text) kept.out =
+    c.in_ok-rows.ensures ∙ (λ i. compile ((c.in_ok-end.ensures ∙ ap (end_of bank) c.text.ensures) i) (c.out.ensures i)) in
+    let names : c.from_vec.result ≡ absent_files kept.log = c.from_vec.ensures ∙ c.in_ok-names.ensures ∙ ap absent_files c.log.ensures in
+    (λ i. record { rows = rows i; absent = names i }) ∙ compile-kept bank kept c.requires

@@ -1,0 +1,39 @@
+use Rattle.std.proofs.Common.{◌∙◌, None, refl, ap, sym}
+use Rattle.std.specs.Map.{keys_of}
+use Rattle.idl_event.specs.declared.asked.key.Key.TheVariants as keys
+use Rattle.idl_macro.specs.Words.{is_macro_word}
+use Rattle.idl_project.specs.Edits.{Undef, after}
+use Rattle.idl_project.specs.Project.{Project}
+use Rattle.idl_project.specs.UpToDate.{State}
+use Rattle.idl_project.proofs.EditLemmas.{undef-accepted}
+use Rattle.idl_project.proofs.FormLemmas.{after-formed}
+use Rattle.idl_project.proofs.RootLemmas.{IsUpToDate-edited, work-edited}
+use Rattle.idl_project.proofs.session.Session.undef.Goals as goal
+
+pub invariant_of-self : goal.invariant_of-self
+invariant_of-self c =
+    let project : Project = record { inputs = c.self-2.inside.bank; roots = keys_of c.self-2.inside.roots } in
+    let new : Project = record { inputs = c.undef.new.self; roots = keys_of c.in_ok-renewed.renewed.0 } in
+    let word = c.in_ok-word.word in
+    let is = undef-accepted project word c.undef.new.self new.roots (ap is_macro_word c.in_ok-word.ensures ∙ sym c.is_macro_word.ensures ∙ c.if-not-is_macro_word.false) c.undef.ensures.left
+    (c.in_ok-renewed.ensures.renewed.roots ∙ ap (λ (state : State). state.project.roots) (sym (c.self-2.view_is ∙ c.in_ok-renewed.ensures.same))) in
+    IsUpToDate-edited c.args.self.now c.self-2.inside.bank c.undef.new.self c.self-2.inside.roots c.in_ok-renewed.renewed (keys.Macro word) (keys.Macro word) None None c.self-2.inside.work
+    (c.self-2.view_is ∙ c.in_ok-renewed.ensures.same) c.in_ok-renewed.ensures.renewed refl refl c.undef.ensures.bank (after-formed project new (Undef word) c.self-2.invariant.formed is)
+
+pub returns : goal.returns
+returns c =
+    let project : Project = record { inputs = c.self-2.inside.bank; roots = keys_of c.self-2.inside.roots } in
+    let word = c.in_ok-word.word in
+    record {
+      project =
+          ap (λ (state : State). after state.project (Undef c.args.word.now)) (sym (c.self-2.view_is ∙ c.in_ok-renewed.ensures.same))
+          ∙ ap (λ w. after project (Undef w)) (sym c.in_ok-word.ensures)
+          ∙ undef-accepted project word c.undef.new.self (keys_of c.in_ok-renewed.renewed.0) (ap is_macro_word c.in_ok-word.ensures ∙ sym c.is_macro_word.ensures ∙ c.if-not-is_macro_word.false)
+          c.undef.ensures.left
+          (c.in_ok-renewed.ensures.renewed.roots ∙ ap (λ (state : State). state.project.roots) (sym (c.self-2.view_is ∙ c.in_ok-renewed.ensures.same)));
+      kept = refl;
+      told =
+          work-edited c.args.self.now c.self-2.inside.bank c.undef.new.self c.self-2.inside.roots c.in_ok-renewed.renewed (keys.Macro word) (keys.Macro word)
+          None None c.self-2.inside.work
+          (c.self-2.view_is ∙ c.in_ok-renewed.ensures.same) c.in_ok-renewed.ensures.renewed refl refl c.undef.ensures.bank;
+    }

@@ -1,0 +1,16 @@
+use Rattle.std.proofs.Common.{◌≡◌, ◌∙◌, ap, refl, sym}
+use Rattle.idl_macro.specs.Words.{is_macro_word}
+use Rattle.idl_project.specs.Edits.{Undef}
+use Rattle.idl_project.specs.Made.{rootless}
+use Rattle.idl_project.specs.Project.{Inputs}
+use Rattle.idl_project.proofs.EditLemmas.{undef-accepted}
+use Rattle.idl_project.proofs.FormLemmas.{after-formed}
+use Rattle.idl_project.proofs.sources.Sources.undef.Goals as goal
+
+pub invariant_of-self : goal.invariant_of-self
+invariant_of-self c =
+    let old : Inputs = c.self.inside.bank in
+    let new : Inputs = c.undef.new.self in
+    let word = c.in_ok-word.word in
+    let allowed = ap is_macro_word c.in_ok-word.ensures ∙ sym c.is_macro_word.ensures ∙ c.if-not-is_macro_word.false in
+    after-formed (rootless old) (rootless new) (Undef word) c.self.invariant (undef-accepted (rootless old) word new (rootless old).roots allowed c.undef.ensures.left refl)

@@ -1,0 +1,31 @@
+-- What a session does with an edit.
+use Rattle.std.specs.Prelude.{◌≡◌, ◌≢◌, Bool, true, false, IsTrue, Result, Ok, Err, MatchResult}
+use Rattle.idl_source.specs.declared.refusal.Refusal.{Refusal}
+use Rattle.idl_source.specs.declared.refusal.Refusal.TheVariants.{NoMemory}
+use Rattle.idl_project.specs.Edits.{Edit, DropRoot, after}
+use Rattle.idl_project.specs.UpToDate.{State}
+use Rattle.idl_project.specs.Work.{work_of}
+use Rattle.idl_project.specs.declared.work.Work.{Work}
+
+-- all edits take memory but one: a root is dropped without
+abbrev pub takes_memory : Edit → Bool
+takes_memory (DropRoot name) = false
+takes_memory other = true
+
+-- an accepted edit: the project is the one after it, and the work is that between the two projects,
+-- which is told and kept
+pub record IsAccepted (edit : Edit) (old new : State) (work : Work) : Type 0 where
+  pub project : after old.project edit ≡ Ok new.project
+  pub kept : new.work ≡ work
+  pub told : work ≡ work_of old.project new.project
+
+-- a refused edit: nothing has changed, and the refusal is the least that applies, or else want of
+-- memory
+pub record IsRefused (edit : Edit) (old new : State) (refusal : Refusal) : Type 0 where
+  pub unchanged : new ≡ old
+  pub least : refusal ≢ NoMemory → after old.project edit ≡ Err refusal
+  pub memory : refusal ≡ NoMemory → IsTrue (takes_memory edit)
+
+-- an edit, by its result
+abbrev pub IsEdited : Edit → State → State → Result Work Refusal → Type 0
+IsEdited edit old new result = MatchResult result (IsAccepted edit old new) (IsRefused edit old new)

@@ -1,0 +1,234 @@
+//! The bank of a session: what its roots are answered.
+
+ghost use Rattle.std.specs.Prelude.{◌≡◌, ◌||◌, ◌&&◌, [], ◌∷◌, IfOk, OnOk, OnErr, Some, None, length, nat_le, not, map};
+ghost use Rattle.std.specs.Map.{remove_entry};
+ghost use Rattle.std.specs.Option.{option_copied, option_map};
+ghost use Rattle.std.specs.Result.{result_err};
+ghost use Rattle.std.specs.FinMap as finite;
+ghost use Rattle.std.specs.Str.{bytes_eq};
+ghost use Rattle.indexmap.specs.IndexMap.{insert_entry};
+ghost use Rattle.idl_event.specs.Key.{key_eq};
+ghost use Rattle.idl_event.specs.declared.asked.key.Answer.TheVariants as answers;
+ghost use Rattle.idl_event.specs.declared.asked.key.Key.TheVariants as keys;
+ghost use Rattle.idl_memo.specs.Cause.{changed};
+ghost use Rattle.idl_project.specs.Bank.{IsSameBeside, bank_of};
+ghost use Rattle.idl_project.specs.Edits.{macros_with};
+ghost use Rattle.idl_prep.specs.Candidate.{AnswersFrom};
+ghost use Rattle.idl_prep.specs.Include.{directories_in};
+ghost use Rattle.idl_source.specs.Limits.{most_macros};
+ghost use Rattle.idl_project.specs.Project.{Inputs, is_defined, no_inputs};
+
+use crate::limits::{MAX_BODY, MAX_MACROS};
+use crate::macro_body::MacroBody;
+use idl_base::{Bytes, Seq};
+use idl_event::{Answer, Key, LexedFile};
+use idl_fault::FileName;
+use idl_macro::is_macro_word;
+use idl_memo::Bank;
+use idl_source::{Files, Line, Refusal};
+use indexmap::IndexMap;
+use std::alloc::{AllocError, Global};
+use std::marker::Model;
+
+/// Files, macros and a search list, with the answers about them: each file and each body is cut into tokens once.
+pub struct SessionBank {
+    files: Files,
+    texts: IndexMap<FileName, Answer>,
+    macros: IndexMap<Bytes, MacroBody>,
+    search: Answer,
+}
+
+impl Model for SessionBank {
+    ghost use Rattle.std.specs.Prelude.{◌≡◌, List, ℕ, Some};
+    ghost use Rattle.std.specs.FinMap as finite;
+    ghost use Rattle.std.specs.Map.{lookup};
+    ghost use Rattle.std.specs.Option.{option_map};
+    ghost use Rattle.std.specs.Str.{bytes_eq};
+    ghost use Rattle.idl_event.specs.declared.asked.key.Answer.TheVariants as answers;
+    ghost use Rattle.idl_prep.specs.Include.{directories_in};
+    ghost use Rattle.idl_project.specs.Project.{Inputs, inputs_code};
+
+    ghost Value = { Inputs };
+
+    ghost coded = { inputs_code };
+
+    ghost view = { λ bank. record {
+      files = bank.files;
+      macros = bank.macros.entries;
+      search = directories_in (Some bank.search);
+    } };
+
+    // The texts say what the files say, and the search list is one.
+    ghost invariant = { λ bank. ((name : List ℕ) → lookup (bytes_eq name) bank.texts.entries
+        ≡ option_map answers.File (finite.get bank.files name))
+        × (bank.search ≡ answers.Search (directories_in (Some bank.search))) };
+}
+
+impl Drop for SessionBank {
+    fn drop(self) {
+        let SessionBank {
+            files: _files,
+            texts: _texts,
+            macros: _macros,
+            search: _search,
+        } = self;
+    }
+}
+
+impl SessionBank {
+    /// No files, no macros and no directories. It takes no memory.
+    pub fn new(alloc: Global) -> SessionBank
+        ensures { result ≡ no_inputs }
+    {
+        SessionBank {
+            files: Files::new(alloc),
+            texts: IndexMap::new(alloc),
+            macros: IndexMap::new(alloc),
+            search: Answer::Search(Seq::new(alloc)),
+        }
+    }
+
+    /// The files.
+    pub fn files(&self) -> &Files
+        ensures { result.now ≡ self.now.files }
+    {
+        &self.files
+    }
+
+    // Whether there are as many macros as there may be, and none with this word.
+    fn is_full_for(&self, word: &Bytes) -> bool
+        ensures { let macros = self.now.macros in
+            result ≡ (nat_le most_macros (length macros) && not (is_defined macros word.now)) }
+    {
+        self.macros.len() >= MAX_MACROS && !self.macros.contains_key(word)
+    }
+
+    /// Why a macro with this word and this body isn't defined.
+    pub fn refusal_of_define(&self, word: &Bytes, body: &Line) -> Option<Refusal>
+        ensures { result ≡ result_err (macros_with self.now.macros word.now body.now) }
+    {
+        if body.len() > MAX_BODY || self.is_full_for(word) {
+            return Some(Refusal::OverLimit);
+        }
+        if !is_macro_word(word.as_bytes()) {
+            return Some(Refusal::BadMacro);
+        }
+        None
+    }
+
+    /// What is answered of a file, by what these files say of it. The file is cut into tokens here, and what is the same as in
+    /// the bank's file of this name is taken over.
+    pub fn file_answer(
+        &self,
+        alloc: Global,
+        files: &Files,
+        name: &FileName,
+    ) -> Result<Option<Answer>, AllocError>
+        ensures { IfOk result (λ answer.
+            answer ≡ option_map answers.File (finite.get files.now name.now)) }
+    {
+        let Some(file) = files.get(name.as_bytes()) else {
+            return Ok(None);
+        };
+        let old = file_in(self.texts.get(name));
+        let text = LexedFile::new(alloc, file.clone()?, old)?;
+        Ok(Some(Answer::File(text)))
+    }
+
+    /// Puts other files in place, of which the one of this name alone may be another, with the answer about it.
+    pub fn set_files(
+        &mut self,
+        name: FileName,
+        files: Files,
+        answer: Option<Answer>,
+    ) -> Result<(), AllocError>
+        requires beside { IsSameBeside name self.old.files files }
+        requires answers { answer ≡ option_map answers.File (finite.get files name) }
+        ensures ok { OnOk result (self.new ≡ record self.old { files = files }) }
+        ensures bank { OnOk result
+            (bank_of self.new ≡ changed key_eq (bank_of self.old) (keys.File name) answer) }
+        ensures err { OnErr result (self.new ≡ self.old) }
+    {
+        match answer {
+            Some(answer) => {
+                self.texts.insert(name, answer)?;
+                self.files = files;
+                Ok(())
+            }
+            None => {
+                self.texts.swap_remove(&name);
+                self.files = files;
+                Ok(())
+            }
+        }
+    }
+
+    /// Gives the macro with this word this body, as the last one if it is new.
+    pub fn define(&mut self, word: Bytes, body: MacroBody) -> Result<(), AllocError>
+        ensures ok { let macros = insert_entry bytes_eq self.old.macros word body in
+            OnOk result (self.new ≡ record self.old { macros = macros }) }
+        ensures bank { OnOk result (bank_of self.new
+            ≡ changed key_eq (bank_of self.old) (keys.Macro word) (Some (answers.Macro (body ∷ [])))) }
+        ensures err { OnErr result (self.new ≡ self.old) }
+    {
+        self.macros.insert(word, body)?;
+        Ok(())
+    }
+
+    /// Takes the macro with this word out, if there is one.
+    pub fn undef(&mut self, word: &Bytes)
+        ensures left { let macros = remove_entry (bytes_eq word.now) self.old.macros in
+            self.new ≡ record self.old { macros = macros } }
+        ensures bank { bank_of self.new ≡ changed key_eq (bank_of self.old) (keys.Macro word.now) None }
+    {
+        self.macros.shift_remove(word);
+    }
+
+    /// Puts another search list in place.
+    pub fn set_search(&mut self, search: Answer)
+        requires { search ≡ answers.Search (directories_in (Some search)) }
+        ensures set { self.new ≡ record self.old { search = directories_in (Some search) } }
+        ensures bank { bank_of self.new ≡ changed key_eq (bank_of self.old) keys.Search (Some search) }
+    {
+        self.search = search;
+    }
+}
+
+impl Bank for SessionBank {
+    ghost use Rattle.idl_project.specs.Bank.{bank_of};
+
+    type Key = Key;
+
+    type Answer = Answer;
+
+    ghost at = { bank_of };
+
+    #[inline]
+    #[tactic(auto, unfolding(crate::specs::Bank::bank_of))]
+    fn answer(&self, key: &Key) -> Option<&Answer> {
+        match key {
+            // Most sessions have no macros, and each word of a text is asked for.
+            Key::Macro(_) if self.macros.is_empty() => None,
+            Key::Macro(word) => match self.macros.get(word) {
+                Some(body) => Some(body.answer()),
+                None => None,
+            },
+            Key::File(name) => self.texts.get(name),
+            Key::Search => Some(&self.search),
+        }
+    }
+}
+
+/// Answers of inputs come from their files and their search list, so that `first_candidate` of `idl_prep` speaks of a session:
+/// there too an include finds the first of its candidates that is present. This does nothing: it carries the law.
+pub fn answers_come_from_inputs()
+    ensures { (inputs : Inputs) → AnswersFrom inputs.files inputs.search (bank_of inputs) }
+{}
+
+// The file that an answer is, if it is one.
+fn file_in(answer: Option<&Answer>) -> Option<&LexedFile> {
+    match answer? {
+        Answer::File(text) => Some(text),
+        Answer::Macro(_) | Answer::Search(_) => None,
+    }
+}

@@ -1,0 +1,159 @@
+//! Roots by name, each with what is kept of it.
+
+ghost use Rattle.std.specs.Prelude.{◌≡◌, ◌∷◌, ◌++◌, [], false, IfOk, OnOk, OnErr, length, nat_le};
+ghost use Rattle.std.specs.Option.{option_copied, option_map};
+ghost use Rattle.std.specs.List.{IsDistinct, list_any};
+ghost use Rattle.std.specs.Map.{lookup, keys_of, remove_entry};
+ghost use Rattle.std.specs.Str.{bytes_eq};
+ghost use Rattle.idl_event.specs.Key.{key_eq};
+ghost use Rattle.idl_memo.specs.Cause.{changed};
+ghost use Rattle.idl_memo.specs.Meter.{compared_after};
+ghost use Rattle.idl_source.specs.Limits.{most_roots};
+ghost use Rattle.idl_project.specs.Bank.{bank_of};
+ghost use Rattle.idl_project.specs.UpToDate.{AreKept, keys_asked};
+ghost use Rattle.idl_project.specs.Work.{work_between};
+
+use crate::bank::SessionBank;
+use crate::compile::CompiledRoot;
+use crate::kept_root::KeptRoot;
+use crate::limits::MAX_ROOTS;
+use crate::work::Work;
+use idl_memo::{Edited, Meter, freshness};
+use idl_prep::RootTask;
+use idl_root::Memory;
+use idl_source::Name;
+use indexmap::IndexMap;
+use std::alloc::{AllocError, Global};
+use std::marker::Model;
+
+/// Roots, each once, with what is kept of it, in the order in which they were added.
+///
+/// A look-up takes the same time whatever their number.
+pub struct RootTable {
+    roots: IndexMap<Name, KeptRoot>,
+}
+
+impl Model for RootTable {
+    ghost use Rattle.std.specs.Prelude.{List, ℕ};
+    ghost use Rattle.idl_project.specs.declared.kept_root.KeptRoot.{KeptRoot};
+
+    ghost Value = { List (List ℕ × KeptRoot) };
+
+    ghost view = { λ table. table.roots.entries };
+}
+
+impl Drop for RootTable {
+    fn drop(self) {
+        let RootTable { roots: _roots } = self;
+    }
+}
+
+impl RootTable {
+    /// The table without roots. It takes no memory.
+    pub fn new(alloc: Global) -> RootTable
+        ensures { result ≡ [] }
+    {
+        RootTable {
+            roots: IndexMap::new(alloc),
+        }
+    }
+
+    /// Whether there are as many roots as there may be.
+    pub fn is_full(&self) -> bool
+        ensures { result ≡ nat_le most_roots (length self.now) }
+    {
+        self.roots.len() >= MAX_ROOTS
+    }
+
+    /// Whether there is a root of this name.
+    pub fn contains(&self, root: &Name) -> bool
+        ensures { result ≡ list_any (bytes_eq root.now) (keys_of self.now) }
+    {
+        self.roots.contains_key(root)
+    }
+
+    /// What the root of this name compiles to.
+    pub fn get(&self, root: &Name) -> Option<&CompiledRoot>
+        ensures { option_copied result
+            ≡ option_map (λ kept. kept.compiled.value) (lookup (bytes_eq root.now) self.now) }
+    {
+        match self.roots.get(root) {
+            Some(kept) => Some(kept.compiled()),
+            None => None,
+        }
+    }
+
+    /// What is kept of the root of this name.
+    pub fn kept(&self, root: &Name) -> Option<&KeptRoot>
+        ensures { option_copied result ≡ lookup (bytes_eq root.now) self.now }
+    {
+        self.roots.get(root)
+    }
+
+    /// Makes room for one root more. The roots stay as they are.
+    pub fn reserve_one(&mut self) -> Result<(), AllocError>
+        ensures { self.new ≡ self.old }
+    {
+        self.roots.reserve(1)
+    }
+
+    /// Adds a root that isn't there, at the end.
+    pub fn add(&mut self, root: Name, kept: KeptRoot) -> Result<(), AllocError>
+        // Who adds a root has asked for it.
+        requires { list_any (bytes_eq root) (keys_of self.old) ≡ false }
+        ensures ok { OnOk result (self.new ≡ self.old ++ (root, kept) ∷ []) }
+        ensures err { OnErr result (self.new ≡ self.old) }
+    {
+        self.roots.insert(root, kept)?;
+        Ok(())
+    }
+
+    /// Drops the root of this name, if there is one. The others stay in their order.
+    pub fn remove(&mut self, root: &Name)
+        ensures left { self.new ≡ remove_entry (bytes_eq root.now) self.old }
+        ensures distinct { IsDistinct bytes_eq (keys_of self.new) }
+    {
+        self.roots.shift_remove(root);
+    }
+
+    /// The same roots after an edit of the bank, each with what is kept of it, and the work of that: one look-up for each, and
+    /// those that asked for what has changed are expanded and compiled anew.
+    pub fn renewed<'a>(
+        &self,
+        memory: &mut Memory,
+        edited: &Edited<'a, SessionBank>,
+    ) -> Result<(RootTable, Work), AllocError>
+        requires distinct { IsDistinct bytes_eq (keys_of self.now) }
+        requires kept { AreKept (bank_of edited.now.base.now) self.now }
+        ensures roots { IfOk result (λ renewed. keys_of renewed.0 ≡ keys_of self.now) }
+        ensures kept { let before = bank_of edited.now.base.now in
+            let after = changed key_eq before edited.now.key.now (option_copied edited.now.answer) in
+            IfOk result (λ renewed. AreKept after renewed.0) }
+        ensures work { let before = bank_of edited.now.base.now in
+            let after = changed key_eq before edited.now.key.now (option_copied edited.now.answer) in
+            let roots = keys_of self.now in
+            IfOk result (λ renewed. renewed.1 ≡ work_between before roots after roots) }
+    {
+        freshness::<SessionBank, RootTask>();
+        let _room = self.roots.len();
+        let mut meter = Meter::new();
+        let cause = edited.cause();
+        let mut table = RootTable::new(memory.alloc());
+        for (root, kept) in self.roots.iter() {
+            let next = kept.renewed(memory, edited, cause, &mut meter)?;
+            table.add(root.copied(), next)?;
+        }
+        Ok((table, Work::counted(&meter)))
+    }
+
+    /// How many keys all roots asked, as far as a count goes.
+    pub fn keys_asked(&self) -> u64
+        ensures { result ≡ compared_after 0 (keys_asked self.now) }
+    {
+        let mut keys: u64 = 0;
+        for (_root, kept) in self.roots.iter() {
+            keys = keys.saturating_add(kept.key_count() as u64);
+        }
+        keys
+    }
+}

@@ -1,0 +1,408 @@
+//! The session: its edits, and its queries.
+
+ghost use Rattle.std.specs.Prelude.{◌≡◌, ℕ, List, [], true, Ok, Err, IfOk, IfNone, IfSome, IsTrue, map};
+ghost use Rattle.std.specs.Option.{option_copied};
+ghost use Rattle.idl_source.specs.names.Name.{is_name};
+ghost use Rattle.idl_event.specs.declared.asked.key.Key.TheVariants as keys;
+ghost use Rattle.idl_project.specs.Asked.{asked_files, asked_of};
+ghost use Rattle.idl_project.specs.Bank.{IsSameBeside};
+ghost use Rattle.idl_project.specs.Project.{no_project, with_files};
+ghost use Rattle.idl_project.specs.Work.{no_work};
+ghost use Rattle.idl_project.specs.Edited.{IsEdited, takes_memory};
+ghost use Rattle.idl_project.specs.Edits.{Edit, Put, Splice, Remove, Define, Undef, Search, AddRoot, DropRoot, after, are_too_long};
+ghost use Rattle.idl_project.specs.Renewed.{IsRenewed};
+ghost use Rattle.idl_project.specs.UpToDate.{compiled_of, diagnostics_of, findings_of, listing_of, dump_of, is_faulty_of, absent_of};
+ghost use Rattle.idl_project.specs.WellFormed.{IsWellFormed};
+
+use crate::bank::SessionBank;
+use crate::compile::CompiledRoot;
+use crate::directories::directories;
+use crate::kept_root::KeptRoot;
+use crate::macro_body::MacroBody;
+use crate::root_table::RootTable;
+use crate::word::spelled;
+use crate::work::Work;
+use idl_base::{Bytes, Seq};
+use idl_event::{Answer, Key};
+use idl_fault::FileName;
+use idl_macro::is_macro_word;
+use idl_memo::{Edited, Meter, freshness};
+use idl_prep::RootTask;
+use idl_root::{Finding, Memory, Row};
+use idl_source::{Files, Line, Name, Refusal, Span};
+use std::alloc::{AllocError, Global};
+use std::marker::Model;
+
+/// A well-formed project, and for each of its roots what it compiles to.
+///
+/// An edit is accepted, and then all rows are those of the project after it, or it is refused, and then nothing has
+/// changed. Queries take no memory, but that `asked` makes a list.
+#[derive(Drop)]
+pub struct Session {
+    memory: Memory,
+    bank: SessionBank,
+    roots: RootTable,
+    work: Work,
+}
+
+impl Model for Session {
+    ghost use Rattle.std.specs.Map.{keys_of};
+    ghost use Rattle.idl_project.specs.UpToDate.{State, state_code, IsUpToDate};
+
+    ghost Value = { State };
+
+    ghost coded = { state_code };
+
+    ghost view = { λ session. record {
+      project = record { inputs = session.bank; roots = keys_of session.roots };
+      work = session.work;
+    } };
+
+    ghost invariant = { λ session. IsUpToDate session.bank session.roots };
+}
+
+impl Session {
+    /// A session without files, macros, directories and roots. It takes no memory.
+    pub fn new(alloc: Global) -> Session
+        ensures { result ≡ record { project = no_project; work = no_work } }
+    {
+        Session {
+            memory: Memory::new(alloc),
+            bank: SessionBank::new(alloc),
+            roots: RootTable::new(alloc),
+            work: Work::none(),
+        }
+    }
+
+    /// Puts a file of these lines, in place of the one of that name if there is one. The name is a root or not as before.
+    ///
+    /// It is refused where the name isn't one, and then where a limit of files or lines is passed. Memory may be refused
+    /// too. A refusal gives up the lines.
+    pub fn put(&mut self, name: &[u8], lines: Vec<Line>) -> Result<Work, Refusal>
+        ensures { IsEdited (Put name.now lines.items) self.old self.new result }
+    {
+        let files = self.bank.files().put(name, lines)?;
+        self.change_files(name, files)
+    }
+
+    /// Puts these lines in the place of a span of a file.
+    ///
+    /// It is refused where the name isn't one, then where there is no such file, then where the span isn't all in it, and
+    /// then where a limit of lines is passed. Memory may be refused too. A refusal gives up the lines.
+    pub fn splice(&mut self, name: &[u8], span: Span, lines: Vec<Line>) -> Result<Work, Refusal>
+        ensures { let edit = Splice name.now span.from span.del lines.items in
+            IsEdited edit self.old self.new result }
+    {
+        let files = self.bank.files().splice(name, span, lines)?;
+        self.change_files(name, files)
+    }
+
+    /// Removes the file of this name. The name is a root or not as before.
+    ///
+    /// It is refused where the name isn't one, and then where there is no such file. Memory may be refused too.
+    pub fn remove(&mut self, name: &[u8]) -> Result<Work, Refusal>
+        ensures { IsEdited (Remove name.now) self.old self.new result }
+    {
+        let files = self.bank.files().remove(name)?;
+        self.change_files(name, files)
+    }
+
+    /// Defines a macro that stands before the first line of every root, in place of the one of that word if there is one.
+    ///
+    /// It is refused where the body has more than [`MAX_BODY`](crate::MAX_BODY) bytes, or the word is new and there are
+    /// [`MAX_MACROS`](crate::MAX_MACROS) macros, and then where the word isn't one, or is `defined`. Memory may be refused
+    /// too. A refusal gives up the body.
+    pub fn define(&mut self, word: &[u8], body: Line) -> Result<Work, Refusal>
+        ensures { IsEdited (Define word.now body) self.old self.new result }
+    {
+        let word = spelled(self.memory.alloc(), word)?;
+        if let Some(refusal) = self.bank.refusal_of_define(&word, &body) {
+            return Err(refusal);
+        }
+        let body = MacroBody::new(self.memory.alloc(), body)?;
+        let renewed = self.renewed_with_macro(&word, Some(body.answer()))?;
+        self.bank.define(word, body)?;
+        self.roots = renewed.0;
+        self.work = renewed.1;
+        Ok(self.work)
+    }
+
+    /// Takes the macro with this word out, if there is one.
+    ///
+    /// It is refused where the word isn't one, or is `defined`. Memory may be refused too.
+    pub fn undef(&mut self, word: &[u8]) -> Result<Work, Refusal>
+        ensures { IsEdited (Undef word.now) self.old self.new result }
+    {
+        if !is_macro_word(word) {
+            return Err(Refusal::BadMacro);
+        }
+        let word = spelled(self.memory.alloc(), word)?;
+        let renewed = self.renewed_with_macro(&word, None)?;
+        self.bank.undef(&word);
+        self.roots = renewed.0;
+        self.work = renewed.1;
+        Ok(self.work)
+    }
+
+    /// Searches included files in these directories from now on, in this order.
+    ///
+    /// It is refused where one of them is no directory, and then where there are more than
+    /// [`MAX_DIRECTORIES`](crate::MAX_DIRECTORIES). Memory may be refused too.
+    pub fn search(&mut self, list: &[&[u8]]) -> Result<Work, Refusal>
+        ensures { IsEdited (Search (map (λ bytes. bytes.now) list.now)) self.old self.new result }
+    {
+        let list = directories(self.memory.alloc(), list)?;
+        let search = Answer::Search(Seq::from_vec(list));
+        let renewed = self.renewed_with(&Key::Search, Some(&search))?;
+        self.bank.set_search(search);
+        self.roots = renewed.0;
+        self.work = renewed.1;
+        Ok(self.work)
+    }
+
+    /// Makes the file of this name a root, the last one. The file may be absent.
+    ///
+    /// It is refused where the name isn't one, and then where it is a root already or there are [`MAX_ROOTS`](crate::MAX_ROOTS) roots.
+    /// Memory may be refused too.
+    pub fn add_root(&mut self, name: &[u8]) -> Result<Work, Refusal>
+        ensures { IsEdited (AddRoot name.now) self.old self.new result }
+    {
+        let Some(root) = Name::new(name) else {
+            return Err(Refusal::BadName);
+        };
+        if self.roots.contains(&root) {
+            return Err(Refusal::RootThere);
+        }
+        if self.roots.is_full() {
+            return Err(Refusal::OverLimit);
+        }
+        freshness::<SessionBank, RootTask>();
+        let mut meter = Meter {
+            expanded: 0,
+            checked: 0,
+            printed: 0,
+            compared: self.roots.keys_asked(),
+        };
+        // First, so that no root is compiled where there is no room for it.
+        self.roots.reserve_one()?;
+        let kept = KeptRoot::anew(&mut self.memory, root.copied(), &self.bank, &mut meter)?;
+        self.roots.add(root, kept)?;
+        self.work = Work::counted(&meter);
+        Ok(self.work)
+    }
+
+    /// Makes the file of this name no root any more. The file stays. It takes no memory.
+    ///
+    /// It is refused where the name isn't one, and then where it is that of no root.
+    pub fn drop_root(&mut self, name: &[u8]) -> Result<Work, Refusal>
+        ensures { IsEdited (DropRoot name.now) self.old self.new result }
+    {
+        let Some(root) = Name::new(name) else {
+            return Err(Refusal::BadName);
+        };
+        if !self.roots.contains(&root) {
+            return Err(Refusal::NoSuchRoot);
+        }
+        freshness::<SessionBank, RootTask>();
+        self.roots.remove(&root);
+        self.work = Work {
+            expanded: 0,
+            checked: 0,
+            printed: 0,
+            compared: self.roots.keys_asked(),
+        };
+        Ok(self.work)
+    }
+
+    /// What is found in a root, of which its diagnostics are the rows, or nothing where the name isn't one of a root. It takes no
+    /// memory.
+    pub fn findings(&self, root: &[u8]) -> Option<&[Finding]>
+        ensures { option_copied result ≡ findings_of self.now.project root.now }
+    {
+        match self.compiled(root) {
+            Some(compiled) => Some(compiled.rows.findings.as_slice()),
+            None => None,
+        }
+    }
+
+    /// The diagnostics of a root, or nothing where the name isn't one of a root. It takes no memory.
+    pub fn diagnostics(&self, root: &[u8]) -> Option<&[Row]>
+        ensures { option_copied result ≡ diagnostics_of self.now.project root.now }
+    {
+        match self.compiled(root) {
+            Some(compiled) => Some(compiled.rows.diagnostics.as_slice()),
+            None => None,
+        }
+    }
+
+    /// The listing of a root, or nothing where the name isn't one of a root. It takes no memory.
+    pub fn listing(&self, root: &[u8]) -> Option<&[Row]>
+        ensures { option_copied result ≡ listing_of self.now.project root.now }
+    {
+        match self.compiled(root) {
+            Some(compiled) => Some(compiled.rows.listing.as_slice()),
+            None => None,
+        }
+    }
+
+    /// The dump of a root, or nothing where the name isn't one of a root. It takes no memory.
+    pub fn dump(&self, root: &[u8]) -> Option<&[Row]>
+        ensures { option_copied result ≡ dump_of self.now.project root.now }
+    {
+        match self.compiled(root) {
+            Some(compiled) => Some(compiled.rows.dump.as_slice()),
+            None => None,
+        }
+    }
+
+    /// Whether there is an error among the diagnostics of a root, or nothing where the name isn't one of a root.
+    pub fn is_faulty(&self, root: &[u8]) -> Option<bool>
+        ensures { result ≡ is_faulty_of self.now.project root.now }
+    {
+        match self.compiled(root) {
+            Some(compiled) => Some(compiled.rows.is_faulty),
+            None => None,
+        }
+    }
+
+    /// The files that a root asks for and that aren't there, in the order first asked, or nothing where the name isn't one of
+    /// a root. It takes no memory.
+    pub fn absent(&self, root: &[u8]) -> Option<&[Name]>
+        ensures { option_copied result ≡ absent_of self.now.project root.now }
+    {
+        match self.compiled(root) {
+            Some(compiled) => Some(compiled.absent.as_slice()),
+            None => None,
+        }
+    }
+
+    /// The files that a root asks for, there or not, in the order first asked, and none where the name isn't one of a root.
+    pub fn asked(&self, root: &[u8]) -> Result<Vec<Name>, AllocError>
+        ensures { IfOk result (λ names. names.items ≡ asked_of self.now.project root.now) }
+    {
+        match self.kept(root) {
+            Some(kept) => Ok(kept.asked(self.memory.alloc())?),
+            None => Ok(Vec::new(self.memory.alloc())),
+        }
+    }
+
+    /// The work of the last accepted edit, and of a new session none. It takes no memory.
+    pub fn work(&self) -> Work
+        ensures { result ≡ self.now.work }
+    {
+        self.work
+    }
+
+    /// Tells that the project is well-formed, whatever edits it comes of: names, words and directories obey their rules, each
+    /// macro and each root is there once, and nothing is more or longer than the limits allow.
+    ///
+    /// This does nothing: it carries the fact.
+    pub fn keeps_form(&self)
+        ensures { IsWellFormed self.now.project }
+    {
+        let _roots = &self.roots;
+    }
+
+    /// Where the session's memory comes from, for what a caller has to hand in.
+    pub fn allocator(&self) -> Global {
+        self.memory.alloc()
+    }
+
+    /// Why lines that are too many or too long for any file aren't put under this name: the least refusal. It takes no memory.
+    ///
+    /// A caller that doesn't keep such lines asks this in place of the edit.
+    pub fn refusal_of_long_put(&self, name: &[u8]) -> Refusal
+        ensures { (lines : List (List ℕ)) → are_too_long lines ≡ true
+            → after self.now.project (Put name.now lines) ≡ Err result }
+    {
+        if Name::new(name).is_none() {
+            return Refusal::BadName;
+        }
+        Refusal::OverLimit
+    }
+
+    /// Why lines that are too many or too long for any file aren't spliced in there: the least refusal. It takes no memory.
+    pub fn refusal_of_long_splice(&self, name: &[u8], span: Span) -> Refusal
+        ensures { (lines : List (List ℕ)) → are_too_long lines ≡ true
+            → after self.now.project (Splice name.now span.from span.del lines) ≡ Err result }
+    {
+        if Name::new(name).is_none() {
+            return Refusal::BadName;
+        }
+        let Some(file) = self.bank.files().get(name) else {
+            return Refusal::NoSuchFile;
+        };
+        if !span.is_inside(file.lines()) {
+            return Refusal::OutsideFile;
+        }
+        Refusal::OverLimit
+    }
+
+    // What the root of this name compiles to.
+    fn compiled(&self, root: &[u8]) -> Option<&CompiledRoot>
+        ensures { option_copied result ≡ compiled_of self.now.project root.now }
+    {
+        let roots = &self.roots;
+        roots.get(&Name::new(root)?)
+    }
+
+    // What is kept of the root of this name.
+    fn kept(&self, root: &[u8]) -> Option<&KeptRoot>
+        ensures some { IfSome result (λ kept.
+            asked_files kept.now.result.value.log ≡ asked_of self.now.project root.now) }
+        ensures none { IfNone result (asked_of self.now.project root.now ≡ []) }
+    {
+        let roots = &self.roots;
+        roots.kept(&Name::new(root)?)
+    }
+
+    // Puts other files in place, of which the one of this name alone is another: an edit after which these are the files.
+    fn change_files(&mut self, name: &[u8], files: Files) -> Result<Work, Refusal>
+        requires allowed { IsTrue (is_name name.now) }
+        requires beside { IsSameBeside name.now self.old.project.inputs.files files }
+        requires formed { IsWellFormed (with_files self.old.project files) }
+        ensures { (edit : Edit) → takes_memory edit ≡ true
+            → after self.old.project edit ≡ Ok (with_files self.old.project files)
+            → IsEdited edit self.old self.new result }
+    {
+        let name = FileName::new(self.memory.alloc(), &Name::new(name).unwrap())?;
+        let answer = self.bank.file_answer(self.memory.alloc(), &files, &name)?;
+        let renewed = self.renewed_with(&Key::File(name.clone()?), answer.as_ref())?;
+        self.bank.set_files(name, files, answer)?;
+        self.roots = renewed.0;
+        self.work = renewed.1;
+        Ok(self.work)
+    }
+
+    // All roots as they are once the macro of this word has another answer, and the work of that.
+    fn renewed_with_macro(
+        &mut self,
+        word: &Bytes,
+        answer: Option<&Answer>,
+    ) -> Result<(RootTable, Work), AllocError>
+        ensures renewed { IfOk result
+            (IsRenewed self.old.project (keys.Macro word.now) (option_copied answer.entry)) }
+        ensures same { self.new ≡ self.old }
+    {
+        let key = Key::Macro(word.clone()?);
+        Ok(self.renewed_with(&key, answer)?)
+    }
+
+    // All roots as they are once this key has another answer, and the work of that.
+    fn renewed_with(
+        &mut self,
+        key: &Key,
+        answer: Option<&Answer>,
+    ) -> Result<(RootTable, Work), AllocError>
+        ensures renewed { IfOk result
+            (IsRenewed self.old.project key.now (option_copied answer.entry)) }
+        ensures same { self.new ≡ self.old }
+    {
+        let edited = Edited {
+            base: &self.bank,
+            key,
+            answer,
+        };
+        Ok(self.roots.renewed(&mut self.memory, &edited)?)
+    }
+}

@@ -1,0 +1,169 @@
+//! Sources: what roots are made of, and what a root compiles to.
+
+ghost use Rattle.std.specs.Prelude.{◌≡◌, IfOk, is_some, map};
+ghost use Rattle.std.specs.FinMap as finite;
+ghost use Rattle.idl_project.specs.Asked.{asked_over};
+ghost use Rattle.idl_project.specs.Bank.{bank_of};
+ghost use Rattle.idl_project.specs.Compile.{compiled_root};
+ghost use Rattle.idl_project.specs.Edits.{Define, Put, Search, Undef};
+ghost use Rattle.idl_project.specs.Made.{IsMade, rootless};
+ghost use Rattle.idl_project.specs.Project.{no_inputs};
+ghost use Rattle.idl_project.specs.WellFormed.{IsWellFormed};
+
+use crate::bank::SessionBank;
+use crate::compile::{CompiledRoot, asked_alone, compile_alone};
+use crate::directories::directories;
+use crate::macro_body::MacroBody;
+use crate::word::spelled;
+use idl_base::Seq;
+use idl_event::{Answer, Key};
+use idl_fault::FileName;
+use idl_macro::is_macro_word;
+use idl_memo::Bank;
+use idl_root::Memory;
+use idl_source::{Line, Name, Refusal};
+use std::alloc::{AllocError, Global};
+use std::marker::Model;
+
+/// Files, macros and a search list, over which roots are compiled, each by itself.
+///
+/// Who compiles a root once, after all edits, needs no session: of a root nothing is kept here. An edit is refused as that of a
+/// session is, and then nothing has changed.
+#[derive(Drop)]
+pub struct Sources {
+    memory: Memory,
+    bank: SessionBank,
+}
+
+impl Model for Sources {
+    ghost use Rattle.idl_project.specs.Made.{rootless};
+    ghost use Rattle.idl_project.specs.Project.{Inputs, inputs_code};
+    ghost use Rattle.idl_project.specs.WellFormed.{IsWellFormed};
+
+    ghost Value = { Inputs };
+
+    ghost coded = { inputs_code };
+
+    ghost view = { λ sources. sources.bank };
+
+    ghost invariant = { λ sources. IsWellFormed (rootless sources.bank) };
+}
+
+impl Sources {
+    /// No files, no macros and no directories. It takes no memory.
+    pub fn new(alloc: Global) -> Sources
+        ensures { result ≡ no_inputs }
+    {
+        Sources {
+            memory: Memory::new(alloc),
+            bank: SessionBank::new(alloc),
+        }
+    }
+
+    /// Puts a file of these lines, in place of the one of that name if there is one.
+    ///
+    /// It is refused where a limit of files or lines is passed. Memory may be refused too. A refusal gives up the lines.
+    pub fn put(&mut self, name: &Name, lines: Vec<Line>) -> Result<(), Refusal>
+        ensures { IsMade (Put name.now lines.items) self.old self.new result }
+    {
+        let files = self.bank.files().put(name.as_bytes(), lines)?;
+        let name = FileName::new(self.memory.alloc(), name)?;
+        let answer = self.bank.file_answer(self.memory.alloc(), &files, &name)?;
+        self.bank.set_files(name, files, answer)?;
+        Ok(())
+    }
+
+    /// Defines a macro that stands before the first line of every root, in place of the one of that word if there is one.
+    ///
+    /// It is refused where the body has more than [`MAX_BODY`](crate::MAX_BODY) bytes, or the word is new and there are
+    /// [`MAX_MACROS`](crate::MAX_MACROS) macros, and then where the word isn't one, or is `defined`. Memory may be refused
+    /// too. A refusal gives up the body.
+    pub fn define(&mut self, word: &[u8], body: Line) -> Result<(), Refusal>
+        ensures { IsMade (Define word.now body) self.old self.new result }
+    {
+        let word = spelled(self.memory.alloc(), word)?;
+        if let Some(refusal) = self.bank.refusal_of_define(&word, &body) {
+            return Err(refusal);
+        }
+        let body = MacroBody::new(self.memory.alloc(), body)?;
+        self.bank.define(word, body)?;
+        Ok(())
+    }
+
+    /// Takes the macro with this word out, if there is one.
+    ///
+    /// It is refused where the word isn't one, or is `defined`. Memory may be refused too.
+    pub fn undef(&mut self, word: &[u8]) -> Result<(), Refusal>
+        ensures { IsMade (Undef word.now) self.old self.new result }
+    {
+        if !is_macro_word(word) {
+            return Err(Refusal::BadMacro);
+        }
+        let word = spelled(self.memory.alloc(), word)?;
+        self.bank.undef(&word);
+        Ok(())
+    }
+
+    /// Searches included files in these directories from now on, in this order.
+    ///
+    /// It is refused where one of them is no directory, and then where there are more than
+    /// [`MAX_DIRECTORIES`](crate::MAX_DIRECTORIES). Memory may be refused too.
+    pub fn search(&mut self, list: &[&[u8]]) -> Result<(), Refusal>
+        ensures { IsMade (Search (map (λ bytes. bytes.now) list.now)) self.old self.new result }
+    {
+        let list = directories(self.memory.alloc(), list)?;
+        self.bank.set_search(Answer::Search(Seq::from_vec(list)));
+        Ok(())
+    }
+
+    /// What the root of this name compiles to. Its file may be absent.
+    pub fn compile(&mut self, root: &Name) -> Result<CompiledRoot, AllocError>
+        ensures compiled { IfOk result (λ compiled. compiled ≡ compiled_root self.old root.now) }
+        ensures same { self.new ≡ self.old }
+    {
+        compile_alone(&mut self.memory, &self.bank, root)
+    }
+
+    /// The files that the root of this name asks for, there or not, in the order first asked.
+    pub fn asked(&self, root: &Name) -> Result<Vec<Name>, AllocError>
+        ensures { IfOk result (λ names. names.items ≡ asked_over (bank_of self.now) root.now) }
+    {
+        asked_alone(self.memory.alloc(), &self.bank, root)
+    }
+
+    /// Whether there is a file of this name.
+    pub fn has_file(&self, name: &Name) -> bool
+        ensures { result ≡ is_some (finite.get self.now.files name.now) }
+    {
+        self.bank.files().get(name.as_bytes()).is_some()
+    }
+
+    /// Tells that the inputs are well-formed, whatever edits they come of, as those of a session are.
+    ///
+    /// This does nothing: it carries the fact.
+    pub fn keeps_form(&self)
+        ensures { IsWellFormed (rootless self.now) }
+    {
+        let _bank = &self.bank;
+    }
+
+    /// Where memory comes from, for what a caller has to hand in.
+    pub fn allocator(&self) -> Global {
+        self.memory.alloc()
+    }
+}
+
+impl Bank for Sources {
+    ghost use Rattle.idl_project.specs.Bank.{bank_of};
+
+    type Key = Key;
+
+    type Answer = Answer;
+
+    ghost at = { bank_of };
+
+    #[inline]
+    fn answer(&self, key: &Key) -> Option<&Answer> {
+        self.bank.answer(key)
+    }
+}
