@@ -4,7 +4,7 @@ use Rattle.std.proofs.Math.Seq.{drop-append_seam, take-length}
 use Rattle.std.proofs.lemmas.List.{drop-append-le, length-append, length-drop, map-append, take-append-le}
 use Rattle.std.proofs.lemmas.List.Elements.{All-append, All-cons, All-head, All-nil, All-tail}
 use Rattle.idl_base.specs.Spans.{AreWithin, piece, pieces}
-use Rattle.idl_base.specs.declared.texts.Span.{Span}
+use Rattle.idl_base.specs.declared.texts.ByteRange.{ByteRange}
 
 -- what stands up to a place stays with more bytes behind
 pub slice_range-more : (xs ys : List ℕ) (from to : ℕ) → from ≤ to → to ≤ length xs → slice_range (xs ++ ys) from to ≡ slice_range xs from to
@@ -19,11 +19,11 @@ slice_range-behind xs ys =
     ap (take (length (xs ++ ys) - length xs)) (drop-append_seam xs ys) ∙ ap (λ n. take n ys) count ∙ take-length ys
 
 -- a span within bytes
-abbrev IsWithin : List ℕ → Span → Type 0
+abbrev IsWithin : List ℕ → ByteRange → Type 0
 IsWithin bytes span = (span.from ≤ span.to) × (span.to ≤ length bytes)
 
 -- texts stay as they are with more bytes behind
-pub pieces-more : (bytes more : List ℕ) (spans : List Span) → AreWithin bytes spans → pieces (bytes ++ more) spans ≡ pieces bytes spans
+pub pieces-more : (bytes more : List ℕ) (spans : List ByteRange) → AreWithin bytes spans → pieces (bytes ++ more) spans ≡ pieces bytes spans
 pieces-more bytes more [] are = refl
 pieces-more bytes more (span ∷ spans) are =
     let here : IsWithin bytes span = All-head (IsWithin bytes) span spans are in
@@ -31,7 +31,7 @@ pieces-more bytes more (span ∷ spans) are =
     ∙ ap (λ ps. piece bytes span ∷ ps) (pieces-more bytes more spans (All-tail (IsWithin bytes) span spans are))
 
 -- so do their spans
-pub within-more : (bytes more : List ℕ) (spans : List Span) → AreWithin bytes spans → AreWithin (bytes ++ more) spans
+pub within-more : (bytes more : List ℕ) (spans : List ByteRange) → AreWithin bytes spans → AreWithin (bytes ++ more) spans
 within-more bytes more [] are = All-nil (IsWithin (bytes ++ more))
 within-more bytes more (span ∷ spans) are =
     let here : IsWithin bytes span = All-head (IsWithin bytes) span spans are in
@@ -39,14 +39,14 @@ within-more bytes more (span ∷ spans) are =
     All-cons (IsWithin (bytes ++ more)) span spans there (within-more bytes more spans (All-tail (IsWithin bytes) span spans are))
 
 -- one text more stands behind the others
-pub within-one : (bytes text : List ℕ) (spans : List Span) (span : Span) → span.from ≡ length bytes → span.to ≡ length (bytes ++ text)
+pub within-one : (bytes text : List ℕ) (spans : List ByteRange) (span : ByteRange) → span.from ≡ length bytes → span.to ≡ length (bytes ++ text)
     → AreWithin bytes spans → AreWithin (bytes ++ text) (spans ++ span ∷ [])
 within-one bytes text spans span from to are =
     let here : IsWithin (bytes ++ text) span = (omega (arith, from, to, length-append bytes text), omega (arith, to)) in
     All-append (IsWithin (bytes ++ text)) spans (span ∷ []) (within-more bytes text spans are)
     (All-cons (IsWithin (bytes ++ text)) span [] here (All-nil (IsWithin (bytes ++ text))))
 
-pub pieces-one : (bytes text : List ℕ) (spans : List Span) (span : Span) → span.from ≡ length bytes → span.to ≡ length (bytes ++ text)
+pub pieces-one : (bytes text : List ℕ) (spans : List ByteRange) (span : ByteRange) → span.from ≡ length bytes → span.to ≡ length (bytes ++ text)
     → AreWithin bytes spans → pieces (bytes ++ text) (spans ++ span ∷ []) ≡ pieces bytes spans ++ text ∷ []
 pieces-one bytes text spans span from to are =
     map-append (piece (bytes ++ text)) spans (span ∷ [])

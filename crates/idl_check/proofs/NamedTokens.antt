@@ -10,8 +10,8 @@ use Rattle.idl_lex.specs.kinds.Literal.{body_of, character_kind, characters, clo
 use Rattle.idl_lex.specs.kinds.Marks.{mark_kind, marks}
 use Rattle.idl_lex.specs.kinds.Number.{are_digits, based, integer_value, is_floating, kind_of_value, limited, no_integer, number, number_kind}
 use Rattle.idl_lex.specs.declared.kinds.kind.Defect.TheVariants.{BadEscape, FloatingLiteral, MalformedInteger, UnclosedComment, UnknownByte}
-use Rattle.idl_lex.specs.declared.kinds.kind.Kind.{Kind}
-use Rattle.idl_lex.specs.declared.kinds.kind.Kind.TheVariants as token
+use Rattle.idl_lex.specs.declared.kinds.kind.TokenKind.{TokenKind}
+use Rattle.idl_lex.specs.declared.kinds.kind.TokenKind.TheVariants as token
 use Rattle.idl_scope.proofs.Constructors.{some_same}
 use Rattle.idl_tree.specs.Lexeme.{Lexeme, Character, Identifier, Integer, Text, WideCharacter, WideText, lexeme_by, lexeme_of, one_character, valued}
 use Rattle.std.specs.List.{list_all}
@@ -35,16 +35,16 @@ identifier-named (b ∷ rest) h = by_mark (nat_eq b 63) refl
 
 -- ---- an escaped identifier is of `_` and a letter alone
 
-abbrev is_escaped : Kind → Bool
+abbrev is_escaped : TokenKind → Bool
 is_escaped token.Escaped = true
 is_escaped other = false
 
-either : (b : Bool) (x y : Kind) → is_escaped x ≡ false → is_escaped y ≡ false → is_escaped (if b then x else y) ≡ false
+either : (b : Bool) (x y : TokenKind) → is_escaped x ≡ false → is_escaped y ≡ false → is_escaped (if b then x else y) ≡ false
 either true x y h g = h
 either false x y h g = g
 
 -- none of these is
-abbrev are_others : List (List ℕ × Kind) → Bool
+abbrev are_others : List (List ℕ × TokenKind) → Bool
 are_others ks = list_all (λ k. not (is_escaped k.1)) ks
 
 keywords-others : are_others keywords ≡ true
@@ -56,8 +56,8 @@ unfolding marks
 marks-others = refl
 
 -- the one that is found
-found : (kind : Option (List ℕ × Kind) → Kind) → is_escaped (kind None) ≡ false → ((k : List ℕ × Kind) → is_escaped k.1 ≡ false → is_escaped (kind (Some k)) ≡ false)
-    → (test : List ℕ × Kind → Bool) (ks : List (List ℕ × Kind)) → are_others ks ≡ true → is_escaped (kind (find test ks)) ≡ false
+found : (kind : Option (List ℕ × TokenKind) → TokenKind) → is_escaped (kind None) ≡ false → ((k : List ℕ × TokenKind) → is_escaped k.1 ≡ false → is_escaped (kind (Some k)) ≡ false)
+    → (test : List ℕ × TokenKind → Bool) (ks : List (List ℕ × TokenKind)) → are_others ks ≡ true → is_escaped (kind (find test ks)) ≡ false
 found kind none some test [] all = none
 found kind none some test (k ∷ ks) all =
     let parts = both (not (is_escaped k.1)) (are_others ks) all in
@@ -146,7 +146,7 @@ no-name : {A : Type 0} (make : A → Lexeme) (name : List ℕ) → ((a : A) → 
 no-name make name never None h = cc
 no-name make name never (Some a) h = never a h
 
-by-kind : (k : Kind) (t name : List ℕ) → kind_of t ≡ k → lexeme_by k t ≡ Identifier name → is_nameless name ≡ false
+by-kind : (k : TokenKind) (t name : List ℕ) → kind_of t ≡ k → lexeme_by k t ≡ Identifier name → is_nameless name ≡ false
 by-kind (token.Accepted keyword) t name is h = cc
 by-kind token.Refused t name is h = cc
 by-kind token.Miscased t name is h = cc

@@ -6,12 +6,12 @@ use Rattle.idl_condition.specs.Operator.{rank, highest_rank, application, sign_a
 use Rattle.idl_condition.specs.Condition.{Chain, sign_of, operand_at, operator_at, condition}
 use Rattle.idl_condition.specs.Grammar.{operand_rank, HasValue, number, name, parenthesized, prefixed, infixed}
 use Rattle.idl_condition.specs.Waiting.{meaning_at, IsAbove, IsBelow}
-use Rattle.idl_condition.specs.declared.condition.Place.TheVariants.{BeforeOperand, AfterOperand}
+use Rattle.idl_condition.specs.declared.condition.Awaited.TheVariants.{BeforeOperand, AfterOperand}
 use Rattle.idl_condition.specs.declared.operator.Operator.{Operator}
 use Rattle.idl_condition.specs.declared.operator.Operator.TheVariants as op
 use Rattle.idl_condition.specs.declared.operator.Sign.{Sign}
-use Rattle.idl_condition.specs.declared.stack.Entry.{Entry}
-use Rattle.idl_condition.specs.declared.stack.Entry.TheVariants.{Infix, Prefix, Parenthesis}
+use Rattle.idl_condition.specs.declared.stack.Waiting.{Waiting}
+use Rattle.idl_condition.specs.declared.stack.Waiting.TheVariants.{Infix, Prefix, Parenthesis}
 use Rattle.idl_condition.specs.declared.symbol.Symbol.{Symbol}
 use Rattle.idl_condition.specs.declared.symbol.Symbol.TheVariants as symbol
 use Rattle.idl_condition.proofs.ChainLemmas.{HasRank}
@@ -38,19 +38,19 @@ HasRank-all op.Divide = record { low = omega arith; high = omega arith }
 HasRank-all op.Remainder = record { low = omega arith; high = omega arith }
 
 -- the entry that waits last binds an expression of this rank as its operand
-abbrev IsUnder : List Entry → ℕ → Type 0
+abbrev IsUnder : List Waiting → ℕ → Type 0
 IsUnder [] r = ⊤
 IsUnder (Infix a o ∷ es) r = rank o < r
 IsUnder (Prefix s ∷ es) r = highest_rank < r
 IsUnder (Parenthesis ∷ es) r = ⊤
 
-IsUnder-higher : (es : List Entry) (r s : ℕ) → r ≤ s → IsUnder es r → IsUnder es s
+IsUnder-higher : (es : List Waiting) (r s : ℕ) → r ≤ s → IsUnder es r → IsUnder es s
 IsUnder-higher [] r s le under = under
 IsUnder-higher (Infix a o ∷ es) r s le under = omega (arith, under)
 IsUnder-higher (Prefix s ∷ es) r t le under = omega (arith, under)
 IsUnder-higher (Parenthesis ∷ es) r s le under = under
 
-IsAbove-under : (es : List Entry) (r : ℕ) (o : Operator) → r ≤ rank o → IsUnder es r → IsAbove es (rank o)
+IsAbove-under : (es : List Waiting) (r : ℕ) (o : Operator) → r ≤ rank o → IsUnder es r → IsAbove es (rank o)
 IsAbove-under [] r o le under = under
 IsAbove-under (Infix a q ∷ es) r o le under = omega (arith, under)
 IsAbove-under (Prefix s ∷ es) r o le under = let ranked = HasRank-all o in absurd (omega (arith, under, ranked.high))
@@ -68,17 +68,17 @@ IsBelow-operator : (o : Operator) (ss : List Symbol) → IsBelow (operator_at (s
 unfolding operand_at
 IsBelow-operator o ss = omega arith
 
-meaning_at-prefix : (es : List Entry) (s : Sign) (v : Value) (ss : List Symbol) → meaning_at (AfterOperand v) (Prefix s ∷ es) ss ≡ meaning_at (AfterOperand (sign_application s v)) es ss
+meaning_at-prefix : (es : List Waiting) (s : Sign) (v : Value) (ss : List Symbol) → meaning_at (AfterOperand v) (Prefix s ∷ es) ss ≡ meaning_at (AfterOperand (sign_application s v)) es ss
 unfolding meaning_at
 meaning_at-prefix es s v ss = sym (meaning-prefix es s v (operator_at ss).chain (operator_at ss).tail)
 
-meaning_at-infix : (es : List Entry) (a : Value) (o : Operator) (b : Value) (ss : List Symbol) → IsAbove es (rank o) → IsBelow (operator_at ss).chain (rank o) →
+meaning_at-infix : (es : List Waiting) (a : Value) (o : Operator) (b : Value) (ss : List Symbol) → IsAbove es (rank o) → IsBelow (operator_at ss).chain (rank o) →
     meaning_at (AfterOperand b) (Infix a o ∷ es) ss ≡ meaning_at (AfterOperand (application o a b)) es ss
 unfolding meaning_at
 meaning_at-infix es a o b ss above below = sym (meaning-infix es a o b (operator_at ss).chain (operator_at ss).tail (HasRank-all o) above below)
 
 -- an expression is read as an operand with its value, where what waits and what follows leave it whole
-meaning_at-expression : (r : ℕ) (xs : List Symbol) (v : Value) → HasValue r xs v → (es : List Entry) (ss : List Symbol) → IsUnder es r → IsBelow (operator_at ss).chain r →
+meaning_at-expression : (r : ℕ) (xs : List Symbol) (v : Value) → HasValue r xs v → (es : List Waiting) (ss : List Symbol) → IsUnder es r → IsBelow (operator_at ss).chain r →
     meaning_at BeforeOperand es (xs ++ ss) ≡ meaning_at (AfterOperand v) es ss
 meaning_at-expression _ _ _ (number r n) es ss under below = sym (meaning_at-number es n ss)
 meaning_at-expression _ _ _ (name r) es ss under below = sym (meaning_at-name es ss)

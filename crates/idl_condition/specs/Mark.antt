@@ -4,8 +4,8 @@ use Rattle.idl_condition.specs.declared.operator.Operator.TheVariants as op
 use Rattle.idl_condition.specs.declared.symbol.Symbol.{Symbol}
 use Rattle.idl_condition.specs.declared.symbol.Symbol.TheVariants.{Operator, Not, Complement, Open, Close, Other}
 use Rattle.idl_lex.specs.kinds.Marks.{mark_kind}
-use Rattle.idl_lex.specs.declared.kinds.kind.Kind.{Kind}
-use Rattle.idl_lex.specs.declared.kinds.kind.Kind.TheVariants.{Punctuation, Preprocessing}
+use Rattle.idl_lex.specs.declared.kinds.kind.TokenKind.{TokenKind}
+use Rattle.idl_lex.specs.declared.kinds.kind.TokenKind.TheVariants.{Punctuation, Preprocessing}
 use Rattle.idl_lex.specs.declared.kinds.mark.Mark.{Mark}
 use Rattle.idl_lex.specs.declared.kinds.mark.Mark.TheVariants as mark
 use Rattle.idl_lex.specs.declared.kinds.mark.PreprocessorMark.{PreprocessorMark}
@@ -41,7 +41,7 @@ symbol_of_preprocessor_mark preprocessor.AndAnd = Operator op.And
 symbol_of_preprocessor_mark preprocessor.OrOr = Operator op.Or
 symbol_of_preprocessor_mark _ = Other
 
-abbrev pub symbol_of_kind : Option Kind → Symbol
+abbrev pub symbol_of_kind : Option TokenKind → Symbol
 symbol_of_kind (Some (Punctuation m)) = symbol_of_mark m
 symbol_of_kind (Some (Preprocessing m)) = symbol_of_preprocessor_mark m
 symbol_of_kind _ = Other

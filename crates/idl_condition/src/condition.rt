@@ -9,14 +9,14 @@ ghost use Rattle.idl_condition.specs.declared.symbol.Symbol.{Symbol};
 
 use crate::arithmetic::signed;
 use crate::operator::{Operator, Sign};
-use crate::stack::Entry;
+use crate::stack::Waiting;
 use crate::symbol::Symbol;
 use idl_base::Stack;
 use std::alloc::{AllocError, Global};
 
 /// Where the reading of a condition stands.
 #[derive(Clone, Copy)]
-pub enum Place {
+pub enum Awaited {
     /// An operand has to follow.
     BeforeOperand,
     /// An operator or a closing parenthesis has to follow, or the end. The operand has this value.
@@ -34,15 +34,15 @@ pub fn evaluate(alloc: Global, symbols: &[Symbol]) -> Result<Option<i64>, AllocE
     ensures { IfOk result (λ value. value ≡ condition symbols.now) }
 {
     let mut stack = Stack::new(alloc);
-    let mut place = Place::BeforeOperand;
+    let mut place = Awaited::BeforeOperand;
     'symbols: for symbol in symbols {
         place = match place {
-            Place::BeforeOperand => operand(&mut stack, *symbol)?,
-            Place::AfterOperand(value) => operator(&mut stack, value, *symbol)?,
-            Place::Nowhere => return Ok(None),
+            Awaited::BeforeOperand => operand(&mut stack, *symbol)?,
+            Awaited::AfterOperand(value) => operator(&mut stack, value, *symbol)?,
+            Awaited::Nowhere => return Ok(None),
         };
     }
-    let Place::AfterOperand(value) = place else {
+    let Awaited::AfterOperand(value) = place else {
         return Ok(None);
     };
     let value = settle(&mut stack, value, 0)?;
@@ -62,79 +62,79 @@ pub fn grammar()
 {}
 
 // A symbol where an operand has to follow.
-fn operand(stack: &mut Stack<Entry>, symbol: Symbol) -> Result<Place, AllocError>
-    requires { IsSound Place.BeforeOperand stack.old }
+fn operand(stack: &mut Stack<Waiting>, symbol: Symbol) -> Result<Awaited, AllocError>
+    requires { IsSound Awaited.BeforeOperand stack.old }
     ensures sound { IfOk result (λ place. IsSound place stack.new) }
     ensures meaning { IfOk result (λ place. (rest : List Symbol) →
-        meaning_at place stack.new rest ≡ meaning_at Place.BeforeOperand stack.old (symbol ∷ rest)) }
+        meaning_at place stack.new rest ≡ meaning_at Awaited.BeforeOperand stack.old (symbol ∷ rest)) }
 {
     match symbol {
         Symbol::Number(number) => {
             let value = complete(stack, signed(number))?;
-            Ok(Place::AfterOperand(value))
+            Ok(Awaited::AfterOperand(value))
         }
         Symbol::Name => {
             let value = complete(stack, Some(0))?;
-            Ok(Place::AfterOperand(value))
+            Ok(Awaited::AfterOperand(value))
         }
         Symbol::Open => {
-            stack.push(Entry::Parenthesis)?;
-            Ok(Place::BeforeOperand)
+            stack.push(Waiting::Parenthesis)?;
+            Ok(Awaited::BeforeOperand)
         }
         _ => match sign_of(symbol) {
             Some(sign) => {
-                stack.push(Entry::Prefix(sign))?;
-                Ok(Place::BeforeOperand)
+                stack.push(Waiting::Prefix(sign))?;
+                Ok(Awaited::BeforeOperand)
             }
-            None => Ok(Place::Nowhere),
+            None => Ok(Awaited::Nowhere),
         },
     }
 }
 
 // A symbol after an operand with this value.
 fn operator(
-    stack: &mut Stack<Entry>,
+    stack: &mut Stack<Waiting>,
     value: Option<i64>,
     symbol: Symbol,
-) -> Result<Place, AllocError>
-    requires { IsSound (Place.AfterOperand value) stack.old }
+) -> Result<Awaited, AllocError>
+    requires { IsSound (Awaited.AfterOperand value) stack.old }
     ensures sound { IfOk result (λ place. IsSound place stack.new) }
     ensures meaning { IfOk result (λ place. (rest : List Symbol) →
-        meaning_at place stack.new rest ≡ meaning_at (Place.AfterOperand value) stack.old (symbol ∷ rest)) }
+        meaning_at place stack.new rest ≡ meaning_at (Awaited.AfterOperand value) stack.old (symbol ∷ rest)) }
 {
     match symbol {
         Symbol::Operator(operator) => {
             let left = settle(stack, value, operator.rank())?;
-            stack.push(Entry::Infix(left, operator))?;
-            Ok(Place::BeforeOperand)
+            stack.push(Waiting::Infix(left, operator))?;
+            Ok(Awaited::BeforeOperand)
         }
         Symbol::Close => close(stack, value),
-        _ => Ok(Place::Nowhere),
+        _ => Ok(Awaited::Nowhere),
     }
 }
 
 // A closing parenthesis after an operand with this value.
-fn close(stack: &mut Stack<Entry>, value: Option<i64>) -> Result<Place, AllocError>
-    requires { IsSound (Place.AfterOperand value) stack.old }
+fn close(stack: &mut Stack<Waiting>, value: Option<i64>) -> Result<Awaited, AllocError>
+    requires { IsSound (Awaited.AfterOperand value) stack.old }
     ensures sound { IfOk result (λ place. IsSound place stack.new) }
     ensures meaning { IfOk result (λ place. (rest : List Symbol) →
-        meaning_at place stack.new rest ≡ meaning_at (Place.AfterOperand value) stack.old (Symbol.Close ∷ rest)) }
+        meaning_at place stack.new rest ≡ meaning_at (Awaited.AfterOperand value) stack.old (Symbol.Close ∷ rest)) }
 {
     let inside = settle(stack, value, 0)?;
     let Some(entry) = stack.pop() else {
-        return Ok(Place::Nowhere);
+        return Ok(Awaited::Nowhere);
     };
     match entry {
-        Entry::Parenthesis => {
+        Waiting::Parenthesis => {
             let value = complete(stack, inside)?;
-            Ok(Place::AfterOperand(value))
+            Ok(Awaited::AfterOperand(value))
         }
-        _ => Ok(Place::Nowhere),
+        _ => Ok(Awaited::Nowhere),
     }
 }
 
 // The operand with this value, together with the operators that stand right before it.
-fn complete(stack: &mut Stack<Entry>, operand: Option<i64>) -> Result<Option<i64>, AllocError>
+fn complete(stack: &mut Stack<Waiting>, operand: Option<i64>) -> Result<Option<i64>, AllocError>
     requires { IsRising stack.old }
     ensures meaning { IfOk result (λ value. (c : Chain) (t : Tail) →
         meaning stack.new value c t ≡ meaning stack.old operand c t) }
@@ -144,7 +144,7 @@ fn complete(stack: &mut Stack<Entry>, operand: Option<i64>) -> Result<Option<i64
     let mut value = operand;
     'signs: while let Some(entry) = stack.pop() {
         match entry {
-            Entry::Prefix(sign) => value = sign.apply(value),
+            Waiting::Prefix(sign) => value = sign.apply(value),
             _ => {
                 stack.push(entry)?;
                 return Ok(value);
@@ -157,7 +157,7 @@ fn complete(stack: &mut Stack<Entry>, operand: Option<i64>) -> Result<Option<i64
 // The operand with this value, together with the operators before it that are of this rank or of a higher one, and with
 // their left operands.
 fn settle(
-    stack: &mut Stack<Entry>,
+    stack: &mut Stack<Waiting>,
     operand: Option<i64>,
     floor: u8,
 ) -> Result<Option<i64>, AllocError>
@@ -171,7 +171,7 @@ fn settle(
     let mut value = operand;
     'operators: while let Some(entry) = stack.pop() {
         match entry {
-            Entry::Infix(left, operator) if operator.rank() >= floor => {
+            Waiting::Infix(left, operator) if operator.rank() >= floor => {
                 value = operator.apply(left, value);
             }
             _ => {

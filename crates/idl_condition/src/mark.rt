@@ -5,15 +5,15 @@ ghost use Rattle.idl_condition.specs.Mark.{mark_of, symbol_of_mark, symbol_of_pr
 
 use crate::operator::Operator;
 use crate::symbol::Symbol;
-use idl_lex::kinds::{Kind, Mark, PreprocessorMark, mark_kind};
+use idl_lex::kinds::{Mark, PreprocessorMark, TokenKind, mark_kind};
 
 /// What the mark with this spelling counts as; any other text is `Other`.
 pub fn mark(spelling: &[u8]) -> Symbol
     ensures { result ≡ mark_of spelling.now }
 {
     match mark_kind(spelling) {
-        Some(Kind::Punctuation(mark)) => symbol_of_mark(mark),
-        Some(Kind::Preprocessing(mark)) => symbol_of_preprocessor_mark(mark),
+        Some(TokenKind::Punctuation(mark)) => symbol_of_mark(mark),
+        Some(TokenKind::Preprocessing(mark)) => symbol_of_preprocessor_mark(mark),
         _ => Symbol::Other,
     }
 }

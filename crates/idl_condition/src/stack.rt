@@ -4,7 +4,7 @@ use crate::operator::{Operator, Sign};
 
 /// What waits for the operand after it.
 #[derive(Clone, Copy)]
-pub enum Entry {
+pub enum Waiting {
     /// An operator, with the value of the operand before it.
     Infix(Option<i64>, Operator),
     /// An operator before its operand.

@@ -14,7 +14,7 @@ use idl_base::Seq;
 use idl_entity::Path;
 use idl_entity::paths::Names;
 use idl_lex::Token;
-use idl_parts::Site;
+use idl_parts::UnitPart;
 use idl_tree::{ScopedName, Several, name_length};
 use idl_value::{Value, joined, push_name, push_part, push_value};
 use std::alloc::AllocError;
@@ -35,7 +35,7 @@ pub struct Rest<'a> {
 pub fn write_row(
     buffer: &mut Vec<u8>,
     depth: usize,
-    sites: &[Site<'_>],
+    sites: &[UnitPart<'_>],
     unit: Rest<'_>,
 ) -> Result<(), AllocError>
     requires { items_length (map item_at sites.now) ≤ 18446744073709551615 }
@@ -71,7 +71,7 @@ fn push_blanks(row: &mut Vec<u8>, depth: usize) -> Result<(), AllocError>
 }
 
 // The words of these sites.
-fn push_sites(text: &mut Vec<u8>, sites: &[Site<'_>], unit: Rest<'_>) -> Result<(), AllocError>
+fn push_sites(text: &mut Vec<u8>, sites: &[UnitPart<'_>], unit: Rest<'_>) -> Result<(), AllocError>
     requires { items_length (map item_at sites.now) ≤ 18446744073709551615 }
     ensures { OnOk result
         (text.new.items
@@ -86,7 +86,7 @@ fn push_sites(text: &mut Vec<u8>, sites: &[Site<'_>], unit: Rest<'_>) -> Result<
 
 impl<'a> Rest<'a> {
     // The words of a site, which is then no more left.
-    fn push_site(&mut self, text: &mut Vec<u8>, site: Site<'_>) -> Result<(), AllocError>
+    fn push_site(&mut self, text: &mut Vec<u8>, site: UnitPart<'_>) -> Result<(), AllocError>
         requires { item_length (item_at site) ≤ 18446744073709551615 }
         ensures words { OnOk result
             (text.new.items
@@ -95,21 +95,21 @@ impl<'a> Rest<'a> {
             (rest_at self.new ≡ behind_site (rest_at self.old) (item_at site.entry)) }
     {
         match site {
-            Site::Tokens(count) => self.push_tokens(text, count),
-            Site::Declared(_, name) => {
+            UnitPart::Tokens(count) => self.push_tokens(text, count),
+            UnitPart::Declared(_, name) => {
                 self.pass(1);
                 push_declared(text, name.as_bytes())
             }
-            Site::Used(_, name) => self.push_used(text, name),
-            Site::Joined(pieces) => {
+            UnitPart::Used(_, name) => self.push_used(text, name),
+            UnitPart::Joined(pieces) => {
                 self.pass(1 + pieces.rest.len());
                 push_joined(text, pieces)
             }
-            Site::ValueBegins => {
+            UnitPart::ValueBegins => {
                 self.in_value = true;
                 Ok(())
             }
-            Site::ValueEnds(_, _) => self.push_value(text),
+            UnitPart::ValueEnds(_, _) => self.push_value(text),
             _ => Ok(()),
         }
     }

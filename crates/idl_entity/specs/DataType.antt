@@ -13,7 +13,7 @@ use Rattle.idl_entity.specs.declared.data_type.Element.TheVariants.{Constants, N
 use Rattle.idl_entity.specs.declared.data_type.Layer.{Layer}
 use Rattle.idl_entity.specs.declared.data_type.Layer.TheVariants.{Sequence, Array}
 use Rattle.idl_value.specs.Exact.{same_target}
-use Rattle.idl_value.specs.declared.constant_type.Target.{Target}
+use Rattle.idl_value.specs.declared.constant_type.ConstantType.{ConstantType}
 
 -- a type without sequences and arrays
 abbrev pub plain_type : Element → DataType
@@ -33,11 +33,11 @@ abbrev pub with_arrays : List ℕ → DataType → DataType
 with_arrays lengths t = record t { layers = t.layers ++ arrays_of lengths }
 
 -- the type that its constants have, if it is one of keywords that has any
-abbrev pub constants_by : Element → List Layer → Option Target
+abbrev pub constants_by : Element → List Layer → Option ConstantType
 constants_by (Constants t) [] = Some t
 constants_by element layers = None
 
-abbrev pub constants_in : DataType → Option Target
+abbrev pub constants_in : DataType → Option ConstantType
 constants_in t = constants_by t.element t.layers
 
 -- the path of what it is another name for, if it is one

@@ -7,14 +7,14 @@ ghost use Rattle.idl_entity.specs.DataType.{constants_in, named_in, plain_type, 
 use crate::paths::path::Path;
 use crate::unvalued::Unvalued;
 use idl_base::{Datum, Seq, Shared};
-use idl_value::Target;
+use idl_value::ConstantType;
 use std::alloc::{AllocError, Global};
 
 /// What a type is of, without the sequences and arrays around it.
 #[derive(PartialEq, Eq)]
 pub enum Element {
     /// A type of keywords of which there are constants.
-    Constants(Target),
+    Constants(ConstantType),
     /// What is declared at this path.
     Named(Path),
     /// Another type of keywords.
@@ -91,7 +91,7 @@ impl DataType {
     }
 
     /// The type that its constants have, if it is one of keywords that has any.
-    pub fn constants(&self) -> Option<&Target>
+    pub fn constants(&self) -> Option<&ConstantType>
         ensures { option_copied result ≡ constants_in self.now }
     {
         match &self.element {

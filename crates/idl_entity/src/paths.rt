@@ -12,4 +12,4 @@ pub use name::{folded_name, shared_name};
 pub use named_path::NamedPath;
 pub use names::Names;
 pub use own_name::OwnName;
-pub use path::{Part, Path};
+pub use path::{Path, PathPart};

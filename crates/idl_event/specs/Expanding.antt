@@ -11,20 +11,20 @@ use Rattle.idl_event.specs.declared.told.event.Event.{Event}
 use Rattle.idl_event.specs.declared.told.event.Item.{Item}
 use Rattle.idl_event.specs.declared.told.event.Item.TheVariants.{Kept}
 use Rattle.idl_fault.specs.declared.file_name.FileName.{FileName}
-use Rattle.idl_event.specs.declared.asked.key.Answer.{Answer}
-use Rattle.idl_event.specs.declared.asked.key.Key.{Key}
+use Rattle.idl_event.specs.declared.asked.key.RootAnswer.{RootAnswer}
+use Rattle.idl_event.specs.declared.asked.key.RootKey.{RootKey}
 use Rattle.idl_lex.specs.declared.tokens.token.PlacedToken.{PlacedToken}
 
 -- what a root asks and tells, and what comes of it
 abbrev pub Expanding : Type 0 → Type 0
-Expanding A = Query Key (Option Answer) Item A
+Expanding A = Query RootKey (Option RootAnswer) Item A
 
 -- how far a root has come
 abbrev pub Reached : Type 0
-Reached = Progress Key (Option Answer) Event Allowance
+Reached = Progress RootKey (Option RootAnswer) Event Allowance
 
 -- where it comes to with what is asked and told
-abbrev pub reached : {A : Type 0} → (Key → Option Answer) → Expanding A → Reached → Reached
+abbrev pub reached : {A : Type 0} → (RootKey → Option RootAnswer) → Expanding A → Reached → Reached
 reached bank query p = progress_after rules key_eq bank query p
 
 -- where it comes to with these tokens of a file's text, one after the other, each at its line
@@ -37,6 +37,6 @@ abbrev pub arrived : {A : Type 0} → A → Reached → Reached × Option A
 arrived a p = (p, option_map (λ _. a) p.left)
 
 -- where a query comes to
-abbrev pub arrival : {A : Type 0} → (Key → Option Answer) → Expanding A → Reached
+abbrev pub arrival : {A : Type 0} → (RootKey → Option RootAnswer) → Expanding A → Reached
     → Reached × Option A
 arrival bank query p = arrived (outcome query bank) (reached bank query p)

@@ -10,8 +10,8 @@ use Rattle.idl_event.specs.declared.told.event.Event.{Event}
 use Rattle.idl_event.specs.declared.told.event.Event.TheVariants.{Emitted, Entered, Left, Pragma, Fault}
 use Rattle.idl_event.specs.declared.told.event.Item.{Item}
 use Rattle.idl_event.specs.declared.told.event.Item.TheVariants.{Kept, Counted, Turn, TooDeep}
-use Rattle.idl_event.specs.declared.asked.key.Answer.{Answer}
-use Rattle.idl_event.specs.declared.asked.key.Key.{Key}
+use Rattle.idl_event.specs.declared.asked.key.RootAnswer.{RootAnswer}
+use Rattle.idl_event.specs.declared.asked.key.RootKey.{RootKey}
 use Rattle.idl_fault.specs.declared.place.Place.{Place}
 
 -- what a root begins with
@@ -78,7 +78,7 @@ rules =
     }
 
 -- nothing is told, and nothing is spent
-abbrev pub beginning : List (Key × Option Answer) → Progress Key (Option Answer) Event Allowance
+abbrev pub beginning : List (RootKey × Option RootAnswer) → Progress RootKey (Option RootAnswer) Event Allowance
 beginning log = record { kept = []; left = Some whole_allowance; log = log }
 
 -- the turns that are left

@@ -7,14 +7,14 @@
 mod asked;
 mod told;
 
-pub use asked::key::{Answer, Key};
+pub use asked::key::{RootAnswer, RootKey};
 pub use asked::lexed_file::LexedFile;
 pub use asked::lexed_line::LexedLine;
 pub use asked::root_bank::RootBank;
 pub use told::allowance::{Allowance, MAX_TOKENS, MAX_TURNS};
 pub use told::builder::ExpansionBuilder;
 pub use told::event::{Event, Item};
-pub use told::event_view::Told;
+pub use told::event_view::EventView;
 pub use told::expansion::{Events, Expansion};
 pub use told::progress::Progress;
 pub use told::runs::Runs;

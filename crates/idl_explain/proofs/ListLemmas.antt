@@ -22,7 +22,7 @@ all_codes =
     topic.Code code.AmbiguousName ∷ topic.Code code.OtherCase ∷ topic.Code code.AlreadyDeclared ∷
     topic.Code code.NameOfScope ∷ topic.Code code.DeclaredAfterUse ∷ topic.Code code.LikeKeyword ∷
     topic.Code code.WrongKind ∷ topic.Code code.NoScope ∷ topic.Code code.OtherForward ∷
-    topic.Code code.IncompleteBase ∷ topic.Code code.RepeatedBase ∷ topic.Code code.InheritedTwice ∷
+    topic.Code code.IncompleteBase ∷ topic.Code code.RepeatedBase ∷ topic.Code code.DeclaredAgain ∷
     topic.Code code.LocalBase ∷ topic.Code code.OtherType ∷ topic.Code code.OutOfRange ∷
     topic.Code code.DivisionByZero ∷ topic.Code code.BadShift ∷ topic.Code code.BoundNotPositive ∷
     topic.Code code.NoConstantType ∷ topic.Code code.IncompleteType ∷ topic.Code code.BadDiscriminator ∷
@@ -77,7 +77,7 @@ code-listed code.NoScope = (34, omega arith, refl)
 code-listed code.OtherForward = (35, omega arith, refl)
 code-listed code.IncompleteBase = (36, omega arith, refl)
 code-listed code.RepeatedBase = (37, omega arith, refl)
-code-listed code.InheritedTwice = (38, omega arith, refl)
+code-listed code.DeclaredAgain = (38, omega arith, refl)
 code-listed code.LocalBase = (39, omega arith, refl)
 code-listed code.OtherType = (40, omega arith, refl)
 code-listed code.OutOfRange = (41, omega arith, refl)

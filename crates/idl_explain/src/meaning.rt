@@ -110,8 +110,8 @@ pub static REPEATED_BASE: Explanation = Explanation {
     hint: "Name it once; through other bases it may come again.",
 };
 
-pub static INHERITED_TWICE: Explanation = Explanation {
-    told: Told::Row(3, Code::InheritedTwice, "B"),
+pub static DECLARED_AGAIN: Explanation = Explanation {
+    told: Told::Row(3, Code::DeclaredAgain, "B"),
     words: Words::Around(
         "an operation or attribute is inherited twice or declared again: `",
         "`",

@@ -83,7 +83,7 @@ pub enum Code {
     /// A base that is named twice. (E41)
     RepeatedBase,
     /// An operation or attribute that is inherited twice, or inherited and declared again. (E42)
-    InheritedTwice,
+    DeclaredAgain,
     /// A local base of an unconstrained interface. (E43)
     LocalBase,
     /// An operand or a value of another kind than the target. (E50)
@@ -169,7 +169,7 @@ impl Code {
             Code::OtherForward => 39,
             Code::IncompleteBase => 40,
             Code::RepeatedBase => 41,
-            Code::InheritedTwice => 42,
+            Code::DeclaredAgain => 42,
             Code::LocalBase => 43,
             Code::OtherType => 50,
             Code::OutOfRange => 51,

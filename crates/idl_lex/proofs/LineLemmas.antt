@@ -9,11 +9,11 @@ use Rattle.idl_lex.specs.bytes.Context.{ends_block}
 use Rattle.idl_lex.specs.tokens.Lexer.{is_open, opens}
 use Rattle.idl_lex.specs.bytes.Piece.{is_pair}
 use Rattle.idl_lex.specs.bytes.Scan.{start_of, number_step, step_of, taken, header_len, further}
-use Rattle.idl_lex.specs.declared.bytes.state.State.{State}
-use Rattle.idl_lex.specs.declared.bytes.state.State.TheVariants.{Word, Wide, Zero, Number, Dot, Literal, Slash, Line, Block, Mark, Whole}
+use Rattle.idl_lex.specs.declared.bytes.state.Inside.{Inside}
+use Rattle.idl_lex.specs.declared.bytes.state.Inside.TheVariants.{Word, Wide, Zero, Number, Dot, Literal, Slash, Line, Block, Mark, Whole}
 
 -- inside a comment, or where one may begin
-abbrev may_open : State → Bool
+abbrev may_open : Inside → Bool
 may_open Word = false
 may_open Wide = false
 may_open Zero = false
@@ -27,7 +27,7 @@ may_open (Mark a) = false
 may_open Whole = false
 
 -- inside a comment
-abbrev is_block : State → Bool
+abbrev is_block : Inside → Bool
 is_block Word = false
 is_block Wide = false
 is_block Zero = false
@@ -41,16 +41,16 @@ is_block (Mark a) = false
 is_block Whole = false
 
 -- all bytes are taken, and a comment is open after them
-abbrev open_after : State → List ℕ → Bool
+abbrev open_after : Inside → List ℕ → Bool
 open_after s [] = is_block s
 open_after s (b ∷ bs) = elim (step_of s b) [ None ↦ false | Some t ↦ open_after t bs ]
 
 -- a test of what a step leads to
-abbrev leads : (State → Bool) → Option State → Bool
+abbrev leads : (Inside → Bool) → Option Inside → Bool
 leads test None = false
 leads test (Some t) = test t
 
-leads-if : (c : Bool) (t : State) → may_open t ≡ false → leads may_open (if c then Some t else None) ≡ false
+leads-if : (c : Bool) (t : Inside) → may_open t ≡ false → leads may_open (if c then Some t else None) ≡ false
 leads-if true t closed = closed
 leads-if false t closed = refl
 
@@ -78,7 +78,7 @@ leads-line true = refl
 leads-line false = refl
 
 -- what may not open a comment never does
-leads-closed : (s : State) (b : ℕ) → may_open s ≡ false → leads may_open (step_of s b) ≡ false
+leads-closed : (s : Inside) (b : ℕ) → may_open s ≡ false → leads may_open (step_of s b) ≡ false
 leads-closed Word b e = leads-if (is_word_byte b) Word refl
 leads-closed Wide b e = leads-wide (is_quote b) (is_word_byte b) b
 leads-closed Zero b e = leads-zero (is_x b) b
@@ -91,7 +91,7 @@ leads-closed (Block after_star) b e = cc
 leads-closed (Mark a) b e = leads-if (is_pair a b) Whole refl
 leads-closed Whole b e = refl
 
-is_block-closed : (s : State) → may_open s ≡ false → is_block s ≡ false
+is_block-closed : (s : Inside) → may_open s ≡ false → is_block s ≡ false
 is_block-closed Word e = refl
 is_block-closed Wide e = refl
 is_block-closed Zero e = refl
@@ -104,12 +104,12 @@ is_block-closed (Block after_star) e = cc
 is_block-closed (Mark a) e = refl
 is_block-closed Whole e = refl
 
-open_after-step : (o : Option State) (bs : List ℕ) → ((t : State) → may_open t ≡ false → open_after t bs ≡ false) → leads may_open o ≡ false
+open_after-step : (o : Option Inside) (bs : List ℕ) → ((t : Inside) → may_open t ≡ false → open_after t bs ≡ false) → leads may_open o ≡ false
     → (elim o [ None ↦ false | Some t ↦ open_after t bs ]) ≡ false
 open_after-step None bs ih e = refl
 open_after-step (Some t) bs ih e = ih t e
 
-open_after-closed : (s : State) (bs : List ℕ) → may_open s ≡ false → open_after s bs ≡ false
+open_after-closed : (s : Inside) (bs : List ℕ) → may_open s ≡ false → open_after s bs ≡ false
 open_after-closed s [] e = is_block-closed s e
 open_after-closed s (b ∷ bs) e = open_after-step (step_of s b) bs (λ t h. open_after-closed t bs h) (leads-closed s b e)
 
@@ -122,7 +122,7 @@ pair-newline : (c : Bool) (a : ℕ) → nat_eq a newline ≡ c → is_pair a new
 pair-newline true a e = ap (λ x. is_pair x newline) (eqb-true a newline e)
 pair-newline false a e = ap (λ c. (c && (nat_eq a 58 || nat_eq a 60 || nat_eq a 62 || nat_eq a 35 || nat_eq a 38 || nat_eq a 124 || nat_eq a 61)) || false) e
 
-step_of-newline : (s : State) → is_block s ≡ false → step_of s newline ≡ None
+step_of-newline : (s : Inside) → is_block s ≡ false → step_of s newline ≡ None
 step_of-newline Word e = refl
 step_of-newline Wide e = refl
 step_of-newline Zero e = refl
@@ -135,13 +135,13 @@ step_of-newline (Block after_star) e = cc
 step_of-newline (Mark a) e = ap (λ c. if c then Some Whole else None) (pair-newline (nat_eq a newline) a refl)
 step_of-newline Whole e = refl
 
-taken-step : (o : Option State) (bs cs : List ℕ) → ((t : State) → open_after t bs ≡ false → taken t cs ≡ taken t bs) → (elim o [ None ↦ false | Some t ↦ open_after t bs ]) ≡ false
+taken-step : (o : Option Inside) (bs cs : List ℕ) → ((t : Inside) → open_after t bs ≡ false → taken t cs ≡ taken t bs) → (elim o [ None ↦ false | Some t ↦ open_after t bs ]) ≡ false
     → ◌≡◌ {A = ℕ} (elim o [ None ↦ 0 | Some t ↦ suc (taken t cs) ]) (elim o [ None ↦ 0 | Some t ↦ suc (taken t bs) ])
 taken-step None bs cs ih e = refl
 taken-step (Some t) bs cs ih e = ap (λ n. suc n) (ih t e)
 
 -- so it ends where it would if the line were all
-taken-newline : (s : State) (bs rest : List ℕ) → open_after s bs ≡ false → taken s (bs ++ newline ∷ rest) ≡ taken s bs
+taken-newline : (s : Inside) (bs rest : List ℕ) → open_after s bs ≡ false → taken s (bs ++ newline ∷ rest) ≡ taken s bs
 unfolding taken
 taken-newline s [] rest e = ap (λ o. elim o [ None ↦ 0 | Some t ↦ suc (taken t rest) ]) (step_of-newline s e)
 taken-newline s (b ∷ bs) rest e = taken-step (step_of s b) bs (bs ++ newline ∷ rest) (λ t h. taken-newline t bs rest h) e

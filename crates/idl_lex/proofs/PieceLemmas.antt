@@ -11,11 +11,11 @@ use Rattle.idl_lex.proofs.CountLemmas.{eq-true, eq-false, eq-suc}
 use Rattle.idl_lex.specs.bytes.Byte.{is_digit, is_word_start, is_word_byte, is_quote, is_x, is_e, is_sign}
 use Rattle.idl_lex.specs.bytes.Piece.{is_empty, number_rest, zero_rest, dot_rest, literal_rest, wide_rest, line_rest, block_rest, slash_rest, is_pair, mark_rest, begins, header_rest, is_piece, largest, longest}
 use Rattle.idl_lex.specs.bytes.Scan.{start_of, number_step, step_of, taken, header_len, further}
-use Rattle.idl_lex.specs.declared.bytes.state.State.{State}
-use Rattle.idl_lex.specs.declared.bytes.state.State.TheVariants.{Word, Wide, Zero, Number, Dot, Literal, Slash, Line, Block, Mark, Whole}
+use Rattle.idl_lex.specs.declared.bytes.state.Inside.{Inside}
+use Rattle.idl_lex.specs.declared.bytes.state.Inside.TheVariants.{Word, Wide, Zero, Number, Dot, Literal, Slash, Line, Block, Mark, Whole}
 
 -- the bytes are taken from a state on, all of them
-abbrev pub accepts : State → List ℕ → Bool
+abbrev pub accepts : Inside → List ℕ → Bool
 accepts s [] = true
 accepts s (b ∷ bs) = elim (step_of s b) [ None ↦ false | Some t ↦ accepts t bs ]
 
@@ -29,40 +29,40 @@ largest-is passes (suc n) k le passed failed =
       | inr ge ↦ let e : k ≡ suc n = omega arith in ap (λ b. if b then suc n else largest passes n) (ap passes (sym e) ∙ passed) ∙ sym e
     ]
 
-taken-le-step : (o : Option State) (n : ℕ) (k : State → ℕ) → ((t : State) → k t ≤ n) → (elim o [ None ↦ 0 | Some t ↦ suc (k t) ]) ≤ suc n
+taken-le-step : (o : Option Inside) (n : ℕ) (k : Inside → ℕ) → ((t : Inside) → k t ≤ n) → (elim o [ None ↦ 0 | Some t ↦ suc (k t) ]) ≤ suc n
 taken-le-step None n k le = omega arith
 taken-le-step (Some t) n k le = let h = le t in omega arith
 
-pub taken-le : (s : State) (bs : List ℕ) → taken s bs ≤ length bs
+pub taken-le : (s : Inside) (bs : List ℕ) → taken s bs ≤ length bs
 unfolding taken
 taken-le s [] = omega arith
 taken-le s (b ∷ bs) = taken-le-step (step_of s b) (length bs) (λ t. taken t bs) (λ t. taken-le t bs)
 
 -- the bytes that are taken are accepted
-accepts-taken-step : (o : Option State) (bs : List ℕ) → ((t : State) → accepts t (take (taken t bs) bs) ≡ true) → (s : State) (b : ℕ) → step_of s b ≡ o →
+accepts-taken-step : (o : Option Inside) (bs : List ℕ) → ((t : Inside) → accepts t (take (taken t bs) bs) ≡ true) → (s : Inside) (b : ℕ) → step_of s b ≡ o →
     accepts s (take (elim o [ None ↦ 0 | Some t ↦ suc (taken t bs) ]) (b ∷ bs)) ≡ true
 accepts-taken-step None bs ih s b e = refl
 accepts-taken-step (Some t) bs ih s b e = ap (λ o. elim o [ None ↦ false | Some u ↦ accepts u (take (taken t bs) bs) ]) e ∙ ih t
 
-pub accepts-taken : (s : State) (bs : List ℕ) → accepts s (take (taken s bs) bs) ≡ true
+pub accepts-taken : (s : Inside) (bs : List ℕ) → accepts s (take (taken s bs) bs) ≡ true
 unfolding taken
 accepts-taken s [] = refl
 accepts-taken s (b ∷ bs) = accepts-taken-step (step_of s b) bs (λ t. accepts-taken t bs) s b refl
 
 -- and no more are
-accepts-more-step : (o : Option State) (bs : List ℕ) (j : ℕ) → ((t : State) → taken t bs < j → accepts t (take j bs) ≡ false) →
+accepts-more-step : (o : Option Inside) (bs : List ℕ) (j : ℕ) → ((t : Inside) → taken t bs < j → accepts t (take j bs) ≡ false) →
     (elim o [ None ↦ 0 | Some t ↦ suc (taken t bs) ]) < suc j → (elim o [ None ↦ false | Some u ↦ accepts u (take j bs) ]) ≡ false
 accepts-more-step None bs j ih lt = refl
 accepts-more-step (Some t) bs j ih lt = ih t (omega arith)
 
-accepts-more : (s : State) (bs : List ℕ) (j : ℕ) → taken s bs < j → j ≤ length bs → accepts s (take j bs) ≡ false
+accepts-more : (s : Inside) (bs : List ℕ) (j : ℕ) → taken s bs < j → j ≤ length bs → accepts s (take j bs) ≡ false
 unfolding taken
 accepts-more s [] j lt le = absurd (omega arith)
 accepts-more s (b ∷ bs) zero lt le = absurd (omega arith)
 accepts-more s (b ∷ bs) (suc j) lt le = accepts-more-step (step_of s b) bs j (λ t h. accepts-more t bs j h (omega arith)) lt
 
 -- a step under a test
-when : (c : Bool) (t : State) (bs : List ℕ) → (elim (if c then Some t else None) [ None ↦ false | Some u ↦ accepts u bs ]) ≡ (c && accepts t bs)
+when : (c : Bool) (t : Inside) (bs : List ℕ) → (elim (if c then Some t else None) [ None ↦ false | Some u ↦ accepts u bs ]) ≡ (c && accepts t bs)
 when true t bs = refl
 when false t bs = refl
 
@@ -309,15 +309,15 @@ pub is_piece-further : (includes : Bool) (b : ℕ) (bs : List ℕ) → is_piece 
 is_piece-further includes b bs = (Ends-further includes b bs).is
 
 -- one byte more, none more, and the text's end
-pub taken-more : (s t : State) (bs : List ℕ) (i d : ℕ) → i < length bs → step_of s (get_or bs i d) ≡ Some t → taken s (drop i bs) ≡ suc (taken t (drop (i + 1) bs))
+pub taken-more : (s t : Inside) (bs : List ℕ) (i d : ℕ) → i < length bs → step_of s (get_or bs i d) ≡ Some t → taken s (drop i bs) ≡ suc (taken t (drop (i + 1) bs))
 unfolding taken
 taken-more s t bs i d lt e = ap (taken s) (drop_more bs i d lt) ∙ ap (λ o. elim o [ None ↦ 0 | Some u ↦ suc (taken u (drop (i + 1) bs)) ]) e
 
-pub taken-stop : (s : State) (bs : List ℕ) (i d : ℕ) → i < length bs → step_of s (get_or bs i d) ≡ None → taken s (drop i bs) ≡ 0
+pub taken-stop : (s : Inside) (bs : List ℕ) (i d : ℕ) → i < length bs → step_of s (get_or bs i d) ≡ None → taken s (drop i bs) ≡ 0
 unfolding taken
 taken-stop s bs i d lt e = ap (taken s) (drop_more bs i d lt) ∙ ap (λ o. elim o [ None ↦ 0 | Some u ↦ suc (taken u (drop (i + 1) bs)) ]) e
 
-pub taken-end : (s : State) (bs : List ℕ) (i : ℕ) → length bs ≤ i → taken s (drop i bs) ≡ 0
+pub taken-end : (s : Inside) (bs : List ℕ) (i : ℕ) → length bs ≤ i → taken s (drop i bs) ≡ 0
 unfolding taken
 taken-end s bs i le = ap (taken s) (drop_all i bs le)
 

@@ -13,7 +13,7 @@ use Rattle.idl_lex.specs.bytes.Scan.{further, taken}
 use Rattle.idl_lex.specs.bytes.Text.{Placed, bytes_of}
 use Rattle.idl_lex.specs.tokens.Tokens.{followers_on_line, lines_after, lines_of, piece_rest, token_if, token_of, tokens_after}
 use Rattle.idl_lex.specs.declared.bytes.context.Context.{Context}
-use Rattle.idl_lex.specs.declared.bytes.state.State.TheVariants.{Block, Whole}
+use Rattle.idl_lex.specs.declared.bytes.state.Inside.TheVariants.{Block, Whole}
 use Rattle.idl_lex.specs.declared.tokens.token.PlacedToken.{PlacedToken}
 
 pub tokens_after-drop : (c : Context) (n : ℕ) (text : List Placed) → tokens_after c n text ≡ tokens_after c 0 (drop n text)

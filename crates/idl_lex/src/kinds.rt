@@ -11,10 +11,10 @@ pub(crate) mod word;
 pub(crate) mod word_table;
 
 pub use keyword::Keyword;
-pub use kind::{Defect, Kind, is_like_keyword, kind_of};
+pub use kind::{Defect, TokenKind, is_like_keyword, kind_of};
 pub use literal::decode;
 pub use mark::{Mark, PreprocessorMark};
 pub use mark_table::mark_kind;
 pub use number::integer_value;
 pub use word::is_word;
-pub use word_table::{Entry, value_of};
+pub use word_table::{WordEntry, value_of};

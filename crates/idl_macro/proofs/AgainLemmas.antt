@@ -14,9 +14,9 @@ use Rattle.idl_event.specs.Key.{key_code, key_eq}
 use Rattle.idl_event.specs.Limits.{turns_at_most}
 use Rattle.idl_event.specs.declared.told.allowance.Allowance.{Allowance}
 use Rattle.idl_event.specs.declared.told.event.Item.{Item}
-use Rattle.idl_event.specs.declared.asked.key.Answer.{Answer}
-use Rattle.idl_event.specs.declared.asked.key.Key.{Key}
-use Rattle.idl_event.specs.declared.asked.key.Key.TheVariants as key
+use Rattle.idl_event.specs.declared.asked.key.RootAnswer.{RootAnswer}
+use Rattle.idl_event.specs.declared.asked.key.RootKey.{RootKey}
+use Rattle.idl_event.specs.declared.asked.key.RootKey.TheVariants as key
 use Rattle.idl_fault.specs.declared.place.Place.{Place}
 use Rattle.idl_lex.specs.tokens.Tokens.{Token}
 use Rattle.idl_lex.specs.kinds.Word.{is_word}
@@ -30,19 +30,19 @@ pub no_value : {A : Type 0} (o : Option A) → is_some o ≡ false → o ≡ Non
 no_value None h = refl
 no_value (Some x) h = cc
 
-module _ (bank : Key → Option Answer) (k : Key) where
+module _ (bank : RootKey → Option RootAnswer) (k : RootKey) where
   -- a key that is noted is logged
-  logged-by : (log : List (Key × Option Answer)) (b : Bool) → is_logged key_eq log k ≡ b → is_logged key_eq (cond b log (log ++ (k, bank k) ∷ [])) k ≡ true
+  logged-by : (log : List (RootKey × Option RootAnswer)) (b : Bool) → is_logged key_eq log k ≡ b → is_logged key_eq (cond b log (log ++ (k, bank k) ∷ [])) k ≡ true
   logged-by log true h = h
   logged-by log false h =
-      list_any-append (λ (e : Key × Option Answer). key_eq k e.0) log ((k, bank k) ∷ [])
+      list_any-append (λ (e : RootKey × Option RootAnswer). key_eq k e.0) log ((k, bank k) ∷ [])
       ∙ (λ i. h i || (((bytes_decides (key_code k) (key_code k)).1 refl) i || false))
 
-  logged : (log : List (Key × Option Answer)) → is_logged key_eq (noted key_eq bank log k) k ≡ true
+  logged : (log : List (RootKey × Option RootAnswer)) → is_logged key_eq (noted key_eq bank log k) k ≡ true
   logged log = logged-by log (is_logged key_eq log k) refl
 
   -- so it is noted once
-  noted-twice : (log : List (Key × Option Answer)) → noted key_eq bank (noted key_eq bank log k) k ≡ noted key_eq bank log k
+  noted-twice : (log : List (RootKey × Option RootAnswer)) → noted key_eq bank (noted key_eq bank log k) k ≡ noted key_eq bank log k
   noted-twice log =
       let once = noted key_eq bank log k in
       ap (λ b. cond b once (once ++ (k, bank k) ∷ [])) (logged log)
@@ -52,18 +52,18 @@ module _ (bank : Key → Option Answer) (k : Key) where
       let same : after_key key_eq bank k p ≡ p = progress_after-over rules key_eq bank (Ask k (λ _. Done p)) p over in
       ap (after_key key_eq bank k) same
   twice-by p (Some left) going =
-      let after : List (Key × Option Answer) → Reached = λ log. record p { log = noted key_eq bank log k } in
+      let after : List (RootKey × Option RootAnswer) → Reached = λ log. record p { log = noted key_eq bank log k } in
       let once : after_key key_eq bank k p ≡ after p.log = ap (λ (o : Option Allowance). elim o [ None ↦ p | Some left ↦ after p.log ]) going in
       ap (after_key key_eq bank k) once
       ∙ ap (λ (o : Option Allowance). elim o [ None ↦ after p.log | Some left ↦ after (noted key_eq bank p.log k) ]) going
-      ∙ ap (λ (log : List (Key × Option Answer)). record p { log = log }) (noted-twice p.log)
+      ∙ ap (λ (log : List (RootKey × Option RootAnswer)). record p { log = log }) (noted-twice p.log)
       ∙ sym once
 
   -- a key is asked a second time: nothing is noted
   after_key-twice : (p : Reached) → after_key key_eq bank k (after_key key_eq bank k p) ≡ after_key key_eq bank k p
   after_key-twice p = twice-by p p.left refl
 
-module _ (bank : Key → Option Answer) (definitions : Definitions) where
+module _ (bank : RootKey → Option RootAnswer) (definitions : Definitions) where
   -- nor is where the macro of a word is looked for
   twice-said : (word : List ℕ) (p : Reached) (said : Option (Option (List Token)))
       → let query : Expanding (Option (List Token)) = elim said [ None ↦ Ask (key.Macro word) (λ found. Done (body_in found)) | Some body ↦ Done body ] in

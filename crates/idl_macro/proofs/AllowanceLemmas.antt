@@ -17,42 +17,42 @@ use Rattle.idl_event.specs.declared.told.allowance.Allowance.{Allowance}
 use Rattle.idl_event.specs.Limits.{turns_at_most}
 use Rattle.idl_event.specs.declared.told.event.Item.{Item}
 use Rattle.idl_event.specs.declared.told.event.Item.TheVariants.{Turn}
-use Rattle.idl_event.specs.declared.asked.key.Answer.{Answer}
-use Rattle.idl_event.specs.declared.asked.key.Key.{Key}
-use Rattle.idl_event.specs.declared.asked.key.Key.TheVariants as key
+use Rattle.idl_event.specs.declared.asked.key.RootAnswer.{RootAnswer}
+use Rattle.idl_event.specs.declared.asked.key.RootKey.{RootKey}
+use Rattle.idl_event.specs.declared.asked.key.RootKey.TheVariants as key
 use Rattle.idl_fault.specs.declared.place.Place.{Place}
 use Rattle.idl_macro.specs.declared.replacement.Output.{Output}
 use Rattle.idl_macro.specs.declared.replacement.Output.TheVariants.{Text, Operand}
 use Rattle.idl_macro.proofs.ArrivalLemmas.{arrived-outcome}
 
 -- a key that is asked takes nothing of them
-abbrev with_key : (Key → Option Answer) → Key → Reached → Option Allowance → Reached
+abbrev with_key : (RootKey → Option RootAnswer) → RootKey → Reached → Option Allowance → Reached
 with_key bank k p o = elim o [ None ↦ p | Some left ↦ record p { log = noted key_eq bank p.log k } ]
 
-left-with_key : (bank : Key → Option Answer) (k : Key) (p : Reached) (o : Option Allowance) → (with_key bank k p o).left ≡ p.left
+left-with_key : (bank : RootKey → Option RootAnswer) (k : RootKey) (p : Reached) (o : Option Allowance) → (with_key bank k p o).left ≡ p.left
 left-with_key bank k p None = refl
 left-with_key bank k p (Some left) = refl
 
-pub left-after_key : (bank : Key → Option Answer) (k : Key) (p : Reached) → (after_key key_eq bank k p).left ≡ p.left
+pub left-after_key : (bank : RootKey → Option RootAnswer) (k : RootKey) (p : Reached) → (after_key key_eq bank k p).left ≡ p.left
 left-after_key bank k p = left-with_key bank k p p.left
 
 -- nor does the macro of a word
-left-said : (bank : Key → Option Answer) (word : List ℕ) (p : Reached) (said : Option (Option (List Token)))
+left-said : (bank : RootKey → Option RootAnswer) (word : List ℕ) (p : Reached) (said : Option (Option (List Token)))
     → (reached bank (elim said [ None ↦ Ask (key.Macro word) (λ found. Done (body_in found)) | Some body ↦ Done body ]) p).left ≡ p.left
 left-said bank word p None = left-after_key bank (key.Macro word) p
 left-said bank word p (Some body) = refl
 
-pub left-macro_of : (bank : Key → Option Answer) (definitions : Definitions) (word : List ℕ) (p : Reached) → (reached bank (macro_of definitions word) p).left ≡ p.left
+pub left-macro_of : (bank : RootKey → Option RootAnswer) (definitions : Definitions) (word : List ℕ) (p : Reached) → (reached bank (macro_of definitions word) p).left ≡ p.left
 unfolding macro_of
 left-macro_of bank definitions word p = left-said bank word p (lookup (bytes_eq word) definitions)
 
 -- nor the body that a token is replaced by
-left-if : (bank : Key → Option Answer) (definitions : Definitions) (word : List ℕ) (p : Reached) (c : Bool)
+left-if : (bank : RootKey → Option RootAnswer) (definitions : Definitions) (word : List ℕ) (p : Reached) (c : Bool)
     → (reached bank (if c then macro_of definitions word else Done None) p).left ≡ p.left
 left-if bank definitions word p true = left-macro_of bank definitions word p
 left-if bank definitions word p false = refl
 
-pub left-replacement : (bank : Key → Option Answer) (definitions : Definitions) (hidden : List (List ℕ)) (t : Token) (p : Reached) → (reached bank (replacement definitions hidden t) p).left ≡ p.left
+pub left-replacement : (bank : RootKey → Option RootAnswer) (definitions : Definitions) (hidden : List (List ℕ)) (t : Token) (p : Reached) → (reached bank (replacement definitions hidden t) p).left ≡ p.left
 unfolding replacement
 left-replacement bank definitions hidden t p = left-if bank definitions t p (is_word t && not (list_any (bytes_eq t) hidden))
 
@@ -141,14 +141,14 @@ pub not_over : (b : Bool) (left : Option Allowance) → b ≡ false → (left �
 not_over b left going ends e = let ended = ends e in cc
 
 -- what is found where it isn't over
-pub replacement-found : (bank : Key → Option Answer) (definitions : Definitions) (hidden : List (List ℕ)) (t : Token) (body : Option (List Token)) (p q : Reached)
+pub replacement-found : (bank : RootKey → Option RootAnswer) (definitions : Definitions) (hidden : List (List ℕ)) (t : Token) (body : Option (List Token)) (p q : Reached)
     → p.left ≢ None → arrived body q ≡ arrival bank (replacement definitions hidden t) p → outcome (replacement definitions hidden t) bank ≡ body
 replacement-found bank definitions hidden t body p q going found =
     let same : q.left ≡ p.left = ap (λ (r : Reached × Option (Option (List Token))). r.0.left) found ∙ left-replacement bank definitions hidden t p in
     sym (arrived-outcome body (outcome (replacement definitions hidden t) bank) q (reached bank (replacement definitions hidden t) p) found (λ over. going (sym same ∙ over)))
 
 -- what a step leaves: what is asked takes nothing, and then an item is told
-pub left-step : (bank : Key → Option Answer) (definitions : Definitions) (hidden : List (List ℕ)) (t : Token) (item : Item) (body : Option (List Token)) (p asked told : Reached)
+pub left-step : (bank : RootKey → Option RootAnswer) (definitions : Definitions) (hidden : List (List ℕ)) (t : Token) (item : Item) (body : Option (List Token)) (p asked told : Reached)
     → arrived body asked ≡ arrival bank (replacement definitions hidden t) p → told ≡ after_item rules item asked → told.left ≡ left_by item p.left
 left-step bank definitions hidden t item body p asked told ask tell =
     ap (λ (r : Reached). r.left) tell

@@ -8,8 +8,8 @@ use Rattle.idl_event.specs.Expanding.{Expanding, Reached, arrival, arrived, reac
 use Rattle.idl_event.specs.Items.{rules}
 use Rattle.idl_event.specs.Key.{key_eq}
 use Rattle.idl_event.specs.declared.told.allowance.Allowance.{Allowance}
-use Rattle.idl_event.specs.declared.asked.key.Answer.{Answer}
-use Rattle.idl_event.specs.declared.asked.key.Key.{Key}
+use Rattle.idl_event.specs.declared.asked.key.RootAnswer.{RootAnswer}
+use Rattle.idl_event.specs.declared.asked.key.RootKey.{RootKey}
 
 module _ {A : Type 0} where
   outcome_of : (a b : A) (left other : Option Allowance) → option_map (λ _. a) left ≡ option_map (λ _. b) other → left ≢ None → a ≡ b
@@ -25,7 +25,7 @@ module _ {A : Type 0} where
   pub arrived-over : (a b : A) (p : Reached) → p.left ≡ None → arrived a p ≡ arrived b p
   arrived-over a b p over = ap (λ o. (p, option_map (λ _. a) o)) over ∙ sym (ap (λ o. (p, option_map (λ _. b) o)) over)
 
-module _ {A B : Type 0} (bank : Key → Option Answer) (query : Expanding A) (f : A → Expanding B) (a : A) (p q : Reached) (h : arrived a q ≡ arrival bank query p) where
+module _ {A B : Type 0} (bank : RootKey → Option RootAnswer) (query : Expanding A) (f : A → Expanding B) (a : A) (p q : Reached) (h : arrived a q ≡ arrival bank query p) where
   at_start : arrival bank (f (outcome query bank)) (reached bank query p) ≡ arrival bank (and_then query f) p
   at_start = sym (λ i. arrived (outcome-and_then query f bank i) (progress_after-and_then rules key_eq bank query f p i))
 

@@ -4,8 +4,8 @@ use Rattle.std.specs.Option.{option_map}
 use Rattle.idl_memo.specs.Query.{Done, Ask, Tell, and_then}
 use Rattle.idl_condition.specs.Arithmetic.{Value}
 use Rattle.idl_event.specs.Expanding.{Expanding, Reached, arrival, arrived}
-use Rattle.idl_event.specs.declared.asked.key.Answer.{Answer}
-use Rattle.idl_event.specs.declared.asked.key.Key.{Key}
+use Rattle.idl_event.specs.declared.asked.key.RootAnswer.{RootAnswer}
+use Rattle.idl_event.specs.declared.asked.key.RootKey.{RootKey}
 use Rattle.idl_fault.specs.declared.place.Place.{Place}
 use Rattle.idl_lex.specs.tokens.Tokens.{Token, tokens_in}
 use Rattle.idl_lex.specs.declared.tokens.token.PlacedToken.{PlacedToken}
@@ -73,7 +73,7 @@ and_then-and_then (Done a) f g = refl
 and_then-and_then (Ask k next) f g = λ i. Ask k (λ v. and_then-and_then (next v) f g i)
 and_then-and_then (Tell x query) f g = ap (Tell x) (and_then-and_then query f g)
 
-module _ (bank : Key → Option Answer) where
+module _ (bank : RootKey → Option RootAnswer) where
   -- nothing is read before
   pub arrival-begun : (query : Expanding (List Token)) (p : Reached) → arrival bank (followed_by (Done []) query) p ≡ arrival bank query p
   arrival-begun query p = λ i. arrived (outcome-followed_by bank (Done []) query i) (reached-followed_by bank (Done []) query p i)

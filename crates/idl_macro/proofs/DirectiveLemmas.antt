@@ -6,8 +6,8 @@ use Rattle.idl_event.specs.Expanding.{Expanding, Reached, arrival, arrived}
 use Rattle.idl_fault.specs.declared.code.Code.TheVariants.{MalformedMacro, OtherDefinition}
 use Rattle.idl_event.specs.declared.told.event.Event.TheVariants.{Fault}
 use Rattle.idl_event.specs.declared.told.event.Item.TheVariants.{Kept}
-use Rattle.idl_event.specs.declared.asked.key.Answer.{Answer}
-use Rattle.idl_event.specs.declared.asked.key.Key.{Key}
+use Rattle.idl_event.specs.declared.asked.key.RootAnswer.{RootAnswer}
+use Rattle.idl_event.specs.declared.asked.key.RootKey.{RootKey}
 use Rattle.idl_fault.specs.declared.place.Place.{Place}
 use Rattle.idl_lex.specs.tokens.Tokens.{Token}
 use Rattle.idl_lex.specs.declared.tokens.token.PlacedToken.{PlacedToken}
@@ -51,7 +51,7 @@ module _ (place : Place) (word : List ℕ) (definitions : Definitions) (operands
   unfolding define
   define-by found given = ap defining_by given
 
-  module _ (bank : Key → Option Answer) (p q : Reached) (name : List ℕ) (body : List Token) (old : Option (List Token)) (given : Some (name, body) ≡ definition_in operands) (found : arrived old q ≡ arrival bank (macro_of definitions name) p) where
+  module _ (bank : RootKey → Option RootAnswer) (p q : Reached) (name : List ℕ) (body : List Token) (old : Option (List Token)) (given : Some (name, body) ≡ definition_in operands) (found : arrived old q ≡ arrival bank (macro_of definitions name) p) where
     -- a macro is defined, or it is there with other tokens
     abbrev chosen : Bool → Expanding Definitions
     chosen other = if other then Tell (Kept (Fault place OtherDefinition (Some name))) (Done definitions) else Done (saying definitions name (Some body))

@@ -7,9 +7,9 @@ use Rattle.std.proofs.lemmas.List.Sorted.{IsPermutation-map, IsPermutation-rever
 use Rattle.std.proofs.lemmas.Map.Made.{is_some-lookup}
 use Rattle.idl_memo.specs.Query.{Done, Ask, outcome}
 use Rattle.idl_event.specs.Expanding.{Expanding}
-use Rattle.idl_event.specs.declared.asked.key.Answer.{Answer}
-use Rattle.idl_event.specs.declared.asked.key.Key.{Key}
-use Rattle.idl_event.specs.declared.asked.key.Key.TheVariants as key
+use Rattle.idl_event.specs.declared.asked.key.RootAnswer.{RootAnswer}
+use Rattle.idl_event.specs.declared.asked.key.RootKey.{RootKey}
+use Rattle.idl_event.specs.declared.asked.key.RootKey.TheVariants as key
 use Rattle.idl_lex.specs.tokens.Tokens.{Token}
 use Rattle.idl_lex.specs.kinds.Word.{is_word}
 use Rattle.idl_macro.specs.Macros.{Definitions, body_in, macro_of}
@@ -56,7 +56,7 @@ module _ (definitions : Definitions) (hidden : List (List ℕ)) (t : Token) wher
   unfolding replacement
   replacement-word h among = λ i. by_tests (h i) (among i)
 
-  module _ (bank : Key → Option Answer) where
+  module _ (bank : RootKey → Option RootAnswer) where
     none_hidden : (word among : Bool) (body : List Token) → outcome (by_tests word among) bank ≡ Some body → among ≡ false
     none_hidden word false body found = refl
     none_hidden true true body found = cc
@@ -68,7 +68,7 @@ module _ (definitions : Definitions) (hidden : List (List ℕ)) (t : Token) wher
     not_hidden body found = none_hidden (is_word t) (list_any (bytes_eq t) hidden) body found
 
 -- the word of a token that is replaced goes behind those that are there
-pub entries-opened : {V : Type 0} (bank : Key → Option Answer) (definitions : Definitions) (stack : List (List ℕ × V)) (t : Token) (body : List Token) (word : List ℕ) (v : V) (new : List (List ℕ × V))
+pub entries-opened : {V : Type 0} (bank : RootKey → Option RootAnswer) (definitions : Definitions) (stack : List (List ℕ × V)) (t : Token) (body : List Token) (word : List ℕ) (v : V) (new : List (List ℕ × V))
     → outcome (replacement definitions (keys_of (reverse stack)) t) bank ≡ Some body → word ≡ t → (is_some (lookup (bytes_eq word) stack) ≡ false → new ≡ stack ++ (word, v) ∷ []) → new ≡ stack ++ (t, v) ∷ []
 entries-opened bank definitions stack t body word v new found same inserted =
     inserted (sym (hidden-entries t word stack same) ∙ not_hidden definitions (keys_of (reverse stack)) t bank body found)

@@ -13,9 +13,9 @@ use Rattle.idl_event.specs.Key.{key_eq}
 use Rattle.idl_event.specs.declared.told.allowance.Allowance.{Allowance}
 use Rattle.idl_event.specs.declared.told.event.Event.TheVariants.{Emitted}
 use Rattle.idl_event.specs.declared.told.event.Item.TheVariants.{Kept}
-use Rattle.idl_event.specs.declared.asked.key.Answer.{Answer}
-use Rattle.idl_event.specs.declared.asked.key.Key.{Key}
-use Rattle.idl_event.specs.declared.asked.key.Key.TheVariants as key
+use Rattle.idl_event.specs.declared.asked.key.RootAnswer.{RootAnswer}
+use Rattle.idl_event.specs.declared.asked.key.RootKey.{RootKey}
+use Rattle.idl_event.specs.declared.asked.key.RootKey.TheVariants as key
 use Rattle.idl_fault.specs.declared.place.Place.{Place}
 use Rattle.idl_lex.specs.tokens.Tokens.{Token}
 use Rattle.idl_lex.specs.kinds.Word.{is_word}
@@ -60,9 +60,9 @@ passes-all file f passes (t ∷ ts) p left going le =
     passes-all file f passes ts (after_item rules (Kept (Emitted place t.token)) p) (record left { tokens = left.tokens - 1 }) told (omega (arith, le))
     ∙ ap (after_text file ts) (passes place t.token p left (length ts) going le)
 
-module _ (bank : Key → Option Answer) where
+module _ (bank : RootKey → Option RootAnswer) where
   -- a key is asked so
-  key-passes : (k : Key) → Passes (after_key key_eq bank k)
+  key-passes : (k : RootKey) → Passes (after_key key_eq bank k)
   key-passes k place t p left n going le =
       let asked : Reached = record p { log = noted key_eq bank p.log k } in
       let is : after_key key_eq bank k p ≡ asked = ap (λ (o : Option Allowance). elim o [ None ↦ p | Some left ↦ asked ]) going in
@@ -100,7 +100,7 @@ module _ (bank : Key → Option Answer) where
         by (u ∷ front) None is le = absurd (omega (arith, le))
         by (u ∷ front) (Some left) is le = sym (passes-all file (reached bank (replacement definitions [] t)) (replacement-passes t) (u ∷ front) p left is le)
 
-module _ (bank : Key → Option Answer) (file : List ℕ) (definitions : Definitions) where
+module _ (bank : RootKey → Option RootAnswer) (file : List ℕ) (definitions : Definitions) where
   -- a text whose first token was asked for already
   again : (t : PlacedToken) (rest : List PlacedToken) (p : Reached)
       → reached bank (text file definitions (t ∷ rest)) (reached bank (replacement definitions [] t.token) p) ≡ reached bank (text file definitions (t ∷ rest)) p
@@ -144,18 +144,18 @@ module _ (bank : Key → Option Answer) (file : List ℕ) (definitions : Definit
         ap-le over = subst (λ (o : Option Allowance). suc (length front) ≤ tokens_left o) over le
 
 -- so many of these tokens were passed by, which are still to be told
-pub record ArePassed (bank : Key → Option Answer) (definitions : Definitions) (tokens : List PlacedToken) (count : ℕ) (begun p : Reached) : Type 0 where
+pub record ArePassed (bank : RootKey → Option RootAnswer) (definitions : Definitions) (tokens : List PlacedToken) (count : ℕ) (begun p : Reached) : Type 0 where
   pub within : count ≤ length tokens
   pub room : length tokens ≤ tokens_left p.left
   pub plain : (file : List ℕ) → reached bank (text file definitions tokens) begun ≡ reached bank (text file definitions (drop count tokens)) (after_text file (take count tokens) p)
 
 -- what comes of them where one stops
-pub record IsPlain (bank : Key → Option Answer) (definitions : Definitions) (tokens : List PlacedToken) (count : ℕ) (begun p : Reached) : Type 0 where
+pub record IsPlain (bank : RootKey → Option RootAnswer) (definitions : Definitions) (tokens : List PlacedToken) (count : ℕ) (begun p : Reached) : Type 0 where
   pub within : count ≤ length tokens
   pub room : count ≤ tokens_left p.left
   pub plain : (file : List ℕ) → reached bank (text file definitions tokens) begun ≡ reached bank (text file definitions (drop count tokens)) (after_text file (take count tokens) p)
 
-module _ (bank : Key → Option Answer) (definitions : Definitions) (tokens : List PlacedToken) (count : ℕ) (begun p : Reached) (passed : ArePassed bank definitions tokens count begun p) where
+module _ (bank : RootKey → Option RootAnswer) (definitions : Definitions) (tokens : List PlacedToken) (count : ℕ) (begun p : Reached) (passed : ArePassed bank definitions tokens count begun p) where
   front-long : length (take count tokens) ≡ count
   front-long = length-take-le count tokens passed.within
 

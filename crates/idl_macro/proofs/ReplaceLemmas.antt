@@ -13,8 +13,8 @@ use Rattle.idl_macro.specs.Output.{item_of}
 use Rattle.idl_macro.specs.Replace.{each, followed_by, place_at, replaced, replaced_at, replacement, stands, text}
 use Rattle.idl_event.specs.declared.told.event.Item.{Item}
 use Rattle.idl_event.specs.declared.told.event.Item.TheVariants.{Turn}
-use Rattle.idl_event.specs.declared.asked.key.Answer.{Answer}
-use Rattle.idl_event.specs.declared.asked.key.Key.{Key}
+use Rattle.idl_event.specs.declared.asked.key.RootAnswer.{RootAnswer}
+use Rattle.idl_event.specs.declared.asked.key.RootKey.{RootKey}
 use Rattle.idl_fault.specs.declared.place.Place.{Place}
 use Rattle.idl_lex.specs.tokens.Tokens.{Token}
 use Rattle.idl_lex.specs.declared.tokens.token.PlacedToken.{PlacedToken}
@@ -25,7 +25,7 @@ use Rattle.idl_macro.specs.declared.replacement.Output.TheVariants.{Text}
 abbrev pub Open : Type 0
 Open = List ℕ × Bor (List Token)
 
-module _ (bank : Key → Option Answer) where
+module _ (bank : RootKey → Option RootAnswer) where
   -- where one comes to with two, one after the other
   pub reached-followed_by : (query more : Expanding (List Token)) (p : Reached) → reached bank (followed_by query more) p ≡ reached bank more (reached bank query p)
   reached-followed_by query more p =
@@ -131,7 +131,7 @@ module _ (bank : Key → Option Answer) where
         ∙ ap (λ ts. ts ++ outcome (pending fs tokens.now) bank) (outcome-replaced (room - length fs) (room - suc (length fs)) (keys_of fs) t (Some body) e found)
         ∙ sym (outcome-followed_by (each (within ((t, tokens) ∷ fs)) body) (pending fs tokens.now))
 
-module _ (bank : Key → Option Answer) (file : List ℕ) (definitions : Definitions) where
+module _ (bank : RootKey → Option RootAnswer) (file : List ℕ) (definitions : Definitions) where
   -- a text is replaced token by token, each at its own place
   pub reached-text-first : (t : PlacedToken) (tokens : List PlacedToken) (output : Output) (place : Place) (part : List Token) (p q : Reached)
       → item_of output ≡ item_of Text → place ≡ place_at file t → part ≡ t.token ∷ []

@@ -13,8 +13,8 @@ use Rattle.idl_event.specs.declared.told.allowance.Allowance.{Allowance}
 use Rattle.idl_event.specs.declared.told.event.Item.{Item}
 use Rattle.idl_event.specs.declared.told.event.Event.TheVariants.{Emitted, Entered, Left, Pragma, Fault}
 use Rattle.idl_event.specs.declared.told.event.Item.TheVariants.{Kept, Counted, Turn, TooDeep}
-use Rattle.idl_event.specs.declared.asked.key.Answer.{Answer}
-use Rattle.idl_event.specs.declared.asked.key.Key.{Key}
+use Rattle.idl_event.specs.declared.asked.key.RootAnswer.{RootAnswer}
+use Rattle.idl_event.specs.declared.asked.key.RootKey.{RootKey}
 use Rattle.idl_fault.specs.declared.place.Place.{Place}
 use Rattle.idl_macro.proofs.AllowanceLemmas.{left-after_item, left-after_key, left-replacement, left_by, no_zero}
 use Rattle.idl_macro.proofs.ReplaceLemmas.{made, reached-followed_by, reached-replaced}
@@ -51,7 +51,7 @@ turn_ends_or_fewer : (place : Place) (left : Option Allowance) (n m : ℕ) → t
 turn_ends_or_fewer place None n m h k = inl refl
 turn_ends_or_fewer place (Some left) n m h k = ends_or_fewer left n m (nat_eq left.turns 0) (no_zero left.turns) h k
 
-module _ (bank : Key → Option Answer) where
+module _ (bank : RootKey → Option RootAnswer) where
   -- nothing gives turns back
   pub turns-reached : {A : Type 0} (query : Expanding A) (p : Reached) → turns_left (reached bank query p).left ≤ turns_left p.left
   turns-reached (Done a) p = omega arith

@@ -12,7 +12,7 @@ ghost use Rattle.idl_macro.specs.Macros.{body_in, macro_of};
 
 use crate::digest::digest_of;
 use idl_base::Bytes;
-use idl_event::{Answer, Progress, RootBank};
+use idl_event::{Progress, RootAnswer, RootBank};
 use idl_lex::Token;
 use idl_map::{Marks, Table};
 use idl_text::TokenRange;
@@ -134,11 +134,11 @@ fn tokens_of(body: Option<&TokenRange>) -> Option<&[Token]>
 }
 
 // The tokens of the body that is answered, if one is.
-fn body_in(answer: Option<&Answer>) -> Option<&[Token]>
+fn body_in(answer: Option<&RootAnswer>) -> Option<&[Token]>
     ensures { option_copied result ≡ body_in (option_copied answer.entry) }
 {
     match answer {
-        Some(Answer::Macro(text)) => Some(text.tokens().as_slice()),
+        Some(RootAnswer::Macro(text)) => Some(text.tokens().as_slice()),
         _ => None,
     }
 }

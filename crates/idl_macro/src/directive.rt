@@ -14,7 +14,7 @@ ghost use Rattle.idl_macro.specs.Directives.{define, undef, ifdef, ifndef, is_ma
 use crate::definitions::{Definitions, Macros};
 use crate::word::is_macro_word;
 use idl_base::Bytes;
-use idl_event::{Answer, Event, Item, Key, Progress, RootBank};
+use idl_event::{Event, Item, Progress, RootAnswer, RootBank, RootKey};
 use idl_fault::{Code, Place};
 use idl_lex::Token;
 use idl_text::{FileToken, FileTokens};
@@ -58,7 +58,7 @@ pub fn undef<B: RootBank>(
     directive: &Directive<'_>,
     progress: &mut Progress<B>,
 ) -> Result<(), AllocError>
-    ensures { OnOk result ((bank : Key → Option Answer) → arrived definitions.new progress.new
+    ensures { OnOk result ((bank : RootKey → Option RootAnswer) → arrived definitions.new progress.new
         ≡ arrival bank
         (undef directive.now.place directive.now.word.now definitions.old
         directive.now.operands) progress.old) }

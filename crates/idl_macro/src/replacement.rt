@@ -18,7 +18,7 @@ ghost use Rattle.idl_macro.specs.Replace.{operand, replaced, replaced_at, replac
 
 use crate::definitions::{Definitions, Macros};
 use idl_base::Bytes;
-use idl_event::{Answer, Item, Key, Progress, RootBank};
+use idl_event::{Item, Progress, RootAnswer, RootBank, RootKey};
 use idl_fault::{FileName, Place};
 use idl_lex::Token;
 use idl_map::Table;
@@ -148,7 +148,7 @@ pub fn replace_operand<B: RootBank>(
 /// How many replacements may stand in one another is no bound: more room for them than there are
 /// turns left changes nothing. This does nothing: it carries the law.
 pub fn nesting()
-    ensures { (bank : Key → Option Answer) (item : Token → Item) (place : Place)
+    ensures { (bank : RootKey → Option RootAnswer) (item : Token → Item) (place : Place)
         (definitions : Definitions) (room more : ℕ) (hidden : List (List ℕ)) (t : Token)
         (p : Reached)
         → turns_left p.left < room → turns_left p.left < more

@@ -8,7 +8,7 @@ ghost use Rattle.idl_map.specs.Entries.{IsSound, entries_of};
 
 use crate::bits::{lowest, without};
 use crate::digest::Digest;
-use crate::index::{Index, Spot};
+use crate::index::{Index, Slot};
 use crate::lent::Lent;
 use idl_base::Datum;
 use std::alloc::{AllocError, Global};
@@ -138,7 +138,7 @@ impl<K: Digest + Ord, V: Datum> Arena<K, V> {
 
     // The same, where the spot of the key's digest is known.
     #[inline(always)]
-    fn place_at<L: Lent<K>>(&self, spot: Spot, key: &L) -> Option<usize>
+    fn place_at<L: Lent<K>>(&self, spot: Slot, key: &L) -> Option<usize>
         requires sound { IsSound K.digest_of self.now }
         requires spot { IsSpot self.now.index.parts.items spot }
         requires digest { spot.digest ≡ K.digest_of (L.key key.now) }
@@ -210,7 +210,7 @@ impl<K: Digest + Ord, V: Datum> Arena<K, V> {
 
     // Puts an entry in at a new key, where the spot of its digest is known.
     #[inline(always)]
-    fn push(&mut self, spot: Spot, key: K, value: V) -> Result<(), AllocError>
+    fn push(&mut self, spot: Slot, key: K, value: V) -> Result<(), AllocError>
         requires sound { IsSound K.digest_of self.old }
         requires spot { IsSpot self.old.index.parts.items spot }
         requires digest { spot.digest ≡ K.digest_of key }

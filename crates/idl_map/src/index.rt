@@ -10,14 +10,14 @@ use std::alloc::{AllocError, Global};
 
 /// The buckets among which digests with one last six bits choose: the first of them, and how many there are, less one.
 #[derive(Clone, Copy)]
-pub struct Part {
+pub struct Stripe {
     pub first: u32,
     pub mask: u32,
 }
 
 /// Where the places of a digest are: the number of its bucket, and its tag there.
 #[derive(Clone, Copy)]
-pub struct Spot {
+pub struct Slot {
     pub digest: u64,
     pub number: usize,
     pub tag: u8,
@@ -37,7 +37,7 @@ const MANY: usize = 1 << 30;
 #[derive(Drop)]
 pub struct Index {
     digests: Vec<u64>,
-    parts: Vec<Part>,
+    parts: Vec<Stripe>,
     buckets: Buckets,
 }
 
@@ -48,7 +48,7 @@ impl Index {
         ensures digests { IfOk result (λ index. index.digests.items ≡ []) }
     {
         let mut parts = Vec::new(alloc);
-        parts.resize(PARTS, Part { first: 0, mask: 0 })?;
+        parts.resize(PARTS, Stripe { first: 0, mask: 0 })?;
         let mut buckets = Buckets::new(alloc);
         buckets.extend(1)?;
         Ok(Index {
@@ -60,13 +60,13 @@ impl Index {
 
     /// The spot of a digest.
     #[inline]
-    pub fn spot_of(&self, digest: u64) -> Spot
+    pub fn spot_of(&self, digest: u64) -> Slot
         requires { IsIndexed self.now }
         ensures digest { result.digest ≡ digest }
         ensures spot { IsSpot self.now.parts.items result }
     {
         let part = self.parts[(digest % 64) as usize];
-        Spot {
+        Slot {
             digest,
             number: number_in(part, digest),
             tag: tag_of(digest),
@@ -75,7 +75,7 @@ impl Index {
 
     /// The slots of a spot that have its tag: sixteen of its bucket, and where that is full, those of the one beside it.
     #[inline]
-    pub fn marked(&self, spot: Spot) -> u64
+    pub fn marked(&self, spot: Slot) -> u64
         requires sound { IsIndexed self.now }
         requires spot { IsSpot self.now.parts.items spot }
         ensures { (slot i : ℕ) → Stands self.now spot.digest slot i → bit_at result slot ≡ 1 }
@@ -92,7 +92,7 @@ impl Index {
     fn marked_beside(&self, digest: u64) -> u64
         requires { IsIndexed self.now }
         ensures small { result < 2 ^ 16 }
-        ensures marked { (part : Part) → slice_get self.now.parts.items (digest % 64) ≡ Some part
+        ensures marked { (part : Stripe) → slice_get self.now.parts.items (digest % 64) ≡ Some part
             → (slot i : ℕ)
             → StandsAt self.now.buckets (number_beside part digest) slot (tag_of digest) i
             → bit_at result slot ≡ 1 }
@@ -104,7 +104,7 @@ impl Index {
 
     /// The place in a slot of a spot.
     #[inline]
-    pub fn place(&self, spot: Spot, slot: usize) -> usize
+    pub fn place(&self, spot: Slot, slot: usize) -> usize
         requires sound { IsIndexed self.now }
         requires spot { IsSpot self.now.parts.items spot }
         ensures { (i : ℕ) → Stands self.now spot.digest slot i → result ≡ i }
@@ -119,7 +119,7 @@ impl Index {
     #[inline(never)]
     fn place_beside(&self, digest: u64, slot: usize) -> usize
         requires { IsIndexed self.now }
-        ensures { (part : Part) → slice_get self.now.parts.items (digest % 64) ≡ Some part
+        ensures { (part : Stripe) → slice_get self.now.parts.items (digest % 64) ≡ Some part
             → (t i : ℕ) → StandsAt self.now.buckets (number_beside part digest) slot t i
             → result ≡ i }
     {
@@ -129,7 +129,7 @@ impl Index {
 
     /// Puts the digest of a spot last, unless there is no room for its place.
     #[inline(always)]
-    pub fn push(&mut self, spot: Spot) -> Result<bool, AllocError>
+    pub fn push(&mut self, spot: Slot) -> Result<bool, AllocError>
         requires sound { IsIndexed self.old }
         requires spot { IsSpot self.old.parts.items spot }
         ensures sound { IsIndexed self.new }
@@ -149,7 +149,7 @@ impl Index {
 
     // Puts a place in at a spot, or where its bucket is full, at its digest.
     #[inline]
-    fn find_room(&mut self, spot: Spot, place: u32) -> Result<bool, AllocError>
+    fn find_room(&mut self, spot: Slot, place: u32) -> Result<bool, AllocError>
         requires sound { IsIndexed self.old }
         requires spot { IsSpot self.old.parts.items spot }
         ensures sound { IsIndexed self.new }
@@ -185,7 +185,7 @@ impl Index {
 
     // Puts a place in at a spot, unless its bucket is full.
     #[inline]
-    fn put(&mut self, spot: Spot, place: u32) -> bool
+    fn put(&mut self, spot: Slot, place: u32) -> bool
         requires sound { IsIndexed self.old }
         requires spot { IsSpot self.old.parts.items spot }
         ensures sound { IsIndexed self.new }
@@ -233,7 +233,7 @@ impl Index {
 }
 
 // A part of four times as many buckets as another has, the first of which has this number.
-fn wider(part: Part, first: u32) -> Part
+fn wider(part: Stripe, first: u32) -> Stripe
     ensures first { result.first ≡ first }
     ensures mask { result.mask < 2 ^ 31 }
 {
@@ -242,13 +242,13 @@ fn wider(part: Part, first: u32) -> Part
     } else {
         part.mask % (1 << 29) * 4 + 3
     };
-    Part { first, mask }
+    Stripe { first, mask }
 }
 
 // The number of the bucket of a digest in its part.
 #[inline]
 #[tactic(auto, unfolding(crate::specs::Buckets::number_in))]
-fn number_in(part: Part, digest: u64) -> usize
+fn number_in(part: Stripe, digest: u64) -> usize
     ensures { result ≡ number_in part digest }
 {
     part.first as usize + ((digest >> 32) as u32 & part.mask) as usize
@@ -257,7 +257,7 @@ fn number_in(part: Part, digest: u64) -> usize
 // The number of the bucket beside it.
 #[inline]
 #[tactic(auto, unfolding(crate::specs::Buckets::number_beside))]
-fn number_beside(part: Part, digest: u64) -> usize
+fn number_beside(part: Stripe, digest: u64) -> usize
     ensures { result ≡ number_beside part digest }
 {
     part.first as usize + (((digest >> 32) as u32 ^ 1) & part.mask) as usize
@@ -265,7 +265,7 @@ fn number_beside(part: Part, digest: u64) -> usize
 
 // Puts a place in at a digest, unless its bucket is full, and the one beside it.
 #[inline(always)]
-fn put_in(buckets: &mut Buckets, part: Part, digest: u64, place: u32) -> bool
+fn put_in(buckets: &mut Buckets, part: Stripe, digest: u64, place: u32) -> bool
     requires { AreThere buckets.old part }
     ensures kept { AreKept buckets.old buckets.new }
     ensures put { IsTrue result → FindsIn part buckets.new digest place }
@@ -278,14 +278,14 @@ fn put_in(buckets: &mut Buckets, part: Part, digest: u64, place: u32) -> bool
 // A part that is to have the places of those digests that its number chooses.
 #[derive(Clone, Copy)]
 struct Target<'a> {
-    part: Part,
+    part: Stripe,
     number: u64,
     digests: &'a [u64],
 }
 
 impl<'a> Target<'a> {
     // Puts the places of its digests in that another part has.
-    fn take_all(&self, buckets: &mut Buckets, old: Part) -> bool
+    fn take_all(&self, buckets: &mut Buckets, old: Stripe) -> bool
         requires own { AreThere buckets.old self.now.part }
         requires old { AreThere buckets.old old }
         ensures kept { AreKept buckets.old buckets.new }

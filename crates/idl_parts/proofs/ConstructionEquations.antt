@@ -23,12 +23,12 @@ use Rattle.idl_tree.specs.declared.declarations.construction.MemberType.TheVaria
 use Rattle.idl_tree.specs.declared.declarations.construction.MemberType.TheVariants as member_type
 use Rattle.idl_tree.specs.declared.declarations.construction.Structure.{Structure, out-Structure}
 use Rattle.idl_tree.specs.declared.declarations.construction.Union.{Union, out-Union}
-use Rattle.idl_tree.specs.declared.declarations.data_type.DataType.{DataType}
+use Rattle.idl_tree.specs.declared.declarations.data_type.TypeTree.{TypeTree}
 use Rattle.idl_tree.specs.declared.declarations.declarator.Declarator.{Declarator}
 use Rattle.idl_tree.specs.declared.several.Several.{Several}
 use Rattle.idl_tree.specs.reading.ReadConstruction.{made_case, made_member, made_structure, made_union}
 
-pub member_type_parts-type : (t : DataType) → member_type_parts (member_type.Type t) ≡ type_parts t
+pub member_type_parts-type : (t : TypeTree) → member_type_parts (member_type.Type t) ≡ type_parts t
 unfolding member_type_parts
 member_type_parts-type t =
     ap (fold-MemberType Parts Parts Parts Parts Parts Parts construction_step member_type_step case_step member_step structure_step union_step) (sym (rolls-Type t))

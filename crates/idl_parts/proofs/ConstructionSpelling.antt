@@ -8,7 +8,7 @@ use Rattle.idl_parts.specs.ExpressionParts.{value_parts}
 use Rattle.idl_parts.specs.Part.{Parts, ScopeEnds, all_parts, declared, listed, punctuation, spell_parts}
 use Rattle.idl_parts.specs.TypeParts.{declarator_parts}
 use Rattle.idl_parts.specs.declared.part.Declaration.TheVariants as declaration
-use Rattle.idl_parts.specs.declared.part.Target.TheVariants as target
+use Rattle.idl_parts.specs.declared.part.Purpose.TheVariants as target
 use Rattle.idl_parts.specs.declared.part.Use.TheVariants.{AsType}
 use Rattle.idl_tree.proofs.ConstructionSpelling.{spell_case-made, spell_construction-enumeration, spell_construction-structure, spell_construction-union, spell_member-made, spell_member_type-construction, spell_member_type-type, spell_structure-made, spell_union-made}
 use Rattle.idl_tree.proofs.Many.{many_spell}

@@ -4,7 +4,7 @@ use Rattle.std.proofs.lemmas.List.{append-nil}
 use Rattle.idl_lex.specs.declared.kinds.mark.Mark.TheVariants as mark
 use Rattle.idl_parts.specs.ExpressionParts.{and_parts, exclusive_or_parts, expression_parts, operator_parts, primary_parts, product_parts, shift_parts, sum_parts, unary_parts, value_parts}
 use Rattle.idl_parts.specs.Part.{ValueEnds, punctuation, spell_parts}
-use Rattle.idl_parts.specs.declared.part.Target.{Target}
+use Rattle.idl_parts.specs.declared.part.Purpose.{Purpose}
 use Rattle.idl_tree.proofs.SpellLemmas.{spell_and-made, spell_exclusive_or-made, spell_expression-made, spell_primary-literal, spell_primary-name, spell_primary-parentheses, spell_product-made, spell_shift-made, spell_sum-made, spell_unary-made}
 use Rattle.idl_tree.specs.Expression.{product_mark, shift_mark, spell_and, spell_exclusive_or, spell_expression, spell_literal, spell_primary, spell_product, spell_shift, spell_sum, spell_unary, spell_unary_operator, sum_mark}
 use Rattle.idl_tree.specs.Lexeme.{Lexemes, Punctuation}
@@ -140,6 +140,6 @@ expression_spells-parts = ind-Expression Primaries Ands ExclusiveOrs Expressions
     (λ x y is. subst (λ z. Sums (roll-Sum z)) is (sum_spells y.first y.rest))
     (λ x y is. subst (λ z. Unaries (roll-Unary z)) is (unary_spells y.operator y.operand.0 y.operand.1))
 
-pub value_spells : (t : Target) (e : Expression) → spell_parts (value_parts t e) ≡ spell_expression e
+pub value_spells : (t : Purpose) (e : Expression) → spell_parts (value_parts t e) ≡ spell_expression e
 value_spells t e =
     spells-then (expression_parts e) (ValueEnds t e ∷ []) (spell_expression e) [] (expression_spells-parts e) refl ∙ append-nil (spell_expression e)

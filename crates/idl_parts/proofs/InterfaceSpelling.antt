@@ -23,7 +23,7 @@ use Rattle.idl_tree.specs.declared.declarations.attribute.AttributeRaises.TheVar
 use Rattle.idl_tree.specs.declared.declarations.attribute.ReadonlyAttribute.{ReadonlyAttribute}
 use Rattle.idl_tree.specs.declared.declarations.attribute.ReadonlyNames.{ReadonlyNames}
 use Rattle.idl_tree.specs.declared.declarations.attribute.ReadonlyNames.TheVariants as readonly
-use Rattle.idl_tree.specs.declared.declarations.data_type.DataType.{DataType}
+use Rattle.idl_tree.specs.declared.declarations.data_type.TypeTree.{TypeTree}
 use Rattle.idl_tree.specs.declared.declarations.interface.Forward.{Forward}
 use Rattle.idl_tree.specs.declared.declarations.interface.Forward.TheVariants as forward
 use Rattle.idl_tree.specs.declared.declarations.interface.Interface.{Interface}
@@ -96,7 +96,7 @@ given_back_spells : (is_oneway : Bool) (p : Parts) (a : Lexemes) → spell_parts
 given_back_spells true p a h = h
 given_back_spells false p a h = h
 
-result_spells : (is_oneway : Bool) (t : Option DataType) → spell_parts (result_parts is_oneway t) ≡ spell_result t
+result_spells : (is_oneway : Bool) (t : Option TypeTree) → spell_parts (result_parts is_oneway t) ≡ spell_result t
 result_spells is_oneway None = refl
 result_spells is_oneway (Some t) = given_back_spells is_oneway (type_parts t) (spell_type t) (type_spells t AsType)
 

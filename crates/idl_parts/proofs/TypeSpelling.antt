@@ -8,7 +8,7 @@ use Rattle.idl_parts.specs.ExpressionParts.{value_parts}
 use Rattle.idl_parts.specs.TypeParts.{array_end, bound_parts, constant_type_parts, data_type_step, declarator_parts, length_parts, limit_parts, plain_parts, sequence_step, string_parts, type_parts_as}
 use Rattle.idl_parts.specs.declared.part.Declaration.{Declaration}
 use Rattle.idl_parts.specs.declared.part.Shape.TheVariants.{Text, Sequence as Elements}
-use Rattle.idl_parts.specs.declared.part.Target.TheVariants.{Bound, Length}
+use Rattle.idl_parts.specs.declared.part.Purpose.TheVariants.{Bound, Length}
 use Rattle.idl_parts.specs.declared.part.Use.{Use}
 use Rattle.idl_parts.specs.declared.part.Use.TheVariants.{AsElement}
 use Rattle.idl_tree.proofs.Readers.NestedTypeLaws.{spell_type-plain, spell_type-sequence}
@@ -18,19 +18,19 @@ use Rattle.idl_tree.specs.Lexeme.{Lexemes, Identifier, Punctuation, Word}
 use Rattle.idl_tree.specs.Name.{spell_name}
 use Rattle.idl_tree.specs.reading.ReadType.{made_sequence}
 use Rattle.idl_tree.specs.Unit.{spell_constant_type}
-use Rattle.idl_tree.specs.declared.declarations.data_type.DataType.{DataType, fold-DataType, ind-DataType, map-DataType, roll-DataType}
-use Rattle.idl_tree.specs.declared.declarations.data_type.DataType.TheFolds.{fold-roll-DataType, fold-roll-Sequence}
-use Rattle.idl_tree.specs.declared.declarations.data_type.DataType.TheOpen.{DataType-F}
-use Rattle.idl_tree.specs.declared.declarations.data_type.DataType.TheVariants.{rolls-Plain, rolls-Sequence}
-use Rattle.idl_tree.specs.declared.declarations.data_type.DataType.TheVariants as data_type
+use Rattle.idl_tree.specs.declared.declarations.data_type.TypeTree.{TypeTree, fold-TypeTree, ind-TypeTree, map-TypeTree, roll-TypeTree}
+use Rattle.idl_tree.specs.declared.declarations.data_type.TypeTree.TheFolds.{fold-roll-TypeTree, fold-roll-Sequence}
+use Rattle.idl_tree.specs.declared.declarations.data_type.TypeTree.TheOpen.{TypeTree-F}
+use Rattle.idl_tree.specs.declared.declarations.data_type.TypeTree.TheVariants.{rolls-Plain, rolls-Sequence}
+use Rattle.idl_tree.specs.declared.declarations.data_type.TypeTree.TheVariants as data_type
 use Rattle.idl_tree.specs.declared.declarations.data_type.PlainType.{PlainType}
 use Rattle.idl_tree.specs.declared.declarations.data_type.PlainType.TheVariants as plain
 use Rattle.idl_tree.specs.declared.declarations.data_type.Sequence.{Sequence, roll-Sequence}
 use Rattle.idl_tree.specs.declared.declarations.data_type.StringType.{StringType}
 use Rattle.idl_tree.specs.declared.declarations.declarator.Declarator.{Declarator}
 use Rattle.idl_tree.specs.declared.expression.Expression.{Expression}
-use Rattle.idl_tree.specs.declared.unit.ConstantType.{ConstantType}
-use Rattle.idl_tree.specs.declared.unit.ConstantType.TheVariants as constant
+use Rattle.idl_tree.specs.declared.unit.ConstantTypeTree.{ConstantTypeTree}
+use Rattle.idl_tree.specs.declared.unit.ConstantTypeTree.TheVariants as constant
 use Rattle.idl_parts.proofs.ExpressionSpelling.{value_spells}
 use Rattle.idl_parts.proofs.PartSpelling.{spells-each, spells-then}
 use Rattle.idl_parts.proofs.Such.{Such}
@@ -58,27 +58,27 @@ plain_spells (plain.Name n) way = append-nil (spell_name n)
 type_parts-plain : (p : PlainType) (way : Use) → type_parts_as (data_type.Plain p) way ≡ plain_parts p way
 unfolding type_parts_as
 type_parts-plain p way = ap (λ (f : Use → Parts). f way)
-    (ap (fold-DataType (Use → Parts) (Use → Parts) data_type_step sequence_step) (sym (rolls-Plain p))
-    ∙ fold-roll-DataType (Use → Parts) (Use → Parts) data_type_step sequence_step (DataType-F.Plain p))
+    (ap (fold-TypeTree (Use → Parts) (Use → Parts) data_type_step sequence_step) (sym (rolls-Plain p))
+    ∙ fold-roll-TypeTree (Use → Parts) (Use → Parts) data_type_step sequence_step (TypeTree-F.Plain p))
 
-type_parts-sequence : (t : DataType) (b : Option Expression) (way : Use)
+type_parts-sequence : (t : TypeTree) (b : Option Expression) (way : Use)
     → type_parts_as (made_sequence t b) way ≡ Plain (Word word.Sequence ∷ Punctuation mark.Less ∷ []) ∷ (type_parts_as t AsElement ++ (limit_parts b ++ punctuation mark.Greater ∷ TypeEnds (Elements (is_some b)) ∷ []))
 unfolding type_parts_as
 type_parts-sequence t b way =
     let s = roll-Sequence (record { element = t; bound = b }) in
     ap (λ (f : Use → Parts). f way)
-    (ap (fold-DataType (Use → Parts) (Use → Parts) data_type_step sequence_step) (sym (rolls-Sequence s))
-    ∙ fold-roll-DataType (Use → Parts) (Use → Parts) data_type_step sequence_step (DataType-F.Sequence s)
+    (ap (fold-TypeTree (Use → Parts) (Use → Parts) data_type_step sequence_step) (sym (rolls-Sequence s))
+    ∙ fold-roll-TypeTree (Use → Parts) (Use → Parts) data_type_step sequence_step (TypeTree-F.Sequence s)
     ∙ fold-roll-Sequence (Use → Parts) (Use → Parts) data_type_step sequence_step (record { element = t; bound = b }))
 
 -- the claims by which the induction goes
-abbrev Types : DataType → Type 0
+abbrev Types : TypeTree → Type 0
 Types t = (way : Use) → spell_parts (type_parts_as t way) ≡ spell_type t
 
 abbrev Sequences : Sequence → Type 0
 Sequences s = Types (data_type.Sequence s)
 
-sequence_spells : (t : DataType) (b : Option Expression) → Types t → Types (made_sequence t b)
+sequence_spells : (t : TypeTree) (b : Option Expression) → Types t → Types (made_sequence t b)
 sequence_spells t b h way =
     ap spell_parts (type_parts-sequence t b way)
     ∙ ap (λ (w : Lexemes). Word word.Sequence ∷ Punctuation mark.Less ∷ w)
@@ -86,16 +86,16 @@ sequence_spells t b h way =
     (spells-then (limit_parts b) (punctuation mark.Greater ∷ TypeEnds (Elements (is_some b)) ∷ []) (spell_limit b) (Punctuation mark.Greater ∷ []) (limit_spells b) refl))
     ∙ sym (spell_type-sequence t b)
 
-by_type : (y : DataType-F (Such Types) (Such Sequences)) → Types (roll-DataType (map-DataType (Such Types) (Such Sequences) DataType Sequence (λ e. e.0) (λ e. e.0) y))
-by_type (DataType-F.Plain p) = subst Types (sym (rolls-Plain p)) (λ way. ap spell_parts (type_parts-plain p way) ∙ plain_spells p way ∙ sym (spell_type-plain p))
-by_type (DataType-F.Sequence s) = subst Types (sym (rolls-Sequence s.0)) s.1
+by_type : (y : TypeTree-F (Such Types) (Such Sequences)) → Types (roll-TypeTree (map-TypeTree (Such Types) (Such Sequences) TypeTree Sequence (λ e. e.0) (λ e. e.0) y))
+by_type (TypeTree-F.Plain p) = subst Types (sym (rolls-Plain p)) (λ way. ap spell_parts (type_parts-plain p way) ∙ plain_spells p way ∙ sym (spell_type-plain p))
+by_type (TypeTree-F.Sequence s) = subst Types (sym (rolls-Sequence s.0)) s.1
 
-pub type_spells : (t : DataType) (way : Use) → spell_parts (type_parts_as t way) ≡ spell_type t
-type_spells = ind-DataType Types Sequences
-    (λ x y is. subst (λ z. Types (roll-DataType z)) is (by_type y))
+pub type_spells : (t : TypeTree) (way : Use) → spell_parts (type_parts_as t way) ≡ spell_type t
+type_spells = ind-TypeTree Types Sequences
+    (λ x y is. subst (λ z. Types (roll-TypeTree z)) is (by_type y))
     (λ x y is. subst (λ z. Sequences (roll-Sequence z)) is (sequence_spells y.element.0 y.bound y.element.1))
 
-pub constant_type_spells : (t : ConstantType) → spell_parts (constant_type_parts t) ≡ spell_constant_type t
+pub constant_type_spells : (t : ConstantTypeTree) → spell_parts (constant_type_parts t) ≡ spell_constant_type t
 constant_type_spells (constant.Discrete d) = append-nil (spell_discrete d)
 constant_type_spells (constant.String s) = string_spells s
 constant_type_spells (constant.Name n) = append-nil (spell_name n)

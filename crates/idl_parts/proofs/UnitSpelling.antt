@@ -11,7 +11,7 @@ use Rattle.idl_parts.specs.Part.{Part, Parts, Declares, ScopeEnds, listed, punct
 use Rattle.idl_parts.specs.TypeParts.{constant_type_parts, declarator_parts}
 use Rattle.idl_parts.specs.UnitParts.{attribute_parts, constant_parts, exception_parts, forward_parts, operation_parts, readonly_attribute_parts, typedef_parts, unit_parts}
 use Rattle.idl_parts.specs.declared.part.Declaration.TheVariants as declaration
-use Rattle.idl_parts.specs.declared.part.Target.TheVariants as target
+use Rattle.idl_parts.specs.declared.part.Purpose.TheVariants as target
 use Rattle.idl_tree.specs.Construction.{spell_construction, spell_member, spell_member_type}
 use Rattle.idl_tree.specs.DataType.{spell_declarator}
 use Rattle.idl_tree.specs.Expression.{spell_expression}

@@ -6,7 +6,7 @@ use Rattle.idl_parts.specs.ExpressionParts.{value_parts}
 use Rattle.idl_parts.specs.Part.{Parts, Plain, Declares, Uses, ScopeBegins, ScopeEnds, Enumerates, Switches, Default, all_parts, declared, keyword_part, listed, punctuation}
 use Rattle.idl_parts.specs.TypeParts.{declarator_parts, type_parts}
 use Rattle.idl_parts.specs.declared.part.Declaration.TheVariants as declaration
-use Rattle.idl_parts.specs.declared.part.Target.TheVariants as target
+use Rattle.idl_parts.specs.declared.part.Purpose.TheVariants as target
 use Rattle.idl_parts.specs.declared.part.Use.TheVariants.{AsDiscriminator}
 use Rattle.idl_tree.specs.DataType.{spell_discrete}
 use Rattle.idl_tree.specs.Lexeme.{Word, Punctuation}

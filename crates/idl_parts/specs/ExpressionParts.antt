@@ -2,7 +2,7 @@
 use Rattle.std.specs.Prelude.{[], ◌∷◌, ◌++◌, flat_map, Option, None, Some}
 use Rattle.idl_lex.specs.declared.kinds.mark.Mark.TheVariants as mark
 use Rattle.idl_parts.specs.Part.{Parts, Plain, Uses, ValueBegins, ValueEnds, punctuation}
-use Rattle.idl_parts.specs.declared.part.Target.{Target}
+use Rattle.idl_parts.specs.declared.part.Purpose.{Purpose}
 use Rattle.idl_parts.specs.declared.part.Use.TheVariants.{AsOperand}
 use Rattle.idl_tree.specs.Expression.{product_mark, shift_mark, spell_literal, spell_unary_operator, sum_mark}
 use Rattle.idl_tree.specs.declared.expression.And.{And}
@@ -107,5 +107,5 @@ primary_parts =
     product_step shift_step sum_step unary_step
 
 -- a whole expression, and what it is for
-abbrev pub value_parts : Target → Expression → Parts
+abbrev pub value_parts : Purpose → Expression → Parts
 value_parts target e = ValueBegins ∷ (expression_parts e ++ ValueEnds target e ∷ [])

@@ -2,8 +2,8 @@
 -- declare and use nothing.
 use Rattle.std.specs.Prelude.{◌≡◌, ◌++◌, ℕ, ◌+◌, List, [], ◌∷◌, length, map}
 use Rattle.idl_parts.specs.Part.{Part, Parts, Plain, Declares, Uses, Says, ValueBegins, ValueEnds, ScopeBegins, ScopeEnds, TypeEnds, ArrayEnds, Enumerates, Switches, Default, GivesBack}
-use Rattle.idl_parts.specs.declared.part.Site.{Site}
-use Rattle.idl_parts.specs.declared.part.Site.TheVariants as site
+use Rattle.idl_parts.specs.declared.part.UnitPart.{UnitPart}
+use Rattle.idl_parts.specs.declared.part.UnitPart.TheVariants as site
 use Rattle.idl_tree.specs.Interface.{spell_text}
 use Rattle.idl_tree.specs.Lexeme.{Lexemes}
 use Rattle.idl_tree.specs.Name.{spell_name}
@@ -43,7 +43,7 @@ abbrev pub items_length : List Item → ℕ
 items_length [] = 0
 items_length (item ∷ rest) = item_length item + items_length rest
 
-abbrev pub item_at : Site → Item
+abbrev pub item_at : UnitPart → Item
 item_at (site.Tokens n) = Plain n
 item_at (site.Declared declaration name) = Declares declaration name.now
 item_at (site.Used way name) = Uses way name.now
@@ -60,5 +60,5 @@ item_at site.Default = Default
 item_at site.GivesBack = GivesBack
 
 -- sites behind others
-abbrev pub Pushes : List Site → List Site → Parts → Type 0
+abbrev pub Pushes : List UnitPart → List UnitPart → Parts → Type 0
 Pushes before after parts = map item_at after ≡ map item_at before ++ items parts

@@ -7,7 +7,7 @@ use Rattle.idl_lex.specs.declared.kinds.mark.Mark.{Mark}
 use Rattle.idl_lex.specs.declared.kinds.mark.Mark.TheVariants.{Comma, OpenParenthesis, CloseParenthesis}
 use Rattle.idl_parts.specs.declared.part.Declaration.{Declaration}
 use Rattle.idl_parts.specs.declared.part.Shape.{Shape}
-use Rattle.idl_parts.specs.declared.part.Target.{Target}
+use Rattle.idl_parts.specs.declared.part.Purpose.{Purpose}
 use Rattle.idl_parts.specs.declared.part.Use.{Use}
 use Rattle.idl_tree.specs.Interface.{spell_text}
 use Rattle.idl_tree.specs.Lexeme.{Lexemes, Word, Punctuation, Identifier}
@@ -26,7 +26,7 @@ pub data Part (P : Type 0) : Type 0 where
   Says : Several (List ℕ) → Part P
   -- an expression begins, or ends
   ValueBegins : Part P
-  ValueEnds : Target → Expression → Part P
+  ValueEnds : Purpose → Expression → Part P
   -- the scope of what is declared so begins, or ends
   ScopeBegins : Declaration → List ℕ → Part P
   ScopeEnds : Part P

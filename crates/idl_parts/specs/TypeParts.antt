@@ -6,21 +6,21 @@ use Rattle.idl_parts.specs.ExpressionParts.{value_parts}
 use Rattle.idl_parts.specs.Part.{Parts, Plain, ArrayEnds, Declares, TypeEnds, Uses, punctuation}
 use Rattle.idl_parts.specs.declared.part.Declaration.{Declaration}
 use Rattle.idl_parts.specs.declared.part.Shape.TheVariants.{Basic, Text, Sequence as Elements}
-use Rattle.idl_parts.specs.declared.part.Target.TheVariants.{Bound, Length}
+use Rattle.idl_parts.specs.declared.part.Purpose.TheVariants.{Bound, Length}
 use Rattle.idl_parts.specs.declared.part.Use.{Use}
 use Rattle.idl_parts.specs.declared.part.Use.TheVariants.{AsType, AsElement, AsConstantType}
 use Rattle.idl_tree.specs.DataType.{spell_basic, spell_discrete, spell_string_word}
 use Rattle.idl_tree.specs.Lexeme.{Word, Punctuation}
 use Rattle.idl_tree.specs.declared.declarations.data_type.BasicType.TheVariants.{Discrete}
-use Rattle.idl_tree.specs.declared.declarations.data_type.DataType.{DataType, fold-DataType}
-use Rattle.idl_tree.specs.declared.declarations.data_type.DataType.TheOpen.{DataType-F, Sequence-F}
+use Rattle.idl_tree.specs.declared.declarations.data_type.TypeTree.{TypeTree, fold-TypeTree}
+use Rattle.idl_tree.specs.declared.declarations.data_type.TypeTree.TheOpen.{TypeTree-F, Sequence-F}
 use Rattle.idl_tree.specs.declared.declarations.data_type.PlainType.{PlainType}
 use Rattle.idl_tree.specs.declared.declarations.data_type.PlainType.TheVariants as plain
 use Rattle.idl_tree.specs.declared.declarations.data_type.StringType.{StringType}
 use Rattle.idl_tree.specs.declared.declarations.declarator.Declarator.{Declarator}
 use Rattle.idl_tree.specs.declared.expression.Expression.{Expression}
-use Rattle.idl_tree.specs.declared.unit.ConstantType.{ConstantType}
-use Rattle.idl_tree.specs.declared.unit.ConstantType.TheVariants as constant
+use Rattle.idl_tree.specs.declared.unit.ConstantTypeTree.{ConstantTypeTree}
+use Rattle.idl_tree.specs.declared.unit.ConstantTypeTree.TheVariants as constant
 
 -- [ "<" expr ">" ]
 abbrev pub bound_parts : Option Expression → Parts
@@ -46,9 +46,9 @@ limit_parts None = []
 limit_parts (Some e) = punctuation mark.Comma ∷ value_parts Bound e
 
 -- type = ptype | "sequence" "<" type [ "," expr ] ">"
-abbrev pub data_type_step : DataType-F (Use → Parts) (Use → Parts) → Use → Parts
-data_type_step (DataType-F.Plain p) way = plain_parts p way
-data_type_step (DataType-F.Sequence inner) way = inner way
+abbrev pub data_type_step : TypeTree-F (Use → Parts) (Use → Parts) → Use → Parts
+data_type_step (TypeTree-F.Plain p) way = plain_parts p way
+data_type_step (TypeTree-F.Sequence inner) way = inner way
 
 abbrev pub sequence_step : Sequence-F (Use → Parts) (Use → Parts) → Use → Parts
 sequence_step s way =
@@ -58,14 +58,14 @@ sequence_step s way =
     ++ punctuation mark.Greater ∷ TypeEnds (Elements (is_some s.bound)) ∷ []))
 
 -- a type; a name that it is itself is used so
-unfoldable pub type_parts_as : DataType → Use → Parts
-type_parts_as = fold-DataType (Use → Parts) (Use → Parts) data_type_step sequence_step
+unfoldable pub type_parts_as : TypeTree → Use → Parts
+type_parts_as = fold-TypeTree (Use → Parts) (Use → Parts) data_type_step sequence_step
 
-abbrev pub type_parts : DataType → Parts
+abbrev pub type_parts : TypeTree → Parts
 type_parts t = type_parts_as t AsType
 
 -- ctype
-abbrev pub constant_type_parts : ConstantType → Parts
+abbrev pub constant_type_parts : ConstantTypeTree → Parts
 constant_type_parts (constant.Discrete d) =
     Plain (spell_discrete d) ∷ TypeEnds (Basic (Discrete d)) ∷ []
 constant_type_parts (constant.String s) = string_parts s

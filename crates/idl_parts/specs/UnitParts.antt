@@ -7,7 +7,7 @@ use Rattle.idl_parts.specs.ExpressionParts.{value_parts}
 use Rattle.idl_parts.specs.Part.{Parts, Plain, Declares, Says, ScopeBegins, ScopeEnds, GivesBack, declared, if_some, keyword_part, listed, punctuation, raised, used}
 use Rattle.idl_parts.specs.TypeParts.{constant_type_parts, declarator_parts, type_parts}
 use Rattle.idl_parts.specs.declared.part.Declaration.TheVariants as declaration
-use Rattle.idl_parts.specs.declared.part.Target.TheVariants as target
+use Rattle.idl_parts.specs.declared.part.Purpose.TheVariants as target
 use Rattle.idl_parts.specs.declared.part.Use.TheVariants.{AsBase, Raised, RaisedBySet}
 use Rattle.idl_tree.specs.Interface.{spell_direction, spell_local}
 use Rattle.idl_tree.specs.Lexeme.{Word, Punctuation}
@@ -19,7 +19,7 @@ use Rattle.idl_tree.specs.declared.declarations.attribute.AttributeRaises.TheVar
 use Rattle.idl_tree.specs.declared.declarations.attribute.ReadonlyAttribute.{ReadonlyAttribute}
 use Rattle.idl_tree.specs.declared.declarations.attribute.ReadonlyNames.{ReadonlyNames}
 use Rattle.idl_tree.specs.declared.declarations.attribute.ReadonlyNames.TheVariants as readonly
-use Rattle.idl_tree.specs.declared.declarations.data_type.DataType.{DataType}
+use Rattle.idl_tree.specs.declared.declarations.data_type.TypeTree.{TypeTree}
 use Rattle.idl_tree.specs.declared.declarations.interface.Forward.{Forward}
 use Rattle.idl_tree.specs.declared.declarations.interface.Forward.TheVariants as forward
 use Rattle.idl_tree.specs.declared.declarations.interface.Interface.{Interface}
@@ -130,7 +130,7 @@ given_back true = GivesBack ∷ []
 given_back false = []
 
 -- "void" | type
-abbrev pub result_parts : Bool → Option DataType → Parts
+abbrev pub result_parts : Bool → Option TypeTree → Parts
 result_parts is_oneway None = keyword_part word.Void ∷ []
 result_parts is_oneway (Some t) = given_back is_oneway ++ type_parts t
 

@@ -9,7 +9,7 @@ ghost use Rattle.idl_parts.specs.TypeParts.{declarator_parts};
 use crate::data_type::{discrete_len, push_declarator, push_type};
 use crate::expression::push_value;
 use crate::listed::push_declared;
-use crate::part::{Declaration, Site, Target, Use};
+use crate::part::{Declaration, Purpose, UnitPart, Use};
 use idl_tree::Several;
 use idl_tree::declarations::{
     Case, Construction, Declarator, Discriminator, Enumeration, Label, Member, MemberType,
@@ -21,7 +21,7 @@ use std::alloc::AllocError;
 #[cycle(construction)]
 #[tactic(auto, unfolding(crate::specs::ConstructionParts::construction_parts))]
 pub fn push_construction<'a>(
-    sites: &mut Vec<Site<'a>>,
+    sites: &mut Vec<UnitPart<'a>>,
     construction: &'a Construction,
 ) -> Result<(), AllocError>
     ensures { OnOk result
@@ -37,34 +37,37 @@ pub fn push_construction<'a>(
 /// A struct.
 #[cycle(construction)]
 #[tactic(auto, unfolding(crate::specs::ConstructionParts::structure_parts))]
-fn push_structure<'a>(sites: &mut Vec<Site<'a>>, structure: &'a Structure) -> Result<(), AllocError>
+fn push_structure<'a>(
+    sites: &mut Vec<UnitPart<'a>>,
+    structure: &'a Structure,
+) -> Result<(), AllocError>
     ensures { OnOk result
         (Pushes sites.old.items sites.new.items (structure_parts structure.now)) }
 {
     let Structure { name, first, rest } = structure;
-    sites.push(Site::Tokens(1))?;
-    sites.push(Site::Declared(Declaration::Structure, name))?;
-    sites.push(Site::Tokens(1))?;
-    sites.push(Site::ScopeBegins(Declaration::Structure, name))?;
+    sites.push(UnitPart::Tokens(1))?;
+    sites.push(UnitPart::Declared(Declaration::Structure, name))?;
+    sites.push(UnitPart::Tokens(1))?;
+    sites.push(UnitPart::ScopeBegins(Declaration::Structure, name))?;
     push_member(sites, first)?;
     for member in rest.as_slice() {
         push_member(sites, member)?;
     }
-    sites.push(Site::ScopeEnds)?;
-    sites.push(Site::Tokens(1))?;
+    sites.push(UnitPart::ScopeEnds)?;
+    sites.push(UnitPart::Tokens(1))?;
     Ok(())
 }
 
 /// Members of one type.
 #[cycle(construction)]
 #[tactic(auto, unfolding(crate::specs::ConstructionParts::member_parts))]
-pub fn push_member<'a>(sites: &mut Vec<Site<'a>>, member: &'a Member) -> Result<(), AllocError>
+pub fn push_member<'a>(sites: &mut Vec<UnitPart<'a>>, member: &'a Member) -> Result<(), AllocError>
     ensures { OnOk result (Pushes sites.old.items sites.new.items (member_parts member.now)) }
 {
     let Member { kind, declarators } = member;
     push_member_type(sites, kind)?;
     push_declarators(sites, Declaration::Member, declarators)?;
-    sites.push(Site::Tokens(1))?;
+    sites.push(UnitPart::Tokens(1))?;
     Ok(())
 }
 
@@ -72,7 +75,7 @@ pub fn push_member<'a>(sites: &mut Vec<Site<'a>>, member: &'a Member) -> Result<
 #[cycle(construction)]
 #[tactic(auto, unfolding(crate::specs::ConstructionParts::member_type_parts))]
 pub fn push_member_type<'a>(
-    sites: &mut Vec<Site<'a>>,
+    sites: &mut Vec<UnitPart<'a>>,
     kind: &'a MemberType,
 ) -> Result<(), AllocError>
     ensures { OnOk result (Pushes sites.old.items sites.new.items (member_type_parts kind.now)) }
@@ -86,7 +89,7 @@ pub fn push_member_type<'a>(
 /// A union.
 #[cycle(construction)]
 #[tactic(auto, unfolding(crate::specs::ConstructionParts::union_parts))]
-fn push_union<'a>(sites: &mut Vec<Site<'a>>, union: &'a Union) -> Result<(), AllocError>
+fn push_union<'a>(sites: &mut Vec<UnitPart<'a>>, union: &'a Union) -> Result<(), AllocError>
     ensures { OnOk result (Pushes sites.old.items sites.new.items (union_parts union.now)) }
 {
     let Union {
@@ -95,25 +98,25 @@ fn push_union<'a>(sites: &mut Vec<Site<'a>>, union: &'a Union) -> Result<(), All
         first,
         rest,
     } = union;
-    sites.push(Site::Tokens(1))?;
-    sites.push(Site::Declared(Declaration::Union, name))?;
-    sites.push(Site::Tokens(2))?;
+    sites.push(UnitPart::Tokens(1))?;
+    sites.push(UnitPart::Declared(Declaration::Union, name))?;
+    sites.push(UnitPart::Tokens(2))?;
     push_discriminator(sites, discriminator)?;
-    sites.push(Site::Tokens(2))?;
-    sites.push(Site::ScopeBegins(Declaration::Union, name))?;
+    sites.push(UnitPart::Tokens(2))?;
+    sites.push(UnitPart::ScopeBegins(Declaration::Union, name))?;
     push_case(sites, first)?;
     for case in rest.as_slice() {
         push_case(sites, case)?;
     }
-    sites.push(Site::ScopeEnds)?;
-    sites.push(Site::Tokens(1))?;
+    sites.push(UnitPart::ScopeEnds)?;
+    sites.push(UnitPart::Tokens(1))?;
     Ok(())
 }
 
 /// A member of a union, with its labels.
 #[cycle(construction)]
 #[tactic(auto, unfolding(crate::specs::ConstructionParts::case_parts))]
-fn push_case<'a>(sites: &mut Vec<Site<'a>>, case: &'a Case) -> Result<(), AllocError>
+fn push_case<'a>(sites: &mut Vec<UnitPart<'a>>, case: &'a Case) -> Result<(), AllocError>
     ensures { OnOk result (Pushes sites.old.items sites.new.items (case_parts case.now)) }
 {
     let Case {
@@ -124,12 +127,15 @@ fn push_case<'a>(sites: &mut Vec<Site<'a>>, case: &'a Case) -> Result<(), AllocE
     push_labels(sites, labels)?;
     push_member_type(sites, kind)?;
     push_declarator(sites, Declaration::Member, declarator)?;
-    sites.push(Site::Tokens(1))?;
+    sites.push(UnitPart::Tokens(1))?;
     Ok(())
 }
 
 /// The labels of a case.
-fn push_labels<'a>(sites: &mut Vec<Site<'a>>, labels: &'a Several<Label>) -> Result<(), AllocError>
+fn push_labels<'a>(
+    sites: &mut Vec<UnitPart<'a>>,
+    labels: &'a Several<Label>,
+) -> Result<(), AllocError>
     ensures { OnOk result (Pushes sites.old.items sites.new.items (all_parts label_parts labels.now)) }
 {
     push_label(sites, &labels.first)?;
@@ -140,18 +146,18 @@ fn push_labels<'a>(sites: &mut Vec<Site<'a>>, labels: &'a Several<Label>) -> Res
 }
 
 /// A label.
-fn push_label<'a>(sites: &mut Vec<Site<'a>>, label: &'a Label) -> Result<(), AllocError>
+fn push_label<'a>(sites: &mut Vec<UnitPart<'a>>, label: &'a Label) -> Result<(), AllocError>
     ensures { OnOk result (Pushes sites.old.items sites.new.items (label_parts label.now)) }
 {
     match label {
         Label::Case(value) => {
-            sites.push(Site::Tokens(1))?;
-            push_value(sites, Target::Label, value)?;
-            sites.push(Site::Tokens(1))?;
+            sites.push(UnitPart::Tokens(1))?;
+            push_value(sites, Purpose::Label, value)?;
+            sites.push(UnitPart::Tokens(1))?;
         }
         Label::Default => {
-            sites.push(Site::Default)?;
-            sites.push(Site::Tokens(2))?;
+            sites.push(UnitPart::Default)?;
+            sites.push(UnitPart::Tokens(2))?;
         }
     }
     Ok(())
@@ -159,7 +165,7 @@ fn push_label<'a>(sites: &mut Vec<Site<'a>>, label: &'a Label) -> Result<(), All
 
 /// The type of a union's discriminator.
 fn push_discriminator<'a>(
-    sites: &mut Vec<Site<'a>>,
+    sites: &mut Vec<UnitPart<'a>>,
     discriminator: &'a Discriminator,
 ) -> Result<(), AllocError>
     ensures { OnOk result
@@ -167,34 +173,34 @@ fn push_discriminator<'a>(
 {
     match discriminator {
         Discriminator::Discrete(discrete) => {
-            sites.push(Site::Switches(*discrete))?;
-            sites.push(Site::Tokens(discrete_len(*discrete)))?;
+            sites.push(UnitPart::Switches(*discrete))?;
+            sites.push(UnitPart::Tokens(discrete_len(*discrete)))?;
         }
-        Discriminator::Name(name) => sites.push(Site::Used(Use::AsDiscriminator, name))?,
+        Discriminator::Name(name) => sites.push(UnitPart::Used(Use::AsDiscriminator, name))?,
     }
     Ok(())
 }
 
 /// An enum.
 fn push_enumeration<'a>(
-    sites: &mut Vec<Site<'a>>,
+    sites: &mut Vec<UnitPart<'a>>,
     enumeration: &'a Enumeration,
 ) -> Result<(), AllocError>
     ensures { OnOk result
         (Pushes sites.old.items sites.new.items (enumeration_parts enumeration.now)) }
 {
-    sites.push(Site::Tokens(1))?;
-    sites.push(Site::Enumerates(&enumeration.enumerators))?;
-    sites.push(Site::Declared(Declaration::Enumeration, &enumeration.name))?;
-    sites.push(Site::Tokens(1))?;
+    sites.push(UnitPart::Tokens(1))?;
+    sites.push(UnitPart::Enumerates(&enumeration.enumerators))?;
+    sites.push(UnitPart::Declared(Declaration::Enumeration, &enumeration.name))?;
+    sites.push(UnitPart::Tokens(1))?;
     push_declared(sites, Declaration::Enumerator, &enumeration.enumerators)?;
-    sites.push(Site::Tokens(1))?;
+    sites.push(UnitPart::Tokens(1))?;
     Ok(())
 }
 
 /// Declared names, with commas between.
 pub fn push_declarators<'a>(
-    sites: &mut Vec<Site<'a>>,
+    sites: &mut Vec<UnitPart<'a>>,
     declaration: Declaration,
     declarators: &'a Several<Declarator>,
 ) -> Result<(), AllocError>
@@ -203,7 +209,7 @@ pub fn push_declarators<'a>(
 {
     push_declarator(sites, declaration, &declarators.first)?;
     for declarator in declarators.rest.as_slice() {
-        sites.push(Site::Tokens(1))?;
+        sites.push(UnitPart::Tokens(1))?;
         push_declarator(sites, declaration, declarator)?;
     }
     Ok(())

@@ -6,33 +6,33 @@ ghost use Rattle.idl_parts.specs.TypeParts.{array_end, constant_type_parts, decl
 ghost use Rattle.idl_tree.specs.DataType.{spell_basic, spell_discrete, spell_sign, spell_size};
 
 use crate::expression::push_value;
-use crate::part::{Declaration, Shape, Site, Target, Use};
+use crate::part::{Declaration, Purpose, Shape, UnitPart, Use};
 use idl_tree::declarations::{
-    BasicType, DataType, Declarator, DiscreteType, IntegerSize, IntegerType, PlainType, Sequence,
-    StringType,
+    BasicType, Declarator, DiscreteType, IntegerSize, IntegerType, PlainType, Sequence, StringType,
+    TypeTree,
 };
-use idl_tree::{ConstantType, Expression};
+use idl_tree::{ConstantTypeTree, Expression};
 use std::alloc::AllocError;
 
 /// A type. A name that it is itself is used so.
 #[cycle(data_type)]
 #[tactic(auto, unfolding(crate::specs::TypeParts::type_parts_as))]
 pub fn push_type<'a>(
-    sites: &mut Vec<Site<'a>>,
-    kind: &'a DataType,
+    sites: &mut Vec<UnitPart<'a>>,
+    kind: &'a TypeTree,
     way: Use,
 ) -> Result<(), AllocError>
     ensures { OnOk result (Pushes sites.old.items sites.new.items (type_parts_as kind.now way)) }
 {
     match kind {
-        DataType::Plain(plain) => push_plain(sites, plain, way),
-        DataType::Sequence(sequence) => {
+        TypeTree::Plain(plain) => push_plain(sites, plain, way),
+        TypeTree::Sequence(sequence) => {
             let Sequence { element, bound } = sequence.get();
-            sites.push(Site::Tokens(2))?;
+            sites.push(UnitPart::Tokens(2))?;
             push_type(sites, element, Use::AsElement)?;
             push_limit(sites, bound)?;
-            sites.push(Site::Tokens(1))?;
-            sites.push(Site::TypeEnds(Shape::Sequence(bound.is_some())))?;
+            sites.push(UnitPart::Tokens(1))?;
+            sites.push(UnitPart::TypeEnds(Shape::Sequence(bound.is_some())))?;
             Ok(())
         }
     }
@@ -40,7 +40,7 @@ pub fn push_type<'a>(
 
 /// A type that holds no other one.
 fn push_plain<'a>(
-    sites: &mut Vec<Site<'a>>,
+    sites: &mut Vec<UnitPart<'a>>,
     plain: &'a PlainType,
     way: Use,
 ) -> Result<(), AllocError>
@@ -48,39 +48,39 @@ fn push_plain<'a>(
 {
     match plain {
         PlainType::Basic(basic) => {
-            sites.push(Site::Tokens(basic_len(*basic)))?;
-            sites.push(Site::TypeEnds(Shape::Basic(*basic)))?;
+            sites.push(UnitPart::Tokens(basic_len(*basic)))?;
+            sites.push(UnitPart::TypeEnds(Shape::Basic(*basic)))?;
         }
         PlainType::String(string) => push_string(sites, string)?,
-        PlainType::Name(name) => sites.push(Site::Used(way, name))?,
+        PlainType::Name(name) => sites.push(UnitPart::Used(way, name))?,
     }
     Ok(())
 }
 
 /// A string type.
-fn push_string<'a>(sites: &mut Vec<Site<'a>>, string: &'a StringType) -> Result<(), AllocError>
+fn push_string<'a>(sites: &mut Vec<UnitPart<'a>>, string: &'a StringType) -> Result<(), AllocError>
     ensures { OnOk result (Pushes sites.old.items sites.new.items (string_parts string.now)) }
 {
-    sites.push(Site::Tokens(1))?;
+    sites.push(UnitPart::Tokens(1))?;
     if let Some(bound) = &string.bound {
-        sites.push(Site::Tokens(1))?;
-        push_value(sites, Target::Bound, bound.get())?;
-        sites.push(Site::Tokens(1))?;
+        sites.push(UnitPart::Tokens(1))?;
+        push_value(sites, Purpose::Bound, bound.get())?;
+        sites.push(UnitPart::Tokens(1))?;
     }
-    sites.push(Site::TypeEnds(Shape::Text(string.is_wide, string.bound.is_some())))?;
+    sites.push(UnitPart::TypeEnds(Shape::Text(string.is_wide, string.bound.is_some())))?;
     Ok(())
 }
 
 /// The bound of a sequence, if it has one.
 fn push_limit<'a>(
-    sites: &mut Vec<Site<'a>>,
+    sites: &mut Vec<UnitPart<'a>>,
     bound: &'a Option<Expression>,
 ) -> Result<(), AllocError>
     ensures { OnOk result (Pushes sites.old.items sites.new.items (limit_parts bound.now)) }
 {
     if let Some(bound) = bound {
-        sites.push(Site::Tokens(1))?;
-        push_value(sites, Target::Bound, bound)?;
+        sites.push(UnitPart::Tokens(1))?;
+        push_value(sites, Purpose::Bound, bound)?;
     }
     Ok(())
 }
@@ -120,48 +120,51 @@ fn integer_len(integer: IntegerType) -> usize
 
 /// The type of a constant.
 pub fn push_constant_type<'a>(
-    sites: &mut Vec<Site<'a>>,
-    kind: &'a ConstantType,
+    sites: &mut Vec<UnitPart<'a>>,
+    kind: &'a ConstantTypeTree,
 ) -> Result<(), AllocError>
     ensures { OnOk result (Pushes sites.old.items sites.new.items (constant_type_parts kind.now)) }
 {
     match kind {
-        ConstantType::Discrete(discrete) => {
-            sites.push(Site::Tokens(discrete_len(*discrete)))?;
-            sites.push(Site::TypeEnds(Shape::Basic(BasicType::Discrete(*discrete))))?;
+        ConstantTypeTree::Discrete(discrete) => {
+            sites.push(UnitPart::Tokens(discrete_len(*discrete)))?;
+            sites.push(UnitPart::TypeEnds(Shape::Basic(BasicType::Discrete(*discrete))))?;
         }
-        ConstantType::String(string) => push_string(sites, string)?,
-        ConstantType::Name(name) => sites.push(Site::Used(Use::AsConstantType, name))?,
+        ConstantTypeTree::String(string) => push_string(sites, string)?,
+        ConstantTypeTree::Name(name) => sites.push(UnitPart::Used(Use::AsConstantType, name))?,
     }
     Ok(())
 }
 
 /// A declared name, and the lengths of its array if it is one.
 pub fn push_declarator<'a>(
-    sites: &mut Vec<Site<'a>>,
+    sites: &mut Vec<UnitPart<'a>>,
     declaration: Declaration,
     declarator: &'a Declarator,
 ) -> Result<(), AllocError>
     ensures { OnOk result (Pushes sites.old.items sites.new.items
         (declarator_parts declaration declarator.now)) }
 {
-    sites.push(Site::Declared(declaration, &declarator.name))?;
+    sites.push(UnitPart::Declared(declaration, &declarator.name))?;
     for length in declarator.lengths.as_slice() {
-        sites.push(Site::Tokens(1))?;
-        push_value(sites, Target::Length, length)?;
-        sites.push(Site::Tokens(1))?;
+        sites.push(UnitPart::Tokens(1))?;
+        push_value(sites, Purpose::Length, length)?;
+        sites.push(UnitPart::Tokens(1))?;
     }
     push_array_end(sites, declarator.lengths.as_slice())
 }
 
 /// The end of an array with these lengths, if it is one.
-fn push_array_end<'a>(sites: &mut Vec<Site<'a>>, lengths: &[Expression]) -> Result<(), AllocError>
+fn push_array_end<'a>(
+    sites: &mut Vec<UnitPart<'a>>,
+    lengths: &[Expression],
+) -> Result<(), AllocError>
     ensures { OnOk result (Pushes sites.old.items sites.new.items (array_end lengths.now)) }
 {
     match lengths {
         [] => Ok(()),
         [_, ..] => {
-            sites.push(Site::ArrayEnds)?;
+            sites.push(UnitPart::ArrayEnds)?;
             Ok(())
         }
     }

@@ -5,7 +5,7 @@ ghost use Rattle.idl_parts.specs.ExpressionParts.{and_parts, exclusive_or_parts,
 ghost use Rattle.idl_parts.specs.Item.{Pushes};
 ghost use Rattle.idl_tree.specs.Expression.{spell_literal};
 
-use crate::part::{Site, Target, Use};
+use crate::part::{Purpose, UnitPart, Use};
 use idl_base::Seq;
 use idl_tree::expression::{And, ExclusiveOr, Primary, Product, Shift, Sum, Unary, UnaryOperator};
 use idl_tree::{Expression, Literal, Several};
@@ -13,15 +13,15 @@ use std::alloc::AllocError;
 
 /// A whole expression, and what it is for.
 pub fn push_value<'a>(
-    sites: &mut Vec<Site<'a>>,
-    target: Target,
+    sites: &mut Vec<UnitPart<'a>>,
+    target: Purpose,
     value: &'a Expression,
 ) -> Result<(), AllocError>
     ensures { OnOk result (Pushes sites.old.items sites.new.items (value_parts target value.now)) }
 {
-    sites.push(Site::ValueBegins)?;
+    sites.push(UnitPart::ValueBegins)?;
     push_expression(sites, value)?;
-    sites.push(Site::ValueEnds(target, value))?;
+    sites.push(UnitPart::ValueEnds(target, value))?;
     Ok(())
 }
 
@@ -29,7 +29,7 @@ pub fn push_value<'a>(
 #[cycle(expression)]
 #[tactic(auto, unfolding(crate::specs::ExpressionParts::expression_parts))]
 fn push_expression<'a>(
-    sites: &mut Vec<Site<'a>>,
+    sites: &mut Vec<UnitPart<'a>>,
     expression: &'a Expression,
 ) -> Result<(), AllocError>
     ensures { OnOk result
@@ -38,7 +38,7 @@ fn push_expression<'a>(
     let Expression { first, rest } = expression;
     push_exclusive_or(sites, first.get())?;
     for operand in rest.as_slice() {
-        sites.push(Site::Tokens(1))?;
+        sites.push(UnitPart::Tokens(1))?;
         push_exclusive_or(sites, operand)?;
     }
     Ok(())
@@ -48,7 +48,7 @@ fn push_expression<'a>(
 #[cycle(expression)]
 #[tactic(auto, unfolding(crate::specs::ExpressionParts::exclusive_or_parts))]
 fn push_exclusive_or<'a>(
-    sites: &mut Vec<Site<'a>>,
+    sites: &mut Vec<UnitPart<'a>>,
     exclusive_or: &'a ExclusiveOr,
 ) -> Result<(), AllocError>
     ensures { OnOk result
@@ -57,7 +57,7 @@ fn push_exclusive_or<'a>(
     let ExclusiveOr { first, rest } = exclusive_or;
     push_and(sites, first.get())?;
     for operand in rest.as_slice() {
-        sites.push(Site::Tokens(1))?;
+        sites.push(UnitPart::Tokens(1))?;
         push_and(sites, operand)?;
     }
     Ok(())
@@ -66,13 +66,13 @@ fn push_exclusive_or<'a>(
 /// Operands with `&` between them.
 #[cycle(expression)]
 #[tactic(auto, unfolding(crate::specs::ExpressionParts::and_parts))]
-fn push_and<'a>(sites: &mut Vec<Site<'a>>, and: &'a And) -> Result<(), AllocError>
+fn push_and<'a>(sites: &mut Vec<UnitPart<'a>>, and: &'a And) -> Result<(), AllocError>
     ensures { OnOk result (Pushes sites.old.items sites.new.items (and_parts and.now)) }
 {
     let And { first, rest } = and;
     push_shift(sites, first.get())?;
     for operand in rest.as_slice() {
-        sites.push(Site::Tokens(1))?;
+        sites.push(UnitPart::Tokens(1))?;
         push_shift(sites, operand)?;
     }
     Ok(())
@@ -81,13 +81,13 @@ fn push_and<'a>(sites: &mut Vec<Site<'a>>, and: &'a And) -> Result<(), AllocErro
 /// An operand, and shifts of it.
 #[cycle(expression)]
 #[tactic(auto, unfolding(crate::specs::ExpressionParts::shift_parts))]
-fn push_shift<'a>(sites: &mut Vec<Site<'a>>, shift: &'a Shift) -> Result<(), AllocError>
+fn push_shift<'a>(sites: &mut Vec<UnitPart<'a>>, shift: &'a Shift) -> Result<(), AllocError>
     ensures { OnOk result (Pushes sites.old.items sites.new.items (shift_parts shift.now)) }
 {
     let Shift { first, rest } = shift;
     push_sum(sites, first.get())?;
     for (_operator, operand) in rest.as_slice() {
-        sites.push(Site::Tokens(1))?;
+        sites.push(UnitPart::Tokens(1))?;
         push_sum(sites, operand)?;
     }
     Ok(())
@@ -96,13 +96,13 @@ fn push_shift<'a>(sites: &mut Vec<Site<'a>>, shift: &'a Shift) -> Result<(), All
 /// An operand, and what is added or taken away.
 #[cycle(expression)]
 #[tactic(auto, unfolding(crate::specs::ExpressionParts::sum_parts))]
-fn push_sum<'a>(sites: &mut Vec<Site<'a>>, sum: &'a Sum) -> Result<(), AllocError>
+fn push_sum<'a>(sites: &mut Vec<UnitPart<'a>>, sum: &'a Sum) -> Result<(), AllocError>
     ensures { OnOk result (Pushes sites.old.items sites.new.items (sum_parts sum.now)) }
 {
     let Sum { first, rest } = sum;
     push_product(sites, first.get())?;
     for (_operator, operand) in rest.as_slice() {
-        sites.push(Site::Tokens(1))?;
+        sites.push(UnitPart::Tokens(1))?;
         push_product(sites, operand)?;
     }
     Ok(())
@@ -111,13 +111,13 @@ fn push_sum<'a>(sites: &mut Vec<Site<'a>>, sum: &'a Sum) -> Result<(), AllocErro
 /// An operand, and factors and divisors.
 #[cycle(expression)]
 #[tactic(auto, unfolding(crate::specs::ExpressionParts::product_parts))]
-fn push_product<'a>(sites: &mut Vec<Site<'a>>, product: &'a Product) -> Result<(), AllocError>
+fn push_product<'a>(sites: &mut Vec<UnitPart<'a>>, product: &'a Product) -> Result<(), AllocError>
     ensures { OnOk result (Pushes sites.old.items sites.new.items (product_parts product.now)) }
 {
     let Product { first, rest } = product;
     push_unary(sites, first.get())?;
     for (_operator, operand) in rest.as_slice() {
-        sites.push(Site::Tokens(1))?;
+        sites.push(UnitPart::Tokens(1))?;
         push_unary(sites, operand)?;
     }
     Ok(())
@@ -126,7 +126,7 @@ fn push_product<'a>(sites: &mut Vec<Site<'a>>, product: &'a Product) -> Result<(
 /// An operand, with at most one operator before it.
 #[cycle(expression)]
 #[tactic(auto, unfolding(crate::specs::ExpressionParts::unary_parts))]
-fn push_unary<'a>(sites: &mut Vec<Site<'a>>, unary: &'a Unary) -> Result<(), AllocError>
+fn push_unary<'a>(sites: &mut Vec<UnitPart<'a>>, unary: &'a Unary) -> Result<(), AllocError>
     ensures { OnOk result (Pushes sites.old.items sites.new.items (unary_parts unary.now)) }
 {
     push_operator(sites, unary.operator)?;
@@ -136,13 +136,13 @@ fn push_unary<'a>(sites: &mut Vec<Site<'a>>, unary: &'a Unary) -> Result<(), All
 
 /// An operator before an operand, if there is one.
 fn push_operator<'a>(
-    sites: &mut Vec<Site<'a>>,
+    sites: &mut Vec<UnitPart<'a>>,
     operator: Option<UnaryOperator>,
 ) -> Result<(), AllocError>
     ensures { OnOk result (Pushes sites.old.items sites.new.items (operator_parts operator)) }
 {
     match operator {
-        Some(_operator) => sites.push(Site::Tokens(1))?,
+        Some(_operator) => sites.push(UnitPart::Tokens(1))?,
         None => {}
     }
     Ok(())
@@ -151,16 +151,16 @@ fn push_operator<'a>(
 /// An expression that is no operation.
 #[cycle(expression)]
 #[tactic(auto, unfolding(crate::specs::ExpressionParts::primary_parts))]
-fn push_primary<'a>(sites: &mut Vec<Site<'a>>, primary: &'a Primary) -> Result<(), AllocError>
+fn push_primary<'a>(sites: &mut Vec<UnitPart<'a>>, primary: &'a Primary) -> Result<(), AllocError>
     ensures { OnOk result (Pushes sites.old.items sites.new.items (primary_parts primary.now)) }
 {
     match primary {
-        Primary::Name(name) => sites.push(Site::Used(Use::AsOperand, name))?,
-        Primary::Literal(literal) => sites.push(Site::Tokens(literal_len(literal)))?,
+        Primary::Name(name) => sites.push(UnitPart::Used(Use::AsOperand, name))?,
+        Primary::Literal(literal) => sites.push(UnitPart::Tokens(literal_len(literal)))?,
         Primary::Parentheses(inner) => {
-            sites.push(Site::Tokens(1))?;
+            sites.push(UnitPart::Tokens(1))?;
             push_expression(sites, inner.get())?;
-            sites.push(Site::Tokens(1))?;
+            sites.push(UnitPart::Tokens(1))?;
         }
     }
     Ok(())

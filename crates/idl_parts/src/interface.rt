@@ -9,36 +9,39 @@ ghost use Rattle.idl_parts.specs.UnitParts.{attribute_parts, context_parts, dire
 
 use crate::data_type::push_type;
 use crate::listed::{push_declared, push_raised, push_used};
-use crate::part::{Declaration, Site, Use};
+use crate::part::{Declaration, UnitPart, Use};
 use idl_base::{Boxed, Seq};
 use idl_tree::declarations::{
-    Attribute, AttributeNames, AttributeRaises, DataType, Direction, Forward, Interface, Operation,
-    Parameter, ReadonlyAttribute, ReadonlyNames,
+    Attribute, AttributeNames, AttributeRaises, Direction, Forward, Interface, Operation,
+    Parameter, ReadonlyAttribute, ReadonlyNames, TypeTree,
 };
 use idl_tree::{ScopedName, Several};
 use std::alloc::AllocError;
 
 /// The opening of an interface.
 pub fn push_interface<'a>(
-    sites: &mut Vec<Site<'a>>,
+    sites: &mut Vec<UnitPart<'a>>,
     interface: &'a Interface,
 ) -> Result<(), AllocError>
     ensures { OnOk result
         (Pushes sites.old.items sites.new.items (interface_parts interface.now)) }
 {
     let is_local = interface.is_local;
-    sites.push(Site::Tokens(usize::from(is_local) + 1))?;
-    sites.push(Site::Declared(Declaration::Interface(is_local), &interface.name))?;
+    sites.push(UnitPart::Tokens(usize::from(is_local) + 1))?;
+    sites.push(UnitPart::Declared(Declaration::Interface(is_local), &interface.name))?;
     if let Some(bases) = &interface.bases {
-        sites.push(Site::Tokens(1))?;
+        sites.push(UnitPart::Tokens(1))?;
         push_used(sites, Use::AsBase(is_local), bases)?;
     }
-    sites.push(Site::Tokens(1))?;
+    sites.push(UnitPart::Tokens(1))?;
     Ok(())
 }
 
 /// A declaration ahead.
-pub fn push_forward<'a>(sites: &mut Vec<Site<'a>>, forward: &'a Forward) -> Result<(), AllocError>
+pub fn push_forward<'a>(
+    sites: &mut Vec<UnitPart<'a>>,
+    forward: &'a Forward,
+) -> Result<(), AllocError>
     ensures { OnOk result (Pushes sites.old.items sites.new.items (forward_parts forward.now)) }
 {
     let (tokens, declaration, name) = match forward {
@@ -52,24 +55,24 @@ pub fn push_forward<'a>(sites: &mut Vec<Site<'a>>, forward: &'a Forward) -> Resu
         Forward::Structure(name) => (1, Declaration::StructureAhead, name),
         Forward::Union(name) => (1, Declaration::UnionAhead, name),
     };
-    sites.push(Site::Tokens(tokens))?;
-    sites.push(Site::Declared(declaration, name))?;
+    sites.push(UnitPart::Tokens(tokens))?;
+    sites.push(UnitPart::Declared(declaration, name))?;
     Ok(())
 }
 
 /// An attribute that is read alone.
 pub fn push_readonly_attribute<'a>(
-    sites: &mut Vec<Site<'a>>,
+    sites: &mut Vec<UnitPart<'a>>,
     attribute: &'a ReadonlyAttribute,
 ) -> Result<(), AllocError>
     ensures { OnOk result
         (Pushes sites.old.items sites.new.items (readonly_attribute_parts attribute.now)) }
 {
-    sites.push(Site::Tokens(2))?;
+    sites.push(UnitPart::Tokens(2))?;
     push_type(sites, &attribute.kind, Use::AsType)?;
     match &attribute.names {
         ReadonlyNames::Raising(name, raised) => {
-            sites.push(Site::Declared(Declaration::Attribute(true), name))?;
+            sites.push(UnitPart::Declared(Declaration::Attribute(true), name))?;
             push_raised(sites, Use::Raised, raised)
         }
         ReadonlyNames::Plain(names) => push_declared(sites, Declaration::Attribute(true), names),
@@ -78,17 +81,17 @@ pub fn push_readonly_attribute<'a>(
 
 /// An attribute that is read and written.
 pub fn push_attribute<'a>(
-    sites: &mut Vec<Site<'a>>,
+    sites: &mut Vec<UnitPart<'a>>,
     attribute: &'a Attribute,
 ) -> Result<(), AllocError>
     ensures { OnOk result
         (Pushes sites.old.items sites.new.items (attribute_parts attribute.now)) }
 {
-    sites.push(Site::Tokens(1))?;
+    sites.push(UnitPart::Tokens(1))?;
     push_type(sites, &attribute.kind, Use::AsType)?;
     match &attribute.names {
         AttributeNames::Raising(name, raises) => {
-            sites.push(Site::Declared(Declaration::Attribute(false), name))?;
+            sites.push(UnitPart::Declared(Declaration::Attribute(false), name))?;
             push_exceptions(sites, raises)
         }
         AttributeNames::Plain(names) => push_declared(sites, Declaration::Attribute(false), names),
@@ -97,7 +100,7 @@ pub fn push_attribute<'a>(
 
 /// What reading and writing an attribute raise.
 fn push_exceptions<'a>(
-    sites: &mut Vec<Site<'a>>,
+    sites: &mut Vec<UnitPart<'a>>,
     raises: &'a AttributeRaises,
 ) -> Result<(), AllocError>
     ensures { OnOk result (Pushes sites.old.items sites.new.items (exceptions_parts raises.now)) }
@@ -113,7 +116,7 @@ fn push_exceptions<'a>(
 
 /// What writing an attribute raises, if that is said.
 fn push_raised_by_set<'a>(
-    sites: &mut Vec<Site<'a>>,
+    sites: &mut Vec<UnitPart<'a>>,
     names: &'a Option<Several<ScopedName>>,
 ) -> Result<(), AllocError>
     ensures { OnOk result
@@ -127,7 +130,7 @@ fn push_raised_by_set<'a>(
 
 /// An operation.
 pub fn push_operation<'a>(
-    sites: &mut Vec<Site<'a>>,
+    sites: &mut Vec<UnitPart<'a>>,
     operation: &'a Operation,
 ) -> Result<(), AllocError>
     ensures { OnOk result
@@ -137,42 +140,42 @@ pub fn push_operation<'a>(
     push_oneway(sites, is_oneway)?;
     push_result(sites, is_oneway, &operation.result)?;
     let way = Declaration::Operation(is_oneway);
-    sites.push(Site::Declared(way, &operation.name))?;
-    sites.push(Site::ScopeBegins(way, &operation.name))?;
-    sites.push(Site::Tokens(1))?;
+    sites.push(UnitPart::Declared(way, &operation.name))?;
+    sites.push(UnitPart::ScopeBegins(way, &operation.name))?;
+    sites.push(UnitPart::Tokens(1))?;
     push_parameters(sites, is_oneway, &operation.parameters)?;
-    sites.push(Site::Tokens(1))?;
+    sites.push(UnitPart::Tokens(1))?;
     push_raises(sites, is_oneway, &operation.raises)?;
     push_context(sites, &operation.context)?;
-    sites.push(Site::ScopeEnds)?;
+    sites.push(UnitPart::ScopeEnds)?;
     Ok(())
 }
 
 /// The keyword of a `oneway` operation.
-fn push_oneway<'a>(sites: &mut Vec<Site<'a>>, is_oneway: bool) -> Result<(), AllocError>
+fn push_oneway<'a>(sites: &mut Vec<UnitPart<'a>>, is_oneway: bool) -> Result<(), AllocError>
     ensures { OnOk result (Pushes sites.old.items sites.new.items (oneway_parts is_oneway)) }
 {
     if is_oneway {
-        sites.push(Site::Tokens(1))?;
+        sites.push(UnitPart::Tokens(1))?;
     }
     Ok(())
 }
 
 /// Before what a `oneway` operation gives back.
-fn push_given_back<'a>(sites: &mut Vec<Site<'a>>, is_oneway: bool) -> Result<(), AllocError>
+fn push_given_back<'a>(sites: &mut Vec<UnitPart<'a>>, is_oneway: bool) -> Result<(), AllocError>
     ensures { OnOk result (Pushes sites.old.items sites.new.items (given_back is_oneway)) }
 {
     if is_oneway {
-        sites.push(Site::GivesBack)?;
+        sites.push(UnitPart::GivesBack)?;
     }
     Ok(())
 }
 
 /// The type of a result, or `void`.
 fn push_result<'a>(
-    sites: &mut Vec<Site<'a>>,
+    sites: &mut Vec<UnitPart<'a>>,
     is_oneway: bool,
-    kind: &'a Option<DataType>,
+    kind: &'a Option<TypeTree>,
 ) -> Result<(), AllocError>
     ensures { OnOk result
         (Pushes sites.old.items sites.new.items (result_parts is_oneway kind.now)) }
@@ -183,7 +186,7 @@ fn push_result<'a>(
             push_type(sites, kind, Use::AsType)
         }
         None => {
-            sites.push(Site::Tokens(1))?;
+            sites.push(UnitPart::Tokens(1))?;
             Ok(())
         }
     }
@@ -191,7 +194,7 @@ fn push_result<'a>(
 
 /// The parameters, if there are any.
 fn push_parameters<'a>(
-    sites: &mut Vec<Site<'a>>,
+    sites: &mut Vec<UnitPart<'a>>,
     is_oneway: bool,
     parameters: &'a Option<Several<Parameter>>,
 ) -> Result<(), AllocError>
@@ -206,7 +209,7 @@ fn push_parameters<'a>(
 
 /// Parameters, with commas between.
 fn push_several_parameters<'a>(
-    sites: &mut Vec<Site<'a>>,
+    sites: &mut Vec<UnitPart<'a>>,
     is_oneway: bool,
     parameters: &'a Several<Parameter>,
 ) -> Result<(), AllocError>
@@ -215,7 +218,7 @@ fn push_several_parameters<'a>(
 {
     push_parameter(sites, is_oneway, &parameters.first)?;
     for parameter in parameters.rest.as_slice() {
-        sites.push(Site::Tokens(1))?;
+        sites.push(UnitPart::Tokens(1))?;
         push_parameter(sites, is_oneway, parameter)?;
     }
     Ok(())
@@ -223,7 +226,7 @@ fn push_several_parameters<'a>(
 
 /// A parameter.
 fn push_parameter<'a>(
-    sites: &mut Vec<Site<'a>>,
+    sites: &mut Vec<UnitPart<'a>>,
     is_oneway: bool,
     parameter: &'a Parameter,
 ) -> Result<(), AllocError>
@@ -233,13 +236,13 @@ fn push_parameter<'a>(
     push_direction(sites, is_oneway, parameter.direction)?;
     push_type(sites, &parameter.kind, Use::AsType)?;
     let way = Declaration::Parameter(parameter.direction);
-    sites.push(Site::Declared(way, &parameter.name))?;
+    sites.push(UnitPart::Declared(way, &parameter.name))?;
     Ok(())
 }
 
 /// The direction of a parameter.
 fn push_direction<'a>(
-    sites: &mut Vec<Site<'a>>,
+    sites: &mut Vec<UnitPart<'a>>,
     is_oneway: bool,
     direction: Direction,
 ) -> Result<(), AllocError>
@@ -250,13 +253,13 @@ fn push_direction<'a>(
         Direction::In => {}
         Direction::Out | Direction::InOut => push_given_back(sites, is_oneway)?,
     }
-    sites.push(Site::Tokens(1))?;
+    sites.push(UnitPart::Tokens(1))?;
     Ok(())
 }
 
 /// What an operation raises, if that is said.
 fn push_raises<'a>(
-    sites: &mut Vec<Site<'a>>,
+    sites: &mut Vec<UnitPart<'a>>,
     is_oneway: bool,
     names: &'a Option<Several<ScopedName>>,
 ) -> Result<(), AllocError>
@@ -274,7 +277,7 @@ fn push_raises<'a>(
 
 /// The context of an operation, if it has one.
 fn push_context<'a>(
-    sites: &mut Vec<Site<'a>>,
+    sites: &mut Vec<UnitPart<'a>>,
     context: &'a Option<Boxed<Several<Several<Seq<u16>>>>>,
 ) -> Result<(), AllocError>
     ensures { OnOk result
@@ -288,17 +291,17 @@ fn push_context<'a>(
 
 /// The texts of a context.
 fn push_texts<'a>(
-    sites: &mut Vec<Site<'a>>,
+    sites: &mut Vec<UnitPart<'a>>,
     texts: &'a Several<Several<Seq<u16>>>,
 ) -> Result<(), AllocError>
     ensures { OnOk result (Pushes sites.old.items sites.new.items (context_parts texts.now)) }
 {
-    sites.push(Site::Tokens(2))?;
-    sites.push(Site::Joined(&texts.first))?;
+    sites.push(UnitPart::Tokens(2))?;
+    sites.push(UnitPart::Joined(&texts.first))?;
     for text in texts.rest.as_slice() {
-        sites.push(Site::Tokens(1))?;
-        sites.push(Site::Joined(text))?;
+        sites.push(UnitPart::Tokens(1))?;
+        sites.push(UnitPart::Joined(text))?;
     }
-    sites.push(Site::Tokens(1))?;
+    sites.push(UnitPart::Tokens(1))?;
     Ok(())
 }

@@ -54,7 +54,7 @@ pub enum Use {
 
 /// What an expression is for.
 #[derive(Clone, Copy)]
-pub enum Target {
+pub enum Purpose {
     /// The bound of a string or a sequence.
     Bound,
     /// The length of an array.
@@ -77,7 +77,7 @@ pub enum Shape {
 
 /// A part of a unit: tokens, or what begins or ends between two of them. What it names is lent by the unit's tree.
 #[derive(Clone, Copy)]
-pub enum Site<'a> {
+pub enum UnitPart<'a> {
     /// So many tokens that declare and use nothing.
     Tokens(usize),
     /// A name that is declared.
@@ -89,7 +89,7 @@ pub enum Site<'a> {
     /// An expression begins.
     ValueBegins,
     /// That expression ends: what it is for, and its tree.
-    ValueEnds(Target, &'a Expression),
+    ValueEnds(Purpose, &'a Expression),
     /// The scope of what is declared so, by this name, begins.
     ScopeBegins(Declaration, &'a Bytes),
     /// That scope ends.

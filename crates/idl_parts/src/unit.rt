@@ -10,7 +10,7 @@ use crate::expression::push_value;
 use crate::interface::{
     push_attribute, push_forward, push_interface, push_operation, push_readonly_attribute,
 };
-use crate::part::{Declaration, Site, Target};
+use crate::part::{Declaration, Purpose, UnitPart};
 use idl_base::Bytes;
 use idl_tree::{Constant, Exception, Tree, Typedef};
 use std::alloc::{AllocError, Global};
@@ -20,7 +20,7 @@ const ROOM: usize = 32;
 
 /// The sites of a unit, in the order of its tokens: its parts, as `specs/UnitParts.antt` gives them
 /// for each production.
-pub fn sites(alloc: Global, tree: &Tree) -> Result<Vec<Site<'_>>, AllocError>
+pub fn sites(alloc: Global, tree: &Tree) -> Result<Vec<UnitPart<'_>>, AllocError>
     ensures { IfOk result (λ sites. map item_at sites.items ≡ items (unit_parts tree.now)) }
 {
     let mut sites = Vec::with_capacity(alloc, ROOM)?;
@@ -30,12 +30,12 @@ pub fn sites(alloc: Global, tree: &Tree) -> Result<Vec<Site<'_>>, AllocError>
 
 /// A unit.
 #[tactic(auto, unfolding(crate::specs::UnitParts::unit_parts))]
-fn push_unit<'a>(sites: &mut Vec<Site<'a>>, tree: &'a Tree) -> Result<(), AllocError>
+fn push_unit<'a>(sites: &mut Vec<UnitPart<'a>>, tree: &'a Tree) -> Result<(), AllocError>
     ensures { OnOk result (Pushes sites.old.items sites.new.items (unit_parts tree.now)) }
 {
     match tree {
         Tree::Closing => {
-            sites.push(Site::Tokens(2))?;
+            sites.push(UnitPart::Tokens(2))?;
             return Ok(());
         }
         Tree::Module(name) => return push_module(sites, name),
@@ -50,62 +50,68 @@ fn push_unit<'a>(sites: &mut Vec<Site<'a>>, tree: &'a Tree) -> Result<(), AllocE
         Tree::Attribute(attribute) => push_attribute(sites, attribute)?,
         Tree::Operation(operation) => push_operation(sites, operation)?,
     }
-    sites.push(Site::Tokens(1))?;
+    sites.push(UnitPart::Tokens(1))?;
     Ok(())
 }
 
 /// The opening of a module.
-fn push_module<'a>(sites: &mut Vec<Site<'a>>, name: &'a Bytes) -> Result<(), AllocError>
+fn push_module<'a>(sites: &mut Vec<UnitPart<'a>>, name: &'a Bytes) -> Result<(), AllocError>
     ensures { OnOk result (Pushes sites.old.items sites.new.items (module_parts name.now)) }
 {
-    sites.push(Site::Tokens(1))?;
-    sites.push(Site::Declared(Declaration::Module, name))?;
-    sites.push(Site::Tokens(1))?;
+    sites.push(UnitPart::Tokens(1))?;
+    sites.push(UnitPart::Declared(Declaration::Module, name))?;
+    sites.push(UnitPart::Tokens(1))?;
     Ok(())
 }
 
 /// A native type.
-fn push_native<'a>(sites: &mut Vec<Site<'a>>, name: &'a Bytes) -> Result<(), AllocError>
+fn push_native<'a>(sites: &mut Vec<UnitPart<'a>>, name: &'a Bytes) -> Result<(), AllocError>
     ensures { OnOk result (Pushes sites.old.items sites.new.items (native_parts name.now)) }
 {
-    sites.push(Site::Tokens(1))?;
-    sites.push(Site::Declared(Declaration::Native, name))?;
+    sites.push(UnitPart::Tokens(1))?;
+    sites.push(UnitPart::Declared(Declaration::Native, name))?;
     Ok(())
 }
 
 /// A typedef.
-fn push_typedef<'a>(sites: &mut Vec<Site<'a>>, typedef: &'a Typedef) -> Result<(), AllocError>
+fn push_typedef<'a>(sites: &mut Vec<UnitPart<'a>>, typedef: &'a Typedef) -> Result<(), AllocError>
     ensures { OnOk result (Pushes sites.old.items sites.new.items (typedef_parts typedef.now)) }
 {
-    sites.push(Site::Tokens(1))?;
+    sites.push(UnitPart::Tokens(1))?;
     push_member_type(sites, &typedef.kind)?;
     push_declarators(sites, Declaration::Alias, &typedef.declarators)
 }
 
 /// A constant.
-fn push_constant<'a>(sites: &mut Vec<Site<'a>>, constant: &'a Constant) -> Result<(), AllocError>
+fn push_constant<'a>(
+    sites: &mut Vec<UnitPart<'a>>,
+    constant: &'a Constant,
+) -> Result<(), AllocError>
     ensures { OnOk result (Pushes sites.old.items sites.new.items (constant_parts constant.now)) }
 {
-    sites.push(Site::Tokens(1))?;
+    sites.push(UnitPart::Tokens(1))?;
     push_constant_type(sites, &constant.kind)?;
-    sites.push(Site::Declared(Declaration::Constant, &constant.name))?;
-    sites.push(Site::Tokens(1))?;
-    push_value(sites, Target::Constant, &constant.value)
+    sites.push(UnitPart::Declared(Declaration::Constant, &constant.name))?;
+    sites.push(UnitPart::Tokens(1))?;
+    push_value(sites, Purpose::Constant, &constant.value)
 }
 
 /// An exception.
-fn push_exception<'a>(sites: &mut Vec<Site<'a>>, exception: &'a Exception) -> Result<(), AllocError>
+fn push_exception<'a>(
+    sites: &mut Vec<UnitPart<'a>>,
+    exception: &'a Exception,
+) -> Result<(), AllocError>
     ensures { OnOk result
         (Pushes sites.old.items sites.new.items (exception_parts exception.now)) }
 {
-    sites.push(Site::Tokens(1))?;
-    sites.push(Site::Declared(Declaration::Exception, &exception.name))?;
-    sites.push(Site::Tokens(1))?;
-    sites.push(Site::ScopeBegins(Declaration::Exception, &exception.name))?;
+    sites.push(UnitPart::Tokens(1))?;
+    sites.push(UnitPart::Declared(Declaration::Exception, &exception.name))?;
+    sites.push(UnitPart::Tokens(1))?;
+    sites.push(UnitPart::ScopeBegins(Declaration::Exception, &exception.name))?;
     for member in exception.members.as_slice() {
         push_member(sites, member)?;
     }
-    sites.push(Site::ScopeEnds)?;
-    sites.push(Site::Tokens(1))?;
+    sites.push(UnitPart::ScopeEnds)?;
+    sites.push(UnitPart::Tokens(1))?;
     Ok(())
 }

@@ -7,10 +7,10 @@ use Rattle.idl_memo.specs.Query.{Done, and_then, asked, outcome}
 use Rattle.idl_memo.proofs.QueryLaws.{outcome-and_then}
 use Rattle.idl_event.specs.Expanding.{Expanding}
 use Rattle.idl_fault.specs.declared.file_name.FileName.{FileName}
-use Rattle.idl_event.specs.declared.asked.key.Answer.{Answer}
-use Rattle.idl_event.specs.declared.asked.key.Answer.TheVariants as answer
-use Rattle.idl_event.specs.declared.asked.key.Key.{Key}
-use Rattle.idl_event.specs.declared.asked.key.Key.TheVariants as key
+use Rattle.idl_event.specs.declared.asked.key.RootAnswer.{RootAnswer}
+use Rattle.idl_event.specs.declared.asked.key.RootAnswer.TheVariants as answer
+use Rattle.idl_event.specs.declared.asked.key.RootKey.{RootKey}
+use Rattle.idl_event.specs.declared.asked.key.RootKey.TheVariants as key
 use Rattle.idl_prep.specs.Candidate.{AnswersFrom, IsFirstPresent, files_asked, up_to_present}
 use Rattle.idl_prep.specs.Include.{Found, Operand, directories_in, file_in, file_of, first_present, or_along, present_along}
 use Rattle.idl_prep.proofs.IncludeLemmas.{cons_option-append, first_present-more, one, or_first, outcome-present_along}
@@ -20,7 +20,7 @@ use Rattle.idl_source.specs.names.Path.{is_rooted, joined_path}
 use Rattle.idl_source.specs.texts.Texts.{Texts}
 
 -- over any bank: the first candidate along the search list that it answers with
-module _ (bank : Key → Option Answer) (from : FileName) (name : List ℕ) where
+module _ (bank : RootKey → Option RootAnswer) (from : FileName) (name : List ℕ) where
   abbrev listed : List (List ℕ)
   listed = directories_in (bank key.Search)
 
@@ -46,13 +46,13 @@ module _ (bank : Key → Option Answer) (from : FileName) (name : List ℕ) wher
   outcome-chosen false true = outcome-beside
   outcome-chosen false false = outcome-present_along bank name
 
-pub outcome-file_of : (bank : Key → Option Answer) (from : FileName) (o : Operand)
+pub outcome-file_of : (bank : RootKey → Option RootAnswer) (from : FileName) (o : Operand)
     → outcome (file_of from o) bank ≡ outcome (first_present (candidates (directories_in (bank key.Search)) from o.name o.is_quoted)) bank
 unfolding file_of candidates
 outcome-file_of bank from o = outcome-chosen bank from o.name (is_rooted o.name) o.is_quoted
 
 -- over a bank of files: the first of these names that is present, with its lines
-module _ (files : Texts) (directories : List (List ℕ)) (bank : Key → Option Answer) (answers : AnswersFrom files directories bank) where
+module _ (files : Texts) (directories : List (List ℕ)) (bank : RootKey → Option RootAnswer) (answers : AnswersFrom files directories bank) where
   lines_in : (lines : Option (List (List ℕ))) → file_in (option_map answer.File lines) ≡ lines
   lines_in None = refl
   lines_in (Some lines) = refl

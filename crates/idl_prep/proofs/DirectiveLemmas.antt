@@ -8,8 +8,8 @@ use Rattle.idl_event.specs.Expanding.{Expanding, Reached, arrival, arrived}
 use Rattle.idl_fault.specs.declared.file_name.FileName.{FileName}
 use Rattle.idl_event.specs.declared.told.event.Event.TheVariants.{Pragma}
 use Rattle.idl_event.specs.declared.told.event.Item.TheVariants as item
-use Rattle.idl_event.specs.declared.asked.key.Answer.{Answer}
-use Rattle.idl_event.specs.declared.asked.key.Key.{Key}
+use Rattle.idl_event.specs.declared.asked.key.RootAnswer.{RootAnswer}
+use Rattle.idl_event.specs.declared.asked.key.RootKey.{RootKey}
 use Rattle.idl_lex.specs.tokens.Tokens.{tokens_in}
 use Rattle.idl_macro.specs.Replace.{place_at}
 use Rattle.idl_text.specs.Line.{Directive, Directed}
@@ -22,7 +22,7 @@ use Rattle.idl_prep.specs.Place.{place_in}
 use Rattle.idl_prep.specs.State.{Said, Way, ended, onward, telling}
 use Rattle.idl_prep.proofs.WalkLaws.WayLemmas.{arrival-then}
 
-module _ (bank : Key → Option Answer) (enter : Enter) (file : FileName) (d : Directive) where
+module _ (bank : RootKey → Option RootAnswer) (enter : Enter) (file : FileName) (d : Directive) where
   -- a directive of one line: a turn, and what it does
   pub acted : (what kind : Plain) (way turned : Way) (came : Reached × Option Said) → d.kind ≡ Alone what → what ≡ kind
       → turned ≡ telling (item.Turn (place_in file d)) way → came ≡ onward bank (λ s. plain_effect enter file d s kind) turned → came ≡ onward bank (effect enter file (Directed d)) way
@@ -57,7 +57,7 @@ module _ (bank : Key → Option Answer) (enter : Enter) (file : FileName) (d : D
       → onward bank (enter (place_in file d) f.name f.lines) way ≡ onward bank (λ s. entering enter (place_in file d) o s (Some f)) way
   onward-entering-new o f way new = ap (λ b. arrival bank (if b then Done way.state else enter (place_in file d) f.name f.lines way.state) way.progress) (sym new)
 
-module _ (bank : Key → Option Answer) (file : FileName) (d : Directive) (way : Way) where
+module _ (bank : RootKey → Option RootAnswer) (file : FileName) (d : Directive) (way : Way) where
   onward-pragma_by : (o : Option (List ℕ)) → first_spelling d.operands ≡ o → onward bank (λ s. pragma_by file d s o) way ≡ onward bank (pragma file d) way
   unfolding pragma
   onward-pragma_by o first = ap (λ (o : Option (List ℕ)). onward bank (λ s. pragma_by file d s o) way) (sym first)

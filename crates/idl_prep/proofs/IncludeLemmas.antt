@@ -14,9 +14,9 @@ use Rattle.idl_lex.specs.kinds.Word.{is_word}
 use Rattle.idl_fault.specs.declared.file_name.FileName.{FileName}
 use Rattle.idl_event.specs.declared.told.event.Item.TheVariants.{Counted}
 use Rattle.idl_fault.specs.declared.place.Place.{Place}
-use Rattle.idl_event.specs.declared.asked.key.Answer.{Answer}
-use Rattle.idl_event.specs.declared.asked.key.Key.{Key}
-use Rattle.idl_event.specs.declared.asked.key.Key.TheVariants as key
+use Rattle.idl_event.specs.declared.asked.key.RootAnswer.{RootAnswer}
+use Rattle.idl_event.specs.declared.asked.key.RootKey.{RootKey}
+use Rattle.idl_event.specs.declared.asked.key.RootKey.TheVariants as key
 use Rattle.idl_prep.specs.Include.{Found, Operand, directories_in, file_in, file_of, first_present, operand_at, operand_by, operand_given, operand_in, or_along, present_along}
 use Rattle.idl_source.specs.names.Directory.{directory_of}
 use Rattle.idl_prep.proofs.WalkLaws.WayLemmas.{arrival-then}
@@ -31,7 +31,7 @@ found_as name lines = option_map (λ ls. record { name = name; lines = ls }) lin
 abbrev pub one : Option (List ℕ) → Expanding (Option Found)
 one name = first_present (option_to_list name)
 
-module _ (bank : Key → Option Answer) where
+module _ (bank : RootKey → Option RootAnswer) where
   -- there is no name, and nothing is asked
   pub arrival-one-none : (o : Option (List ℕ)) (p : Reached) → o ≡ None → arrived None p ≡ arrival bank (one o) p
   unfolding first_present
@@ -87,7 +87,7 @@ along-drop directories i directory name lt is =
     ∙ ap (λ (d : List ℕ). option_to_list (joined_path d name) ++ along (drop (i + 1) directories) name) (sym is)
 
 -- the next directory is searched, and where nothing is found there, those that follow
-pub arrival-along : (bank : Key → Option Answer) (directories : List (List ℕ)) (i : ℕ) (directory name : List ℕ) (f : Option Found) (p p' : Reached)
+pub arrival-along : (bank : RootKey → Option RootAnswer) (directories : List (List ℕ)) (i : ℕ) (directory name : List ℕ) (f : Option Found) (p p' : Reached)
     → i < length directories → directory ≡ get_or directories i directory → arrived f p' ≡ arrival bank (one (joined_path directory name)) p
     → arrival bank (or_first (along (drop (i + 1) directories) name) f) p' ≡ arrival bank (first_present (along (drop i directories) name)) p
 arrival-along bank directories i directory name f p p' lt is came =
@@ -97,11 +97,11 @@ arrival-along bank directories i directory name f p p' lt is came =
     ∙ ap (λ (names : List (List ℕ)). arrival bank (first_present names) p) (sym (along-drop directories i directory name lt is))
 
 -- the search along the search list begins with its directories
-pub outcome-present_along : (bank : Key → Option Answer) (name : List ℕ) → outcome (present_along name) bank ≡ outcome (first_present (along (directories_in (bank key.Search)) name)) bank
+pub outcome-present_along : (bank : RootKey → Option RootAnswer) (name : List ℕ) → outcome (present_along name) bank ≡ outcome (first_present (along (directories_in (bank key.Search)) name)) bank
 unfolding present_along
 outcome-present_along bank name = refl
 
-pub arrival-present_along : (bank : Key → Option Answer) (name : List ℕ) (p : Reached)
+pub arrival-present_along : (bank : RootKey → Option RootAnswer) (name : List ℕ) (p : Reached)
     → arrival bank (present_along name) p ≡ arrival bank (first_present (along (directories_in (bank key.Search)) name)) (after_key key_eq bank key.Search p)
 unfolding present_along
 arrival-present_along bank name p = refl
@@ -128,7 +128,7 @@ module _ (from : FileName) (o : Operand) where
       ∙ ap (λ b. if b then and_then (one (joined_path (directory_of from) o.name)) (or_along o.name) else present_along o.name) q
 
   -- in quotes, by what stands beside the including file
-  pub arrival-file_of-quoted : (bank : Key → Option Answer) (f : Option Found) (p p' : Reached) → is_rooted o.name ≡ false → o.is_quoted ≡ true
+  pub arrival-file_of-quoted : (bank : RootKey → Option RootAnswer) (f : Option Found) (p p' : Reached) → is_rooted o.name ≡ false → o.is_quoted ≡ true
       → arrived f p' ≡ arrival bank (one (joined_path (directory_of from) o.name)) p → arrival bank (or_along o.name f) p' ≡ arrival bank (file_of from o) p
   arrival-file_of-quoted bank f p p' h q came =
       arrival-then bank (one (joined_path (directory_of from) o.name)) (or_along o.name) f p p' came
@@ -143,7 +143,7 @@ module _ (place : Place) (definitions : Definitions) (t : Token) where
       ∙ ap (λ b. if b then and_then (macro_of definitions t) (operand_by place definitions t) else Done None) word
 
 -- it is that which the word's macro gives
-pub arrival-operand_at-word : (bank : Key → Option Answer) (place : Place) (definitions : Definitions) (t : Token) (body : Option (List Token)) (p p' : Reached)
+pub arrival-operand_at-word : (bank : RootKey → Option RootAnswer) (place : Place) (definitions : Definitions) (t : Token) (body : Option (List Token)) (p p' : Reached)
     → operand_in t ≡ None → is_word t ≡ true → arrived body p' ≡ arrival bank (macro_of definitions t) p
     → arrival bank (operand_by place definitions t body) p' ≡ arrival bank (operand_at place definitions t) p
 arrival-operand_at-word bank place definitions t body p p' none word came =
@@ -151,7 +151,7 @@ arrival-operand_at-word bank place definitions t body p p' none word came =
     ∙ ap (λ (e : Expanding (Option Operand)). arrival bank e p) (sym (operand_at-word place definitions t none word))
 
 -- what the tokens of its replacement give
-pub arrived-operand_by : (bank : Key → Option Answer) (place : Place) (definitions : Definitions) (t : Token) (body given : List Token) (p p' : Reached)
+pub arrived-operand_by : (bank : RootKey → Option RootAnswer) (place : Place) (definitions : Definitions) (t : Token) (body given : List Token) (p p' : Reached)
     → arrived given p' ≡ arrival bank (operand place definitions (t ∷ [])) p
     → arrived (operand_given given) p' ≡ arrival bank (operand_by place definitions t (Some body)) p
 arrived-operand_by bank place definitions t body given p p' came =

@@ -2,16 +2,16 @@
 use Rattle.std.specs.Prelude.{◌≡◌, ℕ, List, [], ◌∷◌, Option, Some, is_some, if◌then◌else◌}
 use Rattle.std.specs.FinMap as map
 use Rattle.std.specs.Option.{option_map}
-use Rattle.idl_event.specs.declared.asked.key.Answer.{Answer}
-use Rattle.idl_event.specs.declared.asked.key.Answer.TheVariants as answer
-use Rattle.idl_event.specs.declared.asked.key.Key.{Key}
-use Rattle.idl_event.specs.declared.asked.key.Key.TheVariants as key
+use Rattle.idl_event.specs.declared.asked.key.RootAnswer.{RootAnswer}
+use Rattle.idl_event.specs.declared.asked.key.RootAnswer.TheVariants as answer
+use Rattle.idl_event.specs.declared.asked.key.RootKey.{RootKey}
+use Rattle.idl_event.specs.declared.asked.key.RootKey.TheVariants as key
 use Rattle.idl_prep.specs.Include.{Found}
 use Rattle.idl_source.specs.names.Candidates.{found}
 use Rattle.idl_source.specs.texts.Texts.{Texts}
 
 -- the bank answers with these files and this search list
-pub record AnswersFrom (files : Texts) (directories : List (List ℕ)) (bank : Key → Option Answer)
+pub record AnswersFrom (files : Texts) (directories : List (List ℕ)) (bank : RootKey → Option RootAnswer)
     : Type 0 where
   pub by_name : (name : List ℕ) → bank (key.File name) ≡ option_map answer.File (map.get files name)
   pub listed : bank key.Search ≡ Some (answer.Search directories)
@@ -23,7 +23,7 @@ pub record IsFirstPresent (files : Texts) (names : List (List ℕ)) (file : Opti
   pub lines : (f : Found) → file ≡ Some f → map.get files f.name ≡ Some f.lines
 
 -- the names of the files among the keys that are asked
-abbrev pub files_asked : List Key → List (List ℕ)
+abbrev pub files_asked : List RootKey → List (List ℕ)
 files_asked [] = []
 files_asked (key.Macro word ∷ keys) = files_asked keys
 files_asked (key.File name ∷ keys) = name ∷ files_asked keys

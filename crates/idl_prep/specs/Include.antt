@@ -4,8 +4,8 @@ use Rattle.std.specs.Option.{option_to_list}
 use Rattle.idl_memo.specs.Query.{Done, Ask, Tell, and_then}
 use Rattle.idl_lex.specs.kinds.Kind.{kind_of}
 use Rattle.idl_lex.specs.tokens.Tokens.{Token}
-use Rattle.idl_lex.specs.declared.kinds.kind.Kind.{Kind}
-use Rattle.idl_lex.specs.declared.kinds.kind.Kind.TheVariants.{HeaderName, String, Bad}
+use Rattle.idl_lex.specs.declared.kinds.kind.TokenKind.{TokenKind}
+use Rattle.idl_lex.specs.declared.kinds.kind.TokenKind.TheVariants.{HeaderName, String, Bad}
 use Rattle.idl_lex.specs.declared.kinds.kind.Defect.{Defect}
 use Rattle.idl_lex.specs.declared.kinds.kind.Defect.TheVariants.{BadEscape}
 use Rattle.idl_lex.specs.declared.tokens.token.PlacedToken.{PlacedToken}
@@ -15,23 +15,23 @@ use Rattle.idl_macro.specs.Replace.{operand}
 use Rattle.idl_lex.specs.kinds.Word.{is_word}
 use Rattle.idl_fault.specs.declared.file_name.FileName.{FileName}
 use Rattle.idl_event.specs.declared.told.event.Item.TheVariants.{Counted}
-use Rattle.idl_event.specs.declared.asked.key.Answer.{Answer}
-use Rattle.idl_event.specs.declared.asked.key.Answer.TheVariants as answer
-use Rattle.idl_event.specs.declared.asked.key.Key.TheVariants as key
+use Rattle.idl_event.specs.declared.asked.key.RootAnswer.{RootAnswer}
+use Rattle.idl_event.specs.declared.asked.key.RootAnswer.TheVariants as answer
+use Rattle.idl_event.specs.declared.asked.key.RootKey.TheVariants as key
 use Rattle.idl_fault.specs.declared.place.Place.{Place}
 use Rattle.idl_source.specs.names.Candidates.{along}
 use Rattle.idl_source.specs.names.Directory.{directory_of}
 use Rattle.idl_source.specs.names.Path.{is_rooted, joined_path}
 
 -- the lines of a file that is answered
-abbrev pub file_in : Option Answer → Option (List (List ℕ))
+abbrev pub file_in : Option RootAnswer → Option (List (List ℕ))
 file_in None = None
 file_in (Some (answer.Macro text)) = None
 file_in (Some (answer.File text)) = Some text
 file_in (Some (answer.Search directories)) = None
 
 -- the directories that are answered
-abbrev pub directories_in : Option Answer → List (List ℕ)
+abbrev pub directories_in : Option RootAnswer → List (List ℕ)
 directories_in None = []
 directories_in (Some (answer.Macro text)) = []
 directories_in (Some (answer.File text)) = []
@@ -91,7 +91,7 @@ abbrev pub is_bad_escape : Defect → Bool
 is_bad_escape BadEscape = true
 is_bad_escape other = false
 
-abbrev pub is_closed : Kind → Bool
+abbrev pub is_closed : TokenKind → Bool
 is_closed String = true
 is_closed (Bad defect) = is_bad_escape defect
 is_closed other = false
@@ -99,7 +99,7 @@ is_closed other = false
 abbrev pub is_string : Token → Bool
 is_string t = begins_quoted t && is_closed (kind_of t)
 
-abbrev pub is_header_kind : Kind → Bool
+abbrev pub is_header_kind : TokenKind → Bool
 is_header_kind HeaderName = true
 is_header_kind other = false
 

@@ -3,8 +3,8 @@ use Rattle.std.specs.Prelude.{Bool, true, false, List, [], ◌∷◌, if◌then�
 use Rattle.idl_memo.specs.Query.{Done, and_then}
 use Rattle.idl_event.specs.Expanding.{Expanding, Reached}
 use Rattle.idl_fault.specs.declared.file_name.FileName.{FileName}
-use Rattle.idl_event.specs.declared.asked.key.Answer.{Answer}
-use Rattle.idl_event.specs.declared.asked.key.Key.{Key}
+use Rattle.idl_event.specs.declared.asked.key.RootAnswer.{RootAnswer}
+use Rattle.idl_event.specs.declared.asked.key.RootKey.{RootKey}
 use Rattle.idl_text.specs.Line.{Line}
 use Rattle.idl_text.specs.Tree.{Tree, Forest, Branches, Part, close, part, strays}
 use Rattle.idl_prep.specs.Directive.{Enter}
@@ -38,7 +38,7 @@ coming enter file (g ∷ gs) p s =
 
 -- where a root comes to by these lines, inside these open groups
 abbrev pub to_come :
-    (Key → Option Answer) → Enter → FileName → List Group → List Line → Way → Reached × Option Said
+    (RootKey → Option RootAnswer) → Enter → FileName → List Group → List Line → Way → Reached × Option Said
 to_come bank enter file gs lines way = onward bank (coming enter file gs (part lines)) way
 
 -- a group that was opened so

@@ -1,7 +1,7 @@
 -- A line as the code holds it.
 use Rattle.idl_text.specs.Line.{Line, Text, NullDirective, Directed}
-use Rattle.idl_prep.specs.declared.directives.line.Line as declared
-use Rattle.idl_prep.specs.declared.directives.line.Line.TheVariants as held
+use Rattle.idl_prep.specs.declared.directives.line.LineKind as declared
+use Rattle.idl_prep.specs.declared.directives.line.LineKind.TheVariants as held
 
 -- the line that it stands for
 abbrev pub line_of : declared.Line → Line

@@ -10,9 +10,9 @@ use Rattle.idl_fault.specs.declared.code.Code.TheVariants.{NotFound}
 use Rattle.idl_event.specs.declared.told.event.Event.{Event}
 use Rattle.idl_event.specs.declared.told.event.Event.TheVariants.{Entered, Left, Fault}
 use Rattle.idl_event.specs.declared.told.event.Item.TheVariants.{TooDeep, Kept}
-use Rattle.idl_event.specs.declared.asked.key.Answer.{Answer}
-use Rattle.idl_event.specs.declared.asked.key.Key.{Key}
-use Rattle.idl_event.specs.declared.asked.key.Key.TheVariants as key
+use Rattle.idl_event.specs.declared.asked.key.RootAnswer.{RootAnswer}
+use Rattle.idl_event.specs.declared.asked.key.RootKey.{RootKey}
+use Rattle.idl_event.specs.declared.asked.key.RootKey.TheVariants as key
 use Rattle.idl_text.specs.Line.{lines_in}
 use Rattle.idl_text.specs.Tree.{tree}
 use Rattle.idl_prep.specs.Directive.{Enter}
@@ -44,21 +44,21 @@ unfoldable pub root : FileName → Expanding Said
 root name = Ask (key.File name) (λ found. root_lines name (file_in found))
 
 -- the expansion of a root, under the limits: it asks what the root asks, and gives the events
-unfoldable pub expansion : List ℕ → Query Key (Option Answer) (Unit {0}) (List Event)
+unfoldable pub expansion : List ℕ → Query RootKey (Option RootAnswer) (Unit {0}) (List Event)
 expansion name =
     and_then (kept_within (Unit {0}) rules [] whole_allowance (root name)) (λ given. Done given.0)
 
 -- the events of a root, and its log of what it asked, over a bank
-abbrev pub expanded : List ℕ → (Key → Option Answer) → List Event × List (Key × Option Answer)
+abbrev pub expanded : List ℕ → (RootKey → Option RootAnswer) → List Event × List (RootKey × Option RootAnswer)
 expanded name bank = run key_eq (expansion name) bank []
 
 -- the name of a file that was asked for and isn't there
-abbrev pub absent_file : Key × Option Answer → List (List ℕ)
+abbrev pub absent_file : RootKey × Option RootAnswer → List (List ℕ)
 absent_file (key.Macro word, answer) = []
 absent_file (key.File name, None) = name ∷ []
 absent_file (key.File name, Some answer) = []
 absent_file (key.Search, answer) = []
 
 -- the files that were asked for and aren't there, in the order in which they were first asked
-unfoldable pub absent_files : List (Key × Option Answer) → List (List ℕ)
+unfoldable pub absent_files : List (RootKey × Option RootAnswer) → List (List ℕ)
 absent_files log = flat_map absent_file log

@@ -5,8 +5,8 @@ use Rattle.idl_event.specs.Items.{rules}
 use Rattle.idl_event.specs.Expanding.{Expanding, Reached, arrival, arrived}
 use Rattle.idl_macro.specs.Macros.{Definitions}
 use Rattle.idl_event.specs.declared.told.event.Item.{Item}
-use Rattle.idl_event.specs.declared.asked.key.Answer.{Answer}
-use Rattle.idl_event.specs.declared.asked.key.Key.{Key}
+use Rattle.idl_event.specs.declared.asked.key.RootAnswer.{RootAnswer}
+use Rattle.idl_event.specs.declared.asked.key.RootKey.{RootKey}
 
 -- what was said of macros, and the files that are not to be entered again
 pub record Said : Type 0 where
@@ -32,5 +32,5 @@ ended way = arrived way.state way.progress
 
 -- where a root comes to by a query of what it has said
 abbrev pub onward :
-    {A : Type 0} → (Key → Option Answer) → (Said → Expanding A) → Way → Reached × Option A
+    {A : Type 0} → (RootKey → Option RootAnswer) → (Said → Expanding A) → Way → Reached × Option A
 onward bank query way = arrival bank (query way.state) way.progress

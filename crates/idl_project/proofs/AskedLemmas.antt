@@ -9,19 +9,19 @@ use Rattle.std.specs.List.{list_any, slice_get}
 use Rattle.std.specs.Map.{keys_of, lookup}
 use Rattle.std.specs.Option.{IfNone, IfSome, option_copied, option_map, option_to_list}
 use Rattle.std.specs.Str.{bytes_eq}
-use Rattle.idl_event.specs.declared.asked.key.Answer.{Answer}
-use Rattle.idl_event.specs.declared.asked.key.Key.{Key}
-use Rattle.idl_event.specs.declared.asked.key.Key.TheVariants as key
+use Rattle.idl_event.specs.declared.asked.key.RootAnswer.{RootAnswer}
+use Rattle.idl_event.specs.declared.asked.key.RootKey.{RootKey}
+use Rattle.idl_event.specs.declared.asked.key.RootKey.TheVariants as key
 use Rattle.idl_project.specs.Asked.{asked_file, asked_files, asked_over}
 use Rattle.idl_project.specs.UpToDate.{AreKept, IsKept}
 use Rattle.idl_project.specs.declared.kept_root.KeptRoot.{KeptRoot}
 
-module _ (log : List (Key × Option Answer)) (i : ℕ) where
+module _ (log : List (RootKey × Option RootAnswer)) (i : ℕ) where
   -- the files, with one entry more
   pub asked-more : (names found : List (List ℕ)) → i < length log → names ≡ flat_map asked_file (take i log) → found ≡ flat_map asked_file (option_to_list (slice_get log i))
       → names ++ found ≡ flat_map asked_file (take (i + 1) log)
   asked-more names found below before here =
-      let e : Key × Option Answer = (key.Search, None) in
+      let e : RootKey × Option RootAnswer = (key.Search, None) in
       ap (λ ns. ns ++ found) before
       ∙ ap (λ ns. flat_map asked_file (take i log) ++ ns) (here ∙ ap (λ o. flat_map asked_file (option_to_list o)) (slice_get-get_or log i e below))
       ∙ sym (ap (flat_map asked_file) (take_more log i e below) ∙ flat_map-append asked_file (take i log) _)
@@ -37,11 +37,11 @@ module _ (log : List (Key × Option Answer)) (i : ℕ) where
   asked-all names past before = before ∙ ap (flat_map asked_file) (take_all i log past)
 
 -- what is kept of a root asked for what compiling the root asks for
-asked-kept : (bank : Key → Option Answer) (name : List ℕ) (kept : KeptRoot) → IsKept bank (name, kept) → asked_files kept.result.value.log ≡ asked_over bank name
+asked-kept : (bank : RootKey → Option RootAnswer) (name : List ℕ) (kept : KeptRoot) → IsKept bank (name, kept) → asked_files kept.result.value.log ≡ asked_over bank name
 asked-kept bank name kept is = ap (λ (left : _). asked_files left.1) is.over ∙ ap (asked_over bank) is.text
 
 -- of roots that are kept a name is found with what compiling it asks for, and no other name is found
-pub lookup-asked : (bank : Key → Option Answer) (held : List (List ℕ × KeptRoot)) (name : List ℕ) → AreKept bank held
+pub lookup-asked : (bank : RootKey → Option RootAnswer) (held : List (List ℕ × KeptRoot)) (name : List ℕ) → AreKept bank held
     → option_map (λ (k : KeptRoot). asked_files k.result.value.log) (lookup (bytes_eq name) held)
     ≡ (if list_any (bytes_eq name) (keys_of held) then Some (asked_over bank name) else None)
 lookup-asked bank [] name h = refl
@@ -56,7 +56,7 @@ lookup-asked bank (e ∷ es) name h = by (bytes_eq name e.0) refl (lookup-asked 
         ap Some (asked-kept bank e.0 e.1 kept ∙ ap (asked_over bank) (sym ((bytes_decides name e.0).0 same)))
     by false other rest = rest
 
-module _ (bank : Key → Option Answer) (held : List (List ℕ × KeptRoot)) (name : List ℕ) (up : AreKept bank held) where
+module _ (bank : RootKey → Option RootAnswer) (held : List (List ℕ × KeptRoot)) (name : List ℕ) (up : AreKept bank held) where
   abbrev pub Asks : Bool → Option (List (List ℕ)) → Type 0
   Asks b found = found ≡ (if b then Some (asked_over bank name) else None)
 

@@ -5,9 +5,9 @@ use Rattle.std.specs.FinMap as finite
 use Rattle.std.specs.Map.{lookup}
 use Rattle.std.specs.Option.{option_map}
 use Rattle.std.specs.Str.{bytes_eq}
-use Rattle.idl_event.specs.declared.asked.key.Answer.TheVariants as answer
-use Rattle.idl_event.specs.declared.asked.key.Key.{Key}
-use Rattle.idl_event.specs.declared.asked.key.Key.TheVariants as key
+use Rattle.idl_event.specs.declared.asked.key.RootAnswer.TheVariants as answer
+use Rattle.idl_event.specs.declared.asked.key.RootKey.{RootKey}
+use Rattle.idl_event.specs.declared.asked.key.RootKey.TheVariants as key
 use Rattle.idl_event.specs.Key.{key_eq}
 use Rattle.idl_memo.specs.Cause.{changed}
 use Rattle.idl_source.specs.texts.Texts.{Texts}
@@ -20,7 +20,7 @@ one_of f false w old = refl
 
 module _ (inputs : Inputs) (macros : Macros) (word : List ℕ) (body : Option (List ℕ))
     (is : (q : List ℕ) → lookup (bytes_eq q) macros ≡ cond (bytes_eq word q) body (lookup (bytes_eq q) inputs.macros)) where
-  macro_at : (k : Key) → bank_of (record inputs { macros = macros }) k ≡ changed key_eq (bank_of inputs) (key.Macro word) (option_map (λ b. answer.Macro (b ∷ [])) body) k
+  macro_at : (k : RootKey) → bank_of (record inputs { macros = macros }) k ≡ changed key_eq (bank_of inputs) (key.Macro word) (option_map (λ b. answer.Macro (b ∷ [])) body) k
   unfolding bank_of changed
   macro_at (key.Macro q) = ap (option_map (λ b. answer.Macro (b ∷ []))) (is q) ∙ one_of (λ b. answer.Macro (b ∷ [])) (bytes_eq word q) body (lookup (bytes_eq q) inputs.macros)
   macro_at (key.File name) = refl
@@ -36,7 +36,7 @@ module _ (inputs : Inputs) (files : Texts) (name : List ℕ) (beside : IsSameBes
   file_by q true same = ap (λ n. option_map answer.File (finite.get files n)) (sym ((bytes_decides name q).0 same))
   file_by q false other = ap (option_map answer.File) (beside q other)
 
-  file_at : (k : Key) → bank_of (record inputs { files = files }) k ≡ changed key_eq (bank_of inputs) (key.File name) (option_map answer.File (finite.get files name)) k
+  file_at : (k : RootKey) → bank_of (record inputs { files = files }) k ≡ changed key_eq (bank_of inputs) (key.File name) (option_map answer.File (finite.get files name)) k
   unfolding bank_of changed
   file_at (key.Macro word) = refl
   file_at (key.File q) = file_by q (bytes_eq name q) refl
@@ -46,7 +46,7 @@ module _ (inputs : Inputs) (files : Texts) (name : List ℕ) (beside : IsSameBes
   pub files-changed : bank_of (record inputs { files = files }) ≡ changed key_eq (bank_of inputs) (key.File name) (option_map answer.File (finite.get files name))
   files-changed i k = file_at k i
 
-search_at : (inputs : Inputs) (directories : List (List ℕ)) (k : Key) → bank_of (record inputs { search = directories }) k ≡ changed key_eq (bank_of inputs) key.Search (Some (answer.Search directories)) k
+search_at : (inputs : Inputs) (directories : List (List ℕ)) (k : RootKey) → bank_of (record inputs { search = directories }) k ≡ changed key_eq (bank_of inputs) key.Search (Some (answer.Search directories)) k
 unfolding bank_of changed
 search_at inputs directories (key.Macro word) = refl
 search_at inputs directories (key.File name) = refl

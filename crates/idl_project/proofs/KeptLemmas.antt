@@ -5,12 +5,12 @@ use Rattle.std.specs.Map.{keys_of}
 use Rattle.std.specs.Option.{option_eq}
 use Rattle.std.specs.Str.{bytes_eq}
 use Rattle.idl_event.specs.Key.{key_eq}
-use Rattle.idl_event.specs.contracts.asked.key.AnswerPartialEq.TheImpl.{ghosts}
+use Rattle.idl_event.specs.contracts.asked.key.RootAnswerPartialEq.TheImpl.{ghosts}
 use Rattle.idl_event.specs.declared.told.event.Event.{Event}
-use Rattle.idl_event.specs.declared.asked.key.Answer.{Answer}
-use Rattle.idl_event.specs.declared.asked.key.Answer.TheVariants as answer
-use Rattle.idl_event.specs.declared.asked.key.Key.{Key}
-use Rattle.idl_event.specs.declared.asked.key.Key.TheVariants as key
+use Rattle.idl_event.specs.declared.asked.key.RootAnswer.{RootAnswer}
+use Rattle.idl_event.specs.declared.asked.key.RootAnswer.TheVariants as answer
+use Rattle.idl_event.specs.declared.asked.key.RootKey.{RootKey}
+use Rattle.idl_event.specs.declared.asked.key.RootKey.TheVariants as key
 use Rattle.idl_memo.specs.Fresh.{asked_among, compared_among, fresh_among, is_alike, stale_among, stale_at}
 use Rattle.idl_memo.specs.Meter.{ComparesOnly, compared_after}
 use Rattle.idl_memo.specs.Renewal.{IsTold}
@@ -25,11 +25,11 @@ use Rattle.idl_project.specs.Work.{answer_eq, compared_keys, fresh_roots, stayin
 use Rattle.idl_project.specs.declared.kept_root.KeptRoot.{KeptRoot}
 
 -- how many of these roots aren't alike at their own places
-abbrev pub stale_roots : (Key → Option Answer) → (Key → Option Answer) → List (List ℕ) → ℕ
+abbrev pub stale_roots : (RootKey → Option RootAnswer) → (RootKey → Option RootAnswer) → List (List ℕ) → ℕ
 stale_roots old new roots = stale_among bytes_eq (option_eq answer_eq) expansion old new roots
 
 -- no more than one at a place
-pub stale_most : (old new : Key → Option Answer) (name : List ℕ) → stale_at bytes_eq (option_eq answer_eq) expansion old new name ≤ 1
+pub stale_most : (old new : RootKey → Option RootAnswer) (name : List ℕ) → stale_at bytes_eq (option_eq answer_eq) expansion old new name ≤ 1
 stale_most old new name = by (is_alike bytes_eq (option_eq answer_eq) expansion old new name name)
   where
     by : (b : Bool) → (if b then 0 else 1) ≤ 1
@@ -37,11 +37,11 @@ stale_most old new name = by (is_alike bytes_eq (option_eq answer_eq) expansion 
     by false = omega arith
 
 -- what is kept of a root is kept of its name, however that is given
-pub IsKept-at : (bank : Key → Option Answer) (name other : List ℕ) (kept : KeptRoot) → name ≡ other → IsKept bank (name, kept) → IsKept bank (other, kept)
+pub IsKept-at : (bank : RootKey → Option RootAnswer) (name other : List ℕ) (kept : KeptRoot) → name ≡ other → IsKept bank (name, kept) → IsKept bank (other, kept)
 IsKept-at bank name other kept same is = subst (λ (n : List ℕ). IsKept bank (n, kept)) same is
 
 -- the test of equality that answers derive, case by case
-answers_alike : (a b : Answer) → ghosts.eq a b ≡ answer_eq a b
+answers_alike : (a b : RootAnswer) → ghosts.eq a b ≡ answer_eq a b
 answers_alike (answer.Macro a) (answer.Macro b) = refl
 answers_alike (answer.Macro a) (answer.File b) = refl
 answers_alike (answer.Macro a) (answer.Search b) = refl
@@ -56,65 +56,65 @@ pub answer_eq-derived : ghosts.eq ≡ answer_eq
 answer_eq-derived i a b = answers_alike a b i
 
 -- the answer at the first key of a log
-abbrev first_answer : List (Key × Option Answer) → Option Answer
+abbrev first_answer : List (RootKey × Option RootAnswer) → Option RootAnswer
 first_answer [] = None
 first_answer (e ∷ log) = e.1
 
 -- the answer at the first of these keys
-abbrev first_asked : (Key → Option Answer) → List Key → Option Answer
+abbrev first_asked : (RootKey → Option RootAnswer) → List RootKey → Option RootAnswer
 first_asked bank [] = None
 first_asked bank (k ∷ ks) = bank k
 
 -- further keys leave the first where it is
-first-stays : (bank : Key → Option Answer) (e : Key × Option Answer) (ks : List Key) (log : List (Key × Option Answer)) → first_answer (noted_all key_eq bank (e ∷ log) ks) ≡ e.1
+first-stays : (bank : RootKey → Option RootAnswer) (e : RootKey × Option RootAnswer) (ks : List RootKey) (log : List (RootKey × Option RootAnswer)) → first_answer (noted_all key_eq bank (e ∷ log) ks) ≡ e.1
 first-stays bank e [] log = refl
 first-stays bank e (k ∷ ks) log = by (is_logged key_eq (e ∷ log) k) (first-stays bank e ks)
   where
-    by : (b : Bool) → ((l : List (Key × Option Answer)) → first_answer (noted_all key_eq bank (e ∷ l) ks) ≡ e.1)
+    by : (b : Bool) → ((l : List (RootKey × Option RootAnswer)) → first_answer (noted_all key_eq bank (e ∷ l) ks) ≡ e.1)
         → first_answer (noted_all key_eq bank (cond b (e ∷ log) (e ∷ (log ++ (k, bank k) ∷ []))) ks) ≡ e.1
     by true rest = rest log
     by false rest = rest (log ++ (k, bank k) ∷ [])
 
 -- the first key that is asked is the first of the log
-first-noted : (bank : Key → Option Answer) (ks : List Key) → first_answer (noted_all key_eq bank [] ks) ≡ first_asked bank ks
+first-noted : (bank : RootKey → Option RootAnswer) (ks : List RootKey) → first_answer (noted_all key_eq bank [] ks) ≡ first_asked bank ks
 first-noted bank [] = refl
 first-noted bank (k ∷ ks) = first-stays bank (k, bank k) ks []
 
 -- a root asks for its own file first
-first-file : (bank : Key → Option Answer) (name : List ℕ) → first_answer (expanded name bank).1 ≡ bank (key.File name)
+first-file : (bank : RootKey → Option RootAnswer) (name : List ℕ) → first_answer (expanded name bank).1 ≡ bank (key.File name)
 unfolding expansion root
 first-file bank name = first-noted bank (asked (expansion name) bank)
 
 -- what is compiled from a result that holds
-pub compile-kept : (bank : Key → Option Answer) (kept : Kept Key (Option Answer) (List ℕ) (List Event)) → HoldsOver key_eq expansion bank kept
+pub compile-kept : (bank : RootKey → Option RootAnswer) (kept : Kept RootKey (Option RootAnswer) (List ℕ) (List Event)) → HoldsOver key_eq expansion bank kept
     → record { rows = compile (end_of bank kept.text) kept.out; absent = absent_files kept.log } ≡ compile_over bank kept.text
 unfolding compile_over
 compile-kept bank kept over = λ i. record { rows = compile (end_of bank kept.text) (over i).0; absent = absent_files (over i).1 }
 
 -- where a result holds over two banks, the root compiles to the same over both
-pub compile-again : (old new : Key → Option Answer) (kept : Kept Key (Option Answer) (List ℕ) (List Event)) → HoldsOver key_eq expansion old kept → HoldsOver key_eq expansion new kept
+pub compile-again : (old new : RootKey → Option RootAnswer) (kept : Kept RootKey (Option RootAnswer) (List ℕ) (List Event)) → HoldsOver key_eq expansion old kept → HoldsOver key_eq expansion new kept
     → compile_over old kept.text ≡ compile_over new kept.text
 compile-again old new kept before after =
     let file : old (key.File kept.text) ≡ new (key.File kept.text) =
-    sym (first-file old kept.text) ∙ ap (λ (p : List Event × List (Key × Option Answer)). first_answer p.1) (sym before ∙ after) ∙ first-file new kept.text in
+    sym (first-file old kept.text) ∙ ap (λ (p : List Event × List (RootKey × Option RootAnswer)). first_answer p.1) (sym before ∙ after) ∙ first-file new kept.text in
     sym (compile-kept old kept before)
-    ∙ ap (λ (a : Option Answer). record { rows = compile (record { file = kept.text; line = line_count a }) kept.out; absent = absent_files kept.log }) file
+    ∙ ap (λ (a : Option RootAnswer). record { rows = compile (record { file = kept.text; line = line_count a }) kept.out; absent = absent_files kept.log }) file
     ∙ compile-kept new kept after
 
 -- what is kept of a root is still kept of it where its result holds
-pub IsKept-still : (old new : Key → Option Answer) (kept copy : KeptRoot) → IsKept old (kept.result.value.text, kept)
+pub IsKept-still : (old new : RootKey → Option RootAnswer) (kept copy : KeptRoot) → IsKept old (kept.result.value.text, kept)
     → copy.result.value ≡ kept.result.value → copy.compiled.value ≡ kept.compiled.value → HoldsOver key_eq expansion new kept.result.value
     → IsKept new (kept.result.value.text, copy)
 IsKept-still old new kept copy is result compiled over = record {
-  text = ap (λ (k : Kept Key (Option Answer) (List ℕ) (List Event)). k.text) result;
-  over = subst (λ (k : Kept Key (Option Answer) (List ℕ) (List Event)). HoldsOver key_eq expansion new k) (sym result) over;
+  text = ap (λ (k : Kept RootKey (Option RootAnswer) (List ℕ) (List Event)). k.text) result;
+  over = subst (λ (k : Kept RootKey (Option RootAnswer) (List ℕ) (List Event)). HoldsOver key_eq expansion new k) (sym result) over;
   rows = compiled ∙ is.rows ∙ compile-again old new kept.result.value is.over over;
 }
 
 -- what is told of a kept result, by the test of equality of the answers
-pub told-of : (old new : Key → Option Answer) (kept : Kept Key (Option Answer) (List ℕ) (List Event)) (holds : Bool)
+pub told-of : (old new : RootKey → Option RootAnswer) (kept : Kept RootKey (Option RootAnswer) (List ℕ) (List Event)) (holds : Bool)
     → IsTold bytes_eq (option_eq ghosts.eq) key_eq expansion old new kept holds → IsTold bytes_eq (option_eq answer_eq) key_eq expansion old new kept holds
-told-of old new kept holds told = subst (λ (e : Answer → Answer → Bool). IsTold bytes_eq (option_eq e) key_eq expansion old new kept holds) answer_eq-derived told
+told-of old new kept holds told = subst (λ (e : RootAnswer → RootAnswer → Bool). IsTold bytes_eq (option_eq e) key_eq expansion old new kept holds) answer_eq-derived told
 
 -- the meter where a result holds still
 pub meter-still : (old new : Meter) (stale cost keys : ℕ) → ComparesOnly old new → new.compared ≡ compared_after old.compared keys → stale ≡ 0 → cost ≡ keys
@@ -133,33 +133,33 @@ meter-anew old mid new stale cost keys only compared more one same =
     ∙ (λ i. record old { expanded = expanded i; compared = (compared ∙ ap (compared_after old.compared) (sym same)) i })
 
 -- the keys that the roots asked are those of their results
-pub keys_asked-kept : (bank : Key → Option Answer) (held : List (List ℕ × KeptRoot)) → AreKept bank held
+pub keys_asked-kept : (bank : RootKey → Option RootAnswer) (held : List (List ℕ × KeptRoot)) → AreKept bank held
     → asked_among bytes_eq (option_eq answer_eq) expansion key_eq bank (keys_of held) ≡ keys_asked held
 keys_asked-kept bank [] h = refl
 keys_asked-kept bank (e ∷ es) h =
     let kept : IsKept bank e = All-head (λ (root : List ℕ × KeptRoot). IsKept bank root) e es h in
     let log : length e.1.result.value.log ≡ length (expanded e.0 bank).1 =
-    ap (λ (p : List Event × List (Key × Option Answer)). length p.1) kept.over ∙ ap (λ (n : List ℕ). length (expanded n bank).1) kept.text in
+    ap (λ (p : List Event × List (RootKey × Option RootAnswer)). length p.1) kept.over ∙ ap (λ (n : List ℕ). length (expanded n bank).1) kept.text in
     (λ i. sym log i + keys_asked-kept bank es (All-tail (λ (root : List ℕ × KeptRoot). IsKept bank root) e es h) i)
 
 -- the work of an edit of the roots: so many are fresh, and those that stay are compared at all that they asked
-pub work-roots : (bank : Key → Option Answer) (before places : List (List ℕ)) (held : List (List ℕ × KeptRoot)) (n : ℕ) → AreKept bank held → staying before places ≡ keys_of held
+pub work-roots : (bank : RootKey → Option RootAnswer) (before places : List (List ℕ)) (held : List (List ℕ × KeptRoot)) (n : ℕ) → AreKept bank held → staying before places ≡ keys_of held
     → fresh_among bytes_eq (option_eq ghosts.eq) expansion bank before bank places ≡ n
     → compared_among bytes_eq (option_eq ghosts.eq) expansion key_eq bank bank (keys_of held) ≡ asked_among bytes_eq (option_eq ghosts.eq) expansion key_eq bank (keys_of held)
     → record { expanded = n; checked = 0; printed = 0; compared = compared_after 0 (keys_asked held) } ≡ work_between bank before bank places
 work-roots bank before places held n are stay fresh all =
     let counted : fresh_roots bank before bank places ≡ n =
-    subst (λ (e : Answer → Answer → Bool). fresh_among bytes_eq (option_eq e) expansion bank before bank places ≡ n) answer_eq-derived fresh in
+    subst (λ (e : RootAnswer → RootAnswer → Bool). fresh_among bytes_eq (option_eq e) expansion bank before bank places ≡ n) answer_eq-derived fresh in
     let asked : compared_keys bank bank (keys_of held) ≡ asked_among bytes_eq (option_eq answer_eq) expansion key_eq bank (keys_of held) =
     subst
-    (λ (e : Answer → Answer → Bool). compared_among bytes_eq (option_eq e) expansion key_eq bank bank (keys_of held) ≡ asked_among bytes_eq (option_eq e) expansion key_eq bank (keys_of held))
+    (λ (e : RootAnswer → RootAnswer → Bool). compared_among bytes_eq (option_eq e) expansion key_eq bank bank (keys_of held) ≡ asked_among bytes_eq (option_eq e) expansion key_eq bank (keys_of held))
     answer_eq-derived all in
     let compared : keys_asked held ≡ compared_keys bank bank (staying before places) =
     sym (ap (compared_keys bank bank) stay ∙ asked ∙ keys_asked-kept bank held are) in
     λ i. record { expanded = sym counted i; checked = 0; printed = 0; compared = compared_after 0 (compared i) }
 
 -- the work of an edit that leaves the roots: those are fresh that aren't alike at their own places, and all stay
-pub work-same : (old new : Key → Option Answer) (names : List (List ℕ)) (n m : ℕ) → staying names names ≡ names
+pub work-same : (old new : RootKey → Option RootAnswer) (names : List (List ℕ)) (n m : ℕ) → staying names names ≡ names
     → fresh_among bytes_eq (option_eq ghosts.eq) expansion old names new names ≡ stale_among bytes_eq (option_eq ghosts.eq) expansion old new names
     → n ≡ stale_among bytes_eq (option_eq answer_eq) expansion old new names
     → m ≡ compared_after 0 (compared_keys old new names)
@@ -167,7 +167,7 @@ pub work-same : (old new : Key → Option Answer) (names : List (List ℕ)) (n m
 work-same old new names n m stay fresh counted costs =
     let all : fresh_roots old names new names ≡ stale_among bytes_eq (option_eq answer_eq) expansion old new names =
     subst
-    (λ (e : Answer → Answer → Bool). fresh_among bytes_eq (option_eq e) expansion old names new names ≡ stale_among bytes_eq (option_eq e) expansion old new names)
+    (λ (e : RootAnswer → RootAnswer → Bool). fresh_among bytes_eq (option_eq e) expansion old names new names ≡ stale_among bytes_eq (option_eq e) expansion old new names)
     answer_eq-derived fresh in
     let cost : m ≡ compared_after 0 (compared_keys old new (staying names names)) =
     costs ∙ ap (λ (ns : List (List ℕ)). compared_after 0 (compared_keys old new ns)) (sym stay) in

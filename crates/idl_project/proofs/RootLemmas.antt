@@ -12,8 +12,8 @@ use Rattle.std.proofs.lemmas.Map.Views.{All-map-remove_entry, list_any-from_Cont
 use Rattle.std.specs.Str.{bytes_eq}
 use Rattle.std.specs.Cmp.Lexicographic.{bytes_decides, nat_list_eq_equiv}
 use Rattle.idl_event.specs.Key.{key_eq}
-use Rattle.idl_event.specs.declared.asked.key.Answer.{Answer}
-use Rattle.idl_event.specs.declared.asked.key.Key.{Key}
+use Rattle.idl_event.specs.declared.asked.key.RootAnswer.{RootAnswer}
+use Rattle.idl_event.specs.declared.asked.key.RootKey.{RootKey}
 use Rattle.idl_memo.specs.Cause.{changed}
 use Rattle.idl_source.specs.names.Name.{is_name}
 use Rattle.idl_project.specs.Compile.{compile_over}
@@ -28,7 +28,7 @@ use Rattle.idl_project.specs.declared.kept_root.KeptRoot.{KeptRoot}
 use Rattle.idl_project.proofs.FormLemmas.{none-formed}
 
 -- of roots that are kept a name is found with what compiling it gives, and no other name is found
-pub lookup-held : (bank : Key → Option Answer) (held : List (List ℕ × KeptRoot)) (name : List ℕ) → AreKept bank held
+pub lookup-held : (bank : RootKey → Option RootAnswer) (held : List (List ℕ × KeptRoot)) (name : List ℕ) → AreKept bank held
     → option_map (λ (k : KeptRoot). k.compiled.value) (lookup (bytes_eq name) held) ≡ (if list_any (bytes_eq name) (keys_of held) then Some (compile_over bank name) else None)
 lookup-held bank [] name h = refl
 lookup-held bank (e ∷ es) name h = by (bytes_eq name e.0) refl (lookup-held bank es name (All-tail (λ (root : List ℕ × KeptRoot). IsKept bank root) e es h))
@@ -98,7 +98,7 @@ IsUpToDate-push inputs held name kept are is formed =
     }
 
 -- what is kept of all roots is kept of those that stay
-pub AreKept-remove : (bank : Key → Option Answer) (held : List (List ℕ × KeptRoot)) (test : List ℕ → Bool) → AreKept bank held → AreKept bank (remove_entry test held)
+pub AreKept-remove : (bank : RootKey → Option RootAnswer) (held : List (List ℕ × KeptRoot)) (test : List ℕ → Bool) → AreKept bank held → AreKept bank (remove_entry test held)
 AreKept-remove bank held test are =
     subst (AreKept bank) (map-id (remove_entry test held))
     (All-map-remove_entry test (λ (e : List ℕ × KeptRoot). e) (λ (root : List ℕ × KeptRoot). IsKept bank root) held (subst (AreKept bank) (sym (map-id held)) are))
@@ -108,27 +108,27 @@ pub remaining-there : (held : List (List ℕ × KeptRoot)) (test : List ℕ → 
 remaining-there held test = All-map-remove_entry test (λ (e : List ℕ × KeptRoot). e.0) (Contains (keys_of held)) held (All-contains_itself (keys_of held))
 
 -- After an edit that changes one answer: the same roots, with what is kept of them over the changed answers.
-pub IsUpToDate-edited : (state : State) (now new : Inputs) (held : List (List ℕ × KeptRoot)) (renewed : List (List ℕ × KeptRoot) × Work) (asked at : Key) (given answer : Option Answer) (work : Work)
+pub IsUpToDate-edited : (state : State) (now new : Inputs) (held : List (List ℕ × KeptRoot)) (renewed : List (List ℕ × KeptRoot) × Work) (asked at : RootKey) (given answer : Option RootAnswer) (work : Work)
     → record { project = record { inputs = now; roots = keys_of held }; work = work } ≡ state
     → IsRenewed state.project asked given renewed
     → asked ≡ at → given ≡ answer → bank_of new ≡ changed key_eq (bank_of now) at answer
     → IsWellFormed (record { inputs = new; roots = keys_of renewed.0 }) → IsUpToDate new renewed.0
 IsUpToDate-edited state now new held renewed asked at given answer work is again asks gives changes formed = record {
   formed = formed;
-  kept = subst (λ (bank : Key → Option Answer). AreKept bank renewed.0)
-      (ap (λ (s : State). changed key_eq (bank_of s.project.inputs) asked given) (sym is) ∙ ap (λ (k : Key). changed key_eq (bank_of now) k given) asks ∙ ap (changed key_eq (bank_of now) at) gives ∙ sym changes)
+  kept = subst (λ (bank : RootKey → Option RootAnswer). AreKept bank renewed.0)
+      (ap (λ (s : State). changed key_eq (bank_of s.project.inputs) asked given) (sym is) ∙ ap (λ (k : RootKey). changed key_eq (bank_of now) k given) asks ∙ ap (changed key_eq (bank_of now) at) gives ∙ sym changes)
       again.kept;
 }
 
 -- and the work is that between the two projects
-pub work-edited : (state : State) (now new : Inputs) (held : List (List ℕ × KeptRoot)) (renewed : List (List ℕ × KeptRoot) × Work) (asked at : Key) (given answer : Option Answer) (work : Work)
+pub work-edited : (state : State) (now new : Inputs) (held : List (List ℕ × KeptRoot)) (renewed : List (List ℕ × KeptRoot) × Work) (asked at : RootKey) (given answer : Option RootAnswer) (work : Work)
     → record { project = record { inputs = now; roots = keys_of held }; work = work } ≡ state
     → IsRenewed state.project asked given renewed
     → asked ≡ at → given ≡ answer → bank_of new ≡ changed key_eq (bank_of now) at answer
     → renewed.1 ≡ work_of state.project (record { inputs = new; roots = keys_of renewed.0 })
 work-edited state now new held renewed asked at given answer work is again asks gives changes =
     let banks : changed key_eq (bank_of state.project.inputs) asked given ≡ bank_of new =
-    ap (λ (s : State). changed key_eq (bank_of s.project.inputs) asked given) (sym is) ∙ ap (λ (k : Key). changed key_eq (bank_of now) k given) asks ∙ ap (changed key_eq (bank_of now) at) gives ∙ sym changes in
+    ap (λ (s : State). changed key_eq (bank_of s.project.inputs) asked given) (sym is) ∙ ap (λ (k : RootKey). changed key_eq (bank_of now) k given) asks ∙ ap (changed key_eq (bank_of now) at) gives ∙ sym changes in
     again.work ∙ (λ i. work_between (bank_of state.project.inputs) state.project.roots (banks i) (sym again.roots i))
 
 -- all of these were roots before, and stay

@@ -4,16 +4,16 @@ use Rattle.std.specs.FinMap as map
 use Rattle.std.specs.Map.{lookup}
 use Rattle.std.specs.Option.{option_map}
 use Rattle.std.specs.Str.{bytes_eq}
-use Rattle.idl_event.specs.declared.asked.key.Answer.{Answer}
-use Rattle.idl_event.specs.declared.asked.key.Answer.TheVariants as answer
-use Rattle.idl_event.specs.declared.asked.key.Key.{Key}
-use Rattle.idl_event.specs.declared.asked.key.Key.TheVariants as key
+use Rattle.idl_event.specs.declared.asked.key.RootAnswer.{RootAnswer}
+use Rattle.idl_event.specs.declared.asked.key.RootAnswer.TheVariants as answer
+use Rattle.idl_event.specs.declared.asked.key.RootKey.{RootKey}
+use Rattle.idl_event.specs.declared.asked.key.RootKey.TheVariants as key
 use Rattle.idl_source.specs.texts.Texts.{Texts}
 use Rattle.idl_project.specs.Project.{Inputs}
 
 -- the answers of these inputs: a macro's body as a file of one line, a file's lines, and the search
 -- list; what isn't there has no answer
-unfoldable pub bank_of : Inputs → Key → Option Answer
+unfoldable pub bank_of : Inputs → RootKey → Option RootAnswer
 bank_of inputs (key.Macro word) =
     option_map (λ body. answer.Macro (body ∷ [])) (lookup (bytes_eq word) inputs.macros)
 bank_of inputs (key.File name) = option_map answer.File (map.get inputs.files name)

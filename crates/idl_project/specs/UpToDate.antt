@@ -3,9 +3,9 @@ use Rattle.std.specs.Prelude.{◌≡◌, ℕ, Bool, List, All, Option, None, Som
 use Rattle.std.specs.Coded.{Coded, code_by, coded×, coded_ℕ}
 use Rattle.std.specs.Map.{keys_of}
 use Rattle.std.specs.Option.{option_map}
-use Rattle.idl_event.specs.declared.asked.key.Answer.{Answer}
+use Rattle.idl_event.specs.declared.asked.key.RootAnswer.{RootAnswer}
 use Rattle.idl_event.specs.Key.{key_eq}
-use Rattle.idl_event.specs.declared.asked.key.Key.{Key}
+use Rattle.idl_event.specs.declared.asked.key.RootKey.{RootKey}
 use Rattle.idl_memo.specs.Kept.{HoldsOver}
 use Rattle.idl_prep.specs.Root.{expansion}
 use Rattle.idl_root.specs.declared.compiling.finding.Finding.{Finding}
@@ -53,13 +53,13 @@ absent_of project name = option_map (λ root. root.absent) (compiled_of project 
 
 -- what is kept of a root is what its task over these answers leaves, and what compiling it over
 -- them gives
-pub record IsKept (bank : Key → Option Answer) (root : List ℕ × KeptRoot) : Type 0 where
+pub record IsKept (bank : RootKey → Option RootAnswer) (root : List ℕ × KeptRoot) : Type 0 where
   pub text : root.1.result.value.text ≡ root.0
   pub over : HoldsOver key_eq expansion bank root.1.result.value
   pub rows : root.1.compiled.value ≡ compile_over bank root.0
 
 -- that is so of each root
-abbrev pub AreKept : (Key → Option Answer) → List (List ℕ × KeptRoot) → Type 0
+abbrev pub AreKept : (RootKey → Option RootAnswer) → List (List ℕ × KeptRoot) → Type 0
 AreKept bank held = All (λ root. IsKept bank root) held
 
 -- the project of these inputs and of the roots that are held

@@ -5,9 +5,9 @@ use Rattle.std.specs.List.{list_any}
 use Rattle.std.specs.Option.{option_eq}
 use Rattle.std.specs.Str.{bytes_eq}
 use Rattle.idl_event.specs.Key.{key_eq}
-use Rattle.idl_event.specs.declared.asked.key.Answer.{Answer}
-use Rattle.idl_event.specs.declared.asked.key.Answer.TheVariants.{Macro, File, Search}
-use Rattle.idl_event.specs.declared.asked.key.Key.{Key}
+use Rattle.idl_event.specs.declared.asked.key.RootAnswer.{RootAnswer}
+use Rattle.idl_event.specs.declared.asked.key.RootAnswer.TheVariants.{Macro, File, Search}
+use Rattle.idl_event.specs.declared.asked.key.RootKey.{RootKey}
 use Rattle.idl_memo.specs.Fresh.{compared_among, fresh_among}
 use Rattle.idl_memo.specs.Meter.{compared_after}
 use Rattle.idl_prep.specs.Root.{expansion}
@@ -20,14 +20,14 @@ abbrev pub no_work : Work
 no_work = record { expanded = 0; checked = 0; printed = 0; compared = 0 }
 
 -- whether two answers are one
-abbrev pub answer_eq : Answer → Answer → Bool
+abbrev pub answer_eq : RootAnswer → RootAnswer → Bool
 answer_eq (Macro lines) (Macro other) = pointwise bytes_eq lines other
 answer_eq (File lines) (File other) = pointwise bytes_eq lines other
 answer_eq (Search list) (Search other) = pointwise bytes_eq list other
 answer_eq answer other = false
 
 -- at how many of these roots no task of the roots before, and none of an earlier one, is alike
-abbrev pub fresh_roots : (Key → Option Answer) → List (List ℕ) → (Key → Option Answer)
+abbrev pub fresh_roots : (RootKey → Option RootAnswer) → List (List ℕ) → (RootKey → Option RootAnswer)
     → List (List ℕ) → ℕ
 fresh_roots old before new roots =
     fresh_among bytes_eq (option_eq answer_eq) expansion old before new roots
@@ -37,13 +37,13 @@ abbrev pub staying : List (List ℕ) → List (List ℕ) → List (List ℕ)
 staying before roots = filter (λ name. list_any (bytes_eq name) before) roots
 
 -- at how many keys the tasks of these roots are compared
-abbrev pub compared_keys : (Key → Option Answer) → (Key → Option Answer) → List (List ℕ) → ℕ
+abbrev pub compared_keys : (RootKey → Option RootAnswer) → (RootKey → Option RootAnswer) → List (List ℕ) → ℕ
 compared_keys old new roots =
     compared_among bytes_eq (option_eq answer_eq) expansion key_eq old new roots
 
 -- the work of an edit, by the answers and the roots before it and those after it: each root that
 -- stays is compared, and as long as of roots alone results are kept nothing else is counted
-abbrev pub work_between : (Key → Option Answer) → List (List ℕ) → (Key → Option Answer)
+abbrev pub work_between : (RootKey → Option RootAnswer) → List (List ℕ) → (RootKey → Option RootAnswer)
     → List (List ℕ) → Work
 work_between old before new roots = record {
   expanded = fresh_roots old before new roots;

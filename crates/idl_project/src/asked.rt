@@ -5,7 +5,7 @@ ghost use Rattle.std.specs.Option.{option_copied, option_to_list};
 ghost use Rattle.idl_project.specs.Asked.{asked_file, asked_files};
 
 use crate::bank::SessionBank;
-use idl_event::Key;
+use idl_event::RootKey;
 use idl_fault::FileName;
 use idl_memo::Log;
 use idl_source::Name;
@@ -31,7 +31,7 @@ fn asked_at(log: &Log<SessionBank>, index: usize) -> Option<&FileName>
         ≡ flat_map asked_file (option_to_list (slice_get log.now index)) }
 {
     match log.get(index) {
-        Some((Key::File(name), _)) => Some(name),
+        Some((RootKey::File(name), _)) => Some(name),
         _ => None,
     }
 }

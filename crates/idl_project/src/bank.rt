@@ -8,8 +8,8 @@ ghost use Rattle.std.specs.FinMap as finite;
 ghost use Rattle.std.specs.Str.{bytes_eq};
 ghost use Rattle.indexmap.specs.IndexMap.{insert_entry};
 ghost use Rattle.idl_event.specs.Key.{key_eq};
-ghost use Rattle.idl_event.specs.declared.asked.key.Answer.TheVariants as answers;
-ghost use Rattle.idl_event.specs.declared.asked.key.Key.TheVariants as keys;
+ghost use Rattle.idl_event.specs.declared.asked.key.RootAnswer.TheVariants as answers;
+ghost use Rattle.idl_event.specs.declared.asked.key.RootKey.TheVariants as keys;
 ghost use Rattle.idl_memo.specs.Cause.{changed};
 ghost use Rattle.idl_project.specs.Bank.{IsSameBeside, bank_of};
 ghost use Rattle.idl_project.specs.Edits.{macros_with};
@@ -21,7 +21,7 @@ ghost use Rattle.idl_project.specs.Project.{Inputs, is_defined, no_inputs};
 use crate::limits::{MAX_BODY, MAX_MACROS};
 use crate::macro_body::MacroBody;
 use idl_base::{Bytes, Seq};
-use idl_event::{Answer, Key, LexedFile};
+use idl_event::{LexedFile, RootAnswer, RootKey};
 use idl_fault::FileName;
 use idl_macro::is_macro_word;
 use idl_memo::Bank;
@@ -33,9 +33,9 @@ use std::marker::Model;
 /// Files, macros and a search list, with the answers about them: each file and each body is cut into tokens once.
 pub struct SessionBank {
     files: Files,
-    texts: IndexMap<FileName, Answer>,
+    texts: IndexMap<FileName, RootAnswer>,
     macros: IndexMap<Bytes, MacroBody>,
-    search: Answer,
+    search: RootAnswer,
 }
 
 impl Model for SessionBank {
@@ -44,7 +44,7 @@ impl Model for SessionBank {
     ghost use Rattle.std.specs.Map.{lookup};
     ghost use Rattle.std.specs.Option.{option_map};
     ghost use Rattle.std.specs.Str.{bytes_eq};
-    ghost use Rattle.idl_event.specs.declared.asked.key.Answer.TheVariants as answers;
+    ghost use Rattle.idl_event.specs.declared.asked.key.RootAnswer.TheVariants as answers;
     ghost use Rattle.idl_prep.specs.Include.{directories_in};
     ghost use Rattle.idl_project.specs.Project.{Inputs, inputs_code};
 
@@ -84,7 +84,7 @@ impl SessionBank {
             files: Files::new(alloc),
             texts: IndexMap::new(alloc),
             macros: IndexMap::new(alloc),
-            search: Answer::Search(Seq::new(alloc)),
+            search: RootAnswer::Search(Seq::new(alloc)),
         }
     }
 
@@ -123,7 +123,7 @@ impl SessionBank {
         alloc: Global,
         files: &Files,
         name: &FileName,
-    ) -> Result<Option<Answer>, AllocError>
+    ) -> Result<Option<RootAnswer>, AllocError>
         ensures { IfOk result (λ answer.
             answer ≡ option_map answers.File (finite.get files.now name.now)) }
     {
@@ -132,7 +132,7 @@ impl SessionBank {
         };
         let old = file_in(self.texts.get(name));
         let text = LexedFile::new(alloc, file.clone()?, old)?;
-        Ok(Some(Answer::File(text)))
+        Ok(Some(RootAnswer::File(text)))
     }
 
     /// Puts other files in place, of which the one of this name alone may be another, with the answer about it.
@@ -140,7 +140,7 @@ impl SessionBank {
         &mut self,
         name: FileName,
         files: Files,
-        answer: Option<Answer>,
+        answer: Option<RootAnswer>,
     ) -> Result<(), AllocError>
         requires beside { IsSameBeside name self.old.files files }
         requires answers { answer ≡ option_map answers.File (finite.get files name) }
@@ -185,7 +185,7 @@ impl SessionBank {
     }
 
     /// Puts another search list in place.
-    pub fn set_search(&mut self, search: Answer)
+    pub fn set_search(&mut self, search: RootAnswer)
         requires { search ≡ answers.Search (directories_in (Some search)) }
         ensures set { self.new ≡ record self.old { search = directories_in (Some search) } }
         ensures bank { bank_of self.new ≡ changed key_eq (bank_of self.old) keys.Search (Some search) }
@@ -197,24 +197,24 @@ impl SessionBank {
 impl Bank for SessionBank {
     ghost use Rattle.idl_project.specs.Bank.{bank_of};
 
-    type Key = Key;
+    type Key = RootKey;
 
-    type Answer = Answer;
+    type Answer = RootAnswer;
 
     ghost at = { bank_of };
 
     #[inline]
     #[tactic(auto, unfolding(crate::specs::Bank::bank_of))]
-    fn answer(&self, key: &Key) -> Option<&Answer> {
+    fn answer(&self, key: &RootKey) -> Option<&RootAnswer> {
         match key {
             // Most sessions have no macros, and each word of a text is asked for.
-            Key::Macro(_) if self.macros.is_empty() => None,
-            Key::Macro(word) => match self.macros.get(word) {
+            RootKey::Macro(_) if self.macros.is_empty() => None,
+            RootKey::Macro(word) => match self.macros.get(word) {
                 Some(body) => Some(body.answer()),
                 None => None,
             },
-            Key::File(name) => self.texts.get(name),
-            Key::Search => Some(&self.search),
+            RootKey::File(name) => self.texts.get(name),
+            RootKey::Search => Some(&self.search),
         }
     }
 }
@@ -226,9 +226,9 @@ pub fn answers_come_from_inputs()
 {}
 
 // The file that an answer is, if it is one.
-fn file_in(answer: Option<&Answer>) -> Option<&LexedFile> {
+fn file_in(answer: Option<&RootAnswer>) -> Option<&LexedFile> {
     match answer? {
-        Answer::File(text) => Some(text),
-        Answer::Macro(_) | Answer::Search(_) => None,
+        RootAnswer::File(text) => Some(text),
+        RootAnswer::Macro(_) | RootAnswer::Search(_) => None,
     }
 }

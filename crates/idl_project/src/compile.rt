@@ -15,7 +15,7 @@ ghost use Rattle.idl_project.specs.UpToDate.{diagnostics_of, findings_of};
 use crate::asked::asked;
 use crate::bank::SessionBank;
 use idl_base::Seq;
-use idl_event::{Answer, Expansion, Key, RootBank};
+use idl_event::{Expansion, RootAnswer, RootBank, RootKey};
 use idl_fault::{FileName, Place};
 use idl_memo::{Kept, Meter, run_anew};
 use idl_prep::{RootTask, absent};
@@ -132,16 +132,16 @@ fn end_of<B: RootBank>(alloc: Global, bank: &B, root: &Name) -> Result<Place, Al
     ensures { IfOk result (λ place. place ≡ end_of (B.at bank.now) root.now) }
 {
     let file = FileName::new(alloc, root)?;
-    let line = line_count(bank.answer(&Key::File(file.clone()?)));
+    let line = line_count(bank.answer(&RootKey::File(file.clone()?)));
     Ok(Place { file, line })
 }
 
 // The number of lines of an answered file.
-fn line_count(answer: Option<&Answer>) -> u32
+fn line_count(answer: Option<&RootAnswer>) -> u32
     ensures { result ≡ line_count (option_copied answer.entry) }
 {
     match answer {
-        Some(Answer::File(text)) => text.file().line_count() as u32,
+        Some(RootAnswer::File(text)) => text.file().line_count() as u32,
         _ => 0,
     }
 }

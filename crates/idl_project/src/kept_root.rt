@@ -16,7 +16,7 @@ ghost use Rattle.idl_project.specs.Work.{answer_eq};
 use crate::asked::asked;
 use crate::bank::SessionBank;
 use crate::compile::{CompiledAgain, CompiledRoot, KeptExpansion, compile, compile_after};
-use idl_event::{Key, RootBank};
+use idl_event::{RootBank, RootKey};
 use idl_memo::{Edited, Meter, run_anew};
 use idl_prep::RootTask;
 use idl_root::{KeptUnits, Memory};
@@ -76,7 +76,7 @@ impl KeptRoot {
         &self,
         memory: &mut Memory,
         edited: &Edited<'a, SessionBank>,
-        cause: Option<&Key>,
+        cause: Option<&RootKey>,
         meter: &mut Meter,
     ) -> Result<KeptRoot, AllocError>
         requires kept { let before = bank_of edited.now.base.now in

@@ -1,9 +1,9 @@
 //! The bodies of the session's macros.
 
 ghost use Rattle.std.specs.Prelude.{◌≡◌, ◌∷◌, [], IfOk};
-ghost use Rattle.idl_event.specs.declared.asked.key.Answer.TheVariants as answers;
+ghost use Rattle.idl_event.specs.declared.asked.key.RootAnswer.TheVariants as answers;
 
-use idl_event::{Answer, LexedLine};
+use idl_event::{LexedLine, RootAnswer};
 use idl_source::Line;
 use std::alloc::{AllocError, Global};
 use std::marker::Model;
@@ -11,12 +11,12 @@ use std::marker::Model;
 /// The body of a macro: a line, and what is answered of the macro, a file of that line alone with its tokens.
 pub struct MacroBody {
     line: Line,
-    answer: Answer,
+    answer: RootAnswer,
 }
 
 impl Model for MacroBody {
     ghost use Rattle.std.specs.Prelude.{◌≡◌, ◌∷◌, [], List, ℕ};
-    ghost use Rattle.idl_event.specs.declared.asked.key.Answer.TheVariants as answers;
+    ghost use Rattle.idl_event.specs.declared.asked.key.RootAnswer.TheVariants as answers;
 
     ghost Value = { List ℕ };
 
@@ -42,12 +42,12 @@ impl MacroBody {
         let text = LexedLine::new(alloc, line.clone()?)?;
         Ok(MacroBody {
             line,
-            answer: Answer::Macro(text),
+            answer: RootAnswer::Macro(text),
         })
     }
 
     /// What is answered of the macro.
-    pub fn answer(&self) -> &Answer
+    pub fn answer(&self) -> &RootAnswer
         ensures { result.now ≡ answers.Macro (self.now ∷ []) }
     {
         &self.answer

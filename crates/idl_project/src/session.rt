@@ -3,7 +3,7 @@
 ghost use Rattle.std.specs.Prelude.{◌≡◌, ℕ, List, [], true, Ok, Err, IfOk, IfNone, IfSome, IsTrue, map};
 ghost use Rattle.std.specs.Option.{option_copied};
 ghost use Rattle.idl_source.specs.names.Name.{is_name};
-ghost use Rattle.idl_event.specs.declared.asked.key.Key.TheVariants as keys;
+ghost use Rattle.idl_event.specs.declared.asked.key.RootKey.TheVariants as keys;
 ghost use Rattle.idl_project.specs.Asked.{asked_files, asked_of};
 ghost use Rattle.idl_project.specs.Bank.{IsSameBeside};
 ghost use Rattle.idl_project.specs.Project.{no_project, with_files};
@@ -23,7 +23,7 @@ use crate::root_table::RootTable;
 use crate::word::spelled;
 use crate::work::Work;
 use idl_base::{Bytes, Seq};
-use idl_event::{Answer, Key};
+use idl_event::{RootAnswer, RootKey};
 use idl_fault::FileName;
 use idl_macro::is_macro_word;
 use idl_memo::{Edited, Meter, freshness};
@@ -152,8 +152,8 @@ impl Session {
         ensures { IsEdited (Search (map (λ bytes. bytes.now) list.now)) self.old self.new result }
     {
         let list = directories(self.memory.alloc(), list)?;
-        let search = Answer::Search(Seq::from_vec(list));
-        let renewed = self.renewed_with(&Key::Search, Some(&search))?;
+        let search = RootAnswer::Search(Seq::from_vec(list));
+        let renewed = self.renewed_with(&RootKey::Search, Some(&search))?;
         self.bank.set_search(search);
         self.roots = renewed.0;
         self.work = renewed.1;
@@ -367,7 +367,7 @@ impl Session {
     {
         let name = FileName::new(self.memory.alloc(), &Name::new(name).unwrap())?;
         let answer = self.bank.file_answer(self.memory.alloc(), &files, &name)?;
-        let renewed = self.renewed_with(&Key::File(name.clone()?), answer.as_ref())?;
+        let renewed = self.renewed_with(&RootKey::File(name.clone()?), answer.as_ref())?;
         self.bank.set_files(name, files, answer)?;
         self.roots = renewed.0;
         self.work = renewed.1;
@@ -378,21 +378,21 @@ impl Session {
     fn renewed_with_macro(
         &mut self,
         word: &Bytes,
-        answer: Option<&Answer>,
+        answer: Option<&RootAnswer>,
     ) -> Result<(RootTable, Work), AllocError>
         ensures renewed { IfOk result
             (IsRenewed self.old.project (keys.Macro word.now) (option_copied answer.entry)) }
         ensures same { self.new ≡ self.old }
     {
-        let key = Key::Macro(word.clone()?);
+        let key = RootKey::Macro(word.clone()?);
         Ok(self.renewed_with(&key, answer)?)
     }
 
     // All roots as they are once this key has another answer, and the work of that.
     fn renewed_with(
         &mut self,
-        key: &Key,
-        answer: Option<&Answer>,
+        key: &RootKey,
+        answer: Option<&RootAnswer>,
     ) -> Result<(RootTable, Work), AllocError>
         ensures renewed { IfOk result
             (IsRenewed self.old.project key.now (option_copied answer.entry)) }

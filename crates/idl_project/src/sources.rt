@@ -16,7 +16,7 @@ use crate::directories::directories;
 use crate::macro_body::MacroBody;
 use crate::word::spelled;
 use idl_base::Seq;
-use idl_event::{Answer, Key};
+use idl_event::{RootAnswer, RootKey};
 use idl_fault::FileName;
 use idl_macro::is_macro_word;
 use idl_memo::Bank;
@@ -112,7 +112,8 @@ impl Sources {
         ensures { IsMade (Search (map (λ bytes. bytes.now) list.now)) self.old self.new result }
     {
         let list = directories(self.memory.alloc(), list)?;
-        self.bank.set_search(Answer::Search(Seq::from_vec(list)));
+        self.bank
+            .set_search(RootAnswer::Search(Seq::from_vec(list)));
         Ok(())
     }
 
@@ -156,14 +157,14 @@ impl Sources {
 impl Bank for Sources {
     ghost use Rattle.idl_project.specs.Bank.{bank_of};
 
-    type Key = Key;
+    type Key = RootKey;
 
-    type Answer = Answer;
+    type Answer = RootAnswer;
 
     ghost at = { bank_of };
 
     #[inline]
-    fn answer(&self, key: &Key) -> Option<&Answer> {
+    fn answer(&self, key: &RootKey) -> Option<&RootAnswer> {
         self.bank.answer(key)
     }
 }

@@ -18,8 +18,8 @@ use Rattle.idl_entity.specs.declared.signature.Member.{Member}
 use Rattle.idl_value.specs.Spelled.{value_word}
 use Rattle.idl_value.specs.declared.integer.IntegerKind.{IntegerKind}
 use Rattle.idl_value.specs.declared.integer.IntegerKind.TheVariants as integer
-use Rattle.idl_value.specs.declared.constant_type.Target.{Target}
-use Rattle.idl_value.specs.declared.constant_type.Target.TheVariants as target
+use Rattle.idl_value.specs.declared.constant_type.ConstantType.{ConstantType}
+use Rattle.idl_value.specs.declared.constant_type.ConstantType.TheVariants as target
 use Rattle.idl_value.specs.declared.value.Value.{Value}
 use Rattle.idl_value.specs.declared.value.Value.TheVariants as value
 
@@ -42,7 +42,7 @@ abbrev pub string_word : List ℕ → Option ℕ → List ℕ
 string_word word bound = word ++ (bound_word bound ++ codes ")")
 
 -- a type of keywords of which there are constants; an enum has a name
-abbrev pub target_word : Target → List ℕ
+abbrev pub target_word : ConstantType → List ℕ
 target_word (target.Integer k) = integer_word k
 target_word target.Boolean = codes "tk_boolean"
 target_word target.Character = codes "tk_char"

@@ -11,7 +11,7 @@ use crate::row_writer::RowWriter;
 use idl_base::{Bytes, Shared};
 use idl_entity::{DataType, Element, Entity, Kind, Layer, Member, Path, Signature, Unvalued};
 use idl_env::{Answer, push_id_at};
-use idl_value::{IntegerKind, Target, Value};
+use idl_value::{ConstantType, IntegerKind, Value};
 use std::alloc::AllocError;
 
 /// What a TypeCode is of.
@@ -333,18 +333,18 @@ fn size_of(layer: Layer) -> u32
 }
 
 // A type of keywords of which there are constants. An enum has a name.
-fn push_target(text: &mut Vec<u8>, target: &Target) -> Result<(), AllocError>
+fn push_target(text: &mut Vec<u8>, target: &ConstantType) -> Result<(), AllocError>
     ensures { OnOk result
         (text.new.items ≡ text.old.items ++ target_word target.now) }
 {
     match target {
-        Target::Integer(kind) => text.extend_from_slice(integer_word(*kind)),
-        Target::Boolean => text.extend_from_slice(b"tk_boolean"),
-        Target::Character => text.extend_from_slice(b"tk_char"),
-        Target::WideCharacter => text.extend_from_slice(b"tk_wchar"),
-        Target::Text(bound) => push_string(text, b"tk_string(", *bound),
-        Target::WideText(bound) => push_string(text, b"tk_wstring(", *bound),
-        Target::Enumeration(_path) => Ok(()),
+        ConstantType::Integer(kind) => text.extend_from_slice(integer_word(*kind)),
+        ConstantType::Boolean => text.extend_from_slice(b"tk_boolean"),
+        ConstantType::Character => text.extend_from_slice(b"tk_char"),
+        ConstantType::WideCharacter => text.extend_from_slice(b"tk_wchar"),
+        ConstantType::Text(bound) => push_string(text, b"tk_string(", *bound),
+        ConstantType::WideText(bound) => push_string(text, b"tk_wstring(", *bound),
+        ConstantType::Enumeration(_path) => Ok(()),
     }
 }
 

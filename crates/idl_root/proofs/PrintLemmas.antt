@@ -6,7 +6,7 @@ use Rattle.std.proofs.lemmas.Grind.{flat_map-append}
 use Rattle.std.proofs.lemmas.List.{append-nil, at_drop_more, map-append}
 use Rattle.idl_base.proofs.SpanLemmas.{pieces-one, within-one}
 use Rattle.idl_base.specs.Spans.{AreWithin, pieces}
-use Rattle.idl_base.specs.declared.texts.Span.{Span}
+use Rattle.idl_base.specs.declared.texts.ByteRange.{ByteRange}
 use Rattle.idl_event.specs.declared.told.site.Site.{Site}
 use Rattle.idl_repo.specs.Entry.{IsPushed}
 use Rattle.idl_repo.specs.declared.entry.Entry.{Entry}
@@ -58,7 +58,7 @@ sought-more f there names name =
     ap (λ l. there ++ l) (flat_map-append f names (name ∷ []) ∙ ap (λ l. flat_map f names ++ l) (append-nil (f name)))
     ∙ sym (append_assoc there (flat_map f names) (f name))
 
-pub rows-one : (e : Entry) (pushed : Pushed) (old new : List ℕ) (spans : List Span) (span : Span) → IsPushed e pushed old new → pushed.has_row ≡ true → AreWithin old spans
+pub rows-one : (e : Entry) (pushed : Pushed) (old new : List ℕ) (spans : List ByteRange) (span : ByteRange) → IsPushed e pushed old new → pushed.has_row ≡ true → AreWithin old spans
     → span.from ≡ length old → span.to ≡ length new
     → AreWithin new (spans ++ span ∷ []) × (pieces new (spans ++ span ∷ []) ≡ pieces old spans ++ option_to_list e.row)
 rows-one e pushed old new spans span is has within from to =

@@ -15,5 +15,5 @@ pub use fault::{NameCode, NameFault};
 pub use found::Found;
 pub use idl_entity::Entity;
 pub use idl_env::{Env, Facts, Key};
-pub use lookup::{Place, View};
+pub use lookup::{ScopeAt, View};
 pub use naming::{Standpoint, resolve};

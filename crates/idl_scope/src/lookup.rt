@@ -29,7 +29,7 @@ pub struct View<'a> {
 
 /// A scope in which a name is looked for: what it is of, and its path.
 #[derive(Clone, Copy)]
-pub struct Place<'a> {
+pub struct ScopeAt<'a> {
     pub kind: Kind,
     pub path: &'a Path,
 }
@@ -197,7 +197,7 @@ impl<'a> View<'a> {
     pub fn has(
         self,
         log: &mut Journal<Env>,
-        place: Place<'_>,
+        place: ScopeAt<'_>,
         name: &Bytes,
     ) -> Result<Vec<&'a Shared<Entity>>, AllocError>
         ensures { IfOk result (λ es.
@@ -234,7 +234,7 @@ impl<'a> View<'a> {
     pub(crate) fn found_in(
         self,
         log: &mut Journal<Env>,
-        place: Place<'_>,
+        place: ScopeAt<'_>,
         name: &Bytes,
     ) -> Result<Finds<'a>, AllocError>
         ensures { IfOk result (λ found.
@@ -272,7 +272,7 @@ impl<'a> View<'a> {
     {
         let mut rest = scopes;
         'scopes: while let Some((scope, outer)) = rest.split_first() {
-            let place = Place {
+            let place = ScopeAt {
                 kind: scope.kind,
                 path: &scope.path,
             };

@@ -13,7 +13,7 @@ ghost use Rattle.idl_lex.specs.kinds.Keywords.{folded};
 use crate::fault::{NameCode, NameFault};
 use crate::finds::Finds;
 use crate::found::Found;
-use crate::lookup::{Place, View};
+use crate::lookup::{ScopeAt, View};
 use idl_base::{Bytes, Shared};
 use idl_entity::{Entity, Kind, Path};
 use idl_env::{Env, Facts, OpenScopes};
@@ -126,7 +126,7 @@ impl<'a> View<'a> {
         let folded = name.first.to_folded(self.env.alloc())?;
         if name.is_global {
             let path = Path::global();
-            let place = Place {
+            let place = ScopeAt {
                 kind: Kind::Module,
                 path: &path,
             };
@@ -151,7 +151,7 @@ impl<'a> View<'a> {
             (answers self.entry.env.now) log.old) }
     {
         let folded = name.to_folded(self.env.alloc())?;
-        let place = Place {
+        let place = ScopeAt {
             kind: before.kind(),
             path: before.path(),
         };

@@ -13,7 +13,7 @@ use Rattle.std.specs.FinMap.{is_sorted, put}
 use Rattle.std.specs.FinMap.Entries.{find, find-where_key, is_sorted-put, is_sorted-where_key, where_key}
 use Rattle.std.specs.declared.rc.Rc.{Rc}
 use Rattle.std.proofs.lemmas.List.{length-map}
-use Rattle.idl_source.specs.declared.texts.entries.Entry.{Entry}
+use Rattle.idl_source.specs.declared.texts.entries.NamedFile.{NamedFile}
 use Rattle.idl_source.specs.declared.refusal.Refusal.TheVariants.{BadName, NoSuchFile, OutsideFile, OverLimit}
 use Rattle.idl_source.specs.texts.Entries.{entry_of, entries_of, IsAt, IsGapFor}
 use Rattle.idl_source.specs.names.Name.{is_name}
@@ -28,25 +28,25 @@ abbrev pub texts : List (List ℕ × List (List ℕ)) → Texts
 texts es = finite.from_sorted es
 
 -- there are as many files as entries
-pub len-texts : (entries : List (Rc Entry Global)) → AreSorted (entries_of entries) → finite.len (texts (entries_of entries)) ≡ length entries
+pub len-texts : (entries : List (Rc NamedFile Global)) → AreSorted (entries_of entries) → finite.len (texts (entries_of entries)) ≡ length entries
 len-texts entries sorted =
     finite.len-entries (texts (entries_of entries))
     ∙ ap length (finite.entries-from_sorted (slice_cmp nat_cmp) (entries_of entries) (holds _ sorted))
     ∙ length-map entries entry_of
 
 -- the entry at the place of a name has its file
-pub get-texts-at : (entries : List (Rc Entry Global)) (name : List ℕ) (i : ℕ) (d : Rc Entry Global) → AreSorted (entries_of entries) → IsAt entries name i
+pub get-texts-at : (entries : List (Rc NamedFile Global)) (name : List ℕ) (i : ℕ) (d : Rc NamedFile Global) → AreSorted (entries_of entries) → IsAt entries name i
     → finite.get (texts (entries_of entries)) name ≡ Some (get_or entries i d).value.file
 get-texts-at entries name i d sorted at =
     finite.get-from_sorted (slice_cmp nat_cmp) (entries_of entries) name (holds _ sorted)
-    ∙ find_found (slice_cmp nat_cmp) nat_list_cmp_total (λ (e : Rc Entry Global). e.value.name) (λ (e : Rc Entry Global). e.value.file) entries name i d at.in_range (at.has_name d) (holds _ sorted)
+    ∙ find_found (slice_cmp nat_cmp) nat_list_cmp_total (λ (e : Rc NamedFile Global). e.value.name) (λ (e : Rc NamedFile Global). e.value.file) entries name i d at.in_range (at.has_name d) (holds _ sorted)
 
 -- a name that has a gap has no file
-pub get-texts-gap : (entries : List (Rc Entry Global)) (name : List ℕ) (i : ℕ) → AreSorted (entries_of entries) → IsGapFor entries name i
+pub get-texts-gap : (entries : List (Rc NamedFile Global)) (name : List ℕ) (i : ℕ) → AreSorted (entries_of entries) → IsGapFor entries name i
     → finite.get (texts (entries_of entries)) name ≡ None
 get-texts-gap entries name i sorted gap =
     finite.get-from_sorted (slice_cmp nat_cmp) (entries_of entries) name (holds _ sorted)
-    ∙ find_gap (slice_cmp nat_cmp) nat_list_cmp_total (λ (e : Rc Entry Global). e.value.name) (λ (e : Rc Entry Global). e.value.file) entries name i gap.lower_before gap.higher_after
+    ∙ find_gap (slice_cmp nat_cmp) nat_list_cmp_total (λ (e : Rc NamedFile Global). e.value.name) (λ (e : Rc NamedFile Global). e.value.file) entries name i gap.lower_before gap.higher_after
 
 -- to put an entry is to insert it
 pub texts-put : (es : List (List ℕ × List (List ℕ))) (name : List ℕ) (lines : List (List ℕ)) → AreSorted es
@@ -81,7 +81,7 @@ put-entries es fs name lines sorted is =
     (subst AreSorted (sym is) (AreSorted-put es name lines sorted), texts-put es name lines sorted ∙ ap texts (sym is))
 
 -- no entries are no files, and some are some
-pub no-entries : (entries : List (Rc Entry Global)) → AreSorted (entries_of entries) → (length entries ≡ 0 → texts (entries_of entries) ≡ finite.empty) × (texts (entries_of entries) ≡ finite.empty → length entries ≡ 0)
+pub no-entries : (entries : List (Rc NamedFile Global)) → AreSorted (entries_of entries) → (length entries ≡ 0 → texts (entries_of entries) ≡ finite.empty) × (texts (entries_of entries) ≡ finite.empty → length entries ≡ 0)
 no-entries entries sorted = (
   (λ none. finite.empty_of_len _ (len-texts entries sorted ∙ none)),
   (λ none. sym (len-texts entries sorted) ∙ ap finite.len none ∙ finite.len-empty (slice_cmp nat_cmp) (List (List ℕ))),
@@ -114,16 +114,16 @@ texts-where es name sorted =
     (true_from _ still, finite.same_map o (finite.slice_cmp-IsAntisymmetric finite.nat_cmp-IsAntisymmetric) _ _ same)
 
 -- a name that has a place has a file
-pub is_none-texts-at : (entries : List (Rc Entry Global)) (name : List ℕ) (i : ℕ) → AreSorted (entries_of entries) → IsAt entries name i → is_none (finite.get (texts (entries_of entries)) name) ≡ false
+pub is_none-texts-at : (entries : List (Rc NamedFile Global)) (name : List ℕ) (i : ℕ) → AreSorted (entries_of entries) → IsAt entries name i → is_none (finite.get (texts (entries_of entries)) name) ≡ false
 is_none-texts-at [] name i sorted at = absurd (omega (arith, at.in_range))
 is_none-texts-at (e ∷ es) name i sorted at = ap is_none (get-texts-at (e ∷ es) name i e sorted at)
 
 -- entries without the one at the place of a name
-pub remove-entries : (entries : List (Rc Entry Global)) (fs : List (List ℕ × List (List ℕ))) (name : List ℕ) (i : ℕ) → AreSorted (entries_of entries) → IsAt entries name i → fs ≡ remove (entries_of entries) i
+pub remove-entries : (entries : List (Rc NamedFile Global)) (fs : List (List ℕ × List (List ℕ))) (name : List ℕ) (i : ℕ) → AreSorted (entries_of entries) → IsAt entries name i → fs ≡ remove (entries_of entries) i
     → AreSorted fs × ◌≡◌ {A = Texts} (finite.remove (texts (entries_of entries)) name) (texts fs)
 remove-entries [] fs name i sorted at is = absurd (omega (arith, at.in_range))
 remove-entries (e ∷ es) fs name i sorted at is =
-    let left = where_key-found (slice_cmp nat_cmp) nat_list_cmp_total (λ (e : Rc Entry Global). e.value.name) (λ (e : Rc Entry Global). e.value.file) (e ∷ es) name i e at.in_range (at.has_name e) (holds _ sorted) ∙ sym is in
+    let left = where_key-found (slice_cmp nat_cmp) nat_list_cmp_total (λ (e : Rc NamedFile Global). e.value.name) (λ (e : Rc NamedFile Global). e.value.file) (e ∷ es) name i e at.in_range (at.has_name e) (holds _ sorted) ∙ sym is in
     let sides = texts-where (entries_of (e ∷ es)) name sorted in
     (subst AreSorted left sides.0, sides.1 ∙ ap texts left)
 

@@ -3,8 +3,8 @@ use Rattle.std.proofs.Common.{◌≡◌, ℕ, true, false, List, [], ◌∷◌, 
 use Rattle.idl_lex.specs.kinds.Kind.{kind_of, name_of}
 use Rattle.idl_lex.specs.kinds.Number.{integer_value}
 use Rattle.idl_lex.specs.kinds.Literal.{literal_value}
-use Rattle.idl_lex.specs.declared.kinds.kind.Kind.{Kind}
-use Rattle.idl_lex.specs.declared.kinds.kind.Kind.TheVariants as kind
+use Rattle.idl_lex.specs.declared.kinds.kind.TokenKind.{TokenKind}
+use Rattle.idl_lex.specs.declared.kinds.kind.TokenKind.TheVariants as kind
 use Rattle.idl_syntax.specs.declared.fault.SyntaxFault.{SyntaxFault}
 use Rattle.idl_syntax.specs.declared.fault.SyntaxFault.TheVariants as fault
 use Rattle.idl_syntax.specs.Gives.{Fails}
@@ -49,11 +49,11 @@ unfolding literal_at pieces_at all_with
 wide_text_value None ts = refl
 wide_text_value (Some piece) ts = wide_text_pieces piece (many_of (λ t. is_some (wide_text_of t)) (pick wide_text_of) ts)
 
-is_text : (k : Kind) → is_text_kind k ≡ true → k ≡ kind.String
+is_text : (k : TokenKind) → is_text_kind k ≡ true → k ≡ kind.String
 is_text kind.String h = refl
 is_text others h = absurd cc
 
-is_wide_text : (k : Kind) → is_wide_text_kind k ≡ true → k ≡ kind.WideString
+is_wide_text : (k : TokenKind) → is_wide_text_kind k ≡ true → k ≡ kind.WideString
 is_wide_text kind.WideString h = refl
 is_wide_text others h = absurd cc
 
@@ -83,7 +83,7 @@ unfolding literal_at
 valued_alone ts make None each = refl
 valued_alone ts make (Some a) each = each a
 
-kind_alone : (k : Kind) (t : List ℕ) (ts : List Lexeme) → is_text_kind k ≡ false → is_wide_text_kind k ≡ false → literal_at (lexeme_by k t ∷ ts) ≡ single_at (lexeme_by k t ∷ ts)
+kind_alone : (k : TokenKind) (t : List ℕ) (ts : List Lexeme) → is_text_kind k ≡ false → is_wide_text_kind k ≡ false → literal_at (lexeme_by k t ∷ ts) ≡ single_at (lexeme_by k t ∷ ts)
 unfolding literal_at
 kind_alone kind.String t ts h g = absurd cc
 kind_alone kind.WideString t ts h g = absurd cc

@@ -1,8 +1,8 @@
 -- Literals, by the kinds of their tokens.
 use Rattle.std.specs.Prelude.{ℕ, List, [], ◌∷◌, Bool, true, false, is_some, Ok}
 use Rattle.idl_lex.specs.kinds.Kind.{kind_of}
-use Rattle.idl_lex.specs.declared.kinds.kind.Kind.{Kind}
-use Rattle.idl_lex.specs.declared.kinds.kind.Kind.TheVariants as kind
+use Rattle.idl_lex.specs.declared.kinds.kind.TokenKind.{TokenKind}
+use Rattle.idl_lex.specs.declared.kinds.kind.TokenKind.TheVariants as kind
 use Rattle.idl_tree.specs.reading.ReadConstruction.{all_with}
 use Rattle.idl_tree.specs.reading.ReadExpression.{wide_text_of, single_of, single_literal}
 use Rattle.idl_tree.specs.reading.Reading.{Reader, ◌>>=◌}
@@ -10,11 +10,11 @@ use Rattle.idl_tree.specs.reading.Tests.{pick}
 use Rattle.idl_tree.specs.declared.literal.Literal.{Literal}
 use Rattle.idl_tree.specs.declared.several.Several.{Several}
 
-abbrev pub is_text_kind : Kind → Bool
+abbrev pub is_text_kind : TokenKind → Bool
 is_text_kind kind.String = true
 is_text_kind others = false
 
-abbrev pub is_wide_text_kind : Kind → Bool
+abbrev pub is_wide_text_kind : TokenKind → Bool
 is_wide_text_kind kind.WideString = true
 is_wide_text_kind others = false
 

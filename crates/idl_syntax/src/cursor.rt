@@ -11,7 +11,7 @@ ghost use Rattle.idl_syntax.specs.Next.{closed_with, mark_of, named_with};
 use crate::fault::SyntaxFault;
 use idl_base::Bytes;
 use idl_lex::Token;
-use idl_lex::kinds::{Keyword, Kind, Mark};
+use idl_lex::kinds::{Keyword, Mark, TokenKind};
 use std::alloc::AllocError;
 
 /// The mark that the next token is.
@@ -21,7 +21,7 @@ pub fn punctuation(tokens: &[Token]) -> Option<Mark>
 {
     match tokens {
         [token, ..] => match token.kind() {
-            Kind::Punctuation(mark) => Some(mark),
+            TokenKind::Punctuation(mark) => Some(mark),
             _ => None,
         },
         [] => None,
@@ -35,7 +35,7 @@ pub fn keyword(tokens: &[Token]) -> Option<Keyword>
 {
     match tokens {
         [token, ..] => match token.kind() {
-            Kind::Accepted(keyword) => Some(keyword),
+            TokenKind::Accepted(keyword) => Some(keyword),
             _ => None,
         },
         [] => None,

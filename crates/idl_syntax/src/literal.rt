@@ -14,7 +14,7 @@ ghost use Rattle.idl_syntax.specs.Literal.{is_at_text, is_at_wide_text, single_a
 use crate::fault::SyntaxFault;
 use idl_base::Seq;
 use idl_lex::Token;
-use idl_lex::kinds::{Keyword, Kind, decode, integer_value};
+use idl_lex::kinds::{Keyword, TokenKind, decode, integer_value};
 use idl_tree::{Literal, Several};
 use std::alloc::{AllocError, Global};
 
@@ -39,7 +39,7 @@ fn is_at_text(tokens: &[Token]) -> bool
     ensures { result ≡ is_at_text tokens.now }
 {
     match tokens {
-        [token, ..] => matches!(token.kind(), Kind::String),
+        [token, ..] => matches!(token.kind(), TokenKind::String),
         [] => false,
     }
 }
@@ -49,7 +49,7 @@ fn is_at_wide_text(tokens: &[Token]) -> bool
     ensures { result ≡ is_at_wide_text tokens.now }
 {
     match tokens {
-        [token, ..] => matches!(token.kind(), Kind::WideString),
+        [token, ..] => matches!(token.kind(), TokenKind::WideString),
         [] => false,
     }
 }
@@ -88,7 +88,7 @@ fn text_piece(alloc: Global, tokens: &[Token]) -> Result<Option<Seq<u16>>, Alloc
 {
     match tokens {
         [token, ..] => match token.kind() {
-            Kind::String => decode(alloc, token.as_bytes()),
+            TokenKind::String => decode(alloc, token.as_bytes()),
             _ => Ok(None),
         },
         [] => Ok(None),
@@ -130,7 +130,7 @@ fn wide_text_piece(alloc: Global, tokens: &[Token]) -> Result<Option<Seq<u16>>, 
 {
     match tokens {
         [token, ..] => match token.kind() {
-            Kind::WideString => decode(alloc, token.as_bytes()),
+            TokenKind::WideString => decode(alloc, token.as_bytes()),
             _ => Ok(None),
         },
         [] => Ok(None),
@@ -158,11 +158,11 @@ fn value(alloc: Global, token: &Token) -> Result<Option<Literal>, AllocError>
         token.now)))) }
 {
     match token.kind() {
-        Kind::Integer => Ok(integer_value(token.as_bytes()).map(Literal::Integer)),
-        Kind::Character => Ok(character(alloc, token)?.map(Literal::Character)),
-        Kind::WideCharacter => Ok(character(alloc, token)?.map(Literal::WideCharacter)),
-        Kind::Accepted(Keyword::True) => Ok(Some(Literal::True)),
-        Kind::Accepted(Keyword::False) => Ok(Some(Literal::False)),
+        TokenKind::Integer => Ok(integer_value(token.as_bytes()).map(Literal::Integer)),
+        TokenKind::Character => Ok(character(alloc, token)?.map(Literal::Character)),
+        TokenKind::WideCharacter => Ok(character(alloc, token)?.map(Literal::WideCharacter)),
+        TokenKind::Accepted(Keyword::True) => Ok(Some(Literal::True)),
+        TokenKind::Accepted(Keyword::False) => Ok(Some(Literal::False)),
         _ => Ok(None),
     }
 }

@@ -12,7 +12,7 @@ ghost use Rattle.idl_syntax.specs.Behind.{behind_view};
 use crate::version::version;
 use idl_base::{Bytes, Seq};
 use idl_lex::Token;
-use idl_lex::kinds::{Kind, Mark, decode};
+use idl_lex::kinds::{Mark, TokenKind, decode};
 use idl_tree::{Pragma, ScopedName};
 use std::alloc::{AllocError, Global};
 
@@ -143,7 +143,7 @@ fn part(token: &Token) -> Result<Option<Bytes>, AllocError>
     ensures { IfOk result (λ part. part ≡ part_of token.now) }
 {
     match token.kind() {
-        Kind::Miscased => Ok(Some(token.spelling().clone()?)),
+        TokenKind::Miscased => Ok(Some(token.spelling().clone()?)),
         _ => token.shared_name(),
     }
 }
@@ -151,7 +151,7 @@ fn part(token: &Token) -> Result<Option<Bytes>, AllocError>
 fn is_separator(token: &Token) -> bool
     ensures { result ≡ is_separator (kind_of token.now) }
 {
-    matches!(token.kind(), Kind::Punctuation(Mark::ColonColon))
+    matches!(token.kind(), TokenKind::Punctuation(Mark::ColonColon))
 }
 
 /// The value of a narrow string literal.
@@ -159,7 +159,7 @@ fn text(alloc: Global, token: &Token) -> Result<Option<Seq<u16>>, AllocError>
     ensures { IfOk result (λ text. text ≡ text_of token.now) }
 {
     match token.kind() {
-        Kind::String => decode(alloc, token.as_bytes()),
+        TokenKind::String => decode(alloc, token.as_bytes()),
         _ => Ok(None),
     }
 }

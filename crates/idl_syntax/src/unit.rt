@@ -28,7 +28,7 @@ use idl_base::Bytes;
 use idl_lex::Token;
 use idl_lex::kinds::{Keyword, Mark};
 use idl_tree::declarations::{Construction, Forward};
-use idl_tree::{Constant, ConstantType, Exception, Tree, Typedef};
+use idl_tree::{Constant, ConstantTypeTree, Exception, Tree, Typedef};
 use std::alloc::Global;
 
 /// A unit, with parts of less than so many levels.
@@ -179,22 +179,22 @@ fn constant_type(
     alloc: Global,
     depth: usize,
     tokens: &[Token],
-) -> Result<(ConstantType, &[Token]), SyntaxFault>
+) -> Result<(ConstantTypeTree, &[Token]), SyntaxFault>
     ensures reads { Reads (constant_type_with (expression_at depth)) tokens.now result }
     ensures shorter { Advances tokens.now result }
 {
     match keyword(tokens) {
         Some(Keyword::String | Keyword::Wstring) => {
             let (string, rest) = string_type(alloc, depth, tokens)?;
-            Ok((ConstantType::String(string), rest))
+            Ok((ConstantTypeTree::String(string), rest))
         }
         None => {
             let (name, rest) = scoped_name(alloc, tokens)?;
-            Ok((ConstantType::Name(name), rest))
+            Ok((ConstantTypeTree::Name(name), rest))
         }
         _ => {
             let (discrete, rest) = discrete_type(tokens)?;
-            Ok((ConstantType::Discrete(discrete), rest))
+            Ok((ConstantTypeTree::Discrete(discrete), rest))
         }
     }
 }

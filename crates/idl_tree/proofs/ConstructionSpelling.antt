@@ -23,13 +23,13 @@ use Rattle.idl_tree.specs.declared.declarations.construction.MemberType.TheVaria
 use Rattle.idl_tree.specs.declared.declarations.construction.MemberType.TheVariants as member_type
 use Rattle.idl_tree.specs.declared.declarations.construction.Structure.{Structure}
 use Rattle.idl_tree.specs.declared.declarations.construction.Union.{Union}
-use Rattle.idl_tree.specs.declared.declarations.data_type.DataType.{DataType}
+use Rattle.idl_tree.specs.declared.declarations.data_type.TypeTree.{TypeTree}
 use Rattle.idl_tree.specs.declared.declarations.declarator.Declarator.{Declarator}
 use Rattle.idl_tree.specs.declared.several.Several.{Several}
 use Rattle.idl_tree.proofs.Many.{many_spell}
 use Rattle.idl_tree.proofs.SpellLemmas.{flat_map-map}
 
-pub spell_member_type-type : (t : DataType) → spell_member_type (member_type.Type t) ≡ spell_type t
+pub spell_member_type-type : (t : TypeTree) → spell_member_type (member_type.Type t) ≡ spell_type t
 unfolding spell_member_type
 spell_member_type-type t = ap (fold-MemberType Lexemes Lexemes Lexemes Lexemes Lexemes Lexemes construction_step member_type_step case_step member_step structure_step union_step) (sym (rolls-Type t))
     ∙ fold-roll-MemberType Lexemes Lexemes Lexemes Lexemes Lexemes Lexemes construction_step member_type_step case_step member_step structure_step union_step (MemberType-F.Type t)

@@ -7,8 +7,8 @@ use Rattle.idl_tree.specs.Lexeme.{Lexemes, Word, Punctuation, Identifier}
 use Rattle.idl_tree.specs.Name.{spell_name}
 use Rattle.idl_tree.specs.declared.declarations.data_type.BasicType.{BasicType}
 use Rattle.idl_tree.specs.declared.declarations.data_type.BasicType.TheVariants as basic
-use Rattle.idl_tree.specs.declared.declarations.data_type.DataType.{DataType, fold-DataType}
-use Rattle.idl_tree.specs.declared.declarations.data_type.DataType.TheOpen.{DataType-F, Sequence-F}
+use Rattle.idl_tree.specs.declared.declarations.data_type.TypeTree.{TypeTree, fold-TypeTree}
+use Rattle.idl_tree.specs.declared.declarations.data_type.TypeTree.TheOpen.{TypeTree-F, Sequence-F}
 use Rattle.idl_tree.specs.declared.declarations.data_type.DiscreteType.{DiscreteType}
 use Rattle.idl_tree.specs.declared.declarations.data_type.DiscreteType.TheVariants as discrete
 use Rattle.idl_tree.specs.declared.declarations.data_type.IntegerSize.{IntegerSize}
@@ -71,17 +71,17 @@ spell_limit None = []
 spell_limit (Some e) = Punctuation mark.Comma ∷ spell_expression e
 
 -- type = ptype | "sequence" "<" type [ "," expr ] ">"
-abbrev pub data_type_step : DataType-F Lexemes Lexemes → Lexemes
-data_type_step (DataType-F.Plain p) = spell_plain p
-data_type_step (DataType-F.Sequence inner) = inner
+abbrev pub data_type_step : TypeTree-F Lexemes Lexemes → Lexemes
+data_type_step (TypeTree-F.Plain p) = spell_plain p
+data_type_step (TypeTree-F.Sequence inner) = inner
 
 abbrev pub sequence_step : Sequence-F Lexemes Lexemes → Lexemes
 sequence_step s =
     Word word.Sequence ∷ Punctuation mark.Less
     ∷ (s.element ++ (spell_limit s.bound ++ Punctuation mark.Greater ∷ []))
 
-unfoldable pub spell_type : DataType → Lexemes
-spell_type = fold-DataType Lexemes Lexemes data_type_step sequence_step
+unfoldable pub spell_type : TypeTree → Lexemes
+spell_type = fold-TypeTree Lexemes Lexemes data_type_step sequence_step
 
 -- "[" expr "]"
 abbrev pub spell_length : Expression → Lexemes

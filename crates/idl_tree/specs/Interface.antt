@@ -14,7 +14,7 @@ use Rattle.idl_tree.specs.declared.declarations.attribute.AttributeRaises.TheVar
 use Rattle.idl_tree.specs.declared.declarations.attribute.ReadonlyAttribute.{ReadonlyAttribute}
 use Rattle.idl_tree.specs.declared.declarations.attribute.ReadonlyNames.{ReadonlyNames}
 use Rattle.idl_tree.specs.declared.declarations.attribute.ReadonlyNames.TheVariants as readonly
-use Rattle.idl_tree.specs.declared.declarations.data_type.DataType.{DataType}
+use Rattle.idl_tree.specs.declared.declarations.data_type.TypeTree.{TypeTree}
 use Rattle.idl_tree.specs.declared.declarations.interface.Forward.{Forward}
 use Rattle.idl_tree.specs.declared.declarations.interface.Forward.TheVariants as forward
 use Rattle.idl_tree.specs.declared.declarations.interface.Interface.{Interface}
@@ -103,7 +103,7 @@ spell_oneway true = Word word.Oneway ∷ []
 spell_oneway false = []
 
 -- "void" | type
-abbrev pub spell_result : Option DataType → Lexemes
+abbrev pub spell_result : Option TypeTree → Lexemes
 spell_result None = Word word.Void ∷ []
 spell_result (Some t) = spell_type t
 

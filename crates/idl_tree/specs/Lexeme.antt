@@ -4,8 +4,8 @@ use Rattle.idl_lex.specs.kinds.Kind.{kind_of, name_of}
 use Rattle.idl_lex.specs.kinds.Literal.{literal_value}
 use Rattle.idl_lex.specs.kinds.Number.{integer_value}
 use Rattle.idl_lex.specs.declared.kinds.keyword.Keyword.{Keyword}
-use Rattle.idl_lex.specs.declared.kinds.kind.Kind.{Kind}
-use Rattle.idl_lex.specs.declared.kinds.kind.Kind.TheVariants as kind
+use Rattle.idl_lex.specs.declared.kinds.kind.TokenKind.{TokenKind}
+use Rattle.idl_lex.specs.declared.kinds.kind.TokenKind.TheVariants as kind
 use Rattle.idl_lex.specs.declared.kinds.mark.Mark.{Mark}
 
 -- A keyword, a mark, an identifier without its escape, a literal by its value, or what stands in
@@ -39,7 +39,7 @@ one_character None = None
 one_character (Some characters) = only_one characters
 
 -- what the grammar knows of a token of this kind
-abbrev pub lexeme_by : Kind → List ℕ → Lexeme
+abbrev pub lexeme_by : TokenKind → List ℕ → Lexeme
 lexeme_by (kind.Accepted keyword) token = Word keyword
 lexeme_by (kind.Punctuation mark) token = Punctuation mark
 lexeme_by kind.Identifier token = valued Identifier (name_of token)

@@ -8,8 +8,8 @@ use Rattle.idl_lex.specs.kinds.Kind.{kind_of, name_of}
 use Rattle.idl_lex.specs.kinds.Literal.{literal_value}
 use Rattle.idl_lex.specs.kinds.Number.{number}
 use Rattle.idl_lex.specs.tokens.Tokens.{Token}
-use Rattle.idl_lex.specs.declared.kinds.kind.Kind.{Kind}
-use Rattle.idl_lex.specs.declared.kinds.kind.Kind.TheVariants.{Miscased, String, Punctuation}
+use Rattle.idl_lex.specs.declared.kinds.kind.TokenKind.{TokenKind}
+use Rattle.idl_lex.specs.declared.kinds.kind.TokenKind.TheVariants.{Miscased, String, Punctuation}
 use Rattle.idl_lex.specs.declared.kinds.mark.Mark.TheVariants.{ColonColon}
 use Rattle.idl_tree.specs.declared.name.ScopedName.{ScopedName}
 use Rattle.idl_tree.specs.declared.pragma.Pragma.{Pragma}
@@ -17,19 +17,19 @@ use Rattle.idl_tree.specs.declared.pragma.Pragma.TheVariants.{Prefix, Id, Versio
 
 -- the name that a token of this kind is: here a word may be like a keyword but for the case of
 -- letters
-abbrev pub part_by : Kind → Token → Option (List ℕ)
+abbrev pub part_by : TokenKind → Token → Option (List ℕ)
 part_by Miscased token = Some token
 part_by other token = name_of token
 
 abbrev pub part_of : Token → Option (List ℕ)
 part_of token = part_by (kind_of token) token
 
-abbrev pub is_separator : Kind → Bool
+abbrev pub is_separator : TokenKind → Bool
 is_separator (Punctuation ColonColon) = true
 is_separator other = false
 
 -- the value of a narrow string literal
-abbrev pub text_by : Kind → Token → Option (List ℕ)
+abbrev pub text_by : TokenKind → Token → Option (List ℕ)
 text_by String token = literal_value token
 text_by other token = None
 

@@ -10,8 +10,8 @@ use Rattle.idl_tree.specs.Lexeme.{Lexemes, Word, Punctuation, Identifier}
 use Rattle.idl_tree.specs.Name.{spell_name}
 use Rattle.idl_tree.specs.Several.{spell_listed}
 use Rattle.idl_tree.specs.declared.unit.Constant.{Constant}
-use Rattle.idl_tree.specs.declared.unit.ConstantType.{ConstantType}
-use Rattle.idl_tree.specs.declared.unit.ConstantType.TheVariants as kind
+use Rattle.idl_tree.specs.declared.unit.ConstantTypeTree.{ConstantTypeTree}
+use Rattle.idl_tree.specs.declared.unit.ConstantTypeTree.TheVariants as kind
 use Rattle.idl_tree.specs.declared.unit.Exception.{Exception}
 use Rattle.idl_tree.specs.declared.unit.Tree.{Tree}
 use Rattle.idl_tree.specs.declared.unit.Tree.TheVariants as tree
@@ -23,7 +23,7 @@ spell_typedef t =
     Word word.Typedef ∷ (spell_member_type t.kind ++ spell_listed spell_declarator t.declarators)
 
 -- ctype
-abbrev pub spell_constant_type : ConstantType → Lexemes
+abbrev pub spell_constant_type : ConstantTypeTree → Lexemes
 spell_constant_type (kind.Discrete d) = spell_discrete d
 spell_constant_type (kind.String s) = spell_string s
 spell_constant_type (kind.Name n) = spell_name n

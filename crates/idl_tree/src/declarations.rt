@@ -12,7 +12,7 @@ pub use construction::{
     Case, Construction, Discriminator, Enumeration, Label, Member, MemberType, Structure, Union,
 };
 pub use data_type::{
-    BasicType, DataType, DiscreteType, IntegerSize, IntegerType, PlainType, Sequence, StringType,
+    BasicType, DiscreteType, IntegerSize, IntegerType, PlainType, Sequence, StringType, TypeTree,
 };
 pub use declarator::Declarator;
 pub use interface::{Forward, Interface};

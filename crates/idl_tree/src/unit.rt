@@ -27,25 +27,25 @@ impl Drop for Typedef {
 }
 
 /// The type of a constant.
-pub enum ConstantType {
+pub enum ConstantTypeTree {
     Discrete(DiscreteType),
     String(StringType),
     Name(ScopedName),
 }
 
-impl Drop for ConstantType {
+impl Drop for ConstantTypeTree {
     fn drop(self) {
         match self {
-            ConstantType::Discrete(_a) => {}
-            ConstantType::String(_a) => {}
-            ConstantType::Name(_a) => {}
+            ConstantTypeTree::Discrete(_a) => {}
+            ConstantTypeTree::String(_a) => {}
+            ConstantTypeTree::Name(_a) => {}
         }
     }
 }
 
 /// A constant.
 pub struct Constant {
-    pub kind: ConstantType,
+    pub kind: ConstantTypeTree,
     pub name: Bytes,
     pub value: Expression,
 }

@@ -7,7 +7,7 @@ use Rattle.idl_lex.specs.tokens.Tokens.{Token}
 use Rattle.idl_unit.specs.Ending.{begins, closes, edge, ends, ends_by, ends_in, is_balanced, is_empty, is_interface, is_semicolon, opens, role, role_of, rule_by, rule_of, token_units}
 use Rattle.idl_lex.specs.declared.kinds.keyword.Keyword.{Keyword}
 use Rattle.idl_lex.specs.declared.kinds.keyword.Keyword.TheVariants as keyword
-use Rattle.idl_lex.specs.declared.kinds.kind.Kind.TheVariants.{Accepted}
+use Rattle.idl_lex.specs.declared.kinds.kind.TokenKind.TheVariants.{Accepted}
 use Rattle.idl_unit.specs.declared.role.Role.{Role}
 use Rattle.idl_unit.specs.declared.role.Role.TheVariants.{OpenBrace, CloseBrace, Semicolon, Module, Interface, Local, Other}
 use Rattle.idl_unit.specs.declared.role.Rule.{Rule}

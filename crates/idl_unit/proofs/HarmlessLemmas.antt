@@ -11,13 +11,13 @@ use Rattle.idl_lex.specs.kinds.Kind.{kind_of}
 use Rattle.idl_lex.specs.tokens.Tokens.{Token}
 use Rattle.idl_lex.specs.declared.kinds.keyword.Keyword.{Keyword}
 use Rattle.idl_lex.specs.declared.kinds.keyword.Keyword.TheVariants as keyword
-use Rattle.idl_lex.specs.declared.kinds.kind.Kind.{Kind}
-use Rattle.idl_lex.specs.declared.kinds.kind.Kind.TheVariants.{Accepted, Refused, Miscased, Identifier, Escaped, Integer, Character, WideCharacter, String, WideString, Punctuation, HeaderName, Preprocessing, Bad}
+use Rattle.idl_lex.specs.declared.kinds.kind.TokenKind.{TokenKind}
+use Rattle.idl_lex.specs.declared.kinds.kind.TokenKind.TheVariants.{Accepted, Refused, Miscased, Identifier, Escaped, Integer, Character, WideCharacter, String, WideString, Punctuation, HeaderName, Preprocessing, Bad}
 use Rattle.idl_unit.specs.Faults.{least_fault}
 use Rattle.idl_unit.specs.TokenRules.{code_if, codes_beside, fault_at, faults_after, first, is_const, is_harmless, is_left_out, is_long, is_other_width, is_too_deep, nests, token_codes, token_faults, unnests}
 
 -- a kind before a token, if one is there, is harmless
-abbrev IsSafe : Option Kind → Type 0
+abbrev IsSafe : Option TokenKind → Type 0
 IsSafe None = ⊤
 IsSafe (Some kind) = is_harmless kind ≡ true
 
@@ -29,7 +29,7 @@ both : (a b : Bool) → (a && b) ≡ true → (a ≡ true) × (b ≡ true)
 both true b e = (refl, e)
 both false b e = cc
 
-not-const : (last : Option Kind) → IsSafe last → is_const last ≡ false
+not-const : (last : Option TokenKind) → IsSafe last → is_const last ≡ false
 not-const None safe = refl
 not-const (Some (Accepted word)) safe = off (is_const (Some (Accepted word))) safe
 not-const (Some Refused) safe = refl
@@ -46,12 +46,12 @@ not-const (Some HeaderName) safe = refl
 not-const (Some (Preprocessing mark)) safe = refl
 not-const (Some (Bad why)) safe = refl
 
-not-left-out : (word : Keyword) (last second : Option Kind) → IsSafe last → IsSafe second → is_left_out (Accepted word) last second ≡ false
+not-left-out : (word : Keyword) (last second : Option TokenKind) → IsSafe last → IsSafe second → is_left_out (Accepted word) last second ≡ false
 not-left-out keyword.Float last second l s = not-const last l
 not-left-out keyword.Double last second l s = or_from _ _ (not-const last l) (and_right (is_long last) _ (not-const second s))
 not-left-out other last second l s = refl
 
-one-width : (last : Option Kind) → IsSafe last → is_other_width String last ≡ false
+one-width : (last : Option TokenKind) → IsSafe last → is_other_width String last ≡ false
 one-width None safe = refl
 one-width (Some (Accepted word)) safe = refl
 one-width (Some Refused) safe = refl
@@ -69,7 +69,7 @@ one-width (Some (Preprocessing mark)) safe = refl
 one-width (Some (Bad why)) safe = refl
 
 -- a harmless token has no code beside harmless ones
-no-codes : (kind : Kind) (last second : Option Kind) → is_harmless kind ≡ true → IsSafe last → IsSafe second → codes_beside kind last second false ≡ []
+no-codes : (kind : TokenKind) (last second : Option TokenKind) → is_harmless kind ≡ true → IsSafe last → IsSafe second → codes_beside kind last second false ≡ []
 no-codes (Accepted word) last second safe l s = ap (λ b. code_if b LeftOut ++ []) (not-left-out word last second l s)
 no-codes Refused last second safe l s = cc
 no-codes Miscased last second safe l s = cc
@@ -85,19 +85,19 @@ no-codes HeaderName last second safe l s = refl
 no-codes (Preprocessing mark) last second safe l s = cc
 no-codes (Bad why) last second safe l s = cc
 
-safe-first : (before : List Kind) → list_all is_harmless before ≡ true → IsSafe (first before)
+safe-first : (before : List TokenKind) → list_all is_harmless before ≡ true → IsSafe (first before)
 safe-first [] all = tt
 safe-first (kind ∷ before) all = (both (is_harmless kind) (list_all is_harmless before) all).0
 
-safe-second : (before : List Kind) → list_all is_harmless before ≡ true → IsSafe (first (drop 1 before))
+safe-second : (before : List TokenKind) → list_all is_harmless before ≡ true → IsSafe (first (drop 1 before))
 safe-second [] all = tt
 safe-second (kind ∷ before) all = safe-first before (both (is_harmless kind) (list_all is_harmless before) all).1
 
 -- of 64 tokens no more brackets are open
-not-too-deep : (kinds : List Kind) → length kinds ≤ 64 → is_too_deep kinds ≡ false
+not-too-deep : (kinds : List TokenKind) → length kinds ≤ 64 → is_too_deep kinds ≡ false
 not-too-deep kinds few = le-ltb (count_by unnests kinds + 64) (count_by nests kinds) (omega (arith, count_by-le-length nests kinds, few))
 
-no-faults : (before kinds : List Kind) → list_all is_harmless before ≡ true → list_all is_harmless kinds ≡ true → length before + length kinds ≤ 64
+no-faults : (before kinds : List TokenKind) → list_all is_harmless before ≡ true → list_all is_harmless kinds ≡ true → length before + length kinds ≤ 64
     → faults_after before kinds ≡ []
 no-faults before [] safe all few = refl
 no-faults before (kind ∷ kinds) safe all few =

@@ -10,8 +10,8 @@ use Rattle.idl_lex.specs.kinds.Kind.{kind_of}
 use Rattle.idl_lex.specs.tokens.Tokens.{Token}
 use Rattle.idl_lex.specs.declared.kinds.kind.Defect.{Defect}
 use Rattle.idl_lex.specs.declared.kinds.kind.Defect.TheVariants as defect
-use Rattle.idl_lex.specs.declared.kinds.kind.Kind.{Kind}
-use Rattle.idl_lex.specs.declared.kinds.kind.Kind.TheVariants.{Accepted, Refused, Miscased, Identifier, Escaped, Integer, Character, WideCharacter, String, WideString, Punctuation, HeaderName, Preprocessing, Bad}
+use Rattle.idl_lex.specs.declared.kinds.kind.TokenKind.{TokenKind}
+use Rattle.idl_lex.specs.declared.kinds.kind.TokenKind.TheVariants.{Accepted, Refused, Miscased, Identifier, Escaped, Integer, Character, WideCharacter, String, WideString, Punctuation, HeaderName, Preprocessing, Bad}
 use Rattle.idl_unit.specs.Faults.{least_fault, lesser_fault}
 use Rattle.idl_unit.specs.TokenRules.{code_if, codes_beside, defect_code, fault_at, faults_after, first, is_left_out, is_other_width, is_too_deep, nests, token_codes, token_faults, unnests}
 use Rattle.idl_unit.specs.declared.fault.Fault.{Fault}
@@ -69,7 +69,7 @@ defect-number defect.IntegerTooLarge = omega arith
 defect-number defect.UnclosedComment = omega arith
 
 -- the codes of a token stand with the least first
-led : (kind : Kind) (last second : Option Kind) (deep : Bool) → IsLed (codes_beside kind last second deep)
+led : (kind : TokenKind) (last second : Option TokenKind) (deep : Bool) → IsLed (codes_beside kind last second deep)
 led (Accepted keyword) last second deep = led-after (is_left_out (Accepted keyword) last second) deep false
 led Refused last second deep = led-after true deep false
 led Miscased last second deep = led-after false deep true
@@ -106,12 +106,12 @@ fold-later f n (code ∷ codes) rest lt =
     ap (λ g. fold lesser_fault g (map (fault_at n) codes ++ rest)) (lesser-later f (fault_at n code) lt) ∙ fold-later f n codes rest lt
 
 -- those of later tokens are greater
-fold-after : (f : Fault) (before kinds : List Kind) → f.index < length before → fold lesser_fault f (faults_after before kinds) ≡ f
+fold-after : (f : Fault) (before kinds : List TokenKind) → f.index < length before → fold lesser_fault f (faults_after before kinds) ≡ f
 fold-after f before [] lt = refl
 fold-after f before (kind ∷ kinds) lt =
     fold-later f (length before) (token_codes before kind) (faults_after (kind ∷ before) kinds) lt ∙ fold-after f (kind ∷ before) kinds (omega arith)
 
-least-codes : (before : List Kind) (kind : Kind) (kinds : List Kind) (codes : List Code) (code : Code) → IsLed codes → Some code ≡ first codes
+least-codes : (before : List TokenKind) (kind : TokenKind) (kinds : List TokenKind) (codes : List Code) (code : Code) → IsLed codes → Some code ≡ first codes
     → least_fault (map (fault_at (length before)) codes ++ faults_after (kind ∷ before) kinds) ≡ Some (fault_at (length before) code)
 least-codes before kind kinds [] code led e = cc
 least-codes before kind kinds (c ∷ codes) code led e =
@@ -120,14 +120,14 @@ least-codes before kind kinds (c ∷ codes) code led e =
     ∙ fold-after (fault_at (length before) c) (kind ∷ before) kinds (omega arith)
     ∙ ap (fault_at (length before)) is)
 
-none-codes : (before : List Kind) (kind : Kind) (kinds : List Kind) (codes : List Code) → None ≡ first codes
+none-codes : (before : List TokenKind) (kind : TokenKind) (kinds : List TokenKind) (codes : List Code) → None ≡ first codes
     → map (fault_at (length before)) codes ++ faults_after (kind ∷ before) kinds ≡ faults_after (kind ∷ before) kinds
 none-codes before kind kinds [] e = refl
 none-codes before kind kinds (c ∷ codes) e = cc
 
 -- what is known of a walk before a token: the kinds of the tokens before it, the nearest first
 pub record IsWalked (unit : List Token) (index : ℕ) (state : Before) : Type 0 where
-  pub before : List Kind
+  pub before : List TokenKind
   pub faults : token_faults unit ≡ faults_after before (map kind_of (drop index unit))
   pub count : length before ≡ index
   pub last : first before ≡ state.last
@@ -139,10 +139,10 @@ pub opened-le : (unit : List Token) (index : ℕ) (state : Before) → IsWalked 
 opened-le unit index state w =
     (omega (arith, count_by-le-length nests w.before, w.opened, w.count), omega (arith, count_by-le-length unnests w.before, w.closed, w.count))
 
-count-cons : (p : Kind → Bool) (kind : Kind) (kinds : List Kind) → count_by p (kind ∷ kinds) ≡ cond (p kind) 1 0 + count_by p kinds
+count-cons : (p : TokenKind → Bool) (kind : TokenKind) (kinds : List TokenKind) → count_by p (kind ∷ kinds) ≡ cond (p kind) 1 0 + count_by p kinds
 count-cons p kind kinds = sum_by-cons (λ k. cond (p k) 1 0) kind kinds
 
-codes-are : (unit : List Token) (index : ℕ) (state : Before) (w : IsWalked unit index state) (kind : Kind) (through : Before)
+codes-are : (unit : List Token) (index : ℕ) (state : Before) (w : IsWalked unit index state) (kind : TokenKind) (through : Before)
     → through.opened ≡ cond (nests kind) 1 0 + state.opened → through.closed ≡ cond (unnests kind) 1 0 + state.closed
     → token_codes w.before kind ≡ codes_beside kind state.last state.second (nat_lt (through.closed + 64) through.opened)
 codes-are unit index state w kind through opened closed =
@@ -153,14 +153,14 @@ codes-are unit index state w kind through opened closed =
     ∙ ap (λ n. codes_beside kind state.last state.second (nat_lt (through.closed + 64) n))
     (count-cons nests kind w.before ∙ ap (λ n. cond (nests kind) 1 0 + n) w.opened ∙ sym opened)
 
-rest-is : (unit : List Token) (index : ℕ) (state : Before) (w : IsWalked unit index state) (t : Token) (kind : Kind) → drop index unit ≡ t ∷ drop (index + 1) unit → kind ≡ kind_of t
+rest-is : (unit : List Token) (index : ℕ) (state : Before) (w : IsWalked unit index state) (t : Token) (kind : TokenKind) → drop index unit ≡ t ∷ drop (index + 1) unit → kind ≡ kind_of t
     → token_faults unit ≡ map (fault_at (length w.before)) (token_codes w.before kind) ++ faults_after (kind ∷ w.before) (map kind_of (drop (index + 1) unit))
 rest-is unit index state w t kind next is =
     w.faults ∙ ap (λ ts. faults_after w.before (map kind_of ts)) next
     ∙ ap (λ k. faults_after w.before (k ∷ map kind_of (drop (index + 1) unit))) (sym is)
 
 -- a token with a code
-pub walked-fault : (unit : List Token) (index : ℕ) (state : Before) (w : IsWalked unit index state) (t : Token) (kind : Kind) (through : Before) (code : Code)
+pub walked-fault : (unit : List Token) (index : ℕ) (state : Before) (w : IsWalked unit index state) (t : Token) (kind : TokenKind) (through : Before) (code : Code)
     → drop index unit ≡ t ∷ drop (index + 1) unit → kind ≡ kind_of t
     → through.opened ≡ cond (nests kind) 1 0 + state.opened → through.closed ≡ cond (unnests kind) 1 0 + state.closed
     → Some code ≡ first (codes_beside kind state.last state.second (nat_lt (through.closed + 64) through.opened))
@@ -173,7 +173,7 @@ walked-fault unit index state w t kind through code next is opened closed e =
     ∙ ap (λ n. Some (fault_at n code)) w.count
 
 -- a token without
-pub walked-on : (unit : List Token) (index : ℕ) (state : Before) (w : IsWalked unit index state) (t : Token) (kind : Kind) (through : Before)
+pub walked-on : (unit : List Token) (index : ℕ) (state : Before) (w : IsWalked unit index state) (t : Token) (kind : TokenKind) (through : Before)
     → drop index unit ≡ t ∷ drop (index + 1) unit → kind ≡ kind_of t → through.last ≡ Some kind → through.second ≡ state.last
     → through.opened ≡ cond (nests kind) 1 0 + state.opened → through.closed ≡ cond (unnests kind) 1 0 + state.closed
     → None ≡ first (codes_beside kind state.last state.second (nat_lt (through.closed + 64) through.opened))

@@ -3,8 +3,8 @@ use Rattle.std.specs.Prelude.{Bool, true, false, ◌&&◌, ◌||◌, List, [], �
 use Rattle.idl_lex.specs.kinds.Kind.{kind_of}
 use Rattle.idl_lex.specs.tokens.Tokens.{Token}
 use Rattle.idl_lex.specs.declared.kinds.keyword.Keyword.TheVariants as keyword
-use Rattle.idl_lex.specs.declared.kinds.kind.Kind.{Kind}
-use Rattle.idl_lex.specs.declared.kinds.kind.Kind.TheVariants.{Accepted, Punctuation}
+use Rattle.idl_lex.specs.declared.kinds.kind.TokenKind.{TokenKind}
+use Rattle.idl_lex.specs.declared.kinds.kind.TokenKind.TheVariants.{Accepted, Punctuation}
 use Rattle.idl_lex.specs.declared.kinds.mark.Mark.TheVariants as mark
 use Rattle.idl_unit.specs.Cut.{parts}
 use Rattle.idl_unit.specs.declared.role.Role.{Role}
@@ -13,7 +13,7 @@ use Rattle.idl_unit.specs.declared.role.Rule.{Rule}
 use Rattle.idl_unit.specs.declared.role.Rule.TheVariants.{Closing, Heading, Declaration}
 
 -- what a token of this kind is for the cut
-abbrev pub role_of : Kind → Role
+abbrev pub role_of : TokenKind → Role
 role_of (Punctuation mark.OpenBrace) = OpenBrace
 role_of (Punctuation mark.CloseBrace) = CloseBrace
 role_of (Punctuation mark.Semicolon) = Semicolon

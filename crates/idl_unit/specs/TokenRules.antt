@@ -7,8 +7,8 @@ use Rattle.idl_lex.specs.tokens.Tokens.{Token}
 use Rattle.idl_lex.specs.declared.kinds.keyword.Keyword.TheVariants.{Const, Double, Float, Long}
 use Rattle.idl_lex.specs.declared.kinds.kind.Defect.{Defect}
 use Rattle.idl_lex.specs.declared.kinds.kind.Defect.TheVariants as defect
-use Rattle.idl_lex.specs.declared.kinds.kind.Kind.{Kind}
-use Rattle.idl_lex.specs.declared.kinds.kind.Kind.TheVariants.{Accepted, Refused, Miscased, String, WideString, Punctuation, Preprocessing, Bad}
+use Rattle.idl_lex.specs.declared.kinds.kind.TokenKind.{TokenKind}
+use Rattle.idl_lex.specs.declared.kinds.kind.TokenKind.TheVariants.{Accepted, Refused, Miscased, String, WideString, Punctuation, Preprocessing, Bad}
 use Rattle.idl_lex.specs.declared.kinds.mark.Mark.TheVariants.{OpenBrace, OpenParenthesis, OpenBracket, Less, CloseBrace, CloseParenthesis, CloseBracket, Greater}
 use Rattle.idl_unit.specs.declared.fault.Fault.{Fault}
 
@@ -25,35 +25,35 @@ defect_code defect.IntegerTooLarge = IntegerTooLarge
 defect_code defect.UnclosedComment = UnclosedComment
 
 -- a bad token, and a mark that the preprocessor alone knows
-abbrev pub bad_codes : Kind → List Code
+abbrev pub bad_codes : TokenKind → List Code
 bad_codes (Bad why) = defect_code why ∷ []
 bad_codes (Preprocessing mark) = BadToken ∷ []
 bad_codes other = []
 
 -- a wide string literal directly after a narrow one, or the other way round
-abbrev pub is_other_width : Kind → Option Kind → Bool
+abbrev pub is_other_width : TokenKind → Option TokenKind → Bool
 is_other_width WideString (Some String) = true
 is_other_width String (Some WideString) = true
 is_other_width kind last = false
 
-abbrev pub is_const : Option Kind → Bool
+abbrev pub is_const : Option TokenKind → Bool
 is_const (Some (Accepted Const)) = true
 is_const other = false
 
-abbrev pub is_long : Option Kind → Bool
+abbrev pub is_long : Option TokenKind → Bool
 is_long (Some (Accepted Long)) = true
 is_long other = false
 
 -- a refused keyword; `float` or `double` directly after `const`, and `double` directly after
 -- `const long`
-abbrev pub is_left_out : Kind → Option Kind → Option Kind → Bool
+abbrev pub is_left_out : TokenKind → Option TokenKind → Option TokenKind → Bool
 is_left_out Refused last second = true
 is_left_out (Accepted Float) last second = is_const last
 is_left_out (Accepted Double) last second = is_const last || (is_long last && is_const second)
 is_left_out other last second = false
 
 -- `{`, `(`, `[` and `<`
-abbrev pub nests : Kind → Bool
+abbrev pub nests : TokenKind → Bool
 nests (Punctuation OpenBrace) = true
 nests (Punctuation OpenParenthesis) = true
 nests (Punctuation OpenBracket) = true
@@ -61,7 +61,7 @@ nests (Punctuation Less) = true
 nests other = false
 
 -- `}`, `)`, `]` and `>`
-abbrev pub unnests : Kind → Bool
+abbrev pub unnests : TokenKind → Bool
 unnests (Punctuation CloseBrace) = true
 unnests (Punctuation CloseParenthesis) = true
 unnests (Punctuation CloseBracket) = true
@@ -69,11 +69,11 @@ unnests (Punctuation Greater) = true
 unnests other = false
 
 -- more than 64 are open
-abbrev pub is_too_deep : List Kind → Bool
+abbrev pub is_too_deep : List TokenKind → Bool
 is_too_deep kinds = nat_lt (count_by unnests kinds + 64) (count_by nests kinds)
 
 -- a word that differs from a keyword in the case of letters alone
-abbrev pub is_miscased : Kind → Bool
+abbrev pub is_miscased : TokenKind → Bool
 is_miscased Miscased = true
 is_miscased other = false
 
@@ -81,7 +81,7 @@ abbrev pub code_if : Bool → Code → List Code
 code_if b code = if b then code ∷ [] else []
 
 -- a token of this kind has no code beside others of such kinds, unless too many brackets are open
-abbrev pub is_harmless : Kind → Bool
+abbrev pub is_harmless : TokenKind → Bool
 is_harmless (Accepted keyword) = not (is_const (Some (Accepted keyword)))
 is_harmless Refused = false
 is_harmless Miscased = false
@@ -92,7 +92,7 @@ is_harmless other = true
 
 -- the codes of a token of this kind, directly before which these two stand, the nearer first, and
 -- with which too many brackets are open or not
-abbrev pub codes_beside : Kind → Option Kind → Option Kind → Bool → List Code
+abbrev pub codes_beside : TokenKind → Option TokenKind → Option TokenKind → Bool → List Code
 codes_beside kind last second deep =
     bad_codes kind
     ++ (code_if (is_other_width kind last) MixedWidths
@@ -106,7 +106,7 @@ first (x ∷ xs) = Some x
 
 -- the codes of a token of this kind, before which tokens of these kinds stand in its unit, the
 -- nearest first
-abbrev pub token_codes : List Kind → Kind → List Code
+abbrev pub token_codes : List TokenKind → TokenKind → List Code
 token_codes before kind =
     codes_beside kind (first before) (first (drop 1 before)) (is_too_deep (kind ∷ before))
 
@@ -115,7 +115,7 @@ fault_at n code = record { index = n; code = code }
 
 -- the faults of tokens of these kinds, before which those stand, the nearest first: each by its
 -- token's number
-abbrev pub faults_after : List Kind → List Kind → List Fault
+abbrev pub faults_after : List TokenKind → List TokenKind → List Fault
 faults_after before [] = []
 faults_after before (kind ∷ kinds) =
     map (fault_at (length before)) (token_codes before kind) ++ faults_after (kind ∷ before) kinds

@@ -12,7 +12,7 @@ ghost use Rattle.idl_unit.specs.Units.{units_of};
 use crate::ending::first_unit;
 use crate::site_run::SiteRun;
 use crate::unit::{Unit, UnitText, Units};
-use idl_event::{Event, Events, Expansion, Runs, Sites, Told};
+use idl_event::{Event, EventView, Events, Expansion, Runs, Sites};
 use idl_fault::Place;
 use idl_lex::Token;
 use idl_text::TokenRange;
@@ -105,7 +105,7 @@ impl<'a> Cut<'a> {
     }
 
     // Puts in what one event more gives.
-    fn put(&mut self, alloc: Global, number: usize, event: Told<'_>) -> Result<(), AllocError>
+    fn put(&mut self, alloc: Global, number: usize, event: EventView<'_>) -> Result<(), AllocError>
         requires { IsWithin self.old }
         ensures within { OnOk result (IsWithin self.new) }
         ensures units { OnOk result ((events : List Numbered)
@@ -113,8 +113,8 @@ impl<'a> Cut<'a> {
             ≡ to_come self.old ((number, event_told event.entry) ∷ events)) }
     {
         match event {
-            Told::Emitted(_file, _line, _token) => self.put_token(alloc),
-            Told::Other(event) => self.put_other(alloc, number, event),
+            EventView::Emitted(_file, _line, _token) => self.put_token(alloc),
+            EventView::Other(event) => self.put_other(alloc, number, event),
         }
     }
 

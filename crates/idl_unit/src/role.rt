@@ -2,10 +2,10 @@
 
 ghost use Rattle.std.specs.Prelude.{◌≡◌};
 ghost use Rattle.idl_unit.specs.Ending.{begins, edge, is_interface, role, role_of, rule_of};
-ghost use Rattle.idl_lex.specs.declared.kinds.kind.Kind.TheVariants.{Punctuation};
+ghost use Rattle.idl_lex.specs.declared.kinds.kind.TokenKind.TheVariants.{Punctuation};
 
 use idl_lex::Token;
-use idl_lex::kinds::{Keyword, Kind, Mark};
+use idl_lex::kinds::{Keyword, Mark, TokenKind};
 
 /// What a token is for the cut.
 #[derive(Clone, Copy)]
@@ -42,10 +42,10 @@ pub fn role_of(token: &Token) -> Role
     ensures { result ≡ role token.now }
 {
     match token.kind() {
-        Kind::Punctuation(mark) => mark_role(mark),
-        Kind::Accepted(Keyword::Module) => Role::Module,
-        Kind::Accepted(Keyword::Interface) => Role::Interface,
-        Kind::Accepted(Keyword::Local) => Role::Local,
+        TokenKind::Punctuation(mark) => mark_role(mark),
+        TokenKind::Accepted(Keyword::Module) => Role::Module,
+        TokenKind::Accepted(Keyword::Interface) => Role::Interface,
+        TokenKind::Accepted(Keyword::Local) => Role::Local,
         _ => Role::Other,
     }
 }
@@ -56,7 +56,7 @@ pub fn edge_of(token: &Token) -> Role
     ensures { result ≡ edge (role token.now) }
 {
     match token.kind() {
-        Kind::Punctuation(mark) => mark_role(mark),
+        TokenKind::Punctuation(mark) => mark_role(mark),
         _ => Role::Other,
     }
 }

@@ -10,7 +10,7 @@ ghost use Rattle.idl_unit.specs.TokenRules.{bad_codes, codes_beside, defect_code
 use crate::fault::Fault;
 use idl_fault::Code;
 use idl_lex::Token;
-use idl_lex::kinds::{Defect, Keyword, Kind, Mark};
+use idl_lex::kinds::{Defect, Keyword, Mark, TokenKind};
 
 /// How deep brackets may stand in one another.
 pub const MAX_NESTING: usize = 64;
@@ -34,13 +34,13 @@ fn are_harmless(unit: &[Token]) -> bool
 }
 
 // Whether a token of this kind has no fault beside others of such kinds, unless too many brackets are open.
-fn is_harmless(kind: Kind) -> bool
+fn is_harmless(kind: TokenKind) -> bool
     ensures { result ≡ is_harmless kind }
 {
     match kind {
-        Kind::Bad(_) | Kind::Preprocessing(_) => false,
-        Kind::Refused | Kind::Miscased | Kind::WideString => false,
-        Kind::Accepted(_) => !is_const(Some(kind)),
+        TokenKind::Bad(_) | TokenKind::Preprocessing(_) => false,
+        TokenKind::Refused | TokenKind::Miscased | TokenKind::WideString => false,
+        TokenKind::Accepted(_) => !is_const(Some(kind)),
         _ => true,
     }
 }
@@ -66,9 +66,9 @@ fn first_fault(unit: &[Token]) -> Option<Fault>
 #[derive(Clone, Copy)]
 struct Before {
     // The kind of the token directly before it.
-    last: Option<Kind>,
+    last: Option<TokenKind>,
     // The kind of the one before that.
-    second: Option<Kind>,
+    second: Option<TokenKind>,
     // How many brackets are opened.
     opened: usize,
     // How many are closed.
@@ -88,7 +88,7 @@ impl Before {
     }
 
     // With a token of this kind more.
-    fn with(self, kind: Kind) -> Before
+    fn with(self, kind: TokenKind) -> Before
         requires opened { self.opened < 2 ^ 64 - 1 }
         requires closed { self.closed < 2 ^ 64 - 1 }
         ensures last { result.last ≡ Some kind }
@@ -113,7 +113,7 @@ impl Before {
 }
 
 // The least code of a token of this kind, if it has one. With it too many brackets are open, or not.
-fn token_code(kind: Kind, before: Before, is_too_deep: bool) -> Option<Code>
+fn token_code(kind: TokenKind, before: Before, is_too_deep: bool) -> Option<Code>
     ensures { result ≡ first (codes_beside kind before.last before.second is_too_deep) }
 {
     if let Some(code) = bad_code(kind) {
@@ -129,18 +129,18 @@ fn token_code(kind: Kind, before: Before, is_too_deep: bool) -> Option<Code>
         return Some(Code::NestedTooDeep);
     }
     match kind {
-        Kind::Miscased => Some(Code::LikeKeyword),
+        TokenKind::Miscased => Some(Code::LikeKeyword),
         _ => None,
     }
 }
 
 // The code of a bad token, and of a mark that the preprocessor alone knows.
-fn bad_code(kind: Kind) -> Option<Code>
+fn bad_code(kind: TokenKind) -> Option<Code>
     ensures { option_to_list result ≡ bad_codes kind }
 {
     match kind {
-        Kind::Bad(defect) => Some(defect_code(defect)),
-        Kind::Preprocessing(_) => Some(Code::BadToken),
+        TokenKind::Bad(defect) => Some(defect_code(defect)),
+        TokenKind::Preprocessing(_) => Some(Code::BadToken),
         _ => None,
     }
 }
@@ -162,64 +162,64 @@ fn defect_code(defect: Defect) -> Code
 }
 
 // Whether a string literal comes directly after one of the other width.
-fn is_other_width(kind: Kind, last: Option<Kind>) -> bool
+fn is_other_width(kind: TokenKind, last: Option<TokenKind>) -> bool
     ensures { result ≡ is_other_width kind last }
 {
     match (kind, last) {
-        (Kind::WideString, Some(Kind::String)) => true,
-        (Kind::String, Some(Kind::WideString)) => true,
+        (TokenKind::WideString, Some(TokenKind::String)) => true,
+        (TokenKind::String, Some(TokenKind::WideString)) => true,
         _ => false,
     }
 }
 
 // Whether the token is a refused keyword, or one that stands for a floating constant's type.
-fn is_left_out(kind: Kind, last: Option<Kind>, second: Option<Kind>) -> bool
+fn is_left_out(kind: TokenKind, last: Option<TokenKind>, second: Option<TokenKind>) -> bool
     ensures { result ≡ is_left_out kind last second }
 {
     match kind {
-        Kind::Refused => true,
-        Kind::Accepted(Keyword::Float) => is_const(last),
-        Kind::Accepted(Keyword::Double) => is_const(last) || is_long(last) && is_const(second),
+        TokenKind::Refused => true,
+        TokenKind::Accepted(Keyword::Float) => is_const(last),
+        TokenKind::Accepted(Keyword::Double) => is_const(last) || is_long(last) && is_const(second),
         _ => false,
     }
 }
 
-fn is_const(kind: Option<Kind>) -> bool
+fn is_const(kind: Option<TokenKind>) -> bool
     ensures { result ≡ is_const kind }
 {
     match kind {
-        Some(Kind::Accepted(Keyword::Const)) => true,
+        Some(TokenKind::Accepted(Keyword::Const)) => true,
         _ => false,
     }
 }
 
-fn is_long(kind: Option<Kind>) -> bool
+fn is_long(kind: Option<TokenKind>) -> bool
     ensures { result ≡ is_long kind }
 {
     match kind {
-        Some(Kind::Accepted(Keyword::Long)) => true,
+        Some(TokenKind::Accepted(Keyword::Long)) => true,
         _ => false,
     }
 }
 
 // Whether it is `{`, `(`, `[` or `<`.
-fn nests(kind: Kind) -> bool
+fn nests(kind: TokenKind) -> bool
     ensures { result ≡ nests kind }
 {
     match kind {
-        Kind::Punctuation(Mark::OpenBrace | Mark::OpenParenthesis) => true,
-        Kind::Punctuation(Mark::OpenBracket | Mark::Less) => true,
+        TokenKind::Punctuation(Mark::OpenBrace | Mark::OpenParenthesis) => true,
+        TokenKind::Punctuation(Mark::OpenBracket | Mark::Less) => true,
         _ => false,
     }
 }
 
 // Whether it is `}`, `)`, `]` or `>`.
-fn unnests(kind: Kind) -> bool
+fn unnests(kind: TokenKind) -> bool
     ensures { result ≡ unnests kind }
 {
     match kind {
-        Kind::Punctuation(Mark::CloseBrace | Mark::CloseParenthesis) => true,
-        Kind::Punctuation(Mark::CloseBracket | Mark::Greater) => true,
+        TokenKind::Punctuation(Mark::CloseBrace | Mark::CloseParenthesis) => true,
+        TokenKind::Punctuation(Mark::CloseBracket | Mark::Greater) => true,
         _ => false,
     }
 }

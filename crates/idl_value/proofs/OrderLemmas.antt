@@ -7,39 +7,39 @@ use Rattle.idl_value.specs.Evaluation.{Evaluation, Faulty, Operands, Read, Value
 use Rattle.idl_value.specs.Order.{IsAscending}
 use Rattle.idl_value.specs.Term.{Term, Named, Literally, Parenthesised, Signed, Chain, Links, End, Link, expression_term}
 use Rattle.idl_value.specs.declared.operator.Operator.{Operator}
-use Rattle.idl_value.specs.declared.outcome.Code.{Code}
-use Rattle.idl_value.specs.declared.outcome.Code.TheVariants.{OutOfRange}
-use Rattle.idl_value.specs.declared.outcome.Fault.{Fault}
-use Rattle.idl_value.specs.declared.constant_type.Target.{Target}
+use Rattle.idl_value.specs.declared.outcome.ValueCode.{ValueCode}
+use Rattle.idl_value.specs.declared.outcome.ValueCode.TheVariants.{OutOfRange}
+use Rattle.idl_value.specs.declared.outcome.ValueFault.{ValueFault}
+use Rattle.idl_value.specs.declared.constant_type.ConstantType.{ConstantType}
 use Rattle.idl_value.specs.declared.value.Value.{Value}
-use Rattle.idl_value.specs.declared.walk.Place.{Place}
+use Rattle.idl_value.specs.declared.walk.Passed.{Passed}
 use Rattle.idl_value.proofs.SizeLemmas.{size, links_size, expression_term-size, literal-length}
 
-earlier : (low from to : ℕ) (fs : List Fault) → low ≤ from → IsAscending from fs to → IsAscending low fs to
+earlier : (low from to : ℕ) (fs : List ValueFault) → low ≤ from → IsAscending from fs to → IsAscending low fs to
 earlier low from to [] l h = omega (arith, l, h)
 earlier low from to (f ∷ fs) l h = (omega (arith, l, h.0), h.1)
 
-later : (from to high : ℕ) (fs : List Fault) → to ≤ high → IsAscending from fs to → IsAscending from fs high
+later : (from to high : ℕ) (fs : List ValueFault) → to ≤ high → IsAscending from fs to → IsAscending from fs high
 later from to high [] l h = omega (arith, l, h)
 later from to high (f ∷ fs) l h = (h.0, later (f.token + 1) to high fs l h.1)
 
-joined : (from middle to : ℕ) (fs gs : List Fault) → IsAscending from fs middle → IsAscending middle gs to → IsAscending from (fs ++ gs) to
+joined : (from middle to : ℕ) (fs gs : List ValueFault) → IsAscending from fs middle → IsAscending middle gs to → IsAscending from (fs ++ gs) to
 joined from middle to [] gs h k = earlier from middle to gs h k
 joined from middle to (f ∷ fs) gs h k = (h.0, joined (f.token + 1) middle to fs gs h.1 k)
 
-at-ascends : (from token to : ℕ) (r : Result Value Code) → from ≤ token → token + 1 ≤ to → IsAscending from (faults_of (at_token token r)) to
+at-ascends : (from token to : ℕ) (r : Result Value ValueCode) → from ≤ token → token + 1 ≤ to → IsAscending from (faults_of (at_token token r)) to
 at-ascends from token to (Ok v) h k = omega (arith, h, k)
 at-ascends from token to (Err code) h k = (h, k)
 
-named-ascends : (t : Target) (from token to : ℕ) (v : Option Value) → from ≤ token → token + 1 ≤ to → IsAscending from (faults_of (named t token v)) to
+named-ascends : (t : ConstantType) (from token to : ℕ) (v : Option Value) → from ≤ token → token + 1 ≤ to → IsAscending from (faults_of (named t token v)) to
 named-ascends t from token to None h k = omega (arith, h, k)
 named-ascends t from token to (Some v) h k = at-ascends from token to (admitted t v) h k
 
-signed-ascends : (t : Target) (token to : ℕ) (s : UnaryOperator) (a : Evaluation) → IsAscending (token + 1) (faults_of a) to → IsAscending token (faults_of (signed_at t token s a)) to
+signed-ascends : (t : ConstantType) (token to : ℕ) (s : UnaryOperator) (a : Evaluation) → IsAscending (token + 1) (faults_of a) to → IsAscending token (faults_of (signed_at t token s a)) to
 signed-ascends t token to s (Valued v) h = at-ascends token token to (signed_value t s v) (omega arith) h
 signed-ascends t token to s (Faulty fs) h = earlier token (token + 1) to fs (omega arith) h
 
-operated-ascends : (t : Target) (from token to : ℕ) (o : Operator) (a b : Evaluation) → IsAscending from (faults_of a) token → IsAscending (token + 1) (faults_of b) to
+operated-ascends : (t : ConstantType) (from token to : ℕ) (o : Operator) (a b : Evaluation) → IsAscending from (faults_of a) token → IsAscending (token + 1) (faults_of b) to
     → IsAscending from (faults_of (operated t token o a b)) to
 operated-ascends t from token to o (Valued v) (Valued w) h k = at-ascends from token to (combined t o v w) h k
 operated-ascends t from token to o (Valued v) (Faulty gs) h k = earlier from (token + 1) to gs (omega (arith, h)) k
@@ -52,7 +52,7 @@ Below n = n < 2 ^ 64
 
 -- a term has its tokens
 mutual
-  pub read-token : (t : Target) (os : Operands) (p : Place) (e : Term) → Below (p.token + size e) → (read_term t os p e).place.token ≡ p.token + size e
+  pub read-token : (t : ConstantType) (os : Operands) (p : Passed) (e : Term) → Below (p.token + size e) → (read_term t os p e).place.token ≡ p.token + size e
   read-token t os p (Named before) h = omega (arith, h)
   read-token t os p (Literally l) h = omega (arith, h)
   read-token t os p (Parenthesised e) h = let g = read-token t os (behind p 1 0) e (omega (arith, h)) in omega (arith, h, g)
@@ -62,7 +62,7 @@ mutual
       let k = links-token t os (read_term t os p e) ls (omega (arith, h, g)) in
       omega (arith, h, g, k)
 
-  pub links-token : (t : Target) (os : Operands) (left : Read) (ls : Links) → Below (left.place.token + links_size ls)
+  pub links-token : (t : ConstantType) (os : Operands) (left : Read) (ls : Links) → Below (left.place.token + links_size ls)
       → (read_links t os left ls).place.token ≡ left.place.token + links_size ls
   links-token t os left End h = omega arith
   links-token t os left (Link o e ls) h =
@@ -71,7 +71,7 @@ mutual
       omega (arith, h, g, k)
 
 mutual
-  pub read-ascends : (t : Target) (os : Operands) (p : Place) (e : Term) → Below (p.token + size e)
+  pub read-ascends : (t : ConstantType) (os : Operands) (p : Passed) (e : Term) → Below (p.token + size e)
       → IsAscending p.token (faults_of (read_term t os p e).evaluation) (read_term t os p e).place.token
   read-ascends t os p (Named before) h =
       named-ascends t p.token (ahead p.token before) (ahead (ahead p.token before) 1) (operand_at os p.name) (omega (arith, h)) (omega (arith, h))
@@ -93,7 +93,7 @@ mutual
       let g = read-token t os p e (omega (arith, h)) in
       links-ascend t os p.token (read_term t os p e) ls (omega (arith, h, g)) (read-ascends t os p e (omega (arith, h)))
 
-  links-ascend : (t : Target) (os : Operands) (from : ℕ) (left : Read) (ls : Links) → Below (left.place.token + links_size ls)
+  links-ascend : (t : ConstantType) (os : Operands) (from : ℕ) (left : Read) (ls : Links) → Below (left.place.token + links_size ls)
       → IsAscending from (faults_of left.evaluation) left.place.token
       → IsAscending from (faults_of (read_links t os left ls).evaluation) (read_links t os left ls).place.token
   links-ascend t os from left End h k = k
@@ -106,7 +106,7 @@ mutual
       (earlier (left.place.token + 1) q.token r.place.token (faults_of r.evaluation) (omega (arith, h)) (read-ascends t os q e (omega (arith, h)))))
 
 -- a value out of range is the only fault
-target-ascends : (t : Target) (to : ℕ) (a : Evaluation) → 1 ≤ to → IsAscending 0 (faults_of a) to → IsAscending 0 (faults_of (in_target t a)) to
+target-ascends : (t : ConstantType) (to : ℕ) (a : Evaluation) → 1 ≤ to → IsAscending 0 (faults_of a) to → IsAscending 0 (faults_of (in_target t a)) to
 target-ascends t to (Valued v) l h =
     elim (is_held t v) as (λ b. IsAscending 0 (faults_of (if b then Valued v else Faulty (fault 0 OutOfRange ∷ []))) to) [ true ↦ omega arith | false ↦ (omega arith, l) ]
 target-ascends t to (Faulty fs) l h = h
@@ -116,14 +116,14 @@ size-positive (Literally l) = literal-length l
 size-positive (Chain e ls) = let h = size-positive e in omega (arith, h)
 size-positive other = omega arith
 
-pub value-tokens : (t : Target) (os : Operands) (e : Expression) → length (spell_expression e) < 2 ^ 64
+pub value-tokens : (t : ConstantType) (os : Operands) (e : Expression) → length (spell_expression e) < 2 ^ 64
     → (read_term t os start (expression_term e)).place.token ≡ length (spell_expression e)
 value-tokens t os e h =
     let s = expression_term-size e in
     let k = read-token t os start (expression_term e) (omega (arith, h, s)) in
     omega (arith, s, k)
 
-pub value-ascends : (t : Target) (os : Operands) (e : Expression) → length (spell_expression e) < 2 ^ 64
+pub value-ascends : (t : ConstantType) (os : Operands) (e : Expression) → length (spell_expression e) < 2 ^ 64
     → IsAscending 0 (faults_of (value_of t os e)) (length (spell_expression e))
 unfolding value_of
 value-ascends t os e h =

@@ -40,12 +40,12 @@ use Rattle.idl_value.specs.Standing.{bears, goes_on, is_colons, is_operator}
 use Rattle.idl_value.specs.Term.{Term, Named, Literally, Parenthesised, Signed, Chain, Links, End, Link, and_term, before_last, exclusive_or_term, expression_term, leading, links, primary_term, product_operator, product_term, shift_operator, shift_term, signed, sum_operator, sum_term, unary_term}
 use Rattle.idl_value.specs.declared.operator.Operator.{Operator}
 use Rattle.idl_value.specs.declared.operator.Operator.TheVariants as operator
-use Rattle.idl_value.specs.declared.outcome.Code.{Code}
-use Rattle.idl_value.specs.declared.outcome.Code.TheVariants.{OutOfRange}
-use Rattle.idl_value.specs.declared.outcome.Fault.{Fault}
-use Rattle.idl_value.specs.declared.constant_type.Target.{Target}
+use Rattle.idl_value.specs.declared.outcome.ValueCode.{ValueCode}
+use Rattle.idl_value.specs.declared.outcome.ValueCode.TheVariants.{OutOfRange}
+use Rattle.idl_value.specs.declared.outcome.ValueFault.{ValueFault}
+use Rattle.idl_value.specs.declared.constant_type.ConstantType.{ConstantType}
 use Rattle.idl_value.specs.declared.value.Value.{Value}
-use Rattle.idl_value.specs.declared.walk.Place.{Place}
+use Rattle.idl_value.specs.declared.walk.Passed.{Passed}
 use Rattle.idl_value.proofs.OrderLemmas.{Below, read-token}
 use Rattle.idl_value.proofs.SizeLemmas.{links_size, name-length, size}
 use Rattle.idl_value.proofs.TermEquations.{and_term-made, exclusive_or_term-made, expression_term-made, primary_term-literal, primary_term-name, primary_term-parentheses, product_term-made, shift_term-made, sum_term-made, unary_term-made}
@@ -53,7 +53,7 @@ use Rattle.idl_value.proofs.TermEquations.{and_term-made, exclusive_or_term-made
 -- ---- a place among lexemes
 
 -- a fault stands at one of these that bears one, where the first has this number
-record Borne (from : ℕ) (ls : Lexemes) (f : Fault) : Type 0 where
+record Borne (from : ℕ) (ls : Lexemes) (f : ValueFault) : Type 0 where
   front : Lexemes
   rest : Lexemes
   are : ls ≡ front ++ rest
@@ -82,7 +82,7 @@ bears-more (WideText s ∷ rest) ys h k = k
 bears-more (Other ∷ rest) ys h k = cc
 
 -- with others behind, or before
-borne-behind : (from : ℕ) (ls ys : Lexemes) → goes_on ys ≡ false → (f : Fault) → Borne from ls f → Borne from (ls ++ ys) f
+borne-behind : (from : ℕ) (ls ys : Lexemes) → goes_on ys ≡ false → (f : ValueFault) → Borne from ls f → Borne from (ls ++ ys) f
 borne-behind from ls ys h f b = record {
   front = b.front;
   rest = b.rest ++ ys;
@@ -91,7 +91,7 @@ borne-behind from ls ys h f b = record {
   bear = bears-more b.rest ys h b.bear;
 }
 
-borne-before : (from later : ℕ) (xs ls : Lexemes) → later ≡ from + length xs → (f : Fault) → Borne later ls f → Borne from (xs ++ ls) f
+borne-before : (from later : ℕ) (xs ls : Lexemes) → later ≡ from + length xs → (f : ValueFault) → Borne later ls f → Borne from (xs ++ ls) f
 borne-before from later xs ls e f b = record {
   front = xs ++ b.front;
   rest = b.rest;
@@ -100,28 +100,28 @@ borne-before from later xs ls e f b = record {
   bear = b.bear;
 }
 
-all-behind : (from : ℕ) (ls ys : Lexemes) → goes_on ys ≡ false → (fs : List Fault) → All (Borne from ls) fs → All (Borne from (ls ++ ys)) fs
+all-behind : (from : ℕ) (ls ys : Lexemes) → goes_on ys ≡ false → (fs : List ValueFault) → All (Borne from ls) fs → All (Borne from (ls ++ ys)) fs
 all-behind from ls ys h fs all = All-weaker (Borne from ls) (Borne from (ls ++ ys)) (borne-behind from ls ys h) fs all
 
-all-before : (from later : ℕ) (xs ls : Lexemes) → later ≡ from + length xs → (fs : List Fault) → All (Borne later ls) fs → All (Borne from (xs ++ ls)) fs
+all-before : (from later : ℕ) (xs ls : Lexemes) → later ≡ from + length xs → (fs : List ValueFault) → All (Borne later ls) fs → All (Borne from (xs ++ ls)) fs
 all-before from later xs ls e fs all = All-weaker (Borne later ls) (Borne from (xs ++ ls)) (borne-before from later xs ls e) fs all
 
 -- ---- what an operation comes to
 
-at-borne : (from token : ℕ) (ls : Lexemes) (r : Result Value Code) → ((c : Code) → Borne from ls (fault token c)) → All (Borne from ls) (faults_of (at_token token r))
+at-borne : (from token : ℕ) (ls : Lexemes) (r : Result Value ValueCode) → ((c : ValueCode) → Borne from ls (fault token c)) → All (Borne from ls) (faults_of (at_token token r))
 at-borne from token ls (Ok v) b = All-nil (Borne from ls)
 at-borne from token ls (Err c) b = All-cons (Borne from ls) (fault token c) [] (b c) (All-nil (Borne from ls))
 
-named-borne : (from token : ℕ) (ls : Lexemes) (t : Target) (v : Option Value) → ((c : Code) → Borne from ls (fault token c)) → All (Borne from ls) (faults_of (named t token v))
+named-borne : (from token : ℕ) (ls : Lexemes) (t : ConstantType) (v : Option Value) → ((c : ValueCode) → Borne from ls (fault token c)) → All (Borne from ls) (faults_of (named t token v))
 named-borne from token ls t None b = All-nil (Borne from ls)
 named-borne from token ls t (Some v) b = at-borne from token ls (admitted t v) b
 
-signed-borne : (from token : ℕ) (ls : Lexemes) (t : Target) (s : UnaryOperator) (a : Evaluation) → ((c : Code) → Borne from ls (fault token c)) → All (Borne from ls) (faults_of a)
+signed-borne : (from token : ℕ) (ls : Lexemes) (t : ConstantType) (s : UnaryOperator) (a : Evaluation) → ((c : ValueCode) → Borne from ls (fault token c)) → All (Borne from ls) (faults_of a)
     → All (Borne from ls) (faults_of (signed_at t token s a))
 signed-borne from token ls t s (Valued v) b all = at-borne from token ls (signed_value t s v) b
 signed-borne from token ls t s (Faulty fs) b all = all
 
-operated-borne : (from token : ℕ) (ls : Lexemes) (t : Target) (o : Operator) (a b : Evaluation) → ((c : Code) → Borne from ls (fault token c)) → All (Borne from ls) (faults_of a) → All (Borne from ls) (faults_of b)
+operated-borne : (from token : ℕ) (ls : Lexemes) (t : ConstantType) (o : Operator) (a b : Evaluation) → ((c : ValueCode) → Borne from ls (fault token c)) → All (Borne from ls) (faults_of a) → All (Borne from ls) (faults_of b)
     → All (Borne from ls) (faults_of (operated t token o a b))
 operated-borne from token ls t o (Valued v) (Valued w) k h g = at-borne from token ls (combined t o v w) k
 operated-borne from token ls t o (Valued v) (Faulty gs) k h g = g
@@ -132,12 +132,12 @@ operated-borne from token ls t o (Faulty fs) (Faulty gs) k h g = All-append (Bor
 
 record Bears (e : Term) (ls : Lexemes) : Type 0 where
   sized : size e ≡ length ls
-  faults : (t : Target) (os : Operands) (p : Place) → Below (p.token + length ls) → All (Borne p.token ls) (faults_of (read_term t os p e).evaluation)
+  faults : (t : ConstantType) (os : Operands) (p : Passed) → Below (p.token + length ls) → All (Borne p.token ls) (faults_of (read_term t os p e).evaluation)
 
 record BearsLinks (ks : Links) (ls : Lexemes) : Type 0 where
   sized : links_size ks ≡ length ls
   ends : goes_on ls ≡ false
-  faults : (t : Target) (os : Operands) (left : Read) (from : ℕ) (front : Lexemes) → left.place.token ≡ from + length front → Below (from + length front + length ls)
+  faults : (t : ConstantType) (os : Operands) (left : Read) (from : ℕ) (front : Lexemes) → left.place.token ≡ from + length front → Below (from + length front + length ls)
       → All (Borne from front) (faults_of left.evaluation) → All (Borne from (front ++ ls)) (faults_of (read_links t os left ks).evaluation)
 
 bears-end : BearsLinks End []
@@ -165,7 +165,7 @@ bears-link o m e ls ks more sign b bs = record {
       let done : r.place.token ≡ q.token + size e = read-token t os q e (omega (arith, few, x)) in
       let with : Lexemes = front ++ Punctuation m ∷ ls in
       let w = length-append front (Punctuation m ∷ ls) in
-      let here : (c : Code) → Borne from with (fault left.place.token c) = λ c. record { front = front; rest = Punctuation m ∷ ls; are = refl; at = at; bear = sign.0 } in
+      let here : (c : ValueCode) → Borne from with (fault left.place.token c) = λ c. record { front = front; rest = Punctuation m ∷ ls; are = refl; at = at; bear = sign.0 } in
       let right : All (Borne from with) (faults_of r.evaluation) =
       subst (λ xs. All (Borne from xs) (faults_of r.evaluation)) (append_assoc front (Punctuation m ∷ []) ls) (all-before from q.token (front ++ Punctuation m ∷ []) ls next (faults_of r.evaluation) (b.faults t os q few)) in
       let both = operated-borne from left.place.token with t o left.evaluation r.evaluation here (all-behind from front (Punctuation m ∷ ls) sign.1 (faults_of left.evaluation) all) right in
@@ -398,21 +398,21 @@ expression-bears = ind-Expression Primaries Ands ExclusiveOrs Expressions Produc
 -- ---- the whole
 
 -- out of range, at the first token of the whole, or at a token that bears a fault
-abbrev StandsIn : Lexemes → Fault → Type 0
+abbrev StandsIn : Lexemes → ValueFault → Type 0
 StandsIn ls f = (f ≡ fault 0 OutOfRange) ⊎ (bears (drop f.token ls) ≡ true)
 
-borne-stands : (ls : Lexemes) (f : Fault) → Borne 0 ls f → StandsIn ls f
+borne-stands : (ls : Lexemes) (f : ValueFault) → Borne 0 ls f → StandsIn ls f
 borne-stands ls f b =
     let same : f.token ≡ length b.front = let a = b.at in omega (arith, a) in
     inr (subst (λ xs. bears xs ≡ true) (sym (ap (λ n. drop n ls) same ∙ ap (λ (xs : Lexemes). drop (length b.front) xs) b.are ∙ drop-append_seam b.front b.rest)) b.bear)
 
-target-stands : (t : Target) (ls : Lexemes) (a : Evaluation) → All (StandsIn ls) (faults_of a) → All (StandsIn ls) (faults_of (in_target t a))
+target-stands : (t : ConstantType) (ls : Lexemes) (a : Evaluation) → All (StandsIn ls) (faults_of a) → All (StandsIn ls) (faults_of (in_target t a))
 target-stands t ls (Valued v) all =
     elim (is_held t v) as (λ b. All (StandsIn ls) (faults_of (if b then Valued v else Faulty (fault 0 OutOfRange ∷ []))))
     [ true ↦ All-nil (StandsIn ls) | false ↦ All-cons (StandsIn ls) (fault 0 OutOfRange) [] (inl refl) (All-nil (StandsIn ls)) ]
 target-stands t ls (Faulty fs) all = all
 
-pub value-stands : (t : Target) (os : Operands) (e : Expression) → length (spell_expression e) < 2 ^ 64
+pub value-stands : (t : ConstantType) (os : Operands) (e : Expression) → length (spell_expression e) < 2 ^ 64
     → All (λ f. (f ≡ fault 0 OutOfRange) ⊎ (bears (drop f.token (spell_expression e)) ≡ true)) (faults_of (value_of t os e))
 unfolding value_of
 value-stands t os e fits =

@@ -9,14 +9,14 @@ use Rattle.idl_value.specs.Term.{Term, Named, Literally, Parenthesised, Signed, 
 use Rattle.idl_value.specs.Walk.{Walked, held_outcome, named_outcome, positive_outcome, operated_outcome, outcome_at, signed_outcome, walk_links, walk_operator, walk_parenthesis, walk_sign, walk_term}
 use Rattle.idl_value.specs.declared.operator.Operator.{Operator}
 use Rattle.idl_value.specs.declared.integer.IntegerKind.TheVariants.{UnsignedLong}
-use Rattle.idl_value.specs.declared.outcome.Code.{Code}
-use Rattle.idl_value.specs.declared.outcome.Code.TheVariants.{OutOfRange}
+use Rattle.idl_value.specs.declared.outcome.ValueCode.{ValueCode}
+use Rattle.idl_value.specs.declared.outcome.ValueCode.TheVariants.{OutOfRange}
 use Rattle.idl_value.specs.declared.outcome.Outcome.TheVariants as outcome
-use Rattle.idl_value.specs.declared.constant_type.Target.{Target}
-use Rattle.idl_value.specs.declared.constant_type.Target.TheVariants as target
+use Rattle.idl_value.specs.declared.constant_type.ConstantType.{ConstantType}
+use Rattle.idl_value.specs.declared.constant_type.ConstantType.TheVariants as target
 use Rattle.idl_value.specs.declared.value.Value.{Value}
 use Rattle.idl_value.specs.declared.value.Value.TheVariants as value
-use Rattle.idl_value.specs.declared.walk.Place.{Place}
+use Rattle.idl_value.specs.declared.walk.Passed.{Passed}
 
 from_here : {X : Type 0} (xs : List X) (i : ℕ) (x : X) → i < length xs → x ≡ get_or xs i x → drop i xs ≡ x ∷ drop (i + 1) xs
 from_here xs i x h e = rw add-one (drop-cons xs i x h ∙ ap (λ y. y ∷ drop (suc i) xs) (sym e))
@@ -25,20 +25,20 @@ from_here xs i x h e = rw add-one (drop-cons xs i x h ∙ ap (λ y. y ∷ drop (
 abbrev pub first_read : Read → Walked
 first_read r = record { outcome = first_of r.evaluation; place = r.place }
 
-outcome-first : (token : ℕ) (r : Result Value Code) → outcome_at token r ≡ first_of (at_token token r)
+outcome-first : (token : ℕ) (r : Result Value ValueCode) → outcome_at token r ≡ first_of (at_token token r)
 outcome-first token (Ok v) = refl
 outcome-first token (Err code) = refl
 
-named-first : (t : Target) (token : ℕ) (v : Option Value) → named_outcome t token v ≡ first_of (named t token v)
+named-first : (t : ConstantType) (token : ℕ) (v : Option Value) → named_outcome t token v ≡ first_of (named t token v)
 named-first t token None = refl
 named-first t token (Some v) = outcome-first token (admitted t v)
 
-signed-first : (t : Target) (token : ℕ) (s : UnaryOperator) (a : Evaluation) → signed_outcome t token s (first_of a) ≡ first_of (signed_at t token s a)
+signed-first : (t : ConstantType) (token : ℕ) (s : UnaryOperator) (a : Evaluation) → signed_outcome t token s (first_of a) ≡ first_of (signed_at t token s a)
 signed-first t token s (Valued v) = outcome-first token _
 signed-first t token s (Faulty []) = refl
 signed-first t token s (Faulty (f ∷ fs)) = refl
 
-operated-first : (t : Target) (token : ℕ) (o : Operator) (a b : Evaluation) → operated_outcome t token o (first_of a) (first_of b) ≡ first_of (operated t token o a b)
+operated-first : (t : ConstantType) (token : ℕ) (o : Operator) (a b : Evaluation) → operated_outcome t token o (first_of a) (first_of b) ≡ first_of (operated t token o a b)
 operated-first t token o (Valued v) (Valued w) = outcome-first token _
 operated-first t token o (Valued v) (Faulty []) = refl
 operated-first t token o (Valued v) (Faulty (g ∷ gs)) = refl
@@ -50,7 +50,7 @@ operated-first t token o (Faulty (f ∷ fs)) (Faulty gs) = refl
 
 -- a walk comes to the first fault
 mutual
-  pub walk-read : (t : Target) (os : Operands) (p : Place) (e : Term) → walk_term t os p e ≡ first_read (read_term t os p e)
+  pub walk-read : (t : ConstantType) (os : Operands) (p : Passed) (e : Term) → walk_term t os p e ≡ first_read (read_term t os p e)
   walk-read t os p (Named before) =
       let o = named-first t (ahead p.token before) (operand_at os p.name) in
       λ i. record { outcome = o i; place = behind (behind p before 0) 1 1 }
@@ -65,7 +65,7 @@ mutual
   walk-read t os p (Chain e ls) =
       ap (λ left. walk_links t os left ls) (walk-read t os p e) ∙ walk-links t os (read_term t os p e) ls
 
-  walk-links : (t : Target) (os : Operands) (left : Read) (ls : Links) → walk_links t os (first_read left) ls ≡ first_read (read_links t os left ls)
+  walk-links : (t : ConstantType) (os : Operands) (left : Read) (ls : Links) → walk_links t os (first_read left) ls ≡ first_read (read_links t os left ls)
   walk-links t os left End = refl
   walk-links t os left (Link op e ls) =
       let right = read_term t os (behind left.place 1 0) e in
@@ -77,7 +77,7 @@ mutual
 pub ahead_none : (n : ℕ) → n ≤ 18446744073709551615 → ahead n 0 ≡ n
 ahead_none n h = omega arith
 
-held-first : (t : Target) (a : Evaluation) → held_outcome t (first_of a) ≡ first_of (in_target t a)
+held-first : (t : ConstantType) (a : Evaluation) → held_outcome t (first_of a) ≡ first_of (in_target t a)
 held-first t (Valued v) =
     elim (is_held t v) as (λ b. (if b then outcome.Value v else outcome.Fault (fault 0 OutOfRange)) ≡ first_of (if b then Valued v else Faulty (fault 0 OutOfRange ∷ []))) [ true ↦ refl | false ↦ refl ]
 held-first t (Faulty []) = refl
@@ -97,7 +97,7 @@ positive-first (Faulty []) = refl
 positive-first (Faulty (f ∷ fs)) = refl
 
 -- what is told of a whole expression
-pub walk-value : (t : Target) (os : Operands) (e : Expression) → held_outcome t (walk_term t os start (expression_term e)).outcome ≡ first_of (value_of t os e)
+pub walk-value : (t : ConstantType) (os : Operands) (e : Expression) → held_outcome t (walk_term t os start (expression_term e)).outcome ≡ first_of (value_of t os e)
 unfolding value_of
 walk-value t os e =
     ap (λ w. held_outcome t w.outcome) (walk-read t os start (expression_term e))

@@ -7,8 +7,8 @@ use Rattle.idl_tree.specs.declared.declarations.data_type.IntegerSize.TheVariant
 use Rattle.idl_value.specs.integers.Integer.{power, width}
 use Rattle.idl_value.specs.declared.integer.IntegerKind.{IntegerKind}
 use Rattle.idl_value.specs.declared.integer.IntegerKind.TheVariants.{Octet, Short, UnsignedShort, Long, UnsignedLong, LongLong, UnsignedLongLong}
-use Rattle.idl_value.specs.declared.constant_type.Target.{Target}
-use Rattle.idl_value.specs.declared.constant_type.Target.TheVariants as target
+use Rattle.idl_value.specs.declared.constant_type.ConstantType.{ConstantType}
+use Rattle.idl_value.specs.declared.constant_type.ConstantType.TheVariants as target
 
 -- the integer type of a size
 abbrev pub integer_of : Bool → IntegerSize → IntegerKind
@@ -20,7 +20,7 @@ integer_of false size.Long = Long
 integer_of false size.LongLong = LongLong
 
 -- the type that keywords name
-abbrev pub target_of : DiscreteType → Target
+abbrev pub target_of : DiscreteType → ConstantType
 target_of (discrete.Integer i) = target.Integer (integer_of i.is_unsigned i.size)
 target_of discrete.Char = target.Character
 target_of discrete.WideChar = target.WideCharacter
@@ -28,7 +28,7 @@ target_of discrete.Boolean = target.Boolean
 target_of discrete.Octet = target.Integer Octet
 
 -- a union may have a discriminator of the type
-abbrev pub discriminates : Target → Bool
+abbrev pub discriminates : ConstantType → Bool
 discriminates (target.Integer Octet) = false
 discriminates (target.Integer other) = true
 discriminates target.Boolean = true
@@ -39,7 +39,7 @@ discriminates (target.Text bound) = false
 discriminates (target.WideText bound) = false
 
 -- how many values the type has, where its enum has so many enumerators
-abbrev pub value_count : Target → ℕ → Option ℤ
+abbrev pub value_count : ConstantType → ℕ → Option ℤ
 value_count (target.Integer kind) enumerators = Some (power (width kind))
 value_count target.Boolean enumerators = Some (pos 2)
 value_count target.Character enumerators = Some (pos 256)

@@ -2,9 +2,9 @@
 use Rattle.std.specs.Prelude.{ℕ, List, Bool, nat_eq}
 use Rattle.std.specs.Cmp.Lexicographic.{pointwise}
 use Rattle.std.specs.Str.{bytes_eq}
-use Rattle.idl_value.specs.contracts.constant_type.TargetPartialEq.TheImpl.{ghosts as target_ghosts}
+use Rattle.idl_value.specs.contracts.constant_type.ConstantTypePartialEq.TheImpl.{ghosts as target_ghosts}
 use Rattle.idl_value.specs.contracts.value.ValuePartialEq.TheImpl.{ghosts as value_ghosts}
-use Rattle.idl_value.specs.declared.constant_type.Target.{Target}
+use Rattle.idl_value.specs.declared.constant_type.ConstantType.{ConstantType}
 use Rattle.idl_value.specs.declared.value.Value.{Value}
 
 -- whether two paths are one
@@ -20,5 +20,5 @@ abbrev pub value_eq : Value → Value → Bool
 value_eq = value_ghosts.eq
 
 -- whether two targets are one
-abbrev pub target_eq : Target → Target → Bool
+abbrev pub target_eq : ConstantType → ConstantType → Bool
 target_eq = target_ghosts.eq

@@ -6,8 +6,8 @@ use Rattle.std.proofs.Common.{ap}
 use Rattle.idl_base.specs.Exact.{both, same_bool, same_integer, same_list, same_number, same_option}
 use Rattle.idl_value.specs.Equal.{path_eq, target_eq, text_eq, value_eq}
 use Rattle.idl_value.specs.integers.SameInteger.{same_integer_kind}
-use Rattle.idl_value.specs.declared.constant_type.Target.{Target}
-use Rattle.idl_value.specs.declared.constant_type.Target.TheVariants as target
+use Rattle.idl_value.specs.declared.constant_type.ConstantType.{ConstantType}
+use Rattle.idl_value.specs.declared.constant_type.ConstantType.TheVariants as target
 use Rattle.idl_value.specs.declared.value.Value.{Value}
 use Rattle.idl_value.specs.declared.value.Value.TheVariants as value
 
@@ -52,7 +52,7 @@ copied_value (value.Enumerator p n) (value.Enumerator p' n') h =
     λ i. value.Enumerator (h.0 i) (h.1 i)
 copied_value x copy h = absurd h
 
-pub same_target : (x y : Target) → target_eq x y ≡ true → x ≡ y
+pub same_target : (x y : ConstantType) → target_eq x y ≡ true → x ≡ y
 same_target (target.Integer k) (target.Integer k') h =
     ap target.Integer (same_integer_kind k k' h)
 same_target target.Boolean target.Boolean h = refl

@@ -8,36 +8,36 @@ use Rattle.idl_value.specs.integers.Integer.{width, is_signed, power, holds_part
 use Rattle.idl_value.specs.declared.integer.IntegerKind.{IntegerKind}
 use Rattle.idl_value.specs.declared.operator.Operator.{Operator}
 use Rattle.idl_value.specs.declared.operator.Operator.TheVariants.{Or, ExclusiveOr, And, ShiftLeft, ShiftRight, Add, Subtract, Multiply, Divide, Remainder}
-use Rattle.idl_value.specs.declared.outcome.Code.{Code}
-use Rattle.idl_value.specs.declared.outcome.Code.TheVariants.{OutOfRange, DivisionByZero, BadShift}
+use Rattle.idl_value.specs.declared.outcome.ValueCode.{ValueCode}
+use Rattle.idl_value.specs.declared.outcome.ValueCode.TheVariants.{OutOfRange, DivisionByZero, BadShift}
 
 -- a part of a value of the type
-abbrev pub in_parts : IntegerKind → ℤ → Result ℤ Code
+abbrev pub in_parts : IntegerKind → ℤ → Result ℤ ValueCode
 in_parts kind v = cond (holds_part kind v) (Ok v) (Err OutOfRange)
 
 -- a quotient is cut towards zero
-abbrev pub divided : IntegerKind → ℤ → ℤ → Result ℤ Code
+abbrev pub divided : IntegerKind → ℤ → ℤ → Result ℤ ValueCode
 divided kind a (pos zero) = Err DivisionByZero
 divided kind a d = in_parts kind (int_div a d)
 
 -- a remainder has the sign of the dividend
-abbrev pub remaining : IntegerKind → ℤ → ℤ → Result ℤ Code
+abbrev pub remaining : IntegerKind → ℤ → ℤ → Result ℤ ValueCode
 remaining kind a (pos zero) = Err DivisionByZero
 remaining kind a d = in_parts kind (int_rem a d)
 
 -- by 0 to 63 places
-abbrev pub shifted_left : IntegerKind → ℤ → ℤ → Result ℤ Code
+abbrev pub shifted_left : IntegerKind → ℤ → ℤ → Result ℤ ValueCode
 shifted_left kind a (pos k) = cond (nat_lt k 64) (in_parts kind (a *ℤ power k)) (Err BadShift)
 shifted_left kind a (negsuc k) = Err BadShift
 
 -- the same, and of nothing negative
-abbrev pub shifted_right : IntegerKind → ℤ → ℤ → Result ℤ Code
+abbrev pub shifted_right : IntegerKind → ℤ → ℤ → Result ℤ ValueCode
 shifted_right kind (pos a) (pos k) =
     cond (nat_lt k 64) (in_parts kind (pos (a / 2 ^ k))) (Err BadShift)
 shifted_right kind (negsuc a) k = Err BadShift
 shifted_right kind (pos a) (negsuc k) = Err BadShift
 
-abbrev pub operate : IntegerKind → Operator → ℤ → ℤ → Result ℤ Code
+abbrev pub operate : IntegerKind → Operator → ℤ → ℤ → Result ℤ ValueCode
 operate kind Or a b = in_parts kind (whole_or a b)
 operate kind ExclusiveOr a b = in_parts kind (whole_xor a b)
 operate kind And a b = in_parts kind (whole_and a b)
@@ -55,7 +55,7 @@ complement kind v =
     cond (is_signed kind) (neg_ℤ (v +ℤ pos 1)) (pos (2 ^ width kind - 1) -ℤ v)
 
 -- an operator before its operand
-abbrev pub operate_sign : IntegerKind → UnaryOperator → ℤ → Result ℤ Code
+abbrev pub operate_sign : IntegerKind → UnaryOperator → ℤ → Result ℤ ValueCode
 operate_sign kind unary.Plus v = in_parts kind v
 operate_sign kind unary.Minus v = in_parts kind (neg_ℤ v)
 operate_sign kind unary.Complement v = in_parts kind (complement kind v)

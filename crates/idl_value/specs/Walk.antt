@@ -5,20 +5,20 @@ use Rattle.idl_tree.specs.declared.expression.UnaryOperator.{UnaryOperator}
 use Rattle.idl_value.specs.Evaluation.{Operands, admitted, ahead, behind, combined, fault, is_held, literal_value, number_in, operand_at, signed_value}
 use Rattle.idl_value.specs.Term.{Term, Named, Literally, Parenthesised, Signed, Chain, Links, End, Link}
 use Rattle.idl_value.specs.declared.operator.Operator.{Operator}
-use Rattle.idl_value.specs.declared.outcome.Code.{Code}
-use Rattle.idl_value.specs.declared.outcome.Code.TheVariants.{NotPositive, OutOfRange}
+use Rattle.idl_value.specs.declared.outcome.ValueCode.{ValueCode}
+use Rattle.idl_value.specs.declared.outcome.ValueCode.TheVariants.{NotPositive, OutOfRange}
 use Rattle.idl_value.specs.declared.outcome.Outcome.{Outcome}
 use Rattle.idl_value.specs.declared.outcome.Outcome.TheVariants as outcome
-use Rattle.idl_value.specs.declared.part_value.Part.{Part}
-use Rattle.idl_value.specs.declared.part_value.Part.TheVariants as part
-use Rattle.idl_value.specs.declared.constant_type.Target.{Target}
+use Rattle.idl_value.specs.declared.part_value.PartValue.{PartValue}
+use Rattle.idl_value.specs.declared.part_value.PartValue.TheVariants as part
+use Rattle.idl_value.specs.declared.constant_type.ConstantType.{ConstantType}
 use Rattle.idl_value.specs.declared.value.Value.{Value}
 use Rattle.idl_value.specs.declared.value.Value.TheVariants as value
-use Rattle.idl_value.specs.declared.walk.Place.{Place}
-use Rattle.idl_value.specs.declared.walk.Step.{Step}
+use Rattle.idl_value.specs.declared.walk.Passed.{Passed}
+use Rattle.idl_value.specs.declared.walk.Worked.{Worked}
 
 -- the outcome that a part is
-abbrev pub seen : Part → Outcome
+abbrev pub seen : PartValue → Outcome
 seen (part.Integer z) = outcome.Value (value.Integer z)
 seen (part.Literal l) = outcome.Value (literal_value l.now)
 seen (part.Named v) = outcome.Value v.now
@@ -28,16 +28,16 @@ seen part.Told = outcome.Told
 -- what a part of an expression comes to, and the place behind it
 pub record Walked : Type 0 where
   pub outcome : Outcome
-  pub place : Place
+  pub place : Passed
 
-abbrev pub stepped : Step → Walked
+abbrev pub stepped : Worked → Walked
 stepped step = record { outcome = seen step.part; place = step.place }
 
-abbrev pub outcome_at : ℕ → Result Value Code → Outcome
+abbrev pub outcome_at : ℕ → Result Value ValueCode → Outcome
 outcome_at token (Ok v) = outcome.Value v
 outcome_at token (Err code) = outcome.Fault (fault token code)
 
-abbrev pub named_outcome : Target → ℕ → Option Value → Outcome
+abbrev pub named_outcome : ConstantType → ℕ → Option Value → Outcome
 named_outcome target token None = outcome.Told
 named_outcome target token (Some v) = outcome_at token (admitted target v)
 
@@ -47,7 +47,7 @@ outcome_number (outcome.Value v) = number_in v
 outcome_number other = None
 
 -- of two operands' faults the first
-abbrev pub operated_outcome : Target → ℕ → Operator → Outcome → Outcome → Outcome
+abbrev pub operated_outcome : ConstantType → ℕ → Operator → Outcome → Outcome → Outcome
 operated_outcome target token operator (outcome.Value a) (outcome.Value b) =
     outcome_at token (combined target operator a b)
 operated_outcome target token operator (outcome.Value a) right = right
@@ -55,11 +55,11 @@ operated_outcome target token operator (outcome.Fault f) right = outcome.Fault f
 operated_outcome target token operator outcome.Told (outcome.Fault f) = outcome.Fault f
 operated_outcome target token operator outcome.Told right = outcome.Told
 
-abbrev pub signed_outcome : Target → ℕ → UnaryOperator → Outcome → Outcome
+abbrev pub signed_outcome : ConstantType → ℕ → UnaryOperator → Outcome → Outcome
 signed_outcome target token sign (outcome.Value a) = outcome_at token (signed_value target sign a)
 signed_outcome target token sign other = other
 
-abbrev pub walk_sign : Target → ℕ → UnaryOperator → Walked → Walked
+abbrev pub walk_sign : ConstantType → ℕ → UnaryOperator → Walked → Walked
 walk_sign target token sign operand = record {
   outcome = signed_outcome target token sign operand.outcome;
   place = operand.place;
@@ -68,14 +68,14 @@ walk_sign target token sign operand = record {
 abbrev pub walk_parenthesis : Walked → Walked
 walk_parenthesis inner = record { outcome = inner.outcome; place = behind inner.place 1 0 }
 
-abbrev pub walk_operator : Target → Operator → Walked → Walked → Walked
+abbrev pub walk_operator : ConstantType → Operator → Walked → Walked → Walked
 walk_operator target operator left right = record {
   outcome = operated_outcome target left.place.token operator left.outcome right.outcome;
   place = right.place;
 }
 
 abbrev mutual
-  pub walk_term : Target → Operands → Place → Term → Walked
+  pub walk_term : ConstantType → Operands → Passed → Term → Walked
   walk_term target operands place (Named before) = record {
     outcome =
         named_outcome target (ahead place.token before) (operand_at operands place.name);
@@ -92,7 +92,7 @@ abbrev mutual
   walk_term target operands place (Chain first rest) =
       walk_links target operands (walk_term target operands place first) rest
 
-  pub walk_links : Target → Operands → Walked → Links → Walked
+  pub walk_links : ConstantType → Operands → Walked → Links → Walked
   walk_links target operands left End = left
   walk_links target operands left (Link operator term rest) =
       walk_links target operands
@@ -100,11 +100,11 @@ abbrev mutual
       (walk_term target operands (behind left.place 1 0) term)) rest
 
 -- the same of the whole expression
-abbrev pub is_held_outcome : Target → Outcome → Bool
+abbrev pub is_held_outcome : ConstantType → Outcome → Bool
 is_held_outcome target (outcome.Value v) = is_held target v
 is_held_outcome target other = true
 
-abbrev pub held_outcome : Target → Outcome → Outcome
+abbrev pub held_outcome : ConstantType → Outcome → Outcome
 held_outcome target other =
     if is_held_outcome target other then other else outcome.Fault (fault 0 OutOfRange)
 

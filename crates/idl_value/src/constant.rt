@@ -4,12 +4,12 @@ ghost use Rattle.std.specs.Prelude.{◌≡◌, ◌∷◌, [], IfOk, length};
 ghost use Rattle.idl_value.specs.Evaluation.{Faulty, ahead, bound_of, fault, first_of, joined, literal_value, value_of};
 ghost use Rattle.idl_value.specs.Walk.{held_outcome, is_held_outcome, positive_outcome, seen};
 
-use crate::constant_type::Target;
+use crate::constant_type::ConstantType;
 use crate::integer::IntegerKind;
-use crate::outcome::{Code, Fault, Outcome};
-use crate::part_value::Part;
+use crate::outcome::{Outcome, ValueCode, ValueFault};
+use crate::part_value::PartValue;
 use crate::value::Value;
-use crate::walk::{Place, Scene};
+use crate::walk::{Passed, Scene};
 use idl_base::Seq;
 use idl_tree::{Expression, Literal, Several};
 use std::alloc::{AllocError, Global};
@@ -18,7 +18,7 @@ use std::alloc::{AllocError, Global};
 /// none is faulty, and that is told elsewhere.
 pub fn evaluate(
     alloc: Global,
-    target: &Target,
+    target: &ConstantType,
     operands: &[Option<Value>],
     expression: &Expression,
 ) -> Result<Outcome, AllocError>
@@ -26,7 +26,7 @@ pub fn evaluate(
         outcome ≡ first_of (value_of target.now operands.now expression.now)) }
 {
     let scene = Scene { target, operands };
-    let begin = Place { token: 0, name: 0 };
+    let begin = Passed { token: 0, name: 0 };
     let part = scene.expression(begin, expression).part;
     held(alloc, target, part)
 }
@@ -40,7 +40,7 @@ pub fn evaluate_bound(
     ensures value { IfOk result (λ outcome.
         outcome ≡ first_of (bound_of operands.now expression.now)) }
 {
-    let target = Target::Integer(IntegerKind::UnsignedLong);
+    let target = ConstantType::Integer(IntegerKind::UnsignedLong);
     let outcome = evaluate(alloc, &target, operands, expression)?;
     Ok(positive(outcome))
 }
@@ -50,45 +50,47 @@ fn positive(outcome: Outcome) -> Outcome
     ensures { result ≡ positive_outcome outcome }
 {
     if let Outcome::Value(Value::Integer(0)) = &outcome {
-        return first_token(Code::NotPositive);
+        return first_token(ValueCode::NotPositive);
     }
     outcome
 }
 
 // A fault of the whole expression.
-fn first_token(code: Code) -> Outcome
+fn first_token(code: ValueCode) -> Outcome
     ensures { result ≡ first_of (Faulty (fault 0 code ∷ [])) }
 {
-    Outcome::Fault(Fault { token: 0, code })
+    Outcome::Fault(ValueFault { token: 0, code })
 }
 
 // What the expression comes to whose parts come to this.
-fn held(alloc: Global, target: &Target, part: Part<'_>) -> Result<Outcome, AllocError>
+fn held(alloc: Global, target: &ConstantType, part: PartValue<'_>) -> Result<Outcome, AllocError>
     ensures { IfOk result (λ outcome. outcome ≡ held_outcome target.now (seen part.entry)) }
 {
     if is_held(target, part) {
         outcome_of(alloc, part)
     } else {
-        Ok(first_token(Code::OutOfRange))
+        Ok(first_token(ValueCode::OutOfRange))
     }
 }
 
 // Whether a value is in the range of its target, and a string within its bound.
-fn is_held(target: &Target, part: Part<'_>) -> bool
+fn is_held(target: &ConstantType, part: PartValue<'_>) -> bool
     ensures { result ≡ is_held_outcome target.now (seen part.entry) }
 {
     match (target, part) {
-        (Target::Integer(kind), Part::Integer(number)) => kind.holds(number),
-        (Target::Integer(kind), Part::Literal(Literal::Integer(number))) => {
+        (ConstantType::Integer(kind), PartValue::Integer(number)) => kind.holds(number),
+        (ConstantType::Integer(kind), PartValue::Literal(Literal::Integer(number))) => {
             kind.holds(i128::from(*number))
         }
-        (Target::Integer(kind), Part::Named(Value::Integer(number))) => kind.holds(*number),
-        (Target::Text(Some(bound)), Part::Literal(Literal::Text(pieces)))
-        | (Target::WideText(Some(bound)), Part::Literal(Literal::WideText(pieces))) => {
+        (ConstantType::Integer(kind), PartValue::Named(Value::Integer(number))) => kind.holds(
+            *number,
+        ),
+        (ConstantType::Text(Some(bound)), PartValue::Literal(Literal::Text(pieces)))
+        | (ConstantType::WideText(Some(bound)), PartValue::Literal(Literal::WideText(pieces))) => {
             joined_length(pieces) <= *bound as usize
         }
-        (Target::Text(Some(bound)), Part::Named(Value::Text(text)))
-        | (Target::WideText(Some(bound)), Part::Named(Value::WideText(text))) => {
+        (ConstantType::Text(Some(bound)), PartValue::Named(Value::Text(text)))
+        | (ConstantType::WideText(Some(bound)), PartValue::Named(Value::WideText(text))) => {
             text.len() <= *bound as usize
         }
         _ => true,
@@ -114,15 +116,15 @@ fn with_piece(count: usize, piece: &Seq<u16>) -> usize
 }
 
 // What is told of a part.
-fn outcome_of(alloc: Global, part: Part<'_>) -> Result<Outcome, AllocError>
+fn outcome_of(alloc: Global, part: PartValue<'_>) -> Result<Outcome, AllocError>
     ensures { IfOk result (λ outcome. outcome ≡ seen part.entry) }
 {
     Ok(match part {
-        Part::Integer(number) => Outcome::Value(Value::Integer(number)),
-        Part::Literal(literal) => Outcome::Value(literal_value(alloc, literal)?),
-        Part::Named(value) => Outcome::Value(value.clone()?),
-        Part::Fault(fault) => Outcome::Fault(fault),
-        Part::Told => Outcome::Told,
+        PartValue::Integer(number) => Outcome::Value(Value::Integer(number)),
+        PartValue::Literal(literal) => Outcome::Value(literal_value(alloc, literal)?),
+        PartValue::Named(value) => Outcome::Value(value.clone()?),
+        PartValue::Fault(fault) => Outcome::Fault(fault),
+        PartValue::Told => Outcome::Told,
     })
 }
 

@@ -11,7 +11,7 @@ use std::alloc::AllocError;
 
 /// A type of which there are constants.
 #[derive(PartialEq, Eq)]
-pub enum Target {
+pub enum ConstantType {
     Integer(IntegerKind),
     Boolean,
     Character,
@@ -24,34 +24,34 @@ pub enum Target {
     Enumeration(Seq<Bytes>),
 }
 
-impl Drop for Target {
+impl Drop for ConstantType {
     fn drop(self) {
         match self {
-            Target::Integer(_kind) => {}
-            Target::Boolean | Target::Character | Target::WideCharacter => {}
-            Target::Text(_bound) | Target::WideText(_bound) => {}
-            Target::Enumeration(_path) => {}
+            ConstantType::Integer(_kind) => {}
+            ConstantType::Boolean | ConstantType::Character | ConstantType::WideCharacter => {}
+            ConstantType::Text(_bound) | ConstantType::WideText(_bound) => {}
+            ConstantType::Enumeration(_path) => {}
         }
     }
 }
 
-impl Clone for Target {
+impl Clone for ConstantType {
     ghost is_clone = { λ target copy. copy ≡ target };
 
-    fn clone(&self) -> Result<Target, AllocError> {
+    fn clone(&self) -> Result<ConstantType, AllocError> {
         Ok(match self {
-            Target::Integer(kind) => Target::Integer(*kind),
-            Target::Boolean => Target::Boolean,
-            Target::Character => Target::Character,
-            Target::WideCharacter => Target::WideCharacter,
-            Target::Text(bound) => Target::Text(*bound),
-            Target::WideText(bound) => Target::WideText(*bound),
-            Target::Enumeration(path) => Target::Enumeration(path.clone()?),
+            ConstantType::Integer(kind) => ConstantType::Integer(*kind),
+            ConstantType::Boolean => ConstantType::Boolean,
+            ConstantType::Character => ConstantType::Character,
+            ConstantType::WideCharacter => ConstantType::WideCharacter,
+            ConstantType::Text(bound) => ConstantType::Text(*bound),
+            ConstantType::WideText(bound) => ConstantType::WideText(*bound),
+            ConstantType::Enumeration(path) => ConstantType::Enumeration(path.clone()?),
         })
     }
 }
 
-impl Datum for Target {
+impl Datum for ConstantType {
     ghost use Rattle.idl_value.specs.Exact.{same_target};
 
     ghost same = { same_target };
@@ -59,19 +59,19 @@ impl Datum for Target {
     ghost copy = { λ x y h. h };
 }
 
-impl Target {
+impl ConstantType {
     /// The type that keywords name.
-    pub fn of_keywords(discrete: DiscreteType) -> Target
+    pub fn of_keywords(discrete: DiscreteType) -> ConstantType
         ensures { result ≡ target_of discrete }
     {
         match discrete {
             DiscreteType::Integer(integer) => {
-                Target::Integer(integer_of(integer.is_unsigned, integer.size))
+                ConstantType::Integer(integer_of(integer.is_unsigned, integer.size))
             }
-            DiscreteType::Char => Target::Character,
-            DiscreteType::WideChar => Target::WideCharacter,
-            DiscreteType::Boolean => Target::Boolean,
-            DiscreteType::Octet => Target::Integer(IntegerKind::Octet),
+            DiscreteType::Char => ConstantType::Character,
+            DiscreteType::WideChar => ConstantType::WideCharacter,
+            DiscreteType::Boolean => ConstantType::Boolean,
+            DiscreteType::Octet => ConstantType::Integer(IntegerKind::Octet),
         }
     }
 
@@ -80,7 +80,7 @@ impl Target {
         ensures { result ≡ kind_in self.now }
     {
         match self {
-            Target::Integer(kind) => Some(*kind),
+            ConstantType::Integer(kind) => Some(*kind),
             _ => None,
         }
     }
@@ -90,12 +90,12 @@ impl Target {
         ensures { result ≡ value_count self.now enumerators }
     {
         match self {
-            Target::Integer(kind) => Some(kind.value_count()),
-            Target::Boolean => Some(2),
-            Target::Character => Some(256),
-            Target::WideCharacter => Some(65536),
-            Target::Text(_) | Target::WideText(_) => None,
-            Target::Enumeration(_) => Some(i128::from(enumerators)),
+            ConstantType::Integer(kind) => Some(kind.value_count()),
+            ConstantType::Boolean => Some(2),
+            ConstantType::Character => Some(256),
+            ConstantType::WideCharacter => Some(65536),
+            ConstantType::Text(_) | ConstantType::WideText(_) => None,
+            ConstantType::Enumeration(_) => Some(i128::from(enumerators)),
         }
     }
 
@@ -104,10 +104,13 @@ impl Target {
         ensures { result ≡ discriminates self.now }
     {
         match self {
-            Target::Integer(IntegerKind::Octet) => false,
-            Target::Integer(_) | Target::Boolean | Target::Character | Target::Enumeration(_) =>
-                true,
-            Target::WideCharacter | Target::Text(_) | Target::WideText(_) => false,
+            ConstantType::Integer(IntegerKind::Octet) => false,
+            ConstantType::Integer(_)
+            | ConstantType::Boolean
+            | ConstantType::Character
+            | ConstantType::Enumeration(_) => true,
+            ConstantType::WideCharacter | ConstantType::Text(_) | ConstantType::WideText(_) =>
+                false,
         }
     }
 }

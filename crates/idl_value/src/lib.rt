@@ -17,10 +17,10 @@ mod walk;
 mod whole;
 
 pub use constant::{evaluate, evaluate_bound, joined, literal_value};
-pub use constant_type::Target;
+pub use constant_type::ConstantType;
 pub use integer::IntegerKind;
 pub use laws::{ascending, counting, deciding, standing};
 pub use operator::Operator;
-pub use outcome::{Code, Fault, Outcome};
+pub use outcome::{Outcome, ValueCode, ValueFault};
 pub use spelling::{push_name, push_part, push_value};
 pub use value::Value;

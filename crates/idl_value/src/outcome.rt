@@ -4,7 +4,7 @@ use crate::value::Value;
 
 /// Why a part of an expression has no value.
 #[derive(Clone, Copy)]
-pub enum Code {
+pub enum ValueCode {
     /// An operand or a value of another kind than the target.
     WrongKind,
     OutOfRange,
@@ -16,17 +16,17 @@ pub enum Code {
 
 /// A fault in an expression.
 #[derive(Clone, Copy)]
-pub struct Fault {
+pub struct ValueFault {
     /// The number of the token at which it is decided, among the expression's own, from 0 on.
     pub token: usize,
-    pub code: Code,
+    pub code: ValueCode,
 }
 
 /// What an expression comes to.
 pub enum Outcome {
     Value(Value),
     /// It has no value, and this fault is the first.
-    Fault(Fault),
+    Fault(ValueFault),
     /// It has no value, and all its faults are those of names.
     Told,
 }

@@ -7,9 +7,9 @@ ghost use Rattle.idl_value.specs.Evaluation.{ahead, behind, operand_at};
 ghost use Rattle.idl_value.specs.Term.{Literally, Named, and_term, before_last, exclusive_or_term, expression_term, primary_term, product_operator, product_term, shift_operator, shift_term, sum_operator, sum_term, unary_term};
 ghost use Rattle.idl_value.specs.Walk.{stepped, walk_operator, walk_term};
 
-use crate::constant_type::Target;
+use crate::constant_type::ConstantType;
 use crate::operator::Operator;
-use crate::part_value::{Part, Sited, literal_part, named_part};
+use crate::part_value::{PartValue, Sited, literal_part, named_part};
 use crate::value::Value;
 use idl_base::Seq;
 use idl_tree::expression::{
@@ -20,31 +20,31 @@ use idl_tree::{Expression, Literal, ScopedName, Several};
 
 /// How many tokens of an expression stand before a part of it, and how many names.
 #[derive(Clone, Copy)]
-pub struct Place {
+pub struct Passed {
     pub token: usize,
     pub name: usize,
 }
 
 /// What a part comes to, and the place behind it.
 #[derive(Clone, Copy)]
-pub struct Step<'a> {
-    pub part: Part<'a>,
-    pub place: Place,
+pub struct Worked<'a> {
+    pub part: PartValue<'a>,
+    pub place: Passed,
 }
 
 /// What the expression is for, and the values of its names.
 #[derive(Clone, Copy)]
 pub struct Scene<'a> {
-    pub target: &'a Target,
+    pub target: &'a ConstantType,
     pub operands: &'a [Option<Value>],
 }
 
-impl Place {
+impl Passed {
     /// So many tokens and names further.
-    fn further(self, tokens: usize, names: usize) -> Place
+    fn further(self, tokens: usize, names: usize) -> Passed
         ensures { result ≡ behind self tokens names }
     {
-        Place {
+        Passed {
             token: self.token.saturating_add(tokens),
             name: self.name.saturating_add(names),
         }
@@ -55,7 +55,7 @@ impl<'a> Scene<'a> {
     /// Operands with `|` between them.
     #[cycle(expression)]
     #[tactic(auto, unfolding(crate::specs::Term::expression_term))]
-    pub fn expression(self, place: Place, expression: &'a Expression) -> Step<'a>
+    pub fn expression(self, place: Passed, expression: &'a Expression) -> Worked<'a>
         ensures { stepped result
             ≡ walk_term self.entry.target.now self.entry.operands.now place
             (expression_term expression.now) }
@@ -72,7 +72,7 @@ impl<'a> Scene<'a> {
     /// Operands with `^` between them.
     #[cycle(expression)]
     #[tactic(auto, unfolding(crate::specs::Term::exclusive_or_term))]
-    fn exclusive_or(self, place: Place, exclusive_or: &'a ExclusiveOr) -> Step<'a>
+    fn exclusive_or(self, place: Passed, exclusive_or: &'a ExclusiveOr) -> Worked<'a>
         ensures { stepped result
             ≡ walk_term self.entry.target.now self.entry.operands.now place
             (exclusive_or_term exclusive_or.now) }
@@ -89,7 +89,7 @@ impl<'a> Scene<'a> {
     /// Operands with `&` between them.
     #[cycle(expression)]
     #[tactic(auto, unfolding(crate::specs::Term::and_term))]
-    fn and(self, place: Place, and: &'a And) -> Step<'a>
+    fn and(self, place: Passed, and: &'a And) -> Worked<'a>
         ensures { stepped result
             ≡ walk_term self.entry.target.now self.entry.operands.now place (and_term and.now) }
     {
@@ -105,7 +105,7 @@ impl<'a> Scene<'a> {
     /// An operand, and shifts of it.
     #[cycle(expression)]
     #[tactic(auto, unfolding(crate::specs::Term::shift_term))]
-    fn shift(self, place: Place, shift: &'a Shift) -> Step<'a>
+    fn shift(self, place: Passed, shift: &'a Shift) -> Worked<'a>
         ensures { stepped result
             ≡ walk_term self.entry.target.now self.entry.operands.now place (shift_term shift.now) }
     {
@@ -121,7 +121,7 @@ impl<'a> Scene<'a> {
     /// An operand, and what is added or taken away.
     #[cycle(expression)]
     #[tactic(auto, unfolding(crate::specs::Term::sum_term))]
-    fn sum(self, place: Place, sum: &'a Sum) -> Step<'a>
+    fn sum(self, place: Passed, sum: &'a Sum) -> Worked<'a>
         ensures { stepped result
             ≡ walk_term self.entry.target.now self.entry.operands.now place (sum_term sum.now) }
     {
@@ -137,7 +137,7 @@ impl<'a> Scene<'a> {
     /// An operand, and factors and divisors.
     #[cycle(expression)]
     #[tactic(auto, unfolding(crate::specs::Term::product_term))]
-    fn product(self, place: Place, product: &'a Product) -> Step<'a>
+    fn product(self, place: Passed, product: &'a Product) -> Worked<'a>
         ensures { stepped result
             ≡ walk_term self.entry.target.now self.entry.operands.now place
             (product_term product.now) }
@@ -154,18 +154,18 @@ impl<'a> Scene<'a> {
     /// An operand, with at most one operator before it.
     #[cycle(expression)]
     #[tactic(auto, unfolding(crate::specs::Term::unary_term))]
-    fn unary(self, place: Place, unary: &'a Unary) -> Step<'a>
+    fn unary(self, place: Passed, unary: &'a Unary) -> Worked<'a>
         ensures { stepped result
             ≡ walk_term self.entry.target.now self.entry.operands.now place (unary_term unary.now) }
     {
         match unary.operator {
             None => self.primary(place, &unary.operand),
             Some(sign) => {
-                let Step {
+                let Worked {
                     part,
                     place: behind,
                 } = self.primary(place.further(1, 0), &unary.operand);
-                Step {
+                Worked {
                     part: part.with_sign(self.target, place.token, sign),
                     place: behind,
                 }
@@ -176,7 +176,7 @@ impl<'a> Scene<'a> {
     /// An expression that is no operation.
     #[cycle(expression)]
     #[tactic(auto, unfolding(crate::specs::Term::primary_term))]
-    fn primary(self, place: Place, primary: &'a Primary) -> Step<'a>
+    fn primary(self, place: Passed, primary: &'a Primary) -> Worked<'a>
         ensures { stepped result
             ≡ walk_term self.entry.target.now self.entry.operands.now place
             (primary_term primary.now) }
@@ -185,11 +185,11 @@ impl<'a> Scene<'a> {
             Primary::Name(name) => self.named(place, name),
             Primary::Literal(literal) => self.literal(place, literal),
             Primary::Parentheses(inner) => {
-                let Step {
+                let Worked {
                     part,
                     place: behind,
                 } = self.expression(place.further(1, 0), inner.get());
-                Step {
+                Worked {
                     part,
                     place: behind.further(1, 0),
                 }
@@ -198,13 +198,13 @@ impl<'a> Scene<'a> {
     }
 
     // A name.
-    fn named(self, place: Place, name: &ScopedName) -> Step<'a>
+    fn named(self, place: Passed, name: &ScopedName) -> Worked<'a>
         ensures { stepped result
             ≡ walk_term self.entry.target.now self.entry.operands.now place
             (Named (before_last name.now)) }
     {
         let last = place.further(before_last(name), 0);
-        Step {
+        Worked {
             part: named_part(self.target, last.token, self.operand(place.name)),
             place: last.further(1, 1),
         }
@@ -221,19 +221,19 @@ impl<'a> Scene<'a> {
     }
 
     // A literal.
-    fn literal(self, place: Place, literal: &'a Literal) -> Step<'a>
+    fn literal(self, place: Passed, literal: &'a Literal) -> Worked<'a>
         ensures { stepped result
             ≡ walk_term self.entry.target.now self.entry.operands.now place
             (Literally literal.now) }
     {
-        Step {
+        Worked {
             part: literal_part(self.target, place.token, literal),
             place: place.further(literal_length(literal), 0),
         }
     }
 
     // Two operands, and the operator between them.
-    fn operated(self, operator: Operator, left: Step<'a>, right: Step<'a>) -> Step<'a>
+    fn operated(self, operator: Operator, left: Worked<'a>, right: Worked<'a>) -> Worked<'a>
         ensures { stepped result
             ≡ walk_operator self.entry.target.now operator (stepped left.entry) (stepped right.entry) }
     {
@@ -241,7 +241,7 @@ impl<'a> Scene<'a> {
             operator,
             token: left.place.token,
         };
-        Step {
+        Worked {
             part: left.part.combined(self.target, mark, right.part),
             place: right.place,
         }

@@ -11,8 +11,8 @@ use Rattle.idl_parts.proofs.ExpressionSpelling.{expression_spells-parts}
 use Rattle.idl_parts.proofs.UnitSpelling.{counted}
 use Rattle.idl_parts.specs.ExpressionParts.{expression_parts}
 use Rattle.idl_parts.specs.Item.{items, items_length}
-use Rattle.idl_parts.specs.declared.part.Target.{Target as Purpose}
-use Rattle.idl_parts.specs.declared.part.Target.TheVariants as purpose
+use Rattle.idl_parts.specs.declared.part.Purpose.{Purpose}
+use Rattle.idl_parts.specs.declared.part.Purpose.TheVariants as purpose
 use Rattle.idl_tree.specs.Expression.{spell_expression}
 use Rattle.idl_tree.specs.declared.expression.Expression.{Expression}
 use Rattle.idl_unit.specs.TokenRules.{fault_at}
@@ -20,9 +20,9 @@ use Rattle.idl_value.proofs.OrderLemmas.{value-ascends}
 use Rattle.idl_value.specs.Evaluation.{Evaluation, Faulty, Operands, Valued, bound_of, faults_of, first_of, positive, value_of}
 use Rattle.idl_value.specs.Order.{IsAscending}
 use Rattle.idl_value.specs.declared.integer.IntegerKind.TheVariants.{UnsignedLong}
-use Rattle.idl_value.specs.declared.outcome.Fault.{Fault as ValueFault}
-use Rattle.idl_value.specs.declared.constant_type.Target.{Target}
-use Rattle.idl_value.specs.declared.constant_type.Target.TheVariants as target
+use Rattle.idl_value.specs.declared.outcome.ValueFault.{ValueFault}
+use Rattle.idl_value.specs.declared.constant_type.ConstantType.{ConstantType}
+use Rattle.idl_value.specs.declared.constant_type.ConstantType.TheVariants as target
 use Rattle.idl_value.specs.declared.value.Value.TheVariants as value
 use Rattle.idl_check.proofs.Faults.AlikeLemmas.{AreAlike, alike-led}
 use Rattle.idl_check.proofs.Faults.FaultOrder.{Leads, leads-later}
@@ -72,18 +72,18 @@ module _ (os : Operands) (e : Expression) (fits : length (spell_expression e) < 
   abbrev count : ℕ
   count = length (spell_expression e)
 
-  value-ordered : (t : Target) → IsOrdered count (faults_of (value_of t os e))
+  value-ordered : (t : ConstantType) → IsOrdered count (faults_of (value_of t os e))
   value-ordered t = ordered count (faults_of (value_of t os e)) (value-ascends t os e fits)
 
   bound-ordered : IsOrdered count (faults_of (bound_of os e))
   unfolding bound_of
   bound-ordered = positive-ordered count (value_of (target.Integer UnsignedLong) os e) (value-ordered (target.Integer UnsignedLong))
 
-  in-ordered : (t : Option Target) → IsOrdered count (faults_of (evaluation_in t os e))
+  in-ordered : (t : Option ConstantType) → IsOrdered count (faults_of (evaluation_in t os e))
   in-ordered (Some t) = value-ordered t
   in-ordered None = tt
 
-  pub for-ordered : (way : Purpose) (constant label : Option Target) → IsOrdered count (faults_of (evaluation_for way constant label os e))
+  pub for-ordered : (way : Purpose) (constant label : Option ConstantType) → IsOrdered count (faults_of (evaluation_for way constant label os e))
   for-ordered purpose.Bound constant label = bound-ordered
   for-ordered purpose.Length constant label = bound-ordered
   for-ordered purpose.Constant constant label = in-ordered constant

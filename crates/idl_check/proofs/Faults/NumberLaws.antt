@@ -13,7 +13,7 @@ use Rattle.idl_fault.specs.declared.code.Code.TheVariants.{MisplacedUnit, Nested
 use Rattle.idl_lex.specs.kinds.Kind.{kind_of}
 use Rattle.idl_lex.specs.tokens.Tokens.{Token}
 use Rattle.idl_lex.specs.declared.kinds.keyword.Keyword.TheVariants as word
-use Rattle.idl_lex.specs.declared.kinds.kind.Kind.{Kind as TokenKind}
+use Rattle.idl_lex.specs.declared.kinds.kind.TokenKind.{TokenKind}
 use Rattle.idl_lex.specs.declared.kinds.mark.Mark.{Mark}
 use Rattle.idl_lex.specs.declared.kinds.mark.Mark.TheVariants as mark
 use Rattle.idl_memo.specs.Query.{outcome}

@@ -13,8 +13,8 @@ use Rattle.idl_env.specs.declared.keys.key.Key.{Key}
 use Rattle.idl_parts.specs.ExpressionParts.{expression_parts, value_parts}
 use Rattle.idl_parts.specs.Item.{Item, items, items_length}
 use Rattle.idl_parts.specs.Part.{Part as item}
-use Rattle.idl_parts.specs.declared.part.Target.{Target as Purpose}
-use Rattle.idl_parts.specs.declared.part.Target.TheVariants as purpose
+use Rattle.idl_parts.specs.declared.part.Purpose.{Purpose}
+use Rattle.idl_parts.specs.declared.part.Purpose.TheVariants as purpose
 use Rattle.idl_parts.specs.declared.part.Use.{Use}
 use Rattle.idl_tree.specs.Expression.{spell_expression}
 use Rattle.idl_tree.specs.declared.expression.Expression.{Expression}

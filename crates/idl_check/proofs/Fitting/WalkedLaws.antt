@@ -63,8 +63,8 @@ use Rattle.idl_parts.specs.Item.{Item, items}
 use Rattle.idl_parts.specs.Part.{Part as item}
 use Rattle.idl_parts.specs.UnitParts.{unit_parts}
 use Rattle.idl_parts.specs.declared.part.Declaration.{Declaration}
-use Rattle.idl_parts.specs.declared.part.Target.{Target as Purpose}
-use Rattle.idl_parts.specs.declared.part.Target.TheVariants as purpose
+use Rattle.idl_parts.specs.declared.part.Purpose.{Purpose}
+use Rattle.idl_parts.specs.declared.part.Purpose.TheVariants as purpose
 use Rattle.idl_parts.specs.declared.part.Use.{Use}
 use Rattle.idl_parts.specs.declared.part.Use.TheVariants.{AsBase, AsType}
 use Rattle.idl_tree.specs.declared.name.ScopedName.{ScopedName}

@@ -19,7 +19,7 @@ use Rattle.idl_check.specs.walk.Walk.{Walk, turns_at}
 use Rattle.idl_check.specs.declared.ids.identifying.Ids.{Ids}
 use Rattle.idl_check.specs.declared.tables.standing.Standing.{Standing}
 use Rattle.idl_fault.specs.declared.code.Code.{Code}
-use Rattle.idl_fault.specs.declared.code.Code.TheVariants.{AlreadyDeclared, NameOfScope, DeclaredAfterUse, OtherForward, InheritedTwice, OtherPrefix}
+use Rattle.idl_fault.specs.declared.code.Code.TheVariants.{AlreadyDeclared, NameOfScope, DeclaredAfterUse, OtherForward, DeclaredAgain, OtherPrefix}
 use Rattle.idl_lex.specs.kinds.Keywords.{folded}
 use Rattle.idl_memo.proofs.QueryLaws.{outcome-and_then}
 use Rattle.idl_memo.specs.Query.{Done, and_then, outcome}
@@ -71,7 +71,7 @@ pub record IsAllowed (s : Scope) (st : Standing) (e : Entity) : Type 0 where
 pub allowed : (n : ℕ) (s : Scope) (st : Standing) (e : Entity) → faults_by n (declared_table s st e) ≡ [] → IsAllowed s st e
 allowed n s st e h =
     let r5 = codes_in ((has_other_prefix st.ids, OtherPrefix) ∷ []) in
-    let r4 = cond (is_inherited st) (InheritedTwice ∷ r5) r5 in
+    let r4 = cond (is_inherited st) (DeclaredAgain ∷ r5) r5 in
     let r3 = cond (is_other_ahead st.there e) (OtherForward ∷ r4) r4 in
     let r2 = cond (is_introduced st) (DeclaredAfterUse ∷ r3) r3 in
     let r1 = cond (is_name_of_scope s e) (NameOfScope ∷ r2) r2 in
@@ -79,7 +79,7 @@ allowed n s st e h =
     let b = no-row (is_name_of_scope s e) NameOfScope r2 a.1 in
     let c = no-row (is_introduced st) DeclaredAfterUse r3 b.1 in
     let d = no-row (is_other_ahead st.there e) OtherForward r4 c.1 in
-    let g = no-row (is_inherited st) InheritedTwice r5 d.1 in
+    let g = no-row (is_inherited st) DeclaredAgain r5 d.1 in
     record { declared = a.0; inherited = g.0 }
 
 or-second : (a b : Bool) → a ≡ false → (a || b) ≡ true → b ≡ true

@@ -37,14 +37,14 @@ use Rattle.idl_parts.specs.declared.part.Declaration.{Declaration}
 use Rattle.idl_parts.specs.declared.part.Declaration.TheVariants as declaration
 use Rattle.idl_parts.specs.declared.part.Shape.{Shape}
 use Rattle.idl_parts.specs.declared.part.Shape.TheVariants as shape
-use Rattle.idl_parts.specs.declared.part.Target.{Target as Purpose}
-use Rattle.idl_parts.specs.declared.part.Target.TheVariants as purpose
+use Rattle.idl_parts.specs.declared.part.Purpose.{Purpose}
+use Rattle.idl_parts.specs.declared.part.Purpose.TheVariants as purpose
 use Rattle.idl_parts.specs.declared.part.Use.{Use}
 use Rattle.idl_parts.specs.declared.part.Use.TheVariants.{AsBase, AsType, AsElement, AsConstantType, AsDiscriminator, AsOperand}
 use Rattle.idl_tree.specs.declared.declarations.data_type.BasicType.TheVariants as basic
 use Rattle.idl_tree.specs.declared.name.ScopedName.{ScopedName}
 use Rattle.idl_unit.specs.TokenRules.{first}
-use Rattle.idl_value.specs.declared.constant_type.Target.{Target}
+use Rattle.idl_value.specs.declared.constant_type.ConstantType.{ConstantType}
 use Rattle.idl_value.specs.declared.value.Value.{Value}
 use Rattle.idl_check.proofs.Nests.LevelSites.{Around, around_after, has_constants, is_inside, opens_union, popped, used_around}
 use Rattle.idl_check.proofs.PartLemmas.{IsUpTo}
@@ -61,7 +61,7 @@ AreUnions (s ∷ scopes) [] = Unit {0}
 AreUnions (s ∷ scopes) (b ∷ bs) = (kind_eq s.kind Union ≡ b) × AreUnions scopes bs
 
 -- what a walk has come to, where that stands around
-pub record Stands (unions : List Labels) (cursor : List Scope) (constants : Option Target) (a : Around) : Type 0 where
+pub record Stands (unions : List Labels) (cursor : List Scope) (constants : Option ConstantType) (a : Around) : Type 0 where
   pub count : a.unions ≤ length unions
   pub typed : All IsTyped unions
   pub scopes : AreUnions cursor a.scopes
@@ -86,11 +86,11 @@ suits-none false table h = cc
 pub used-none : (n : ℕ) (w : Walk) (way : Use) (e behind : Entity) → faults_by n (used_table way w.bases e behind) ≡ [] → (suits way e ≡ true) × (codes_in (suited_table way w.bases e behind) ≡ [])
 used-none n w way e behind h = suits-none (suits way e) (suited_table way w.bases e behind) (no-codes n (codes_in (used_table way w.bases e behind)) h)
 
-some-constants : (o : Option Target) → has_no_constants o ≡ false → IsSome o
+some-constants : (o : Option ConstantType) → has_no_constants o ≡ false → IsSome o
 some-constants None h = cc
 some-constants (Some t) h = refl
 
-some-switch : (o : Option Target) → is_no_discriminator o ≡ false → IsSome o
+some-switch : (o : Option ConstantType) → is_no_discriminator o ≡ false → IsSome o
 some-switch None h = cc
 some-switch (Some t) h = refl
 

@@ -7,7 +7,7 @@ use Rattle.idl_check.specs.walk.Sections.{AreBracketed, IsFormed, Single, Return
 use Rattle.idl_parts.specs.ExpressionParts.{expression_parts, value_parts}
 use Rattle.idl_parts.specs.Item.{Item, item_of, items}
 use Rattle.idl_parts.specs.Part.{Part, Parts, GivesBack, ValueEnds, Part as item}
-use Rattle.idl_parts.specs.declared.part.Target.{Target as Purpose}
+use Rattle.idl_parts.specs.declared.part.Purpose.{Purpose}
 use Rattle.idl_parts.specs.declared.part.Use.{Use}
 use Rattle.idl_tree.specs.Lexeme.{Lexemes}
 use Rattle.idl_tree.specs.declared.expression.Expression.{Expression}

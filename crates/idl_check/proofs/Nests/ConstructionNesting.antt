@@ -1,5 +1,5 @@
 -- The sites of types, declarators and constructions nest: by their grammar.
-use Rattle.idl_tree.specs.declared.declarations.data_type.DataType.TheFolds.{fold-roll-DataType, fold-roll-Sequence}
+use Rattle.idl_tree.specs.declared.declarations.data_type.TypeTree.TheFolds.{fold-roll-TypeTree, fold-roll-Sequence}
 use Rattle.std.proofs.Common.{◌≡◌, ℕ, true, false, List, [], ◌∷◌, ◌++◌, Option, None, Some, append_assoc, flat_map, is_some, map, refl, sym, subst, ◌∙◌, ap}
 use Rattle.idl_lex.specs.declared.kinds.keyword.Keyword.TheVariants as word
 use Rattle.idl_lex.specs.declared.kinds.mark.Mark.TheVariants as mark
@@ -12,8 +12,8 @@ use Rattle.idl_parts.specs.TypeParts.{array_end, bound_parts, constant_type_part
 use Rattle.idl_parts.specs.declared.part.Declaration.{Declaration}
 use Rattle.idl_parts.specs.declared.part.Declaration.TheVariants as declaration
 use Rattle.idl_parts.specs.declared.part.Shape.TheVariants.{Basic, Text, Sequence as Elements}
-use Rattle.idl_parts.specs.declared.part.Target.TheVariants.{Bound, Length}
-use Rattle.idl_parts.specs.declared.part.Target.TheVariants as purpose
+use Rattle.idl_parts.specs.declared.part.Purpose.TheVariants.{Bound, Length}
+use Rattle.idl_parts.specs.declared.part.Purpose.TheVariants as purpose
 use Rattle.idl_parts.specs.declared.part.Use.{Use}
 use Rattle.idl_parts.specs.declared.part.Use.TheVariants.{AsConstantType, AsElement, AsType}
 use Rattle.idl_tree.specs.DataType.{spell_basic, spell_discrete, spell_string_word}
@@ -35,10 +35,10 @@ use Rattle.idl_tree.specs.declared.declarations.construction.MemberType.TheVaria
 use Rattle.idl_tree.specs.declared.declarations.construction.Structure.{Structure, roll-Structure}
 use Rattle.idl_tree.specs.declared.declarations.construction.Union.{Union, roll-Union}
 use Rattle.idl_tree.specs.declared.declarations.data_type.BasicType.TheVariants.{Discrete}
-use Rattle.idl_tree.specs.declared.declarations.data_type.DataType.{DataType, ind-DataType, map-DataType, roll-DataType, fold-DataType}
-use Rattle.idl_tree.specs.declared.declarations.data_type.DataType.TheOpen.{DataType-F}
-use Rattle.idl_tree.specs.declared.declarations.data_type.DataType.TheVariants.{rolls-Plain, rolls-Sequence}
-use Rattle.idl_tree.specs.declared.declarations.data_type.DataType.TheVariants as data_type
+use Rattle.idl_tree.specs.declared.declarations.data_type.TypeTree.{TypeTree, ind-TypeTree, map-TypeTree, roll-TypeTree, fold-TypeTree}
+use Rattle.idl_tree.specs.declared.declarations.data_type.TypeTree.TheOpen.{TypeTree-F}
+use Rattle.idl_tree.specs.declared.declarations.data_type.TypeTree.TheVariants.{rolls-Plain, rolls-Sequence}
+use Rattle.idl_tree.specs.declared.declarations.data_type.TypeTree.TheVariants as data_type
 use Rattle.idl_tree.specs.declared.declarations.data_type.PlainType.{PlainType}
 use Rattle.idl_tree.specs.declared.declarations.data_type.PlainType.TheVariants as plain
 use Rattle.idl_tree.specs.declared.declarations.data_type.Sequence.{Sequence, roll-Sequence}
@@ -46,8 +46,8 @@ use Rattle.idl_tree.specs.declared.declarations.data_type.StringType.{StringType
 use Rattle.idl_tree.specs.declared.declarations.declarator.Declarator.{Declarator}
 use Rattle.idl_tree.specs.declared.expression.Expression.{Expression}
 use Rattle.idl_tree.specs.declared.several.Several.{Several}
-use Rattle.idl_tree.specs.declared.unit.ConstantType.{ConstantType}
-use Rattle.idl_tree.specs.declared.unit.ConstantType.TheVariants as constant
+use Rattle.idl_tree.specs.declared.unit.ConstantTypeTree.{ConstantTypeTree}
+use Rattle.idl_tree.specs.declared.unit.ConstantTypeTree.TheVariants as constant
 use Rattle.idl_check.proofs.Nests.Nesting.{Gives, Nests, NestsAt, NestsIn, at_least, before, before_in, carry, declares, discriminated, each, ends, expression, follow, follow_in, gives, label_value, lifted, many, none, one, scope, several, union_scope}
 use Rattle.idl_check.proofs.Nests.LevelSites.{is_declared_at, is_level_use}
 
@@ -74,31 +74,31 @@ plain_type (plain.Name n) way level = gives (Uses way n) [] refl level none
 type_parts-plain : (p : PlainType) (way : Use) → type_parts_as (data_type.Plain p) way ≡ plain_parts p way
 unfolding type_parts_as
 type_parts-plain p way = ap (λ (f : Use → Parts). f way)
-    (ap (fold-DataType (Use → Parts) (Use → Parts) data_type_step sequence_step) (sym (rolls-Plain p))
-    ∙ fold-roll-DataType (Use → Parts) (Use → Parts) data_type_step sequence_step (DataType-F.Plain p))
+    (ap (fold-TypeTree (Use → Parts) (Use → Parts) data_type_step sequence_step) (sym (rolls-Plain p))
+    ∙ fold-roll-TypeTree (Use → Parts) (Use → Parts) data_type_step sequence_step (TypeTree-F.Plain p))
 
 -- behind the first tokens of a sequence
-abbrev sequence_rest : DataType → Option Expression → Parts
+abbrev sequence_rest : TypeTree → Option Expression → Parts
 sequence_rest t b = type_parts_as t AsElement ++ (limit_parts b ++ punctuation mark.Greater ∷ TypeEnds (Elements (is_some b)) ∷ [])
 
-type_parts-sequence : (t : DataType) (b : Option Expression) (way : Use)
+type_parts-sequence : (t : TypeTree) (b : Option Expression) (way : Use)
     → type_parts_as (made_sequence t b) way ≡ Plain (Word word.Sequence ∷ Punctuation mark.Less ∷ []) ∷ sequence_rest t b
 unfolding type_parts_as
 type_parts-sequence t b way =
     let s = roll-Sequence (record { element = t; bound = b }) in
     ap (λ (f : Use → Parts). f way)
-    (ap (fold-DataType (Use → Parts) (Use → Parts) data_type_step sequence_step) (sym (rolls-Sequence s))
-    ∙ fold-roll-DataType (Use → Parts) (Use → Parts) data_type_step sequence_step (DataType-F.Sequence s)
+    (ap (fold-TypeTree (Use → Parts) (Use → Parts) data_type_step sequence_step) (sym (rolls-Sequence s))
+    ∙ fold-roll-TypeTree (Use → Parts) (Use → Parts) data_type_step sequence_step (TypeTree-F.Sequence s)
     ∙ fold-roll-Sequence (Use → Parts) (Use → Parts) data_type_step sequence_step (record { element = t; bound = b }))
 
 -- the claims by which the induction goes
-abbrev Types : DataType → Type 0
+abbrev Types : TypeTree → Type 0
 Types t = (way : Use) → is_level_use way ≡ true → Gives (type_parts_as t way)
 
 abbrev Sequences : Sequence → Type 0
 Sequences s = Types (data_type.Sequence s)
 
-sequence : (t : DataType) (b : Option Expression) → Types t → Types (made_sequence t b)
+sequence : (t : TypeTree) (b : Option Expression) → Types t → Types (made_sequence t b)
 sequence t b h way level =
     let last : Parts = punctuation mark.Greater ∷ TypeEnds (Elements (is_some b)) ∷ [] in
     subst Gives (sym (type_parts-sequence t b way))
@@ -106,22 +106,22 @@ sequence t b h way level =
     (follow (type_parts_as t AsElement) (limit_parts b ++ last) (h AsElement refl).plain
     (follow (limit_parts b) last (limit b) (before (punctuation mark.Greater) (TypeEnds (Elements (is_some b)) ∷ []) refl (one (TypeEnds (Elements (is_some b))) refl)))))
 
-by_type : (y : DataType-F (Such Types) (Such Sequences)) → Types (roll-DataType (map-DataType (Such Types) (Such Sequences) DataType Sequence (λ e. e.0) (λ e. e.0) y))
-by_type (DataType-F.Plain p) = subst Types (sym (rolls-Plain p)) (λ way level. subst Gives (sym (type_parts-plain p way)) (plain_type p way level))
-by_type (DataType-F.Sequence s) = subst Types (sym (rolls-Sequence s.0)) s.1
+by_type : (y : TypeTree-F (Such Types) (Such Sequences)) → Types (roll-TypeTree (map-TypeTree (Such Types) (Such Sequences) TypeTree Sequence (λ e. e.0) (λ e. e.0) y))
+by_type (TypeTree-F.Plain p) = subst Types (sym (rolls-Plain p)) (λ way level. subst Gives (sym (type_parts-plain p way)) (plain_type p way level))
+by_type (TypeTree-F.Sequence s) = subst Types (sym (rolls-Sequence s.0)) s.1
 
-type_gives : (t : DataType) → Types t
-type_gives = ind-DataType Types Sequences
-    (λ x y is. subst (λ z. Types (roll-DataType z)) is (by_type y))
+type_gives : (t : TypeTree) → Types t
+type_gives = ind-TypeTree Types Sequences
+    (λ x y is. subst (λ z. Types (roll-TypeTree z)) is (by_type y))
     (λ x y is. subst (λ z. Sequences (roll-Sequence z)) is (sequence y.element.0 y.bound y.element.1))
 
-pub a_result : (t : DataType) → Gives (type_parts t)
+pub a_result : (t : TypeTree) → Gives (type_parts t)
 a_result t = type_gives t AsType refl
 
-pub a_type : (t : DataType) → Nests (type_parts t)
+pub a_type : (t : TypeTree) → Nests (type_parts t)
 a_type t = (a_result t).plain
 
-pub constant_type : (t : ConstantType) → Nests (constant_type_parts t)
+pub constant_type : (t : ConstantTypeTree) → Nests (constant_type_parts t)
 constant_type (constant.Discrete d) = before (Plain (spell_discrete d)) (TypeEnds (Basic (Discrete d)) ∷ []) refl (one (TypeEnds (Basic (Discrete d))) refl)
 constant_type (constant.String s) = (string s).plain
 constant_type (constant.Name n) = one (Uses AsConstantType n) refl

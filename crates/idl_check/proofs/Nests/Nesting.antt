@@ -17,8 +17,8 @@ use Rattle.idl_parts.specs.Part.{Part, Parts, Declares, Plain, ScopeBegins, Scop
 use Rattle.idl_parts.proofs.ConstructionEquations.{union_brace}
 use Rattle.idl_parts.specs.declared.part.Declaration.{Declaration}
 use Rattle.idl_parts.specs.declared.part.Declaration.TheVariants as declaration
-use Rattle.idl_parts.specs.declared.part.Target.{Target as Purpose}
-use Rattle.idl_parts.specs.declared.part.Target.TheVariants as purpose
+use Rattle.idl_parts.specs.declared.part.Purpose.{Purpose}
+use Rattle.idl_parts.specs.declared.part.Purpose.TheVariants as purpose
 use Rattle.idl_parts.specs.declared.part.Use.TheVariants.{AsDiscriminator}
 use Rattle.idl_tree.specs.declared.declarations.construction.Discriminator.{Discriminator}
 use Rattle.idl_tree.specs.declared.declarations.construction.Discriminator.TheVariants as discriminator

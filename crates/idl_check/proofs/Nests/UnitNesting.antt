@@ -13,7 +13,7 @@ use Rattle.idl_parts.specs.TypeParts.{bound_parts, constant_type_parts, declarat
 use Rattle.idl_parts.specs.UnitParts.{attribute_names, attribute_names_parts, attribute_parts, bases_parts, constant_parts, context_parts, direction_parts, exception_parts, exceptions_parts, given_back, interface_parts, native_parts, oneway_parts, operation_parts, parameter_parts, raises_parts, readonly_attribute_parts, readonly_names_parts, result_parts, typedef_parts, ended, unit_parts}
 use Rattle.idl_parts.specs.declared.part.Declaration.TheVariants as declaration
 use Rattle.idl_parts.specs.declared.part.Shape.TheVariants.{Text}
-use Rattle.idl_parts.specs.declared.part.Target.TheVariants as purpose
+use Rattle.idl_parts.specs.declared.part.Purpose.TheVariants as purpose
 use Rattle.idl_parts.specs.declared.part.Use.{Use}
 use Rattle.idl_parts.specs.declared.part.Use.TheVariants.{AsBase, Raised, RaisedBySet}
 use Rattle.idl_tree.specs.Interface.{spell_direction, spell_local}
@@ -26,7 +26,7 @@ use Rattle.idl_tree.specs.declared.declarations.attribute.AttributeRaises.TheVar
 use Rattle.idl_tree.specs.declared.declarations.attribute.ReadonlyAttribute.{ReadonlyAttribute}
 use Rattle.idl_tree.specs.declared.declarations.attribute.ReadonlyNames.{ReadonlyNames}
 use Rattle.idl_tree.specs.declared.declarations.attribute.ReadonlyNames.TheVariants as readonly
-use Rattle.idl_tree.specs.declared.declarations.data_type.DataType.{DataType}
+use Rattle.idl_tree.specs.declared.declarations.data_type.TypeTree.{TypeTree}
 use Rattle.idl_tree.specs.declared.declarations.interface.Forward.TheVariants as forward
 use Rattle.idl_tree.specs.declared.declarations.interface.Interface.{Interface}
 use Rattle.idl_tree.specs.declared.name.ScopedName.{ScopedName}
@@ -36,8 +36,8 @@ use Rattle.idl_tree.specs.declared.declarations.operation.Operation.{Operation}
 use Rattle.idl_tree.specs.declared.declarations.operation.Parameter.{Parameter}
 use Rattle.idl_tree.specs.declared.several.Several.{Several}
 use Rattle.idl_tree.specs.declared.unit.Constant.{Constant}
-use Rattle.idl_tree.specs.declared.unit.ConstantType.{ConstantType}
-use Rattle.idl_tree.specs.declared.unit.ConstantType.TheVariants as constant
+use Rattle.idl_tree.specs.declared.unit.ConstantTypeTree.{ConstantTypeTree}
+use Rattle.idl_tree.specs.declared.unit.ConstantTypeTree.TheVariants as constant
 use Rattle.idl_tree.specs.declared.unit.Exception.{Exception}
 use Rattle.idl_tree.specs.declared.unit.Tree.{Tree}
 use Rattle.idl_tree.specs.declared.unit.Tree.TheVariants as tree
@@ -106,7 +106,7 @@ maybe_given : (is_oneway : Bool) (p : Parts) → Gives p → Nests (given_back i
 maybe_given true p g = g.back
 maybe_given false p g = g.plain
 
-result : (is_oneway : Bool) (t : Option DataType) → Nests (result_parts is_oneway t)
+result : (is_oneway : Bool) (t : Option TypeTree) → Nests (result_parts is_oneway t)
 result is_oneway None = one (keyword_part word.Void) refl
 result is_oneway (Some t) = maybe_given is_oneway (type_parts t) (a_result t)
 
@@ -177,7 +177,7 @@ text-typed p is_wide is_bounded a =
     let last : Parts = TypeEnds (Text is_wide is_bounded) ∷ [] in
     ap (λ xs. (arounds xs a).is_typed) (map-append item_of p last) ∙ ap (λ (b : Around). b.is_typed) (arounds-append (items p) (items last) a)
 
-type-typed : (t : ConstantType) (a : Around) → (arounds (items (constant_type_parts t)) a).is_typed ≡ true
+type-typed : (t : ConstantTypeTree) (a : Around) → (arounds (items (constant_type_parts t)) a).is_typed ≡ true
 type-typed (constant.Discrete d) a = refl
 type-typed (constant.String s) a = text-typed (bound_parts s.bound) s.is_wide (is_some s.bound) a
 type-typed (constant.Name n) a = refl

@@ -36,8 +36,8 @@ use Rattle.idl_parts.proofs.UnitSpelling.{unit_spells}
 use Rattle.idl_parts.specs.declared.part.Declaration.{Declaration}
 use Rattle.idl_parts.specs.declared.part.Declaration.TheVariants as declaration
 use Rattle.idl_parts.specs.declared.part.Shape.TheVariants.{Basic, Text}
-use Rattle.idl_parts.specs.declared.part.Target.{Target as Purpose}
-use Rattle.idl_parts.specs.declared.part.Target.TheVariants as purpose
+use Rattle.idl_parts.specs.declared.part.Purpose.{Purpose}
+use Rattle.idl_parts.specs.declared.part.Purpose.TheVariants as purpose
 use Rattle.idl_parts.specs.declared.part.Use.{Use}
 use Rattle.idl_parts.specs.declared.part.Use.TheVariants.{AsType}
 use Rattle.idl_tree.specs.Construction.{spell_construction}
@@ -58,9 +58,9 @@ use Rattle.idl_tree.specs.declared.declarations.construction.Structure.{Structur
 use Rattle.idl_tree.specs.declared.declarations.construction.Union.{Union}
 use Rattle.idl_tree.specs.declared.declarations.data_type.BasicType.{BasicType}
 use Rattle.idl_tree.specs.declared.declarations.data_type.BasicType.TheVariants as basic
-use Rattle.idl_tree.specs.declared.declarations.data_type.DataType.{DataType, fold-DataType, map-DataType, out-DataType}
-use Rattle.idl_tree.specs.declared.declarations.data_type.DataType.TheFolds.{fold-Sequence, fold_out-DataType, fold_out-Sequence}
-use Rattle.idl_tree.specs.declared.declarations.data_type.DataType.TheOpen.{DataType-F}
+use Rattle.idl_tree.specs.declared.declarations.data_type.TypeTree.{TypeTree, fold-TypeTree, map-TypeTree, out-TypeTree}
+use Rattle.idl_tree.specs.declared.declarations.data_type.TypeTree.TheFolds.{fold-Sequence, fold_out-TypeTree, fold_out-Sequence}
+use Rattle.idl_tree.specs.declared.declarations.data_type.TypeTree.TheOpen.{TypeTree-F}
 use Rattle.idl_tree.specs.declared.declarations.data_type.DiscreteType.{DiscreteType}
 use Rattle.idl_tree.specs.declared.declarations.data_type.DiscreteType.TheVariants as discrete
 use Rattle.idl_tree.specs.declared.declarations.data_type.IntegerSize.{IntegerSize}
@@ -229,7 +229,7 @@ local-word : (is_local : Bool) (rest : Lexemes) → BeginsWord (first (spell_loc
 local-word true rest = refl
 local-word false rest = refl
 
-operation-word : (is_oneway : Bool) (result : Option DataType) (rest more : Lexemes) → BeginsWord (first ((spell_oneway is_oneway ++ (spell_result result ++ rest)) ++ more))
+operation-word : (is_oneway : Bool) (result : Option TypeTree) (rest more : Lexemes) → BeginsWord (first ((spell_oneway is_oneway ++ (spell_result result ++ rest)) ++ more))
 operation-word true result rest more = refl
 operation-word false None rest more = refl
 operation-word false (Some t) rest more =
@@ -299,17 +299,17 @@ plain-outside (plain.String s) way = string-outside s.is_wide (bound_parts s.bou
 plain-outside (plain.Name n) way = tt
 
 -- a type, as it is opened once
-type-by : (y : DataType-F DataType Sequence) (way : Use)
-    → StartsOutside (data_type_step (map-DataType DataType Sequence (Use → Parts) (Use → Parts)
-    (fold-DataType (Use → Parts) (Use → Parts) data_type_step sequence_step) (fold-Sequence (Use → Parts) (Use → Parts) data_type_step sequence_step) y) way)
-type-by (DataType-F.Plain p) way = plain-outside p way
-type-by (DataType-F.Sequence s) way =
+type-by : (y : TypeTree-F TypeTree Sequence) (way : Use)
+    → StartsOutside (data_type_step (map-TypeTree TypeTree Sequence (Use → Parts) (Use → Parts)
+    (fold-TypeTree (Use → Parts) (Use → Parts) data_type_step sequence_step) (fold-Sequence (Use → Parts) (Use → Parts) data_type_step sequence_step) y) way)
+type-by (TypeTree-F.Plain p) way = plain-outside p way
+type-by (TypeTree-F.Sequence s) way =
     subst (λ (f : Use → Parts). StartsOutside (f way)) (sym (fold_out-Sequence (Use → Parts) (Use → Parts) data_type_step sequence_step s)) tt
 
-type-outside : (t : DataType) (way : Use) → StartsOutside (type_parts_as t way)
+type-outside : (t : TypeTree) (way : Use) → StartsOutside (type_parts_as t way)
 unfolding type_parts_as
 type-outside t way =
-    subst (λ (f : Use → Parts). StartsOutside (f way)) (sym (fold_out-DataType (Use → Parts) (Use → Parts) data_type_step sequence_step t)) (type-by (out-DataType t) way)
+    subst (λ (f : Use → Parts). StartsOutside (f way)) (sym (fold_out-TypeTree (Use → Parts) (Use → Parts) data_type_step sequence_step t)) (type-by (out-TypeTree t) way)
 
 construction-by : (y : Construction-F Construction MemberType Case Member Structure Union)
     → StartsOutside (construction_step (map-Construction Construction MemberType Case Member Structure Union Parts Parts Parts Parts Parts Parts
@@ -331,7 +331,7 @@ construction-outside c =
     subst StartsOutside (sym (fold_out-Construction Parts Parts Parts Parts Parts Parts construction_step member_type_step case_step member_step structure_step union_step c))
     (construction-by (out-Construction c))
 
-result-outside : (is_oneway : Bool) (result : Option DataType) (more : Parts) → StartsOutside (oneway_parts is_oneway ++ (result_parts is_oneway result ++ more))
+result-outside : (is_oneway : Bool) (result : Option TypeTree) (more : Parts) → StartsOutside (oneway_parts is_oneway ++ (result_parts is_oneway result ++ more))
 result-outside true result more = tt
 result-outside false None more = tt
 result-outside false (Some t) more = outside-then (type_parts t) more (type-outside t AsType)

@@ -36,8 +36,8 @@ use Rattle.idl_entity.specs.declared.kind.Kind.TheVariants.{Union}
 use Rattle.idl_parts.specs.Item.{Item, item_length, items_length}
 use Rattle.idl_parts.specs.Part.{Part as item}
 use Rattle.idl_parts.specs.declared.part.Declaration.{Declaration}
-use Rattle.idl_parts.specs.declared.part.Target.{Target as Purpose}
-use Rattle.idl_parts.specs.declared.part.Target.TheVariants as purpose
+use Rattle.idl_parts.specs.declared.part.Purpose.{Purpose}
+use Rattle.idl_parts.specs.declared.part.Purpose.TheVariants as purpose
 use Rattle.idl_parts.specs.declared.part.Use.{Use}
 use Rattle.idl_parts.specs.declared.part.Use.TheVariants.{AsBase}
 use Rattle.idl_tree.specs.declared.expression.Expression.{Expression}
@@ -45,8 +45,8 @@ use Rattle.idl_tree.specs.declared.name.ScopedName.{ScopedName}
 use Rattle.idl_unit.specs.TokenRules.{fault_at, first}
 use Rattle.idl_unit.specs.declared.fault.Fault.{Fault}
 use Rattle.idl_value.specs.ConstantType.{discriminates, target_of}
-use Rattle.idl_value.specs.declared.outcome.Code.{Code as ValueCode}
-use Rattle.idl_value.specs.declared.outcome.Code.TheVariants as value_code
+use Rattle.idl_value.specs.declared.outcome.ValueCode.{ValueCode}
+use Rattle.idl_value.specs.declared.outcome.ValueCode.TheVariants as value_code
 use Rattle.idl_value.specs.declared.outcome.Outcome.{Outcome}
 use Rattle.idl_value.specs.declared.outcome.Outcome.TheVariants as comes
 use Rattle.idl_value.specs.declared.value.Value.{Value}

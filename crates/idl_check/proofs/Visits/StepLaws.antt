@@ -8,8 +8,8 @@ use Rattle.idl_lex.specs.kinds.Literal.{literal_value}
 use Rattle.idl_lex.specs.kinds.Number.{integer_value}
 use Rattle.idl_lex.specs.tokens.Tokens.{Token}
 use Rattle.idl_lex.specs.declared.kinds.keyword.Keyword.TheVariants as word
-use Rattle.idl_lex.specs.declared.kinds.kind.Kind.{Kind as TokenKind}
-use Rattle.idl_lex.specs.declared.kinds.kind.Kind.TheVariants as token
+use Rattle.idl_lex.specs.declared.kinds.kind.TokenKind.{TokenKind}
+use Rattle.idl_lex.specs.declared.kinds.kind.TokenKind.TheVariants as token
 use Rattle.idl_lex.specs.declared.kinds.mark.Mark.TheVariants as mark
 use Rattle.idl_env.specs.declared.additions.addition.Step.{Step}
 use Rattle.idl_env.specs.declared.additions.addition.Step.TheVariants.{Stays, OpensNameless, Closes}
@@ -23,7 +23,7 @@ use Rattle.idl_tree.specs.reading.Reading.{first}
 use Rattle.idl_tree.specs.Construction.{spell_construction}
 use Rattle.idl_tree.specs.Several.{spell_if, spell_listed}
 use Rattle.idl_tree.specs.Unit.{spell}
-use Rattle.idl_tree.specs.declared.declarations.data_type.DataType.{DataType}
+use Rattle.idl_tree.specs.declared.declarations.data_type.TypeTree.{TypeTree}
 use Rattle.idl_tree.specs.declared.declarations.interface.Forward.TheVariants as forward
 use Rattle.idl_tree.specs.declared.unit.Tree.{Tree}
 use Rattle.idl_tree.specs.declared.unit.Tree.TheVariants as tree
@@ -191,7 +191,7 @@ interface-step false name bases =
 abbrev end : Lexemes
 end = Punctuation mark.Semicolon ∷ []
 
-operation-step : (is_oneway : Bool) (result : Option DataType) (rest : Lexemes) → step_so (roles_in ((spell_oneway is_oneway ++ (spell_result result ++ rest)) ++ end)) ≡ Stays
+operation-step : (is_oneway : Bool) (result : Option TypeTree) (rest : Lexemes) → step_so (roles_in ((spell_oneway is_oneway ++ (spell_result result ++ rest)) ++ end)) ≡ Stays
 operation-step true result rest = refl
 operation-step false None rest = refl
 operation-step false (Some t) rest =

@@ -32,8 +32,8 @@ use Rattle.idl_parts.specs.Part.{Parts, Declares, ValueEnds, punctuation, Part a
 use Rattle.idl_parts.specs.TypeParts.{constant_type_parts}
 use Rattle.idl_parts.specs.UnitParts.{unit_parts}
 use Rattle.idl_parts.specs.declared.part.Declaration.TheVariants as declaration
-use Rattle.idl_parts.specs.declared.part.Target.{Target as Purpose}
-use Rattle.idl_parts.specs.declared.part.Target.TheVariants as purpose
+use Rattle.idl_parts.specs.declared.part.Purpose.{Purpose}
+use Rattle.idl_parts.specs.declared.part.Purpose.TheVariants as purpose
 use Rattle.idl_parts.specs.declared.part.Use.{Use}
 use Rattle.idl_parts.specs.declared.part.Use.TheVariants.{AsOperand}
 use Rattle.idl_tree.specs.declared.expression.Expression.{Expression}
@@ -46,7 +46,7 @@ use Rattle.idl_unit.specs.declared.fault.Fault.{Fault}
 use Rattle.idl_value.proofs.DecisionLemmas.{bound-open, value-open}
 use Rattle.idl_value.specs.Evaluation.{Evaluation, Faulty, Operands, Valued, first_of}
 use Rattle.idl_value.specs.Names.{AreGiven}
-use Rattle.idl_value.specs.declared.constant_type.Target.{Target}
+use Rattle.idl_value.specs.declared.constant_type.ConstantType.{ConstantType}
 use Rattle.idl_value.specs.declared.value.Value.{Value}
 use Rattle.idl_check.proofs.Nests.AroundLaws.{IsKept, IsTyped, StandsIn, single-kept, used-kept, used-none, valued-stands}
 use Rattle.idl_check.proofs.Nests.BracketLemmas.{tokens-case, tokens-single, value-sites}
@@ -159,11 +159,11 @@ label-some : (unions : List Labels) → All IsTyped unions → 1 ≤ length unio
 label-some [] typed h = absurd (omega (arith, h))
 label-some (l ∷ unions) typed h = All-head IsTyped l unions typed
 
-label-found : (o c : Option Target) (os : Operands) (e : Expression) → IsSome o → AreGiven os e → evaluation_for purpose.Label c o os e ≢ Faulty []
+label-found : (o c : Option ConstantType) (os : Operands) (e : Expression) → IsSome o → AreGiven os e → evaluation_for purpose.Label c o os e ≢ Faulty []
 label-found None c os e some given = cc
 label-found (Some t) c os e some given = value-open t os e given
 
-constant-found : (o l : Option Target) (os : Operands) (e : Expression) → IsSome o → AreGiven os e → evaluation_for purpose.Constant o l os e ≢ Faulty []
+constant-found : (o l : Option ConstantType) (os : Operands) (e : Expression) → IsSome o → AreGiven os e → evaluation_for purpose.Constant o l os e ≢ Faulty []
 constant-found None l os e some given = cc
 constant-found (Some t) l os e some given = value-open t os e given
 

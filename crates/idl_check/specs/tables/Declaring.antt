@@ -6,7 +6,7 @@ use Rattle.idl_check.specs.tables.Codes.{Table}
 use Rattle.idl_check.specs.ids.Identifying.{ids_of, with_identity}
 use Rattle.idl_check.specs.tables.Rules.{has_other_prefix, is_ahead, is_declared, is_inherited, is_introduced, is_name_of_scope, is_other_ahead, is_there, may_follow}
 use Rattle.idl_check.specs.declared.tables.standing.Standing.{Standing}
-use Rattle.idl_fault.specs.declared.code.Code.TheVariants.{AlreadyDeclared, NameOfScope, DeclaredAfterUse, OtherForward, InheritedTwice, OtherPrefix}
+use Rattle.idl_fault.specs.declared.code.Code.TheVariants.{AlreadyDeclared, NameOfScope, DeclaredAfterUse, OtherForward, DeclaredAgain, OtherPrefix}
 use Rattle.idl_lex.specs.kinds.Keywords.{folded}
 use Rattle.idl_memo.specs.Query.{Done, Ask, and_then}
 use Rattle.idl_entity.specs.DataType.{plain_type}
@@ -28,7 +28,7 @@ use Rattle.idl_entity.specs.declared.kind.Stage.{Stage}
 use Rattle.idl_entity.specs.declared.kind.Stage.TheVariants.{Ahead, Begun, Open, Complete}
 use Rattle.idl_parts.specs.declared.part.Declaration.{Declaration}
 use Rattle.idl_parts.specs.declared.part.Declaration.TheVariants as declaration
-use Rattle.idl_value.specs.declared.constant_type.Target.{Target}
+use Rattle.idl_value.specs.declared.constant_type.ConstantType.{ConstantType}
 use Rattle.idl_value.specs.declared.value.Value.{Value}
 use Rattle.idl_value.specs.declared.value.Value.TheVariants as value
 
@@ -81,7 +81,7 @@ stage_of other = Complete
 -- enumerators of the next one
 pub record Written : Type 0 where
   pub data_type : Option DataType
-  pub constants : Option Target
+  pub constants : Option ConstantType
   pub enumeration : List (List ℕ)
   pub enumerators : List (List ℕ)
 
@@ -173,7 +173,7 @@ declared_table s standing e =
     ∷ (is_name_of_scope s e, NameOfScope)
     ∷ (is_introduced standing, DeclaredAfterUse)
     ∷ (is_other_ahead standing.there e, OtherForward)
-    ∷ (is_inherited standing, InheritedTwice)
+    ∷ (is_inherited standing, DeclaredAgain)
     ∷ (has_other_prefix standing.ids, OtherPrefix) ∷ []
 
 -- what is there already stays as it is where a module is opened again, or where it is declared

@@ -26,7 +26,7 @@ use Rattle.idl_parts.specs.declared.part.Use.TheVariants.{AsBase, AsType, AsElem
 use Rattle.idl_tree.specs.declared.declarations.interface.Forward.TheVariants as forward
 use Rattle.idl_tree.specs.declared.unit.Tree.{Tree}
 use Rattle.idl_tree.specs.declared.unit.Tree.TheVariants as tree
-use Rattle.idl_value.specs.declared.constant_type.Target.{Target}
+use Rattle.idl_value.specs.declared.constant_type.ConstantType.{ConstantType}
 use Rattle.idl_value.specs.declared.value.Value.{Value}
 
 -- how many scopes are open beside the global one, the last of these
@@ -148,7 +148,7 @@ abbrev pub is_local_base : Bool → Entity → Bool
 is_local_base is_local e = e.is_local && not is_local
 
 -- E56: A constant is of a type of which constants are, written out or behind typedefs.
-abbrev pub has_no_constants : Option Target → Bool
+abbrev pub has_no_constants : Option ConstantType → Bool
 has_no_constants constants = is_none constants
 
 -- E57: A struct or a union that isn't complete stands nowhere but as the element of a sequence.
@@ -158,7 +158,7 @@ is_incomplete e =
 
 -- E60: A union switches on an integer type but octet, `char`, `boolean` or an enum, written out or
 -- behind typedefs.
-abbrev pub is_no_discriminator : Option Target → Bool
+abbrev pub is_no_discriminator : Option ConstantType → Bool
 is_no_discriminator constants = not (may_switch constants)
 
 -- E61: No two labels of a union, the innermost of these, have one value, and it has one `default`.

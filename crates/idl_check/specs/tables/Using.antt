@@ -23,7 +23,7 @@ use Rattle.idl_scope.specs.declared.fault.NameCode.{NameCode}
 use Rattle.idl_scope.specs.declared.fault.NameCode.TheVariants.{Undeclared, Ambiguous, OtherSpelling, NoScope}
 use Rattle.idl_parts.specs.declared.part.Use.{Use}
 use Rattle.idl_parts.specs.declared.part.Use.TheVariants.{AsBase, AsType, AsElement, AsConstantType, AsDiscriminator, AsOperand}
-use Rattle.idl_value.specs.declared.constant_type.Target.{Target}
+use Rattle.idl_value.specs.declared.constant_type.ConstantType.{ConstantType}
 use Rattle.idl_value.specs.declared.value.Value.{Value}
 
 -- the code of what a name denotes nothing for
@@ -58,7 +58,7 @@ abbrev pub base_table : Bool → Bases → Entity → Table
 base_table is_local bases e =
     (is_open_base e, code.IncompleteBase)
     ∷ (is_named_again bases.paths e, code.RepeatedBase)
-    ∷ (brings_another bases.operations e, code.InheritedTwice)
+    ∷ (brings_another bases.operations e, code.DeclaredAgain)
     ∷ (is_local_base is_local e, code.LocalBase) ∷ []
 
 abbrev pub is_base : Use → Bool
@@ -100,7 +100,7 @@ type_after way e before =
     if is_type_use way then Some (plain_type (Named e.path)) else before
 
 -- the type that the next constant has, where that stands behind the name
-abbrev pub constants_after : Use → Entity → Option Target → Option Target
+abbrev pub constants_after : Use → Entity → Option ConstantType → Option ConstantType
 constants_after AsConstantType behind before = constants_of behind
 constants_after other behind before = before
 

@@ -4,19 +4,19 @@ use Rattle.std.specs.List.{list_any}
 use Rattle.std.specs.Ordering.{int_eq}
 use Rattle.idl_value.specs.Equal.{value_eq}
 use Rattle.idl_value.specs.ConstantType.{value_count}
-use Rattle.idl_value.specs.declared.constant_type.Target.{Target}
+use Rattle.idl_value.specs.declared.constant_type.ConstantType.{ConstantType}
 use Rattle.idl_value.specs.declared.value.Value.{Value}
 
 pub record Labels : Type 0 where
   -- the type of the discriminator, if it may be one; of an enum, how many enumerators it has
-  pub target : Option Target
+  pub target : Option ConstantType
   pub enumerators : ℕ
   -- the values so far, each once
   pub values : List Value
   pub has_default : Bool
 
 -- before the first label
-abbrev pub no_labels : Option Target → ℕ → Labels
+abbrev pub no_labels : Option ConstantType → ℕ → Labels
 no_labels target enumerators = record {
   target = target;
   enumerators = enumerators;

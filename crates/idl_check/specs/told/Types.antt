@@ -19,8 +19,8 @@ use Rattle.idl_parts.specs.declared.part.Use.TheVariants.{AsConstantType, AsDisc
 use Rattle.idl_tree.specs.declared.declarations.data_type.BasicType.{BasicType}
 use Rattle.idl_tree.specs.declared.declarations.data_type.BasicType.TheVariants as basic
 use Rattle.idl_value.specs.ConstantType.{discriminates, target_of}
-use Rattle.idl_value.specs.declared.constant_type.Target.{Target}
-use Rattle.idl_value.specs.declared.constant_type.Target.TheVariants as target
+use Rattle.idl_value.specs.declared.constant_type.ConstantType.{ConstantType}
+use Rattle.idl_value.specs.declared.constant_type.ConstantType.TheVariants as target
 
 -- the type that was written last: what is declared at a path, where that is kept, and else the type
 -- that is told
@@ -60,22 +60,22 @@ looked_through turns way e =
     if is_looked_through way then behind_typedefs (suc turns) e e else Done e
 
 -- the type that constants of it have
-abbrev pub target_in : Option DataType → Option Target
+abbrev pub target_in : Option DataType → Option ConstantType
 target_in None = None
 target_in (Some t) = constants_in t
 
-abbrev pub constants_of : Entity → Option Target
+abbrev pub constants_of : Entity → Option ConstantType
 constants_of e =
     if kind_eq e.kind Enumeration then Some (target.Enumeration e.path)
     else target_in (aliased e)
 
 -- whether a union may have a discriminator of this type
-abbrev pub may_switch : Option Target → Bool
+abbrev pub may_switch : Option ConstantType → Bool
 may_switch (Some t) = discriminates t
 may_switch None = false
 
 -- a string type with this bound
-abbrev pub string_of : Bool → Option ℕ → Target
+abbrev pub string_of : Bool → Option ℕ → ConstantType
 string_of true bound = target.WideText bound
 string_of false bound = target.Text bound
 

@@ -3,12 +3,12 @@ use Rattle.std.specs.Prelude.{ℕ, ◌^◌, pos, List, [], ◌∷◌, ◌++◌, 
 use Rattle.idl_fault.specs.declared.code.Code.{Code}
 use Rattle.idl_fault.specs.declared.code.Code.TheVariants as code
 use Rattle.idl_tree.specs.declared.expression.Expression.{Expression}
-use Rattle.idl_parts.specs.declared.part.Target.{Target as Purpose}
-use Rattle.idl_parts.specs.declared.part.Target.TheVariants as purpose
+use Rattle.idl_parts.specs.declared.part.Purpose.{Purpose}
+use Rattle.idl_parts.specs.declared.part.Purpose.TheVariants as purpose
 use Rattle.idl_value.specs.Evaluation.{Evaluation, Faulty, Operands, bound_of, value_of}
-use Rattle.idl_value.specs.declared.outcome.Code.{Code as ValueCode}
-use Rattle.idl_value.specs.declared.outcome.Code.TheVariants as value_code
-use Rattle.idl_value.specs.declared.constant_type.Target.{Target}
+use Rattle.idl_value.specs.declared.outcome.ValueCode.{ValueCode}
+use Rattle.idl_value.specs.declared.outcome.ValueCode.TheVariants as value_code
+use Rattle.idl_value.specs.declared.constant_type.ConstantType.{ConstantType}
 use Rattle.idl_value.specs.declared.value.Value.{Value}
 use Rattle.idl_value.specs.declared.value.Value.TheVariants as value
 
@@ -37,12 +37,12 @@ no_values = record {
 }
 
 -- what is kept of the expressions of a unit that has some
-pub record Kept : Type 0 where
+pub record ValuesSoFar : Type 0 where
   pub operands : Operands
   pub told : List Value
   pub lengths : List ℕ
 
-abbrev pub nothing_kept : Kept
+abbrev pub nothing_kept : ValuesSoFar
 nothing_kept = record { operands = []; told = []; lengths = [] }
 
 -- where an expression begins, and behind its end
@@ -53,12 +53,12 @@ abbrev pub with_operand : Option Value → Values → Values
 with_operand v values = record values { operands = values.operands ++ v ∷ [] }
 
 -- what an expression comes to for a type, if it is known; else its faults are told elsewhere
-abbrev pub evaluation_in : Option Target → Operands → Expression → Evaluation
+abbrev pub evaluation_in : Option ConstantType → Operands → Expression → Evaluation
 evaluation_in (Some t) operands e = value_of t operands e
 evaluation_in None operands e = Faulty []
 
 -- what an expression comes to that is for this, where constants and labels are to be of these types
-abbrev pub evaluation_for : Purpose → Option Target → Option Target → Operands → Expression
+abbrev pub evaluation_for : Purpose → Option ConstantType → Option ConstantType → Operands → Expression
     → Evaluation
 evaluation_for purpose.Bound constant label operands e = bound_of operands e
 evaluation_for purpose.Length constant label operands e = bound_of operands e

@@ -23,7 +23,7 @@ use Rattle.idl_env.specs.declared.keys.key.Key.TheVariants.{Cursor}
 use Rattle.idl_parts.specs.Item.{Item, items}
 use Rattle.idl_parts.specs.Part.{Part as item}
 use Rattle.idl_parts.specs.UnitParts.{unit_parts}
-use Rattle.idl_parts.specs.declared.part.Target.{Target as Purpose}
+use Rattle.idl_parts.specs.declared.part.Purpose.{Purpose}
 use Rattle.idl_parts.specs.declared.part.Use.{Use}
 use Rattle.idl_syntax.specs.Parse.{pragma_faults}
 use Rattle.idl_tree.specs.Pragma.{pragma_of}
@@ -36,7 +36,7 @@ use Rattle.idl_unit.specs.declared.fault.Fault.{Fault}
 use Rattle.idl_unit.specs.declared.unit.UnitText.{UnitText}
 use Rattle.idl_unit.specs.declared.unit.UnitText.TheVariants as unit
 use Rattle.idl_value.specs.Evaluation.{Evaluation, Valued, Faulty}
-use Rattle.idl_value.specs.declared.outcome.Fault.{Fault as ValueFault}
+use Rattle.idl_value.specs.declared.outcome.ValueFault.{ValueFault}
 
 -- the number of an expression's first token
 abbrev pub first_token : Walk → ℕ

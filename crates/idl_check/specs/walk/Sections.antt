@@ -4,7 +4,7 @@ use Rattle.std.specs.Prelude.{◌≡◌, Bool, true, false, List, [], ◌∷◌,
 use Rattle.idl_parts.specs.ExpressionParts.{value_parts}
 use Rattle.idl_parts.specs.Item.{Item, items}
 use Rattle.idl_parts.specs.Part.{Part as item}
-use Rattle.idl_parts.specs.declared.part.Target.{Target as Purpose}
+use Rattle.idl_parts.specs.declared.part.Purpose.{Purpose}
 use Rattle.idl_tree.specs.declared.expression.Expression.{Expression}
 
 pub data Section : Type 0 where

@@ -33,8 +33,8 @@ use Rattle.idl_entity.specs.declared.kind.Stage.TheVariants.{Begun}
 use Rattle.idl_parts.specs.Item.{Item, item_length}
 use Rattle.idl_parts.specs.Part.{Part as item}
 use Rattle.idl_parts.specs.declared.part.Declaration.{Declaration}
-use Rattle.idl_parts.specs.declared.part.Target.{Target as Purpose}
-use Rattle.idl_parts.specs.declared.part.Target.TheVariants as purpose
+use Rattle.idl_parts.specs.declared.part.Purpose.{Purpose}
+use Rattle.idl_parts.specs.declared.part.Purpose.TheVariants as purpose
 use Rattle.idl_parts.specs.declared.part.Use.{Use}
 use Rattle.idl_parts.specs.declared.part.Use.TheVariants.{AsDiscriminator}
 use Rattle.idl_tree.specs.declared.expression.Expression.{Expression}
@@ -46,7 +46,7 @@ use Rattle.idl_value.specs.Evaluation.{Evaluation, first_of}
 use Rattle.idl_value.specs.ConstantType.{target_of}
 use Rattle.idl_value.specs.declared.outcome.Outcome.{Outcome}
 use Rattle.idl_value.specs.declared.outcome.Outcome.TheVariants as outcome
-use Rattle.idl_value.specs.declared.constant_type.Target.{Target}
+use Rattle.idl_value.specs.declared.constant_type.ConstantType.{ConstantType}
 use Rattle.idl_value.specs.declared.value.Value.{Value}
 
 -- how far a walk has come
@@ -254,7 +254,7 @@ with_labels more [] = []
 with_labels more (labels ∷ unions) = more labels ∷ unions
 
 -- the type of the innermost union's labels, if it is known
-abbrev pub label_target : List Labels → Option Target
+abbrev pub label_target : List Labels → Option ConstantType
 label_target [] = None
 label_target (labels ∷ unions) = labels.target
 

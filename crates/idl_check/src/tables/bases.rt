@@ -152,7 +152,7 @@ impl Named {
         Ok(first_code(&[
             (base.stage() != Stage::Complete, Code::IncompleteBase),
             (contains(&self.paths, base.path()), Code::RepeatedBase),
-            (brings_another, Code::InheritedTwice),
+            (brings_another, Code::DeclaredAgain),
             (is_local_for(is_local, base), Code::LocalBase),
         ]))
     }

@@ -21,7 +21,7 @@ use idl_entity::{DataType, Entity, EntityParts, Kind, Nature, Path, Stage};
 use idl_env::{Addition, Facts, Scope};
 use idl_fault::Code;
 use idl_parts::Declaration;
-use idl_value::{Target, Value};
+use idl_value::{ConstantType, Value};
 use std::alloc::{AllocError, Global};
 
 /// What is declared.
@@ -126,7 +126,7 @@ pub struct Written {
     /// The type that was written last.
     pub data_type: LastType,
     /// The type that the next constant is to have a value of, if constants may be of it.
-    pub constants: Option<Target>,
+    pub constants: Option<ConstantType>,
     /// The path of the enum that was declared last.
     pub enumeration: Seq<Bytes>,
     /// The enumerators of the next enum.
@@ -406,7 +406,7 @@ pub fn declared_code(scope: &Scope, standing: &Standing, new: &Entity) -> Option
         (is_own, Code::NameOfScope),
         (standing.is_used, Code::DeclaredAfterUse),
         (is_other, Code::OtherForward),
-        (standing.is_inherited, Code::InheritedTwice),
+        (standing.is_inherited, Code::DeclaredAgain),
         (is_of_other_prefix(&standing.ids), Code::OtherPrefix),
     ])
 }

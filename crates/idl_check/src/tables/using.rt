@@ -19,7 +19,7 @@ use idl_fault::Code;
 use idl_parts::Use;
 use idl_scope::NameCode;
 use idl_tree::ScopedName;
-use idl_value::Target;
+use idl_value::ConstantType;
 use std::alloc::{AllocError, Global};
 
 /// A used name, the path of what it denotes, and into how many scopes its use introduces it.
@@ -74,7 +74,7 @@ fn suits(way: Use, entity: &Entity) -> bool
 #[derive(Clone, Copy)]
 pub struct Denoted<'a> {
     pub entity: &'a Entity,
-    pub constants: &'a Option<Target>,
+    pub constants: &'a Option<ConstantType>,
 }
 
 /// The code of the least fault of a name that is used so and denotes this.

@@ -21,11 +21,11 @@ use std::mem::replace;
 #[derive(Drop)]
 pub struct Clauses {
     alloc: Global,
-    told: Option<Box<Told>>,
+    told: Option<Box<BodySoFar>>,
 }
 
 // The same of a unit that has some.
-struct Told {
+struct BodySoFar {
     /// The paths of the exceptions that are raised.
     raised: Vec<Path>,
     /// The paths of those that the writing of an attribute raises.
@@ -34,9 +34,9 @@ struct Told {
     contexts: Vec<Seq<u16>>,
 }
 
-impl Drop for Told {
+impl Drop for BodySoFar {
     fn drop(self) {
-        let Told {
+        let BodySoFar {
             raised: _raised,
             raised_by_set: _raised_by_set,
             contexts: _contexts,
@@ -102,7 +102,7 @@ impl Model for Clauses {
     ghost view = { λ clauses. boxed_or no_clauses clauses.told };
 }
 
-impl Model for Told {
+impl Model for BodySoFar {
     ghost use Rattle.idl_check.specs.told.Bodies.{Clauses as ToldClauses};
 
     ghost Value = { ToldClauses };
@@ -162,12 +162,12 @@ impl Clauses {
 
     // Those so far.
     #[inline(never)]
-    fn take(&mut self) -> Result<Box<Told>, AllocError>
+    fn take(&mut self) -> Result<Box<BodySoFar>, AllocError>
         ensures { IfOk result (λ told. told.value ≡ self.old) }
     {
         match self.told.take() {
             Some(told) => Ok(told),
-            None => Ok(Box::new(self.alloc, Told::new(self.alloc))?),
+            None => Ok(Box::new(self.alloc, BodySoFar::new(self.alloc))?),
         }
     }
 
@@ -229,12 +229,12 @@ impl Clauses {
     }
 }
 
-impl Told {
+impl BodySoFar {
     // Before the first. It takes no memory.
-    fn new(alloc: Global) -> Told
+    fn new(alloc: Global) -> BodySoFar
         ensures { result ≡ no_clauses }
     {
-        Told {
+        BodySoFar {
             raised: Vec::new(alloc),
             raised_by_set: Vec::new(alloc),
             contexts: Vec::new(alloc),

@@ -6,14 +6,14 @@ ghost use Rattle.std.specs.Map.{keys_of};
 ghost use Rattle.idl_check.specs.told.Labels.{count_of, is_among, is_idle, is_labelled, no_labels, with_default, with_label, with_one};
 
 use idl_map::Table;
-use idl_value::{Target, Value};
+use idl_value::{ConstantType, Value};
 use std::alloc::{AllocError, Global};
 use std::marker::Model;
 
 /// The labels of a union so far.
 pub struct Labels {
     /// The type of the discriminator, if it may be one.
-    target: Option<Target>,
+    target: Option<ConstantType>,
     /// Of an enum, how many enumerators it has.
     enumerators: u64,
     values: Table<Value, ()>,
@@ -47,7 +47,7 @@ impl Model for Labels {
 
 impl Labels {
     /// Before the first label. It takes no memory.
-    pub fn new(alloc: Global, target: Option<Target>, enumerators: u64) -> Labels
+    pub fn new(alloc: Global, target: Option<ConstantType>, enumerators: u64) -> Labels
         ensures { result ≡ no_labels target enumerators }
     {
         Labels {
@@ -59,7 +59,7 @@ impl Labels {
     }
 
     /// The type of the discriminator, if it may be one.
-    pub fn target(&self) -> Option<&Target>
+    pub fn target(&self) -> Option<&ConstantType>
         ensures { option_copied result ≡ self.now.target }
     {
         self.target.as_ref()

@@ -20,7 +20,7 @@ use idl_memo::Journal;
 use idl_parts::{Shape, Use};
 use idl_scope::View;
 use idl_tree::declarations::BasicType;
-use idl_value::Target;
+use idl_value::ConstantType;
 use std::alloc::{AllocError, Global};
 
 /// Whether it may stand only as the element of a sequence as yet.
@@ -97,11 +97,11 @@ fn path_in(entity: &Entity) -> Option<&Path>
 }
 
 /// The type that constants of it have.
-pub fn constants_of(alloc: Global, entity: &Entity) -> Result<Option<Target>, AllocError>
+pub fn constants_of(alloc: Global, entity: &Entity) -> Result<Option<ConstantType>, AllocError>
     ensures { IfOk result (λ target. target ≡ constants_of entity.now) }
 {
     if entity.kind() == Kind::Enumeration {
-        return Ok(Some(Target::Enumeration(names_of(alloc, entity.path())?)));
+        return Ok(Some(ConstantType::Enumeration(names_of(alloc, entity.path())?)));
     }
     match aliased(entity) {
         Some(data_type) => target_in(data_type),
@@ -110,7 +110,7 @@ pub fn constants_of(alloc: Global, entity: &Entity) -> Result<Option<Target>, Al
 }
 
 /// The type that constants of a type have.
-pub fn target_in(data_type: &DataType) -> Result<Option<Target>, AllocError>
+pub fn target_in(data_type: &DataType) -> Result<Option<ConstantType>, AllocError>
     ensures { IfOk result (λ target. target ≡ constants_in data_type.now) }
 {
     match data_type.constants() {
@@ -127,7 +127,7 @@ pub fn names_of(alloc: Global, path: &Path) -> Result<Seq<Bytes>, AllocError>
 }
 
 /// Whether a union may have a discriminator of this type.
-pub fn may_switch(target: &Option<Target>) -> bool
+pub fn may_switch(target: &Option<ConstantType>) -> bool
     ensures { result ≡ may_switch target.now }
 {
     match target {
@@ -187,7 +187,7 @@ fn element_of(basic: BasicType) -> Element
     ensures { result ≡ element_of basic }
 {
     match basic {
-        BasicType::Discrete(discrete) => Element::Constants(Target::of_keywords(discrete)),
+        BasicType::Discrete(discrete) => Element::Constants(ConstantType::of_keywords(discrete)),
         BasicType::Float => Element::Unvalued(Unvalued::Float),
         BasicType::Double => Element::Unvalued(Unvalued::Double),
         BasicType::LongDouble => Element::Unvalued(Unvalued::LongDouble),
@@ -197,12 +197,12 @@ fn element_of(basic: BasicType) -> Element
 }
 
 // A string type with this bound.
-fn string_of(is_wide: bool, bound: Option<u32>) -> Target
+fn string_of(is_wide: bool, bound: Option<u32>) -> ConstantType
     ensures { result ≡ string_of is_wide bound }
 {
     if is_wide {
-        Target::WideText(bound)
+        ConstantType::WideText(bound)
     } else {
-        Target::Text(bound)
+        ConstantType::Text(bound)
     }
 }

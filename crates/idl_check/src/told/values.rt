@@ -9,9 +9,9 @@ ghost use Rattle.idl_value.specs.Evaluation.{first_of};
 
 use idl_base::Shared;
 use idl_fault::Code;
-use idl_parts::Target as Purpose;
+use idl_parts::Purpose;
 use idl_tree::Expression;
-use idl_value::{Code as ValueCode, Outcome, Target, Value, evaluate, evaluate_bound};
+use idl_value::{ConstantType, Outcome, Value, ValueCode, evaluate, evaluate_bound};
 use std::alloc::{AllocError, Global};
 use std::marker::Model;
 use std::mem::replace;
@@ -26,7 +26,7 @@ pub struct Values {
     /// The value of a constant.
     pub constant: Option<Value>,
     /// What is kept of them, if there are any.
-    pub kept: Option<Box<Kept>>,
+    pub kept: Option<Box<ValuesSoFar>>,
 }
 
 impl Drop for Values {
@@ -42,7 +42,7 @@ impl Drop for Values {
 }
 
 /// What is kept of the expressions of a unit that has some.
-pub struct Kept {
+pub struct ValuesSoFar {
     /// The values of the names of the last so far.
     operands: Vec<Option<Value>>,
     /// Those of the expressions before, in order.
@@ -51,9 +51,9 @@ pub struct Kept {
     lengths: Vec<u32>,
 }
 
-impl Drop for Kept {
+impl Drop for ValuesSoFar {
     fn drop(self) {
-        let Kept {
+        let ValuesSoFar {
             operands: _operands,
             told: _told,
             lengths: _lengths,
@@ -61,8 +61,8 @@ impl Drop for Kept {
     }
 }
 
-impl Model for Kept {
-    ghost use Rattle.idl_check.specs.told.Values.{Kept as KeptValues};
+impl Model for ValuesSoFar {
+    ghost use Rattle.idl_check.specs.told.Values.{ValuesSoFar as KeptValues};
 
     ghost Value = { KeptValues };
 
@@ -76,8 +76,8 @@ impl Model for Kept {
 /// The types that constants and labels are to be of, where they are known.
 #[derive(Clone, Copy)]
 pub struct Types<'a> {
-    pub constant: Option<&'a Target>,
-    pub label: Option<&'a Target>,
+    pub constant: Option<&'a ConstantType>,
+    pub label: Option<&'a ConstantType>,
 }
 
 impl Values {
@@ -105,13 +105,13 @@ impl Values {
     }
 
     // What is kept of them so far.
-    fn take(&mut self) -> Result<Box<Kept>, AllocError>
+    fn take(&mut self) -> Result<Box<ValuesSoFar>, AllocError>
         ensures kept { IfOk result (λ kept. kept.value ≡ boxed_or nothing_kept self.old.kept) }
         ensures rest { self.new ≡ record self.old { kept = None } }
     {
         match self.kept.take() {
             Some(kept) => Ok(kept),
-            None => Ok(Box::new(self.alloc, Kept::new(self.alloc))?),
+            None => Ok(Box::new(self.alloc, ValuesSoFar::new(self.alloc))?),
         }
     }
 
@@ -239,12 +239,12 @@ impl Values {
     }
 }
 
-impl Kept {
+impl ValuesSoFar {
     // Nothing. It takes no memory.
-    fn new(alloc: Global) -> Kept
+    fn new(alloc: Global) -> ValuesSoFar
         ensures { result ≡ nothing_kept }
     {
-        Kept {
+        ValuesSoFar {
             operands: Vec::new(alloc),
             told: Vec::new(alloc),
             lengths: Vec::new(alloc),
@@ -255,7 +255,7 @@ impl Kept {
 // What an expression comes to for a type, if it is known.
 fn value_for(
     alloc: Global,
-    target: Option<&Target>,
+    target: Option<&ConstantType>,
     operands: &[Option<Value>],
     expression: &Expression,
 ) -> Result<Outcome, AllocError>

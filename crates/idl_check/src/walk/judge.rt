@@ -38,7 +38,7 @@ use idl_env::{DigestedKey, Env, Facts, OpenScopes, Step};
 use idl_fault::Code;
 use idl_lex::Token;
 use idl_memo::Journal;
-use idl_parts::{Site, sites};
+use idl_parts::{UnitPart, sites};
 use idl_scope::View;
 use idl_syntax::{SyntaxFault, UnitTree, parse};
 use idl_tree::Tree;
@@ -58,7 +58,7 @@ pub struct Judge<'a> {
 struct Sited<'t> {
     judge: Judge<'t>,
     tree: &'t Tree,
-    sites: &'t [Site<'t>],
+    sites: &'t [UnitPart<'t>],
 }
 
 impl<'a> Judge<'a> {
@@ -175,7 +175,11 @@ impl<'a> Judge<'a> {
     }
 
     // The verdict of a unit that its scope doesn't hold.
-    fn misplaced(self, log: &mut Journal<Env>, sites: &[Site<'_>]) -> Result<Verdict, AllocError>
+    fn misplaced(
+        self,
+        log: &mut Journal<Env>,
+        sites: &[UnitPart<'_>],
+    ) -> Result<Verdict, AllocError>
         ensures { IfOk result (λ v. (turns : ℕ) → turns_for self.entry.env.now ≤ turns →
             (tree : UnitsTree) → map item_at sites.now ≡ items (unit_parts tree) →
             (v, log.new)
@@ -341,11 +345,11 @@ fn at_first(code: Code) -> Fault
 }
 
 // The part of a name with which the sites begin, if they do.
-fn first_part<'a>(sites: &[Site<'a>]) -> Option<&'a [u8]>
+fn first_part<'a>(sites: &[UnitPart<'a>]) -> Option<&'a [u8]>
     ensures { option_map (λ name. name.now) result ≡ first_part (map item_at sites.now) }
 {
     match sites.first()? {
-        Site::Used(_, name) if !name.is_global => Some(name.first.as_bytes()),
+        UnitPart::Used(_, name) if !name.is_global => Some(name.first.as_bytes()),
         _ => None,
     }
 }

@@ -37,7 +37,7 @@ use idl_memo::Journal;
 use idl_parts::{Declaration, Use};
 use idl_scope::{Found, NameCode, NameFault, Standpoint, View, resolve};
 use idl_tree::{ScopedName, last_at, part_at};
-use idl_value::Target;
+use idl_value::ConstantType;
 use std::alloc::AllocError;
 
 impl<'a> Walker<'a> {
@@ -330,7 +330,7 @@ impl<'a> Walker<'a> {
         way: Use,
         entity: &Entity,
         behind: &Entity,
-        constants: Option<Target>,
+        constants: Option<ConstantType>,
     ) -> Result<(), AllocError>
         requires { constants ≡ constants_of behind.now }
         ensures walk { OnOk result

@@ -11,7 +11,7 @@ ghost use Rattle.idl_entity.specs.declared.data_type.Element.TheVariants.{Consta
 ghost use Rattle.idl_check.specs.told.Values.{begun_at, code_of};
 ghost use Rattle.idl_check.specs.walk.Walk.{begin_of, faulty_if, is_repeated, noted, noted_in, outcome_at, token_of, ended_array, value_visit, valued_after, with_labels};
 ghost use Rattle.idl_fault.specs.declared.code.Code.TheVariants.{BadDiscriminator, RepeatedLabel};
-ghost use Rattle.idl_parts.specs.declared.part.Target.TheVariants as purpose;
+ghost use Rattle.idl_parts.specs.declared.part.Purpose.TheVariants as purpose;
 ghost use Rattle.idl_unit.specs.TokenRules.{fault_at};
 ghost use Rattle.idl_value.specs.ConstantType.{discriminates, target_of};
 ghost use Rattle.idl_value.specs.declared.outcome.Outcome.TheVariants as outcome;
@@ -27,10 +27,10 @@ use idl_base::{Bytes, Seq};
 use idl_entity::{DataType, Element};
 use idl_env::Addition;
 use idl_fault::Code;
-use idl_parts::{Shape, Target as Purpose};
+use idl_parts::{Purpose, Shape};
 use idl_tree::declarations::DiscreteType;
 use idl_tree::{Expression, Several};
-use idl_value::{Fault, Outcome, Target, Value};
+use idl_value::{ConstantType, Outcome, Value, ValueFault};
 use std::alloc::{AllocError, Global};
 
 impl<'a> Walker<'a> {
@@ -104,7 +104,7 @@ impl<'a> Walker<'a> {
     }
 
     // Notes a fault in it.
-    fn note_value(&mut self, fault: Fault)
+    fn note_value(&mut self, fault: ValueFault)
         ensures { self.new
             ≡ record self.old {
               fault =
@@ -229,7 +229,7 @@ impl<'a> Walker<'a> {
         ensures at { OnOk result (self.new.at ≡ self.old.at) }
         ensures env { OnOk result (self.new.env.now ≡ self.old.env.now) }
     {
-        let target = Target::of_keywords(discrete);
+        let target = ConstantType::of_keywords(discrete);
         let discriminates = target.discriminates();
         let element = Element::Constants(target.clone()?);
         let data_type = DataType::plain(self.env.alloc(), element)?;

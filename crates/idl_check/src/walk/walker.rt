@@ -29,7 +29,7 @@ use idl_entity::{Entity, Kind, Path};
 use idl_env::{Addition, Env, Facts, OpenScopes, Scope, Step};
 use idl_fault::Code;
 use idl_memo::Journal;
-use idl_parts::{Declaration, Site};
+use idl_parts::{Declaration, UnitPart};
 use idl_scope::View;
 use idl_tree::Several;
 use idl_unit::Fault;
@@ -93,7 +93,7 @@ impl<'a> Walker<'a> {
     }
 
     /// Walks over sites.
-    pub fn walk(&mut self, log: &mut Journal<Env>, sites: &[Site<'_>]) -> Result<(), AllocError>
+    pub fn walk(&mut self, log: &mut Journal<Env>, sites: &[UnitPart<'_>]) -> Result<(), AllocError>
         requires { HasRoomFor (held self.old) (map item_at sites.now) }
         ensures walked { OnOk result ((turns : ℕ) → turns_for self.old.env.now ≤ turns →
             (held self.new, log.new)
@@ -136,7 +136,7 @@ impl<'a> Walker<'a> {
 
     // A site. Most are tokens.
     #[tactic(auto, unfolding(crate::specs::walk::Walk::visit))]
-    fn visit(&mut self, log: &mut Journal<Env>, site: &Site<'_>) -> Result<(), AllocError>
+    fn visit(&mut self, log: &mut Journal<Env>, site: &UnitPart<'_>) -> Result<(), AllocError>
         requires { HasRoomFor (held self.old) (item_at site.now ∷ []) }
         ensures visited { OnOk result ((turns : ℕ) → turns_for self.old.env.now ≤ turns →
             (held self.new, log.new)
@@ -146,7 +146,7 @@ impl<'a> Walker<'a> {
         ensures env { OnOk result (self.new.env.now ≡ self.old.env.now) }
     {
         match *site {
-            Site::Tokens(count) => self.pass(count),
+            UnitPart::Tokens(count) => self.pass(count),
             _ => self.visit_any(log, site),
         }
     }
@@ -154,7 +154,7 @@ impl<'a> Walker<'a> {
     // A site, whatever it is.
     #[inline(never)]
     #[tactic(auto, unfolding(crate::specs::walk::Walk::visit))]
-    fn visit_any(&mut self, log: &mut Journal<Env>, site: &Site<'_>) -> Result<(), AllocError>
+    fn visit_any(&mut self, log: &mut Journal<Env>, site: &UnitPart<'_>) -> Result<(), AllocError>
         requires { HasRoomFor (held self.old) (item_at site.now ∷ []) }
         ensures visited { OnOk result ((turns : ℕ) → turns_for self.old.env.now ≤ turns →
             (held self.new, log.new)
@@ -164,20 +164,20 @@ impl<'a> Walker<'a> {
         ensures env { OnOk result (self.new.env.now ≡ self.old.env.now) }
     {
         match *site {
-            Site::Declared(way, name) => self.declare(log, way, name),
-            Site::Used(way, name) => self.use_name(log, way, name),
-            Site::ScopeBegins(way, name) => self.begin_scope(way, name),
-            Site::Tokens(count) => self.pass(count),
-            Site::Joined(text) => self.join(text),
-            Site::ScopeEnds => self.end_scope(),
-            Site::ValueBegins => self.begin_value(),
-            Site::ValueEnds(way, expression) => self.end_value(way, expression),
-            Site::TypeEnds(shape) => self.end_type(shape),
-            Site::ArrayEnds => self.end_array(),
-            Site::Enumerates(names) => self.enumerate(names),
-            Site::Switches(discrete) => self.switch(discrete),
-            Site::Default => self.label_default(),
-            Site::GivesBack => self.give_back(),
+            UnitPart::Declared(way, name) => self.declare(log, way, name),
+            UnitPart::Used(way, name) => self.use_name(log, way, name),
+            UnitPart::ScopeBegins(way, name) => self.begin_scope(way, name),
+            UnitPart::Tokens(count) => self.pass(count),
+            UnitPart::Joined(text) => self.join(text),
+            UnitPart::ScopeEnds => self.end_scope(),
+            UnitPart::ValueBegins => self.begin_value(),
+            UnitPart::ValueEnds(way, expression) => self.end_value(way, expression),
+            UnitPart::TypeEnds(shape) => self.end_type(shape),
+            UnitPart::ArrayEnds => self.end_array(),
+            UnitPart::Enumerates(names) => self.enumerate(names),
+            UnitPart::Switches(discrete) => self.switch(discrete),
+            UnitPart::Default => self.label_default(),
+            UnitPart::GivesBack => self.give_back(),
         }
     }
 

@@ -6,7 +6,7 @@ ghost use Rattle.idl_lex.specs.kinds.Keywords.{folded};
 ghost use Rattle.idl_entity.specs.Path.{name_of, path_eq, scope_of};
 
 use crate::paths::names::Names;
-use crate::paths::path::{Part, Path, are_alike};
+use crate::paths::path::{Path, PathPart, are_alike};
 use idl_base::Bytes;
 use std::alloc::{AllocError, Global};
 use std::marker::Model;
@@ -15,7 +15,7 @@ use std::rc::Rc;
 /// The path of what has a name: any but that of the global scope. It takes the memory of a pointer, and a path takes twice that.
 #[derive(Drop)]
 pub struct NamedPath {
-    part: Rc<Part>,
+    part: Rc<PathPart>,
 }
 
 impl Model for NamedPath {
@@ -28,7 +28,7 @@ impl Model for NamedPath {
 
 impl NamedPath {
     /// The path that ends in this part.
-    pub(crate) fn of(part: Rc<Part>) -> NamedPath
+    pub(crate) fn of(part: Rc<PathPart>) -> NamedPath
         ensures { result ≡ part.value.0 ∷ part.value.1 }
     {
         NamedPath { part }

@@ -5,14 +5,14 @@ ghost use Rattle.std.specs.Option.{option_copied};
 ghost use Rattle.idl_entity.specs.Identity.{is_within};
 ghost use Rattle.idl_entity.specs.Path.{names_of, path_eq, path_of};
 
-use crate::paths::path::{Part, Path, are_alike};
+use crate::paths::path::{Path, PathPart, are_alike};
 use std::marker::Model;
 use std::rc::Rc;
 
 /// Names of a path that are lent: to every contract the list of them, from one of them on, the innermost first.
 #[derive(Drop)]
 pub struct Names<'a> {
-    innermost: Option<&'a Part>,
+    innermost: Option<&'a PathPart>,
 }
 
 impl<'a> Model for Names<'a> {
@@ -34,7 +34,7 @@ impl<'a> Names<'a> {
     }
 
     /// Those of the path that ends in this part.
-    pub(crate) fn from(part: &'a Part) -> Names<'a>
+    pub(crate) fn from(part: &'a PathPart) -> Names<'a>
         ensures { result ≡ part.now.0 ∷ part.now.1 }
     {
         Names {
@@ -43,7 +43,7 @@ impl<'a> Names<'a> {
     }
 
     /// Those of the path to which this link leads.
-    pub(crate) fn of(link: &'a Option<Rc<Part>>) -> Names<'a>
+    pub(crate) fn of(link: &'a Option<Rc<PathPart>>) -> Names<'a>
         ensures { result ≡ path_of link.now }
     {
         match link {

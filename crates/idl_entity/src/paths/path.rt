@@ -30,7 +30,7 @@ use std::rc::Rc;
 /// takes the memory of one name, and a clone none.
 #[derive(Drop)]
 pub struct Path {
-    innermost: Option<Rc<Part>>,
+    innermost: Option<Rc<PathPart>>,
 }
 
 impl Model for Path {
@@ -43,14 +43,14 @@ impl Model for Path {
 }
 
 /// A name of a path with the path around, and beside it its folded form and the digest of the path from there on.
-pub struct Part {
+pub struct PathPart {
     name: Bytes,
     folded_name: Bytes,
     digest: u64,
-    around: Option<Rc<Part>>,
+    around: Option<Rc<PathPart>>,
 }
 
-impl Model for Part {
+impl Model for PathPart {
     ghost use Rattle.std.specs.Prelude.{List, ℕ, ◌≡◌, ◌∷◌, length};
     ghost use Rattle.idl_lex.specs.kinds.Keywords.{folded};
     ghost use Rattle.idl_entity.specs.Digest.{path_digest};
@@ -72,7 +72,7 @@ impl Model for Part {
 }
 
 // A loop, so that a long path is dropped in little stack.
-impl Drop for Part {
+impl Drop for PathPart {
     fn drop(self) {
         let mut link = self.into_around();
         while let Some(shared) = link {
@@ -84,7 +84,7 @@ impl Drop for Part {
     }
 }
 
-impl Part {
+impl PathPart {
     /// The name.
     pub fn name(&self) -> &Bytes
         ensures { result.now ≡ self.now.0 }
@@ -107,10 +107,10 @@ impl Part {
     }
 
     // The path around, without its name, which is dropped.
-    fn into_around(self) -> Option<Rc<Part>>
+    fn into_around(self) -> Option<Rc<PathPart>>
         ensures { path_of result ≡ self.1 }
     {
-        let Part {
+        let PathPart {
             name: _name,
             folded_name: _folded_name,
             digest: _digest,
@@ -141,14 +141,14 @@ impl Path {
     /// The part of a name in the scope with this path.
     #[inline(always)]
     #[tactic(auto, unfolding(crate::specs::Digest::path_digest))]
-    pub(crate) fn part_for(&self, alloc: Global, name: &Bytes) -> Result<Part, AllocError>
+    pub(crate) fn part_for(&self, alloc: Global, name: &Bytes) -> Result<PathPart, AllocError>
         ensures { IfOk result (λ part. part ≡ (name.now, self.now)) }
     {
         let folded_name = name.to_folded(alloc)?;
         let digest = under(self.digest(), folded_name.as_bytes());
         let name = name.clone()?;
         let around = self.innermost.clone()?;
-        Ok(Part {
+        Ok(PathPart {
             name,
             folded_name,
             digest,
@@ -163,7 +163,7 @@ impl Path {
         let mut names = Vec::new(alloc);
         let mut link = &self.innermost;
         while let Some(shared) = link {
-            let part: &Part = shared;
+            let part: &PathPart = shared;
             names.push(part.name.clone()?)?;
             link = &part.around;
         }
@@ -188,7 +188,7 @@ impl Path {
     }
 
     /// The part that it ends in, unless it is that of the global scope.
-    pub(crate) fn innermost(&self) -> &Option<Rc<Part>>
+    pub(crate) fn innermost(&self) -> &Option<Rc<PathPart>>
         ensures { path_of result.now ≡ self.now }
     {
         &self.innermost
@@ -200,7 +200,7 @@ impl Path {
     {
         let mut link = &self.innermost;
         'names: while let Some(shared) = link {
-            let part: &Part = shared;
+            let part: &PathPart = shared;
             if part.name == *name {
                 return Ok(Some(NamedPath::of(shared.clone()?)));
             }
@@ -293,7 +293,7 @@ impl Path {
 
     // The same, by the parts of that path.
     #[inline(always)]
-    fn is_below(&self, scope: &Option<Rc<Part>>) -> bool
+    fn is_below(&self, scope: &Option<Rc<PathPart>>) -> bool
         ensures { result ≡ path_eq (scope_of self.now) (path_of scope.now) }
     {
         match &self.innermost {
@@ -303,7 +303,7 @@ impl Path {
     }
 
     /// Whether it is the path around a part.
-    pub(crate) fn is_around(&self, part: &Part) -> bool
+    pub(crate) fn is_around(&self, part: &PathPart) -> bool
         ensures { result ≡ path_eq self.now part.now.1 }
     {
         are_one(&self.innermost, &part.around)
@@ -358,7 +358,7 @@ impl Path {
 
     /// Whether what stands at the path that ends in a part is found under the same folded name in the same scope.
     #[inline(always)]
-    pub fn is_found_as(&self, part: &Part) -> bool
+    pub fn is_found_as(&self, part: &PathPart) -> bool
         ensures { result
             ≡ bytes_eq (folded (name_of self.now)) (folded part.now.0)
             && path_eq (scope_of self.now) part.now.1 }
@@ -370,7 +370,7 @@ impl Path {
 // Whether two paths are one.
 #[inline(always)]
 #[tactic(auto, using(crate::proofs::PathLemmas::same_first))]
-fn are_one(first: &Option<Rc<Part>>, second: &Option<Rc<Part>>) -> bool
+fn are_one(first: &Option<Rc<PathPart>>, second: &Option<Rc<PathPart>>) -> bool
     ensures { result ≡ path_eq (path_of first.now) (path_of second.now) }
 {
     let mut own = first;
@@ -379,8 +379,8 @@ fn are_one(first: &Option<Rc<Part>>, second: &Option<Rc<Part>>) -> bool
         let Some(others) = other else {
             return false;
         };
-        let mine: &Part = shared;
-        let theirs: &Part = others;
+        let mine: &PathPart = shared;
+        let theirs: &PathPart = others;
         if !begin_alike(mine, theirs) {
             return false;
         }
@@ -391,14 +391,14 @@ fn are_one(first: &Option<Rc<Part>>, second: &Option<Rc<Part>>) -> bool
 }
 
 /// Whether the paths that end in two parts are one.
-pub(crate) fn are_alike(mine: &Part, theirs: &Part) -> bool
+pub(crate) fn are_alike(mine: &PathPart, theirs: &PathPart) -> bool
     ensures { result ≡ path_eq (mine.now.0 ∷ mine.now.1) (theirs.now.0 ∷ theirs.now.1) }
 {
     begin_alike(mine, theirs) && are_one(&mine.around, &theirs.around)
 }
 
 // Whether the innermost names are one, unless the digests tell already that the paths are not.
-fn begin_alike(mine: &Part, theirs: &Part) -> bool
+fn begin_alike(mine: &PathPart, theirs: &PathPart) -> bool
     ensures alike { IsTrue result → mine.now.0 ≡ theirs.now.0 }
     ensures differ { IsFalse result
         → path_eq (mine.now.0 ∷ mine.now.1) (theirs.now.0 ∷ theirs.now.1) ≡ false }
@@ -408,7 +408,7 @@ fn begin_alike(mine: &Part, theirs: &Part) -> bool
 
 // Which of two paths comes first, by their innermost names and then by those around.
 #[tactic(auto, using(crate::proofs::PathLemmas::equal_first, crate::proofs::PathLemmas::unequal_first))]
-fn order_of(first: &Option<Rc<Part>>, second: &Option<Rc<Part>>) -> Ordering
+fn order_of(first: &Option<Rc<PathPart>>, second: &Option<Rc<PathPart>>) -> Ordering
     ensures { result ≡ slice_cmp (slice_cmp nat_cmp) (path_of first.now) (path_of second.now) }
 {
     let mut own = first;
@@ -417,8 +417,8 @@ fn order_of(first: &Option<Rc<Part>>, second: &Option<Rc<Part>>) -> Ordering
         let Some(others) = other else {
             return Ordering::Greater;
         };
-        let mine: &Part = shared;
-        let theirs: &Part = others;
+        let mine: &PathPart = shared;
+        let theirs: &PathPart = others;
         let order = mine.name.cmp(&theirs.name);
         if order != Ordering::Equal {
             return order;

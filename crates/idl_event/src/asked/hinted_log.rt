@@ -3,11 +3,11 @@
 ghost use Rattle.std.specs.Prelude.{◌≡◌, IfOk, IfSome, OnOk, true};
 ghost use Rattle.std.specs.Option.{option_copied};
 ghost use Rattle.idl_event.specs.Key.{key_eq};
-ghost use Rattle.idl_event.specs.declared.asked.key.Key.TheVariants.{Macro};
+ghost use Rattle.idl_event.specs.declared.asked.key.RootKey.TheVariants.{Macro};
 ghost use Rattle.idl_memo.specs.Query.{is_logged, noted};
 
 use crate::asked::hints::Hints;
-use crate::asked::key::{Answer, Key};
+use crate::asked::key::{RootAnswer, RootKey};
 use crate::asked::root_bank::RootBank;
 use idl_base::Bytes;
 use idl_memo::{Bank, Log};
@@ -23,10 +23,10 @@ pub struct HintedLog<B: RootBank> {
 
 impl<B: RootBank> Model for HintedLog<B> {
     ghost use Rattle.std.specs.Prelude.{List, Option};
-    ghost use Rattle.idl_event.specs.declared.asked.key.Key.{Key};
-    ghost use Rattle.idl_event.specs.declared.asked.key.Answer.{Answer};
+    ghost use Rattle.idl_event.specs.declared.asked.key.RootKey.{RootKey};
+    ghost use Rattle.idl_event.specs.declared.asked.key.RootAnswer.{RootAnswer};
 
-    ghost Value = { List (Key × Option Answer) };
+    ghost Value = { List (RootKey × Option RootAnswer) };
 
     ghost view = { λ hinted. hinted.log };
 }
@@ -52,7 +52,11 @@ impl<B: RootBank> HintedLog<B> {
     /// The bank's answer at a key, which is logged with the key unless the key was asked before.
     ///
     /// After want of memory nothing is said of the log.
-    pub fn ask<'b>(&mut self, key: &Key, bank: &'b B) -> Result<Option<&'b Answer>, AllocError>
+    pub fn ask<'b>(
+        &mut self,
+        key: &RootKey,
+        bank: &'b B,
+    ) -> Result<Option<&'b RootAnswer>, AllocError>
         ensures answer { IfOk result (λ answer. option_copied answer ≡ B.at bank.now key.now) }
         ensures logged { OnOk result (self.new ≡ noted key_eq (B.at bank.now) self.old key.now) }
     {
@@ -66,7 +70,7 @@ impl<B: RootBank> HintedLog<B> {
         word: &Bytes,
         digest: u64,
         bank: &'b B,
-    ) -> Result<Option<&'b Answer>, AllocError>
+    ) -> Result<Option<&'b RootAnswer>, AllocError>
         ensures answer { IfOk result (λ answer. option_copied answer ≡ B.at bank.now (Macro word.now)) }
         ensures logged { OnOk result
             (self.new ≡ noted key_eq (B.at bank.now) self.old (Macro word.now)) }
@@ -85,7 +89,7 @@ impl<B: RootBank> HintedLog<B> {
         word: &Bytes,
         digest: u64,
         bank: &'b B,
-    ) -> Result<Option<&'b Answer>, AllocError>
+    ) -> Result<Option<&'b RootAnswer>, AllocError>
         ensures answer { IfOk result (λ answer. option_copied answer ≡ B.at bank.now (Macro word.now)) }
         ensures logged { OnOk result
             (self.new ≡ noted key_eq (B.at bank.now) self.old (Macro word.now)) }
@@ -95,7 +99,7 @@ impl<B: RootBank> HintedLog<B> {
             return Ok(bank.answer(key));
         }
         let place = self.log.len();
-        let answer = self.log.ask(&Key::Macro(word.clone()?), bank)?;
+        let answer = self.log.ask(&RootKey::Macro(word.clone()?), bank)?;
         if place < self.log.len() {
             self.hints.note(digest, place)?;
         }
@@ -105,13 +109,13 @@ impl<B: RootBank> HintedLog<B> {
 
 // The key at a place of a log, if it is that of a word.
 #[inline(always)]
-fn word_at<'a, B: RootBank>(log: &'a Log<B>, place: u32, word: &Bytes) -> Option<&'a Key>
+fn word_at<'a, B: RootBank>(log: &'a Log<B>, place: u32, word: &Bytes) -> Option<&'a RootKey>
     ensures { IfSome result (λ key. (key.now ≡ Macro word.now)
         × (is_logged key_eq log.now (Macro word.now) ≡ true)) }
 {
     let (key, _answer) = log.get(place as usize)?;
     match key {
-        Key::Macro(logged) if logged == word => Some(key),
+        RootKey::Macro(logged) if logged == word => Some(key),
         _ => None,
     }
 }

@@ -15,7 +15,7 @@ use std::cmp::Ordering;
 
 /// What is asked of the bank of a root.
 #[derive(Clone, Drop)]
-pub enum Key {
+pub enum RootKey {
     /// The body of the session's macro with this word.
     Macro(Bytes),
     /// The file with this name.
@@ -26,7 +26,7 @@ pub enum Key {
 
 /// What is answered.
 #[derive(Clone, PartialEq, Eq, Drop)]
-pub enum Answer {
+pub enum RootAnswer {
     /// A macro's body: a file of that one line.
     Macro(LexedLine),
     /// A file.
@@ -35,38 +35,38 @@ pub enum Answer {
     Search(Seq<Directory>),
 }
 
-impl PartialEq for Key {
+impl PartialEq for RootKey {
     ghost eq = { key_eq };
 
     ghost laws = { on_per key_code (partial_equiv_from_equiv nat_list_eq_equiv) };
 
-    fn eq(&self, other: &Key) -> bool
+    fn eq(&self, other: &RootKey) -> bool
         ensures { result ≡ key_eq self.now other.now }
     {
         match (self, other) {
-            (Key::Macro(word), Key::Macro(other)) => word == other,
-            (Key::File(name), Key::File(other)) => name == other,
-            (Key::Search, Key::Search) => true,
+            (RootKey::Macro(word), RootKey::Macro(other)) => word == other,
+            (RootKey::File(name), RootKey::File(other)) => name == other,
+            (RootKey::Search, RootKey::Search) => true,
             _ => false,
         }
     }
 }
 
-impl Eq for Key {
+impl Eq for RootKey {
     ghost laws = { on_equiv key_code nat_list_eq_equiv };
 }
 
-impl PartialOrd for Key {
+impl PartialOrd for RootKey {
     ghost partial_cmp = { λ key other. Some (key_cmp key other) };
 
     ghost laws = { on_po key_code texts_po };
 
-    fn partial_cmp(&self, other: &Key) -> Option<Ordering> {
+    fn partial_cmp(&self, other: &RootKey) -> Option<Ordering> {
         Some(self.cmp(other))
     }
 }
 
-impl Ord for Key {
+impl Ord for RootKey {
     ghost cmp = { key_cmp };
 
     ghost total = { on_total key_code nat_list_cmp_total };
@@ -75,23 +75,23 @@ impl Ord for Key {
 
     ghost matches_eq = { λ key other. texts_ties (key_code key) (key_code other) };
 
-    fn cmp(&self, other: &Key) -> Ordering
+    fn cmp(&self, other: &RootKey) -> Ordering
         ensures { result ≡ key_cmp self.now other.now }
     {
         match (self, other) {
-            (Key::Macro(word), Key::Macro(other)) => word.cmp(other),
-            (Key::File(name), Key::File(other)) => name.cmp(other),
-            (Key::Search, Key::Search) => Ordering::Equal,
-            (Key::Macro(_), _) | (_, Key::Search) => Ordering::Less,
+            (RootKey::Macro(word), RootKey::Macro(other)) => word.cmp(other),
+            (RootKey::File(name), RootKey::File(other)) => name.cmp(other),
+            (RootKey::Search, RootKey::Search) => Ordering::Equal,
+            (RootKey::Macro(_), _) | (_, RootKey::Search) => Ordering::Less,
             _ => Ordering::Greater,
         }
     }
 }
 
-impl Datum for Key {
+impl Datum for RootKey {
     ghost use Rattle.std.proofs.Common.{ap};
     ghost use Rattle.idl_event.specs.Key.{same_key};
-    ghost use Rattle.idl_event.specs.declared.asked.key.Key.TheVariants.{Macro, File, Search};
+    ghost use Rattle.idl_event.specs.declared.asked.key.RootKey.TheVariants.{Macro, File, Search};
 
     ghost same = { same_key };
 
@@ -102,7 +102,7 @@ impl Datum for Key {
     ] };
 }
 
-impl Digest for Key {
+impl Digest for RootKey {
     ghost use Rattle.idl_event.specs.Key.{key_digest};
 
     ghost digest_of = { key_digest };
@@ -110,17 +110,17 @@ impl Digest for Key {
     #[tactic(auto, unfolding(crate::specs::Key::key_digest))]
     fn digest(&self) -> u64 {
         match self {
-            Key::Macro(word) => with_bytes(0, word.as_bytes()),
-            Key::File(name) => with_bytes(mixed(0, 256), name.as_bytes()),
-            Key::Search => 0,
+            RootKey::Macro(word) => with_bytes(0, word.as_bytes()),
+            RootKey::File(name) => with_bytes(mixed(0, 256), name.as_bytes()),
+            RootKey::Search => 0,
         }
     }
 }
 
-impl Datum for Answer {
+impl Datum for RootAnswer {
     ghost use Rattle.std.specs.Cmp.Lexicographic.{bytes_decides, pointwise_decides};
     ghost use Rattle.std.proofs.Common.{ap};
-    ghost use Rattle.idl_event.specs.declared.asked.key.Answer.TheVariants.{Macro, File, Search};
+    ghost use Rattle.idl_event.specs.declared.asked.key.RootAnswer.TheVariants.{Macro, File, Search};
 
     ghost same = { elim [
       | Macro a ↦ elim [ Macro b ↦ λ h. ap Macro ((pointwise_decides bytes_decides a b).0 h) | File b ↦ λ h. cc | Search b ↦ λ h. cc ]

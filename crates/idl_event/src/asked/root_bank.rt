@@ -1,10 +1,10 @@
 //! Banks of what roots ask for.
 
-use crate::asked::key::{Answer, Key};
+use crate::asked::key::{RootAnswer, RootKey};
 use idl_memo::Bank;
 
 /// A bank that answers what the expansion of a root asks: the bound of all that expands. Each bank with these keys and
 /// answers is one.
-pub trait RootBank: Bank<Key = Key, Answer = Answer> {}
+pub trait RootBank: Bank<Key = RootKey, Answer = RootAnswer> {}
 
-impl<B: Bank<Key = Key, Answer = Answer>> RootBank for B {}
+impl<B: Bank<Key = RootKey, Answer = RootAnswer>> RootBank for B {}

@@ -6,7 +6,7 @@ ghost use Rattle.idl_event.specs.Apart.{StandApart, TokensFirst, others_in, site
 ghost use Rattle.idl_event.specs.declared.told.event.Event.{Event};
 
 use crate::told::event::Event;
-use crate::told::event_view::Told;
+use crate::told::event_view::EventView;
 use crate::told::runs::Runs;
 use crate::told::sites::Sites;
 use std::marker::Model;
@@ -133,24 +133,24 @@ impl<'a> Iterator for Events<'a> {
     ghost use Rattle.std.specs.Iterator.{YieldsFirstBy, item_count};
     ghost use Rattle.idl_event.specs.Told.{event_told};
 
-    type Item = (usize, Told<'a>);
+    type Item = (usize, EventView<'a>);
 
     ghost next_gives = { YieldsFirstBy (λ item. (item.0, event_told item.1)) (λ events. events) };
 
     ghost remaining = { item_count (λ events. events) };
 
-    fn next(&mut self) -> Option<(usize, Told<'a>)> {
+    fn next(&mut self) -> Option<(usize, EventView<'a>)> {
         let number = self.tokens_passed + self.others_passed;
         match other_at(self.others, self.others_passed, number) {
             Some(event) => {
                 self.others_passed += 1;
-                Some((number, Told::Other(event)))
+                Some((number, EventView::Other(event)))
             }
             None => {
                 let (file, line) = self.sites.place_at(self.tokens_passed)?;
                 let token = self.text.get(self.tokens_passed)?;
                 self.tokens_passed += 1;
-                Some((number, Told::Emitted(file, line, token)))
+                Some((number, EventView::Emitted(file, line, token)))
             }
         }
     }

@@ -9,10 +9,10 @@ ghost use Rattle.idl_event.specs.Key.{key_eq};
 ghost use Rattle.idl_event.specs.Limits.{turns_at_most};
 ghost use Rattle.idl_event.specs.declared.told.event.Event.TheVariants.{Emitted};
 ghost use Rattle.idl_event.specs.declared.told.event.Item.TheVariants.{Kept};
-ghost use Rattle.idl_event.specs.declared.asked.key.Key.TheVariants.{Macro};
+ghost use Rattle.idl_event.specs.declared.asked.key.RootKey.TheVariants.{Macro};
 
 use crate::asked::hinted_log::HintedLog;
-use crate::asked::key::{Answer, Key};
+use crate::asked::key::{RootAnswer, RootKey};
 use crate::asked::root_bank::RootBank;
 use crate::told::allowance::Allowance;
 use crate::told::builder::ExpansionBuilder;
@@ -42,11 +42,11 @@ impl<B: RootBank> Model for Progress<B> {
     ghost use Rattle.idl_event.specs.declared.told.allowance.Allowance.{Allowance};
     ghost use Rattle.idl_event.specs.Limits.{turns_at_most};
     ghost use Rattle.idl_event.specs.declared.told.event.Event.{Event};
-    ghost use Rattle.idl_event.specs.declared.asked.key.Key.{Key};
-    ghost use Rattle.idl_event.specs.declared.asked.key.Answer.{Answer};
+    ghost use Rattle.idl_event.specs.declared.asked.key.RootKey.{RootKey};
+    ghost use Rattle.idl_event.specs.declared.asked.key.RootAnswer.{RootAnswer};
     ghost use Rattle.idl_event.specs.Items.{turns_left};
 
-    ghost Value = { Reached Key (Option Answer) Event Allowance };
+    ghost Value = { Reached RootKey (Option RootAnswer) Event Allowance };
 
     ghost view = { λ p. record { kept = p.kept; left = p.left; log = p.log } };
 
@@ -149,7 +149,11 @@ impl<B: RootBank> Progress<B> {
     }
 
     /// The bank's answer at a key, which is logged.
-    pub fn ask<'b>(&mut self, key: &Key, bank: &'b B) -> Result<Option<&'b Answer>, AllocError>
+    pub fn ask<'b>(
+        &mut self,
+        key: &RootKey,
+        bank: &'b B,
+    ) -> Result<Option<&'b RootAnswer>, AllocError>
         ensures answer { IfOk result (λ answer. option_copied answer ≡ B.at bank.now key.now) }
         ensures progress { OnOk result (self.new ≡ after_key key_eq (B.at bank.now) key.now self.old) }
     {
@@ -166,7 +170,7 @@ impl<B: RootBank> Progress<B> {
         word: &Bytes,
         digest: u64,
         bank: &'b B,
-    ) -> Result<Option<&'b Answer>, AllocError>
+    ) -> Result<Option<&'b RootAnswer>, AllocError>
         ensures answer { IfOk result (λ answer. option_copied answer ≡ B.at bank.now (Macro word.now)) }
         ensures progress { OnOk result
             (self.new ≡ after_key key_eq (B.at bank.now) (Macro word.now) self.old) }
@@ -180,10 +184,13 @@ impl<B: RootBank> Progress<B> {
 
 // The bank's answer at the key of a macro's word.
 #[inline(never)]
-fn answer_at<'b, B: RootBank>(word: &Bytes, bank: &'b B) -> Result<Option<&'b Answer>, AllocError>
+fn answer_at<'b, B: RootBank>(
+    word: &Bytes,
+    bank: &'b B,
+) -> Result<Option<&'b RootAnswer>, AllocError>
     ensures { IfOk result (λ answer. option_copied answer ≡ B.at bank.now (Macro word.now)) }
 {
-    Ok(bank.answer(&Key::Macro(word.clone()?)))
+    Ok(bank.answer(&RootKey::Macro(word.clone()?)))
 }
 
 // What is kept of an item goes behind the events.

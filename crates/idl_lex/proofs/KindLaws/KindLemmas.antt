@@ -15,8 +15,8 @@ use Rattle.idl_lex.specs.kinds.Kind.{escaped_kind, kind_beside, kind_of, letter_
 use Rattle.idl_lex.specs.kinds.Literal.{literal_kind}
 use Rattle.idl_lex.specs.kinds.Number.{number_kind}
 use Rattle.idl_lex.specs.kinds.Word.{is_word}
-use Rattle.idl_lex.specs.declared.kinds.kind.Kind.{Kind}
-use Rattle.idl_lex.specs.declared.kinds.kind.Kind.TheVariants.{Miscased}
+use Rattle.idl_lex.specs.declared.kinds.kind.TokenKind.{TokenKind}
+use Rattle.idl_lex.specs.declared.kinds.kind.TokenKind.TheVariants.{Miscased}
 
 left : (a b : Bool) → a || b ≡ true → b ≡ false → a ≡ true
 left true b h none = refl
@@ -56,12 +56,12 @@ word_kind-none [] h none = absurd (false≢true h)
 word_kind-none (b ∷ rest) h none = absurd (omega (arith, none))
 
 -- the kind of a word beside the one keyword that it can be
-pub kind-same : (word : List ℕ) (k : List ℕ × Kind) → bytes_eq k.0 word ≡ true → kind_beside word (if_alike word (Some k)) ≡ k.1
+pub kind-same : (word : List ℕ) (k : List ℕ × TokenKind) → bytes_eq k.0 word ≡ true → kind_beside word (if_alike word (Some k)) ≡ k.1
 kind-same word k same =
     ap (kind_beside word) (if_alike-same word k (ap folded ((bytes_decides k.0 word).0 same)))
     ∙ ap (λ b. if b then k.1 else Miscased) same
 
-pub kind-alike : (word : List ℕ) (k : List ℕ × Kind) → bytes_eq k.0 word ≡ false → folded k.0 ≡ folded word → kind_beside word (if_alike word (Some k)) ≡ Miscased
+pub kind-alike : (word : List ℕ) (k : List ℕ × TokenKind) → bytes_eq k.0 word ≡ false → folded k.0 ≡ folded word → kind_beside word (if_alike word (Some k)) ≡ Miscased
 kind-alike word k other alike =
     ap (kind_beside word) (if_alike-same word k alike)
     ∙ ap (λ b. if b then k.1 else Miscased) other

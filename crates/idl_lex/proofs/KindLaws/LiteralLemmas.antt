@@ -4,7 +4,7 @@ use Rattle.std.proofs.lemmas.List.{drop_more, drop_all}
 use Rattle.std.specs.Option.{option_map}
 use Rattle.idl_lex.proofs.CountLemmas.{eq-true, eq-false, counted-suc}
 use Rattle.idl_lex.specs.kinds.Literal.{closing, escape, characters, characters_after, character_kind, one_kind, string_kind, all_good}
-use Rattle.idl_lex.specs.declared.kinds.kind.Kind.TheVariants.{String, WideString, Bad}
+use Rattle.idl_lex.specs.declared.kinds.kind.TokenKind.TheVariants.{String, WideString, Bad}
 use Rattle.idl_lex.specs.declared.kinds.kind.Defect.TheVariants.{NotOneCharacter}
 
 -- the closing quote is sought from a place on

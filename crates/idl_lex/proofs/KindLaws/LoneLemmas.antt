@@ -15,7 +15,7 @@ use Rattle.idl_lex.specs.kinds.Word.{is_word}
 use Rattle.idl_lex.specs.declared.bytes.context.Beginning.TheVariants.{Nothing, Hash, Other}
 use Rattle.idl_lex.specs.declared.bytes.context.Context.{Context}
 use Rattle.idl_lex.specs.declared.kinds.kind.Defect.TheVariants.{UnknownByte}
-use Rattle.idl_lex.specs.declared.kinds.kind.Kind.TheVariants.{Bad}
+use Rattle.idl_lex.specs.declared.kinds.kind.TokenKind.TheVariants.{Bad}
 
 -- the lone marks
 record Lone (P : ℕ → Type 0) : Type 0 where

@@ -8,7 +8,7 @@ use Rattle.std.specs.Str.{bytes_eq}
 use Rattle.idl_base.specs.Exact.{both}
 use Rattle.idl_lex.specs.kinds.Marks.{marks, mark_kind}
 use Rattle.idl_lex.specs.kinds.WordTable.{value_of}
-use Rattle.idl_lex.specs.declared.kinds.kind.Kind.{Kind}
+use Rattle.idl_lex.specs.declared.kinds.kind.TokenKind.{TokenKind}
 
 pub mark_kind-empty : (word : List ℕ) → length word < 1 → None ≡ mark_kind word
 unfolding marks
@@ -23,7 +23,7 @@ differs : (a word : List ℕ) (same : Bool) → length a < 3 → 3 ≤ length wo
 differs a word true short long e = absurd (omega (arith, short, long, ap length ((bytes_decides a word).0 e)))
 differs a word false short long e = refl
 
-value_of-long : (word : List ℕ) (ms : List (List ℕ × Kind)) → 3 ≤ length word → list_all (λ k. ltb (length k.0) 3) ms ≡ true → None ≡ value_of ms word
+value_of-long : (word : List ℕ) (ms : List (List ℕ × TokenKind)) → 3 ≤ length word → list_all (λ k. ltb (length k.0) 3) ms ≡ true → None ≡ value_of ms word
 value_of-long word [] long short = refl
 value_of-long word (m ∷ ms) long short =
     let parts = both (ltb (length m.0) 3) (list_all (λ k. ltb (length k.0) 3) ms) short in

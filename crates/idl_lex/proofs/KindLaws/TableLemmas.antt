@@ -12,15 +12,15 @@ use Rattle.idl_base.specs.Exact.{both}
 use Rattle.idl_lex.specs.kinds.Keywords.{folded, keywords, like_keyword}
 use Rattle.idl_lex.specs.kinds.KeywordTable.{if_alike, letter, place, places}
 use Rattle.idl_lex.specs.kinds.WordTable.{entry_of}
-use Rattle.idl_lex.specs.declared.kinds.kind.Kind.{Kind}
-use Rattle.idl_lex.specs.declared.kinds.kind.Kind.TheVariants.{Refused}
+use Rattle.idl_lex.specs.declared.kinds.kind.TokenKind.{TokenKind}
+use Rattle.idl_lex.specs.declared.kinds.kind.TokenKind.TheVariants.{Refused}
 
 pub places-length : length places ≡ 256
 unfolding places
 places-length = refl
 
 abbrev Keyed : Type 0
-Keyed = List ℕ × Kind
+Keyed = List ℕ × TokenKind
 
 -- the keyword at a place, and what stands for none
 abbrev pub at : ℕ → Keyed
@@ -145,7 +145,7 @@ place-folded word n len long short =
     ∙ (λ i. get_or places ((letter-folded word 0 i + 9 * letter-folded word 1 i + 11 * letter-folded word (n - 2) i + n) % 256) 0)
 
 -- what is read at the place that a word tells
-pub entry_of-at : (entries : List (Bor (List ℕ) × Kind)) (word : List ℕ) (i : ℕ) (d : Bor (List ℕ) × Kind) → map entry_of entries ≡ keywords
+pub entry_of-at : (entries : List (Bor (List ℕ) × TokenKind)) (word : List ℕ) (i : ℕ) (d : Bor (List ℕ) × TokenKind) → map entry_of entries ≡ keywords
     → i ≡ place (folded word) → i < length entries → entry_of (get_or entries i d) ≡ at (place (folded word))
 entry_of-at entries word i d all is lt =
     sym (get_or-map-within entry_of entries i d ([], Refused) lt) ∙ ap (λ ks. get_or ks i ([], Refused)) all ∙ ap at is

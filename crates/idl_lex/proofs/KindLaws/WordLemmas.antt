@@ -20,7 +20,7 @@ use Rattle.idl_lex.specs.bytes.Text.{Placed, bytes_of}
 use Rattle.idl_lex.specs.tokens.Tokens.{spelled, token_if, token_of, tokens_after}
 use Rattle.idl_lex.specs.kinds.Word.{is_word}
 use Rattle.idl_lex.specs.declared.bytes.context.Context.{Context}
-use Rattle.idl_lex.specs.declared.bytes.state.State.TheVariants.{Word, Wide, Zero, Number, Dot, Literal, Slash, Mark, Whole}
+use Rattle.idl_lex.specs.declared.bytes.state.Inside.TheVariants.{Word, Wide, Zero, Number, Dot, Literal, Slash, Mark, Whole}
 
 -- a mark of two bytes, one of one byte before another, and one at the end
 pub taken-pair : (a : ℕ) (bs : List ℕ) → 1 ≤ length bs → is_pair a (get_or bs 0 0) ≡ true → 1 ≡ taken (Mark a) bs

@@ -4,10 +4,10 @@ use Rattle.std.specs.Option.{option_map}
 use Rattle.idl_source.specs.texts.Line.{newline}
 use Rattle.idl_lex.specs.bytes.Byte.{is_digit, is_word_start, is_word_byte, is_quote, is_x, is_e, is_sign}
 use Rattle.idl_lex.specs.bytes.Piece.{is_pair}
-use Rattle.idl_lex.specs.declared.bytes.state.State.{State}
-use Rattle.idl_lex.specs.declared.bytes.state.State.TheVariants.{Word, Wide, Zero, Number, Dot, Literal, Slash, Line, Block, Mark, Whole}
+use Rattle.idl_lex.specs.declared.bytes.state.Inside.{Inside}
+use Rattle.idl_lex.specs.declared.bytes.state.Inside.TheVariants.{Word, Wide, Zero, Number, Dot, Literal, Slash, Line, Block, Mark, Whole}
 
-abbrev pub start_of : ℕ → State
+abbrev pub start_of : ℕ → Inside
 start_of b =
     if is_word_start b then (if nat_eq b 76 then Wide else Word)
     else (if nat_eq b 48 then Zero
@@ -17,19 +17,19 @@ start_of b =
     else (if nat_eq b 47 then Slash
     else Mark b)))))
 
-abbrev pub number_step : Bool → Bool → ℕ → Option State
+abbrev pub number_step : Bool → Bool → ℕ → Option Inside
 number_step hexadecimal after_e b =
     if is_word_byte b || nat_eq b 46 || (after_e && is_sign b)
     then Some (Number hexadecimal (is_e b && not hexadecimal)) else None
 
-abbrev pub literal_step : ℕ → Bool → ℕ → Option State
+abbrev pub literal_step : ℕ → Bool → ℕ → Option Inside
 literal_step quote escaped b =
     if nat_eq b newline then None
     else (if escaped then Some (Literal quote false)
     else (if nat_eq b quote then Some Whole
     else Some (Literal quote (nat_eq b 92))))
 
-abbrev pub step_of : State → ℕ → Option State
+abbrev pub step_of : Inside → ℕ → Option Inside
 step_of Word b = if is_word_byte b then Some Word else None
 step_of Wide b =
     if is_quote b then Some (Literal b false) else (if is_word_byte b then Some Word else None)
@@ -46,7 +46,7 @@ step_of (Mark a) b = if is_pair a b then Some Whole else None
 step_of Whole b = None
 
 -- how many bytes are taken from a state on
-unfoldable pub taken : State → List ℕ → ℕ
+unfoldable pub taken : Inside → List ℕ → ℕ
 taken s [] = 0
 taken s (b ∷ rest) = elim (step_of s b) [ None ↦ 0 | Some t ↦ suc (taken t rest) ]
 

@@ -3,7 +3,7 @@
 use Rattle.std.specs.Prelude.{ℕ, ◌+◌, ◌*◌, ◌-◌, ◌%◌, ◌||◌, nat_lt, List, [], ◌∷◌, get_or, length, Option, None, Some, if◌then◌else◌}
 use Rattle.std.specs.Str.{bytes_eq}
 use Rattle.idl_lex.specs.kinds.Keywords.{folded}
-use Rattle.idl_lex.specs.declared.kinds.kind.Kind.{Kind}
+use Rattle.idl_lex.specs.declared.kinds.kind.TokenKind.{TokenKind}
 
 -- which letter stands at a place of a word, from 1 on: a capital one and a small one are the same
 abbrev pub letter : List ℕ → ℕ → ℕ
@@ -39,7 +39,7 @@ place word =
     if nat_lt (length word) 2 || nat_lt 11 (length word) then 64 else get_or places (mixed word) 0
 
 -- a keyword, if it is the word but for the case of letters
-abbrev pub if_alike : List ℕ → Option (List ℕ × Kind) → Option (List ℕ × Kind)
+abbrev pub if_alike : List ℕ → Option (List ℕ × TokenKind) → Option (List ℕ × TokenKind)
 if_alike word None = None
 if_alike word (Some keyword) =
     if bytes_eq (folded keyword.0) (folded word) then Some keyword else None

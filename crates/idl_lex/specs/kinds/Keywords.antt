@@ -2,8 +2,8 @@
 use Rattle.std.specs.Prelude.{ℕ, List, [], ◌∷◌, codes, find, Option}
 use Rattle.std.specs.Str.{bytes_eq, str_to_ascii_lowercase}
 use Rattle.idl_lex.specs.declared.kinds.keyword.Keyword.TheVariants.{Any, Attribute, Boolean, Case, Char, Const, Context, Default, Double, Enum, Exception, False, Float, Getraises, In, Inout, Interface, Local, Long, Module, Native, Object, Octet, Oneway, Out, Raises, Readonly, Sequence, Setraises, Short, String, Struct, Switch, True, Typedef, Union, Unsigned, Void, Wchar, Wstring}
-use Rattle.idl_lex.specs.declared.kinds.kind.Kind.{Kind}
-use Rattle.idl_lex.specs.declared.kinds.kind.Kind.TheVariants.{Accepted, Refused}
+use Rattle.idl_lex.specs.declared.kinds.kind.TokenKind.{TokenKind}
+use Rattle.idl_lex.specs.declared.kinds.kind.TokenKind.TheVariants.{Accepted, Refused}
 
 -- words that differ in the case of letters alone have one folded form
 abbrev pub folded : List ℕ → List ℕ
@@ -11,7 +11,7 @@ folded word = str_to_ascii_lowercase word
 
 -- each keyword and its kind: accepted ones are of the language, and refused ones are those that
 -- this profile leaves out
-unfoldable pub keywords : List (List ℕ × Kind)
+unfoldable pub keywords : List (List ℕ × TokenKind)
 keywords =
     (codes "abstract", Refused) ∷ (codes "any", Accepted Any)
     ∷ (codes "attribute", Accepted Attribute)
@@ -50,5 +50,5 @@ keywords =
     ∷ (codes "wchar", Accepted Wchar) ∷ (codes "wstring", Accepted Wstring) ∷ []
 
 -- the keyword that a word is, but for the case of letters
-abbrev pub like_keyword : List ℕ → Option (List ℕ × Kind)
+abbrev pub like_keyword : List ℕ → Option (List ℕ × TokenKind)
 like_keyword word = find (λ k. bytes_eq (folded k.0) (folded word)) keywords

@@ -4,8 +4,8 @@ use Rattle.std.specs.List.{list_all, prefix_len}
 use Rattle.std.specs.Option.{option_map}
 use Rattle.idl_lex.specs.bytes.Byte.{is_quote, is_digit_of}
 use Rattle.idl_lex.specs.kinds.Number.{number, are_digits}
-use Rattle.idl_lex.specs.declared.kinds.kind.Kind.{Kind}
-use Rattle.idl_lex.specs.declared.kinds.kind.Kind.TheVariants.{Character, WideCharacter, String, WideString, Bad}
+use Rattle.idl_lex.specs.declared.kinds.kind.TokenKind.{TokenKind}
+use Rattle.idl_lex.specs.declared.kinds.kind.TokenKind.TheVariants.{Character, WideCharacter, String, WideString, Bad}
 use Rattle.idl_lex.specs.declared.kinds.kind.Defect.TheVariants.{UnclosedLiteral, NotOneCharacter, BadEscape}
 
 -- how many bytes stand before the first closing quote outside an escape
@@ -84,30 +84,30 @@ is_text_character None = false
 is_text_character (Some c) = not (nat_eq c 0)
 
 -- a character literal of one character
-abbrev pub one_kind : Bool → Option ℕ → Kind
+abbrev pub one_kind : Bool → Option ℕ → TokenKind
 one_kind wide None = Bad BadEscape
 one_kind wide (Some c) = if wide then WideCharacter else Character
 
 -- a character literal
-abbrev pub character_kind : Bool → List (Option ℕ) → Kind
+abbrev pub character_kind : Bool → List (Option ℕ) → TokenKind
 character_kind wide [] = Bad NotOneCharacter
 character_kind wide (c ∷ []) = one_kind wide c
 character_kind wide (c ∷ d ∷ cs) = Bad NotOneCharacter
 
 -- a string literal
-abbrev pub string_kind : Bool → List (Option ℕ) → Kind
+abbrev pub string_kind : Bool → List (Option ℕ) → TokenKind
 string_kind wide cs =
     if list_all is_text_character cs then (if wide then WideString else String) else Bad BadEscape
 
 -- a literal with these bytes between its quotes, if it is closed
-abbrev pub closed_kind : Bool → ℕ → Option (List ℕ) → Kind
+abbrev pub closed_kind : Bool → ℕ → Option (List ℕ) → TokenKind
 closed_kind wide quote None = Bad UnclosedLiteral
 closed_kind wide quote (Some body) =
     if nat_eq quote 39 then character_kind wide (characters wide body)
     else string_kind wide (characters wide body)
 
 -- the kind of a literal that these bytes end, the ones after its opening quote
-abbrev pub literal_kind : Bool → ℕ → List ℕ → Kind
+abbrev pub literal_kind : Bool → ℕ → List ℕ → TokenKind
 literal_kind wide quote rest = closed_kind wide quote (body_of quote rest)
 
 -- the characters, if none is a bad escape

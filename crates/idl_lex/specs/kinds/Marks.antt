@@ -3,11 +3,11 @@ use Rattle.std.specs.Prelude.{ℕ, Bool, ◌||◌, List, [], ◌∷◌, codes, n
 use Rattle.idl_lex.specs.kinds.WordTable.{value_of}
 use Rattle.idl_lex.specs.declared.kinds.mark.Mark.TheVariants.{Semicolon, Comma, OpenBrace, CloseBrace, OpenParenthesis, CloseParenthesis, ColonColon, Colon, Less, Greater, Equals, OpenBracket, CloseBracket, Plus, Minus, Star, Slash, Percent, Tilde, Bar, Caret, Ampersand, ShiftLeft, ShiftRight}
 use Rattle.idl_lex.specs.declared.kinds.mark.PreprocessorMark.TheVariants.{Hash, HashHash, Exclamation, Question, Dot, AndAnd, OrOr, EqualsEquals, NotEquals, LessEquals, GreaterEquals}
-use Rattle.idl_lex.specs.declared.kinds.kind.Kind.{Kind}
-use Rattle.idl_lex.specs.declared.kinds.kind.Kind.TheVariants.{Punctuation, Preprocessing}
+use Rattle.idl_lex.specs.declared.kinds.kind.TokenKind.{TokenKind}
+use Rattle.idl_lex.specs.declared.kinds.kind.TokenKind.TheVariants.{Punctuation, Preprocessing}
 
 -- each mark and its kind: those of the language, and those that the preprocessor alone knows
-unfoldable pub marks : List (List ℕ × Kind)
+unfoldable pub marks : List (List ℕ × TokenKind)
 marks =
     (codes ";", Punctuation Semicolon) ∷ (codes ",", Punctuation Comma)
     ∷ (codes "{", Punctuation OpenBrace)
@@ -33,7 +33,7 @@ marks =
     ∷ (codes "<=", Preprocessing LessEquals) ∷ (codes ">=", Preprocessing GreaterEquals) ∷ []
 
 -- the kind of the mark that is spelled so
-abbrev pub mark_kind : List ℕ → Option Kind
+abbrev pub mark_kind : List ℕ → Option TokenKind
 mark_kind spelling = value_of marks spelling
 
 -- a mark that no byte behind it makes another token: one of ; , { } ( ) [ ]

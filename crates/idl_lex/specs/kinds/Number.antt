@@ -2,8 +2,8 @@
 use Rattle.std.specs.Prelude.{ℕ, ◌+◌, ◌*◌, ◌^◌, Bool, true, false, ◌&&◌, ◌||◌, List, [], ◌∷◌, fold, nat_eq, nat_lt, Option, None, Some, if◌then◌else◌}
 use Rattle.std.specs.List.{list_all, list_any}
 use Rattle.idl_lex.specs.bytes.Byte.{is_x, is_e, is_d, digit_value, is_digit_of}
-use Rattle.idl_lex.specs.declared.kinds.kind.Kind.{Kind}
-use Rattle.idl_lex.specs.declared.kinds.kind.Kind.TheVariants.{Integer, Bad}
+use Rattle.idl_lex.specs.declared.kinds.kind.TokenKind.{TokenKind}
+use Rattle.idl_lex.specs.declared.kinds.kind.TokenKind.TheVariants.{Integer, Bad}
 use Rattle.idl_lex.specs.declared.kinds.kind.Defect.TheVariants.{MalformedInteger, FloatingLiteral, IntegerTooLarge}
 
 -- the number that these digits spell to a base, the first of them the highest
@@ -22,7 +22,7 @@ is_floating spelling =
     else (if is_hexadecimal spelling then false else list_any (λ b. is_e b || is_d b) spelling)
 
 -- what is no integer
-abbrev pub no_integer : List ℕ → Kind
+abbrev pub no_integer : List ℕ → TokenKind
 no_integer spelling = if is_floating spelling then Bad FloatingLiteral else Bad MalformedInteger
 
 -- one or more digits to a base
@@ -52,16 +52,16 @@ abbrev pub integer_value : List ℕ → Option ℕ
 integer_value spelling = digits_value (based spelling).0 (based spelling).1
 
 -- the kind of digits with this value
-abbrev pub kind_of_value : Option ℕ → Kind
+abbrev pub kind_of_value : Option ℕ → TokenKind
 kind_of_value (Some value) = Integer
 kind_of_value None = Bad IntegerTooLarge
 
 -- these digits of a number to a base
-abbrev pub digits_kind : ℕ → List ℕ → List ℕ → Kind
+abbrev pub digits_kind : ℕ → List ℕ → List ℕ → TokenKind
 digits_kind base digits spelling =
     if are_digits base digits then kind_of_value (limited (number base digits))
     else no_integer spelling
 
 -- the kind of a number
-abbrev pub number_kind : List ℕ → Kind
+abbrev pub number_kind : List ℕ → TokenKind
 number_kind spelling = digits_kind (based spelling).0 (based spelling).1 spelling

@@ -9,7 +9,7 @@ use Rattle.idl_lex.specs.tokens.Tokens.{tokens_after}
 use Rattle.idl_lex.specs.declared.bytes.context.Context.{Context}
 use Rattle.idl_lex.specs.declared.tokens.lexer.Before.{Before}
 use Rattle.idl_lex.specs.declared.tokens.lexer.Before.TheVariants.{Fresh, Comment}
-use Rattle.idl_lex.specs.declared.bytes.state.State.TheVariants.{Block}
+use Rattle.idl_lex.specs.declared.bytes.state.Inside.TheVariants.{Block}
 use Rattle.idl_lex.specs.declared.tokens.token.PlacedToken.{PlacedToken}
 
 -- of a comment that was opened before this text, where that token is its opening: what comes after

@@ -3,7 +3,7 @@
 ghost use Rattle.std.specs.Prelude.{◌≡◌, ◌≤◌, length, IfSome};
 ghost use Rattle.idl_lex.specs.bytes.Piece.{is_pair};
 ghost use Rattle.idl_lex.specs.bytes.Scan.{number_step, literal_step, taken, header_len, closing_end, further};
-ghost use Rattle.idl_lex.specs.declared.bytes.state.State.TheVariants.{Mark, Word};
+ghost use Rattle.idl_lex.specs.declared.bytes.state.Inside.TheVariants.{Mark, Word};
 
 use crate::bytes::byte::{is_digit, is_e, is_quote, is_sign, is_word_byte, is_word_start, is_x};
 use idl_source::NEWLINE;
@@ -11,7 +11,7 @@ use idl_source::NEWLINE;
 /// Inside which piece a place is. A number may be hexadecimal and after an `e`; a literal has its quote, and may be after a
 /// backslash; a comment may be after a `*`.
 #[derive(Clone, Copy)]
-pub enum State {
+pub enum Inside {
     Word,
     Wide,
     Zero,
@@ -25,56 +25,64 @@ pub enum State {
     Whole,
 }
 
-impl State {
+impl Inside {
     ghost use Rattle.std.specs.Prelude.{◌≡◌};
     ghost use Rattle.idl_lex.specs.bytes.Scan.{step_of, start_of};
 
     /// The state after a piece's first byte.
-    pub fn start(b: u8) -> State
+    pub fn start(b: u8) -> Inside
         ensures { result ≡ start_of b }
     {
         if is_word_start(b) {
-            if b == b'L' { State::Wide } else { State::Word }
+            if b == b'L' {
+                Inside::Wide
+            } else {
+                Inside::Word
+            }
         } else if b == b'0' {
-            State::Zero
+            Inside::Zero
         } else if is_digit(b) {
-            State::Number(false, false)
+            Inside::Number(false, false)
         } else if b == b'.' {
-            State::Dot
+            Inside::Dot
         } else if is_quote(b) {
-            State::Literal(b, false)
+            Inside::Literal(b, false)
         } else if b == b'/' {
-            State::Slash
+            Inside::Slash
         } else {
-            State::Mark(b)
+            Inside::Mark(b)
         }
     }
 
     /// The state after one more byte, or none where the piece ends before it.
-    fn step(self, b: u8) -> Option<State>
+    fn step(self, b: u8) -> Option<Inside>
         ensures { result ≡ step_of self b }
     {
         match self {
-            State::Wide if is_quote(b) => Some(State::Literal(b, false)),
-            State::Word | State::Wide if is_word_byte(b) => Some(State::Word),
-            State::Zero if is_x(b) => Some(State::Number(true, false)),
-            State::Zero => number_step(false, false, b),
-            State::Number(is_hexadecimal, is_after_e) => number_step(is_hexadecimal, is_after_e, b),
-            State::Dot if is_digit(b) => Some(State::Number(false, false)),
-            State::Literal(quote, is_escaped) => literal_step(quote, is_escaped, b),
-            State::Slash if b == b'/' => Some(State::Line),
-            State::Slash if b == b'*' => Some(State::Block(false)),
-            State::Line if b != NEWLINE => Some(State::Line),
-            State::Block(is_after_star) if is_after_star && b == b'/' => Some(State::Whole),
-            State::Block(_) => Some(State::Block(b == b'*')),
-            State::Mark(a) if is_pair(a, b) => Some(State::Whole),
+            Inside::Wide if is_quote(b) => Some(Inside::Literal(b, false)),
+            Inside::Word | Inside::Wide if is_word_byte(b) => Some(Inside::Word),
+            Inside::Zero if is_x(b) => Some(Inside::Number(true, false)),
+            Inside::Zero => number_step(false, false, b),
+            Inside::Number(is_hexadecimal, is_after_e) => number_step(
+                is_hexadecimal,
+                is_after_e,
+                b,
+            ),
+            Inside::Dot if is_digit(b) => Some(Inside::Number(false, false)),
+            Inside::Literal(quote, is_escaped) => literal_step(quote, is_escaped, b),
+            Inside::Slash if b == b'/' => Some(Inside::Line),
+            Inside::Slash if b == b'*' => Some(Inside::Block(false)),
+            Inside::Line if b != NEWLINE => Some(Inside::Line),
+            Inside::Block(is_after_star) if is_after_star && b == b'/' => Some(Inside::Whole),
+            Inside::Block(_) => Some(Inside::Block(b == b'*')),
+            Inside::Mark(a) if is_pair(a, b) => Some(Inside::Whole),
             _ => None,
         }
     }
 }
 
 /// How many of these bytes a piece takes that is in this state.
-pub fn taken(state: State, bytes: &[u8]) -> usize
+pub fn taken(state: Inside, bytes: &[u8]) -> usize
     ensures len { result ≡ taken state bytes.now }
     ensures within { result ≤ length bytes.now }
 {
@@ -98,8 +106,8 @@ pub fn further(includes: bool, first: u8, rest: &[u8]) -> usize
             return len;
         }
     }
-    match State::start(first) {
-        State::Mark(first) => mark_len(first, rest),
+    match Inside::start(first) {
+        Inside::Mark(first) => mark_len(first, rest),
         state => taken(state, rest),
     }
 }
@@ -157,27 +165,27 @@ pub fn closing_end(bytes: &[u8]) -> usize
     end
 }
 
-fn number_step(is_hexadecimal: bool, is_after_e: bool, b: u8) -> Option<State>
+fn number_step(is_hexadecimal: bool, is_after_e: bool, b: u8) -> Option<Inside>
     ensures { result ≡ number_step is_hexadecimal is_after_e b }
 {
     if is_word_byte(b) || b == b'.' || (is_after_e && is_sign(b)) {
-        Some(State::Number(is_hexadecimal, is_e(b) && !is_hexadecimal))
+        Some(Inside::Number(is_hexadecimal, is_e(b) && !is_hexadecimal))
     } else {
         None
     }
 }
 
-fn literal_step(quote: u8, is_escaped: bool, b: u8) -> Option<State>
+fn literal_step(quote: u8, is_escaped: bool, b: u8) -> Option<Inside>
     ensures { result ≡ literal_step quote is_escaped b }
 {
     if b == NEWLINE {
         None
     } else if is_escaped {
-        Some(State::Literal(quote, false))
+        Some(Inside::Literal(quote, false))
     } else if b == quote {
-        Some(State::Whole)
+        Some(Inside::Whole)
     } else {
-        Some(State::Literal(quote, b == b'\\'))
+        Some(Inside::Literal(quote, b == b'\\'))
     }
 }
 

@@ -7,75 +7,75 @@ ghost use Rattle.idl_lex.specs.kinds.KeywordTable.{if_alike, place, places};
 ghost use Rattle.idl_lex.specs.kinds.WordTable.{entry_of};
 
 use crate::kinds::keyword::Keyword;
-use crate::kinds::kind::Kind;
-use crate::kinds::word_table::Entry;
+use crate::kinds::kind::TokenKind;
+use crate::kinds::word_table::WordEntry;
 
 // Each keyword with the kind of its spelling. Those that begin with one letter, whatever its case, stand together.
-const KEYWORDS: [Entry<Kind>; 64] = [
-    (b"abstract", Kind::Refused),
-    (b"any", Kind::Accepted(Keyword::Any)),
-    (b"attribute", Kind::Accepted(Keyword::Attribute)),
-    (b"boolean", Kind::Accepted(Keyword::Boolean)),
-    (b"case", Kind::Accepted(Keyword::Case)),
-    (b"char", Kind::Accepted(Keyword::Char)),
-    (b"component", Kind::Refused),
-    (b"const", Kind::Accepted(Keyword::Const)),
-    (b"consumes", Kind::Refused),
-    (b"context", Kind::Accepted(Keyword::Context)),
-    (b"custom", Kind::Refused),
-    (b"default", Kind::Accepted(Keyword::Default)),
-    (b"double", Kind::Accepted(Keyword::Double)),
-    (b"emits", Kind::Refused),
-    (b"enum", Kind::Accepted(Keyword::Enum)),
-    (b"eventtype", Kind::Refused),
-    (b"exception", Kind::Accepted(Keyword::Exception)),
-    (b"factory", Kind::Refused),
-    (b"FALSE", Kind::Accepted(Keyword::False)),
-    (b"finder", Kind::Refused),
-    (b"fixed", Kind::Refused),
-    (b"float", Kind::Accepted(Keyword::Float)),
-    (b"getraises", Kind::Accepted(Keyword::Getraises)),
-    (b"home", Kind::Refused),
-    (b"import", Kind::Refused),
-    (b"in", Kind::Accepted(Keyword::In)),
-    (b"inout", Kind::Accepted(Keyword::Inout)),
-    (b"interface", Kind::Accepted(Keyword::Interface)),
-    (b"local", Kind::Accepted(Keyword::Local)),
-    (b"long", Kind::Accepted(Keyword::Long)),
-    (b"module", Kind::Accepted(Keyword::Module)),
-    (b"multiple", Kind::Refused),
-    (b"native", Kind::Accepted(Keyword::Native)),
-    (b"Object", Kind::Accepted(Keyword::Object)),
-    (b"octet", Kind::Accepted(Keyword::Octet)),
-    (b"oneway", Kind::Accepted(Keyword::Oneway)),
-    (b"out", Kind::Accepted(Keyword::Out)),
-    (b"primarykey", Kind::Refused),
-    (b"private", Kind::Refused),
-    (b"provides", Kind::Refused),
-    (b"public", Kind::Refused),
-    (b"publishes", Kind::Refused),
-    (b"raises", Kind::Accepted(Keyword::Raises)),
-    (b"readonly", Kind::Accepted(Keyword::Readonly)),
-    (b"sequence", Kind::Accepted(Keyword::Sequence)),
-    (b"setraises", Kind::Accepted(Keyword::Setraises)),
-    (b"short", Kind::Accepted(Keyword::Short)),
-    (b"string", Kind::Accepted(Keyword::String)),
-    (b"struct", Kind::Accepted(Keyword::Struct)),
-    (b"supports", Kind::Refused),
-    (b"switch", Kind::Accepted(Keyword::Switch)),
-    (b"TRUE", Kind::Accepted(Keyword::True)),
-    (b"truncatable", Kind::Refused),
-    (b"typedef", Kind::Accepted(Keyword::Typedef)),
-    (b"typeid", Kind::Refused),
-    (b"typeprefix", Kind::Refused),
-    (b"union", Kind::Accepted(Keyword::Union)),
-    (b"unsigned", Kind::Accepted(Keyword::Unsigned)),
-    (b"uses", Kind::Refused),
-    (b"ValueBase", Kind::Refused),
-    (b"valuetype", Kind::Refused),
-    (b"void", Kind::Accepted(Keyword::Void)),
-    (b"wchar", Kind::Accepted(Keyword::Wchar)),
-    (b"wstring", Kind::Accepted(Keyword::Wstring)),
+const KEYWORDS: [WordEntry<TokenKind>; 64] = [
+    (b"abstract", TokenKind::Refused),
+    (b"any", TokenKind::Accepted(Keyword::Any)),
+    (b"attribute", TokenKind::Accepted(Keyword::Attribute)),
+    (b"boolean", TokenKind::Accepted(Keyword::Boolean)),
+    (b"case", TokenKind::Accepted(Keyword::Case)),
+    (b"char", TokenKind::Accepted(Keyword::Char)),
+    (b"component", TokenKind::Refused),
+    (b"const", TokenKind::Accepted(Keyword::Const)),
+    (b"consumes", TokenKind::Refused),
+    (b"context", TokenKind::Accepted(Keyword::Context)),
+    (b"custom", TokenKind::Refused),
+    (b"default", TokenKind::Accepted(Keyword::Default)),
+    (b"double", TokenKind::Accepted(Keyword::Double)),
+    (b"emits", TokenKind::Refused),
+    (b"enum", TokenKind::Accepted(Keyword::Enum)),
+    (b"eventtype", TokenKind::Refused),
+    (b"exception", TokenKind::Accepted(Keyword::Exception)),
+    (b"factory", TokenKind::Refused),
+    (b"FALSE", TokenKind::Accepted(Keyword::False)),
+    (b"finder", TokenKind::Refused),
+    (b"fixed", TokenKind::Refused),
+    (b"float", TokenKind::Accepted(Keyword::Float)),
+    (b"getraises", TokenKind::Accepted(Keyword::Getraises)),
+    (b"home", TokenKind::Refused),
+    (b"import", TokenKind::Refused),
+    (b"in", TokenKind::Accepted(Keyword::In)),
+    (b"inout", TokenKind::Accepted(Keyword::Inout)),
+    (b"interface", TokenKind::Accepted(Keyword::Interface)),
+    (b"local", TokenKind::Accepted(Keyword::Local)),
+    (b"long", TokenKind::Accepted(Keyword::Long)),
+    (b"module", TokenKind::Accepted(Keyword::Module)),
+    (b"multiple", TokenKind::Refused),
+    (b"native", TokenKind::Accepted(Keyword::Native)),
+    (b"Object", TokenKind::Accepted(Keyword::Object)),
+    (b"octet", TokenKind::Accepted(Keyword::Octet)),
+    (b"oneway", TokenKind::Accepted(Keyword::Oneway)),
+    (b"out", TokenKind::Accepted(Keyword::Out)),
+    (b"primarykey", TokenKind::Refused),
+    (b"private", TokenKind::Refused),
+    (b"provides", TokenKind::Refused),
+    (b"public", TokenKind::Refused),
+    (b"publishes", TokenKind::Refused),
+    (b"raises", TokenKind::Accepted(Keyword::Raises)),
+    (b"readonly", TokenKind::Accepted(Keyword::Readonly)),
+    (b"sequence", TokenKind::Accepted(Keyword::Sequence)),
+    (b"setraises", TokenKind::Accepted(Keyword::Setraises)),
+    (b"short", TokenKind::Accepted(Keyword::Short)),
+    (b"string", TokenKind::Accepted(Keyword::String)),
+    (b"struct", TokenKind::Accepted(Keyword::Struct)),
+    (b"supports", TokenKind::Refused),
+    (b"switch", TokenKind::Accepted(Keyword::Switch)),
+    (b"TRUE", TokenKind::Accepted(Keyword::True)),
+    (b"truncatable", TokenKind::Refused),
+    (b"typedef", TokenKind::Accepted(Keyword::Typedef)),
+    (b"typeid", TokenKind::Refused),
+    (b"typeprefix", TokenKind::Refused),
+    (b"union", TokenKind::Accepted(Keyword::Union)),
+    (b"unsigned", TokenKind::Accepted(Keyword::Unsigned)),
+    (b"uses", TokenKind::Refused),
+    (b"ValueBase", TokenKind::Refused),
+    (b"valuetype", TokenKind::Refused),
+    (b"void", TokenKind::Accepted(Keyword::Void)),
+    (b"wchar", TokenKind::Accepted(Keyword::Wchar)),
+    (b"wstring", TokenKind::Accepted(Keyword::Wstring)),
 ];
 
 // Where each keyword stands in the table, by what three of its letters and its length make together; 64 for what none makes.
@@ -100,7 +100,7 @@ const NOWHERE: usize = 64;
 const LONGEST: usize = 11;
 
 /// The keyword that the word is but for the case of letters.
-pub fn like_keyword(word: &[u8]) -> Option<Entry<Kind>>
+pub fn like_keyword(word: &[u8]) -> Option<WordEntry<TokenKind>>
     ensures { option_map entry_of result ≡ like_keyword word.now }
 {
     match keyword_at(word) {
@@ -110,7 +110,7 @@ pub fn like_keyword(word: &[u8]) -> Option<Entry<Kind>>
 }
 
 /// The one keyword that the word can be but for the case of letters, if it can be one.
-pub fn keyword_at(word: &[u8]) -> Option<Entry<Kind>>
+pub fn keyword_at(word: &[u8]) -> Option<WordEntry<TokenKind>>
     ensures { like_keyword word.now ≡ if_alike word.now (option_map entry_of result) }
 {
     let keywords = table();
@@ -122,7 +122,7 @@ pub fn keyword_at(word: &[u8]) -> Option<Entry<Kind>>
 }
 
 #[tactic(auto, unfolding(crate::specs::kinds::Keywords::keywords))]
-fn table() -> &'static [Entry<Kind>]
+fn table() -> &'static [WordEntry<TokenKind>]
     ensures all { map entry_of result.now ≡ keywords }
     ensures len { length result.now ≡ 64 }
 {

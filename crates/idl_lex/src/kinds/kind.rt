@@ -15,7 +15,7 @@ use crate::kinds::number::number_kind;
 
 /// What a token counts as in IDL.
 #[derive(Clone, Copy, Debug, PartialEq, Eq)]
-pub enum Kind {
+pub enum TokenKind {
     /// A keyword of the language.
     Accepted(Keyword),
     /// A keyword of the standard that this profile leaves out.
@@ -71,11 +71,11 @@ pub enum Defect {
 
 /// The kind of the token with this spelling.
 #[tactic(auto, unfolding(crate::specs::kinds::Kind::kind_of))]
-pub fn kind_of(spelling: &[u8]) -> Kind
+pub fn kind_of(spelling: &[u8]) -> TokenKind
     ensures { result ≡ kind_of spelling.now }
 {
     match spelling {
-        [] => Kind::Bad(Defect::UnknownByte),
+        [] => TokenKind::Bad(Defect::UnknownByte),
         [b, rest @ ..] if is_letter(*b) => letter_kind(*b, rest, spelling),
         [b'_', rest @ ..] => escaped_kind(rest),
         [b, ..] if is_digit(*b) => number_kind(spelling),
@@ -86,7 +86,7 @@ pub fn kind_of(spelling: &[u8]) -> Kind
 
 /// The kind of a word.
 #[tactic(auto, unfolding(crate::specs::kinds::Kind::kind_of))]
-pub fn kind_of_word(word: &[u8]) -> Kind
+pub fn kind_of_word(word: &[u8]) -> TokenKind
     requires { is_word word.now ≡ true }
     ensures { result ≡ kind_of word.now }
 {
@@ -104,7 +104,7 @@ pub fn is_like_keyword(word: &[u8]) -> bool
 }
 
 // The kind of a wide literal, or of a word that begins with a letter.
-fn letter_kind(b: u8, rest: &[u8], spelling: &[u8]) -> Kind
+fn letter_kind(b: u8, rest: &[u8], spelling: &[u8]) -> TokenKind
     requires { spelling.now ≡ b ∷ rest.now }
     ensures { result ≡ letter_kind b rest.now }
 {
@@ -115,13 +115,13 @@ fn letter_kind(b: u8, rest: &[u8], spelling: &[u8]) -> Kind
 }
 
 // The kind of a word that begins with a letter.
-fn word_kind(word: &[u8]) -> Kind
+fn word_kind(word: &[u8]) -> TokenKind
     ensures { result ≡ word_kind word.now }
 {
     match keyword_at(word) {
         Some((spelling, kind)) if are_same(spelling, word) => kind,
-        Some((spelling, _)) if are_alike(spelling, word) => Kind::Miscased,
-        _ => Kind::Identifier,
+        Some((spelling, _)) if are_alike(spelling, word) => TokenKind::Miscased,
+        _ => TokenKind::Identifier,
     }
 }
 
@@ -141,17 +141,17 @@ fn are_same(a: &[u8], b: &[u8]) -> bool
 }
 
 // The kind of `_` and these bytes.
-fn escaped_kind(rest: &[u8]) -> Kind
+fn escaped_kind(rest: &[u8]) -> TokenKind
     ensures { result ≡ escaped_kind rest.now }
 {
     match rest {
-        [first, ..] if is_letter(*first) => Kind::Escaped,
-        _ => Kind::Bad(Defect::NothingEscaped),
+        [first, ..] if is_letter(*first) => TokenKind::Escaped,
+        _ => TokenKind::Bad(Defect::NothingEscaped),
     }
 }
 
 // The kind of a number that begins with a `.`, of a mark, or of what is none.
-fn other_kind(b: u8, rest: &[u8], spelling: &[u8]) -> Kind
+fn other_kind(b: u8, rest: &[u8], spelling: &[u8]) -> TokenKind
     requires { spelling.now ≡ b ∷ rest.now }
     ensures { result ≡ other_kind b rest.now }
 {
@@ -175,12 +175,12 @@ fn is_fraction(b: u8, rest: &[u8]) -> bool
 }
 
 // The kind of what is no mark.
-fn unmarked_kind(b: u8, rest: &[u8]) -> Kind
+fn unmarked_kind(b: u8, rest: &[u8]) -> TokenKind
     ensures { result ≡ unmarked_kind b rest.now }
 {
     match rest {
-        [.., b'>'] if b == b'<' => Kind::HeaderName,
-        [b'*', ..] if b == b'/' => Kind::Bad(Defect::UnclosedComment),
-        _ => Kind::Bad(Defect::UnknownByte),
+        [.., b'>'] if b == b'<' => TokenKind::HeaderName,
+        [b'*', ..] if b == b'/' => TokenKind::Bad(Defect::UnclosedComment),
+        _ => TokenKind::Bad(Defect::UnknownByte),
     }
 }

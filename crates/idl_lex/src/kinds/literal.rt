@@ -5,7 +5,7 @@ ghost use Rattle.std.specs.Option.{option_copied, option_map};
 ghost use Rattle.idl_lex.specs.kinds.Literal.{body_of, literal_kind, simple_escape, numbered_character, after_letter, by_number, escape, digits_len, characters, character_kind, one_kind, string_kind, literal_value, quoted_value, closed_value, closing, all_good, is_text_character};
 
 use crate::bytes::byte::{is_digit_of, is_quote};
-use crate::kinds::kind::{Defect, Kind};
+use crate::kinds::kind::{Defect, TokenKind};
 use crate::kinds::number::{are_digits, number};
 use idl_base::Seq;
 use std::alloc::{AllocError, Global};
@@ -13,11 +13,11 @@ use std::alloc::{AllocError, Global};
 const BACKSLASH: u8 = b'\\';
 
 /// The kind of a literal: whether it is wide, its quote, and the bytes after that quote.
-pub fn literal_kind(is_wide: bool, quote: u8, rest: &[u8]) -> Kind
+pub fn literal_kind(is_wide: bool, quote: u8, rest: &[u8]) -> TokenKind
     ensures { result ≡ literal_kind is_wide quote rest.now }
 {
     match body_of(quote, rest) {
-        None => Kind::Bad(Defect::UnclosedLiteral),
+        None => TokenKind::Bad(Defect::UnclosedLiteral),
         Some(body) if quote == b'\'' => character_kind(is_wide, body),
         Some(body) => string_kind(is_wide, body),
     }
@@ -65,44 +65,44 @@ fn closing(quote: u8, rest: &[u8]) -> Option<usize>
 }
 
 // The kind of a character literal with these bytes between its quotes.
-fn character_kind(is_wide: bool, body: &[u8]) -> Kind
+fn character_kind(is_wide: bool, body: &[u8]) -> TokenKind
     ensures { result ≡ character_kind is_wide (characters is_wide body.now) }
 {
     let Some((character, len)) = first_character(is_wide, body) else {
-        return Kind::Bad(Defect::NotOneCharacter);
+        return TokenKind::Bad(Defect::NotOneCharacter);
     };
     if len == body.len() {
         return one_kind(is_wide, character);
     }
-    Kind::Bad(Defect::NotOneCharacter)
+    TokenKind::Bad(Defect::NotOneCharacter)
 }
 
 // The kind of a character literal with this character, or a bad escape, between its quotes.
-fn one_kind(is_wide: bool, character: Option<u16>) -> Kind
+fn one_kind(is_wide: bool, character: Option<u16>) -> TokenKind
     ensures { result ≡ one_kind is_wide character }
 {
     match character {
-        None => Kind::Bad(Defect::BadEscape),
-        Some(_) if is_wide => Kind::WideCharacter,
-        Some(_) => Kind::Character,
+        None => TokenKind::Bad(Defect::BadEscape),
+        Some(_) if is_wide => TokenKind::WideCharacter,
+        Some(_) => TokenKind::Character,
     }
 }
 
 // The kind of a string literal with these bytes between its quotes.
-fn string_kind(is_wide: bool, body: &[u8]) -> Kind
+fn string_kind(is_wide: bool, body: &[u8]) -> TokenKind
     ensures { result ≡ string_kind is_wide (characters is_wide body.now) }
 {
     let mut left = body;
     'characters: while let Some((character, len)) = first_character(is_wide, left) {
         if !is_text_character(character) {
-            return Kind::Bad(Defect::BadEscape);
+            return TokenKind::Bad(Defect::BadEscape);
         }
         left = &left[len..];
     }
     if is_wide {
-        Kind::WideString
+        TokenKind::WideString
     } else {
-        Kind::String
+        TokenKind::String
     }
 }
 

@@ -5,11 +5,11 @@ ghost use Rattle.idl_lex.specs.kinds.Kind.{kind_of};
 ghost use Rattle.idl_lex.specs.kinds.Marks.{is_lone_mark, mark_kind};
 
 use crate::bytes::byte::{LONE_MARK, class};
-use crate::kinds::kind::{Defect, Kind};
+use crate::kinds::kind::{Defect, TokenKind};
 use crate::kinds::mark::{Mark, PreprocessorMark};
 
 /// The kind of the mark that is spelled so.
-pub fn mark_kind(spelling: &[u8]) -> Option<Kind>
+pub fn mark_kind(spelling: &[u8]) -> Option<TokenKind>
     ensures { result ≡ mark_kind spelling.now }
 {
     match spelling {
@@ -27,74 +27,74 @@ pub fn is_lone_mark(b: u8) -> bool
 }
 
 /// The kind of a mark that none other begins with.
-pub fn lone_kind(b: u8) -> Kind
+pub fn lone_kind(b: u8) -> TokenKind
     requires { is_lone_mark b ≡ true }
     ensures { result ≡ kind_of (b ∷ []) }
 {
     match b {
-        b';' => Kind::Punctuation(Mark::Semicolon),
-        b',' => Kind::Punctuation(Mark::Comma),
-        b'{' => Kind::Punctuation(Mark::OpenBrace),
-        b'}' => Kind::Punctuation(Mark::CloseBrace),
-        b'(' => Kind::Punctuation(Mark::OpenParenthesis),
-        b')' => Kind::Punctuation(Mark::CloseParenthesis),
-        b'[' => Kind::Punctuation(Mark::OpenBracket),
-        b']' => Kind::Punctuation(Mark::CloseBracket),
-        _ => Kind::Bad(Defect::UnknownByte),
+        b';' => TokenKind::Punctuation(Mark::Semicolon),
+        b',' => TokenKind::Punctuation(Mark::Comma),
+        b'{' => TokenKind::Punctuation(Mark::OpenBrace),
+        b'}' => TokenKind::Punctuation(Mark::CloseBrace),
+        b'(' => TokenKind::Punctuation(Mark::OpenParenthesis),
+        b')' => TokenKind::Punctuation(Mark::CloseParenthesis),
+        b'[' => TokenKind::Punctuation(Mark::OpenBracket),
+        b']' => TokenKind::Punctuation(Mark::CloseBracket),
+        _ => TokenKind::Bad(Defect::UnknownByte),
     }
 }
 
 // The kind of the mark of one byte.
 #[tactic(auto, unfolding(crate::specs::kinds::Marks::marks))]
-fn single(a: u8) -> Option<Kind>
+fn single(a: u8) -> Option<TokenKind>
     ensures { result ≡ mark_kind (a ∷ []) }
 {
     match a {
-        b';' => Some(Kind::Punctuation(Mark::Semicolon)),
-        b',' => Some(Kind::Punctuation(Mark::Comma)),
-        b'{' => Some(Kind::Punctuation(Mark::OpenBrace)),
-        b'}' => Some(Kind::Punctuation(Mark::CloseBrace)),
-        b'(' => Some(Kind::Punctuation(Mark::OpenParenthesis)),
-        b')' => Some(Kind::Punctuation(Mark::CloseParenthesis)),
-        b':' => Some(Kind::Punctuation(Mark::Colon)),
-        b'<' => Some(Kind::Punctuation(Mark::Less)),
-        b'>' => Some(Kind::Punctuation(Mark::Greater)),
-        b'=' => Some(Kind::Punctuation(Mark::Equals)),
-        b'[' => Some(Kind::Punctuation(Mark::OpenBracket)),
-        b']' => Some(Kind::Punctuation(Mark::CloseBracket)),
-        b'+' => Some(Kind::Punctuation(Mark::Plus)),
-        b'-' => Some(Kind::Punctuation(Mark::Minus)),
-        b'*' => Some(Kind::Punctuation(Mark::Star)),
-        b'/' => Some(Kind::Punctuation(Mark::Slash)),
-        b'%' => Some(Kind::Punctuation(Mark::Percent)),
-        b'~' => Some(Kind::Punctuation(Mark::Tilde)),
-        b'|' => Some(Kind::Punctuation(Mark::Bar)),
-        b'^' => Some(Kind::Punctuation(Mark::Caret)),
-        b'&' => Some(Kind::Punctuation(Mark::Ampersand)),
-        b'#' => Some(Kind::Preprocessing(PreprocessorMark::Hash)),
-        b'!' => Some(Kind::Preprocessing(PreprocessorMark::Exclamation)),
-        b'?' => Some(Kind::Preprocessing(PreprocessorMark::Question)),
-        b'.' => Some(Kind::Preprocessing(PreprocessorMark::Dot)),
+        b';' => Some(TokenKind::Punctuation(Mark::Semicolon)),
+        b',' => Some(TokenKind::Punctuation(Mark::Comma)),
+        b'{' => Some(TokenKind::Punctuation(Mark::OpenBrace)),
+        b'}' => Some(TokenKind::Punctuation(Mark::CloseBrace)),
+        b'(' => Some(TokenKind::Punctuation(Mark::OpenParenthesis)),
+        b')' => Some(TokenKind::Punctuation(Mark::CloseParenthesis)),
+        b':' => Some(TokenKind::Punctuation(Mark::Colon)),
+        b'<' => Some(TokenKind::Punctuation(Mark::Less)),
+        b'>' => Some(TokenKind::Punctuation(Mark::Greater)),
+        b'=' => Some(TokenKind::Punctuation(Mark::Equals)),
+        b'[' => Some(TokenKind::Punctuation(Mark::OpenBracket)),
+        b']' => Some(TokenKind::Punctuation(Mark::CloseBracket)),
+        b'+' => Some(TokenKind::Punctuation(Mark::Plus)),
+        b'-' => Some(TokenKind::Punctuation(Mark::Minus)),
+        b'*' => Some(TokenKind::Punctuation(Mark::Star)),
+        b'/' => Some(TokenKind::Punctuation(Mark::Slash)),
+        b'%' => Some(TokenKind::Punctuation(Mark::Percent)),
+        b'~' => Some(TokenKind::Punctuation(Mark::Tilde)),
+        b'|' => Some(TokenKind::Punctuation(Mark::Bar)),
+        b'^' => Some(TokenKind::Punctuation(Mark::Caret)),
+        b'&' => Some(TokenKind::Punctuation(Mark::Ampersand)),
+        b'#' => Some(TokenKind::Preprocessing(PreprocessorMark::Hash)),
+        b'!' => Some(TokenKind::Preprocessing(PreprocessorMark::Exclamation)),
+        b'?' => Some(TokenKind::Preprocessing(PreprocessorMark::Question)),
+        b'.' => Some(TokenKind::Preprocessing(PreprocessorMark::Dot)),
         _ => None,
     }
 }
 
 // The kind of the mark of two bytes.
 #[tactic(auto, unfolding(crate::specs::kinds::Marks::marks))]
-fn double(a: u8, b: u8) -> Option<Kind>
+fn double(a: u8, b: u8) -> Option<TokenKind>
     ensures { result ≡ mark_kind (a ∷ b ∷ []) }
 {
     match (a, b) {
-        (b':', b':') => Some(Kind::Punctuation(Mark::ColonColon)),
-        (b'<', b'<') => Some(Kind::Punctuation(Mark::ShiftLeft)),
-        (b'>', b'>') => Some(Kind::Punctuation(Mark::ShiftRight)),
-        (b'#', b'#') => Some(Kind::Preprocessing(PreprocessorMark::HashHash)),
-        (b'&', b'&') => Some(Kind::Preprocessing(PreprocessorMark::AndAnd)),
-        (b'|', b'|') => Some(Kind::Preprocessing(PreprocessorMark::OrOr)),
-        (b'=', b'=') => Some(Kind::Preprocessing(PreprocessorMark::EqualsEquals)),
-        (b'!', b'=') => Some(Kind::Preprocessing(PreprocessorMark::NotEquals)),
-        (b'<', b'=') => Some(Kind::Preprocessing(PreprocessorMark::LessEquals)),
-        (b'>', b'=') => Some(Kind::Preprocessing(PreprocessorMark::GreaterEquals)),
+        (b':', b':') => Some(TokenKind::Punctuation(Mark::ColonColon)),
+        (b'<', b'<') => Some(TokenKind::Punctuation(Mark::ShiftLeft)),
+        (b'>', b'>') => Some(TokenKind::Punctuation(Mark::ShiftRight)),
+        (b'#', b'#') => Some(TokenKind::Preprocessing(PreprocessorMark::HashHash)),
+        (b'&', b'&') => Some(TokenKind::Preprocessing(PreprocessorMark::AndAnd)),
+        (b'|', b'|') => Some(TokenKind::Preprocessing(PreprocessorMark::OrOr)),
+        (b'=', b'=') => Some(TokenKind::Preprocessing(PreprocessorMark::EqualsEquals)),
+        (b'!', b'=') => Some(TokenKind::Preprocessing(PreprocessorMark::NotEquals)),
+        (b'<', b'=') => Some(TokenKind::Preprocessing(PreprocessorMark::LessEquals)),
+        (b'>', b'=') => Some(TokenKind::Preprocessing(PreprocessorMark::GreaterEquals)),
         _ => None,
     }
 }

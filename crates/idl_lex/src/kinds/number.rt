@@ -6,10 +6,10 @@ ghost use Rattle.idl_lex.specs.bytes.Byte.{is_digit_of, is_e, is_d};
 ghost use Rattle.idl_lex.specs.kinds.Number.{number, number_kind, integer_value, based, no_integer, is_floating, is_hexadecimal, are_digits};
 
 use crate::bytes::byte::{digit_value, is_d, is_digit_of, is_e, is_x};
-use crate::kinds::kind::{Defect, Kind};
+use crate::kinds::kind::{Defect, TokenKind};
 
 /// The kind of a number: an integer below 2^64, or why it is none.
-pub fn number_kind(spelling: &[u8]) -> Kind
+pub fn number_kind(spelling: &[u8]) -> TokenKind
     ensures { result ≡ number_kind spelling.now }
 {
     let (base, digits) = based(spelling);
@@ -17,8 +17,8 @@ pub fn number_kind(spelling: &[u8]) -> Kind
         return no_integer(spelling);
     }
     match number(base, digits) {
-        Some(_) => Kind::Integer,
-        None => Kind::Bad(Defect::IntegerTooLarge),
+        Some(_) => TokenKind::Integer,
+        None => TokenKind::Bad(Defect::IntegerTooLarge),
     }
 }
 
@@ -91,13 +91,13 @@ fn with_digit(value: u64, base: u8, digit: u8) -> Option<u64>
 }
 
 // What is wrong with a number that is no integer.
-fn no_integer(spelling: &[u8]) -> Kind
+fn no_integer(spelling: &[u8]) -> TokenKind
     ensures { result ≡ no_integer spelling.now }
 {
     if is_floating(spelling) {
-        Kind::Bad(Defect::FloatingLiteral)
+        TokenKind::Bad(Defect::FloatingLiteral)
     } else {
-        Kind::Bad(Defect::MalformedInteger)
+        TokenKind::Bad(Defect::MalformedInteger)
     }
 }
 

@@ -12,7 +12,7 @@ ghost use Rattle.idl_lex.specs.declared.tokens.lexer.Before.TheVariants.{Fresh};
 
 use crate::bytes::byte::{is_quote, is_space, is_word_start};
 use crate::bytes::context::{Context, ends_block, is_gap};
-use crate::bytes::state::{State, closing_end, further, taken, word_len};
+use crate::bytes::state::{Inside, closing_end, further, taken, word_len};
 use crate::kinds::kind::kind_of_word;
 use crate::kinds::mark_table::is_lone_mark;
 use crate::tokens::block_tokens::TokenBuffer;
@@ -65,7 +65,7 @@ pub fn push_line(
             if !ends_block(bytes) {
                 return Ok(Before::Comment(opening));
             }
-            let from = taken(State::Block(false), bytes);
+            let from = taken(Inside::Block(false), bytes);
             let after = push_pieces(tokens, line, from, opening.context)?;
             Ok(after)
         }

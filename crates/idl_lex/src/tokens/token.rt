@@ -13,7 +13,7 @@ ghost use Rattle.idl_lex.specs.tokens.Tokens.{token_of};
 ghost use Rattle.idl_lex.specs.kinds.Word.{is_word};
 
 use crate::bytes::context::Context;
-use crate::kinds::kind::{Kind, kind_of};
+use crate::kinds::kind::{TokenKind, kind_of};
 use crate::kinds::mark_table::lone_kind;
 use crate::kinds::word::is_word;
 use idl_base::{Bytes, Datum};
@@ -26,7 +26,7 @@ use std::marker::Model;
 #[derive(Drop)]
 pub struct Token {
     spelling: Bytes,
-    kind: Kind,
+    kind: TokenKind,
     // Whether it is a word.
     word: bool,
 }
@@ -56,7 +56,7 @@ impl Token {
     }
 
     /// The token that a word is, which is of this kind.
-    pub(crate) fn word(spelling: Bytes, kind: Kind) -> Token
+    pub(crate) fn word(spelling: Bytes, kind: TokenKind) -> Token
         requires word { is_word spelling ≡ true }
         requires kind { kind ≡ kind_of spelling }
         ensures { result ≡ spelling }
@@ -81,7 +81,7 @@ impl Token {
     }
 
     /// What it counts as in IDL.
-    pub fn kind(&self) -> Kind
+    pub fn kind(&self) -> TokenKind
         ensures { result ≡ kind_of self.now }
     {
         self.kind
@@ -113,8 +113,8 @@ impl Token {
         ensures { IfOk result (λ name. name ≡ name_of self.now) }
     {
         match self.kind {
-            Kind::Identifier => Ok(Some(self.spelling.clone()?)),
-            Kind::Escaped => unescaped(&self.spelling),
+            TokenKind::Identifier => Ok(Some(self.spelling.clone()?)),
+            TokenKind::Escaped => unescaped(&self.spelling),
             _ => Ok(None),
         }
     }
@@ -124,8 +124,8 @@ impl Token {
         ensures { option_copied result ≡ name_of self.now }
     {
         match self.kind {
-            Kind::Identifier => Some(self.spelling.as_bytes()),
-            Kind::Escaped => match self.spelling.as_bytes() {
+            TokenKind::Identifier => Some(self.spelling.as_bytes()),
+            TokenKind::Escaped => match self.spelling.as_bytes() {
                 [_, rest @ ..] => Some(rest),
                 [] => None,
             },
@@ -217,7 +217,7 @@ impl PlacedToken {
     }
 
     /// The token that a word is, which is of this kind, on this line.
-    pub(crate) fn word(context: Context, spelling: Bytes, kind: Kind, line: u32) -> PlacedToken
+    pub(crate) fn word(context: Context, spelling: Bytes, kind: TokenKind, line: u32) -> PlacedToken
         requires word { is_word spelling ≡ true }
         requires kind { kind ≡ kind_of spelling }
         ensures { result ≡ token_of context spelling line }

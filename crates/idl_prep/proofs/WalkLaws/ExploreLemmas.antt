@@ -10,13 +10,13 @@ use Rattle.idl_event.specs.Key.{key_eq}
 use Rattle.idl_event.specs.Expanding.{Expanding, Reached, reached}
 use Rattle.idl_event.specs.declared.told.allowance.Allowance.{Allowance}
 use Rattle.idl_event.specs.declared.told.event.Item.{Item}
-use Rattle.idl_event.specs.declared.asked.key.Answer.{Answer}
-use Rattle.idl_event.specs.declared.asked.key.Key.{Key}
-use Rattle.idl_event.specs.declared.asked.key.Key.TheVariants as key
+use Rattle.idl_event.specs.declared.asked.key.RootAnswer.{RootAnswer}
+use Rattle.idl_event.specs.declared.asked.key.RootKey.{RootKey}
+use Rattle.idl_event.specs.declared.asked.key.RootKey.TheVariants as key
 use Rattle.idl_prep.specs.Root.{absent_file, absent_files}
 
-module _ (bank : Key → Option Answer) where
-  holds-key : (k : Key) (p : Reached) → HoldsIn bank p.log → HoldsIn bank (after_key key_eq bank k p).log
+module _ (bank : RootKey → Option RootAnswer) where
+  holds-key : (k : RootKey) (p : Reached) → HoldsIn bank p.log → HoldsIn bank (after_key key_eq bank k p).log
   holds-key k p holds = at p.left
     where
       noted-at : (t : Bool) → HoldsIn bank (if t then p.log else p.log ++ (k, bank k) ∷ [])
@@ -44,20 +44,20 @@ module _ (bank : Key → Option Answer) where
   holds-after (Ask k next) p holds = holds-after (next (bank k)) (after_key key_eq bank k p) (holds-key k p holds)
   holds-after (Tell x query) p holds = holds-after query (after_item rules x p) (subst (HoldsIn bank) (sym (log-item x p)) holds)
 
-  absent-one : (entry : Key × Option Answer) → entry.1 ≡ bank entry.0 → All (λ name. bank (key.File name) ≡ None) (absent_file entry)
+  absent-one : (entry : RootKey × Option RootAnswer) → entry.1 ≡ bank entry.0 → All (λ name. bank (key.File name) ≡ None) (absent_file entry)
   absent-one (key.Macro word, answer) is = All-nil (λ name. bank (key.File name) ≡ None)
   absent-one (key.File name, None) is = All-cons (λ name. bank (key.File name) ≡ None) name [] (sym is) (All-nil (λ name. bank (key.File name) ≡ None))
   absent-one (key.File name, Some answer) is = All-nil (λ name. bank (key.File name) ≡ None)
   absent-one (key.Search, answer) is = All-nil (λ name. bank (key.File name) ≡ None)
 
-  absent-all-of : (log : List (Key × Option Answer)) → HoldsIn bank log → All (λ name. bank (key.File name) ≡ None) (flat_map absent_file log)
+  absent-all-of : (log : List (RootKey × Option RootAnswer)) → HoldsIn bank log → All (λ name. bank (key.File name) ≡ None) (flat_map absent_file log)
   absent-all-of [] holds = All-nil (λ name. bank (key.File name) ≡ None)
   absent-all-of (e ∷ log) holds =
       All-append (λ name. bank (key.File name) ≡ None) (absent_file e) (flat_map absent_file log) (absent-one e (All-head (λ e. e.1 ≡ bank e.0) e log holds))
       (absent-all-of log (All-tail (λ e. e.1 ≡ bank e.0) e log holds))
 
   -- files that were asked for and aren't listed as there are absent
-  pub absent-of : {A : Type 0} (query : Expanding A) (p : Reached) (log : List (Key × Option Answer)) → p ≡ reached bank query (beginning []) → log ≡ p.log
+  pub absent-of : {A : Type 0} (query : Expanding A) (p : Reached) (log : List (RootKey × Option RootAnswer)) → p ≡ reached bank query (beginning []) → log ≡ p.log
       → All (λ name. bank (key.File name) ≡ None) (absent_files log)
   unfolding absent_files
   absent-of query p log came is =

@@ -7,8 +7,8 @@ use Rattle.idl_lex.specs.declared.tokens.token.PlacedToken.{PlacedToken}
 use Rattle.idl_fault.specs.declared.file_name.FileName.{FileName}
 use Rattle.idl_event.specs.declared.told.event.Event.TheVariants.{Entered, Left}
 use Rattle.idl_event.specs.declared.told.event.Item.TheVariants.{TooDeep, Kept}
-use Rattle.idl_event.specs.declared.asked.key.Answer.{Answer}
-use Rattle.idl_event.specs.declared.asked.key.Key.{Key}
+use Rattle.idl_event.specs.declared.asked.key.RootAnswer.{RootAnswer}
+use Rattle.idl_event.specs.declared.asked.key.RootKey.{RootKey}
 use Rattle.idl_fault.specs.declared.place.Place.{Place}
 use Rattle.idl_text.specs.Line.{lines_in, read}
 use Rattle.idl_text.specs.Tree.{part, tree}
@@ -26,7 +26,7 @@ pub not_none-some : (tokens : List PlacedToken) (none : Bool) → (IsTrue none �
 not_none-some [] none same differs = absurd (true≢false (sym (same.1 refl) ∙ differs))
 not_none-some (t ∷ tokens) none same differs = omega arith
 
-module _ (bank : Key → Option Answer) where
+module _ (bank : RootKey → Option RootAnswer) where
   -- once a limit was passed a root is where it comes to by anything
   pub ended-over : (query : Said → Expanding Said) (way : Way) → way.progress.left ≡ None → ended way ≡ onward bank query way
   ended-over query way over =

@@ -3,8 +3,8 @@ use Rattle.std.proofs.Common.{◌≡◌, Bool, false, List, [], ◌∷◌, ◌++
 use Rattle.idl_memo.specs.Query.{Tell, and_then}
 use Rattle.idl_event.specs.Expanding.{Expanding}
 use Rattle.idl_fault.specs.declared.file_name.FileName.{FileName}
-use Rattle.idl_event.specs.declared.asked.key.Answer.{Answer}
-use Rattle.idl_event.specs.declared.asked.key.Key.{Key}
+use Rattle.idl_event.specs.declared.asked.key.RootAnswer.{RootAnswer}
+use Rattle.idl_event.specs.declared.asked.key.RootKey.{RootKey}
 use Rattle.idl_text.specs.Jump.{IsJump, IsNextOfGroup, fault_at, faults_in, faults_in_branches, faults_in_tree}
 use Rattle.idl_text.specs.Line.{Directive, Line, Text, NullDirective, Directed}
 use Rattle.idl_text.specs.Tree.{IsBranch, Tree, Leaf, Stray, Group as group_tree, Forest, Empty, Grow, Branches, Closed, Unclosed, Branch, Part, Closing, At, append, directive_before, part, close}
@@ -98,12 +98,12 @@ module _ (enter : Enter) (file : FileName) where
           sym (ap (λ b. and_then (visit enter file b c.body s') after) skipped ∙ ap (λ (b : Forest). and_then (skip file b s') after) (body-next g.has_else rest next))
 
   -- where a root comes to once the faults are told
-  to_come-inside : (bank : Key → Option Answer) (g : Group) (gs : List Group) (lines rest : List Line) (faults : List GroupFault) (old new : Way) → g.is_active ≡ false → IsJump g.has_else lines rest faults
+  to_come-inside : (bank : RootKey → Option RootAnswer) (g : Group) (gs : List Group) (lines rest : List Line) (faults : List GroupFault) (old new : Way) → g.is_active ≡ false → IsJump g.has_else lines rest faults
       → ended new ≡ onward bank (told file faults) old → to_come bank enter file (g ∷ gs) rest new ≡ to_come bank enter file (g ∷ gs) lines old
   to_come-inside bank g gs lines rest faults old new skipped jump came =
       onward-then bank (told file faults) (coming enter file (g ∷ gs) (part rest)) (coming enter file (g ∷ gs) (part lines)) old new came (coming-jump g gs lines rest faults old.state skipped jump)
 
-  pub to_come-jump : (bank : Key → Option Answer) (g : Group) (gs : List Group) (lines rest : List Line) (faults : List GroupFault) (old new : Way) → Some g ≡ innermost gs → g.is_active ≡ false
+  pub to_come-jump : (bank : RootKey → Option RootAnswer) (g : Group) (gs : List Group) (lines rest : List Line) (faults : List GroupFault) (old new : Way) → Some g ≡ innermost gs → g.is_active ≡ false
       → IsJump g.has_else lines rest faults → ended new ≡ onward bank (told file faults) old → to_come bank enter file gs rest new ≡ to_come bank enter file gs lines old
   to_come-jump bank g [] lines rest faults old new is skipped jump came = cc
   to_come-jump bank g (h ∷ gs) lines rest faults old new is skipped jump came =

@@ -16,15 +16,15 @@ use Rattle.idl_fault.specs.declared.file_name.FileName.{FileName}
 use Rattle.idl_fault.specs.declared.code.Code.TheVariants.{NotFound}
 use Rattle.idl_event.specs.declared.told.event.Event.TheVariants.{Fault}
 use Rattle.idl_event.specs.declared.told.event.Item.TheVariants.{Kept}
-use Rattle.idl_event.specs.declared.asked.key.Answer.{Answer}
-use Rattle.idl_event.specs.declared.asked.key.Key.{Key}
-use Rattle.idl_event.specs.declared.asked.key.Key.TheVariants as key
+use Rattle.idl_event.specs.declared.asked.key.RootAnswer.{RootAnswer}
+use Rattle.idl_event.specs.declared.asked.key.RootKey.{RootKey}
+use Rattle.idl_event.specs.declared.asked.key.RootKey.TheVariants as key
 use Rattle.idl_prep.specs.Include.{file_in}
 use Rattle.idl_prep.specs.Root.{absent_file, absent_files, enter, expansion, root, root_lines, walk_file}
 use Rattle.idl_prep.specs.State.{Said, Way, ended, nothing_said, onward, telling}
 use Rattle.idl_prep.specs.Limits.{depth_at_most}
 
-module _ (bank : Key → Option Answer) (name : FileName) where
+module _ (bank : RootKey → Option RootAnswer) (name : FileName) where
   -- a root that has asked for its file
   abbrev pub has_asked : Way → Way
   has_asked old = record old { progress = after_key key_eq bank (key.File name) old.progress }
@@ -50,7 +50,7 @@ module _ (bank : Key → Option Answer) (name : FileName) where
       ∙ ap (λ found. reached bank (root_lines name found) (has_asked old).progress) (sym absent)
 
   -- what was kept and logged is what the expansion gives
-  pub run-expansion : (p : Reached) (log : List (Key × Option Answer)) → p ≡ reached bank (root name) (beginning log) → (p.kept, p.log) ≡ run key_eq (expansion name) bank log
+  pub run-expansion : (p : Reached) (log : List (RootKey × Option RootAnswer)) → p ≡ reached bank (root name) (beginning log) → (p.kept, p.log) ≡ run key_eq (expansion name) bank log
   unfolding expansion
   run-expansion p log came =
       let query = kept_within (Unit {0}) rules [] whole_allowance (root name) in
@@ -58,12 +58,12 @@ module _ (bank : Key → Option Answer) (name : FileName) where
       ∙ ap (λ given. (given.0.0, given.1)) (sym (run-kept_within rules key_eq bank (Unit {0}) [] (root name) whole_allowance log))
       ∙ sym (run-and_then key_eq query (λ given. Done given.0) bank log)
 
-module _ (log : List (Key × Option Answer)) (i : ℕ) where
+module _ (log : List (RootKey × Option RootAnswer)) (i : ℕ) where
   -- the files that aren't there, with one entry more
   pub absent-more : (names found : List (List ℕ)) → i < length log → names ≡ flat_map absent_file (take i log) → found ≡ flat_map absent_file (option_to_list (slice_get log i))
       → names ++ found ≡ flat_map absent_file (take (i + 1) log)
   absent-more names found below before here =
-      let e : Key × Option Answer = (key.Search, None) in
+      let e : RootKey × Option RootAnswer = (key.Search, None) in
       ap (λ ns. ns ++ found) before
       ∙ ap (λ ns. flat_map absent_file (take i log) ++ ns) (here ∙ ap (λ o. flat_map absent_file (option_to_list o)) (slice_get-get_or log i e below))
       ∙ sym (ap (flat_map absent_file) (take_more log i e below) ∙ flat_map-append absent_file (take i log) _)

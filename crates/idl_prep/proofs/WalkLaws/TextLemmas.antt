@@ -3,8 +3,8 @@ use Rattle.std.proofs.Common.{◌≡◌, ◌∙◌, ◌++◌, ◌∷◌, true, f
 use Rattle.idl_memo.specs.Query.{Done}
 use Rattle.idl_event.specs.Expanding.{Reached, reached}
 use Rattle.idl_fault.specs.declared.file_name.FileName.{FileName}
-use Rattle.idl_event.specs.declared.asked.key.Answer.{Answer}
-use Rattle.idl_event.specs.declared.asked.key.Key.{Key}
+use Rattle.idl_event.specs.declared.asked.key.RootAnswer.{RootAnswer}
+use Rattle.idl_event.specs.declared.asked.key.RootKey.{RootKey}
 use Rattle.idl_text.specs.Line.{Line, Text}
 use Rattle.idl_lex.specs.declared.tokens.token.PlacedToken.{PlacedToken}
 use Rattle.idl_macro.proofs.ReplaceLemmas.{reached-text-append, reached-text-nil}
@@ -16,7 +16,7 @@ use Rattle.idl_prep.specs.declared.walk.groups.Group.{Group}
 use Rattle.idl_prep.proofs.WalkLaws.WalkLemmas.{to_come-act, to_come-skipped}
 use Rattle.idl_prep.proofs.WalkLaws.WayLemmas.{arrival-and_then}
 
-module _ (bank : Key → Option Answer) (enter : Enter) (file : FileName) where
+module _ (bank : RootKey → Option RootAnswer) (enter : Enter) (file : FileName) where
   -- with the tokens of a text
   abbrev pub texted : List PlacedToken → Way → Way
   texted tokens way = record way { progress = reached bank (text file way.state.definitions tokens) way.progress }

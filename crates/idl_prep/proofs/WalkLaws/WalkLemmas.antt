@@ -5,8 +5,8 @@ use Rattle.idl_event.specs.Expanding.{Expanding, arrival, arrived, reached}
 use Rattle.idl_fault.specs.declared.file_name.FileName.{FileName}
 use Rattle.idl_event.specs.declared.told.event.Item.{Item}
 use Rattle.idl_event.specs.declared.told.event.Item.TheVariants.{Turn}
-use Rattle.idl_event.specs.declared.asked.key.Answer.{Answer}
-use Rattle.idl_event.specs.declared.asked.key.Key.{Key}
+use Rattle.idl_event.specs.declared.asked.key.RootAnswer.{RootAnswer}
+use Rattle.idl_event.specs.declared.asked.key.RootKey.{RootKey}
 use Rattle.idl_text.specs.Line.{Directive, Line, Directed}
 use Rattle.idl_text.specs.Tree.{IsBranch, IsOfGroup, Leaf, Stray, before, grown, is_else, part}
 use Rattle.idl_text.specs.declared.groups.kind.DirectiveKind.TheVariants.{Opening, Endif}
@@ -20,7 +20,7 @@ use Rattle.idl_prep.specs.declared.walk.groups.Group.{Group}
 use Rattle.idl_prep.proofs.WalkLaws.PassLemmas.{continued, coming-act, coming-branch, coming-branch-skipped, coming-endif, coming-endif-skipped, coming-nothing, coming-opening, coming-opening-skipped, coming-skipped, coming-stray, coming-stray-outside, coming-unclosed}
 use Rattle.idl_prep.proofs.WalkLaws.WayLemmas.{arrival-and_then, arrival-then}
 
-module _ (bank : Key → Option Answer) where
+module _ (bank : RootKey → Option RootAnswer) where
   -- after a step that comes to where a query does
   pub onward-then : (query f whole : Said → Expanding Said) (old new : Way) → ended new ≡ onward bank query old → whole old.state ≡ and_then (query old.state) f
       → onward bank f new ≡ onward bank whole old
@@ -36,7 +36,7 @@ module _ (bank : Key → Option Answer) where
       ∙ arrival-then bank (question told.state) (λ b. f b told.state) holds told.progress new.progress came
       ∙ ap (λ (w : Way). arrival bank (and_then (question w.state) (λ b. f b w.state)) w.progress) tells
 
-module _ (bank : Key → Option Answer) (enter : Enter) (file : FileName) (gs : List Group) (l : Line) (lines : List Line) (alone : before l (part lines) ≡ grown (Leaf l) (part lines)) where
+module _ (bank : RootKey → Option RootAnswer) (enter : Enter) (file : FileName) (gs : List Group) (l : Line) (lines : List Line) (alone : before l (part lines) ≡ grown (Leaf l) (part lines)) where
   -- a line that is walked
   pub to_come-act : (old new : Way) → is_walked gs ≡ true → ended new ≡ onward bank (effect enter file l) old → to_come bank enter file gs lines new ≡ to_come bank enter file gs (l ∷ lines) old
   to_come-act old new walked came =
@@ -53,7 +53,7 @@ module _ (bank : Key → Option Answer) (enter : Enter) (file : FileName) (gs : 
   pub to_come-skipped : (way : Way) → is_walked gs ≡ false → to_come bank enter file gs lines way ≡ to_come bank enter file gs (l ∷ lines) way
   to_come-skipped way skipped = ap (λ q. arrival bank q way.progress) (sym (coming-skipped enter file gs l lines way.state alone skipped))
 
-module _ (bank : Key → Option Answer) (enter : Enter) (file : FileName) (d : Directive) (lines : List Line) where
+module _ (bank : RootKey → Option RootAnswer) (enter : Enter) (file : FileName) (d : Directive) (lines : List Line) where
   -- a group begins
   pub to_come-opening : (gs made : List Group) (what : Test) (taken : Bool) (old told new : Way) → d.kind ≡ Opening what → is_walked gs ≡ true
       → told ≡ telling (Turn (place_in file d)) old → arrived taken new.progress ≡ arrival bank (test file d what told.state) told.progress → new.state ≡ told.state
@@ -107,7 +107,7 @@ module _ (bank : Key → Option Answer) (enter : Enter) (file : FileName) (d : D
       onward-then bank (visit_tree enter file true (Stray d)) (coming enter file [] (part lines)) (coming enter file [] (part (Directed d ∷ lines))) old new came
       (coming-stray-outside enter file d lines old.state of)
 
-module _ (bank : Key → Option Answer) (enter : Enter) (file : FileName) where
+module _ (bank : RootKey → Option RootAnswer) (enter : Enter) (file : FileName) where
   -- the file ends inside a group
   pub to_come-unclosed : (g : Group) (gs : List Group) (old new : Way) → new ≡ telling (not_closed file g.opener) old
       → to_come bank enter file gs [] new ≡ to_come bank enter file (g ∷ gs) [] old

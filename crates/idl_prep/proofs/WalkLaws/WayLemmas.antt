@@ -8,10 +8,10 @@ use Rattle.idl_event.specs.Items.{rules}
 use Rattle.idl_event.specs.Key.{key_eq}
 use Rattle.idl_event.specs.Expanding.{Expanding, Reached, arrival, arrived, reached}
 use Rattle.idl_event.specs.declared.told.allowance.Allowance.{Allowance}
-use Rattle.idl_event.specs.declared.asked.key.Answer.{Answer}
-use Rattle.idl_event.specs.declared.asked.key.Key.{Key}
+use Rattle.idl_event.specs.declared.asked.key.RootAnswer.{RootAnswer}
+use Rattle.idl_event.specs.declared.asked.key.RootKey.{RootKey}
 
-module _ (bank : Key → Option Answer) where
+module _ (bank : RootKey → Option RootAnswer) where
   -- once a limit was passed nothing changes
   pub arrival-over : {A : Type 0} (query : Expanding A) (p : Reached) → p.left ≡ None → arrival bank query p ≡ (p, None)
   arrival-over query p over =

@@ -5,12 +5,12 @@ ghost use Rattle.std.specs.Option.{option_copied, option_to_list};
 ghost use Rattle.idl_memo.specs.Progress.{after_key};
 ghost use Rattle.idl_event.specs.Expanding.{arrival, arrived};
 ghost use Rattle.idl_event.specs.Key.{key_eq};
-ghost use Rattle.idl_event.specs.declared.asked.key.Key.TheVariants.{File};
+ghost use Rattle.idl_event.specs.declared.asked.key.RootKey.TheVariants.{File};
 ghost use Rattle.idl_prep.specs.Include.{directories_in, file_in, file_of, first_present, present_along};
 ghost use Rattle.idl_source.specs.names.Path.{joined_path};
 
 use crate::directives::operand::Operand;
-use idl_event::{Answer, Key, LexedFile, Progress, RootBank};
+use idl_event::{LexedFile, Progress, RootAnswer, RootBank, RootKey};
 use idl_fault::FileName;
 use idl_source::path::is_rooted;
 use idl_source::{Directory, join};
@@ -19,12 +19,12 @@ use std::marker::Model;
 
 /// A file that is there: its name, and the file.
 #[derive(Drop)]
-pub struct Found<'b> {
+pub struct FoundFile<'b> {
     pub name: FileName,
     pub file: &'b LexedFile,
 }
 
-impl<'b> Model for Found<'b> {
+impl<'b> Model for FoundFile<'b> {
     ghost use Rattle.idl_prep.specs.Include as spec;
 
     ghost Value = { spec.Found };
@@ -38,7 +38,7 @@ pub fn find<'b, B: RootBank>(
     operand: &Operand,
     bank: &'b B,
     progress: &mut Progress<B>,
-) -> Result<Option<Found<'b>>, AllocError>
+) -> Result<Option<FoundFile<'b>>, AllocError>
     ensures { IfOk result (λ found. arrived found progress.new
         ≡ arrival (B.at bank.now) (file_of from.now operand.now) progress.old) }
 {
@@ -61,11 +61,11 @@ fn present_along<'b, B: RootBank>(
     name: &[u8],
     bank: &'b B,
     progress: &mut Progress<B>,
-) -> Result<Option<Found<'b>>, AllocError>
+) -> Result<Option<FoundFile<'b>>, AllocError>
     ensures { IfOk result (λ found. arrived found progress.new
         ≡ arrival (B.at bank.now) (present_along name.now) progress.old) }
 {
-    let directories = directories_in(progress.ask(&Key::Search, bank)?);
+    let directories = directories_in(progress.ask(&RootKey::Search, bank)?);
     'directories: for directory in directories {
         if let Some(found) = present(directory, name, bank, progress)? {
             return Ok(Some(found));
@@ -80,7 +80,7 @@ fn present<'b, B: RootBank>(
     name: &[u8],
     bank: &'b B,
     progress: &mut Progress<B>,
-) -> Result<Option<Found<'b>>, AllocError>
+) -> Result<Option<FoundFile<'b>>, AllocError>
     ensures { let names = option_to_list (joined_path directory.now name.now) in
         IfOk result (λ found. arrived found progress.new
         ≡ arrival (B.at bank.now) (first_present names) progress.old) }
@@ -90,7 +90,7 @@ fn present<'b, B: RootBank>(
     };
     let name = FileName::new(progress.allocator(), &name)?;
     match file_named(&name, bank, progress)? {
-        Some(file) => Ok(Some(Found { name, file })),
+        Some(file) => Ok(Some(FoundFile { name, file })),
         None => Ok(None),
     }
 }
@@ -106,26 +106,26 @@ pub fn file_named<'b, B: RootBank>(
     ensures progress { OnOk result (progress.new
         ≡ after_key key_eq (B.at bank.now) (File name.now) progress.old) }
 {
-    let answer = progress.ask(&Key::File(name.clone()?), bank)?;
+    let answer = progress.ask(&RootKey::File(name.clone()?), bank)?;
     Ok(file_in(answer))
 }
 
 // The file that is answered, if one is.
-fn file_in(answer: Option<&Answer>) -> Option<&LexedFile>
+fn file_in(answer: Option<&RootAnswer>) -> Option<&LexedFile>
     ensures { option_copied result ≡ file_in (option_copied answer.entry) }
 {
     match answer {
-        Some(Answer::File(file)) => Some(file),
+        Some(RootAnswer::File(file)) => Some(file),
         _ => None,
     }
 }
 
 // The directories that are answered.
-fn directories_in(answer: Option<&Answer>) -> &[Directory]
+fn directories_in(answer: Option<&RootAnswer>) -> &[Directory]
     ensures { result.now ≡ directories_in (option_copied answer.entry) }
 {
     match answer {
-        Some(Answer::Search(directories)) => directories.as_slice(),
+        Some(RootAnswer::Search(directories)) => directories.as_slice(),
         _ => &[],
     }
 }

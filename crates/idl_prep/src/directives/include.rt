@@ -9,7 +9,7 @@ use crate::directives::inclusion::Inclusion;
 use crate::directives::line::Directive;
 use crate::directives::operand::Operand;
 use crate::walk::root::Root;
-use crate::walk::walked_file::Site;
+use crate::walk::walked_file::WalkedFile;
 use idl_event::RootBank;
 use idl_fault::Code;
 use std::alloc::AllocError;
@@ -17,7 +17,7 @@ use std::alloc::AllocError;
 /// `include`: gives the file that is to be entered, if there is one.
 pub fn include<'b, B: RootBank>(
     root: &mut Root<B>,
-    site: &Site<'b, B>,
+    site: &WalkedFile<'b, B>,
     directive: &Directive<'_>,
 ) -> Result<Option<Inclusion<'b>>, AllocError>
     ensures { let bank = B.at site.now.bank.now in IfOk result (λ inclusion. (enter : Enter)
@@ -35,7 +35,7 @@ pub fn include<'b, B: RootBank>(
 // The file of the operand, if it is found and may be entered.
 fn included<'b, B: RootBank>(
     root: &mut Root<B>,
-    site: &Site<'b, B>,
+    site: &WalkedFile<'b, B>,
     directive: &Directive<'_>,
     operand: &Operand,
 ) -> Result<Option<Inclusion<'b>>, AllocError>

@@ -99,19 +99,19 @@ impl<'t> Directive<'t> {
 
 /// A line: tokens of the text, `#` alone on a line with this number, or a directive.
 #[derive(Drop)]
-pub enum Line<'t> {
+pub enum LineKind<'t> {
     Text(FileTokens<'t>),
     NullDirective(u32),
     Directed(Directive<'t>),
 }
 
 /// The line that these tokens are: a directive where the first is `#`.
-pub fn read<'t>(tokens: &FileTokens<'t>) -> Line<'t>
+pub fn read<'t>(tokens: &FileTokens<'t>) -> LineKind<'t>
     ensures { line_of result ≡ read tokens.now }
 {
     match tokens.split_first() {
         Some((hash, rest)) if is_hash(hash.token()) => after_hash(hash.line(), rest),
-        _ => Line::Text(tokens.copied()),
+        _ => LineKind::Text(tokens.copied()),
     }
 }
 
@@ -126,17 +126,17 @@ fn is_hash(token: &Token) -> bool
 }
 
 // The line after a `#` with this number.
-fn after_hash<'t>(line: u32, tokens: FileTokens<'t>) -> Line<'t>
+fn after_hash<'t>(line: u32, tokens: FileTokens<'t>) -> LineKind<'t>
     ensures { line_of result ≡ after_hash line tokens.entry }
 {
     match tokens.split_first() {
-        Some((word, operands)) => Line::Directed(Directive {
+        Some((word, operands)) => LineKind::Directed(Directive {
             kind: DirectiveKind::of(word.token().as_bytes()),
             line,
             word,
             operands,
             tokens,
         }),
-        None => Line::NullDirective(line),
+        None => LineKind::NullDirective(line),
     }
 }

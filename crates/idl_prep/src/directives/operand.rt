@@ -5,7 +5,7 @@ ghost use Rattle.idl_prep.specs.Include.{begins_quoted, inner, is_closed, is_hea
 
 use idl_base::Bytes;
 use idl_lex::Token;
-use idl_lex::kinds::{Defect, Kind};
+use idl_lex::kinds::{Defect, TokenKind};
 use std::alloc::AllocError;
 use std::marker::Model;
 
@@ -88,16 +88,16 @@ fn begins_quoted(bytes: &[u8]) -> bool
     matches!(bytes, [b'"', ..])
 }
 
-fn is_closed(kind: Kind) -> bool
+fn is_closed(kind: TokenKind) -> bool
     ensures { result ≡ is_closed kind }
 {
-    matches!(kind, Kind::String | Kind::Bad(Defect::BadEscape))
+    matches!(kind, TokenKind::String | TokenKind::Bad(Defect::BadEscape))
 }
 
-fn is_header(kind: Kind) -> bool
+fn is_header(kind: TokenKind) -> bool
     ensures { result ≡ is_header_kind kind }
 {
-    matches!(kind, Kind::HeaderName)
+    matches!(kind, TokenKind::HeaderName)
 }
 
 // The bytes between the first and the last.

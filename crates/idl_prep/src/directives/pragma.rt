@@ -9,7 +9,7 @@ ghost use Rattle.idl_prep.specs.State.{ended, onward};
 use crate::directives::line::Directive;
 use crate::walk::root::Root;
 use idl_base::Bytes;
-use idl_event::{Answer, Event, Item, Key, RootBank};
+use idl_event::{Event, Item, RootAnswer, RootBank, RootKey};
 use idl_fault::FileName;
 use idl_text::FileTokens;
 use std::alloc::AllocError;
@@ -20,7 +20,7 @@ pub fn pragma<B: RootBank>(
     file: &FileName,
     directive: &Directive<'_>,
 ) -> Result<(), AllocError>
-    ensures { OnOk result ((bank : Key → Option Answer)
+    ensures { OnOk result ((bank : RootKey → Option RootAnswer)
         → ended root.new ≡ onward bank (λ s. pragma file.now directive.now s) root.old) }
 {
     let Some(word) = first_spelling(directive.operands()) else {

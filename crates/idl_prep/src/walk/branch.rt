@@ -14,8 +14,8 @@ ghost use Rattle.idl_prep.specs.declared.walk.groups.Group as declared;
 use crate::directives::line::Directive;
 use crate::walk::groups::{Group, Opener};
 use crate::walk::root::Root;
-use crate::walk::walked_file::Site;
-use idl_event::{Answer, Key, RootBank};
+use crate::walk::walked_file::WalkedFile;
+use idl_event::{RootAnswer, RootBank, RootKey};
 use idl_fault::FileName;
 use idl_text::Test;
 use std::alloc::AllocError;
@@ -23,7 +23,7 @@ use std::alloc::AllocError;
 /// A group begins in lines that are walked.
 pub fn begin_group<B: RootBank>(
     root: &mut Root<B>,
-    site: &Site<'_, B>,
+    site: &WalkedFile<'_, B>,
     directive: &Directive<'_>,
     what: Test,
 ) -> Result<Group, AllocError>
@@ -64,7 +64,7 @@ pub fn skip_group(directive: &Directive<'_>) -> Result<Group, AllocError>
 pub fn begin_branch<B: RootBank>(
     root: &mut Root<B>,
     group: &mut Group,
-    site: &Site<'_, B>,
+    site: &WalkedFile<'_, B>,
     directive: &Directive<'_>,
 ) -> Result<(), AllocError>
     requires branch { IsBranch directive.now.kind }
@@ -93,7 +93,7 @@ pub fn end_group<B: RootBank>(
     directive: &Directive<'_>,
 ) -> Result<(), AllocError>
     requires { directive.now.kind ≡ Endif }
-    ensures { let file = file.now in OnOk result ((bank : Key → Option Answer) (enter : Enter)
+    ensures { let file = file.now in OnOk result ((bank : RootKey → Option RootAnswer) (enter : Enter)
         (groups : List declared.Group) (lines : List spec.Line)
         → to_come bank enter file groups lines root.new
         ≡ to_come bank enter file (group.now ∷ groups) (Directed directive.now ∷ lines) root.old) }
@@ -108,7 +108,7 @@ pub fn end_group<B: RootBank>(
 // Whether a branch after the first is taken.
 fn decide<B: RootBank>(
     root: &mut Root<B>,
-    site: &Site<'_, B>,
+    site: &WalkedFile<'_, B>,
     directive: &Directive<'_>,
     is_taken: bool,
 ) -> Result<bool, AllocError>

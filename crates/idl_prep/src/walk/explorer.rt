@@ -6,18 +6,18 @@
 //! the expansion asks by itself.
 
 ghost use Rattle.std.specs.Prelude.{◌≡◌, ◌<◌, All, None, IfOk, OnOk, length};
-ghost use Rattle.idl_event.specs.declared.asked.key.Key.TheVariants.{File};
+ghost use Rattle.idl_event.specs.declared.asked.key.RootKey.TheVariants.{File};
 ghost use Rattle.idl_prep.specs.Explore.{StopsAt};
 
-use crate::directives::find::{Found, file_named, find};
-use crate::directives::line::{Directive, Line, read};
+use crate::directives::find::{FoundFile, file_named, find};
+use crate::directives::line::{Directive, LineKind, read};
 use crate::directives::operand::Operand;
 use crate::walk::groups::{Group, is_walked};
 use crate::walk::jump::jump;
 use crate::walk::pass::walk_line;
 use crate::walk::root::Root;
 use crate::walk::root_task::absent;
-use crate::walk::walked_file::Site;
+use crate::walk::walked_file::WalkedFile;
 use idl_base::Stack;
 use idl_event::{Item, LexedFile, Progress, RootBank};
 use idl_fault::{FileName, Place};
@@ -132,7 +132,7 @@ impl<'f> FileWalk<'f> {
         ensures { IfOk result (λ next. StopsAt (B.at bank.now) next) }
     {
         let root = &mut explorer.root;
-        let site = Site {
+        let site = WalkedFile {
             file: self.name,
             bank,
         };
@@ -147,7 +147,7 @@ impl<'f> FileWalk<'f> {
     fn brought<B: RootBank>(
         &mut self,
         root: &Root<B>,
-        site: &Site<'_, B>,
+        site: &WalkedFile<'_, B>,
     ) -> Result<Option<OpenFile>, AllocError> {
         match self.waiting.take() {
             Some(operand) => entered_by(root, site, &operand),
@@ -159,7 +159,7 @@ impl<'f> FileWalk<'f> {
     fn walk_lines<B: RootBank>(
         &mut self,
         root: &mut Root<B>,
-        site: &Site<'_, B>,
+        site: &WalkedFile<'_, B>,
         asking: &mut Progress<B>,
     ) -> Result<Next, AllocError>
         ensures { IfOk result (λ next. StopsAt (B.at site.now.bank.now) next) }
@@ -183,7 +183,7 @@ impl<'f> FileWalk<'f> {
     fn walk_on<B: RootBank>(
         &mut self,
         root: &mut Root<B>,
-        site: &Site<'_, B>,
+        site: &WalkedFile<'_, B>,
         asking: &mut Progress<B>,
     ) -> Result<Option<Operand>, AllocError>
         requires { 0 < length self.old.left }
@@ -207,7 +207,7 @@ impl<'f> FileWalk<'f> {
 // The file that an include of this operand enters, if it is there.
 fn entered_by<B: RootBank>(
     root: &Root<B>,
-    site: &Site<'_, B>,
+    site: &WalkedFile<'_, B>,
     operand: &Operand,
 ) -> Result<Option<OpenFile>, AllocError> {
     let asked = ask(root, site, operand)?;
@@ -218,7 +218,7 @@ fn entered_by<B: RootBank>(
 // one that it enters.
 fn stop_at<B: RootBank>(
     root: &Root<B>,
-    site: &Site<'_, B>,
+    site: &WalkedFile<'_, B>,
     operand: Operand,
     waiting: &mut Option<Operand>,
 ) -> Result<Next, AllocError>
@@ -250,11 +250,11 @@ fn past_limits<B: RootBank>(alloc: Global, file: &FileName) -> Result<Progress<B
 fn walk_one<B: RootBank>(
     root: &mut Root<B>,
     groups: &mut Stack<Group>,
-    site: &Site<'_, B>,
+    site: &WalkedFile<'_, B>,
     tokens: &FileTokens<'_>,
 ) -> Result<Option<Operand>, AllocError> {
     match read(tokens) {
-        Line::Directed(directive) if is_include(&directive) && is_walked(groups) => {
+        LineKind::Directed(directive) if is_include(&directive) && is_walked(groups) => {
             root.turn(site.file, &directive)?;
             let operand = root.operand_of(site, &directive)?;
             if root.is_over() {
@@ -278,13 +278,13 @@ fn is_include(directive: &Directive<'_>) -> bool {
 #[derive(Drop)]
 struct Asked<'b> {
     absent: Vec<Name>,
-    found: Option<Found<'b>>,
+    found: Option<FoundFile<'b>>,
 }
 
 // What an include of this operand asks for.
 fn ask<'b, B: RootBank>(
     root: &Root<B>,
-    site: &Site<'b, B>,
+    site: &WalkedFile<'b, B>,
     operand: &Operand,
 ) -> Result<Asked<'b>, AllocError>
     ensures { let bank = B.at site.now.bank.now in
@@ -301,10 +301,10 @@ fn ask<'b, B: RootBank>(
 // The file that is entered where this one is found, if it is.
 fn entered<B: RootBank>(
     root: &Root<B>,
-    found: Option<Found<'_>>,
+    found: Option<FoundFile<'_>>,
 ) -> Result<Option<OpenFile>, AllocError> {
     match found {
-        Some(Found { name, file }) if !root.is_once(&name) => {
+        Some(FoundFile { name, file }) if !root.is_once(&name) => {
             let file = file.clone()?;
             Ok(Some(OpenFile { name, file }))
         }

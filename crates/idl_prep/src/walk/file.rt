@@ -9,7 +9,7 @@ use crate::directives::inclusion::Inclusion;
 use crate::walk::jump::jump;
 use crate::walk::pass::{end_file, walk_line, walk_texts};
 use crate::walk::root::Root;
-use crate::walk::walked_file::Site;
+use crate::walk::walked_file::WalkedFile;
 use idl_base::Stack;
 use idl_event::{Event, Item, LexedFile, RootBank};
 use std::alloc::AllocError;
@@ -19,7 +19,7 @@ use std::alloc::AllocError;
 pub fn walk_file<B: RootBank>(
     root: &mut Root<B>,
     room: usize,
-    site: &Site<'_, B>,
+    site: &WalkedFile<'_, B>,
     file: &LexedFile,
 ) -> Result<(), AllocError>
     ensures { let walk = walk_file (enter room) site.now.file.now file.now in
@@ -66,7 +66,7 @@ fn enter_file<B: RootBank>(
     }
     let file = &inclusion.name;
     root.tell(Item::Kept(Event::Entered(file.clone()?)))?;
-    walk_file(root, room - 1, &Site { file, bank }, inclusion.file)?;
+    walk_file(root, room - 1, &WalkedFile { file, bank }, inclusion.file)?;
     root.tell(Item::Kept(Event::Left(file.clone()?)))?;
     Ok(())
 }

@@ -10,7 +10,7 @@ ghost use Rattle.idl_prep.specs.Told.{code_of, told};
 use crate::walk::groups::{Group, innermost, is_walked};
 use crate::walk::root::Root;
 use idl_base::Stack;
-use idl_event::{Answer, Key, RootBank};
+use idl_event::{RootAnswer, RootBank, RootKey};
 use idl_fault::{Code, FileName, Place};
 use idl_text::{GroupFault, LinesLeft, Misplaced};
 use std::alloc::AllocError;
@@ -24,7 +24,7 @@ pub fn jump<'t, B: RootBank>(
     left: LinesLeft<'t>,
 ) -> Result<LinesLeft<'t>, AllocError>
     ensures to_come { let file = file.now in let groups = groups.now in
-        IfOk result (λ rest. (bank : Key → Option Answer) (enter : Enter)
+        IfOk result (λ rest. (bank : RootKey → Option RootAnswer) (enter : Enter)
         → to_come bank enter file groups (lines_from rest) root.new
         ≡ to_come bank enter file groups (lines_from left.entry) root.old) }
     ensures shorter { IfOk result (λ rest. length rest ≤ length left.entry) }
@@ -44,7 +44,7 @@ fn jump_over<'t, B: RootBank>(
     left: LinesLeft<'t>,
 ) -> Result<LinesLeft<'t>, AllocError>
     ensures to_come { let file = file.now in let groups = groups.now in
-        IfOk result (λ rest. (bank : Key → Option Answer) (enter : Enter)
+        IfOk result (λ rest. (bank : RootKey → Option RootAnswer) (enter : Enter)
         → to_come bank enter file groups (lines_from rest) root.new
         ≡ to_come bank enter file groups (lines_from left.entry) root.old) }
     ensures shorter { IfOk result (λ rest. length rest ≤ length left.entry) }
@@ -68,7 +68,7 @@ fn tell_faults<B: RootBank>(
     file: &FileName,
     faults: &[GroupFault],
 ) -> Result<(), AllocError>
-    ensures { OnOk result ((bank : Key → Option Answer)
+    ensures { OnOk result ((bank : RootKey → Option RootAnswer)
         → ended root.new ≡ onward bank (told file.now faults.now) root.old) }
 {
     'faults: for fault in faults {

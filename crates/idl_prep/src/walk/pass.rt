@@ -12,15 +12,15 @@ ghost use Rattle.idl_prep.specs.Pass.{coming, entered, to_come};
 ghost use Rattle.idl_prep.specs.State.{ended, onward};
 
 use crate::directives::inclusion::Inclusion;
-use crate::directives::line::{Directive, Line, read};
+use crate::directives::line::{Directive, LineKind, read};
 use crate::walk::branch::{begin_branch, begin_group, end_group, skip_group};
 use crate::walk::groups::{Group, is_walked};
 use crate::walk::perform::{act_bare, act_directive, act_text};
 use crate::walk::root::Root;
 use crate::walk::stray::{stray_inside, stray_outside};
-use crate::walk::walked_file::Site;
+use crate::walk::walked_file::WalkedFile;
 use idl_base::Stack;
-use idl_event::{Answer, Key, RootBank};
+use idl_event::{RootAnswer, RootBank, RootKey};
 use idl_fault::{Code, FileName, Place};
 use idl_text::{DirectiveKind, FileTokens};
 use std::alloc::AllocError;
@@ -29,7 +29,7 @@ use std::alloc::AllocError;
 pub fn walk_line<'b, B: RootBank>(
     root: &mut Root<B>,
     groups: &mut Stack<Group>,
-    site: &Site<'b, B>,
+    site: &WalkedFile<'b, B>,
     tokens: &FileTokens<'_>,
 ) -> Result<Option<Inclusion<'b>>, AllocError>
     ensures { let bank = B.at site.now.bank.now in let file = site.now.file.now in
@@ -39,15 +39,15 @@ pub fn walk_line<'b, B: RootBank>(
         ≡ to_come bank enter file groups.old (spec.read tokens.now ∷ lines) root.old) }
 {
     match read(tokens) {
-        Line::Text(text) => {
+        LineKind::Text(text) => {
             walk_text(root, groups, site, &text)?;
             Ok(None)
         }
-        Line::NullDirective(line) => {
+        LineKind::NullDirective(line) => {
             walk_bare(root, groups, site.file, line)?;
             Ok(None)
         }
-        Line::Directed(directive) => walk_directive(root, groups, site, &directive),
+        LineKind::Directed(directive) => walk_directive(root, groups, site, &directive),
     }
 }
 
@@ -55,7 +55,7 @@ pub fn walk_line<'b, B: RootBank>(
 pub fn walk_texts<B: RootBank>(
     root: &mut Root<B>,
     groups: &Stack<Group>,
-    site: &Site<'_, B>,
+    site: &WalkedFile<'_, B>,
     tokens: &FileTokens<'_>,
 ) -> Result<(), AllocError>
     ensures { let bank = B.at site.now.bank.now in let file = site.now.file.now in
@@ -74,7 +74,7 @@ pub fn walk_texts<B: RootBank>(
 fn walk_text<B: RootBank>(
     root: &mut Root<B>,
     groups: &Stack<Group>,
-    site: &Site<'_, B>,
+    site: &WalkedFile<'_, B>,
     tokens: &FileTokens<'_>,
 ) -> Result<(), AllocError>
     ensures { let bank = B.at site.now.bank.now in let file = site.now.file.now in
@@ -96,7 +96,7 @@ fn walk_bare<B: RootBank>(
     file: &FileName,
     line: u32,
 ) -> Result<(), AllocError>
-    ensures { OnOk result ((bank : Key → Option Answer) (enter : Enter) (lines : List spec.Line)
+    ensures { OnOk result ((bank : RootKey → Option RootAnswer) (enter : Enter) (lines : List spec.Line)
         → to_come bank enter file.now groups.now lines root.new
         ≡ to_come bank enter file.now groups.now (NullDirective line ∷ lines) root.old) }
 {
@@ -111,7 +111,7 @@ fn walk_bare<B: RootBank>(
 fn walk_directive<'b, B: RootBank>(
     root: &mut Root<B>,
     groups: &mut Stack<Group>,
-    site: &Site<'b, B>,
+    site: &WalkedFile<'b, B>,
     directive: &Directive<'_>,
 ) -> Result<Option<Inclusion<'b>>, AllocError>
     ensures { let bank = B.at site.now.bank.now in let file = site.now.file.now in
@@ -149,7 +149,7 @@ fn walk_directive<'b, B: RootBank>(
 fn walk_branch<B: RootBank>(
     root: &mut Root<B>,
     groups: &mut Stack<Group>,
-    site: &Site<'_, B>,
+    site: &WalkedFile<'_, B>,
     directive: &Directive<'_>,
 ) -> Result<(), AllocError>
     requires { IsBranch directive.now.kind }
@@ -184,7 +184,7 @@ fn walk_endif<B: RootBank>(
     directive: &Directive<'_>,
 ) -> Result<(), AllocError>
     requires { directive.now.kind ≡ Endif }
-    ensures { OnOk result ((bank : Key → Option Answer) (enter : Enter) (lines : List spec.Line)
+    ensures { OnOk result ((bank : RootKey → Option RootAnswer) (enter : Enter) (lines : List spec.Line)
         → to_come bank enter file.now groups.new lines root.new
         ≡ to_come bank enter file.now groups.old (Directed directive.now ∷ lines) root.old) }
 {
@@ -206,7 +206,7 @@ pub fn end_file<B: RootBank>(
     mut groups: Stack<Group>,
     file: &FileName,
 ) -> Result<(), AllocError>
-    ensures { OnOk result ((enter : Enter) (bank : Key → Option Answer)
+    ensures { OnOk result ((enter : Enter) (bank : RootKey → Option RootAnswer)
         → ended root.new ≡ to_come bank enter file.now groups [] root.old) }
 {
     'groups: while let Some(group) = groups.pop() {

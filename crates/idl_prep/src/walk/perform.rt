@@ -18,8 +18,8 @@ use crate::directives::line::Directive;
 use crate::directives::pragma::pragma;
 use crate::directives::text::parted;
 use crate::walk::root::Root;
-use crate::walk::walked_file::Site;
-use idl_event::{Answer, Item, Key, RootBank};
+use crate::walk::walked_file::WalkedFile;
+use idl_event::{Item, RootAnswer, RootBank, RootKey};
 use idl_fault::{Code, FileName, Place};
 use idl_text::{FileTokens, Plain};
 use std::alloc::AllocError;
@@ -28,7 +28,7 @@ use std::alloc::AllocError;
 #[tactic(auto, unfolding(crate::specs::Directive::effect))]
 pub fn act_text<B: RootBank>(
     root: &mut Root<B>,
-    site: &Site<'_, B>,
+    site: &WalkedFile<'_, B>,
     tokens: &FileTokens<'_>,
 ) -> Result<(), AllocError>
     ensures { let bank = B.at site.now.bank.now in OnOk result ((enter : Enter)
@@ -46,7 +46,7 @@ pub fn act_bare<B: RootBank>(
     file: &FileName,
     line: u32,
 ) -> Result<(), AllocError>
-    ensures { OnOk result ((enter : Enter) (bank : Key → Option Answer)
+    ensures { OnOk result ((enter : Enter) (bank : RootKey → Option RootAnswer)
         → ended root.new ≡ onward bank (effect enter file.now (NullDirective line)) root.old) }
 {
     root.tell(Item::Turn(Place {
@@ -59,7 +59,7 @@ pub fn act_bare<B: RootBank>(
 /// A directive of one line, which isn't skipped: gives the file that is to be entered, if there is one.
 pub fn act_directive<'b, B: RootBank>(
     root: &mut Root<B>,
-    site: &Site<'b, B>,
+    site: &WalkedFile<'b, B>,
     directive: &Directive<'_>,
     what: Plain,
 ) -> Result<Option<Inclusion<'b>>, AllocError>

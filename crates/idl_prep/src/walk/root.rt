@@ -11,7 +11,7 @@ ghost use Rattle.idl_event.specs.Items.{beginning};
 ghost use Rattle.idl_event.specs.Expanding.{reached, arrival, arrived};
 ghost use Rattle.idl_macro.specs.Replace.{text};
 ghost use Rattle.idl_event.specs.declared.told.event.Event.TheVariants.{Fault};
-ghost use Rattle.idl_event.specs.declared.asked.key.Key.TheVariants.{File};
+ghost use Rattle.idl_event.specs.declared.asked.key.RootKey.TheVariants.{File};
 ghost use Rattle.idl_event.specs.declared.told.event.Item.TheVariants.{Kept, Turn};
 ghost use Rattle.idl_prep.specs.Place.{place_in};
 ghost use Rattle.idl_prep.specs.State.{ended, nothing_said, onward, telling};
@@ -20,13 +20,15 @@ ghost use Rattle.idl_prep.specs.Directive.{redefined, test};
 ghost use Rattle.idl_memo.specs.Query.{and_then};
 ghost use Rattle.idl_macro.specs.Directives.{define, undef};
 
-use crate::directives::find::{Found, file_named, find};
+use crate::directives::find::{FoundFile, file_named, find};
 use crate::directives::line::Directive;
 use crate::directives::operand::Operand;
 use crate::directives::replaced_operand::operand_of;
-use crate::walk::walked_file::Site;
+use crate::walk::walked_file::WalkedFile;
 use idl_base::Bytes;
-use idl_event::{Answer, Event, ExpansionBuilder, Item, Key, LexedFile, Progress, RootBank};
+use idl_event::{
+    Event, ExpansionBuilder, Item, LexedFile, Progress, RootAnswer, RootBank, RootKey,
+};
 use idl_fault::{Code, FileName, Place};
 use idl_macro::{Definitions, Macros, condition, define, ifdef, ifndef, replace_text, undef};
 use idl_memo::Log;
@@ -155,7 +157,11 @@ impl<B: RootBank> Root<B> {
     }
 
     /// The tokens of a text, in which macros are replaced.
-    pub fn emit(&mut self, site: &Site<'_, B>, tokens: &FileTokens<'_>) -> Result<(), AllocError>
+    pub fn emit(
+        &mut self,
+        site: &WalkedFile<'_, B>,
+        tokens: &FileTokens<'_>,
+    ) -> Result<(), AllocError>
         ensures { let query = text site.now.file.now self.old.state.definitions tokens.now in
             let reached = reached (B.at site.now.bank.now) query self.old.progress in
             OnOk result (self.new ≡ record self.old { progress = reached }) }
@@ -170,7 +176,7 @@ impl<B: RootBank> Root<B> {
     /// past its limits.
     pub fn emit_unlogged(
         &mut self,
-        site: &Site<'_, B>,
+        site: &WalkedFile<'_, B>,
         tokens: &FileTokens<'_>,
         asking: &mut Progress<B>,
     ) -> Result<(), AllocError> {
@@ -184,7 +190,7 @@ impl<B: RootBank> Root<B> {
     // Whether these tokens stand for themselves.
     fn is_plain(
         &self,
-        site: &Site<'_, B>,
+        site: &WalkedFile<'_, B>,
         tokens: &FileTokens<'_>,
         asking: &mut Progress<B>,
     ) -> Result<bool, AllocError> {
@@ -204,7 +210,7 @@ impl<B: RootBank> Root<B> {
     /// Whether the first lines of a group are taken that a directive opens.
     pub fn test(
         &mut self,
-        site: &Site<'_, B>,
+        site: &WalkedFile<'_, B>,
         directive: &Directive<'_>,
         what: Test,
     ) -> Result<bool, AllocError>
@@ -228,7 +234,7 @@ impl<B: RootBank> Root<B> {
     /// The operand of an `include`.
     pub fn operand_of(
         &mut self,
-        site: &Site<'_, B>,
+        site: &WalkedFile<'_, B>,
         directive: &Directive<'_>,
     ) -> Result<Option<Operand>, AllocError>
         ensures arrival { let place = place_in site.now.file.now directive.now in
@@ -248,9 +254,9 @@ impl<B: RootBank> Root<B> {
     /// The file that an operand finds.
     pub fn find<'b>(
         &mut self,
-        site: &Site<'b, B>,
+        site: &WalkedFile<'b, B>,
         operand: &Operand,
-    ) -> Result<Option<Found<'b>>, AllocError>
+    ) -> Result<Option<FoundFile<'b>>, AllocError>
         ensures arrival { let query = file_of site.now.file.now operand.now in
             IfOk result (λ found. arrived found self.new.progress
             ≡ arrival (B.at site.now.bank.now) query self.old.progress) }
@@ -262,7 +268,7 @@ impl<B: RootBank> Root<B> {
     /// `define`.
     pub fn define(
         &mut self,
-        site: &Site<'_, B>,
+        site: &WalkedFile<'_, B>,
         directive: &Directive<'_>,
     ) -> Result<(), AllocError>
         ensures { let d = directive.now in let place = place_in site.now.file.now d in
@@ -283,7 +289,7 @@ impl<B: RootBank> Root<B> {
     /// `undef`.
     pub fn undef(&mut self, file: &FileName, directive: &Directive<'_>) -> Result<(), AllocError>
         ensures { let d = directive.now in let place = place_in file.now d in
-            OnOk result ((bank : Key → Option Answer) → ended self.new ≡ onward bank
+            OnOk result ((bank : RootKey → Option RootAnswer) → ended self.new ≡ onward bank
             (λ s. and_then (undef place d.word.token s.definitions d.operands) (redefined s))
             self.old) }
     {

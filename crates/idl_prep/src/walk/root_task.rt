@@ -14,8 +14,8 @@ use crate::MAX_DEPTH;
 use crate::directives::text::text_of;
 use crate::walk::file::walk_file;
 use crate::walk::root::Root;
-use crate::walk::walked_file::Site;
-use idl_event::{Expansion, Key, RootBank};
+use crate::walk::walked_file::WalkedFile;
+use idl_event::{Expansion, RootBank, RootKey};
 use idl_fault::{Code, FileName, Place};
 use idl_memo::{Log, Task, TaskKind};
 use idl_source::Name;
@@ -78,7 +78,7 @@ fn expand<B: RootBank>(root: &mut Root<B>, file: &FileName, bank: &B) -> Result<
 {
     match root.file_named(file, bank)? {
         Some(lexed) => {
-            walk_file(root, MAX_DEPTH - 1, &Site { file, bank }, lexed)?;
+            walk_file(root, MAX_DEPTH - 1, &WalkedFile { file, bank }, lexed)?;
             Ok(())
         }
         None => {
@@ -122,7 +122,7 @@ fn absent_at<B: RootBank>(log: &Log<B>, index: usize) -> Option<&FileName>
         ≡ flat_map spec.absent_file (option_to_list (slice_get log.now index)) }
 {
     match log.get(index) {
-        Some((Key::File(name), None)) => Some(name),
+        Some((RootKey::File(name), None)) => Some(name),
         _ => None,
     }
 }

@@ -12,7 +12,7 @@ ghost use Rattle.idl_prep.specs.declared.walk.groups.Group as declared;
 use crate::directives::line::Directive;
 use crate::walk::groups::Group;
 use crate::walk::root::Root;
-use idl_event::{Answer, Key, RootBank};
+use idl_event::{RootAnswer, RootBank, RootKey};
 use idl_fault::{Code, FileName};
 use std::alloc::AllocError;
 
@@ -25,7 +25,7 @@ pub fn stray_inside<B: RootBank>(
 ) -> Result<(), AllocError>
     requires branch { IsBranch directive.now.kind }
     requires has_else { group.now.has_else ≡ true }
-    ensures { let file = file.now in OnOk result ((bank : Key → Option Answer) (enter : Enter)
+    ensures { let file = file.now in OnOk result ((bank : RootKey → Option RootAnswer) (enter : Enter)
         (groups : List declared.Group) (lines : List spec.Line)
         → to_come bank enter file (group.now ∷ groups) lines root.new
         ≡ to_come bank enter file (group.now ∷ groups) (Directed directive.now ∷ lines) root.old) }
@@ -41,7 +41,7 @@ pub fn stray_outside<B: RootBank>(
     directive: &Directive<'_>,
 ) -> Result<(), AllocError>
     requires { IsOfGroup directive.now.kind }
-    ensures { OnOk result ((bank : Key → Option Answer) (enter : Enter) (lines : List spec.Line)
+    ensures { OnOk result ((bank : RootKey → Option RootAnswer) (enter : Enter) (lines : List spec.Line)
         → to_come bank enter file.now [] lines root.new
         ≡ to_come bank enter file.now [] (Directed directive.now ∷ lines) root.old) }
 {
@@ -57,7 +57,7 @@ fn stray<B: RootBank>(
     file: &FileName,
     directive: &Directive<'_>,
 ) -> Result<(), AllocError>
-    ensures { OnOk result ((bank : Key → Option Answer) (enter : Enter) → ended root.new
+    ensures { OnOk result ((bank : RootKey → Option RootAnswer) (enter : Enter) → ended root.new
         ≡ onward bank (visit_tree enter file.now is_active (Stray directive.now)) root.old) }
 {
     if is_active {

@@ -14,7 +14,7 @@ use crate::compiling::compiled::Row;
 use crate::compiling::finding::{EventFinding, Spelled, push_fault};
 use crate::kept::kept_units::KeptEntry;
 use crate::kept::reprinting::Reprinting;
-use idl_base::{Shared, Span, push_texts};
+use idl_base::{ByteRange, Shared, push_texts};
 use idl_entity::Path;
 use idl_env::{Addition, Env, Facts};
 use idl_fault::Code;
@@ -118,7 +118,7 @@ impl<'e> Drop for Sought<'e> {
 #[derive(Drop)]
 struct Written {
     bytes: Vec<u8>,
-    spans: Vec<Span>,
+    spans: Vec<ByteRange>,
 }
 
 /// What comes of each of these names over an environment. Nothing is kept of them.
@@ -317,7 +317,7 @@ impl Written {
         let Pushed { has_row, fault } = name.push_entry(&mut self.bytes)?;
         if has_row {
             let to = self.bytes.len();
-            self.spans.push(Span { from, to })?;
+            self.spans.push(ByteRange { from, to })?;
         }
         Ok(fault)
     }

@@ -15,13 +15,13 @@ use std::rc::Rc;
 
 /// A file under its name.
 #[derive(Drop)]
-pub struct Entry {
+pub struct NamedFile {
     pub name: Name,
     pub file: File,
 }
 
 /// The place of the entry with this name, or the place where it would stand.
-pub fn place_of(entries: &[Rc<Entry>], name: &[u8]) -> Result<usize, usize>
+pub fn place_of(entries: &[Rc<NamedFile>], name: &[u8]) -> Result<usize, usize>
     // The files keep them so.
     requires { IsTrue (is_sorted (slice_cmp nat_cmp) (entries_of entries.now)) }
     ensures found { IfOk result (IsAt entries.now name.now) }
@@ -32,9 +32,9 @@ pub fn place_of(entries: &[Rc<Entry>], name: &[u8]) -> Result<usize, usize>
 
 /// The entries with one more at its place, or with one in place of that of its name. They share the other ones.
 pub fn entries_with(
-    entries: &Vec<Rc<Entry>>,
-    entry: Rc<Entry>,
-) -> Result<Vec<Rc<Entry>>, AllocError>
+    entries: &Vec<Rc<NamedFile>>,
+    entry: Rc<NamedFile>,
+) -> Result<Vec<Rc<NamedFile>>, AllocError>
     // The files keep them so.
     requires { IsTrue (is_sorted (slice_cmp nat_cmp) (entries_of entries.now.items)) }
     ensures { IfOk result
@@ -56,7 +56,10 @@ pub fn entries_with(
 }
 
 /// The entries without the one at this place. They share the other ones.
-pub fn entries_without(entries: &Vec<Rc<Entry>>, place: usize) -> Result<Vec<Rc<Entry>>, AllocError>
+pub fn entries_without(
+    entries: &Vec<Rc<NamedFile>>,
+    place: usize,
+) -> Result<Vec<Rc<NamedFile>>, AllocError>
     requires { place < length entries.now.items }
     ensures { IfOk result
         (λ without. entries_of without.items ≡ without_at (entries_of entries.now.items) place) }
@@ -67,7 +70,7 @@ pub fn entries_without(entries: &Vec<Rc<Entry>>, place: usize) -> Result<Vec<Rc<
 }
 
 // How the entry's name stands to this one.
-fn compared(entry: &Rc<Entry>, name: &[u8]) -> Ordering
+fn compared(entry: &Rc<NamedFile>, name: &[u8]) -> Ordering
     ensures { result ≡ slice_cmp nat_cmp entry.now.value.name name.now }
 {
     entry.name.as_bytes().cmp(&name)

@@ -11,7 +11,7 @@ ghost use Rattle.idl_source.specs.texts.Texts.{after_put, after_remove, after_sp
 use crate::names::name::Name;
 use crate::names::span::Span;
 use crate::refusal::Refusal;
-use crate::texts::entries::{Entry, entries_with, entries_without, place_of};
+use crate::texts::entries::{NamedFile, entries_with, entries_without, place_of};
 use crate::texts::file::File;
 use crate::texts::line::Line;
 use crate::{MAX_FILES, MAX_LINE, MAX_LINES};
@@ -24,7 +24,7 @@ use std::rc::Rc;
 /// A look-up takes time that grows with the logarithm of their number, and an edit copies pointers alone.
 #[derive(Drop)]
 pub struct Files {
-    entries: Vec<Rc<Entry>>,
+    entries: Vec<Rc<NamedFile>>,
 }
 
 impl Model for Files {
@@ -151,7 +151,7 @@ impl Files {
     {
         let alloc = *self.entries.allocator();
         let file = File::new(alloc, lines)?;
-        let entry = Rc::new(alloc, Entry { name, file })?;
+        let entry = Rc::new(alloc, NamedFile { name, file })?;
         let entries = entries_with(&self.entries, entry)?;
         Ok(Files { entries })
     }

@@ -6,7 +6,7 @@ ghost use Rattle.idl_base.specs.Spans.{pieces};
 ghost use Rattle.idl_source.specs.texts.Lines.{AreLines};
 
 use crate::texts::line::Line;
-use idl_base::{Bytes, Span};
+use idl_base::{ByteRange, Bytes};
 use std::alloc::{AllocError, Global};
 use std::marker::Model;
 use std::rc::RcSlice;
@@ -21,7 +21,7 @@ pub struct Lines {
     lines: Vec<Line>,
     // The bytes of the last lines, and where among them each of these stands.
     bytes: Vec<u8>,
-    spans: Vec<Span>,
+    spans: Vec<ByteRange>,
 }
 
 impl Model for Lines {
@@ -67,7 +67,7 @@ impl Lines {
         let from = self.bytes.len();
         self.bytes.extend_from_slice(line)?;
         let to = self.bytes.len();
-        self.spans.push(Span { from, to })?;
+        self.spans.push(ByteRange { from, to })?;
         Ok(())
     }
 
@@ -96,7 +96,7 @@ impl Lines {
 }
 
 // Puts in the lines that stand among these bytes, which all but the short ones share from now on.
-fn push_pieces(lines: &mut Vec<Line>, bytes: &[u8], spans: &[Span]) -> Result<(), AllocError>
+fn push_pieces(lines: &mut Vec<Line>, bytes: &[u8], spans: &[ByteRange]) -> Result<(), AllocError>
     requires { AreLines bytes.now spans.now }
     ensures { OnOk result (lines.new.items ≡ lines.old.items ++ pieces bytes.now spans.now) }
 {

@@ -16,7 +16,7 @@ use idl_lex::Token;
 use idl_lex::kinds::{Keyword, Mark};
 use idl_tree::Expression;
 use idl_tree::declarations::{
-    BasicType, DataType, DiscreteType, IntegerSize, IntegerType, PlainType, Sequence, StringType,
+    BasicType, DiscreteType, IntegerSize, IntegerType, PlainType, Sequence, StringType, TypeTree,
 };
 use std::alloc::Global;
 
@@ -232,7 +232,7 @@ pub fn data_type(
     alloc: Global,
     depth: usize,
     tokens: &[Token],
-) -> Result<(DataType, &[Token]), SyntaxFault>
+) -> Result<(TypeTree, &[Token]), SyntaxFault>
     ensures reads { Reads (type_at depth) tokens.now result }
     ensures shorter { Advances tokens.now result }
 {
@@ -243,7 +243,7 @@ pub fn data_type(
         return sequence(alloc, depth - 1, tokens);
     }
     let (plain, rest) = plain_type(alloc, depth - 1, tokens)?;
-    Ok((DataType::Plain(plain), rest))
+    Ok((TypeTree::Plain(plain), rest))
 }
 
 /// A sequence.
@@ -253,7 +253,7 @@ fn sequence(
     alloc: Global,
     depth: usize,
     tokens: &[Token],
-) -> Result<(DataType, &[Token]), SyntaxFault>
+) -> Result<(TypeTree, &[Token]), SyntaxFault>
     ensures reads { Reads (sequence_with (expression_at depth) (type_at depth)) tokens.now result }
     ensures shorter { Advances tokens.now result }
 {
@@ -263,5 +263,5 @@ fn sequence(
     let (bound, rest) = sequence_bound(alloc, depth, rest)?;
     let ((element, bound), rest) = closed((element, bound), rest, Mark::Greater)?;
     let sequence = Boxed::new(alloc, Sequence { element, bound })?;
-    Ok((DataType::Sequence(sequence), rest))
+    Ok((TypeTree::Sequence(sequence), rest))
 }

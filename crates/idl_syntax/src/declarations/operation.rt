@@ -19,7 +19,7 @@ use crate::name::raises_if;
 use idl_base::{Boxed, Bytes, Seq};
 use idl_lex::Token;
 use idl_lex::kinds::{Keyword, Mark};
-use idl_tree::declarations::{DataType, Direction, Operation, Parameter};
+use idl_tree::declarations::{Direction, Operation, Parameter, TypeTree};
 use idl_tree::{ScopedName, Several};
 use std::alloc::Global;
 
@@ -116,7 +116,7 @@ fn operation_result(
     alloc: Global,
     depth: usize,
     tokens: &[Token],
-) -> Result<(Option<DataType>, &[Token]), SyntaxFault>
+) -> Result<(Option<TypeTree>, &[Token]), SyntaxFault>
     ensures reads { Reads (result_with (type_at depth)) tokens.now result }
     ensures shorter { Advances tokens.now result }
 {
@@ -215,7 +215,7 @@ pub fn operation(
 fn operation_rest(
     alloc: Global,
     depth: usize,
-    head: ((bool, Option<DataType>), Bytes),
+    head: ((bool, Option<TypeTree>), Bytes),
     tokens: &[Token],
 ) -> Result<(Operation, &[Token]), SyntaxFault>
     ensures reads { Reads (operation_rest_with (type_at depth) head.0.0 head.0.1 head.1)

@@ -5,7 +5,7 @@ ghost use Rattle.idl_text.specs.Line.{directive_kind, words};
 ghost use Rattle.idl_text.specs.Tree.{is_else};
 ghost use Rattle.idl_lex.specs.kinds.WordTable.{entry_of};
 
-use idl_lex::kinds::{Entry, value_of};
+use idl_lex::kinds::{WordEntry, value_of};
 
 /// A directive of one line.
 #[derive(Clone, Copy)]
@@ -41,7 +41,7 @@ pub enum DirectiveKind {
 }
 
 // A directive's word, and its kind.
-const WORDS: [Entry<DirectiveKind>; 13] = [
+const WORDS: [WordEntry<DirectiveKind>; 13] = [
     (b"include", DirectiveKind::Alone(Plain::Include)),
     (b"define", DirectiveKind::Alone(Plain::Define)),
     (b"undef", DirectiveKind::Alone(Plain::Undef)),
@@ -77,7 +77,7 @@ impl DirectiveKind {
 }
 
 #[tactic(auto, unfolding(crate::specs::Line::words))]
-fn table() -> &'static [Entry<DirectiveKind>]
+fn table() -> &'static [WordEntry<DirectiveKind>]
     ensures { map entry_of result.now ≡ words }
 {
     &WORDS

@@ -29,7 +29,7 @@ use Rattle.idl_tree.specs.declared.declarations.construction.MemberType.TheVaria
 use Rattle.idl_tree.specs.declared.declarations.construction.MemberType.TheVariants as member_type
 use Rattle.idl_tree.specs.declared.declarations.construction.Structure.{Structure, roll-Structure}
 use Rattle.idl_tree.specs.declared.declarations.construction.Union.{Union, roll-Union}
-use Rattle.idl_tree.specs.declared.declarations.data_type.DataType.{DataType}
+use Rattle.idl_tree.specs.declared.declarations.data_type.TypeTree.{TypeTree}
 use Rattle.idl_tree.specs.declared.declarations.declarator.Declarator.{Declarator}
 use Rattle.idl_tree.specs.declared.several.Several.{Several}
 use Rattle.idl_tree.specs.declared.unit.Tree.{Tree}
@@ -122,7 +122,7 @@ pub record IsUnionAgain (u : Union) : Type 0 where
 
 -- ---- members and cases
 
-type_member_is_again : (t : DataType) → IsMemberTypeAgain (member_type.Type t)
+type_member_is_again : (t : TypeTree) → IsMemberTypeAgain (member_type.Type t)
 unfolding member_type_with
 type_member_is_again t = record {
   starts = λ rest. ap (λ (w : Lexemes). is_member_start (first (w ++ rest))) (spell_member_type-type t) ∙ type_is_member (first (spell_type t ++ rest)) ((type_is_again t).starts rest);

@@ -25,7 +25,7 @@ use Rattle.idl_tree.specs.declared.declarations.attribute.AttributeRaises.TheVar
 use Rattle.idl_tree.specs.declared.declarations.attribute.ReadonlyAttribute.{ReadonlyAttribute}
 use Rattle.idl_tree.specs.declared.declarations.attribute.ReadonlyNames.{ReadonlyNames}
 use Rattle.idl_tree.specs.declared.declarations.attribute.ReadonlyNames.TheVariants as readonly
-use Rattle.idl_tree.specs.declared.declarations.data_type.DataType.{DataType}
+use Rattle.idl_tree.specs.declared.declarations.data_type.TypeTree.{TypeTree}
 use Rattle.idl_tree.specs.declared.name.ScopedName.{ScopedName}
 use Rattle.idl_tree.specs.declared.declarations.operation.Direction.{Direction}
 use Rattle.idl_tree.specs.declared.declarations.operation.Direction.TheVariants.{In, InOut, Out}
@@ -171,12 +171,12 @@ parameter_later : (p : Parameter) → Later nothing spell_parameter (λ n. param
 unfolding parameter_with
 parameter_later p n le = directed p.direction p.kind p.name le
   where
-    tail : (x : Direction) (t : DataType) (name : List ℕ) → length (spell_type t) < n → (rest : Lexemes) → behind_direction n x ((spell_type t ++ one_token Identifier name) ++ rest) ≡ Ok (passed x t name, rest)
+    tail : (x : Direction) (t : TypeTree) (name : List ℕ) → length (spell_type t) < n → (rest : Lexemes) → behind_direction n x ((spell_type t ++ one_token Identifier name) ++ rest) ≡ Ok (passed x t name, rest)
     tail x t name lt rest =
         then_reads goes_type nothing (spell_type t) (one_token Identifier name) (type_at n) (λ t ts. identifier_at ts >>= λ name. Ok (passed x t name.0, name.1)) t (passed x t name)
         (type_reads t n lt) (λ rest h. refl) (λ rest h. refl) rest refl
 
-    directed : (x : Direction) (t : DataType) (name : List ℕ) → length (spell_parameter (passed x t name)) ≤ n → Reads nothing (spell_parameter (passed x t name)) (parameter_with (type_at n)) (passed x t name)
+    directed : (x : Direction) (t : TypeTree) (name : List ℕ) → length (spell_parameter (passed x t name)) ≤ n → Reads nothing (spell_parameter (passed x t name)) (parameter_with (type_at n)) (passed x t name)
     directed In t name le rest h = tail In t name (omega (arith, le, length-append (spell_type t) (one_token Identifier name))) rest
     directed Out t name le rest h = tail Out t name (omega (arith, le, length-append (spell_type t) (one_token Identifier name))) rest
     directed InOut t name le rest h = tail InOut t name (omega (arith, le, length-append (spell_type t) (one_token Identifier name))) rest
@@ -201,12 +201,12 @@ parameters_read (Some ps) n le rest =
     let opens = ap (λ (w : Lexemes). is_mark mark.CloseParenthesis (first w)) (append_assoc (spell_parameter one) more closed) ∙ parameter_first one.direction (spell_type one.kind ++ one_token Identifier one.name) (more ++ closed) in
     rw opens (ap (λ (o : Result (Several Parameter × Lexemes) ℕ). o >>= λ ps. Ok (Some ps.0, ps.1)) (listed_reads nothing spell_parameter (λ n. parameter_with (type_at n)) refl parameter_later ps n le closed refl))
 
-result_reads : (o : Option DataType) (n : ℕ) → length (spell_result o) < n → Reads goes_type (spell_result o) (result_with (type_at n)) o
+result_reads : (o : Option TypeTree) (n : ℕ) → length (spell_result o) < n → Reads goes_type (spell_result o) (result_with (type_at n)) o
 unfolding result_with
 result_reads None n lt rest h = refl
 result_reads (Some t) n lt rest h =
     rw (type_is_not_void (first (spell_type t ++ rest)) ((type_is_again t).starts rest))
-    (ap (λ (o : Result (DataType × Lexemes) ℕ). o >>= λ t. Ok (Some t.0, t.1)) (type_reads t n lt rest h))
+    (ap (λ (o : Result (TypeTree × Lexemes) ℕ). o >>= λ t. Ok (Some t.0, t.1)) (type_reads t n lt rest h))
   where
     type_is_not_void : (t : Option Lexeme) → is_type_start t ≡ true → is_word word.Void t ≡ false
     type_is_not_void (Some (Word word.Void)) h = absurd cc
@@ -288,7 +288,7 @@ type_is_not_oneway : (t : Option Lexeme) → is_type_start t ≡ true → is_wor
 type_is_not_oneway (Some (Word word.Oneway)) h = absurd cc
 type_is_not_oneway _ h = refl
 
-result_first : (o : Option DataType) (rest : Lexemes) → is_word word.Oneway (first (spell_result o ++ rest)) ≡ false
+result_first : (o : Option TypeTree) (rest : Lexemes) → is_word word.Oneway (first (spell_result o ++ rest)) ≡ false
 result_first None rest = refl
 result_first (Some t) rest = type_is_not_oneway (first (spell_type t ++ rest)) ((type_is_again t).starts rest)
 
@@ -296,7 +296,7 @@ pub operation_reads : (o : Operation) (n : ℕ) → length (spell_operation o) �
 unfolding operation_with
 operation_reads o n le = by_oneway o.is_oneway o.result o.name o.parameters o.raises o.context le
   where
-    by_oneway : (b : Bool) (result : Option DataType) (name : List ℕ) (ps : Option (Several Parameter)) (rs : Option (Several ScopedName)) (xs : Option texts)
+    by_oneway : (b : Bool) (result : Option TypeTree) (name : List ℕ) (ps : Option (Several Parameter)) (rs : Option (Several ScopedName)) (xs : Option texts)
         → length (spell_operation (made_operation b result name ps rs xs)) ≤ n → Reads goes_operation (spell_operation (made_operation b result name ps rs xs)) (operation_with (type_at n)) (made_operation b result name ps rs xs)
     by_oneway true result name ps rs xs le rest h = tail_reads (made_operation true result name ps rs xs) n (omega (arith, le)) rest h
     by_oneway false result name ps rs xs le rest h =

@@ -14,10 +14,10 @@ use Rattle.idl_tree.specs.reading.Reading.{Reader, expect, first, ◌>>=◌}
 use Rattle.idl_tree.specs.reading.Tests.{is_mark, is_word, keyword_of}
 use Rattle.idl_tree.specs.declared.declarations.data_type.BasicType.{BasicType}
 use Rattle.idl_tree.specs.declared.declarations.data_type.BasicType.TheVariants as basic
-use Rattle.idl_tree.specs.declared.declarations.data_type.DataType.{DataType, ind-DataType, map-DataType, roll-DataType}
-use Rattle.idl_tree.specs.declared.declarations.data_type.DataType.TheOpen.{DataType-F}
-use Rattle.idl_tree.specs.declared.declarations.data_type.DataType.TheVariants.{rolls-Plain, rolls-Sequence}
-use Rattle.idl_tree.specs.declared.declarations.data_type.DataType.TheVariants as data_type
+use Rattle.idl_tree.specs.declared.declarations.data_type.TypeTree.{TypeTree, ind-TypeTree, map-TypeTree, roll-TypeTree}
+use Rattle.idl_tree.specs.declared.declarations.data_type.TypeTree.TheOpen.{TypeTree-F}
+use Rattle.idl_tree.specs.declared.declarations.data_type.TypeTree.TheVariants.{rolls-Plain, rolls-Sequence}
+use Rattle.idl_tree.specs.declared.declarations.data_type.TypeTree.TheVariants as data_type
 use Rattle.idl_tree.specs.declared.declarations.data_type.DiscreteType.{DiscreteType}
 use Rattle.idl_tree.specs.declared.declarations.data_type.DiscreteType.TheVariants as discrete
 use Rattle.idl_tree.specs.declared.declarations.data_type.IntegerSize.{IntegerSize}
@@ -222,7 +222,7 @@ plain_is_start t h = h
 -- ---- types in one another
 
 -- a type is read again, and begins so
-pub record IsTypeAgain (t : DataType) : Type 0 where
+pub record IsTypeAgain (t : TypeTree) : Type 0 where
   pub starts : (rest : Lexemes) → is_type_start (first (spell_type t ++ rest)) ≡ true
   pub again : Later goes_type spell_type (λ n. type_at (suc n)) t
 
@@ -255,7 +255,7 @@ limit_parted : (b : Option Expression) → Parted goes_type nothing (spell_seque
 limit_parted None rest h = refl
 limit_parted (Some e) rest h = refl
 
-sequence_direct : (t : DataType) (b : Option Expression) (n : ℕ) → IsTypeAgain t → length (spell_type t ++ spell_sequence_rest b) < n
+sequence_direct : (t : TypeTree) (b : Option Expression) (n : ℕ) → IsTypeAgain t → length (spell_type t ++ spell_sequence_rest b) < n
     → (rest : Lexemes) → type_at (suc n) (Word word.Sequence ∷ Punctuation mark.Less ∷ ((spell_type t ++ spell_sequence_rest b) ++ rest)) ≡ Ok (made_sequence t b, rest)
 unfolding type_at type_with sequence_with
 sequence_direct t b zero is lt rest = absurd (omega (arith, lt))
@@ -268,7 +268,7 @@ sequence_direct t b (suc n) is lt rest =
     (limit_reads b (suc n) (omega (arith, lt, sum, sum2))) (λ rest h. refl) (λ rest h. refl))
     (limit_parted b) rest refl
 
-sequence_is_again : (t : DataType) (b : Option Expression) → IsTypeAgain t → IsTypeAgain (made_sequence t b)
+sequence_is_again : (t : TypeTree) (b : Option Expression) → IsTypeAgain t → IsTypeAgain (made_sequence t b)
 sequence_is_again t b is = record {
   starts = λ rest. ap (λ (w : Lexemes). is_type_start (first (w ++ rest))) (spell_type-sequence t b);
   again = λ n le. spelled_reads goes_type (spell_type (made_sequence t b)) (Word word.Sequence ∷ Punctuation mark.Less ∷ (spell_type t ++ spell_sequence_rest b)) (type_at (suc n)) (made_sequence t b) (spell_type-sequence t b)
@@ -281,15 +281,15 @@ SequenceClaim s = IsTypeAgain (data_type.Sequence s)
 abbrev Such : {X : Type 0} → (X → Type 0) → Type 0
 Such {X} claim = (x : X) × claim x
 
-by_type : (y : DataType-F (Such IsTypeAgain) (Such SequenceClaim)) → IsTypeAgain (roll-DataType (map-DataType (Such IsTypeAgain) (Such SequenceClaim) DataType Sequence (λ t. t.0) (λ s. s.0) y))
-by_type (DataType-F.Plain p) = subst IsTypeAgain (sym (rolls-Plain p)) (plain_is_again p)
-by_type (DataType-F.Sequence s) = subst IsTypeAgain (sym (rolls-Sequence s.0)) s.1
+by_type : (y : TypeTree-F (Such IsTypeAgain) (Such SequenceClaim)) → IsTypeAgain (roll-TypeTree (map-TypeTree (Such IsTypeAgain) (Such SequenceClaim) TypeTree Sequence (λ t. t.0) (λ s. s.0) y))
+by_type (TypeTree-F.Plain p) = subst IsTypeAgain (sym (rolls-Plain p)) (plain_is_again p)
+by_type (TypeTree-F.Sequence s) = subst IsTypeAgain (sym (rolls-Sequence s.0)) s.1
 
-pub type_is_again : (t : DataType) → IsTypeAgain t
-type_is_again = ind-DataType IsTypeAgain SequenceClaim
-    (λ x y is. subst (λ z. IsTypeAgain (roll-DataType z)) is (by_type y))
+pub type_is_again : (t : TypeTree) → IsTypeAgain t
+type_is_again = ind-TypeTree IsTypeAgain SequenceClaim
+    (λ x y is. subst (λ z. IsTypeAgain (roll-TypeTree z)) is (by_type y))
     (λ x y is. subst (λ z. SequenceClaim (roll-Sequence z)) is (sequence_is_again y.element.0 y.bound y.element.1))
 
-pub type_reads : (t : DataType) (n : ℕ) → length (spell_type t) < n → Reads goes_type (spell_type t) (type_at n) t
+pub type_reads : (t : TypeTree) (n : ℕ) → length (spell_type t) < n → Reads goes_type (spell_type t) (type_at n) t
 type_reads t zero lt = absurd (omega (arith, lt))
 type_reads t (suc n) lt = (type_is_again t).again n (omega (arith, lt))

@@ -19,7 +19,7 @@ use Rattle.idl_tree.specs.reading.Tests.{identifier_at, is_mark, keyword_of}
 use Rattle.idl_tree.specs.Unit.{spell, spell_constant, spell_constant_type, spell_exception, spell_typedef}
 use Rattle.idl_tree.specs.declared.declarations.construction.Construction.{Construction}
 use Rattle.idl_tree.specs.declared.declarations.construction.Member.{Member}
-use Rattle.idl_tree.specs.declared.declarations.data_type.DataType.{DataType}
+use Rattle.idl_tree.specs.declared.declarations.data_type.TypeTree.{TypeTree}
 use Rattle.idl_tree.specs.declared.declarations.data_type.DiscreteType.{DiscreteType}
 use Rattle.idl_tree.specs.declared.declarations.data_type.StringType.{StringType}
 use Rattle.idl_tree.specs.declared.expression.Expression.{Expression}
@@ -30,8 +30,8 @@ use Rattle.idl_tree.specs.declared.declarations.operation.Operation.{Operation}
 use Rattle.idl_tree.specs.declared.declarations.operation.Parameter.{Parameter}
 use Rattle.idl_tree.specs.declared.several.Several.{Several}
 use Rattle.idl_tree.specs.declared.unit.Constant.{Constant}
-use Rattle.idl_tree.specs.declared.unit.ConstantType.{ConstantType}
-use Rattle.idl_tree.specs.declared.unit.ConstantType.TheVariants as constant_type
+use Rattle.idl_tree.specs.declared.unit.ConstantTypeTree.{ConstantTypeTree}
+use Rattle.idl_tree.specs.declared.unit.ConstantTypeTree.TheVariants as constant_type
 use Rattle.idl_tree.specs.declared.unit.Exception.{Exception}
 use Rattle.idl_tree.specs.declared.unit.Tree.{Tree}
 use Rattle.idl_tree.specs.declared.unit.Tree.TheVariants as tree
@@ -77,7 +77,7 @@ unfolding constant_type_with
 constant_string true b e rest = refl
 constant_string false b e rest = refl
 
-constant_type_reads : (t : ConstantType) (n : ℕ) → length (spell_constant_type t) ≤ n → Reads goes_type (spell_constant_type t) (constant_type_with (expression_at n)) t
+constant_type_reads : (t : ConstantTypeTree) (n : ℕ) → length (spell_constant_type t) ≤ n → Reads goes_type (spell_constant_type t) (constant_type_with (expression_at n)) t
 constant_type_reads (constant_type.Discrete d) n le rest h = constant_discrete d (expression_at n) rest ∙ ap (λ (o : Result (DiscreteType × Lexemes) ℕ). o >>= λ d. Ok (constant_type.Discrete d.0, d.1)) (discrete_reads d rest h)
 constant_type_reads (constant_type.Name m) n le rest h = constant_name m.is_global m.first m.rest (expression_at n) rest (type_stops (first rest) h).name
 constant_type_reads (constant_type.String s) n le rest h =
@@ -142,7 +142,7 @@ forward_reads (forward.Union name) n rest h = refl
 
 -- ---- operations
 
-type_is_operation : (t : Option Lexeme) → is_type_start t ≡ true → (e : Reader Expression) (r : Reader DataType) (c : Reader Construction) (ts : Lexemes)
+type_is_operation : (t : Option Lexeme) → is_type_start t ≡ true → (e : Reader Expression) (r : Reader TypeTree) (c : Reader Construction) (ts : Lexemes)
     → unit_by e r c (keyword_of t) ts ≡ ended_with tree.Operation (operation_with r) ts
 type_is_operation (Some (Word word.Module)) h e r c ts = absurd cc
 type_is_operation (Some (Word word.Local)) h e r c ts = absurd cc
@@ -171,7 +171,7 @@ operation_first : (o : Operation) (n : ℕ) (rest : Lexemes) → unit_at n (spel
 unfolding unit_at unit_with
 operation_first o n rest = by_parts o.is_oneway o.result o.name o.parameters o.raises o.context
   where
-    by_parts : (b : Bool) (result : Option DataType) (name : List ℕ) (ps : Option (Several Parameter)) (rs : Option (Several ScopedName)) (xs : Option (Several (Several (List ℕ))))
+    by_parts : (b : Bool) (result : Option TypeTree) (name : List ℕ) (ps : Option (Several Parameter)) (rs : Option (Several ScopedName)) (xs : Option (Several (Several (List ℕ))))
         → unit_at n (spell_operation (made_operation b result name ps rs xs) ++ rest) ≡ ended_with tree.Operation (operation_with (type_at n)) (spell_operation (made_operation b result name ps rs xs) ++ rest)
     by_parts true result name ps rs xs = refl
     by_parts false None name ps rs xs = refl

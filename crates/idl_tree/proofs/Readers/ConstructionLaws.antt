@@ -20,7 +20,7 @@ use Rattle.idl_tree.specs.declared.declarations.construction.Label.{Label}
 use Rattle.idl_tree.specs.declared.declarations.construction.Label.TheVariants as label
 use Rattle.idl_tree.specs.declared.declarations.construction.MemberType.{MemberType}
 use Rattle.idl_tree.specs.declared.declarations.construction.MemberType.TheVariants as member_type
-use Rattle.idl_tree.specs.declared.declarations.data_type.DataType.{DataType}
+use Rattle.idl_tree.specs.declared.declarations.data_type.TypeTree.{TypeTree}
 use Rattle.idl_tree.specs.declared.declarations.declarator.Declarator.{Declarator}
 use Rattle.idl_tree.specs.declared.expression.Expression.{Expression}
 use Rattle.idl_tree.specs.declared.several.Several.{Several}
@@ -90,10 +90,10 @@ label_some label.Default = omega arith
 abbrev nested_at : (ℕ → Reader Construction) → ℕ → Reader MemberType
 nested_at rc = mapped_at member_type.Construction rc
 
-abbrev typed_at : (ℕ → Reader DataType) → ℕ → Reader MemberType
+abbrev typed_at : (ℕ → Reader TypeTree) → ℕ → Reader MemberType
 typed_at rt = mapped_at member_type.Type rt
 
-pub member_type_laws : (d N : ℕ) (rt : ℕ → Reader DataType) (rc : ℕ → Reader Construction) → Laws d N same spell_type rt → Laws d N same spell_construction rc → Laws d N same spell_member_type (λ n. member_type_with (rt n) (rc n))
+pub member_type_laws : (d N : ℕ) (rt : ℕ → Reader TypeTree) (rc : ℕ → Reader Construction) → Laws d N same spell_type rt → Laws d N same spell_construction rc → Laws d N same spell_member_type (λ n. member_type_with (rt n) (rc n))
 unfolding member_type_with
 member_type_laws d N rt rc types constructions = shape d N (either member_type.Construction member_type.Type) (either spell_construction spell_type) spell_member_type (λ n ts. cond (begins_construction (first ts)) (nested_at rc n ts) (typed_at rt n ts)) (λ n. member_type_with (rt n) (rc n))
     (either_spells spell_member_type member_type.Construction spell_construction member_type.Type spell_type spell_member_type-construction spell_member_type-type) (λ n ts. refl)
@@ -109,7 +109,7 @@ declarators_at re n = listed_with (declarator_with (re n))
 pub declarators_laws : (d N : ℕ) (re : ℕ → Reader Expression) → Laws (suc d) N same spell_expression re → Laws d N same spell_declarators (declarators_at re)
 declarators_laws d N re laws = listed_laws d N spell_declarator (λ n. declarator_with (re n)) (declarator_laws d N re laws)
 
-pub member_laws : (d N : ℕ) (re : ℕ → Reader Expression) (rt : ℕ → Reader DataType) (rc : ℕ → Reader Construction) → Laws (suc d) N same spell_expression re → Laws d N same spell_type rt → Laws d N same spell_construction rc
+pub member_laws : (d N : ℕ) (re : ℕ → Reader Expression) (rt : ℕ → Reader TypeTree) (rc : ℕ → Reader Construction) → Laws (suc d) N same spell_expression re → Laws d N same spell_type rt → Laws d N same spell_construction rc
     → Laws d N same spell_member (λ n. member_with (re n) (rt n) (rc n))
 unfolding member_with
 member_laws d N re rt rc expressions types constructions = shape d N (λ (p : MemberType × (Several Declarator × Unit {0})). made_member p.0 p.1.0) (λ p. spell_member_type p.0 ++ (spell_declarators p.1.0 ++ Punctuation mark.Semicolon ∷ [])) spell_member
@@ -120,7 +120,7 @@ member_laws d N re rt rc expressions types constructions = shape d N (λ (p : Me
     (λ t. then_laws d N spell_declarators (declarators_at re) (λ (ds : Several Declarator) (u : Unit {0}). made_member t ds) (λ u. Punctuation mark.Semicolon ∷ []) (λ ds. close_at mark.Semicolon (made_member t ds))
     (declarators_laws d N re expressions) (λ ds. close_laws d N mark.Semicolon (made_member t ds))))
 
-pub case_laws : (d N : ℕ) (re : ℕ → Reader Expression) (rt : ℕ → Reader DataType) (rc : ℕ → Reader Construction) → Laws (suc d) N same spell_expression re → Laws d N same spell_type rt → Laws d N same spell_construction rc
+pub case_laws : (d N : ℕ) (re : ℕ → Reader Expression) (rt : ℕ → Reader TypeTree) (rc : ℕ → Reader Construction) → Laws (suc d) N same spell_expression re → Laws d N same spell_type rt → Laws d N same spell_construction rc
     → Laws d N same spell_case (λ n. case_with (re n) (rt n) (rc n))
 unfolding case_with
 case_laws d N re rt rc expressions types constructions =

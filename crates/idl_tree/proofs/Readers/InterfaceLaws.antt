@@ -22,7 +22,7 @@ use Rattle.idl_tree.specs.declared.declarations.attribute.AttributeRaises.TheVar
 use Rattle.idl_tree.specs.declared.declarations.attribute.ReadonlyAttribute.{ReadonlyAttribute}
 use Rattle.idl_tree.specs.declared.declarations.attribute.ReadonlyNames.{ReadonlyNames}
 use Rattle.idl_tree.specs.declared.declarations.attribute.ReadonlyNames.TheVariants as readonly
-use Rattle.idl_tree.specs.declared.declarations.data_type.DataType.{DataType}
+use Rattle.idl_tree.specs.declared.declarations.data_type.TypeTree.{TypeTree}
 use Rattle.idl_tree.specs.declared.name.ScopedName.{ScopedName}
 use Rattle.idl_tree.specs.declared.declarations.operation.Direction.{Direction}
 use Rattle.idl_tree.specs.declared.declarations.operation.Direction.TheVariants.{In, Out, InOut}
@@ -82,14 +82,14 @@ directions_picked = record { example = In; wanted = refl; only = only; again = a
     again Out = refl
     again InOut = refl
 
-pub parameter_laws : (d N : ℕ) (rt : ℕ → Reader DataType) → Laws d N same spell_type rt → Laws d N same spell_parameter (λ n. parameter_with (rt n))
+pub parameter_laws : (d N : ℕ) (rt : ℕ → Reader TypeTree) → Laws d N same spell_type rt → Laws d N same spell_parameter (λ n. parameter_with (rt n))
 unfolding parameter_with
-parameter_laws d N rt types = shape d N (λ (p : Direction × (DataType × List ℕ)). passed p.0 p.1.0 p.1.1) (λ p. one_token direction_token p.0 ++ (spell_type p.1.0 ++ one_token Identifier p.1.1)) spell_parameter (next_at (λ n. pick direction_of) (λ x. next_at rt (λ t. mapped_at (passed x t) (λ n. identifier_at)))) (λ n. parameter_with (rt n)) spells (λ n ts. refl)
-    (then_laws d N (one_token direction_token) (λ n. pick direction_of) (λ (x : Direction) (q : DataType × List ℕ). passed x q.0 q.1) (λ q. spell_type q.0 ++ one_token Identifier q.1) (λ x. next_at rt (λ t. mapped_at (passed x t) (λ n. identifier_at))) (pick_laws d N direction_of direction_token directions_picked)
-    (λ x. then_laws d N spell_type rt (λ (t : DataType) (name : List ℕ). passed x t name) (one_token Identifier) (λ t. mapped_at (passed x t) (λ n. identifier_at)) types
+parameter_laws d N rt types = shape d N (λ (p : Direction × (TypeTree × List ℕ)). passed p.0 p.1.0 p.1.1) (λ p. one_token direction_token p.0 ++ (spell_type p.1.0 ++ one_token Identifier p.1.1)) spell_parameter (next_at (λ n. pick direction_of) (λ x. next_at rt (λ t. mapped_at (passed x t) (λ n. identifier_at)))) (λ n. parameter_with (rt n)) spells (λ n ts. refl)
+    (then_laws d N (one_token direction_token) (λ n. pick direction_of) (λ (x : Direction) (q : TypeTree × List ℕ). passed x q.0 q.1) (λ q. spell_type q.0 ++ one_token Identifier q.1) (λ x. next_at rt (λ t. mapped_at (passed x t) (λ n. identifier_at))) (pick_laws d N direction_of direction_token directions_picked)
+    (λ x. then_laws d N spell_type rt (λ (t : TypeTree) (name : List ℕ). passed x t name) (one_token Identifier) (λ t. mapped_at (passed x t) (λ n. identifier_at)) types
     (λ t. last_laws d N (passed x t) (one_token Identifier) (λ n. identifier_at) (identifier_laws d N))))
   where
-    spells : (p : Direction × (DataType × List ℕ)) → spell_parameter (passed p.0 p.1.0 p.1.1) ≡ one_token direction_token p.0 ++ (spell_type p.1.0 ++ one_token Identifier p.1.1)
+    spells : (p : Direction × (TypeTree × List ℕ)) → spell_parameter (passed p.0 p.1.0 p.1.1) ≡ one_token direction_token p.0 ++ (spell_type p.1.0 ++ one_token Identifier p.1.1)
     spells (In, q) = refl
     spells (Out, q) = refl
     spells (InOut, q) = refl
@@ -180,11 +180,11 @@ attribute_names_laws d N =
 
 -- ---- attributes
 
-pub readonly_attribute_laws : (d N : ℕ) (rt : ℕ → Reader DataType) → Laws (suc (suc d)) N same spell_type rt → Laws d N same spell_readonly_attribute (λ n. readonly_attribute_with (rt n))
+pub readonly_attribute_laws : (d N : ℕ) (rt : ℕ → Reader TypeTree) → Laws (suc (suc d)) N same spell_type rt → Laws d N same spell_readonly_attribute (λ n. readonly_attribute_with (rt n))
 unfolding readonly_attribute_with
 readonly_attribute_laws d N rt types =
     let rest_at : ℕ → Reader ReadonlyAttribute = next_at rt (λ t. mapped_at (made_readonly_attribute t) (λ n. readonly_names_at)) in
-    let value : DataType × ReadonlyNames → ReadonlyAttribute = λ p. made_readonly_attribute p.0 p.1 in
+    let value : TypeTree × ReadonlyNames → ReadonlyAttribute = λ p. made_readonly_attribute p.0 p.1 in
     shape d N value (λ p. Word word.Readonly ∷ Word word.Attribute ∷ (spell_type p.0 ++ spell_readonly_names p.1)) spell_readonly_attribute
     (behind_at (is_word word.Readonly) (behind_at (is_word word.Attribute) rest_at)) (λ n. readonly_attribute_with (rt n)) (λ p. refl) (λ n ts. refl)
     (skip_laws d N (is_word word.Readonly) (Word word.Readonly) value (λ p. Word word.Attribute ∷ (spell_type p.0 ++ spell_readonly_names p.1)) (behind_at (is_word word.Attribute) rest_at) (only_word word.Readonly)
@@ -192,11 +192,11 @@ readonly_attribute_laws d N rt types =
     (then_laws (suc (suc d)) N spell_type rt made_readonly_attribute spell_readonly_names (λ t. mapped_at (made_readonly_attribute t) (λ n. readonly_names_at)) types
     (λ t. last_laws (suc (suc d)) N (made_readonly_attribute t) spell_readonly_names (λ n. readonly_names_at) (readonly_names_laws (suc (suc d)) N)))))
 
-pub attribute_laws : (d N : ℕ) (rt : ℕ → Reader DataType) → Laws (suc d) N same spell_type rt → Laws d N same spell_attribute (λ n. attribute_with (rt n))
+pub attribute_laws : (d N : ℕ) (rt : ℕ → Reader TypeTree) → Laws (suc d) N same spell_type rt → Laws d N same spell_attribute (λ n. attribute_with (rt n))
 unfolding attribute_with
 attribute_laws d N rt types =
     let rest_at : ℕ → Reader Attribute = next_at rt (λ t. mapped_at (made_attribute t) (λ n. attribute_names_at)) in
-    let value : DataType × AttributeNames → Attribute = λ p. made_attribute p.0 p.1 in
+    let value : TypeTree × AttributeNames → Attribute = λ p. made_attribute p.0 p.1 in
     shape d N value (λ p. Word word.Attribute ∷ (spell_type p.0 ++ spell_attribute_names p.1)) spell_attribute
     (behind_at (is_word word.Attribute) rest_at) (λ n. attribute_with (rt n)) (λ p. refl) (λ n ts. refl)
     (skip_laws d N (is_word word.Attribute) (Word word.Attribute) value (λ p. spell_type p.0 ++ spell_attribute_names p.1) rest_at (only_word word.Attribute)

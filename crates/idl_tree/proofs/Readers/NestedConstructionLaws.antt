@@ -22,7 +22,7 @@ use Rattle.idl_tree.specs.declared.declarations.construction.Enumeration.{Enumer
 use Rattle.idl_tree.specs.declared.declarations.construction.Member.{Member}
 use Rattle.idl_tree.specs.declared.declarations.construction.Structure.{Structure}
 use Rattle.idl_tree.specs.declared.declarations.construction.Union.{Union}
-use Rattle.idl_tree.specs.declared.declarations.data_type.DataType.{DataType}
+use Rattle.idl_tree.specs.declared.declarations.data_type.TypeTree.{TypeTree}
 use Rattle.idl_tree.specs.declared.expression.Expression.{Expression}
 use Rattle.idl_tree.specs.declared.several.Several.{Several}
 use Rattle.idl_tree.proofs.Readers.ConstructionLaws.{discriminator_laws, listed_laws, case_laws, member_laws}
@@ -44,7 +44,7 @@ spell_members p = Punctuation mark.OpenBrace ∷ (spell_member p.0 ++ (many_spel
 abbrev pub structure_of : List ℕ → member_parts → Structure
 structure_of name p = made_structure name p.0 p.1.0
 
-pub structure_rest_laws : (d N : ℕ) (re : ℕ → Reader Expression) (rt : ℕ → Reader DataType) (rc : ℕ → Reader Construction)
+pub structure_rest_laws : (d N : ℕ) (re : ℕ → Reader Expression) (rt : ℕ → Reader TypeTree) (rc : ℕ → Reader Construction)
     → Laws (suc d) N same spell_member (λ n. member_with (re n) (rt n) (rc n))
     → (name : List ℕ) → Laws d N (structure_of name) spell_members (λ n. structure_rest_with (re n) (rt n) (rc n) name)
 unfolding structure_rest_with
@@ -58,7 +58,7 @@ structure_rest_laws d N re rt rc members name =
     (λ m. then_laws (suc d) N (many_spell spell_member) more (λ (ms : List Member) (u : Unit {0}). made_structure name m ms) (λ u. Punctuation mark.CloseBrace ∷ []) (λ ms. close_at mark.CloseBrace (made_structure name m ms))
     (many_laws (suc d) N goes_on spell_member one member_some members) (λ ms. close_laws (suc d) N mark.CloseBrace (made_structure name m ms))))
 
-structure_laws : (d N : ℕ) (re : ℕ → Reader Expression) (rt : ℕ → Reader DataType) (rc : ℕ → Reader Construction)
+structure_laws : (d N : ℕ) (re : ℕ → Reader Expression) (rt : ℕ → Reader TypeTree) (rc : ℕ → Reader Construction)
     → Laws (suc (suc d)) N same spell_member (λ n. member_with (re n) (rt n) (rc n)) → Laws d N same spell_structure (λ n. structure_with (re n) (rt n) (rc n))
 unfolding structure_with
 structure_laws d N re rt rc members =
@@ -80,10 +80,10 @@ spell_cases q = Punctuation mark.OpenBrace ∷ (spell_case q.0 ++ (many_spell sp
 abbrev union_by : List ℕ → Discriminator → case_parts → Union
 union_by name discriminator q = made_union name discriminator q.0 q.1.0
 
-abbrev cases_at : (ℕ → Reader Expression) → (ℕ → Reader DataType) → (ℕ → Reader Construction) → List ℕ → Discriminator → ℕ → Reader Union
+abbrev cases_at : (ℕ → Reader Expression) → (ℕ → Reader TypeTree) → (ℕ → Reader Construction) → List ℕ → Discriminator → ℕ → Reader Union
 cases_at re rt rc name discriminator n = cases_with (re n) (rt n) (rc n) name discriminator
 
-cases_laws : (d N : ℕ) (re : ℕ → Reader Expression) (rt : ℕ → Reader DataType) (rc : ℕ → Reader Construction)
+cases_laws : (d N : ℕ) (re : ℕ → Reader Expression) (rt : ℕ → Reader TypeTree) (rc : ℕ → Reader Construction)
     → Laws (suc d) N same spell_case (λ n. case_with (re n) (rt n) (rc n))
     → (name : List ℕ) (x : Discriminator) → Laws d N (union_by name x) spell_cases (cases_at re rt rc name x)
 unfolding cases_with
@@ -106,7 +106,7 @@ spell_switched p = Word word.Switch ∷ Punctuation mark.OpenParenthesis ∷ (sp
 abbrev pub union_of : List ℕ → switch_parts → Union
 union_of name p = union_by name p.0 p.1
 
-pub union_rest_laws : (d N : ℕ) (re : ℕ → Reader Expression) (rt : ℕ → Reader DataType) (rc : ℕ → Reader Construction)
+pub union_rest_laws : (d N : ℕ) (re : ℕ → Reader Expression) (rt : ℕ → Reader TypeTree) (rc : ℕ → Reader Construction)
     → Laws (suc (suc (suc (suc d)))) N same spell_case (λ n. case_with (re n) (rt n) (rc n))
     → (name : List ℕ) → Laws d N (union_of name) spell_switched (λ n. union_rest_with (re n) (rt n) (rc n) name)
 unfolding union_rest_with
@@ -119,7 +119,7 @@ union_rest_laws d N re rt rc cases name =
     (λ x. skip_laws (suc (suc d)) N (is_mark mark.CloseParenthesis) (Punctuation mark.CloseParenthesis) (union_by name x) spell_cases (cases_at re rt rc name x) (only_mark mark.CloseParenthesis)
     (cases_laws (suc (suc (suc d))) N re rt rc cases name x))))
 
-union_laws : (d N : ℕ) (re : ℕ → Reader Expression) (rt : ℕ → Reader DataType) (rc : ℕ → Reader Construction)
+union_laws : (d N : ℕ) (re : ℕ → Reader Expression) (rt : ℕ → Reader TypeTree) (rc : ℕ → Reader Construction)
     → Laws (suc (suc (suc (suc (suc d))))) N same spell_case (λ n. case_with (re n) (rt n) (rc n)) → Laws d N same spell_union (λ n. union_with (re n) (rt n) (rc n))
 unfolding union_with
 union_laws d N re rt rc cases =
@@ -163,17 +163,17 @@ more_room d N zero spell r laws = laws
 more_room d N (suc k) spell r laws = deeper (raised k d) N same spell r (more_room d N k spell r laws)
 
 -- k tokens have been taken, and then another
-pub members_behind : (d N k : ℕ) (re : ℕ → Reader Expression) (rt : ℕ → Reader DataType) (rc : ℕ → Reader Construction) → Laws d N same spell_expression re → Laws d N same spell_type rt → Laws d N same spell_construction rc
+pub members_behind : (d N k : ℕ) (re : ℕ → Reader Expression) (rt : ℕ → Reader TypeTree) (rc : ℕ → Reader Construction) → Laws d N same spell_expression re → Laws d N same spell_type rt → Laws d N same spell_construction rc
     → Laws (raised k d) N same spell_member (λ n. member_with (re n) (rt n) (rc n))
 members_behind d N k re rt rc expressions types constructions =
     member_laws (raised k d) N re rt rc (more_room d N (suc k) spell_expression re expressions) (more_room d N k spell_type rt types) (more_room d N k spell_construction rc constructions)
 
-pub cases_behind : (d N k : ℕ) (re : ℕ → Reader Expression) (rt : ℕ → Reader DataType) (rc : ℕ → Reader Construction) → Laws d N same spell_expression re → Laws d N same spell_type rt → Laws d N same spell_construction rc
+pub cases_behind : (d N k : ℕ) (re : ℕ → Reader Expression) (rt : ℕ → Reader TypeTree) (rc : ℕ → Reader Construction) → Laws d N same spell_expression re → Laws d N same spell_type rt → Laws d N same spell_construction rc
     → Laws (raised k d) N same spell_case (λ n. case_with (re n) (rt n) (rc n))
 cases_behind d N k re rt rc expressions types constructions =
     case_laws (raised k d) N re rt rc (more_room d N (suc k) spell_expression re expressions) (more_room d N k spell_type rt types) (more_room d N k spell_construction rc constructions)
 
-construction_each : (d N : ℕ) (re : ℕ → Reader Expression) (rt : ℕ → Reader DataType) (rc : ℕ → Reader Construction) → Laws (suc d) N same spell_expression re → Laws (suc d) N same spell_type rt → Laws (suc d) N same spell_construction rc
+construction_each : (d N : ℕ) (re : ℕ → Reader Expression) (rt : ℕ → Reader TypeTree) (rc : ℕ → Reader Construction) → Laws (suc d) N same spell_expression re → Laws (suc d) N same spell_type rt → Laws (suc d) N same spell_construction rc
     → (k : Option Keyword) → Laws d N same spell_construction (λ n. construction_by (re n) (rt n) (rc n) k)
 construction_each d N re rt rc expressions types constructions (Some word.Struct) =
     mapped_laws d N construction.Structure spell_structure spell_construction (λ n. structure_with (re n) (rt n) (rc n)) spell_construction-structure (structure_laws d N re rt rc (members_behind (suc d) N 1 re rt rc expressions types constructions))
@@ -182,7 +182,7 @@ construction_each d N re rt rc expressions types constructions (Some word.Union)
 construction_each d N re rt rc expressions types constructions _ =
     mapped_laws d N construction.Enumeration spell_enumeration spell_construction (λ n. enumeration_at) spell_construction-enumeration (enumeration_laws d N)
 
-construction_with_laws : (d N : ℕ) (re : ℕ → Reader Expression) (rt : ℕ → Reader DataType) (rc : ℕ → Reader Construction) → Laws (suc d) N same spell_expression re → Laws (suc d) N same spell_type rt → Laws (suc d) N same spell_construction rc
+construction_with_laws : (d N : ℕ) (re : ℕ → Reader Expression) (rt : ℕ → Reader TypeTree) (rc : ℕ → Reader Construction) → Laws (suc d) N same spell_expression re → Laws (suc d) N same spell_type rt → Laws (suc d) N same spell_construction rc
     → Laws d N same spell_construction (λ n. construction_with (re n) (rt n) (rc n))
 unfolding construction_with
 construction_with_laws d N re rt rc expressions types constructions =

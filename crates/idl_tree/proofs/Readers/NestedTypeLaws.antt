@@ -10,11 +10,11 @@ use Rattle.idl_tree.specs.reading.ReadType.{plain_with, limit_with, made_sequenc
 use Rattle.idl_tree.specs.reading.Reading.{Reader, first}
 use Rattle.idl_tree.specs.reading.Tests.{is_mark, is_word}
 use Rattle.idl_tree.specs.declared.declarations.data_type.BasicType.TheVariants as basic
-use Rattle.idl_tree.specs.declared.declarations.data_type.DataType.{DataType, fold-DataType}
-use Rattle.idl_tree.specs.declared.declarations.data_type.DataType.TheFolds.{fold-roll-DataType, fold-roll-Sequence}
-use Rattle.idl_tree.specs.declared.declarations.data_type.DataType.TheOpen.{DataType-F}
-use Rattle.idl_tree.specs.declared.declarations.data_type.DataType.TheVariants.{rolls-Plain, rolls-Sequence}
-use Rattle.idl_tree.specs.declared.declarations.data_type.DataType.TheVariants as data_type
+use Rattle.idl_tree.specs.declared.declarations.data_type.TypeTree.{TypeTree, fold-TypeTree}
+use Rattle.idl_tree.specs.declared.declarations.data_type.TypeTree.TheFolds.{fold-roll-TypeTree, fold-roll-Sequence}
+use Rattle.idl_tree.specs.declared.declarations.data_type.TypeTree.TheOpen.{TypeTree-F}
+use Rattle.idl_tree.specs.declared.declarations.data_type.TypeTree.TheVariants.{rolls-Plain, rolls-Sequence}
+use Rattle.idl_tree.specs.declared.declarations.data_type.TypeTree.TheVariants as data_type
 use Rattle.idl_tree.specs.declared.declarations.data_type.PlainType.{PlainType}
 use Rattle.idl_tree.specs.declared.declarations.data_type.PlainType.TheVariants as plain
 use Rattle.idl_tree.specs.declared.declarations.data_type.Sequence.{roll-Sequence}
@@ -26,14 +26,14 @@ use Rattle.idl_tree.proofs.Readers.TypeLaws.{plain_laws}
 
 pub spell_type-plain : (p : PlainType) → spell_type (data_type.Plain p) ≡ spell_plain p
 unfolding spell_type
-spell_type-plain p = ap (fold-DataType Lexemes Lexemes data_type_step sequence_step) (sym (rolls-Plain p)) ∙ fold-roll-DataType Lexemes Lexemes data_type_step sequence_step (DataType-F.Plain p)
+spell_type-plain p = ap (fold-TypeTree Lexemes Lexemes data_type_step sequence_step) (sym (rolls-Plain p)) ∙ fold-roll-TypeTree Lexemes Lexemes data_type_step sequence_step (TypeTree-F.Plain p)
 
-pub spell_type-sequence : (t : DataType) (b : Option Expression) → spell_type (made_sequence t b) ≡ Word word.Sequence ∷ Punctuation mark.Less ∷ (spell_type t ++ (spell_limit b ++ Punctuation mark.Greater ∷ []))
+pub spell_type-sequence : (t : TypeTree) (b : Option Expression) → spell_type (made_sequence t b) ≡ Word word.Sequence ∷ Punctuation mark.Less ∷ (spell_type t ++ (spell_limit b ++ Punctuation mark.Greater ∷ []))
 unfolding spell_type
 spell_type-sequence t b =
     let s = roll-Sequence (record { element = t; bound = b }) in
-    ap (fold-DataType Lexemes Lexemes data_type_step sequence_step) (sym (rolls-Sequence s))
-    ∙ fold-roll-DataType Lexemes Lexemes data_type_step sequence_step (DataType-F.Sequence s)
+    ap (fold-TypeTree Lexemes Lexemes data_type_step sequence_step) (sym (rolls-Sequence s))
+    ∙ fold-roll-TypeTree Lexemes Lexemes data_type_step sequence_step (TypeTree-F.Sequence s)
     ∙ fold-roll-Sequence Lexemes Lexemes data_type_step sequence_step (record { element = t; bound = b })
 
 abbrev limit_value : Expression ⊎ Unit {0} → Option Expression
@@ -59,31 +59,31 @@ limit_laws d N r laws = shape d N limit_value limit_spell spell_limit (λ n ts. 
 -- ---- sequences
 
 abbrev sequence_parts : Type 0
-sequence_parts = DataType × (Option Expression × Unit {0})
+sequence_parts = TypeTree × (Option Expression × Unit {0})
 
-abbrev sequence_of : sequence_parts → DataType
+abbrev sequence_of : sequence_parts → TypeTree
 sequence_of p = made_sequence p.0 p.1.0
 
 abbrev sequence_spell : sequence_parts → Lexemes
 sequence_spell p = Word word.Sequence ∷ Punctuation mark.Less ∷ (spell_type p.0 ++ (spell_limit p.1.0 ++ Punctuation mark.Greater ∷ []))
 
-abbrev after_element : (ℕ → Reader Expression) → DataType → ℕ → Reader DataType
+abbrev after_element : (ℕ → Reader Expression) → TypeTree → ℕ → Reader TypeTree
 after_element re t = next_at (λ n. limit_with (re n)) (λ b. close_at mark.Greater (made_sequence t b))
 
-abbrev sequence_reader : (ℕ → Reader Expression) → (ℕ → Reader DataType) → ℕ → Reader DataType
+abbrev sequence_reader : (ℕ → Reader Expression) → (ℕ → Reader TypeTree) → ℕ → Reader TypeTree
 sequence_reader re rt = behind_at (is_word word.Sequence) (behind_at (is_mark mark.Less) (next_at rt (after_element re)))
 
-sequence_laws : (d N : ℕ) (re : ℕ → Reader Expression) (rt : ℕ → Reader DataType) → Laws (suc d) N same spell_expression re → Laws (suc d) N same spell_type rt → Laws d N sequence_of sequence_spell (sequence_reader re rt)
+sequence_laws : (d N : ℕ) (re : ℕ → Reader Expression) (rt : ℕ → Reader TypeTree) → Laws (suc d) N same spell_expression re → Laws (suc d) N same spell_type rt → Laws d N sequence_of sequence_spell (sequence_reader re rt)
 sequence_laws d N re rt expressions types =
     let wide = deeper (suc d) N same spell_expression re expressions in
     skip_laws d N (is_word word.Sequence) (Word word.Sequence) sequence_of (λ p. Punctuation mark.Less ∷ (spell_type p.0 ++ (spell_limit p.1.0 ++ Punctuation mark.Greater ∷ []))) (behind_at (is_mark mark.Less) (next_at rt (after_element re))) (only_word word.Sequence)
     (skip_laws (suc d) N (is_mark mark.Less) (Punctuation mark.Less) sequence_of (λ p. spell_type p.0 ++ (spell_limit p.1.0 ++ Punctuation mark.Greater ∷ [])) (next_at rt (after_element re)) (only_mark mark.Less)
-    (then_laws (suc (suc d)) N spell_type rt (λ (t : DataType) (q : Option Expression × Unit {0}). made_sequence t q.0) (λ q. spell_limit q.0 ++ Punctuation mark.Greater ∷ []) (after_element re) (deeper (suc d) N same spell_type rt types)
+    (then_laws (suc (suc d)) N spell_type rt (λ (t : TypeTree) (q : Option Expression × Unit {0}). made_sequence t q.0) (λ q. spell_limit q.0 ++ Punctuation mark.Greater ∷ []) (after_element re) (deeper (suc d) N same spell_type rt types)
     (λ t. then_laws (suc (suc d)) N spell_limit (λ n. limit_with (re n)) (λ (b : Option Expression) (u : Unit {0}). made_sequence t b) (λ u. Punctuation mark.Greater ∷ []) (λ b. close_at mark.Greater (made_sequence t b))
     (limit_laws (suc (suc d)) N re (deeper (suc (suc d)) N same spell_expression re wide))
     (λ b. close_laws (suc (suc d)) N mark.Greater (made_sequence t b)))))
 
-type_with_laws : (d N : ℕ) (re : ℕ → Reader Expression) (rt : ℕ → Reader DataType) → Laws (suc d) N same spell_expression re → Laws (suc d) N same spell_type rt → Laws d N same spell_type (λ n. type_with (re n) (rt n))
+type_with_laws : (d N : ℕ) (re : ℕ → Reader Expression) (rt : ℕ → Reader TypeTree) → Laws (suc d) N same spell_expression re → Laws (suc d) N same spell_type rt → Laws d N same spell_type (λ n. type_with (re n) (rt n))
 unfolding type_with sequence_with
 type_with_laws d N re rt expressions types = shape d N (either sequence_of data_type.Plain) (either sequence_spell spell_plain) spell_type (λ n ts. cond (is_word word.Sequence (first ts)) (sequence_reader re rt n ts) (mapped_at data_type.Plain (λ n. plain_with (re n)) n ts)) (λ n. type_with (re n) (rt n))
     (either_spells spell_type sequence_of sequence_spell data_type.Plain spell_plain (λ p. spell_type-sequence p.0 p.1.0) spell_type-plain)
@@ -92,7 +92,7 @@ type_with_laws d N re rt expressions types = shape d N (either sequence_of data_
     (sequence_laws d N re rt expressions types)
     (last_laws d N data_type.Plain spell_plain (λ n. plain_with (re n)) (plain_laws d N re expressions)))
 
-pub some_type : DataType
+pub some_type : TypeTree
 some_type = data_type.Plain (plain.Basic basic.Any)
 
 type_reads : (n : ℕ) (ts : Lexemes) → type_at (suc n) ts ≡ type_with (expression_at n) (type_at n) ts

@@ -10,7 +10,7 @@ use Rattle.idl_tree.specs.reading.ReadInterface.{context_at, context_if, made_op
 use Rattle.idl_tree.specs.reading.Reading.{Reader, first, ◌>>=◌}
 use Rattle.idl_tree.specs.Several.{spell_if, spell_listed}
 use Rattle.idl_tree.specs.reading.Tests.{identifier_at, is_mark, is_word}
-use Rattle.idl_tree.specs.declared.declarations.data_type.DataType.{DataType}
+use Rattle.idl_tree.specs.declared.declarations.data_type.TypeTree.{TypeTree}
 use Rattle.idl_tree.specs.declared.name.ScopedName.{ScopedName}
 use Rattle.idl_tree.specs.declared.declarations.operation.Operation.{Operation}
 use Rattle.idl_tree.specs.declared.declarations.operation.Parameter.{Parameter}
@@ -21,7 +21,7 @@ use Rattle.idl_tree.proofs.Laws.{Laws, behind_at, choice_laws, deeper, done_laws
 use Rattle.idl_tree.proofs.Readers.Switch.{word_at, word_laws}
 use Rattle.idl_tree.proofs.Readers.TokenLaws.{close_at, close_laws, identifier_laws, one_token, only_mark, only_word}
 
-parameters_laws : (d N : ℕ) (rt : ℕ → Reader DataType) → Laws d N same spell_type rt → Laws d N same (spell_if (spell_listed spell_parameter)) (λ n. parameters_with (rt n))
+parameters_laws : (d N : ℕ) (rt : ℕ → Reader TypeTree) → Laws d N same spell_type rt → Laws d N same (spell_if (spell_listed spell_parameter)) (λ n. parameters_with (rt n))
 unfolding parameters_with
 parameters_laws d N rt types =
     let some_at : ℕ → Reader (Option (Several Parameter)) = mapped_at (λ (ps : Several Parameter). Some ps) (λ n. listed_with (parameter_with (rt n))) in
@@ -35,16 +35,16 @@ parameters_laws d N rt types =
     spells (inl u) = refl
     spells (inr ps) = refl
 
-result_laws : (d N : ℕ) (rt : ℕ → Reader DataType) → Laws d N same spell_type rt → Laws d N same spell_result (λ n. result_with (rt n))
+result_laws : (d N : ℕ) (rt : ℕ → Reader TypeTree) → Laws d N same spell_type rt → Laws d N same spell_result (λ n. result_with (rt n))
 unfolding result_with
 result_laws d N rt types =
-    let some_at : ℕ → Reader (Option DataType) = mapped_at (λ (t : DataType). Some t) rt in
-    shape d N (either (λ (u : Unit {0}). None) (λ (t : DataType). Some t)) (either (λ u. Word word.Void ∷ []) spell_type) spell_result
+    let some_at : ℕ → Reader (Option TypeTree) = mapped_at (λ (t : TypeTree). Some t) rt in
+    shape d N (either (λ (u : Unit {0}). None) (λ (t : TypeTree). Some t)) (either (λ u. Word word.Void ∷ []) spell_type) spell_result
     (λ n ts. cond (is_word word.Void (first ts)) (word_at word.Void None n ts) (some_at n ts)) (λ n. result_with (rt n)) spells (λ n ts. refl)
-    (choice_laws d N (is_word word.Void) (λ (u : Unit {0}). None) (λ u. Word word.Void ∷ []) (word_at word.Void None) (λ (t : DataType). Some t) spell_type some_at (word_laws d N word.Void None)
-    (last_laws d N (λ (t : DataType). Some t) spell_type rt types))
+    (choice_laws d N (is_word word.Void) (λ (u : Unit {0}). None) (λ u. Word word.Void ∷ []) (word_at word.Void None) (λ (t : TypeTree). Some t) spell_type some_at (word_laws d N word.Void None)
+    (last_laws d N (λ (t : TypeTree). Some t) spell_type rt types))
   where
-    spells : (x : Unit {0} ⊎ DataType) → spell_result (either (λ (u : Unit {0}). None) (λ (t : DataType). Some t) x) ≡ either (λ u. Word word.Void ∷ []) spell_type x
+    spells : (x : Unit {0} ⊎ TypeTree) → spell_result (either (λ (u : Unit {0}). None) (λ (t : TypeTree). Some t) x) ≡ either (λ u. Word word.Void ∷ []) spell_type x
     spells (inl u) = refl
     spells (inr t) = refl
 
@@ -88,11 +88,11 @@ spell_ends q = spell_if spell_raises q.0 ++ spell_if spell_context q.1
 abbrev spell_rest : rest_parts → Lexemes
 spell_rest p = Punctuation mark.OpenParenthesis ∷ (spell_if (spell_listed spell_parameter) p.0 ++ (Punctuation mark.CloseParenthesis ∷ spell_ends p.1))
 
-abbrev operation_of : Bool → Option DataType → List ℕ → rest_parts → Operation
+abbrev operation_of : Bool → Option TypeTree → List ℕ → rest_parts → Operation
 operation_of is_oneway result name p = made_operation is_oneway result name p.0 p.1.0 p.1.1
 
-operation_rest_laws : (d N : ℕ) (rt : ℕ → Reader DataType) → Laws (suc d) N same spell_type rt
-    → (is_oneway : Bool) (result : Option DataType) (name : List ℕ) → Laws d N (operation_of is_oneway result name) spell_rest (λ n. operation_rest_with (rt n) is_oneway result name)
+operation_rest_laws : (d N : ℕ) (rt : ℕ → Reader TypeTree) → Laws (suc d) N same spell_type rt
+    → (is_oneway : Bool) (result : Option TypeTree) (name : List ℕ) → Laws d N (operation_of is_oneway result name) spell_rest (λ n. operation_rest_with (rt n) is_oneway result name)
 unfolding operation_rest_with
 operation_rest_laws d N rt types is_oneway result name =
     let made : Option (Several Parameter) → Option (Several ScopedName) → Option texts → Operation = made_operation is_oneway result name in
@@ -106,7 +106,7 @@ operation_rest_laws d N rt types is_oneway result name =
     (λ rs. last_laws (suc (suc d)) N (made ps rs) (spell_if spell_context) (λ n. context_if) (context_if_laws (suc (suc d)) N)))))
 
 abbrev tail_parts : Type 0
-tail_parts = Option DataType × (List ℕ × rest_parts)
+tail_parts = Option TypeTree × (List ℕ × rest_parts)
 
 abbrev tail_value : Bool → tail_parts → Operation
 tail_value is_oneway p = operation_of is_oneway p.0 p.1.0 p.1.1
@@ -115,17 +115,17 @@ abbrev spell_tail : tail_parts → Lexemes
 spell_tail p = spell_result p.0 ++ (one_token Identifier p.1.0 ++ spell_rest p.1.1)
 
 -- what follows `oneway`
-abbrev tail_at : (ℕ → Reader DataType) → Bool → ℕ → Reader Operation
+abbrev tail_at : (ℕ → Reader TypeTree) → Bool → ℕ → Reader Operation
 tail_at rt is_oneway = next_at (λ n. result_with (rt n)) (λ result. next_at (λ n. identifier_at) (λ name n. operation_rest_with (rt n) is_oneway result name))
 
-tail_laws : (d N : ℕ) (rt : ℕ → Reader DataType) → Laws d N same spell_type rt → (is_oneway : Bool) → Laws d N (tail_value is_oneway) spell_tail (tail_at rt is_oneway)
+tail_laws : (d N : ℕ) (rt : ℕ → Reader TypeTree) → Laws d N same spell_type rt → (is_oneway : Bool) → Laws d N (tail_value is_oneway) spell_tail (tail_at rt is_oneway)
 tail_laws d N rt types is_oneway =
-    then_laws d N spell_result (λ n. result_with (rt n)) (λ (result : Option DataType) (q : List ℕ × rest_parts). operation_of is_oneway result q.0 q.1) (λ q. one_token Identifier q.0 ++ spell_rest q.1)
+    then_laws d N spell_result (λ n. result_with (rt n)) (λ (result : Option TypeTree) (q : List ℕ × rest_parts). operation_of is_oneway result q.0 q.1) (λ q. one_token Identifier q.0 ++ spell_rest q.1)
     (λ result. next_at (λ n. identifier_at) (λ name n. operation_rest_with (rt n) is_oneway result name)) (result_laws d N rt types)
     (λ result. then_laws d N (one_token Identifier) (λ n. identifier_at) (operation_of is_oneway result) spell_rest (λ name n. operation_rest_with (rt n) is_oneway result name) (identifier_laws d N)
     (λ name. operation_rest_laws d N rt (deeper d N same spell_type rt types) is_oneway result name))
 
-pub operation_laws : (d N : ℕ) (rt : ℕ → Reader DataType) → Laws d N same spell_type rt → Laws d N same spell_operation (λ n. operation_with (rt n))
+pub operation_laws : (d N : ℕ) (rt : ℕ → Reader TypeTree) → Laws d N same spell_type rt → Laws d N same spell_operation (λ n. operation_with (rt n))
 unfolding operation_with
 operation_laws d N rt types = shape d N (either (tail_value true) (tail_value false)) (either (λ p. Word word.Oneway ∷ spell_tail p) spell_tail) spell_operation
     (λ n ts. cond (is_word word.Oneway (first ts)) (behind_at (is_word word.Oneway) (tail_at rt true) n ts) (tail_at rt false n ts)) (λ n. operation_with (rt n))

@@ -27,15 +27,15 @@ use Rattle.idl_tree.specs.declared.declarations.construction.Member.{Member}
 use Rattle.idl_tree.specs.declared.declarations.construction.MemberType.{MemberType}
 use Rattle.idl_tree.specs.declared.declarations.construction.Structure.{Structure}
 use Rattle.idl_tree.specs.declared.declarations.construction.Union.{Union}
-use Rattle.idl_tree.specs.declared.declarations.data_type.DataType.{DataType}
+use Rattle.idl_tree.specs.declared.declarations.data_type.TypeTree.{TypeTree}
 use Rattle.idl_tree.specs.declared.declarations.declarator.Declarator.{Declarator}
 use Rattle.idl_tree.specs.declared.expression.Expression.{Expression}
 use Rattle.idl_tree.specs.declared.declarations.interface.Forward.TheVariants as forward
 use Rattle.idl_tree.specs.declared.name.ScopedName.{ScopedName}
 use Rattle.idl_tree.specs.declared.several.Several.{Several}
 use Rattle.idl_tree.specs.declared.unit.Constant.{Constant}
-use Rattle.idl_tree.specs.declared.unit.ConstantType.{ConstantType}
-use Rattle.idl_tree.specs.declared.unit.ConstantType.TheVariants as constant_type
+use Rattle.idl_tree.specs.declared.unit.ConstantTypeTree.{ConstantTypeTree}
+use Rattle.idl_tree.specs.declared.unit.ConstantTypeTree.TheVariants as constant_type
 use Rattle.idl_tree.specs.declared.unit.Exception.{Exception}
 use Rattle.idl_tree.specs.declared.unit.Tree.{Tree}
 use Rattle.idl_tree.specs.declared.unit.Tree.TheVariants as tree
@@ -54,7 +54,7 @@ use Rattle.idl_tree.proofs.Readers.Switch.{by_laws, mapped_laws}
 use Rattle.idl_tree.proofs.Readers.TokenLaws.{close_at, close_laws, identifier_laws, one_token, only_mark, only_word}
 use Rattle.idl_tree.proofs.Readers.TypeLaws.{discrete_laws, string_laws}
 
-pub typedef_laws : (d N : ℕ) (re : ℕ → Reader Expression) (rt : ℕ → Reader DataType) (rc : ℕ → Reader Construction) → Laws d N same spell_expression re → Laws d N same spell_type rt → Laws d N same spell_construction rc
+pub typedef_laws : (d N : ℕ) (re : ℕ → Reader Expression) (rt : ℕ → Reader TypeTree) (rc : ℕ → Reader Construction) → Laws d N same spell_expression re → Laws d N same spell_type rt → Laws d N same spell_construction rc
     → Laws d N same spell_typedef (λ n. typedef_with (re n) (rt n) (rc n))
 unfolding typedef_with
 typedef_laws d N re rt rc expressions types constructions =
@@ -79,14 +79,14 @@ constant_type_laws d N re laws = by_laws d N keyword_of spell_constant_type (λ 
 pub constant_laws : (d N : ℕ) (re : ℕ → Reader Expression) → Laws d N same spell_expression re → Laws d N same spell_constant (λ n. constant_with (re n))
 unfolding constant_with
 constant_laws d N re expressions =
-    let value_at : ConstantType → List ℕ → ℕ → Reader Constant = λ t name. behind_at (is_mark mark.Equals) (mapped_at (made_constant t name) re) in
-    let named_at : ConstantType → ℕ → Reader Constant = λ t. next_at (λ n. identifier_at) (value_at t) in
+    let value_at : ConstantTypeTree → List ℕ → ℕ → Reader Constant = λ t name. behind_at (is_mark mark.Equals) (mapped_at (made_constant t name) re) in
+    let named_at : ConstantTypeTree → ℕ → Reader Constant = λ t. next_at (λ n. identifier_at) (value_at t) in
     let rest_at : ℕ → Reader Constant = next_at (λ n. constant_type_with (re n)) named_at in
-    let value : ConstantType × (List ℕ × Expression) → Constant = λ p. made_constant p.0 p.1.0 p.1.1 in
+    let value : ConstantTypeTree × (List ℕ × Expression) → Constant = λ p. made_constant p.0 p.1.0 p.1.1 in
     let spell_rest : List ℕ × Expression → Lexemes = λ q. one_token Identifier q.0 ++ (Punctuation mark.Equals ∷ spell_expression q.1) in
     shape d N value (λ p. Word word.Const ∷ (spell_constant_type p.0 ++ spell_rest p.1)) spell_constant (behind_at (is_word word.Const) rest_at) (λ n. constant_with (re n)) (λ p. refl) (λ n ts. refl)
     (skip_laws d N (is_word word.Const) (Word word.Const) value (λ p. spell_constant_type p.0 ++ spell_rest p.1) rest_at (only_word word.Const)
-    (then_laws (suc d) N spell_constant_type (λ n. constant_type_with (re n)) (λ (t : ConstantType) (q : List ℕ × Expression). made_constant t q.0 q.1) spell_rest named_at (constant_type_laws (suc d) N re (more_room d N 2 spell_expression re expressions))
+    (then_laws (suc d) N spell_constant_type (λ n. constant_type_with (re n)) (λ (t : ConstantTypeTree) (q : List ℕ × Expression). made_constant t q.0 q.1) spell_rest named_at (constant_type_laws (suc d) N re (more_room d N 2 spell_expression re expressions))
     (λ t. then_laws (suc d) N (one_token Identifier) (λ n. identifier_at) (made_constant t) (λ e. Punctuation mark.Equals ∷ spell_expression e) (value_at t) (identifier_laws (suc d) N)
     (λ name. skip_laws (suc d) N (is_mark mark.Equals) (Punctuation mark.Equals) (made_constant t name) spell_expression (mapped_at (made_constant t name) re) (only_mark mark.Equals)
     (last_laws (suc (suc d)) N (made_constant t name) spell_expression re (more_room d N 2 spell_expression re expressions))))))
@@ -97,7 +97,7 @@ exception_parts = List ℕ × (List Member × Unit {0})
 exceptions : (p : exception_parts) → spell_exception (made_exception p.0 p.1.0) ≡ Word word.Exception ∷ (one_token Identifier p.0 ++ (Punctuation mark.OpenBrace ∷ (many_spell spell_member p.1.0 ++ Punctuation mark.CloseBrace ∷ [])))
 exceptions p = ap (λ (w : Lexemes). Word word.Exception ∷ Identifier p.0 ∷ Punctuation mark.OpenBrace ∷ (w ++ Punctuation mark.CloseBrace ∷ [])) (flat_map-many spell_member p.1.0)
 
-pub exception_laws : (d N : ℕ) (re : ℕ → Reader Expression) (rt : ℕ → Reader DataType) (rc : ℕ → Reader Construction) → Laws d N same spell_expression re → Laws d N same spell_type rt → Laws d N same spell_construction rc
+pub exception_laws : (d N : ℕ) (re : ℕ → Reader Expression) (rt : ℕ → Reader TypeTree) (rc : ℕ → Reader Construction) → Laws d N same spell_expression re → Laws d N same spell_type rt → Laws d N same spell_construction rc
     → Laws d N same spell_exception (λ n. exception_with (re n) (rt n) (rc n))
 unfolding exception_with
 exception_laws d N re rt rc expressions types constructions =
@@ -251,7 +251,7 @@ unfolding spell
 structure_units name (inl p) = ap (λ (w : Lexemes). w ++ end) (spell_construction-structure (structure_of name p.0) ∙ spell_structure-made name p.0.0 p.0.1.0)
 structure_units name (inr u) = refl
 
-structure_unit_laws : (d N : ℕ) (re : ℕ → Reader Expression) (rt : ℕ → Reader DataType) (rc : ℕ → Reader Construction) → Laws d N same spell_expression re → Laws d N same spell_type rt → Laws d N same spell_construction rc
+structure_unit_laws : (d N : ℕ) (re : ℕ → Reader Expression) (rt : ℕ → Reader TypeTree) (rc : ℕ → Reader Construction) → Laws d N same spell_expression re → Laws d N same spell_type rt → Laws d N same spell_construction rc
     → Laws d N same spell (λ n. structure_unit_with (re n) (rt n) (rc n))
 unfolding structure_unit_with
 structure_unit_laws d N re rt rc expressions types constructions =
@@ -286,7 +286,7 @@ unfolding spell
 union_units name (inl p) = ap (λ (w : Lexemes). w ++ end) (spell_construction-union (union_of name p.0) ∙ spell_union-made name p.0.0 p.0.1.0 p.0.1.1.0)
 union_units name (inr u) = refl
 
-union_unit_laws : (d N : ℕ) (re : ℕ → Reader Expression) (rt : ℕ → Reader DataType) (rc : ℕ → Reader Construction) → Laws d N same spell_expression re → Laws d N same spell_type rt → Laws d N same spell_construction rc
+union_unit_laws : (d N : ℕ) (re : ℕ → Reader Expression) (rt : ℕ → Reader TypeTree) (rc : ℕ → Reader Construction) → Laws d N same spell_expression re → Laws d N same spell_type rt → Laws d N same spell_construction rc
     → Laws d N same spell (λ n. union_unit_with (re n) (rt n) (rc n))
 unfolding union_unit_with
 union_unit_laws d N re rt rc expressions types constructions =
@@ -307,7 +307,7 @@ enumeration_units : (e : Enumeration) → spell (tree.Construction (construction
 unfolding spell
 enumeration_units e = ap (λ (w : Lexemes). w ++ end) (spell_construction-enumeration e)
 
-unit_each : (d N : ℕ) (re : ℕ → Reader Expression) (rt : ℕ → Reader DataType) (rc : ℕ → Reader Construction) → Laws d N same spell_expression re → Laws d N same spell_type rt → Laws d N same spell_construction rc
+unit_each : (d N : ℕ) (re : ℕ → Reader Expression) (rt : ℕ → Reader TypeTree) (rc : ℕ → Reader Construction) → Laws d N same spell_expression re → Laws d N same spell_type rt → Laws d N same spell_construction rc
     → (k : Option Keyword) → Laws d N same spell (λ n. unit_by (re n) (rt n) (rc n) k)
 unfolding spell
 unit_each d N re rt rc es tys cs (Some word.Module) = module_laws d N
@@ -326,10 +326,10 @@ unit_each d N re rt rc es tys cs (Some word.Readonly) =
 unit_each d N re rt rc es tys cs (Some word.Attribute) = ended_laws d N tree.Attribute spell_attribute (λ n. attribute_with (rt n)) (λ x. refl) (attribute_laws d N rt (more_room d N 1 spell_type rt tys))
 unit_each d N re rt rc es tys cs _ = ended_laws d N tree.Operation spell_operation (λ n. operation_with (rt n)) (λ x. refl) (operation_laws d N rt tys)
 
-abbrev unit_key_at : (ℕ → Reader Expression) → (ℕ → Reader DataType) → (ℕ → Reader Construction) → Bool → ℕ → Reader Tree
+abbrev unit_key_at : (ℕ → Reader Expression) → (ℕ → Reader TypeTree) → (ℕ → Reader Construction) → Bool → ℕ → Reader Tree
 unit_key_at re rt rc b n ts = cond b (closing_at ts) (unit_by (re n) (rt n) (rc n) (keyword_of (first ts)) ts)
 
-unit_with_laws : (d N : ℕ) (re : ℕ → Reader Expression) (rt : ℕ → Reader DataType) (rc : ℕ → Reader Construction) → Laws d N same spell_expression re → Laws d N same spell_type rt → Laws d N same spell_construction rc
+unit_with_laws : (d N : ℕ) (re : ℕ → Reader Expression) (rt : ℕ → Reader TypeTree) (rc : ℕ → Reader Construction) → Laws d N same spell_expression re → Laws d N same spell_type rt → Laws d N same spell_construction rc
     → Laws d N same spell (λ n. unit_with (re n) (rt n) (rc n))
 unfolding unit_with
 unit_with_laws d N re rt rc es tys cs = by_laws d N (is_mark mark.CloseBrace) spell (unit_key_at re rt rc) true each

@@ -22,7 +22,7 @@ use Rattle.idl_tree.specs.declared.declarations.construction.MemberType.{MemberT
 use Rattle.idl_tree.specs.declared.declarations.construction.MemberType.TheVariants as member_type
 use Rattle.idl_tree.specs.declared.declarations.construction.Structure.{Structure, roll-Structure}
 use Rattle.idl_tree.specs.declared.declarations.construction.Union.{Union, roll-Union}
-use Rattle.idl_tree.specs.declared.declarations.data_type.DataType.{DataType}
+use Rattle.idl_tree.specs.declared.declarations.data_type.TypeTree.{TypeTree}
 use Rattle.idl_tree.specs.declared.declarations.declarator.Declarator.{Declarator}
 use Rattle.idl_tree.specs.declared.expression.Expression.{Expression}
 use Rattle.idl_tree.specs.declared.several.Several.{Several}
@@ -80,7 +80,7 @@ abbrev pub begins_construction : Option Lexeme → Bool
 begins_construction t = is_construction_word (keyword_of t)
 
 -- type | constr
-unfoldable pub member_type_with : Reader DataType → Reader Construction → Reader MemberType
+unfoldable pub member_type_with : Reader TypeTree → Reader Construction → Reader MemberType
 member_type_with type inner ts =
     if begins_construction (first ts)
     then (inner ts >>= λ c. Ok (member_type.Construction c.0, c.1))
@@ -101,7 +101,7 @@ made_union name discriminator c cs =
     roll-Union (record { name = name; discriminator = discriminator; first = c; rest = cs })
 
 -- member = ( type | constr ) declr/"," ";"
-unfoldable pub member_with : Reader Expression → Reader DataType → Reader Construction
+unfoldable pub member_with : Reader Expression → Reader TypeTree → Reader Construction
     → Reader Member
 member_with expression type inner ts = do
   t ← member_type_with type inner ts
@@ -110,7 +110,7 @@ member_with expression type inner ts = do
   Ok (made_member t.0 ds.0, rest)
 
 -- case = label+ ( type | constr ) declr ";"
-unfoldable pub case_with : Reader Expression → Reader DataType → Reader Construction
+unfoldable pub case_with : Reader Expression → Reader TypeTree → Reader Construction
     → Reader Case
 case_with expression type inner ts = do
   ls ← all_with begins_label (label_with expression) ts
@@ -124,7 +124,7 @@ abbrev pub goes_on : Option Lexeme → Bool
 goes_on t = not (is_mark mark.CloseBrace t)
 
 -- "{" member+ "}", of the struct with this name
-unfoldable pub structure_rest_with : Reader Expression → Reader DataType → Reader Construction
+unfoldable pub structure_rest_with : Reader Expression → Reader TypeTree → Reader Construction
     → List ℕ → Reader Structure
 structure_rest_with expression type inner name ts = do
   rest ← expect (is_mark mark.OpenBrace) ts
@@ -134,7 +134,7 @@ structure_rest_with expression type inner name ts = do
   Ok (made_structure name m.0 ms.0, rest2)
 
 -- "struct" ID "{" member+ "}"
-unfoldable pub structure_with : Reader Expression → Reader DataType → Reader Construction
+unfoldable pub structure_with : Reader Expression → Reader TypeTree → Reader Construction
     → Reader Structure
 structure_with expression type inner ts = do
   rest ← expect (is_word word.Struct) ts
@@ -142,7 +142,7 @@ structure_with expression type inner ts = do
   structure_rest_with expression type inner name.0 name.1
 
 -- "{" case+ "}", of the union with this name and discriminator
-unfoldable pub cases_with : Reader Expression → Reader DataType → Reader Construction
+unfoldable pub cases_with : Reader Expression → Reader TypeTree → Reader Construction
     → List ℕ → Discriminator → Reader Union
 cases_with expression type inner name discriminator ts = do
   rest ← expect (is_mark mark.OpenBrace) ts
@@ -152,7 +152,7 @@ cases_with expression type inner name discriminator ts = do
   Ok (made_union name discriminator c.0 cs.0, rest2)
 
 -- "switch" "(" disc ")" "{" case+ "}", of the union with this name
-unfoldable pub union_rest_with : Reader Expression → Reader DataType → Reader Construction
+unfoldable pub union_rest_with : Reader Expression → Reader TypeTree → Reader Construction
     → List ℕ → Reader Union
 union_rest_with expression type inner name ts = do
   rest ← expect (is_word word.Switch) ts
@@ -162,7 +162,7 @@ union_rest_with expression type inner name ts = do
   cases_with expression type inner name d.0 rest3
 
 -- "union" ID "switch" "(" disc ")" "{" case+ "}"
-unfoldable pub union_with : Reader Expression → Reader DataType → Reader Construction
+unfoldable pub union_with : Reader Expression → Reader TypeTree → Reader Construction
     → Reader Union
 union_with expression type inner ts = do
   rest ← expect (is_word word.Union) ts
@@ -183,7 +183,7 @@ enumeration_at ts = do
   Ok (enumerated name.0 ids.0, rest3)
 
 -- constr, by its first keyword
-abbrev pub construction_by : Reader Expression → Reader DataType → Reader Construction
+abbrev pub construction_by : Reader Expression → Reader TypeTree → Reader Construction
     → Option Keyword → Reader Construction
 construction_by expression type inner (Some word.Struct) ts =
     structure_with expression type inner ts >>= λ s. Ok (construction.Structure s.0, s.1)
@@ -192,7 +192,7 @@ construction_by expression type inner (Some word.Union) ts =
 construction_by expression type inner others ts =
     enumeration_at ts >>= λ e. Ok (construction.Enumeration e.0, e.1)
 
-unfoldable pub construction_with : Reader Expression → Reader DataType → Reader Construction
+unfoldable pub construction_with : Reader Expression → Reader TypeTree → Reader Construction
     → Reader Construction
 construction_with expression type inner ts =
     construction_by expression type inner (keyword_of (first ts)) ts

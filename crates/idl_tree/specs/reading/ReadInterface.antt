@@ -17,7 +17,7 @@ use Rattle.idl_tree.specs.declared.declarations.attribute.AttributeRaises.TheVar
 use Rattle.idl_tree.specs.declared.declarations.attribute.ReadonlyAttribute.{ReadonlyAttribute}
 use Rattle.idl_tree.specs.declared.declarations.attribute.ReadonlyNames.{ReadonlyNames}
 use Rattle.idl_tree.specs.declared.declarations.attribute.ReadonlyNames.TheVariants as readonly
-use Rattle.idl_tree.specs.declared.declarations.data_type.DataType.{DataType}
+use Rattle.idl_tree.specs.declared.declarations.data_type.TypeTree.{TypeTree}
 use Rattle.idl_tree.specs.declared.name.ScopedName.{ScopedName}
 use Rattle.idl_tree.specs.declared.declarations.operation.Direction.{Direction}
 use Rattle.idl_tree.specs.declared.declarations.operation.Direction.TheVariants.{In, Out, InOut}
@@ -66,11 +66,11 @@ readonly_names_at ts = do
   name ← identifier_at ts
   readonly_rest name.0 name.1
 
-abbrev pub made_readonly_attribute : DataType → ReadonlyNames → ReadonlyAttribute
+abbrev pub made_readonly_attribute : TypeTree → ReadonlyNames → ReadonlyAttribute
 made_readonly_attribute kind names = record { kind = kind; names = names }
 
 -- "readonly" "attribute" type ( ID raises | ID/"," )
-unfoldable pub readonly_attribute_with : Reader DataType → Reader ReadonlyAttribute
+unfoldable pub readonly_attribute_with : Reader TypeTree → Reader ReadonlyAttribute
 readonly_attribute_with type ts = do
   rest ← expect (is_word word.Readonly) ts
   rest2 ← expect (is_word word.Attribute) rest
@@ -103,11 +103,11 @@ attribute_names_at ts = do
   name ← identifier_at ts
   attribute_by name.0 (keyword_of (first name.1)) name.1
 
-abbrev pub made_attribute : DataType → AttributeNames → Attribute
+abbrev pub made_attribute : TypeTree → AttributeNames → Attribute
 made_attribute kind names = record { kind = kind; names = names }
 
 -- "attribute" type ( ID excs | ID/"," )
-unfoldable pub attribute_with : Reader DataType → Reader Attribute
+unfoldable pub attribute_with : Reader TypeTree → Reader Attribute
 attribute_with type ts = do
   rest ← expect (is_word word.Attribute) ts
   t ← type rest
@@ -122,11 +122,11 @@ direction_of (Some (Word word.Out)) = Some Out
 direction_of (Some (Word word.Inout)) = Some InOut
 direction_of _ = None
 
-abbrev pub passed : Direction → DataType → List ℕ → Parameter
+abbrev pub passed : Direction → TypeTree → List ℕ → Parameter
 passed direction kind name = record { direction = direction; kind = kind; name = name }
 
 -- param = ( "in" | "out" | "inout" ) type ID
-unfoldable pub parameter_with : Reader DataType → Reader Parameter
+unfoldable pub parameter_with : Reader TypeTree → Reader Parameter
 parameter_with type ts = do
   d ← pick direction_of ts
   t ← type d.1
@@ -134,13 +134,13 @@ parameter_with type ts = do
   Ok (passed d.0 t.0 name.0, name.1)
 
 -- [ param/"," ] before ")"
-unfoldable pub parameters_with : Reader DataType → Reader (Option (Several Parameter))
+unfoldable pub parameters_with : Reader TypeTree → Reader (Option (Several Parameter))
 parameters_with type ts =
     if is_mark mark.CloseParenthesis (first ts) then Ok (None, ts)
     else (listed_with (parameter_with type) ts >>= λ ps. Ok (Some ps.0, ps.1))
 
 -- "void" | type
-unfoldable pub result_with : Reader DataType → Reader (Option DataType)
+unfoldable pub result_with : Reader TypeTree → Reader (Option TypeTree)
 result_with type ts =
     if is_word word.Void (first ts) then (expect (is_word word.Void) ts >>= λ rest. Ok (None, rest))
     else (type ts >>= λ t. Ok (Some t.0, t.1))
@@ -164,7 +164,7 @@ context_if ts =
     if is_word word.Context (first ts) then (context_at ts >>= λ texts. Ok (Some texts.0, texts.1))
     else Ok (None, ts)
 
-abbrev pub made_operation : Bool → Option DataType → List ℕ → Option (Several Parameter)
+abbrev pub made_operation : Bool → Option TypeTree → List ℕ → Option (Several Parameter)
     → Option (Several ScopedName) → Option (Several (Several (List ℕ))) → Operation
 made_operation is_oneway result name parameters raises context = record {
   is_oneway = is_oneway;
@@ -176,7 +176,7 @@ made_operation is_oneway result name parameters raises context = record {
 }
 
 -- "(" [ param/"," ] ")" [raises] [ "context" "(" text/"," ")" ], behind a result and a name
-unfoldable pub operation_rest_with : Reader DataType → Bool → Option DataType → List ℕ
+unfoldable pub operation_rest_with : Reader TypeTree → Bool → Option TypeTree → List ℕ
     → Reader Operation
 operation_rest_with type is_oneway result name ts = do
   rest ← expect (is_mark mark.OpenParenthesis) ts
@@ -188,7 +188,7 @@ operation_rest_with type is_oneway result name ts = do
 
 -- oper = ["oneway"] ( "void" | type ) ID "(" [ param/"," ] ")" [raises]
 --     [ "context" "(" text/"," ")" ]
-unfoldable pub operation_with : Reader DataType → Reader Operation
+unfoldable pub operation_with : Reader TypeTree → Reader Operation
 operation_with type ts = do
   let is_oneway : Bool = is_word word.Oneway (first ts)
   result ← result_with type (if is_oneway then drop 1 ts else ts)

@@ -10,8 +10,8 @@ use Rattle.idl_tree.specs.reading.Reading.{Reader, ◌>>=◌, first, expect, man
 use Rattle.idl_tree.specs.reading.Tests.{is_mark, is_word, keyword_of, by_word, pick, identifier_at}
 use Rattle.idl_tree.specs.declared.declarations.data_type.BasicType.{BasicType}
 use Rattle.idl_tree.specs.declared.declarations.data_type.BasicType.TheVariants as basic
-use Rattle.idl_tree.specs.declared.declarations.data_type.DataType.{DataType}
-use Rattle.idl_tree.specs.declared.declarations.data_type.DataType.TheVariants as data_type
+use Rattle.idl_tree.specs.declared.declarations.data_type.TypeTree.{TypeTree}
+use Rattle.idl_tree.specs.declared.declarations.data_type.TypeTree.TheVariants as data_type
 use Rattle.idl_tree.specs.declared.declarations.data_type.DiscreteType.{DiscreteType}
 use Rattle.idl_tree.specs.declared.declarations.data_type.DiscreteType.TheVariants as discrete
 use Rattle.idl_tree.specs.declared.declarations.data_type.IntegerSize.{IntegerSize}
@@ -136,12 +136,12 @@ limit_with expression ts =
       Ok (Some e.0, e.1))
     else Ok (None, ts)
 
-abbrev pub made_sequence : DataType → Option Expression → DataType
+abbrev pub made_sequence : TypeTree → Option Expression → TypeTree
 made_sequence element bound =
     data_type.Sequence (roll-Sequence (record { element = element; bound = bound }))
 
 -- "sequence" "<" type [ "," expr ] ">"
-unfoldable pub sequence_with : Reader Expression → Reader DataType → Reader DataType
+unfoldable pub sequence_with : Reader Expression → Reader TypeTree → Reader TypeTree
 sequence_with expression inner ts = do
   rest ← expect (is_word word.Sequence) ts
   rest2 ← expect (is_mark mark.Less) rest
@@ -151,13 +151,13 @@ sequence_with expression inner ts = do
   Ok (made_sequence t.0 b.0, rest3)
 
 -- type = ptype | "sequence" "<" type [ "," expr ] ">"
-unfoldable pub type_with : Reader Expression → Reader DataType → Reader DataType
+unfoldable pub type_with : Reader Expression → Reader TypeTree → Reader TypeTree
 type_with expression inner ts =
     if is_word word.Sequence (first ts) then sequence_with expression inner ts
     else (plain_with expression ts >>= λ p. Ok (data_type.Plain p.0, p.1))
 
 -- at most n deep
-unfoldable pub type_at : ℕ → Reader DataType
+unfoldable pub type_at : ℕ → Reader TypeTree
 type_at zero ts = Err (length ts)
 type_at (suc n) ts = type_with (expression_at n) (type_at n) ts
 

@@ -14,15 +14,15 @@ use Rattle.idl_tree.specs.declared.declarations.construction.Construction.{Const
 use Rattle.idl_tree.specs.declared.declarations.construction.Construction.TheVariants as construction
 use Rattle.idl_tree.specs.declared.declarations.construction.Member.{Member}
 use Rattle.idl_tree.specs.declared.declarations.construction.MemberType.{MemberType}
-use Rattle.idl_tree.specs.declared.declarations.data_type.DataType.{DataType}
+use Rattle.idl_tree.specs.declared.declarations.data_type.TypeTree.{TypeTree}
 use Rattle.idl_tree.specs.declared.declarations.declarator.Declarator.{Declarator}
 use Rattle.idl_tree.specs.declared.expression.Expression.{Expression}
 use Rattle.idl_tree.specs.declared.declarations.interface.Forward.TheVariants as forward
 use Rattle.idl_tree.specs.declared.name.ScopedName.{ScopedName}
 use Rattle.idl_tree.specs.declared.several.Several.{Several}
 use Rattle.idl_tree.specs.declared.unit.Constant.{Constant}
-use Rattle.idl_tree.specs.declared.unit.ConstantType.{ConstantType}
-use Rattle.idl_tree.specs.declared.unit.ConstantType.TheVariants as constant_type
+use Rattle.idl_tree.specs.declared.unit.ConstantTypeTree.{ConstantTypeTree}
+use Rattle.idl_tree.specs.declared.unit.ConstantTypeTree.TheVariants as constant_type
 use Rattle.idl_tree.specs.declared.unit.Exception.{Exception}
 use Rattle.idl_tree.specs.declared.unit.Tree.{Tree}
 use Rattle.idl_tree.specs.declared.unit.Tree.TheVariants as tree
@@ -32,7 +32,7 @@ abbrev pub made_typedef : MemberType → Several Declarator → Typedef
 made_typedef kind declarators = record { kind = kind; declarators = declarators }
 
 -- typedef = "typedef" ( type | constr ) declr/","
-unfoldable pub typedef_with : Reader Expression → Reader DataType → Reader Construction
+unfoldable pub typedef_with : Reader Expression → Reader TypeTree → Reader Construction
     → Reader Typedef
 typedef_with expression type inner ts = do
   rest ← expect (is_word word.Typedef) ts
@@ -41,7 +41,7 @@ typedef_with expression type inner ts = do
   Ok (made_typedef t.0 ds.0, ds.1)
 
 -- ctype, by its first keyword
-abbrev pub constant_type_by : Reader Expression → Option Keyword → Reader ConstantType
+abbrev pub constant_type_by : Reader Expression → Option Keyword → Reader ConstantTypeTree
 constant_type_by expression (Some word.String) ts =
     string_with expression ts >>= λ s. Ok (constant_type.String s.0, s.1)
 constant_type_by expression (Some word.Wstring) ts =
@@ -50,10 +50,10 @@ constant_type_by expression None ts = name_at ts >>= λ n. Ok (constant_type.Nam
 constant_type_by expression others ts =
     discrete_at ts >>= λ d. Ok (constant_type.Discrete d.0, d.1)
 
-unfoldable pub constant_type_with : Reader Expression → Reader ConstantType
+unfoldable pub constant_type_with : Reader Expression → Reader ConstantTypeTree
 constant_type_with expression ts = constant_type_by expression (keyword_of (first ts)) ts
 
-abbrev pub made_constant : ConstantType → List ℕ → Expression → Constant
+abbrev pub made_constant : ConstantTypeTree → List ℕ → Expression → Constant
 made_constant kind name value = record { kind = kind; name = name; value = value }
 
 -- const = "const" ctype ID "=" expr
@@ -70,7 +70,7 @@ abbrev pub made_exception : List ℕ → List Member → Exception
 made_exception name members = record { name = name; members = members }
 
 -- except = "exception" ID "{" member* "}"
-unfoldable pub exception_with : Reader Expression → Reader DataType → Reader Construction
+unfoldable pub exception_with : Reader Expression → Reader TypeTree → Reader Construction
     → Reader Exception
 exception_with expression type inner ts = do
   rest ← expect (is_word word.Exception) ts
@@ -150,7 +150,7 @@ ahead_at declaration ts = do
   Ok (declaration, rest)
 
 -- "struct" ID ( ";" | "{" member+ "}" ";" )
-unfoldable pub structure_unit_with : Reader Expression → Reader DataType → Reader Construction
+unfoldable pub structure_unit_with : Reader Expression → Reader TypeTree → Reader Construction
     → Reader Tree
 structure_unit_with expression type inner ts = do
   rest ← expect (is_word word.Struct) ts
@@ -161,7 +161,7 @@ structure_unit_with expression type inner ts = do
       else ahead_at (tree.Forward (forward.Structure name.0)) name.1
 
 -- "union" ID ( ";" | "switch" "(" disc ")" "{" case+ "}" ";" )
-unfoldable pub union_unit_with : Reader Expression → Reader DataType → Reader Construction
+unfoldable pub union_unit_with : Reader Expression → Reader TypeTree → Reader Construction
     → Reader Tree
 union_unit_with expression type inner ts = do
   rest ← expect (is_word word.Union) ts
@@ -172,7 +172,7 @@ union_unit_with expression type inner ts = do
       else ahead_at (tree.Forward (forward.Union name.0)) name.1
 
 -- a unit that isn't a closing, by its first keyword
-abbrev pub unit_by : Reader Expression → Reader DataType → Reader Construction
+abbrev pub unit_by : Reader Expression → Reader TypeTree → Reader Construction
     → Option Keyword → Reader Tree
 unit_by expression type inner (Some word.Module) ts = module_at ts
 unit_by expression type inner (Some word.Local) ts = interface_at ts
@@ -195,7 +195,7 @@ unit_by expression type inner (Some word.Attribute) ts =
 unit_by expression type inner others ts = ended_with tree.Operation (operation_with type) ts
 
 -- opening | closing | decl
-unfoldable pub unit_with : Reader Expression → Reader DataType → Reader Construction → Reader Tree
+unfoldable pub unit_with : Reader Expression → Reader TypeTree → Reader Construction → Reader Tree
 unit_with expression type inner ts =
     if is_mark mark.CloseBrace (first ts) then closing_at ts
     else unit_by expression type inner (keyword_of (first ts)) ts

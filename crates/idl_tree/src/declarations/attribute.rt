@@ -1,13 +1,13 @@
 //! Attributes.
 
-use crate::declarations::data_type::DataType;
+use crate::declarations::data_type::TypeTree;
 use crate::name::ScopedName;
 use crate::several::Several;
 use idl_base::Bytes;
 
 /// An attribute that is read alone.
 pub struct ReadonlyAttribute {
-    pub kind: DataType,
+    pub kind: TypeTree,
     pub names: ReadonlyNames,
 }
 
@@ -37,7 +37,7 @@ impl Drop for ReadonlyNames {
 
 /// An attribute that is read and written.
 pub struct Attribute {
-    pub kind: DataType,
+    pub kind: TypeTree,
     pub names: AttributeNames,
 }
 

@@ -1,6 +1,6 @@
 //! Structs, unions and enums.
 
-use crate::declarations::data_type::{DataType, DiscreteType};
+use crate::declarations::data_type::{DiscreteType, TypeTree};
 use crate::declarations::declarator::Declarator;
 use crate::expression::Expression;
 use crate::name::ScopedName;
@@ -56,7 +56,7 @@ impl Drop for Label {
 #[cycle(construction)]
 #[derive(Drop)]
 pub enum MemberType {
-    Type(DataType),
+    Type(TypeTree),
     Construction(Boxed<Construction>),
 }
 

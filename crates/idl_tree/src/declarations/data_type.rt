@@ -75,7 +75,7 @@ impl Drop for PlainType {
 /// A type.
 #[cycle(data_type)]
 #[derive(Drop)]
-pub enum DataType {
+pub enum TypeTree {
     Plain(PlainType),
     Sequence(Boxed<Sequence>),
 }
@@ -84,6 +84,6 @@ pub enum DataType {
 #[cycle(data_type)]
 #[derive(Drop)]
 pub struct Sequence {
-    pub element: DataType,
+    pub element: TypeTree,
     pub bound: Option<Expression>,
 }

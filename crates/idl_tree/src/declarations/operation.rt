@@ -1,6 +1,6 @@
 //! Operations.
 
-use crate::declarations::data_type::DataType;
+use crate::declarations::data_type::TypeTree;
 use crate::name::ScopedName;
 use crate::several::Several;
 use idl_base::{Boxed, Bytes, Seq};
@@ -16,7 +16,7 @@ pub enum Direction {
 /// A parameter.
 pub struct Parameter {
     pub direction: Direction,
-    pub kind: DataType,
+    pub kind: TypeTree,
     pub name: Bytes,
 }
 
@@ -33,7 +33,7 @@ impl Drop for Parameter {
 /// An operation. Without a result it is `void`.
 pub struct Operation {
     pub is_oneway: bool,
-    pub result: Option<DataType>,
+    pub result: Option<TypeTree>,
     pub name: Bytes,
     pub parameters: Option<Several<Parameter>>,
     pub raises: Option<Several<ScopedName>>,

@@ -1,7 +1,7 @@
 use Rattle.std.proofs.Common.{◌≡◌, List, ◌∷◌, sym, ◌∙◌, ap, subst}
 use Rattle.idl_condition.specs.Waiting.{meaning, IsRising}
-use Rattle.idl_condition.specs.declared.stack.Entry.{Entry}
-use Rattle.idl_condition.specs.declared.stack.Entry.TheVariants.{Prefix}
+use Rattle.idl_condition.specs.declared.stack.Waiting.{Waiting}
+use Rattle.idl_condition.specs.declared.stack.Waiting.TheVariants.{Prefix}
 use Rattle.idl_condition.proofs.WaitingLemmas.{meaning-prefix}
 use Rattle.idl_condition.proofs.condition.complete.Goals as goal
 
@@ -15,5 +15,5 @@ signs-preserved c =
     record {
       same = λ k t. ap (λ w. meaning below w k t) c.apply-value.ensures ∙ meaning-prefix below s v k t
           ∙ ap (λ es. meaning es v k t) (sym top) ∙ inv.same k t;
-      rising = subst (λ (es : List Entry). IsRising es) top inv.rising;
+      rising = subst (λ (es : List Waiting). IsRising es) top inv.rising;
     }

@@ -1,7 +1,7 @@
 use Rattle.std.proofs.Common.{List, ◌∷◌, Some, pos, sym, ◌∙◌, ap, subst}
 use Rattle.idl_condition.specs.Waiting.{meaning_at, IsRising}
-use Rattle.idl_condition.specs.declared.condition.Place.TheVariants.{BeforeOperand, AfterOperand}
-use Rattle.idl_condition.specs.declared.stack.Entry.{Entry}
+use Rattle.idl_condition.specs.declared.condition.Awaited.TheVariants.{BeforeOperand, AfterOperand}
+use Rattle.idl_condition.specs.declared.stack.Waiting.{Waiting}
 use Rattle.idl_condition.proofs.WaitingLemmas.{meaning_at-operand, meaning_at-number, meaning_at-name, meaning_at-open, meaning_at-sign, meaning_at-no-operand}
 use Rattle.idl_condition.proofs.condition.operand.Goals as goal
 
@@ -33,7 +33,7 @@ returns-in_ok-push-in-Some c =
     let d = c.in_default in
     let pushed = c.in_ok-push-in-Some.ensures in
     record {
-      sound = subst (λ (es : List Entry). IsRising es) (sym pushed) c.requires;
+      sound = subst (λ (es : List Waiting). IsRising es) (sym pushed) c.requires;
       meaning = λ rest. ap (λ es. meaning_at BeforeOperand es rest) pushed
           ∙ meaning_at-sign old c.args.symbol c.in-Some.sign rest d.not-Number d.not-Name d.not-Open (sym c.in-Some.ensures);
     }

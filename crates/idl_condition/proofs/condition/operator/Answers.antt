@@ -1,6 +1,6 @@
 use Rattle.std.proofs.Common.{◌∷◌, sym, ◌∙◌, ap}
 use Rattle.idl_condition.specs.Waiting.{meaning_at}
-use Rattle.idl_condition.specs.declared.condition.Place.TheVariants.{BeforeOperand, AfterOperand}
+use Rattle.idl_condition.specs.declared.condition.Awaited.TheVariants.{BeforeOperand, AfterOperand}
 use Rattle.idl_condition.proofs.WaitingLemmas.{meaning_at-operator, meaning_at-no-operator}
 use Rattle.idl_condition.proofs.condition.operator.Goals as goal
 

@@ -1,8 +1,8 @@
 use Rattle.std.proofs.Common.{◌≡◌, ◌≤◌, List, ◌∷◌, sym, ◌∙◌, ap, subst, arith}
 use Rattle.idl_condition.specs.Operator.{rank}
 use Rattle.idl_condition.specs.Waiting.{meaning, IsRising}
-use Rattle.idl_condition.specs.declared.stack.Entry.{Entry}
-use Rattle.idl_condition.specs.declared.stack.Entry.TheVariants.{Infix}
+use Rattle.idl_condition.specs.declared.stack.Waiting.{Waiting}
+use Rattle.idl_condition.specs.declared.stack.Waiting.TheVariants.{Infix}
 use Rattle.idl_condition.proofs.ChainLemmas.{HasRank}
 use Rattle.idl_condition.proofs.WaitingLemmas.{meaning-infix, IsBelow-higher, IsComplete-above}
 use Rattle.idl_condition.proofs.condition.settle.Goals as goal
@@ -17,7 +17,7 @@ operators-preserved c =
     let ranked : HasRank o = record { low = omega arith; high = omega arith } in
     let floor_le : c.args.floor ≤ rank o = omega arith in
     let top : c.operators.stack ≡ Infix a o ∷ below = c.in-Some.ensures ∙ ap (λ e. e ∷ below) c.in-Infix.is in
-    let rising : IsRising (Infix a o ∷ below) = subst (λ (es : List Entry). IsRising es) top inv.rising in
+    let rising : IsRising (Infix a o ∷ below) = subst (λ (es : List Waiting). IsRising es) top inv.rising in
     record {
       same = λ k t h. ap (λ w. meaning below w k t) c.apply-value.ensures
           ∙ meaning-infix below a o v k t ranked rising.0 (IsBelow-higher k c.args.floor (rank o) floor_le h)

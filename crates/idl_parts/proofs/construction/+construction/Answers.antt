@@ -4,7 +4,7 @@ use Rattle.idl_parts.specs.ConstructionParts.{case_parts, discriminator_parts, l
 use Rattle.idl_parts.specs.Part.{ScopeEnds, all_parts, listed, punctuation}
 use Rattle.idl_parts.specs.TypeParts.{declarator_parts}
 use Rattle.idl_parts.specs.declared.part.Declaration.TheVariants as declaration
-use Rattle.idl_parts.specs.declared.part.Site.TheVariants as site
+use Rattle.idl_parts.specs.declared.part.UnitPart.TheVariants as site
 use Rattle.idl_tree.specs.declared.declarations.construction.Structure.{out-Structure}
 use Rattle.idl_tree.specs.declared.declarations.construction.Union.{out-Union}
 use Rattle.idl_parts.proofs.ConstructionEquations.{case_parts-out, construction_parts-structure, construction_parts-union, member_parts-out, member_type_parts-construction, structure_opening, structure_parts-out, union_brace, union_opening, union_parts-out}

@@ -2,7 +2,7 @@ use Rattle.std.proofs.Common.{[], ◌∷◌, ap, arith, get_or, length, refl, su
 use Rattle.idl_lex.specs.declared.kinds.mark.Mark.TheVariants.{Comma}
 use Rattle.idl_parts.specs.Part.{punctuation}
 use Rattle.idl_parts.specs.TypeParts.{declarator_parts}
-use Rattle.idl_parts.specs.declared.part.Site.TheVariants.{Tokens}
+use Rattle.idl_parts.specs.declared.part.UnitPart.TheVariants.{Tokens}
 use Rattle.idl_parts.proofs.PushLemmas.{pushes-append, pushes-one, pushes-turn}
 use Rattle.idl_parts.proofs.construction.push_declarators.Goals as goal
 

@@ -3,7 +3,7 @@ use Rattle.idl_lex.specs.declared.kinds.mark.Mark.TheVariants.{Ampersand, Bar, C
 use Rattle.idl_parts.specs.ExpressionParts.{and_parts, exclusive_or_parts, expression_parts, operator_parts, primary_parts, product_parts, shift_parts, sum_parts, unary_parts}
 use Rattle.idl_parts.specs.Item.{Pushes}
 use Rattle.idl_parts.specs.Part.{punctuation}
-use Rattle.idl_parts.specs.declared.part.Site.TheVariants.{Tokens}
+use Rattle.idl_parts.specs.declared.part.UnitPart.TheVariants.{Tokens}
 use Rattle.idl_tree.specs.Expression.{product_mark, shift_mark, sum_mark}
 use Rattle.idl_tree.specs.declared.expression.And.{out-And}
 use Rattle.idl_tree.specs.declared.expression.ExclusiveOr.{out-ExclusiveOr}

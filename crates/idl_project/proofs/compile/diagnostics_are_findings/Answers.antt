@@ -1,8 +1,8 @@
 use Rattle.std.proofs.Common.{◌≡◌, Bool, true, false, cond, List, ℕ, Option, None, Some, map, refl, ap}
 use Rattle.std.specs.Option.{option_map}
 use Rattle.idl_event.specs.declared.told.event.Event.{Event}
-use Rattle.idl_event.specs.declared.asked.key.Answer.{Answer}
-use Rattle.idl_event.specs.declared.asked.key.Key.{Key}
+use Rattle.idl_event.specs.declared.asked.key.RootAnswer.{RootAnswer}
+use Rattle.idl_event.specs.declared.asked.key.RootKey.{RootKey}
 use Rattle.idl_fault.specs.declared.place.Place.{Place}
 use Rattle.idl_prep.specs.Root.{expanded}
 use Rattle.idl_root.specs.Compile.{compile}
@@ -18,7 +18,7 @@ abbrev AreRows : CompiledRoot → Type 0
 AreRows root = root.rows.diagnostics ≡ map finding_row root.rows.findings
 
 rows-over : ((end : Place) (events : List Event) → (compile end events).diagnostics ≡ map finding_row (compile end events).findings)
-    → (bank : Key → Option Answer) (name : List ℕ) → AreRows (compile_over bank name)
+    → (bank : RootKey → Option RootAnswer) (name : List ℕ) → AreRows (compile_over bank name)
 unfolding compile_over
 rows-over law bank name = law (end_of bank name) (expanded name bank).0
 

@@ -1,7 +1,7 @@
 //! What roots emit: C's own examples of macros that are scanned again.
 
 use crate::tests::support::{Telling, are_told, file_of};
-use idl_event::{Answer, Expansion, ExpansionBuilder, Key, LexedFile, Told};
+use idl_event::{EventView, Expansion, ExpansionBuilder, LexedFile, RootAnswer, RootKey};
 use idl_fault::FileName;
 use idl_lex::Token;
 use idl_map::Table;
@@ -14,7 +14,7 @@ use std::test::Fail;
 /// Files and macros.
 #[derive(Drop)]
 pub struct Answers {
-    entries: Table<Key, Answer>,
+    entries: Table<RootKey, RootAnswer>,
 }
 
 impl Bank for Answers {
@@ -22,13 +22,13 @@ impl Bank for Answers {
     ghost use Rattle.std.specs.Map.{lookup};
     ghost use Rattle.idl_event.specs.Key.{key_eq};
 
-    type Key = Key;
+    type Key = RootKey;
 
-    type Answer = Answer;
+    type Answer = RootAnswer;
 
     ghost at = { λ answers key. lookup (key_eq key) answers.entries };
 
-    fn answer(&self, key: &Key) -> Option<&Answer> {
+    fn answer(&self, key: &RootKey) -> Option<&RootAnswer> {
         self.entries.get(key)
     }
 }
@@ -60,14 +60,17 @@ fn expanded(alloc: Global, name: Name, text: &str) -> Result<Expansion, AllocErr
 pub fn answers_of(alloc: Global, name: &Name, text: &str) -> Result<Answers, AllocError> {
     let file = LexedFile::new(alloc, file_of(alloc, text)?, None)?;
     let mut entries = Table::new(alloc);
-    entries.insert(Key::File(FileName::new(alloc, name)?), Answer::File(file))?;
+    entries.insert(
+        RootKey::File(FileName::new(alloc, name)?),
+        RootAnswer::File(file),
+    )?;
     Ok(Answers { entries })
 }
 
 fn emitted(alloc: Global, expansion: &Expansion) -> Result<String, AllocError> {
     let mut text = String::new(alloc);
     for (_, event) in expansion.events() {
-        if let Told::Emitted(_, _, token) = event {
+        if let EventView::Emitted(_, _, token) = event {
             emit(alloc, &mut text, token)?;
         }
     }

@@ -1,7 +1,7 @@
 //! What no clause says of journals: which of them has a log to give back, and which has digests.
 
 use super::expansions::{Answers, answers_of};
-use idl_event::Key;
+use idl_event::RootKey;
 use idl_fault::FileName;
 use idl_memo::{Journal, Log};
 use idl_source::Name;
@@ -16,7 +16,7 @@ fn a_journal_gives_back_what_it_took_or_noted(rt: HostRuntime) -> Result<(), Fai
         return Ok(());
     };
     let bank = answers_of(alloc, &name, "x")?;
-    let key = Key::File(FileName::new(alloc, &name)?);
+    let key = RootKey::File(FileName::new(alloc, &name)?);
     let mut log = Log::new(alloc);
     for _round in 0..2 {
         let mut journal = Journal::taking(alloc, &mut log);

@@ -2,7 +2,7 @@ use Rattle.std.proofs.Common.{◌≡◌, Some, slice_get, sym, ap, refl, ◌∙�
 use Rattle.std.specs.Cmp.Lexicographic.{bytes_decides}
 use Rattle.std.specs.Option.{option_copied}
 use Rattle.idl_event.specs.Key.{key_code, key_eq}
-use Rattle.idl_event.specs.declared.asked.key.Key.TheVariants.{Macro}
+use Rattle.idl_event.specs.declared.asked.key.RootKey.TheVariants.{Macro}
 use Rattle.idl_event.proofs.LogLemmas.{is_logged-at}
 use Rattle.idl_event.proofs.asked.hinted_log.word_at.Goals as goal
 

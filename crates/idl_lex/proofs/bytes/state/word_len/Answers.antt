@@ -1,5 +1,5 @@
 use Rattle.std.proofs.Common.{◌∙◌, arith, sym}
-use Rattle.idl_lex.specs.declared.bytes.state.State.TheVariants.{Word}
+use Rattle.idl_lex.specs.declared.bytes.state.Inside.TheVariants.{Word}
 use Rattle.idl_lex.proofs.PieceLemmas.{taken-end}
 use Rattle.idl_lex.proofs.KindLaws.WordLemmas.{taken-word-more, taken-word-stop}
 use Rattle.idl_lex.proofs.bytes.state.word_len.Goals as goal

@@ -1,5 +1,5 @@
 use Rattle.std.proofs.Common.{◌∙◌, if◌then◌else◌, ap, sym}
-use Rattle.idl_lex.specs.declared.kinds.kind.Kind.TheVariants.{String, WideString}
+use Rattle.idl_lex.specs.declared.kinds.kind.TokenKind.TheVariants.{String, WideString}
 use Rattle.idl_lex.proofs.KindLaws.LiteralLemmas.{string_kind-end}
 use Rattle.idl_lex.proofs.kinds.literal.string_kind.Goals as goal
 

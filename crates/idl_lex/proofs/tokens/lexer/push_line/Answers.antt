@@ -4,7 +4,7 @@ use Rattle.idl_lex.specs.tokens.Lexer.{coming, ended}
 use Rattle.idl_lex.specs.bytes.Scan.{taken}
 use Rattle.idl_lex.specs.bytes.Text.{bytes_of}
 use Rattle.idl_lex.specs.tokens.Tokens.{tokens_after}
-use Rattle.idl_lex.specs.declared.bytes.state.State.TheVariants.{Block}
+use Rattle.idl_lex.specs.declared.bytes.state.Inside.TheVariants.{Block}
 use Rattle.idl_lex.proofs.TokensLemmas.{after_comment-open, after_comment-closed}
 use Rattle.idl_lex.proofs.tokens.lexer.push_line.Goals as goal
 

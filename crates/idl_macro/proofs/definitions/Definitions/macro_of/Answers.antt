@@ -4,7 +4,7 @@ use Rattle.std.specs.Str.{bytes_eq}
 use Rattle.idl_memo.specs.Progress.{after_key}
 use Rattle.idl_event.specs.Expanding.{arrival, arrived}
 use Rattle.idl_event.specs.Key.{key_eq}
-use Rattle.idl_event.specs.declared.asked.key.Key.TheVariants as key
+use Rattle.idl_event.specs.declared.asked.key.RootKey.TheVariants as key
 use Rattle.idl_macro.specs.Macros.{body_in}
 use Rattle.idl_macro.proofs.MacroLemmas.{macro_of-asked, macro_of-said}
 use Rattle.idl_macro.proofs.definitions.Definitions.macro_of.Goals as goal

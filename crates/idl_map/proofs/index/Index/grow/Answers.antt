@@ -1,6 +1,6 @@
 use Rattle.std.proofs.Common.{◌≡◌, ◌<◌, ◌+◌, ◌%◌, Some, inl, inr, length, sym, ap, subst, ◌∙◌, arith, slice_get}
 use Rattle.std.proofs.lemmas.Option.{same_Some, slice_get_read}
-use Rattle.idl_map.specs.declared.index.Part.{Part}
+use Rattle.idl_map.specs.declared.index.Stripe.{Stripe}
 use Rattle.idl_map.specs.Buckets.{AreThere, FindsIn}
 use Rattle.std.proofs.lemmas.Bool.Decides.{eqb_tells}
 use Rattle.std.proofs.Math.ListN.{set, length-set}
@@ -57,7 +57,7 @@ returns-then-take_all-clause-sound c =
             let same : wide ≡ part = same_Some wide part (sym (slice_get-set_same parts number wide among) ∙ ap (slice_get (set parts number wide)) (sym t.1) ∙ is) in
             let found = c.requires.finds d i at old (ap (slice_get parts) t.1 ∙ was) in
             let of : slice_get c.deref.result.now i ≡ Some d = ap (λ ds. slice_get ds i) c.deref.ensures.value ∙ at in
-            subst (λ (p : Part). FindsIn p after d i) same
+            subst (λ (p : Stripe). FindsIn p after d i) same
             (c.take_all.ensures.taken c.if-take_all.true d i (of, t.1) (FindsIn-kept old before between d i c.extend.ensures.kept found))
         | inr f ↦
             FindsIn-kept part before after d i (AreKept-twice before between after c.extend.ensures.kept c.take_all.ensures.kept)

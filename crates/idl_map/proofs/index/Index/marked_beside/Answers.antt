@@ -1,6 +1,6 @@
 use Rattle.std.proofs.Common.{◌≡◌, ◌%◌, ℕ, sym, subst, ◌∙◌}
 use Rattle.std.proofs.lemmas.Option.{same_Some}
-use Rattle.idl_map.specs.declared.index.Part.{Part}
+use Rattle.idl_map.specs.declared.index.Stripe.{Stripe}
 use Rattle.idl_map.specs.Buckets.{IsThere, StandsAt, number_beside, tag_of}
 use Rattle.idl_map.proofs.BucketLemmas.{beside-there, own-chosen}
 use Rattle.idl_map.proofs.index.Index.marked_beside.Goals as goal
@@ -19,6 +19,6 @@ returns-clause-marked c part is slot i at =
     let own = c.index-part.result.now in
     let chosen = own-chosen c.args.self.now digest own c.requires c.index-part.ensures in
     let same : part ≡ own = same_Some part own (sym is ∙ chosen) in
-    let there = subst (λ (p : Part). StandsAt buckets (number_beside p digest) slot (tag_of digest) i) same at in
+    let there = subst (λ (p : Stripe). StandsAt buckets (number_beside p digest) slot (tag_of digest) i) same at in
     let numbered = subst (λ (n : ℕ). StandsAt buckets n slot (tag_of digest) i) (sym c.number_beside-number.ensures) there in
     c.marked.ensures.marked slot i (subst (λ (t : ℕ). StandsAt buckets c.number_beside-number.result slot t i) (sym c.tag_of.ensures.value) numbered)

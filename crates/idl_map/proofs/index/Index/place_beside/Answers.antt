@@ -1,6 +1,6 @@
 use Rattle.std.proofs.Common.{◌≡◌, ◌%◌, ℕ, sym, subst, ◌∙◌}
 use Rattle.std.proofs.lemmas.Option.{same_Some}
-use Rattle.idl_map.specs.declared.index.Part.{Part}
+use Rattle.idl_map.specs.declared.index.Stripe.{Stripe}
 use Rattle.idl_map.specs.Buckets.{IsThere, StandsAt, number_beside}
 use Rattle.idl_map.proofs.BucketLemmas.{beside-there, own-chosen}
 use Rattle.idl_map.proofs.index.Index.place_beside.Goals as goal
@@ -19,5 +19,5 @@ returns c part is t i at =
     let own = c.index-part.result.now in
     let chosen = own-chosen c.args.self.now digest own c.requires c.index-part.ensures in
     let same : part ≡ own = same_Some part own (sym is ∙ chosen) in
-    let there = subst (λ (p : Part). StandsAt buckets (number_beside p digest) c.args.slot t i) same at in
+    let there = subst (λ (p : Stripe). StandsAt buckets (number_beside p digest) c.args.slot t i) same at in
     c.place.ensures t i (subst (λ (n : ℕ). StandsAt buckets n c.args.slot t i) (sym c.number_beside.ensures) there)

@@ -1,6 +1,6 @@
 use Rattle.std.proofs.Common.{ℕ, inl, sym, subst, ◌∙◌}
 use Rattle.std.proofs.lemmas.Option.{same_Some}
-use Rattle.idl_map.specs.declared.index.Part.{Part}
+use Rattle.idl_map.specs.declared.index.Stripe.{Stripe}
 use Rattle.idl_map.specs.Buckets.{FindsIn, HasAt, tag_of}
 use Rattle.idl_map.proofs.BucketLemmas.{IsIndexed-kept, spot-there}
 use Rattle.idl_map.proofs.index.Index.put.Goals as goal
@@ -18,4 +18,4 @@ returns-clause-found c done part is =
     let chosen = c.requires.spot in
     let there = subst (λ (t : ℕ). HasAt buckets spot.number t c.args.place) chosen.tag (c.put.ensures.put done) in
     let found = subst (λ (n : ℕ). HasAt buckets n (tag_of spot.digest) c.args.place) chosen.number there in
-    subst (λ (p : Part). FindsIn p buckets spot.digest c.args.place) (same_Some chosen.part part (sym chosen.chosen ∙ is)) (found.0, inl found.1)
+    subst (λ (p : Stripe). FindsIn p buckets spot.digest c.args.place) (same_Some chosen.part part (sym chosen.chosen ∙ is)) (found.0, inl found.1)

@@ -1,6 +1,6 @@
 use Rattle.std.proofs.Common.{◌≡◌, ◌%◌, sym, subst, ◌∙◌}
 use Rattle.std.proofs.lemmas.Option.{same_Some}
-use Rattle.idl_map.specs.declared.index.Part.{Part}
+use Rattle.idl_map.specs.declared.index.Stripe.{Stripe}
 use Rattle.idl_map.specs.Buckets.{FindsIn}
 use Rattle.idl_map.proofs.BucketLemmas.{IsIndexed-kept, own-chosen}
 use Rattle.idl_map.proofs.index.Index.put_beside.Goals as goal
@@ -21,4 +21,4 @@ returns-clause-found c done part is =
     let own = c.index-part.result.now in
     let chosen = own-chosen c.args.self.now digest own c.requires c.index-part.ensures in
     let same : own ≡ part = same_Some own part (sym chosen ∙ is) in
-    subst (λ (p : Part). FindsIn p c.put_in.new.buckets digest c.args.place) same (c.put_in.ensures.put done)
+    subst (λ (p : Stripe). FindsIn p c.put_in.new.buckets digest c.args.place) same (c.put_in.ensures.put done)

@@ -1,7 +1,7 @@
 use Rattle.std.proofs.Common.{ap, ◌∙◌}
 use Rattle.idl_memo.specs.Progress.{after_key}
 use Rattle.idl_event.specs.Key.{key_eq}
-use Rattle.idl_event.specs.declared.asked.key.Key.TheVariants.{File}
+use Rattle.idl_event.specs.declared.asked.key.RootKey.TheVariants.{File}
 use Rattle.idl_prep.specs.Include.{file_in}
 use Rattle.idl_prep.proofs.directives.find.file_named.Goals as goal
 

@@ -3,7 +3,7 @@ use Rattle.std.specs.Option.{option_copied}
 use Rattle.idl_memo.specs.Progress.{after_key}
 use Rattle.idl_event.specs.Expanding.{arrived}
 use Rattle.idl_event.specs.Key.{key_eq}
-use Rattle.idl_event.specs.declared.asked.key.Key.TheVariants.{File}
+use Rattle.idl_event.specs.declared.asked.key.RootKey.TheVariants.{File}
 use Rattle.idl_prep.specs.Include.{file_in}
 use Rattle.idl_prep.proofs.IncludeLemmas.{arrival-one-none, arrival-one-some, found_as}
 use Rattle.idl_prep.proofs.directives.find.present.Goals as goal

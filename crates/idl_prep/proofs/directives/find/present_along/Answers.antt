@@ -3,7 +3,7 @@ use Rattle.std.proofs.lemmas.List.{drop_all}
 use Rattle.idl_memo.specs.Progress.{after_key}
 use Rattle.idl_event.specs.Expanding.{arrival, arrived}
 use Rattle.idl_event.specs.Key.{key_eq}
-use Rattle.idl_event.specs.declared.asked.key.Key.TheVariants as key
+use Rattle.idl_event.specs.declared.asked.key.RootKey.TheVariants as key
 use Rattle.idl_prep.specs.Include.{Found, directories_in, first_present}
 use Rattle.idl_source.specs.names.Candidates.{along}
 use Rattle.idl_prep.proofs.IncludeLemmas.{arrival-along, arrival-present_along}

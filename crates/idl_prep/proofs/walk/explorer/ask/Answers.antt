@@ -2,7 +2,7 @@ use Rattle.std.proofs.Common.{◌≡◌, None, ap, sym, subst, ◌∙◌}
 use Rattle.std.specs.List.{All}
 use Rattle.idl_event.specs.Items.{beginning}
 use Rattle.idl_event.specs.Expanding.{reached}
-use Rattle.idl_event.specs.declared.asked.key.Key.TheVariants.{File}
+use Rattle.idl_event.specs.declared.asked.key.RootKey.TheVariants.{File}
 use Rattle.idl_prep.specs.Include.{file_of}
 use Rattle.idl_prep.proofs.WalkLaws.ExploreLemmas.{absent-of}
 use Rattle.idl_prep.proofs.walk.explorer.ask.Goals as goal

@@ -1,6 +1,6 @@
 use Rattle.std.proofs.Common.{◌∙◌, ◌∷◌, [], Some, ap}
-use Rattle.idl_event.specs.declared.asked.key.Answer.TheVariants as answers
-use Rattle.idl_event.specs.declared.asked.key.Key.TheVariants as keys
+use Rattle.idl_event.specs.declared.asked.key.RootAnswer.TheVariants as answers
+use Rattle.idl_event.specs.declared.asked.key.RootKey.TheVariants as keys
 use Rattle.idl_event.specs.Key.{key_eq}
 use Rattle.idl_memo.specs.Cause.{changed}
 use Rattle.idl_prep.specs.Include.{directories_in}

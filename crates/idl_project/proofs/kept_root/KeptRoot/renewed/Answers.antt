@@ -4,10 +4,10 @@ use Rattle.std.specs.Prelude.{if◌then◌else◌}
 use Rattle.std.specs.Option.{option_copied, option_eq}
 use Rattle.std.specs.Str.{bytes_eq}
 use Rattle.idl_event.specs.Key.{key_eq}
-use Rattle.idl_event.specs.contracts.asked.key.AnswerPartialEq.TheImpl.{ghosts}
+use Rattle.idl_event.specs.contracts.asked.key.RootAnswerPartialEq.TheImpl.{ghosts}
 use Rattle.idl_event.specs.declared.told.event.Event.{Event}
-use Rattle.idl_event.specs.declared.asked.key.Answer.{Answer}
-use Rattle.idl_event.specs.declared.asked.key.Key.{Key}
+use Rattle.idl_event.specs.declared.asked.key.RootAnswer.{RootAnswer}
+use Rattle.idl_event.specs.declared.asked.key.RootKey.{RootKey}
 use Rattle.idl_memo.specs.Cause.{changed}
 use Rattle.idl_memo.specs.Fresh.{compared_at, stale_at}
 use Rattle.idl_memo.specs.Kept.{Kept, HoldsOver}
@@ -24,26 +24,26 @@ pub returns-then-holds_after-clause-kept : goal.returns-then-holds_after-clause-
 returns-then-holds_after-clause-kept c =
     let before = bank_of c.args.edited.now.base.now in
     let after = changed key_eq before c.args.edited.now.key.now (option_copied c.args.edited.now.answer) in
-    let kept : Kept Key (Option Answer) (List ℕ) (List Event) = c.args.self.now.result.value in
+    let kept : Kept RootKey (Option RootAnswer) (List ℕ) (List Event) = c.args.self.now.result.value in
     let told : IsTold bytes_eq (option_eq answer_eq) key_eq expansion before after kept c.holds_after.result =
     told-of before after kept c.holds_after.result
-    (subst (λ (k : Kept Key (Option Answer) (List ℕ) (List Event)). HoldsOver key_eq expansion before k → IsTold bytes_eq (option_eq ghosts.eq) key_eq expansion before after k c.holds_after.result)
+    (subst (λ (k : Kept RootKey (Option RootAnswer) (List ℕ) (List Event)). HoldsOver key_eq expansion before k → IsTold bytes_eq (option_eq ghosts.eq) key_eq expansion before after k c.holds_after.result)
     c.deref.ensures (c.holds_after.ensures.told expansion before after c.requires.cause) c.requires.kept.over) in
     let keys : c.holds_after.new.meter.compared ≡ compared_after c.args.meter.now.compared (keys_compared kept c.holds_after.result) =
-    c.holds_after.ensures.compared ∙ ap (λ (k : Kept Key (Option Answer) (List ℕ) (List Event)). compared_after c.args.meter.now.compared (keys_compared k c.holds_after.result)) c.deref.ensures in
+    c.holds_after.ensures.compared ∙ ap (λ (k : Kept RootKey (Option RootAnswer) (List ℕ) (List Event)). compared_after c.args.meter.now.compared (keys_compared k c.holds_after.result)) c.deref.ensures in
     IsKept-still before after c.args.self.now _ c.requires.kept c.in_ok-clone.ensures.cases c.in_ok-clone-2.ensures.cases (told.over.0 c.if-holds_after.true)
 
 pub returns-then-holds_after-clause-counts : goal.returns-then-holds_after-clause-counts
 returns-then-holds_after-clause-counts c =
     let before = bank_of c.args.edited.now.base.now in
     let after = changed key_eq before c.args.edited.now.key.now (option_copied c.args.edited.now.answer) in
-    let kept : Kept Key (Option Answer) (List ℕ) (List Event) = c.args.self.now.result.value in
+    let kept : Kept RootKey (Option RootAnswer) (List ℕ) (List Event) = c.args.self.now.result.value in
     let told : IsTold bytes_eq (option_eq answer_eq) key_eq expansion before after kept c.holds_after.result =
     told-of before after kept c.holds_after.result
-    (subst (λ (k : Kept Key (Option Answer) (List ℕ) (List Event)). HoldsOver key_eq expansion before k → IsTold bytes_eq (option_eq ghosts.eq) key_eq expansion before after k c.holds_after.result)
+    (subst (λ (k : Kept RootKey (Option RootAnswer) (List ℕ) (List Event)). HoldsOver key_eq expansion before k → IsTold bytes_eq (option_eq ghosts.eq) key_eq expansion before after k c.holds_after.result)
     c.deref.ensures (c.holds_after.ensures.told expansion before after c.requires.cause) c.requires.kept.over) in
     let keys : c.holds_after.new.meter.compared ≡ compared_after c.args.meter.now.compared (keys_compared kept c.holds_after.result) =
-    c.holds_after.ensures.compared ∙ ap (λ (k : Kept Key (Option Answer) (List ℕ) (List Event)). compared_after c.args.meter.now.compared (keys_compared k c.holds_after.result)) c.deref.ensures in
+    c.holds_after.ensures.compared ∙ ap (λ (k : Kept RootKey (Option RootAnswer) (List ℕ) (List Event)). compared_after c.args.meter.now.compared (keys_compared k c.holds_after.result)) c.deref.ensures in
     let stale : stale_at bytes_eq (option_eq answer_eq) expansion before after kept.text ≡ 0 = told.stale ∙ ap (λ (b : Bool). if b then 0 else 1) c.if-holds_after.true in
     meter-still c.args.meter.now c.holds_after.new.meter (stale_at bytes_eq (option_eq answer_eq) expansion before after kept.text)
     (compared_at bytes_eq (option_eq answer_eq) expansion key_eq before after kept.text) (keys_compared kept c.holds_after.result)
@@ -56,13 +56,13 @@ pub returns-clause-counts : goal.returns-clause-counts
 returns-clause-counts c =
     let before = bank_of c.args.edited.now.base.now in
     let after = changed key_eq before c.args.edited.now.key.now (option_copied c.args.edited.now.answer) in
-    let kept : Kept Key (Option Answer) (List ℕ) (List Event) = c.args.self.now.result.value in
+    let kept : Kept RootKey (Option RootAnswer) (List ℕ) (List Event) = c.args.self.now.result.value in
     let told : IsTold bytes_eq (option_eq answer_eq) key_eq expansion before after kept c.holds_after.result =
     told-of before after kept c.holds_after.result
-    (subst (λ (k : Kept Key (Option Answer) (List ℕ) (List Event)). HoldsOver key_eq expansion before k → IsTold bytes_eq (option_eq ghosts.eq) key_eq expansion before after k c.holds_after.result)
+    (subst (λ (k : Kept RootKey (Option RootAnswer) (List ℕ) (List Event)). HoldsOver key_eq expansion before k → IsTold bytes_eq (option_eq ghosts.eq) key_eq expansion before after k c.holds_after.result)
     c.deref.ensures (c.holds_after.ensures.told expansion before after c.requires.cause) c.requires.kept.over) in
     let keys : c.holds_after.new.meter.compared ≡ compared_after c.args.meter.now.compared (keys_compared kept c.holds_after.result) =
-    c.holds_after.ensures.compared ∙ ap (λ (k : Kept Key (Option Answer) (List ℕ) (List Event)). compared_after c.args.meter.now.compared (keys_compared k c.holds_after.result)) c.deref.ensures in
+    c.holds_after.ensures.compared ∙ ap (λ (k : Kept RootKey (Option RootAnswer) (List ℕ) (List Event)). compared_after c.args.meter.now.compared (keys_compared k c.holds_after.result)) c.deref.ensures in
     let stale : stale_at bytes_eq (option_eq answer_eq) expansion before after kept.text ≡ 1 = told.stale ∙ ap (λ (b : Bool). if b then 0 else 1) c.if-holds_after.false in
     meter-anew c.args.meter.now c.holds_after.new.meter c.again.new.meter (stale_at bytes_eq (option_eq answer_eq) expansion before after kept.text)
     (compared_at bytes_eq (option_eq answer_eq) expansion key_eq before after kept.text) (keys_compared kept c.holds_after.result)

@@ -1,6 +1,6 @@
 use Rattle.std.proofs.Common.{◌≡◌, ◌∙◌, ℕ, List, Ok, refl, ap, subst, sym}
 use Rattle.std.specs.Map.{keys_of}
-use Rattle.idl_event.specs.declared.asked.key.Key.TheVariants as keys
+use Rattle.idl_event.specs.declared.asked.key.RootKey.TheVariants as keys
 use Rattle.idl_source.specs.texts.Texts.{Texts}
 use Rattle.idl_project.specs.Project.{Inputs, Project, with_files}
 use Rattle.idl_project.specs.UpToDate.{State}

@@ -3,8 +3,8 @@ use Rattle.std.specs.Map.{keys_of}
 use Rattle.std.specs.Result.{result_err}
 use Rattle.std.specs.Str.{bytes_eq}
 use Rattle.indexmap.specs.IndexMap.{insert_entry}
-use Rattle.idl_event.specs.declared.asked.key.Answer.TheVariants as answers
-use Rattle.idl_event.specs.declared.asked.key.Key.TheVariants as keys
+use Rattle.idl_event.specs.declared.asked.key.RootAnswer.TheVariants as answers
+use Rattle.idl_event.specs.declared.asked.key.RootKey.TheVariants as keys
 use Rattle.idl_project.specs.Edits.{Define, after, macros_with}
 use Rattle.idl_project.specs.Project.{Project}
 use Rattle.idl_project.specs.UpToDate.{State}

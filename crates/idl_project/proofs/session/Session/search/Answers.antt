@@ -1,7 +1,7 @@
 use Rattle.std.proofs.Common.{◌∙◌, ℕ, List, map, refl, ap, sym}
 use Rattle.std.specs.Borrow.{Bor}
 use Rattle.std.specs.Map.{keys_of}
-use Rattle.idl_event.specs.declared.asked.key.Key.TheVariants as keys
+use Rattle.idl_event.specs.declared.asked.key.RootKey.TheVariants as keys
 use Rattle.idl_project.specs.Edits.{Search, after}
 use Rattle.idl_project.specs.Project.{Project}
 use Rattle.idl_project.specs.UpToDate.{State}

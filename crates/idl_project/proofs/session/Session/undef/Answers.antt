@@ -1,6 +1,6 @@
 use Rattle.std.proofs.Common.{◌∙◌, None, refl, ap, sym}
 use Rattle.std.specs.Map.{keys_of}
-use Rattle.idl_event.specs.declared.asked.key.Key.TheVariants as keys
+use Rattle.idl_event.specs.declared.asked.key.RootKey.TheVariants as keys
 use Rattle.idl_macro.specs.Words.{is_macro_word}
 use Rattle.idl_project.specs.Edits.{Undef, after}
 use Rattle.idl_project.specs.Project.{Project}

@@ -1,6 +1,6 @@
 use Rattle.std.proofs.Common.{◌≡◌, ◌∙◌, ◌∷◌, ◌++◌, [], ap, length, rules}
 use Rattle.idl_base.specs.Spans.{pieces}
-use Rattle.idl_base.specs.declared.texts.Span.{Span}
+use Rattle.idl_base.specs.declared.texts.ByteRange.{ByteRange}
 use Rattle.idl_root.specs.Printed.{entry_over}
 use Rattle.idl_root.proofs.PrintLemmas.{rows-one}
 use Rattle.idl_root.proofs.compiling.printing.Written.push.Goals as goal
@@ -10,7 +10,7 @@ returns-in_ok-push-clause-rows c =
     let e = entry_over c.args.name.now.0 c.args.name.now.1 in
     let old = c.args.self.now in
     let bytes = c.push_entry.new.buffer.items in
-    let span : Span = record { from = c.len-from.result; to = c.len-to.result } in
+    let span : ByteRange = record { from = c.len-from.result; to = c.len-to.result } in
     let more : c.push.new.self.items ≡ old.spans.items ++ span ∷ [] = search rules in
     let from : c.len-from.result ≡ length old.bytes.items = search rules in
     let to : c.len-to.result ≡ length bytes = search rules in

@@ -2,7 +2,7 @@ use Rattle.std.proofs.Common.{◌≡◌, ◌∙◌, ℕ, List, ap, sym}
 use Rattle.std.specs.Ordering.{nat_cmp}
 use Rattle.std.specs.Cmp.Lexicographic.{slice_cmp}
 use Rattle.std.specs.FinMap.{insert, put}
-use Rattle.idl_source.specs.declared.texts.entries.Entry.{Entry}
+use Rattle.idl_source.specs.declared.texts.entries.NamedFile.{NamedFile}
 use Rattle.idl_source.specs.texts.Texts.{Texts}
 use Rattle.idl_source.specs.texts.Entries.{entries_of}
 use Rattle.idl_source.proofs.TextLemmas.{put-entries, texts, AreSorted}
@@ -16,7 +16,7 @@ after c =
     let es = entries_of c.self.inside.entries.items in
     put-entries es (entries_of c.in_ok-entries.entries.items) c.args.name c.args.lines.items c.self.invariant
     (c.in_ok-entries.ensures
-    ∙ ap (λ (e : Entry). put (slice_cmp nat_cmp) e.name e.file es) c.in_ok-entry.ensures.ok
+    ∙ ap (λ (e : NamedFile). put (slice_cmp nat_cmp) e.name e.file es) c.in_ok-entry.ensures.ok
     ∙ ap (λ (f : List (List ℕ)). put (slice_cmp nat_cmp) c.args.name f es) c.in_ok-file.ensures)
 
 pub invariant_of-result : goal.invariant_of-result

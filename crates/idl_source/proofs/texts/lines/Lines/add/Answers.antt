@@ -1,6 +1,6 @@
 use Rattle.std.proofs.Common.{◌≡◌, ◌∙◌, ◌++◌, ◌∷◌, [], ap, sym, append_assoc, length}
 use Rattle.idl_base.specs.Spans.{pieces}
-use Rattle.idl_base.specs.declared.texts.Span.{Span}
+use Rattle.idl_base.specs.declared.texts.ByteRange.{ByteRange}
 use Rattle.idl_source.proofs.LinesLemmas.{lines-more, lines-one, pieces-one}
 use Rattle.idl_source.proofs.texts.lines.Lines.add.Goals as goal
 
@@ -12,7 +12,7 @@ invariant_of-self-in_err-push c =
 pub invariant_of-self-2 : goal.invariant_of-self-2
 invariant_of-self-2 c =
     let inside = c.self.inside in
-    let span : Span = record { from = c.len-from.result; to = c.len-to.result } in
+    let span : ByteRange = record { from = c.len-from.result; to = c.len-to.result } in
     let from : c.len-from.result ≡ length inside.bytes.items = c.len-from.ensures in
     let to : c.len-to.result ≡ length (inside.bytes.items ++ c.args.line.now) = c.len-to.ensures ∙ ap length c.in_ok-extend_from_slice.ensures.items in
     rw c.in_ok-extend_from_slice.ensures.items (rw c.in_ok-push.ensures.items (lines-one inside.bytes.items c.args.line.now inside.spans.items span from to c.requires c.self.invariant))
@@ -21,7 +21,7 @@ pub returns : goal.returns
 returns c =
     let inside = c.self.inside in
     let line = c.args.line.now in
-    let span : Span = record { from = c.len-from.result; to = c.len-to.result } in
+    let span : ByteRange = record { from = c.len-from.result; to = c.len-to.result } in
     let from : c.len-from.result ≡ length inside.bytes.items = c.len-from.ensures in
     let to : c.len-to.result ≡ length (inside.bytes.items ++ line) = c.len-to.ensures ∙ ap length c.in_ok-extend_from_slice.ensures.items in
     let step = pieces-one inside.bytes.items line inside.spans.items span from to c.self.invariant in
