@@ -1,7 +1,7 @@
 //! What is known of a unit so far.
 
 pub(crate) mod bodies;
-pub(crate) mod cursor;
+pub(crate) mod clauses;
 pub(crate) mod labels;
 pub(crate) mod last_type;
 pub(crate) mod types;

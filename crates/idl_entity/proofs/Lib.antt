@@ -1,3 +1,2 @@
-mod FewLemmas
 pub mod IdLemmas
 pub mod PathLemmas

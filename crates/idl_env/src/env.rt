@@ -2,6 +2,7 @@
 
 ghost use Rattle.std.specs.Prelude.{◌≡◌, ◌∷◌, ◌++◌, [], IfOk, ◌+◌, ◌<◌, ◌≤◌, length};
 ghost use Rattle.std.specs.Option.{option_copied};
+ghost use Rattle.idl_entity.specs.DataType.{plain_type};
 ghost use Rattle.idl_env.specs.Facts.{answers};
 ghost use Rattle.idl_env.specs.Turns.{declared_named};
 
@@ -12,7 +13,9 @@ use crate::answering::count::{one_more, sum};
 use crate::answering::state::State;
 use crate::keys::digested::DigestedKey;
 use crate::keys::key::Key;
-use idl_base::GhostList;
+use crate::plain::PlainTypes;
+use idl_base::{GhostList, Shared};
+use idl_entity::{DataType, Element};
 use idl_map::Lent;
 use idl_memo::Bank;
 use std::alloc::{AllocError, Global};
@@ -27,6 +30,7 @@ pub struct Env {
     count: usize,
     // It stands apart, since an environment is handed on with each unit.
     state: Box<State>,
+    plain: PlainTypes,
 }
 
 impl Model for Env {
@@ -51,6 +55,7 @@ impl Drop for Env {
             facts: _facts,
             count: _count,
             state: _state,
+            plain: _plain,
         } = self;
     }
 }
@@ -61,11 +66,13 @@ impl Env {
         ensures { IfOk result (λ env. env ≡ []) }
     {
         let state = Box::new(alloc, State::new(alloc)?)?;
+        let plain = PlainTypes::new(alloc)?;
         Ok(Env {
             alloc,
             facts: GhostList::new(),
             count: 0,
             state,
+            plain,
         })
     }
 
@@ -90,6 +97,7 @@ impl Env {
             facts: before,
             count,
             mut state,
+            plain,
         } = self;
         let count = counted(count, facts)?;
         state.add(alloc, facts)?;
@@ -98,6 +106,7 @@ impl Env {
             facts: before.and(facts),
             count,
             state,
+            plain,
         })
     }
 
@@ -110,6 +119,7 @@ impl Env {
             facts: before,
             count,
             mut state,
+            plain,
         } = self;
         let count = counted(count, facts.get())?;
         let after = before.and(facts.get());
@@ -121,7 +131,18 @@ impl Env {
             facts: after,
             count,
             state,
+            plain,
         })
+    }
+
+    /// A type without sequences and arrays. One of keywords is shared by all that is declared with it.
+    pub fn plain(&self, element: Element) -> Result<Shared<DataType>, AllocError>
+        ensures { IfOk result (λ t. t ≡ plain_type element) }
+    {
+        match self.plain.find(&element) {
+            Some(t) => t.clone(),
+            None => DataType::plain(self.alloc, element),
+        }
     }
 }
 

@@ -8,6 +8,7 @@ mod answering;
 mod apart;
 mod env;
 mod keys;
+mod plain;
 
 pub use additions::addition::{Addition, Step};
 pub use additions::facts::Facts;

@@ -50,8 +50,8 @@ entry-pushed {start} {text} answered bank e there fault is same h fault_is =
     let row : text ≡ start ++ text_over bank (row_pieces e) = h ∙ ap (λ (x : ScopeEntity). start ++ text_over bank (row_pieces x)) same in
     subst (λ x. IsPushed x (told_row fault) start text) told (record { row = row; has_row = refl; fault = fault_is })
 
-pub entry-noted : {before after : List (Key × Option Answer)} (answered : Option ScopeEntity) (bank : Key → Option Answer) (e there : ScopeEntity) → answered ≡ Some e → there ≡ e → after ≡ noted_all key_eq bank before (ids_in (row_pieces there)) → after ≡ (run key_eq (entry_in answered) bank before).1
-entry-noted {before} {after} answered bank e there is same h =
+pub entry-noted : {after : List (Key × Option Answer)} (before : List (Key × Option Answer)) (answered : Option ScopeEntity) (bank : Key → Option Answer) (e there : ScopeEntity) → answered ≡ Some e → there ≡ e → after ≡ noted_all key_eq bank before (ids_in (row_pieces there)) → after ≡ (run key_eq (entry_in answered) bank before).1
+entry-noted before answered bank e there is same h =
     h
     ∙ ap (λ (x : ScopeEntity). noted_all key_eq bank before (ids_in (row_pieces x))) same
     ∙ ap (noted_all key_eq bank before) (sym (declared-asked e bank))

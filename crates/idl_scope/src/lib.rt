@@ -4,6 +4,7 @@
 //! are allowed.
 #![tactic(auto)]
 
+mod cursor;
 mod fault;
 mod finds;
 mod found;
@@ -11,6 +12,7 @@ pub mod laws;
 mod lookup;
 mod naming;
 
+pub use cursor::Cursor;
 pub use fault::{NameCode, NameFault};
 pub use found::Found;
 pub use idl_entity::Entity;

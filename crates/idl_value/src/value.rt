@@ -1,5 +1,8 @@
 //! Values.
 
+ghost use Rattle.std.specs.Prelude.{◌≡◌};
+ghost use Rattle.idl_value.specs.Digest.{integer_digest};
+
 use idl_base::{Bytes, Datum, Seq, mixed, with_bytes};
 use idl_map::Digest;
 
@@ -47,7 +50,7 @@ impl Digest for Value {
     #[tactic(auto, unfolding(crate::specs::Digest::value_digest))]
     fn digest(&self) -> u64 {
         match self {
-            Value::Integer(number) => with_bytes(0, &number.to_le_bytes()),
+            Value::Integer(number) => integer_digest(*number),
             Value::Boolean(_) => 1,
             Value::Character(c) => mixed(2, u64::from(*c)),
             Value::WideCharacter(c) => mixed(3, u64::from(*c)),
@@ -56,4 +59,11 @@ impl Digest for Value {
             Value::Enumerator(_, name) => with_bytes(6, name.as_bytes()),
         }
     }
+}
+
+// The digest of an integer.
+fn integer_digest(number: i128) -> u64
+    ensures { result ≡ integer_digest number }
+{
+    with_bytes(0, &number.to_le_bytes())
 }

@@ -19,7 +19,6 @@ use Rattle.idl_env.specs.declared.additions.addition.Addition.TheVariants.{Decla
 use Rattle.idl_env.specs.declared.answering.answer.Answer.{Answer}
 use Rattle.idl_env.specs.declared.answering.answer.Scope.{Scope}
 use Rattle.idl_entity.specs.declared.entity.Entity.{Entity}
-use Rattle.idl_env.specs.declared.keys.key.Key.{Key}
 use Rattle.idl_env.specs.declared.keys.key.Key.TheVariants.{Declared}
 use Rattle.idl_entity.specs.declared.kind.Kind.TheVariants.{Interface, Module}
 use Rattle.idl_entity.specs.declared.kind.Stage.TheVariants.{Ahead, Open, Complete}

@@ -18,7 +18,6 @@ use Rattle.idl_check.specs.tables.Rules.{has_other_prefix, is_ahead, is_declared
 use Rattle.idl_check.specs.walk.Walk.{Walk, turns_at}
 use Rattle.idl_check.specs.declared.ids.identifying.Ids.{Ids}
 use Rattle.idl_check.specs.declared.tables.standing.Standing.{Standing}
-use Rattle.idl_fault.specs.declared.code.Code.{Code}
 use Rattle.idl_fault.specs.declared.code.Code.TheVariants.{AlreadyDeclared, NameOfScope, DeclaredAfterUse, OtherForward, DeclaredAgain, OtherPrefix}
 use Rattle.idl_lex.specs.kinds.Keywords.{folded}
 use Rattle.idl_memo.proofs.QueryLaws.{outcome-and_then}

@@ -115,7 +115,7 @@ braced-same n (t ∷ ts) = brace-if (opens (role t)) (braced_so (roles_of ts)) n
 
 rule-from-same : (r : Role) (ts : List Token) → rule_by r ts ≡ rule_from r (roles_of ts)
 rule-from-same roles.Local ts = ap (λ b. cond b Heading Declaration) (begins-same is_interface ts)
-rule-from-same other ts = refl
+rule-from-same r ts = refl
 
 rule-same : (tokens : List Token) → rule_of tokens ≡ rule_so (roles_of tokens)
 rule-same [] = refl

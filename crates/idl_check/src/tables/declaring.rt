@@ -13,7 +13,7 @@ ghost use Rattle.idl_unit.specs.TokenRules.{first};
 use crate::ids::identifying::{is_of_other_prefix, may_be_ahead};
 use crate::tables::codes::first_code;
 use crate::tables::standing::Standing;
-use crate::told::bodies::Clauses;
+use crate::told::clauses::Clauses;
 use crate::told::last_type::LastType;
 use crate::told::types::names_of;
 use idl_base::{Bytes, Seq, Shared};
@@ -122,6 +122,7 @@ pub struct Ending<'a> {
 }
 
 /// What the names that are declared next are declared with.
+#[derive(Drop)]
 pub struct Written {
     /// The type that was written last.
     pub data_type: LastType,
@@ -131,17 +132,6 @@ pub struct Written {
     pub enumeration: Seq<Bytes>,
     /// The enumerators of the next enum.
     pub enumerators: Seq<Bytes>,
-}
-
-impl Drop for Written {
-    fn drop(self) {
-        let Written {
-            data_type: _data_type,
-            constants: _constants,
-            enumeration: _enumeration,
-            enumerators: _enumerators,
-        } = self;
-    }
 }
 
 impl Written {

@@ -1,6 +1,6 @@
 //! What stands under a name where it is declared.
 
-ghost use Rattle.std.specs.Prelude.{◌≡◌, ◌≤◌, ℕ, IfOk, OnOk, is_some, map};
+ghost use Rattle.std.specs.Prelude.{◌≡◌, ℕ, IfOk, OnOk, is_some, map};
 ghost use Rattle.std.specs.Option.{option_copied};
 ghost use Rattle.std.specs.List.{list_any};
 ghost use Rattle.idl_check.specs.tables.Declaring.{inherited, standing};
@@ -23,6 +23,7 @@ use idl_scope::View;
 use std::alloc::AllocError;
 
 /// What stands under a folded name in the scope in which it is declared.
+#[derive(Drop)]
 pub struct Standing {
     /// What it is declared as already.
     pub there: Option<Shared<Entity>>,
@@ -32,17 +33,6 @@ pub struct Standing {
     pub is_inherited: bool,
     /// What is told of its id, if it has one.
     pub ids: Option<Ids>,
-}
-
-impl Drop for Standing {
-    fn drop(self) {
-        let Standing {
-            there: _there,
-            is_used: _is_used,
-            is_inherited: _is_inherited,
-            ids: _ids,
-        } = self;
-    }
 }
 
 /// What stands under the name of an entity in the scope in which it is declared.

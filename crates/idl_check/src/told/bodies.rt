@@ -1,50 +1,21 @@
-//! What is told inside a unit of what it declares: the members of scopes, and what clauses say.
+//! What is told inside a unit of what it declares: the members of scopes.
 
-ghost use Rattle.std.specs.Prelude.{◌≡◌, ◌∷◌, ◌++◌, ◌&&◌, [], IfNone, IfOk, OnOk, drop, option_to_list};
-ghost use Rattle.idl_entity.specs.Kind.{kind_eq};
-ghost use Rattle.idl_entity.specs.declared.kind.Kind.TheVariants.{Attribute};
-ghost use Rattle.idl_check.specs.told.Bodies.{begun_body, comes_out, goes_in, is_member, is_nothing, nested, no_clauses, raises, raising, signature_of, told_body, told_innermost, with_array_body, with_array_type, with_body_label, with_context, with_last_type, with_member, with_name, with_next_label, with_raised};
+ghost use Rattle.std.specs.Prelude.{◌≡◌, ◌∷◌, ◌++◌, [], IfNone, IfOk, OnOk, drop, option_to_list};
+ghost use Rattle.idl_check.specs.told.Bodies.{begun_body, comes_out, goes_in, is_member, nested, told_body, told_innermost, with_array_body, with_array_type, with_body_label, with_last_type, with_member, with_name, with_next_label};
 
+use crate::told::clauses::Clauses;
 use crate::told::last_type::LastType;
 use idl_base::{Seq, Shared};
-use idl_entity::{DataType, Entity, Kind, Member, Path, Signature, Stage};
-use idl_parts::{Declaration, Use};
-use idl_tree::Several;
+use idl_entity::{DataType, Entity, Kind, Member, Stage};
+use idl_parts::Declaration;
 use idl_tree::declarations::Direction;
-use idl_value::{Value, joined};
+use idl_value::Value;
 use std::alloc::{AllocError, Global};
 use std::marker::Model;
 use std::mem::replace;
 
-/// What the clauses behind an operation or an attribute say. Most units have none, which takes no
-/// memory.
-#[derive(Drop)]
-pub struct Clauses {
-    alloc: Global,
-    told: Option<Box<BodySoFar>>,
-}
-
-// The same of a unit that has some.
-struct BodySoFar {
-    /// The paths of the exceptions that are raised.
-    raised: Vec<Path>,
-    /// The paths of those that the writing of an attribute raises.
-    raised_by_set: Vec<Path>,
-    /// The texts of a context.
-    contexts: Vec<Seq<u16>>,
-}
-
-impl Drop for BodySoFar {
-    fn drop(self) {
-        let BodySoFar {
-            raised: _raised,
-            raised_by_set: _raised_by_set,
-            contexts: _contexts,
-        } = self;
-    }
-}
-
 /// A scope that begins and ends in a unit.
+#[derive(Drop)]
 pub struct Body {
     /// What it is of.
     entity: Option<Shared<Entity>>,
@@ -56,32 +27,13 @@ pub struct Body {
     labels: Vec<Option<Value>>,
 }
 
-impl Drop for Body {
-    fn drop(self) {
-        let Body {
-            entity: _entity,
-            data_type: _data_type,
-            members: _members,
-            labels: _labels,
-        } = self;
-    }
-}
-
 /// The scopes of a unit around the walk, the innermost first. That one stands in place: most units
 /// begin one at a time, which then takes no memory.
+#[derive(Drop)]
 pub struct Nest {
     innermost: Option<Body>,
     /// Those around the innermost, if there is one.
     around: Vec<Body>,
-}
-
-impl Drop for Nest {
-    fn drop(self) {
-        let Nest {
-            innermost: _innermost,
-            around: _around,
-        } = self;
-    }
 }
 
 impl Model for Nest {
@@ -91,27 +43,6 @@ impl Model for Nest {
     ghost Value = { List ToldBody };
 
     ghost view = { λ nest. nested nest.innermost nest.around.items };
-}
-
-impl Model for Clauses {
-    ghost use Rattle.idl_check.specs.told.Bodies.{Clauses as ToldClauses, no_clauses};
-    ghost use Rattle.idl_check.specs.Apart.{boxed_or};
-
-    ghost Value = { ToldClauses };
-
-    ghost view = { λ clauses. boxed_or no_clauses clauses.told };
-}
-
-impl Model for BodySoFar {
-    ghost use Rattle.idl_check.specs.told.Bodies.{Clauses as ToldClauses};
-
-    ghost Value = { ToldClauses };
-
-    ghost view = { λ told. record {
-      raised = told.raised.items;
-      raised_by_set = told.raised_by_set.items;
-      contexts = told.contexts.items;
-    } };
 }
 
 impl Model for Body {
@@ -125,161 +56,6 @@ impl Model for Body {
       members = body.members.items;
       labels = body.labels.items;
     } };
-}
-
-impl Clauses {
-    /// Before the first. It takes no memory.
-    pub fn new(alloc: Global) -> Clauses
-        ensures { result ≡ no_clauses }
-    {
-        Clauses { alloc, told: None }
-    }
-
-    /// The path of what a name denotes that is used so.
-    pub fn add_raised(&mut self, way: Use, path: &Path) -> Result<(), AllocError>
-        ensures { OnOk result (self.new ≡ with_raised way path.now self.old) }
-    {
-        match way {
-            Use::Raised | Use::RaisedBySet => {
-                let mut told = self.take()?;
-                told.add_raised(way, path)?;
-                self.told = Some(told);
-                Ok(())
-            }
-            _ => Ok(()),
-        }
-    }
-
-    /// A text of a context: string literals, which are joined.
-    pub fn add_context(&mut self, alloc: Global, text: &Several<Seq<u16>>) -> Result<(), AllocError>
-        ensures { OnOk result (self.new ≡ with_context text.now self.old) }
-    {
-        let mut told = self.take()?;
-        told.contexts.push(joined(alloc, text)?)?;
-        self.told = Some(told);
-        Ok(())
-    }
-
-    // Those so far.
-    #[inline(never)]
-    fn take(&mut self) -> Result<Box<BodySoFar>, AllocError>
-        ensures { IfOk result (λ told. told.value ≡ self.old) }
-    {
-        match self.told.take() {
-            Some(told) => Ok(told),
-            None => Ok(Box::new(self.alloc, BodySoFar::new(self.alloc))?),
-        }
-    }
-
-    // Whether reading or writing raises something.
-    fn raises(&self) -> bool
-        ensures { result ≡ raises self.now }
-    {
-        match &self.told {
-            Some(told) => told.raises(),
-            None => false,
-        }
-    }
-
-    // Whether it is an attribute that raises something.
-    fn is_raising(&self, entity: &Entity) -> bool
-        ensures { result ≡ (kind_eq entity.now.kind Attribute && raises self.now) }
-    {
-        entity.kind() == Kind::Attribute && self.raises()
-    }
-
-    /// Puts in the attribute that was declared last, if it raises something.
-    pub fn add_raising(
-        &self,
-        begun: &mut Seq<Shared<Entity>>,
-        last: &Option<Shared<Entity>>,
-    ) -> Result<(), AllocError>
-        ensures { OnOk result (begun.new ≡ begun.old ++ raising last.now self.now) }
-    {
-        let Some(entity) = last else {
-            return Ok(());
-        };
-        if !self.is_raising(entity.get()) {
-            return Ok(());
-        }
-        begun.push(entity.clone()?)?;
-        Ok(())
-    }
-
-    /// What a name shows that has these members and clauses.
-    pub fn signature(
-        &self,
-        alloc: Global,
-        members: Vec<Member>,
-    ) -> Result<Shared<Signature>, AllocError>
-        ensures { IfOk result (λ s. s ≡ signature_of members.items self.now) }
-    {
-        match &self.told {
-            Some(told) => told.signature(alloc, members),
-            None => Shared::new(
-                alloc,
-                Signature {
-                    members: Seq::from_vec(members),
-                    raised: Seq::new(alloc),
-                    raised_by_set: Seq::new(alloc),
-                    contexts: Seq::new(alloc),
-                },
-            ),
-        }
-    }
-}
-
-impl BodySoFar {
-    // Before the first. It takes no memory.
-    fn new(alloc: Global) -> BodySoFar
-        ensures { result ≡ no_clauses }
-    {
-        BodySoFar {
-            raised: Vec::new(alloc),
-            raised_by_set: Vec::new(alloc),
-            contexts: Vec::new(alloc),
-        }
-    }
-
-    // The path of what a name denotes that is used so.
-    fn add_raised(&mut self, way: Use, path: &Path) -> Result<(), AllocError>
-        ensures { OnOk result (self.new ≡ with_raised way path.now self.old) }
-    {
-        match way {
-            Use::Raised => self.raised.push(path.clone()?)?,
-            Use::RaisedBySet => self.raised_by_set.push(path.clone()?)?,
-            _ => {}
-        }
-        Ok(())
-    }
-
-    // Whether reading or writing raises something.
-    fn raises(&self) -> bool
-        ensures { result ≡ raises self.now }
-    {
-        !(is_nothing(self.raised.as_slice()) && is_nothing(self.raised_by_set.as_slice()))
-    }
-
-    // What a name shows that has these members and clauses.
-    #[inline(never)]
-    fn signature(
-        &self,
-        alloc: Global,
-        members: Vec<Member>,
-    ) -> Result<Shared<Signature>, AllocError>
-        ensures { IfOk result (λ s. s ≡ signature_of members.items self.now) }
-    {
-        let raised = Seq::from_vec(Vec::from_clones(alloc, self.raised.as_slice())?);
-        let raised_by_set = Seq::from_vec(Vec::from_clones(alloc, self.raised_by_set.as_slice())?);
-        let contexts = Seq::from_vec(Vec::from_clones(alloc, self.contexts.as_slice())?);
-        let signature = Signature {
-            members: Seq::from_vec(members),
-            raised,
-            raised_by_set,
-            contexts,
-        };
-        Shared::new(alloc, signature)
-    }
 }
 
 impl Body {
@@ -483,13 +259,6 @@ fn set_last_type(members: &mut Vec<Member>, data_type: Option<Shared<DataType>>)
 // As many members as most operations, or most structs, have at the least.
 fn room_for(kind: Kind) -> usize {
     if kind == Kind::Parameter { 2 } else { 4 }
-}
-
-// Whether there is none.
-fn is_nothing(paths: &[Path]) -> bool
-    ensures { result ≡ is_nothing paths.now }
-{
-    paths.is_empty()
 }
 
 // Whether it is a member or a parameter.

@@ -12,18 +12,10 @@ use std::marker::Model;
 
 /// The type that was written last, if there is one. Most scopes that end are used as a type no more:
 /// so of such a type the path alone is kept, and it takes memory where it is asked for.
+#[derive(Drop)]
 pub struct LastType {
     told: Option<Shared<DataType>>,
     named: Option<Path>,
-}
-
-impl Drop for LastType {
-    fn drop(self) {
-        let LastType {
-            told: _told,
-            named: _named,
-        } = self;
-    }
 }
 
 impl Model for LastType {

@@ -155,7 +155,7 @@ pub fn written_as(
             return sequence_of(env.alloc(), bound, before);
         }
     };
-    Ok(Some(DataType::plain(env.alloc(), element)?))
+    Ok(Some(env.plain(element)?))
 }
 
 // A sequence of a type, if there is one.

@@ -17,6 +17,7 @@ use std::marker::Model;
 use std::mem::replace;
 
 /// How far the expressions of a unit have come. Most units have none, which takes no memory.
+#[derive(Drop)]
 pub struct Values {
     alloc: Global,
     /// Inside one, the number of its first token.
@@ -27,18 +28,6 @@ pub struct Values {
     pub constant: Option<Value>,
     /// What is kept of them, if there are any.
     pub kept: Option<Box<ValuesSoFar>>,
-}
-
-impl Drop for Values {
-    fn drop(self) {
-        let Values {
-            alloc: _alloc,
-            begin: _begin,
-            bound: _bound,
-            constant: _constant,
-            kept: _kept,
-        } = self;
-    }
 }
 
 /// What is kept of the expressions of a unit that has some.

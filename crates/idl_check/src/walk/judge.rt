@@ -1,6 +1,6 @@
 //! The verdict of a unit of tokens.
 
-ghost use Rattle.std.specs.Prelude.{◌≡◌, ◌≤◌, ◌++◌, ◌-◌, [], ℕ, IfOk, List, None, OnOk, Some, length, map};
+ghost use Rattle.std.specs.Prelude.{◌≡◌, ◌≤◌, ◌++◌, ◌-◌, ℕ, IfOk, List, None, OnOk, Some, length, map};
 ghost use Rattle.idl_check.specs.walk.Held.{HasRoomFor, held};
 ghost use Rattle.idl_check.specs.walk.Placing.{opening_faults, step_of};
 ghost use Rattle.idl_check.specs.walk.Verdict.{asking, by_names, first_part, judged, misplaced, refused, row_depth, sound, token_verdict};

@@ -21,7 +21,6 @@ ghost use Rattle.idl_parts.specs.Item.{item_length};
 ghost use Rattle.idl_parts.specs.Part.{Part as item};
 ghost use Rattle.idl_unit.specs.TokenRules.{fault_at, first};
 
-use crate::tables::bases::Bases;
 use crate::tables::declaring::{declared_code, stays};
 use crate::tables::standing::{Standing, standing_of};
 use crate::tables::using::{Denoted, Denoting, introduce, name_code, used_code};

@@ -24,7 +24,7 @@ use crate::told::types::{target_in, written_as};
 use crate::told::values::{Types, code_of};
 use crate::walk::walker::Walker;
 use idl_base::{Bytes, Seq};
-use idl_entity::{DataType, Element};
+use idl_entity::Element;
 use idl_env::Addition;
 use idl_fault::Code;
 use idl_parts::{Purpose, Shape};
@@ -232,8 +232,7 @@ impl<'a> Walker<'a> {
         let target = ConstantType::of_keywords(discrete);
         let discriminates = target.discriminates();
         let element = Element::Constants(target.clone()?);
-        let data_type = DataType::plain(self.env.alloc(), element)?;
-        self.written.data_type = LastType::told(Some(data_type));
+        self.written.data_type = LastType::told(Some(self.env.plain(element)?));
         let labels = Labels::new(self.env.alloc(), Some(target), 0);
         self.unions.insert(0, labels)?;
         if discriminates {

@@ -2,7 +2,7 @@
 
 ghost use Rattle.std.specs.Prelude.{◌≡◌, ◌-◌, ◌∷◌, ◌++◌, [], false, IfOk, IfSome, IsFalse, IsTrue, List};
 ghost use Rattle.idl_root.specs.Followed.{AreBeside, IsFollowed, IsNext, StayAlike};
-ghost use Rattle.idl_root.specs.Kept.{AreKept, IsJudged, added_by};
+ghost use Rattle.idl_root.specs.Kept.{IsJudged, added_by};
 ghost use Rattle.idl_root.specs.declared.kept.kept_units.KeptUnit.{KeptUnit as RootKeptUnit};
 ghost use Rattle.idl_root.specs.declared.kept.kept_units.KeptUnit.TheVariants.{Judged};
 ghost use Rattle.idl_env.specs.Facts.{UnitFacts, operations_among};

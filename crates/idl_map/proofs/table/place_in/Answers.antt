@@ -17,8 +17,8 @@ returns-then-is_at g c i = (
   λ at. c.in_ok-place.ensures ∙ c.get.ensures ∙ c.requires c.args.key.now i at,
 )
 
-pub returns : goal.returns
-returns g c i = (
+pub returns-else-is_at : goal.returns-else-is_at
+returns-else-is_at g c i = (
   λ h. absurd (none-some i h),
   λ at.
       let place = c.in_ok-place.ensures ∙ c.get.ensures ∙ c.requires c.args.key.now i at in

@@ -17,5 +17,5 @@ returns-clause-entry c =
 pub returns-clause-log : goal.returns-clause-log
 returns-clause-log c =
     let written = grows-between (state c.taking-row.result) (state c.push_row.new.self) c.taking-row.ensures.facts c.taking-row.ensures.text c.taking-row.ensures.log c.give_back.ensures.text c.give_back.ensures.log c.in_ok-push_row.ensures in
-    entry-noted (entity_in (option_copied c.args.answer)) (answers c.args.env.now) c.in-Some.entity.now c.get.result.now
+    entry-noted c.args.log.now (entity_in (option_copied c.args.answer)) (answers c.args.env.now) c.in-Some.entity.now c.get.result.now
     (sym c.in-Some.ensures) c.get.ensures written.1

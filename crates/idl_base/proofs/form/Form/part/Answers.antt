@@ -1,4 +1,4 @@
-use Rattle.std.proofs.Common.{◌∙◌, ◌≤◌, ◌+◌, IfOk, ap, length, slice_range, subst, sym}
+use Rattle.std.proofs.Common.{◌≡◌, ◌∙◌, ◌≤◌, ◌+◌, IfOk, ap, length, slice_range, subst, sym}
 use Rattle.std.specs.Rc.{rc_slice_items}
 use Rattle.idl_base.specs.Form.{IsWithin, form_bytes}
 use Rattle.idl_base.specs.declared.form.Far.{Far}

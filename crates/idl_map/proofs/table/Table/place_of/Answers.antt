@@ -22,10 +22,10 @@ returns-in-Some g c =
 
 pub returns-in-None : goal.returns-in-None
 returns-in-None g c =
-    let seen = c.deref.ensures.value ∙ c.self.view_is in
+    let seen = c.deref-in-None.ensures.value ∙ c.self.view_is in
     let is = c.place_among.ensures in
-    let one = position-is g.K.PartialEq.eq (Decides-eq g.K.PartialEq.eq g.met.K.Eq.laws g.met.K.Datum.same) c.deref.result.now c.args.key.now
-    (subst AreDistinct (ap keys_of (sym c.deref.ensures.value)) c.self.invariant.distinct) in
+    let one = position-is g.K.PartialEq.eq (Decides-eq g.K.PartialEq.eq g.met.K.Eq.laws g.met.K.Datum.same) c.deref-in-None.result.now c.args.key.now
+    (subst AreDistinct (ap keys_of (sym c.deref-in-None.ensures.value)) c.self.invariant.distinct) in
     λ i. (
       λ h. ap (λ es. slice_get (keys_of es) i) (sym seen) ∙ (one i).0 (sym is ∙ h),
       λ h. is ∙ (one i).1 (ap (λ es. slice_get (keys_of es) i) seen ∙ h),

@@ -13,4 +13,4 @@ returns c =
     ∙ (λ i. kept ((Cursor, scopes i) ∷ (PrefixKey, InForce (c.in_ok-none.ensures i)) ∷ []))
     ∙ (λ i k. first-answers k i) in
     let inside = c.in_ok-push.ensures.items ∙ (λ i. c.new-inside.ensures.items i ++ c.new.ensures i ∷ []) in
-    λ i. record { answers = answers i; inside = reverse (inside i); before = record { opened = reverse (c.new-2.ensures i); entered = reverse (c.new-3.ensures i) } }
+    λ i. record { answers = answers i; inside = reverse (inside i); before = record { opened = reverse (c.new-3.ensures i); entered = reverse (c.new-4.ensures i) } }

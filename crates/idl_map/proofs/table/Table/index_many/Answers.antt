@@ -1,0 +1,10 @@
+use Rattle.std.proofs.Common.{subst}
+use Rattle.std.specs.Map.{keys_of}
+use Rattle.idl_map.specs.Table.{IsIndexOf, places_in}
+use Rattle.idl_map.proofs.table.Table.index_many.Goals as goal
+
+pub invariant_of-self : goal.invariant_of-self
+invariant_of-self g c = record {
+  distinct = c.self.invariant.distinct;
+  places = subst (λ es. IsIndexOf (places_in g.K.PartialEq.eq c.in_ok-places.places) (keys_of es)) c.deref.ensures.value c.in_ok-places.ensures;
+}

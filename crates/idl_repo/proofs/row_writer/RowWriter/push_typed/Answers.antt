@@ -1,0 +1,7 @@
+use Rattle.idl_repo.proofs.WriteLemmas.{says-as, says-then}
+use Rattle.idl_repo.proofs.row_writer.RowWriter.push_typed.Goals as goal
+
+pub returns : goal.returns
+returns c =
+    says-as c.in_ok-extend_from_slice.ensures.items c.as_bytes.ensures
+    (says-then c.in_ok-extend_from_slice-2.ensures.items c.in_ok-push_type.ensures)

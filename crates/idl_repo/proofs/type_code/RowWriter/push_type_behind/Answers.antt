@@ -1,5 +1,0 @@
-use Rattle.idl_repo.proofs.WriteLemmas.{says-then}
-use Rattle.idl_repo.proofs.type_code.RowWriter.push_type_behind.Goals as goal
-
-pub returns : goal.returns
-returns c = says-then c.in_ok-extend_from_slice.ensures.items c.in_ok-push_type.ensures
