@@ -161,6 +161,7 @@ pub fn push_part(text: &mut Vec<u8>, name: &[u8]) -> Result<(), AllocError>
 }
 
 /// Puts a name behind a text, with `_` before it where it is a keyword but for the case of letters.
+#[inline(always)]
 pub fn push_name(text: &mut Vec<u8>, name: &[u8]) -> Result<(), AllocError>
     ensures { OnOk result (text.new.items ≡ text.old.items ++ escaped name.now) }
 {
