@@ -118,6 +118,7 @@ pub fn entry_at(
 }
 
 /// The entry of what this is answered of. Its row is written behind what stands in a buffer, and is not copied.
+#[inline(always)]
 pub fn push_entry(
     buffer: &mut Vec<u8>,
     env: &Env,

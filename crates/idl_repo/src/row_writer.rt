@@ -29,6 +29,7 @@ impl<'a> Drop for RowWriter<'a> {
 
 impl<'a> RowWriter<'a> {
     /// Takes a text and a journal, which are empty until they are given back. It takes no memory.
+    #[inline(always)]
     pub fn taking(text: &mut Vec<u8>, env: &'a Env, log: &mut Journal<Env>) -> RowWriter<'a>
         ensures text { result.text.items ≡ text.old.items }
         ensures facts { result.env.now ≡ env.now }
@@ -42,6 +43,7 @@ impl<'a> RowWriter<'a> {
     }
 
     /// Gives them back.
+    #[inline(always)]
     pub fn give_back(self, text: &mut Vec<u8>, log: &mut Journal<Env>)
         ensures text { text.new.items ≡ self.entry.text.items }
         ensures log { log.new ≡ self.entry.log }
