@@ -124,7 +124,8 @@ impl Loading {
         Ok(())
     }
 
-    // How the exploration of a file goes on.
+    // How the exploration of a file goes on. What it holds meanwhile isn't held while a file inside is explored.
+    #[inline(never)]
     fn advance(&mut self, walk: &mut FileWalk<'_>, file: &OpenFile) -> Result<Next, CompileFault>
         ensures sources { OnOk result (self.new.sources ≡ self.old.sources) }
         ensures missing { OnOk result (self.new.missing.keys ≡ self.old.missing.keys) }
