@@ -95,17 +95,26 @@ const ASKED: &str =
     "dump a.idl\nroot a.idl\ndiagnostics a.idl\ndump a.idl\nabsent a.idl\nroot d/b.idl\ndump d/b.idl\n\
      put c.idl 3\n#ifdef R\ntypedef long Y;\n#endif\nroot c.idl\ndump c.idl\n";
 
-// A run over such devices stops so, and leaves a session that answers so. Nothing was called after a call that failed.
-fn leaves(alloc: Global, script: Script<'_>, stop: Option<Stop>, want: &[u8]) -> Result<(), Fail> {
+// A run over such devices stops so. Nothing was called after a call that failed.
+fn stops_so(session: &mut Session, script: Script<'_>, stop: Option<Stop>) -> bool {
     let mut source = Device::new(script.given, script.reads, script.most);
     let mut sink = Device::new(script.wanted, script.writes, script.most);
-    let mut session = Session::new(alloc);
-    let is_so = run(&mut session, &mut source, &mut sink).err() == stop
+    run(session, &mut source, &mut sink).err() == stop
         && (source.left, sink.left) == (0, 0)
         && source.failures == u64::from(stop == Some(Stop::ReadFailed))
-        && sink.failures == u64::from(stop == Some(Stop::WriteFailed));
-    let answer = replies(alloc, &mut session, ASKED)?;
-    if is_so && answer.as_bytes() == want {
+        && sink.failures == u64::from(stop == Some(Stop::WriteFailed))
+}
+
+fn answers_so(alloc: Global, session: &mut Session, want: &[u8]) -> Result<bool, Fail> {
+    let answer = replies(alloc, session, ASKED)?;
+    Ok(answer.as_bytes() == want)
+}
+
+// A run over such devices stops so, and leaves a session that answers so.
+fn leaves(alloc: Global, script: Script<'_>, stop: Option<Stop>, want: &[u8]) -> Result<(), Fail> {
+    let mut session = Session::new(alloc);
+    let is_so = stops_so(&mut session, script, stop);
+    if answers_so(alloc, &mut session, want)? && is_so {
         return Ok(());
     }
     let Script { reads, writes, .. } = script;
@@ -119,27 +128,42 @@ fn after(alloc: Global, given: &str, len: usize) -> Result<BufferSink, Fail> {
     replies(alloc, &mut session, ASKED)
 }
 
-// Whichever read of a command fails, those before it have been served, and it has had no effect. Whichever write of its
-// reply fails, it has been served, and none after it, also where all have been read at once. To read the end is to read an
-// empty command.
-fn has_stops(alloc: Global, script: &mut Script<'_>, command: &str) -> Result<(), Fail> {
-    let (lines, reply) = command.split_once("=>").unwrap_or((command, ""));
+// Whichever read of a command fails, those before it have been served, and it has had no effect. To read the end is to read
+// an empty command.
+fn has_reads(alloc: Global, script: &mut Script<'_>, times: usize) -> Result<(), Fail> {
     let before = after(alloc, script.given, script.reads)?;
-    for _ in 0..lines.len().max(1) {
+    for _ in 0..times {
         leaves(alloc, *script, Some(Stop::ReadFailed), before.as_bytes())?;
         script.reads = script.reads.saturating_add(1);
     }
+    Ok(())
+}
+
+// Whichever write of a command's reply fails, it has been served, and none after it, also where all have been read at once.
+fn has_writes(alloc: Global, script: &mut Script<'_>, times: usize) -> Result<(), Fail> {
     let done = after(alloc, script.given, script.reads)?;
     let mut ahead = *script;
     if script.most > 1 {
         ahead.reads = script.reads.max(script.given.len());
     }
-    for _ in 0..reply.len() {
+    for _ in 0..times {
         leaves(alloc, ahead, Some(Stop::WriteFailed), done.as_bytes())?;
         ahead.writes = ahead.writes.saturating_add(1);
     }
     script.writes = ahead.writes;
     Ok(())
+}
+
+fn has_stops(alloc: Global, script: &mut Script<'_>, command: &str) -> Result<(), Fail> {
+    let (lines, reply) = command.split_once("=>").unwrap_or((command, ""));
+    has_reads(alloc, script, lines.len().max(1))?;
+    has_writes(alloc, script, reply.len())
+}
+
+// Nothing fails, and all has been served.
+fn ends(alloc: Global, script: Script<'_>) -> Result<(), Fail> {
+    let all = after(alloc, script.given, script.reads)?;
+    leaves(alloc, script, None, all.as_bytes())
 }
 
 // All commands of a text, or all replies.
@@ -165,8 +189,7 @@ fn have_stops(alloc: Global, text: &str, most: usize) -> Result<(), Fail> {
     for command in text.split('|') {
         has_stops(alloc, &mut script, command)?;
     }
-    let all = after(alloc, script.given, script.reads)?;
-    leaves(alloc, script, None, all.as_bytes())
+    ends(alloc, script)
 }
 
 // Commands, each with its reply behind `=>`, and `|` between them; behind the last one what the end has.

@@ -2,7 +2,8 @@
 
 use idl_session::{Row, Session, Span};
 use idl_source::{Refusal, cut};
-use std::alloc::{AllocError, Global};
+use std::alloc::{AllocError, AllocGlobal, Global};
+use std::process::Abort;
 use std::test::Fail;
 
 // A file as the editor opens it.
@@ -31,41 +32,44 @@ fn told(alloc: Global, rows: Option<&[Row]>) -> Result<String, AllocError> {
     Ok(text)
 }
 
-#[test]
-fn an_editor_holds_a_project(rt: HostRuntime) -> Result<(), Fail> {
-    let mut session = Session::new(rt.alloc());
-    assert!(rt; session.add_root(b"shop.idl").is_ok());
-    assert!(rt;
-        open(
-            &mut session,
-            "shop.idl",
-            "#include \"money.idl\"\ninterface Shop { Money price(); };\n"
-        )
-        .is_ok()
-    );
+// The root has these rows.
+fn has_rows(rt: &(impl Abort + AllocGlobal), rows: Option<&[Row]>, want: &str) -> Result<(), Fail> {
+    let got = told(rt.alloc(), rows)?;
+    assert_eq!(rt; got.as_str(), want);
+    Ok(())
+}
 
-    // What isn't there yet is asked for, and is opened next.
+// A root is opened. What isn't there yet is asked for, and is opened next.
+fn open_all(rt: &(impl Abort + AllocGlobal), session: &mut Session) -> Result<(), Fail> {
+    assert!(rt; session.add_root(b"shop.idl").is_ok());
+    let text = "#include \"money.idl\"\ninterface Shop { Money price(); };\n";
+    assert!(rt; open(session, "shop.idl", text).is_ok());
+
     let absent = session.absent(b"shop.idl").unwrap_or(&[]);
     assert_eq!(rt; absent.len(), 1);
     assert_eq!(rt; absent[0].as_bytes(), b"money.idl".as_slice());
-    assert!(rt; open(&mut session, "money.idl", "typedef long Mony;\n").is_ok());
+    assert!(rt; open(session, "money.idl", "typedef long Mony;\n").is_ok());
+    has_rows(
+        rt,
+        session.diagnostics(b"shop.idl"),
+        "shop.idl:2: E30 Money\n",
+    )
+}
 
-    let errors = told(rt.alloc(), session.diagnostics(b"shop.idl"))?;
-    assert_eq!(rt; errors.as_str(), "shop.idl:2: E30 Money\n");
-
-    // An edit of the other file, and the work that it was.
-    assert!(rt; type_line(&mut session, "money.idl", 1, "typedef long Money;").is_ok());
+// An edit of the other file, and the work that it was. A refused edit changes nothing.
+fn edit(rt: &(impl Abort + AllocGlobal), session: &mut Session) -> Result<(), Fail> {
+    assert!(rt; type_line(session, "money.idl", 1, "typedef long Money;").is_ok());
     assert_eq!(rt; session.work().expanded, 1);
-    let errors = told(rt.alloc(), session.diagnostics(b"shop.idl"))?;
-    assert_eq!(rt; errors.as_str(), "");
-    let dump = told(rt.alloc(), session.dump(b"shop.idl"))?;
-    assert_eq!(rt;
-        dump.as_str(),
-        "typedef long Money;\ninterface Shop {\n  ::Money price ( );\n};\n"
-    );
-
-    // A refused edit changes nothing.
-    let refused = open(&mut session, "no name", "");
+    has_rows(rt, session.diagnostics(b"shop.idl"), "")?;
+    let refused = open(session, "no name", "");
     assert!(rt; matches!(refused, Err(Refusal::BadName)));
-    Ok(())
+    let want = "typedef long Money;\ninterface Shop {\n  ::Money price ( );\n};\n";
+    has_rows(rt, session.dump(b"shop.idl"), want)
+}
+
+#[test]
+fn an_editor_holds_a_project(rt: HostRuntime) -> Result<(), Fail> {
+    let mut session = Session::new(rt.alloc());
+    open_all(&rt, &mut session)?;
+    edit(&rt, &mut session)
 }

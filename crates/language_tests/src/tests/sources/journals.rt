@@ -5,33 +5,72 @@ use idl_event::RootKey;
 use idl_fault::FileName;
 use idl_memo::{Journal, Log};
 use idl_source::Name;
+use std::alloc::{AllocError, AllocGlobal, Global};
+use std::process::Abort;
 use std::test::Fail;
+
+// A journal takes the log, and gives it back with what was asked.
+fn take(
+    alloc: Global,
+    log: &mut Log<Answers>,
+    key: &RootKey,
+    bank: &Answers,
+) -> Result<(), AllocError> {
+    let mut journal = Journal::taking(alloc, log);
+    journal.ask(key, bank)?;
+    journal.give_back(log)
+}
+
+// How many keys a log has that was taken twice, and then asked of a journal that has none.
+fn given_back(alloc: Global, key: &RootKey, bank: &Answers) -> Result<usize, AllocError> {
+    let mut log = Log::new(alloc);
+    for _round in 0..2 {
+        take(alloc, &mut log, key, bank)?;
+    }
+    let told: Journal<Answers> = Journal::told();
+    match told.give_back(&mut log) {
+        Ok(()) => Ok(0),
+        Err(AllocError) => Ok(log.len()),
+    }
+}
+
+// How many digests a journal has that was asked, if it notes them.
+fn noted(
+    journal: Journal<Answers>,
+    key: &RootKey,
+    bank: &Answers,
+) -> Result<Option<usize>, AllocError> {
+    let mut journal = journal;
+    journal.ask(key, bank)?;
+    match journal.digests() {
+        Some(digests) => Ok(Some(digests.len())),
+        None => Ok(None),
+    }
+}
+
+fn is_given_back(rt: &(impl Abort + AllocGlobal), name: &Name) -> Result<(), Fail> {
+    let bank = answers_of(rt.alloc(), name, "x")?;
+    let key = RootKey::File(FileName::new(rt.alloc(), name)?);
+    are_given_back(rt, &key, &bank)
+}
+
+fn are_given_back(
+    rt: &(impl Abort + AllocGlobal),
+    key: &RootKey,
+    bank: &Answers,
+) -> Result<(), Fail> {
+    assert_eq!(rt; given_back(rt.alloc(), key, bank)?, 1);
+    assert_eq!(rt; noted(Journal::noting(rt.alloc()), key, bank)?, Some(1));
+    assert_eq!(rt; noted(Journal::told(), key, bank)?, None);
+    Ok(())
+}
 
 // One that took a log gives it back with what was asked, and one that notes digests has that of a key that was asked; one of
 // which contracts alone are told has neither.
 #[test]
 fn a_journal_gives_back_what_it_took_or_noted(rt: HostRuntime) -> Result<(), Fail> {
-    let alloc = rt.alloc();
-    let Some(name) = Name::new(b"a.idl") else {
-        return Ok(());
-    };
-    let bank = answers_of(alloc, &name, "x")?;
-    let key = RootKey::File(FileName::new(alloc, &name)?);
-    let mut log = Log::new(alloc);
-    for _round in 0..2 {
-        let mut journal = Journal::taking(alloc, &mut log);
-        journal.ask(&key, &bank)?;
-        journal.give_back(&mut log)?;
-        assert_eq!(rt; log.len(), 1);
+    match Name::new(b"a.idl") {
+        Some(name) => is_given_back(&rt, &name),
+        None => Ok(()),
     }
-    let mut noting = Journal::noting(alloc);
-    noting.ask(&key, &bank)?;
-    assert_eq!(rt; noting.digests().map(|digests| digests.len()), Some(1));
-    let mut told: Journal<Answers> = Journal::told();
-    told.ask(&key, &bank)?;
-    assert!(rt; told.digests().is_none());
-    let told: Journal<Answers> = Journal::told();
-    assert!(rt; told.give_back(&mut log).is_err());
-    assert_eq!(rt; log.len(), 1);
-    Ok(())
 }
