@@ -2,7 +2,7 @@
 
 ghost use Rattle.idl_program.specs.Holding.{Untold};
 
-use idl_program::{Devices, Loaded, Loader, run_program};
+use idl_program::{Devices, Loaded, Loader, Status, run_program};
 use idl_session::{BufferSink, SliceSource};
 use idl_source::Name;
 use idl_tool::run_tool;
@@ -98,10 +98,12 @@ pub fn told<L: Loader + Drop>(
         errors: BufferSink::new(alloc, ROOM)?,
     };
     let status = run_program(alloc, &list, &mut devices);
-    let mut text = format!(in alloc; "{}", status.code())?;
-    push_lines(&mut text, " out ", devices.output.as_bytes())?;
-    push_lines(&mut text, " err ", devices.errors.as_bytes())?;
-    Ok(text)
+    text_of(
+        alloc,
+        status,
+        devices.output.as_bytes(),
+        devices.errors.as_bytes(),
+    )
 }
 
 /// What the second program gives, over files of a text.
@@ -113,9 +115,24 @@ pub fn tool_given(alloc: Global, words: &str, files: &str) -> Result<String, All
         errors: BufferSink::new(alloc, ROOM)?,
     };
     let status = run_tool(alloc, &list, &mut devices);
+    text_of(
+        alloc,
+        status,
+        devices.output.as_bytes(),
+        devices.errors.as_bytes(),
+    )
+}
+
+// The status, and what was written.
+fn text_of(
+    alloc: Global,
+    status: Status,
+    output: &[u8],
+    errors: &[u8],
+) -> Result<String, AllocError> {
     let mut text = format!(in alloc; "{}", status.code())?;
-    push_lines(&mut text, " out ", devices.output.as_bytes())?;
-    push_lines(&mut text, " err ", devices.errors.as_bytes())?;
+    push_lines(&mut text, " out ", output)?;
+    push_lines(&mut text, " err ", errors)?;
     Ok(text)
 }
 
