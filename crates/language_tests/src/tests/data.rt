@@ -17,15 +17,21 @@ fn is_copied_alike<T: Datum + Hash>(value: &T) -> Result<bool, AllocError> {
     Ok(copy == *value && digest(&copy) == digest(value))
 }
 
-// A value of each sort.
-fn are_copied_alike(alloc: Global) -> Result<bool, AllocError> {
+// Values that take no memory.
+fn are_few_copied_alike() -> Result<bool, AllocError> {
+    is_copied_alike(&(((), true), ('ß', i64::MIN)))
+}
+
+// A list of values, of which some take memory.
+fn is_list_copied_alike(alloc: Global) -> Result<bool, AllocError> {
     let mut items = Vec::new(alloc);
     items.push((7u8, Some(Text::from_slice(alloc, b"Foo")?)))?;
-    is_copied_alike(&((((), true), ('ß', i64::MIN)), Seq::from_vec(items)))
+    is_copied_alike(&Seq::from_vec(items))
 }
 
 #[test]
 fn data_is_copied_alike(rt: HostRuntime) -> Result<(), Fail> {
-    assert!(rt; are_copied_alike(rt.alloc())?);
+    assert!(rt; are_few_copied_alike()?);
+    assert!(rt; is_list_copied_alike(rt.alloc())?);
     Ok(())
 }

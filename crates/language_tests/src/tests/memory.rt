@@ -42,15 +42,33 @@ fn an_edit_that_was_refused_memory_is_accepted_later(rt: HostRuntime) -> Result<
     answers(&rt, &mut session, QUERIES, want.as_bytes())
 }
 
-// The edit is accepted, or refused memory; then it changed nothing, and is accepted when it is asked again.
+// The edit is made, and has this work.
 fn is_made(rt: &(impl Abort + AllocGlobal), session: &mut Session, edit: &str) -> Result<(), Fail> {
     let (edit, work) = edit.rsplit_once('=').unwrap_or((edit, ""));
-    let before = replies(rt.alloc(), session, QUERIES)?;
-    let reply = replies(rt.alloc(), session, edit)?;
-    if reply.as_bytes() != b"ok\n".as_slice() {
-        assert_eq!(rt; reply.as_bytes(), b"refused 9\n".as_slice(), "{edit}");
-        answers(rt, session, QUERIES, before.as_bytes())?;
-        answers(rt, session, edit, b"ok\n")?;
-    }
+    make(rt, session, edit)?;
     answers(rt, session, "work\n", work.as_bytes())
+}
+
+// The edit is accepted, or refused memory; then it changed nothing, and is accepted when it is asked again.
+fn make(rt: &(impl Abort + AllocGlobal), session: &mut Session, edit: &str) -> Result<(), Fail> {
+    let before = replies(rt.alloc(), session, QUERIES)?;
+    if is_accepted(rt, session, edit)? {
+        return Ok(());
+    }
+    answers(rt, session, QUERIES, before.as_bytes())?;
+    answers(rt, session, edit, b"ok\n")
+}
+
+// Whether the edit is accepted. If it isn't, it is refused memory.
+fn is_accepted(
+    rt: &(impl Abort + AllocGlobal),
+    session: &mut Session,
+    edit: &str,
+) -> Result<bool, Fail> {
+    let reply = replies(rt.alloc(), session, edit)?;
+    if reply.as_bytes() == b"ok\n".as_slice() {
+        return Ok(true);
+    }
+    assert_eq!(rt; reply.as_bytes(), b"refused 9\n".as_slice(), "{edit}");
+    Ok(false)
 }
