@@ -1,6 +1,5 @@
 -- What few entities have.
-use Rattle.std.specs.Prelude.{Bool, [], Option, None, Some}
-use Rattle.idl_entity.specs.contracts.details.RarePartialEq.TheImpl.{ghosts}
+use Rattle.std.specs.Prelude.{[], Option, None, Some}
 use Rattle.idl_entity.specs.declared.details.Details.{Details}
 use Rattle.idl_entity.specs.declared.details.Details.TheVariants.{Nothing, Valued, Signed, Several}
 use Rattle.idl_entity.specs.declared.details.Rare.{Rare}
@@ -24,7 +23,3 @@ rare_in Nothing = listless None None
 rare_in (Valued value) = listless (Some value) None
 rare_in (Signed signature) = listless None (Some signature)
 rare_in (Several rare) = rare
-
--- whether the parts are one
-abbrev pub rare_eq : Rare → Rare → Bool
-rare_eq = ghosts.eq

@@ -1,13 +1,14 @@
 //! Entities: what names are declared as.
 
-ghost use Rattle.std.specs.Prelude.{◌≡◌, [], IfOk, None};
-ghost use Rattle.std.specs.Option.{option_copied};
-ghost use Rattle.idl_entity.specs.Entity.{declared_eq, entity_eq, entity_equiv, entity_per, pathless_eq, is_operation};
+ghost use Rattle.std.specs.Prelude.{◌≡◌, [], IfOk, None, OnOk, Some};
+ghost use Rattle.std.specs.Cmp.Lexicographic.{pointwise};
+ghost use Rattle.std.specs.Option.{option_copied, option_eq};
+ghost use Rattle.idl_entity.specs.Entity.{declared_eq, entity_eq, entity_equiv, entity_per, is_operation, pathless_eq, rare_of};
+ghost use Rattle.idl_entity.specs.Path.{path_eq};
 
 use crate::data_type::DataType;
-use crate::details::Details;
+use crate::details::{Details, Rare};
 use crate::kind::{Kind, Stage};
-use crate::parts::EntityParts;
 use crate::paths::path::Path;
 use crate::signature::Signature;
 use idl_base::{Bytes, Datum, Seq, Shared, copied_of};
@@ -19,16 +20,13 @@ use std::mem::size_of;
 
 /// What is known of a declared name, beside places and ids. To every contract it is the record of its parts.
 ///
-/// What few entities have stands apart, so that the others take little memory.
+/// A copy shares all that stands behind a pointer, and then a part of it can be set. What few entities have stands apart, so
+/// that the others take little memory.
 pub struct Entity {
-    pub(crate) path: Path,
-    pub(crate) data_type: Option<Shared<DataType>>,
-    pub(crate) details: Details,
-    pub(crate) kind: Kind,
-    pub(crate) is_local: bool,
-    pub(crate) is_readonly: bool,
-    pub(crate) is_oneway: bool,
-    pub(crate) stage: Stage,
+    path: Path,
+    nature: Nature,
+    data_type: Option<Shared<DataType>>,
+    details: Details,
 }
 
 /// What a name is declared as, and how far that has come.
@@ -48,18 +46,18 @@ pub struct Nature {
 const _: () = prove!(size_of::<Entity>() <= 56);
 
 impl Model for Entity {
-    ghost use Rattle.idl_entity.specs.declared.parts.EntityParts.{EntityParts};
+    ghost use Rattle.idl_entity.specs.Entity as specs;
     ghost use Rattle.idl_entity.specs.Details.{rare_in};
 
-    ghost Value = { EntityParts };
+    ghost Value = { specs.Entity };
 
     ghost view = { λ entity. record {
       path = entity.path;
-      kind = entity.kind;
-      is_local = entity.is_local;
-      is_readonly = entity.is_readonly;
-      is_oneway = entity.is_oneway;
-      stage = entity.stage;
+      kind = entity.nature.kind;
+      is_local = entity.nature.is_local;
+      is_readonly = entity.nature.is_readonly;
+      is_oneway = entity.nature.is_oneway;
+      stage = entity.nature.stage;
       data_type = entity.data_type;
       bases = (rare_in entity.details).bases;
       operations = (rare_in entity.details).operations;
@@ -73,13 +71,9 @@ impl Drop for Entity {
     fn drop(self) {
         let Entity {
             path: _path,
+            nature: _nature,
             data_type: _data_type,
             details: _details,
-            kind: _kind,
-            is_local: _is_local,
-            is_readonly: _is_readonly,
-            is_oneway: _is_oneway,
-            stage: _stage,
         } = self;
     }
 }
@@ -93,13 +87,9 @@ impl Clone for Entity {
         let details = self.details.clone()?;
         Ok(Entity {
             path,
+            nature: self.nature,
             data_type,
             details,
-            kind: self.kind,
-            is_local: self.is_local,
-            is_readonly: self.is_readonly,
-            is_oneway: self.is_oneway,
-            stage: self.stage,
         })
     }
 }
@@ -121,11 +111,11 @@ impl Entity {
     fn is_like(&self, other: &Entity) -> bool
         ensures { result ≡ pathless_eq self.now other.now }
     {
-        self.kind == other.kind
-            && self.is_local == other.is_local
-            && self.is_readonly == other.is_readonly
-            && self.is_oneway == other.is_oneway
-            && self.stage == other.stage
+        self.kind() == other.kind()
+            && self.is_local() == other.is_local()
+            && self.is_readonly() == other.is_readonly()
+            && self.is_oneway() == other.is_oneway()
+            && self.stage() == other.stage()
             && self.is_declared_like(other)
     }
 
@@ -133,7 +123,39 @@ impl Entity {
     fn is_declared_like(&self, other: &Entity) -> bool
         ensures { result ≡ declared_eq self.now other.now }
     {
-        self.data_type == other.data_type && self.details.are_those_of(&other.details)
+        self.data_type == other.data_type
+            && self.bases() == other.bases()
+            && self.has_operations_of(other)
+            && are_one(self.value(), other.value())
+            && self.enumerators() == other.enumerators()
+            && are_one(self.signature(), other.signature())
+    }
+
+    // Whether the operations and attributes of another are its own.
+    fn has_operations_of(&self, other: &Entity) -> bool
+        ensures { result ≡ pointwise path_eq self.now.operations other.now.operations }
+    {
+        let none = SharedList::new();
+        let mine = match &self.details {
+            Details::Several(rare) => &rare.get().operations,
+            _ => &none,
+        };
+        let others = match &other.details {
+            Details::Several(rare) => &rare.get().operations,
+            _ => &none,
+        };
+        *mine == *others
+    }
+}
+
+// Whether both are there and one, or neither is.
+fn are_one<T: Datum>(one: Option<&T>, other: Option<&T>) -> bool
+    ensures { result ≡ option_eq T.eq (option_copied one.entry) (option_copied other.entry) }
+{
+    match (one, other) {
+        (Some(one), Some(other)) => *one == *other,
+        (None, None) => true,
+        _ => false,
     }
 }
 
@@ -175,44 +197,101 @@ impl Entity {
     {
         Entity {
             path,
+            nature,
             data_type,
             details: Details::valued(value),
-            kind: nature.kind,
-            is_local: nature.is_local,
-            is_readonly: nature.is_readonly,
-            is_oneway: nature.is_oneway,
-            stage: nature.stage,
         }
     }
 
-    /// It with these enumerators.
-    pub fn with_enumerators(&self, alloc: Global, names: Seq<Bytes>) -> Result<Entity, AllocError>
-        ensures { IfOk result (λ entity. entity ≡ record self.now { enumerators = names }) }
+    /// It has come to this stage.
+    pub fn set_stage(&mut self, stage: Stage)
+        ensures { self.new ≡ record (self.old) { stage = stage } }
     {
-        let mut parts = self.parts(alloc)?;
-        parts.enumerators = names;
-        parts.into_entity(alloc)
+        self.nature.stage = stage;
     }
 
-    /// Its parts, each by itself.
-    pub fn parts(&self, alloc: Global) -> Result<EntityParts, AllocError>
-        ensures { IfOk result (λ parts. parts ≡ self.now) }
+    /// It has this type.
+    pub fn set_data_type(&mut self, data_type: Option<Shared<DataType>>)
+        ensures { self.new ≡ record (self.old) { data_type = data_type } }
     {
-        let path = self.path.clone()?;
-        let data_type = self.data_type.clone()?;
+        self.data_type = data_type;
+    }
+
+    /// It has this value.
+    pub fn set_value(
+        &mut self,
+        alloc: Global,
+        value: Option<Shared<Value>>,
+    ) -> Result<(), AllocError>
+        ensures { OnOk result (self.new ≡ record (self.old) { value = value }) }
+    {
+        if let Details::Nothing | Details::Valued(_) = self.details {
+            self.details = Details::valued(value);
+            return Ok(());
+        }
+        let mut rare = self.rare(alloc)?;
+        rare.value = value;
+        self.set_rare(alloc, rare)
+    }
+
+    /// It shows this behind its name.
+    pub fn set_signature(
+        &mut self,
+        alloc: Global,
+        signature: Shared<Signature>,
+    ) -> Result<(), AllocError>
+        ensures { OnOk result (self.new ≡ record (self.old) { signature = Some signature }) }
+    {
+        if let Details::Nothing | Details::Signed(_) = self.details {
+            self.details = Details::Signed(signature);
+            return Ok(());
+        }
+        let mut rare = self.rare(alloc)?;
+        rare.signature = Some(signature);
+        self.set_rare(alloc, rare)
+    }
+
+    /// It has these bases.
+    pub fn set_bases(&mut self, alloc: Global, bases: Seq<Path>) -> Result<(), AllocError>
+        ensures { OnOk result (self.new ≡ record (self.old) { bases = bases }) }
+    {
+        let mut rare = self.rare(alloc)?;
+        rare.bases = bases;
+        self.set_rare(alloc, rare)
+    }
+
+    /// It has these operations and attributes.
+    pub fn set_operations(
+        &mut self,
+        alloc: Global,
+        operations: SharedList<Path>,
+    ) -> Result<(), AllocError>
+        ensures { OnOk result (self.new ≡ record (self.old) { operations = operations }) }
+    {
+        let mut rare = self.rare(alloc)?;
+        rare.operations = operations;
+        self.set_rare(alloc, rare)
+    }
+
+    /// It has these enumerators.
+    pub fn set_enumerators(&mut self, alloc: Global, names: Seq<Bytes>) -> Result<(), AllocError>
+        ensures { OnOk result (self.new ≡ record (self.old) { enumerators = names }) }
+    {
+        let mut rare = self.rare(alloc)?;
+        rare.enumerators = names;
+        self.set_rare(alloc, rare)
+    }
+
+    // What few have, each by itself: a copy.
+    fn rare(&self, alloc: Global) -> Result<Rare, AllocError>
+        ensures { IfOk result (λ rare. rare ≡ rare_of self.now) }
+    {
         let bases = Seq::from_vec(Vec::from_clones(alloc, self.bases())?);
         let operations = self.operations()?;
         let value = copied_of(self.value())?;
         let enumerators = Seq::from_vec(Vec::from_clones(alloc, self.enumerators())?);
         let signature = copied_of(self.signature())?;
-        Ok(EntityParts {
-            path,
-            kind: self.kind,
-            is_local: self.is_local,
-            is_readonly: self.is_readonly,
-            is_oneway: self.is_oneway,
-            stage: self.stage,
-            data_type,
+        Ok(Rare {
             bases,
             operations,
             value,
@@ -221,6 +300,24 @@ impl Entity {
         })
     }
 
+    // It has these, and what all have stays.
+    fn set_rare(&mut self, alloc: Global, rare: Rare) -> Result<(), AllocError>
+        ensures { OnOk result
+            (self.new
+            ≡ record (self.old) {
+              bases = rare.bases;
+              operations = rare.operations;
+              value = rare.value;
+              enumerators = rare.enumerators;
+              signature = rare.signature;
+            }) }
+    {
+        self.details = Details::Several(Shared::new(alloc, rare)?);
+        Ok(())
+    }
+}
+
+impl Entity {
     /// Its name as it is spelled, in the scope in which it is declared.
     pub fn path(&self) -> &Path
         ensures { result.now ≡ self.now.path }
@@ -232,38 +329,38 @@ impl Entity {
     pub fn kind(&self) -> Kind
         ensures { result ≡ self.now.kind }
     {
-        self.kind
+        self.nature.kind
     }
 
     /// Whether it is an interface that is declared `local`.
     pub fn is_local(&self) -> bool
         ensures { result ≡ self.now.is_local }
     {
-        self.is_local
+        self.nature.is_local
     }
 
     /// Whether it is an attribute that is declared `readonly`.
     pub fn is_readonly(&self) -> bool
         ensures { result ≡ self.now.is_readonly }
     {
-        self.is_readonly
+        self.nature.is_readonly
     }
 
     /// Whether it is an operation that is declared `oneway`.
     pub fn is_oneway(&self) -> bool
         ensures { result ≡ self.now.is_oneway }
     {
-        self.is_oneway
+        self.nature.is_oneway
     }
 
     /// How far it has come.
     pub fn stage(&self) -> Stage
         ensures { result ≡ self.now.stage }
     {
-        self.stage
+        self.nature.stage
     }
 
-    /// The type that it is declared with.
+    /// The type that it is declared with: what an operation gives back, if it does, and of a union that of its labels.
     pub fn data_type(&self) -> &Option<Shared<DataType>>
         ensures { result.now ≡ self.now.data_type }
     {
@@ -274,41 +371,58 @@ impl Entity {
     pub fn bases(&self) -> &[Path]
         ensures { result.now ≡ self.now.bases }
     {
-        self.details.bases()
+        match &self.details {
+            Details::Several(rare) => rare.get().bases.as_slice(),
+            _ => &[],
+        }
     }
 
     /// The paths of the operations and attributes of a closed interface.
     pub fn operations(&self) -> Result<SharedList<Path>, AllocError>
         ensures { IfOk result (λ paths. paths ≡ self.now.operations) }
     {
-        self.details.operations()
+        match &self.details {
+            Details::Several(rare) => rare.get().operations.clone(),
+            _ => Ok(SharedList::new()),
+        }
     }
 
     /// The value of a constant, once it is told, and of an enumerator.
     pub fn value(&self) -> Option<&Shared<Value>>
         ensures { option_copied result ≡ self.now.value }
     {
-        self.details.value()
+        match &self.details {
+            Details::Valued(value) => Some(value),
+            Details::Several(rare) => rare.get().value.as_ref(),
+            _ => None,
+        }
     }
 
     /// The names of the enumerators of an enum, in order.
     pub fn enumerators(&self) -> &[Bytes]
         ensures { result.now ≡ self.now.enumerators }
     {
-        self.details.enumerators()
+        match &self.details {
+            Details::Several(rare) => rare.get().enumerators.as_slice(),
+            _ => &[],
+        }
     }
 
     /// What it shows behind its name, once that is told.
     pub fn signature(&self) -> Option<&Shared<Signature>>
         ensures { option_copied result ≡ self.now.signature }
     {
-        self.details.signature()
+        match &self.details {
+            Details::Signed(signature) => Some(signature),
+            Details::Several(rare) => rare.get().signature.as_ref(),
+            _ => None,
+        }
     }
 
     /// Whether it is an operation or an attribute.
     pub fn is_operation(&self) -> bool
         ensures { result ≡ is_operation self.now }
     {
-        self.kind == Kind::Operation || self.kind == Kind::Attribute
+        self.kind() == Kind::Operation || self.kind() == Kind::Attribute
     }
 }

@@ -17,7 +17,7 @@ use crate::told::clauses::Clauses;
 use crate::told::last_type::LastType;
 use crate::told::types::names_of;
 use idl_base::{Bytes, Seq, Shared};
-use idl_entity::{DataType, Entity, EntityParts, Kind, Nature, Path, Stage};
+use idl_entity::{DataType, Entity, Kind, Nature, Path, Stage};
 use idl_env::{Addition, Facts, Scope};
 use idl_fault::Code;
 use idl_parts::Declaration;
@@ -205,14 +205,12 @@ impl Written {
         let path = scope.child(alloc, name)?;
         let data_type = self.data_type(alloc, way)?;
         let value = self.value(alloc, way, name)?;
-        let entity = Entity::listless(path, nature_of(way), data_type, value);
-        match way {
-            Declaration::Enumeration => {
-                let names = self.enumerators.clone()?;
-                Shared::new(alloc, entity.with_enumerators(alloc, names)?)
-            }
-            _ => Shared::new(alloc, entity),
+        let mut entity = Entity::listless(path, nature_of(way), data_type, value);
+        if let Declaration::Enumeration = way {
+            let names = self.enumerators.clone()?;
+            entity.set_enumerators(alloc, names)?;
         }
+        Shared::new(alloc, entity)
     }
 
     /// This name is declared: an enum is a type.
@@ -280,25 +278,26 @@ pub fn finished(
     if is_finished(ending, begun.get()) {
         return begun.clone();
     }
-    let mut parts = begun.get().parts(alloc)?;
-    finish(alloc, ending, &mut parts)?;
-    Shared::new(alloc, parts.into_entity(alloc)?)
+    let mut entity = begun.get().clone()?;
+    finish(alloc, ending, &mut entity)?;
+    Shared::new(alloc, entity)
 }
 
-// The same of its parts.
-fn finish(alloc: Global, ending: Ending<'_>, parts: &mut EntityParts) -> Result<(), AllocError>
-    ensures { OnOk result (parts.new
+// It ends so.
+fn finish(alloc: Global, ending: Ending<'_>, entity: &mut Entity) -> Result<(), AllocError>
+    ensures { OnOk result (entity.new
         ≡ finished ending.entry.bases.now ending.entry.value.now ending.entry.clauses.now
-        parts.old) }
+        entity.old) }
 {
-    if parts.kind == Kind::Interface {
-        parts.stage = Stage::Open;
-        parts.bases = ending.bases.clone()?;
-    } else if parts.kind == Kind::Attribute {
-        parts.signature = Some(ending.clauses.signature(alloc, Vec::new(alloc))?);
+    if entity.kind() == Kind::Interface {
+        entity.set_stage(Stage::Open);
+        entity.set_bases(alloc, ending.bases.clone()?)?;
+    } else if entity.kind() == Kind::Attribute {
+        let signature = ending.clauses.signature(alloc, Vec::new(alloc))?;
+        entity.set_signature(alloc, signature)?;
     } else {
-        parts.stage = Stage::Complete;
-        parts.value = shared_value(alloc, ending.value)?;
+        entity.set_stage(Stage::Complete);
+        entity.set_value(alloc, shared_value(alloc, ending.value)?)?;
     }
     Ok(())
 }
@@ -335,11 +334,11 @@ pub fn array_of(
 ) -> Result<Shared<Entity>, AllocError>
     ensures { IfOk result (λ array. array ≡ array_of lengths.now entity.now) }
 {
-    let mut parts = entity.parts(alloc)?;
+    let mut array = entity.clone()?;
     if let Some(element) = entity.data_type() {
-        parts.data_type = Some(element.get().in_arrays(alloc, lengths)?);
+        array.set_data_type(Some(element.get().in_arrays(alloc, lengths)?));
     }
-    Shared::new(alloc, parts.into_entity(alloc)?)
+    Shared::new(alloc, array)
 }
 
 // Whether one of them is declared ahead, and both may be.

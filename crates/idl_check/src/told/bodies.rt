@@ -137,14 +137,14 @@ impl Body {
         let Some(entity) = entity else {
             return Ok(None);
         };
-        let mut told = entity.get().parts(alloc)?;
-        told.stage = Stage::Complete;
-        if told.kind == Kind::Union {
-            told.data_type = data_type;
+        let mut told = entity.get().clone()?;
+        told.set_stage(Stage::Complete);
+        if told.kind() == Kind::Union {
+            told.set_data_type(data_type);
         }
         members.shrink_to_fit();
-        told.signature = Some(clauses.signature(alloc, members)?);
-        Ok(Some(Shared::new(alloc, told.into_entity(alloc)?)?))
+        told.set_signature(alloc, clauses.signature(alloc, members)?)?;
+        Ok(Some(Shared::new(alloc, told)?))
     }
 }
 

@@ -321,10 +321,10 @@ fn closed(
     ensures { IfOk result (λ entity.
         entity ≡ record interface.now { stage = stages.Complete; operations = operations }) }
 {
-    let mut parts = interface.parts(alloc)?;
-    parts.stage = Stage::Complete;
-    parts.operations = operations;
-    parts.into_entity(alloc)
+    let mut entity = interface.clone()?;
+    entity.set_stage(Stage::Complete);
+    entity.set_operations(alloc, operations)?;
+    Ok(entity)
 }
 
 // The answers with those of the additions.
