@@ -140,7 +140,7 @@ fn push_slashed(id: &mut Vec<u8>, path: Names<'_>, scope: &Path) -> Result<(), A
     let Some((name, around)) = path.split_first() else {
         return Ok(());
     };
-    if around.is_empty() || around.are_of(scope) {
+    if around.is_empty() || around.are_those(&scope.lent()) {
         id.extend_from_slice(name)?;
         return Ok(());
     }

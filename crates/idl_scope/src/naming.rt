@@ -226,7 +226,7 @@ fn reach_of(name: &ScopedName, cursor: &OpenScopes, first: &Entity) -> usize
     let Some((innermost, outer)) = cursor.split_first() else {
         return 0;
     };
-    if first.path().is_in(&innermost.path) {
+    if first.path().around().are_those(&innermost.path.lent()) {
         0
     } else if innermost.kind == Kind::Module {
         1
@@ -245,7 +245,7 @@ fn outer_reach(scopes: &OpenScopes, first: &Entity) -> usize
         let Some((scope, outer)) = rest.split_first() else {
             return index;
         };
-        if scope.kind == Kind::Module || first.path().is_in(&scope.path) {
+        if scope.kind == Kind::Module || first.path().around().are_those(&scope.path.lent()) {
             return index;
         }
         rest = outer;

@@ -257,7 +257,8 @@ fn declared_path<'a>(own: &'a Facts, name: &[u8], scope: &Path) -> Option<&'a Pa
         return None;
     };
     let path = entity.get().path();
-    if path.is_child(name, scope) {
+    let (first, around) = path.lent().split_first()?;
+    if first == name && around.are_those(&scope.lent()) {
         return Some(path);
     }
     None

@@ -6,7 +6,7 @@ ghost use Rattle.idl_lex.specs.kinds.Keywords.{folded};
 ghost use Rattle.idl_entity.specs.Path.{name_of, path_eq, scope_of};
 
 use crate::paths::names::Names;
-use crate::paths::path::{Path, PathPart, are_alike};
+use crate::paths::path::{Path, PathPart};
 use idl_base::Bytes;
 use std::alloc::{AllocError, Global};
 use std::marker::Model;
@@ -67,17 +67,14 @@ impl NamedPath {
     pub fn is(&self, other: &NamedPath) -> bool
         ensures { result ≡ path_eq self.now other.now }
     {
-        are_alike(&self.part, &other.part)
+        self.lent().are_those(&other.lent())
     }
 
     /// Whether it is that path.
     pub fn is_of(&self, path: &Path) -> bool
         ensures { result ≡ path_eq path.now self.now }
     {
-        match path.innermost() {
-            None => false,
-            Some(part) => are_alike(part, &self.part),
-        }
+        path.lent().are_those(&self.lent())
     }
 
     /// Whether what stands there is found under this folded name in the scope with that path.

@@ -1,11 +1,14 @@
 //! Names of paths, lent.
 
-ghost use Rattle.std.specs.Prelude.{◌≡◌, ◌↔◌, ◌∷◌, [], IfSome, IsTrue, None};
+ghost use Rattle.std.specs.Prelude.{◌≡◌, ◌&&◌, ◌↔◌, ◌∷◌, [], IfSome, IsTrue, None};
 ghost use Rattle.std.specs.Option.{option_copied};
+ghost use Rattle.std.specs.Str.{bytes_eq};
 ghost use Rattle.idl_entity.specs.Identity.{is_within};
-ghost use Rattle.idl_entity.specs.Path.{names_of, path_eq, path_of};
+ghost use Rattle.idl_entity.specs.Path.{name_of, names_of, path_eq, path_of, scope_of};
+ghost use Rattle.idl_lex.specs.kinds.Keywords.{folded};
 
 use crate::paths::path::{Path, PathPart, are_alike};
+use idl_base::Bytes;
 use std::marker::Model;
 use std::rc::Rc;
 
@@ -69,7 +72,8 @@ impl<'a> Names<'a> {
     }
 
     /// Whether they are those.
-    pub(crate) fn are_those(&self, others: &Names<'_>) -> bool
+    #[inline(always)]
+    pub fn are_those(&self, others: &Names<'_>) -> bool
         ensures { result ≡ path_eq self.now others.now }
     {
         match (self.innermost, others.innermost) {
@@ -79,11 +83,22 @@ impl<'a> Names<'a> {
         }
     }
 
-    /// Whether they are the names of a path.
-    pub fn are_of(&self, path: &Path) -> bool
-        ensures { result ≡ path_eq self.now path.now }
+    /// Whether the first is of this folded form, and those behind it are those of a scope.
+    #[inline(always)]
+    #[tactic(auto, using(crate::proofs::PathLemmas::turned))]
+    pub fn begin_with(&self, name: &Bytes, scope: &Names<'_>) -> bool
+        ensures they { result
+            ≡ bytes_eq (folded (name_of self.now)) name.now
+            && path_eq (scope_of self.now) scope.now }
+        ensures turned { result
+            ≡ bytes_eq name.now (folded (name_of self.now))
+            && path_eq scope.now (scope_of self.now) }
     {
-        self.are_those(&path.lent())
+        let Some(part) = self.innermost else {
+            let none: &[u8] = &[];
+            return none == name.as_bytes() && self.are_those(scope);
+        };
+        *part.folded_name() == *name && part.around().are_those(scope)
     }
 
     /// Whether they are those of a scope's path or of one in it.
@@ -92,7 +107,7 @@ impl<'a> Names<'a> {
         ensures { result ≡ is_within self.entry scope.now }
     {
         let mut names = self;
-        while !names.are_of(scope) {
+        while !names.are_those(&scope.lent()) {
             let Some((_name, around)) = names.split_first() else {
                 return false;
             };

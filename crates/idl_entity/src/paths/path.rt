@@ -284,39 +284,11 @@ impl Path {
         }
     }
 
-    /// Whether it stands directly in the scope with that path.
-    pub fn is_in(&self, scope: &Path) -> bool
-        ensures { result ≡ path_eq (scope_of self.now) scope.now }
-    {
-        self.is_below(&scope.innermost)
-    }
-
-    // The same, by the parts of that path.
-    #[inline(always)]
-    fn is_below(&self, scope: &Option<Rc<PathPart>>) -> bool
-        ensures { result ≡ path_eq (scope_of self.now) (path_of scope.now) }
-    {
-        match &self.innermost {
-            None => are_one(&self.innermost, scope),
-            Some(part) => are_one(&part.around, scope),
-        }
-    }
-
     /// Whether it is the path around a part.
     pub(crate) fn is_around(&self, part: &PathPart) -> bool
         ensures { result ≡ path_eq self.now part.now.1 }
     {
-        are_one(&self.innermost, &part.around)
-    }
-
-    /// Whether it is the path of this name in the scope with that path.
-    pub fn is_child(&self, name: &[u8], scope: &Path) -> bool
-        ensures { result ≡ path_eq self.now (name.now ∷ scope.now) }
-    {
-        match &self.innermost {
-            None => false,
-            Some(part) => part.name.as_bytes() == name && are_one(&part.around, &scope.innermost),
-        }
+        self.lent().are_those(&part.around())
     }
 }
 
@@ -327,10 +299,7 @@ impl Path {
             ≡ bytes_eq name.now (folded (name_of self.now))
             && path_eq scope.now (scope_of self.now) }
     {
-        match &self.innermost {
-            None => { name.as_bytes() == self.name() && are_one(&scope.innermost, &self.innermost) }
-            Some(part) => *name == part.folded_name && are_one(&scope.innermost, &part.around),
-        }
+        self.lent().begin_with(name, &scope.lent())
     }
 
     /// Whether this is its own name, folded.
@@ -351,7 +320,7 @@ impl Path {
             && path_eq (scope_of self.now) (scope_of other.now) }
     {
         match &other.innermost {
-            None => self.folded_bytes() == other.name() && self.is_below(&other.innermost),
+            None => self.folded_bytes() == other.name() && self.around().are_those(&other.lent()),
             Some(part) => self.is_found_as(part),
         }
     }
@@ -363,38 +332,28 @@ impl Path {
             ≡ bytes_eq (folded (name_of self.now)) (folded part.now.0)
             && path_eq (scope_of self.now) part.now.1 }
     {
-        self.has_folded(&part.folded_name) && self.is_below(&part.around)
+        self.has_folded(&part.folded_name) && self.around().are_those(&part.around())
     }
-}
-
-// Whether two paths are one.
-#[inline(always)]
-#[tactic(auto, using(crate::proofs::PathLemmas::same_first))]
-fn are_one(first: &Option<Rc<PathPart>>, second: &Option<Rc<PathPart>>) -> bool
-    ensures { result ≡ path_eq (path_of first.now) (path_of second.now) }
-{
-    let mut own = first;
-    let mut other = second;
-    while let Some(shared) = own {
-        let Some(others) = other else {
-            return false;
-        };
-        let mine: &PathPart = shared;
-        let theirs: &PathPart = others;
-        if !begin_alike(mine, theirs) {
-            return false;
-        }
-        own = &mine.around;
-        other = &theirs.around;
-    }
-    other.is_none()
 }
 
 /// Whether the paths that end in two parts are one.
+#[tactic(auto, using(crate::proofs::PathLemmas::same_first))]
 pub(crate) fn are_alike(mine: &PathPart, theirs: &PathPart) -> bool
     ensures { result ≡ path_eq (mine.now.0 ∷ mine.now.1) (theirs.now.0 ∷ theirs.now.1) }
 {
-    begin_alike(mine, theirs) && are_one(&mine.around, &theirs.around)
+    let mut own = mine;
+    let mut other = theirs;
+    while begin_alike(own, other) {
+        let Some(around) = &own.around else {
+            return other.around.is_none();
+        };
+        let Some(beside) = &other.around else {
+            return false;
+        };
+        own = around;
+        other = beside;
+    }
+    false
 }
 
 // Whether the innermost names are one, unless the digests tell already that the paths are not.
@@ -450,7 +409,7 @@ impl PartialEq for Path {
     fn eq(&self, other: &Path) -> bool
         ensures { result ≡ pointwise bytes_eq self.now other.now }
     {
-        are_one(&self.innermost, &other.innermost)
+        self.lent().are_those(&other.lent())
     }
 }
 

@@ -168,7 +168,7 @@ impl<'a> LentKey<'a> {
                 **name == *other && **scope == *path
             }
             (Parts::Entity(path), Key::Declared(name, scope)) => {
-                path.has_folded(name) && path.is_in(scope)
+                path.lent().begin_with(name, &scope.lent())
             }
             (Parts::Introduced(path, scope, body), Key::Introduced(name, other, number)) => {
                 path.has_folded(name) && **scope == *other && *body == *number

@@ -7,7 +7,7 @@ use Rattle.idl_entity.proofs.identity.+push_slashed.Goals as goal
 pub returns : goal.returns
 returns t c =
     let some : c.in-Some.around ≡ [] → ⊥ = λ e. let yes = c.is_empty.ensures.1 e in let no = c.if-is_empty.false in cc in
-    let apart : path_eq c.in-Some.around c.args.scope.now ≡ false = sym c.are_of.ensures ∙ c.if-are_of.false in
+    let apart : path_eq c.in-Some.around c.args.scope.now ≡ false = ap (path_eq c.in-Some.around) (sym c.lent.ensures) ∙ sym c.are_those.ensures ∙ c.if-are_those.false in
     let around = slashed (relative c.in-Some.around c.args.scope.now) in
     let whole = ap (λ path. slashed (relative path c.args.scope.now)) c.in-Some.ensures.some
     ∙ slashed_further c.in-Some.name.now c.in-Some.around c.args.scope.now some apart in
