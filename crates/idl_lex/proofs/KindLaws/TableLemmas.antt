@@ -34,7 +34,7 @@ stand_at_home : map (λ k. at (home k)) keywords ≡ keywords
 unfolding keywords places home
 stand_at_home = refl
 
-have_home : list_all (λ k. ltb (home k) 64) keywords ≡ true
+have_home : list_all (λ k. ltb (home k) 72) keywords ≡ true
 unfolding keywords places home
 have_home = refl
 
@@ -48,11 +48,11 @@ the d (Some k) = k
 
 -- a keyword that is found stands where the word tells
 record Found (w : List ℕ) (k : Keyed) : Type 0 where
-  within : place w < 64
+  within : place w < 72
   here : at (place w) ≡ k
   alike : folded k.0 ≡ w
 
-found_first : (w : List ℕ) (x : Keyed) (ks : List Keyed) (k : Keyed) (b : Bool) → at (home x) ≡ x → home x < 64
+found_first : (w : List ℕ) (x : Keyed) (ks : List Keyed) (k : Keyed) (b : Bool) → at (home x) ≡ x → home x < 72
     → (find (λ k. bytes_eq (folded k.0) w) ks ≡ Some k → Found w k)
     → bytes_eq (folded x.0) w ≡ b → cond b (Some x) (find (λ k. bytes_eq (folded k.0) w) ks) ≡ Some k → Found w k
 unfolding the home
@@ -60,19 +60,19 @@ found_first w x ks k true same within more e h =
     let is : x ≡ k = ap (the x) h in
     let one : folded x.0 ≡ w = (bytes_decides (folded x.0) w).0 e in
     record {
-      within = subst (λ v. place v < 64) one within;
+      within = subst (λ v. place v < 72) one within;
       here = ap (λ v. at (place v)) (sym one) ∙ same ∙ is;
       alike = ap (λ k. folded k.0) (sym is) ∙ one;
     }
 found_first w x ks k false same within more e h = more h
 
-found : (w : List ℕ) (ks : List Keyed) (k : Keyed) → map (λ k. at (home k)) ks ≡ ks → list_all (λ k. ltb (home k) 64) ks ≡ true
+found : (w : List ℕ) (ks : List Keyed) (k : Keyed) → map (λ k. at (home k)) ks ≡ ks → list_all (λ k. ltb (home k) 72) ks ≡ true
     → find (λ k. bytes_eq (folded k.0) w) ks ≡ Some k → Found w k
 unfolding is_there
 found w [] k same within h = absurd (false≢true (ap is_there h))
 found w (x ∷ ks) k same within h =
-    let parts = both (ltb (home x) 64) (list_all (λ k. ltb (home k) 64) ks) within in
-    found_first w x ks k (bytes_eq (folded x.0) w) (ap (λ l. get_or l 0 x) same) (ltb-true (home x) 64 parts.0)
+    let parts = both (ltb (home x) 72) (list_all (λ k. ltb (home k) 72) ks) within in
+    found_first w x ks k (bytes_eq (folded x.0) w) (ap (λ l. get_or l 0 x) same) (ltb-true (home x) 72 parts.0)
     (found w ks k (ap (drop 1) same) parts.1) refl h
 
 -- none is found where none is alike
@@ -95,19 +95,19 @@ missed p (x ∷ ks) d h i lt =
 found_here : (word : List ℕ) (k : Keyed) → like_keyword word ≡ Some k → Found (folded word) k
 found_here word k h = found (folded word) keywords k stand_at_home have_home h
 
-keywords-length : length keywords ≡ 64
+keywords-length : length keywords ≡ 72
 unfolding keywords
 keywords-length = refl
 
 -- a word with no place is like none
-pub like_keyword-nowhere : (word : List ℕ) → 64 ≤ place (folded word) → None ≡ like_keyword word
+pub like_keyword-nowhere : (word : List ℕ) → 72 ≤ place (folded word) → None ≡ like_keyword word
 like_keyword-nowhere word past = by (like_keyword word) refl where
   by : (o : Option Keyed) → like_keyword word ≡ o → None ≡ o
   by None h = refl
   by (Some k) h = absurd (omega (arith, past, (found_here word k h).within))
 
 -- a word is like the keyword at its place, or none
-pub like_keyword-at : (word : List ℕ) → place (folded word) < 64 → folded (at (place (folded word))).0 ≡ folded word
+pub like_keyword-at : (word : List ℕ) → place (folded word) < 72 → folded (at (place (folded word))).0 ≡ folded word
     → Some (at (place (folded word))) ≡ like_keyword word
 like_keyword-at word lt alike = by (like_keyword word) refl where
   by : (o : Option Keyed) → like_keyword word ≡ o → Some (at (place (folded word))) ≡ o
@@ -138,11 +138,11 @@ of_some_length n long short = ap (λ b. b || nat_lt 11 n) (le-ltb n 2 long) ∙ 
 
 -- where a word of some length stands, by its letters
 pub place-folded : (word : List ℕ) (n : ℕ) → length word ≡ n → 2 ≤ n → n ≤ 11
-    → place (folded word) ≡ get_or places ((letter word 0 + 9 * letter word 1 + 11 * letter word (n - 2) + n) % 256) 0
+    → place (folded word) ≡ get_or places ((letter word 0 + 144 * letter word 1 + 153 * letter word (n - 2) + n) % 256) 0
 place-folded word n len long short =
-    ap (λ m. if nat_lt m 2 || nat_lt 11 m then 64 else get_or places ((letter (folded word) 0 + 9 * letter (folded word) 1 + 11 * letter (folded word) (m - 2) + m) % 256) 0) (length-map word to_ascii_lowercase ∙ len)
-    ∙ ap (λ b. if b then 64 else get_or places ((letter (folded word) 0 + 9 * letter (folded word) 1 + 11 * letter (folded word) (n - 2) + n) % 256) 0) (of_some_length n long short)
-    ∙ (λ i. get_or places ((letter-folded word 0 i + 9 * letter-folded word 1 i + 11 * letter-folded word (n - 2) i + n) % 256) 0)
+    ap (λ m. if nat_lt m 2 || nat_lt 11 m then 255 else get_or places ((letter (folded word) 0 + 144 * letter (folded word) 1 + 153 * letter (folded word) (m - 2) + m) % 256) 0) (length-map word to_ascii_lowercase ∙ len)
+    ∙ ap (λ b. if b then 255 else get_or places ((letter (folded word) 0 + 144 * letter (folded word) 1 + 153 * letter (folded word) (n - 2) + n) % 256) 0) (of_some_length n long short)
+    ∙ (λ i. get_or places ((letter-folded word 0 i + 144 * letter-folded word 1 i + 153 * letter-folded word (n - 2) i + n) % 256) 0)
 
 -- what is read at the place that a word tells
 pub entry_of-at : (entries : List (Bor (List ℕ) × TokenKind)) (word : List ℕ) (i : ℕ) (d : Bor (List ℕ) × TokenKind) → map entry_of entries ≡ keywords
@@ -161,7 +161,7 @@ if_alike-other word k other = by (bytes_eq (folded k.0) (folded word)) refl wher
   by false e = ap (λ b. if b then Some k else None) e
 
 -- the keyword at a word's place is the one that the word can be
-pub like_keyword-if_alike : (word : List ℕ) → place (folded word) < 64 → like_keyword word ≡ if_alike word (Some (at (place (folded word))))
+pub like_keyword-if_alike : (word : List ℕ) → place (folded word) < 72 → like_keyword word ≡ if_alike word (Some (at (place (folded word))))
 like_keyword-if_alike word lt = by (bytes_eq (folded k.0) (folded word)) refl where
   k : Keyed
   k = at (place (folded word))

@@ -11,7 +11,7 @@ use crate::kinds::kind::TokenKind;
 use crate::kinds::word_table::WordEntry;
 
 // Each keyword with the kind of its spelling. Those that begin with one letter, whatever its case, stand together.
-const KEYWORDS: [WordEntry<TokenKind>; 64] = [
+const KEYWORDS: [WordEntry<TokenKind>; 72] = [
     (b"abstract", TokenKind::Refused),
     (b"any", TokenKind::Accepted(Keyword::Any)),
     (b"attribute", TokenKind::Accepted(Keyword::Attribute)),
@@ -39,6 +39,10 @@ const KEYWORDS: [WordEntry<TokenKind>; 64] = [
     (b"import", TokenKind::Refused),
     (b"in", TokenKind::Accepted(Keyword::In)),
     (b"inout", TokenKind::Accepted(Keyword::Inout)),
+    (b"int16", TokenKind::Accepted(Keyword::Int16)),
+    (b"int32", TokenKind::Accepted(Keyword::Int32)),
+    (b"int64", TokenKind::Accepted(Keyword::Int64)),
+    (b"int8", TokenKind::Accepted(Keyword::Int8)),
     (b"interface", TokenKind::Accepted(Keyword::Interface)),
     (b"local", TokenKind::Accepted(Keyword::Local)),
     (b"long", TokenKind::Accepted(Keyword::Long)),
@@ -68,6 +72,10 @@ const KEYWORDS: [WordEntry<TokenKind>; 64] = [
     (b"typedef", TokenKind::Accepted(Keyword::Typedef)),
     (b"typeid", TokenKind::Refused),
     (b"typeprefix", TokenKind::Refused),
+    (b"uint16", TokenKind::Accepted(Keyword::Uint16)),
+    (b"uint32", TokenKind::Accepted(Keyword::Uint32)),
+    (b"uint64", TokenKind::Accepted(Keyword::Uint64)),
+    (b"uint8", TokenKind::Accepted(Keyword::Uint8)),
     (b"union", TokenKind::Accepted(Keyword::Union)),
     (b"unsigned", TokenKind::Accepted(Keyword::Unsigned)),
     (b"uses", TokenKind::Refused),
@@ -78,23 +86,25 @@ const KEYWORDS: [WordEntry<TokenKind>; 64] = [
     (b"wstring", TokenKind::Accepted(Keyword::Wstring)),
 ];
 
-// Where each keyword stands in the table, by what three of its letters and its length make together; 64 for what none makes.
+// Where each keyword stands in the table, by what three of its letters and its length make together; 255 for what none makes.
 const PLACES: [u8; 256] = [
-    64, 64, 64, 64, 61, 64, 64, 64, 64, 50, 64, 64, 64, 41, 64, 32, 64, 64, 64, 64, 64, 12, 64, 64,
-    64, 64, 64, 64, 1, 64, 30, 64, 64, 64, 23, 64, 64, 64, 46, 64, 64, 64, 64, 64, 64, 6, 64, 64,
-    64, 29, 64, 53, 64, 64, 40, 64, 64, 64, 64, 64, 0, 56, 64, 64, 64, 64, 62, 64, 64, 52, 64, 64,
-    33, 64, 24, 64, 64, 64, 64, 64, 64, 64, 64, 64, 64, 64, 31, 64, 42, 64, 5, 13, 64, 64, 54, 64,
-    7, 64, 55, 63, 64, 64, 34, 47, 64, 44, 64, 10, 64, 64, 14, 64, 64, 64, 64, 26, 22, 64, 64, 64,
-    64, 64, 64, 64, 64, 64, 64, 64, 45, 64, 21, 64, 15, 64, 64, 64, 64, 64, 64, 16, 64, 64, 64, 64,
-    64, 64, 64, 20, 19, 38, 64, 64, 64, 9, 2, 3, 64, 64, 35, 64, 64, 51, 64, 28, 64, 64, 64, 64,
-    64, 64, 64, 64, 64, 64, 64, 64, 64, 27, 64, 64, 49, 64, 36, 64, 64, 64, 64, 64, 11, 64, 64, 64,
-    64, 64, 64, 64, 64, 64, 64, 64, 64, 8, 64, 43, 64, 64, 64, 64, 64, 64, 57, 64, 64, 64, 64, 64,
-    60, 64, 64, 64, 17, 64, 64, 64, 64, 4, 64, 64, 64, 18, 64, 64, 64, 64, 64, 64, 25, 64, 48, 64,
-    64, 39, 64, 37, 64, 64, 64, 64, 64, 59, 64, 58, 64, 64, 64, 64,
+    37, 255, 255, 255, 255, 255, 255, 11, 255, 255, 67, 255, 255, 255, 255, 255, 255, 35, 3, 255,
+    29, 255, 47, 27, 20, 19, 32, 255, 255, 255, 63, 255, 5, 24, 255, 255, 52, 255, 255, 255, 57,
+    255, 255, 42, 71, 255, 255, 255, 255, 255, 255, 255, 255, 43, 255, 41, 255, 255, 255, 255, 255,
+    255, 2, 68, 255, 23, 1, 255, 255, 255, 255, 44, 255, 28, 255, 255, 25, 255, 13, 255, 255, 62,
+    255, 255, 60, 255, 255, 255, 255, 255, 50, 255, 255, 255, 255, 17, 255, 255, 255, 255, 21, 70,
+    255, 255, 255, 255, 255, 56, 255, 255, 255, 40, 255, 255, 255, 255, 255, 255, 14, 255, 8, 255,
+    255, 26, 255, 255, 255, 255, 255, 255, 255, 255, 255, 16, 61, 255, 255, 255, 255, 58, 255, 255,
+    39, 59, 255, 255, 255, 255, 255, 255, 255, 255, 255, 255, 255, 255, 255, 255, 255, 255, 255,
+    255, 255, 255, 255, 46, 12, 255, 255, 255, 255, 255, 255, 255, 255, 34, 255, 255, 255, 255, 255,
+    255, 48, 51, 255, 255, 255, 255, 255, 31, 255, 255, 255, 38, 255, 255, 255, 55, 66, 255, 255,
+    255, 36, 255, 255, 255, 255, 255, 10, 255, 9, 7, 54, 255, 255, 255, 255, 255, 6, 255, 255, 22,
+    33, 53, 255, 30, 255, 255, 255, 255, 45, 255, 255, 49, 255, 69, 255, 255, 255, 255, 255, 64, 4,
+    255, 0, 255, 18, 255, 255, 255, 65, 255, 255, 255, 15, 255,
 ];
 
 // A place past the table.
-const NOWHERE: usize = 64;
+const NOWHERE: usize = 255;
 
 // A keyword has at least two bytes, and so many at the most.
 const LONGEST: usize = 11;
@@ -124,7 +134,7 @@ pub fn keyword_at(word: &[u8]) -> Option<WordEntry<TokenKind>>
 #[tactic(auto, unfolding(crate::specs::kinds::Keywords::keywords))]
 fn table() -> &'static [WordEntry<TokenKind>]
     ensures all { map entry_of result.now ≡ keywords }
-    ensures len { length result.now ≡ 64 }
+    ensures len { length result.now ≡ 72 }
 {
     &KEYWORDS
 }
@@ -137,7 +147,7 @@ fn place_of(word: &[u8]) -> usize
     if len < 2 || LONGEST < len {
         return NOWHERE;
     }
-    let mixed = letter(word[0]) + 9 * letter(word[1]) + 11 * letter(word[len - 2]) + len;
+    let mixed = letter(word[0]) + 144 * letter(word[1]) + 153 * letter(word[len - 2]) + len;
     places()[mixed % 256] as usize
 }
 

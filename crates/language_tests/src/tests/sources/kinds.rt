@@ -39,7 +39,7 @@ fn is_named(name: &str, spelling: &str) -> bool {
 }
 
 static KINDS: [&str; 15] = [
-    "Boolean · TYPEDEF · false · Valuebase => like a keyword: Miscased",
+    "Boolean · TYPEDEF · false · Valuebase · Int8 · UINT64 => like a keyword: Miscased",
     "Foo · i · L · interfaces · x_2 => Identifier ¶ _interface · _Foo => Escaped",
     "_ · _1 · __a => Bad(NothingEscaped) ¶ 18446744073709551616 · 0x10000000000000000 => Bad(IntegerTooLarge)",
     "08 · 0x · 0xg · 12u · 1_ · 99999999999999999999z => Bad(MalformedInteger)",
@@ -55,9 +55,9 @@ static KINDS: [&str; 15] = [
     "; · , · { · } · ( · ) · :: · : · < · > · = · [ · ] · + · - · * · / · % · ~ · | · ^ · & · << · >> => Punctuation",
     "# · ## · ! · ? · . · && · || · == · != · <= · >= => Preprocessing",
     "any · attribute · boolean · case · char · const · context · default · double · enum · exception · FALSE · float · \
-     getraises · in · inout · interface · local · long · module · native · Object · octet · oneway · out · raises · \
-     readonly · sequence · setraises · short · string · struct · switch · TRUE · typedef · union · unsigned · void · \
-     wchar · wstring => like a keyword: Accepted",
+     getraises · in · inout · int16 · int32 · int64 · int8 · interface · local · long · module · native · Object · \
+     octet · oneway · out · raises · readonly · sequence · setraises · short · string · struct · switch · TRUE · \
+     typedef · uint16 · uint32 · uint64 · uint8 · union · unsigned · void · wchar · wstring => like a keyword: Accepted",
     "0 · 00 => Integer 0 ¶ 12 => Integer 12 ¶ 0755 => Integer 493 ¶ 0xfF => Integer 255 ¶ 0X1e => Integer 30",
     "18446744073709551615 · 01777777777777777777777 => Integer 18446744073709551615",
 ];

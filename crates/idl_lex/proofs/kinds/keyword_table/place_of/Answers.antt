@@ -10,6 +10,6 @@ bounds-places-mixed c = rw c.places.ensures (omega (arith, places-length))
 pub returns : goal.returns
 returns c =
     let n = length c.args.word.now in
-    ap (λ ps. get_or ps ((c.letter.result + 9 * c.letter-2.result + 11 * c.letter-3.result + n) % 256) 0) c.places.ensures
-    ∙ (λ i. get_or places ((c.letter.ensures i + 9 * c.letter-2.ensures i + 11 * c.letter-3.ensures i + n) % 256) 0)
+    ap (λ ps. get_or ps ((c.letter.result + 144 * c.letter-2.result + 153 * c.letter-3.result + n) % 256) 0) c.places.ensures
+    ∙ (λ i. get_or places ((c.letter.ensures i + 144 * c.letter-2.ensures i + 153 * c.letter-3.ensures i + n) % 256) 0)
     ∙ sym (place-folded c.args.word.now n refl (omega (arith, c.if-len-lt2.false)) (omega (arith, c.if-len-gt-LONGEST.false)))
