@@ -187,18 +187,21 @@ pub then_laws : (d N : ℕ) {A B C : Type 0} (spell1 : A → List Lexeme) (r1 : 
 then_laws d N {A} spell1 r1 value2 spell2 r2 one two = follow_laws d N (λ (a : A). a) spell1 r1 value2 spell2 r2 one two
 
 -- ---- the last reader, whose value f sees
-module _ (d N : ℕ) {A C : Type 0} (f : A → C) (spell1 : A → List Lexeme) (r1 : ℕ → Reader A) where
+module _ (d N : ℕ) {E A C : Type 0} (f : A → C) (value1 : E → A) (spell1 : E → List Lexeme) (r1 : ℕ → Reader A) where
   abbrev pub last_at : ℕ → Reader C
   last_at n ts = r1 n ts >>= λ x. Ok (f x.0, x.1)
 
-  pub last_laws : Laws d N same spell1 r1 → Laws d N f spell1 last_at
-  last_laws one = record {
+  abbrev pub last_value : E → C
+  last_value e = f (value1 e)
+
+  pub valued_laws : Laws d N value1 spell1 r1 → Laws d N last_value spell1 last_at
+  valued_laws one = record {
     example = one.example;
     sound = λ n ts c rest room e. sound n ts c rest room (bind_ok (r1 n ts) (λ x. Ok (f x.0, x.1)) (c, rest) e);
     fault = λ n ts k room e. fault n ts k room (bind_err (r1 n ts) (λ x. Ok (f x.0, x.1)) k e);
   }
     where
-      sound : (n : ℕ) (ts : List Lexeme) (c : C) (rest : List Lexeme) → Room d N n ts → (x : A × List Lexeme) × (r1 n ts ≡ Ok x) × (ok {A = C × List Lexeme} (f x.0, x.1) ≡ Ok (c, rest)) → Read d N f spell1 last_at ts c rest
+      sound : (n : ℕ) (ts : List Lexeme) (c : C) (rest : List Lexeme) → Room d N n ts → (x : A × List Lexeme) × (r1 n ts ≡ Ok x) × (ok {A = C × List Lexeme} (f x.0, x.1) ≡ Ok (c, rest)) → Read d N last_value spell1 last_at ts c rest
       sound n ts c rest room b =
           let p = one.sound n ts b.0.0 b.0.1 room b.1 in
           let e = ok_is (f b.0.0, b.0.1) (c, rest) b.2 in
@@ -225,6 +228,10 @@ module _ (d N : ℕ) {A C : Type 0} (f : A → C) (spell1 : A → List Lexeme) (
             alive = g.alive;
           }
       fault n ts k room (in_second x e1 e2) = absurd (ok_err (f x.0, x.1) k e2)
+
+-- the same where the reader reads whole trees
+pub last_laws : (d N : ℕ) {A C : Type 0} (f : A → C) (spell1 : A → List Lexeme) (r1 : ℕ → Reader A) → Laws d N same spell1 r1 → Laws d N f spell1 (mapped_at f r1)
+last_laws d N {A} f spell1 r1 one = valued_laws d N f (λ (a : A). a) spell1 r1 one
 
 -- ---- a value that takes no token
 module _ (d N : ℕ) {C : Type 0} (c : C) where

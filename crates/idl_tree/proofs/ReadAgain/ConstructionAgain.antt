@@ -9,7 +9,7 @@ use Rattle.idl_tree.specs.Lexeme.{Identifier, Lexeme, Lexemes, Punctuation, Word
 use Rattle.idl_tree.specs.reading.ReadConstruction.{all_with, begins_construction, begins_label, case_with, cases_with, construction_at, construction_with, discriminator_at, enumeration_at, goes_on, label_with, made_case, made_member, made_structure, made_union, member_type_with, member_with, structure_rest_with, structure_with, union_rest_with, union_with}
 use Rattle.idl_tree.specs.reading.ReadExpression.{expression_at}
 use Rattle.idl_tree.specs.reading.ReadType.{declarator_with, type_at}
-use Rattle.idl_tree.specs.reading.ReadUnit.{ended_with, structure_unit_with, union_unit_with, unit_at, unit_with}
+use Rattle.idl_tree.specs.reading.ReadUnit.{declaration_with, ended_with, structure_declaration_with, union_declaration_with, unit_at, unit_with}
 use Rattle.idl_tree.specs.reading.Reading.{Reader, expect, first, many_of, ◌>>=◌}
 use Rattle.idl_tree.specs.Several.{spell_all}
 use Rattle.idl_tree.specs.reading.Tests.{is_mark}
@@ -269,12 +269,14 @@ union_is_again name x c cs =
 -- ---- constructions
 
 -- a declaration and its semicolon
-pub ended_reads : {A : Type 0} (goes : Option Lexeme → Bool) (make : A → Tree) (s : Lexemes) (r : Reader A) (a : A) → goes (Some (Punctuation mark.Semicolon)) ≡ false → Reads goes s r a → Reads nothing (s ++ end) (ended_with make r) (make a)
+pub ended_reads : {A : Type 0} (goes : Option Lexeme → Bool) (make : A → Tree) (s : Lexemes) (r : Reader A) (a : A) → goes (Some (Punctuation mark.Semicolon)) ≡ false → Reads goes s r a
+    → Reads nothing (s ++ end) (ended_with (λ ts. r ts >>= λ x. Ok (make x.0, x.1))) (make a)
 unfolding ended_with
-ended_reads goes make s r a quiet reads = then_reads goes nothing s end r (λ a ts. expect (is_mark mark.Semicolon) ts >>= λ rest. Ok (make a, rest)) a (make a) reads (λ rest h. refl) (λ rest h. quiet)
+ended_reads goes make s r a quiet reads =
+    then_reads goes nothing s end (λ ts. r ts >>= λ x. Ok (make x.0, x.1)) (λ t ts. expect (is_mark mark.Semicolon) ts >>= λ rest. Ok (t, rest)) (make a) (make a) (mapped_reads goes s r make a reads) (λ rest h. refl) (λ rest h. quiet)
 
 construction_of_structure : (s : Structure) → IsStructureAgain s → IsConstructionAgain (construction.Structure s)
-unfolding construction_at construction_with structure_with unit_at unit_with structure_unit_with
+unfolding construction_at construction_with structure_with unit_at unit_with ended_with declaration_with structure_declaration_with
 construction_of_structure s is =
     let c : Construction = construction.Structure s in
     let spelled = spell_construction-structure s ∙ is.is in
@@ -287,7 +289,7 @@ construction_of_structure s is =
     }
 
 construction_of_union : (u : Union) → IsUnionAgain u → IsConstructionAgain (construction.Union u)
-unfolding construction_at construction_with union_with unit_at unit_with union_unit_with
+unfolding construction_at construction_with union_with unit_at unit_with ended_with declaration_with union_declaration_with
 construction_of_union u is =
     let c : Construction = construction.Union u in
     let spelled = spell_construction-union u ∙ is.is in
@@ -300,7 +302,7 @@ construction_of_union u is =
     }
 
 construction_of_enumeration : (e : Enumeration) → IsConstructionAgain (construction.Enumeration e)
-unfolding construction_at construction_with unit_at unit_with
+unfolding construction_at construction_with unit_at unit_with ended_with declaration_with
 construction_of_enumeration e =
     let c : Construction = construction.Enumeration e in
     let spelled = spell_construction-enumeration e in

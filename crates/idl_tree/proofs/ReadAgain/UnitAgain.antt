@@ -13,7 +13,7 @@ use Rattle.idl_tree.specs.reading.ReadConstruction.{construction_at, goes_on}
 use Rattle.idl_tree.specs.reading.ReadExpression.{expression_at}
 use Rattle.idl_tree.specs.reading.ReadInterface.{attribute_with, made_operation, operation_with, readonly_attribute_with}
 use Rattle.idl_tree.specs.reading.ReadType.{discrete_at, string_type, string_with, type_at}
-use Rattle.idl_tree.specs.reading.ReadUnit.{ahead_at, bases_at, closing_at, constant_type_with, constant_with, ended_with, exception_with, interface_at, interface_rest, made_constant, made_exception, made_typedef, module_at, native_at, opened, structure_unit_with, typedef_with, union_unit_with, unit_at, unit_by, unit_with}
+use Rattle.idl_tree.specs.reading.ReadUnit.{bases_at, closing_at, constant_type_with, constant_with, declaration_by, declaration_with, ended_with, exception_with, interface_at, interface_rest, made_constant, made_exception, made_typedef, module_at, native_at, opened, structure_declaration_with, typedef_with, union_declaration_with, unit_at, unit_by, unit_with}
 use Rattle.idl_tree.specs.reading.Reading.{Reader, expect, first, many_of, ◌>>=◌}
 use Rattle.idl_tree.specs.reading.Tests.{identifier_at, is_mark, keyword_of}
 use Rattle.idl_tree.specs.Unit.{spell, spell_constant, spell_constant_type, spell_exception, spell_typedef}
@@ -134,7 +134,7 @@ interface_reads true name bases n rest h = interface_rest_reads true name bases 
 interface_reads false name bases n rest h = interface_rest_reads false name bases rest
 
 forward_reads : (f : Forward) (n : ℕ) → Reads nothing (spell (tree.Forward f)) (unit_at n) (tree.Forward f)
-unfolding spell unit_at unit_with interface_at interface_rest structure_unit_with union_unit_with ahead_at
+unfolding spell unit_at unit_with ended_with declaration_with interface_at interface_rest structure_declaration_with union_declaration_with
 forward_reads (forward.Interface true name) n rest h = refl
 forward_reads (forward.Interface false name) n rest h = refl
 forward_reads (forward.Structure name) n rest h = refl
@@ -142,11 +142,18 @@ forward_reads (forward.Union name) n rest h = refl
 
 -- ---- operations
 
+abbrev operation_tree : ℕ → Reader Tree
+operation_tree n ts = operation_with (type_at n) ts >>= λ o. Ok (tree.Operation o.0, o.1)
+
+type_is_declaration : (t : Option Lexeme) → is_type_start t ≡ true → (e : Reader Expression) (r : Reader TypeTree) (c : Reader Construction) (ts : Lexemes)
+    → unit_by e r c (keyword_of t) ts ≡ ended_with (declaration_with e r c) ts
+type_is_declaration (Some (Word word.Module)) h e r c ts = absurd cc
+type_is_declaration (Some (Word word.Local)) h e r c ts = absurd cc
+type_is_declaration (Some (Word word.Interface)) h e r c ts = absurd cc
+type_is_declaration _ h e r c ts = refl
+
 type_is_operation : (t : Option Lexeme) → is_type_start t ≡ true → (e : Reader Expression) (r : Reader TypeTree) (c : Reader Construction) (ts : Lexemes)
-    → unit_by e r c (keyword_of t) ts ≡ ended_with tree.Operation (operation_with r) ts
-type_is_operation (Some (Word word.Module)) h e r c ts = absurd cc
-type_is_operation (Some (Word word.Local)) h e r c ts = absurd cc
-type_is_operation (Some (Word word.Interface)) h e r c ts = absurd cc
+    → declaration_by e r c (keyword_of t) ts ≡ (operation_with r ts >>= λ o. Ok (tree.Operation o.0, o.1))
 type_is_operation (Some (Word word.Struct)) h e r c ts = absurd cc
 type_is_operation (Some (Word word.Union)) h e r c ts = absurd cc
 type_is_operation (Some (Word word.Enum)) h e r c ts = absurd cc
@@ -162,17 +169,27 @@ type_is_no_closing : (t : Option Lexeme) → is_type_start t ≡ true → is_mar
 type_is_no_closing (Some (Punctuation mark.CloseBrace)) h = absurd cc
 type_is_no_closing _ h = refl
 
--- a unit that begins as a type is an operation
-unit_of_type : (t : Option Lexeme) → is_type_start t ≡ true → (n : ℕ) (ts : Lexemes) → first ts ≡ t → unit_at n ts ≡ ended_with tree.Operation (operation_with (type_at n)) ts
-unfolding unit_at unit_with
-unit_of_type t h n ts is = rw (is, type_is_no_closing t h) (type_is_operation t h (expression_at n) (type_at n) (construction_at n) ts)
+declaration_of_type : (t : Option Lexeme) → is_type_start t ≡ true → (n : ℕ) (ts : Lexemes) → first ts ≡ t → declaration_with (expression_at n) (type_at n) (construction_at n) ts ≡ operation_tree n ts
+unfolding declaration_with
+declaration_of_type t h n ts is = rw is (type_is_operation t h (expression_at n) (type_at n) (construction_at n) ts)
 
-operation_first : (o : Operation) (n : ℕ) (rest : Lexemes) → unit_at n (spell_operation o ++ rest) ≡ ended_with tree.Operation (operation_with (type_at n)) (spell_operation o ++ rest)
+ended_same : (r r' : Reader Tree) (ts : Lexemes) → r ts ≡ r' ts → ended_with r ts ≡ ended_with r' ts
+unfolding ended_with
+ended_same r r' ts is = ap (λ (o : Result (Tree × Lexemes) ℕ). o >>= λ d. expect (is_mark mark.Semicolon) d.1 >>= λ rest. Ok (d.0, rest)) is
+
+-- a unit that begins as a type is an operation
+unit_of_type : (t : Option Lexeme) → is_type_start t ≡ true → (n : ℕ) (ts : Lexemes) → first ts ≡ t → unit_at n ts ≡ ended_with (operation_tree n) ts
 unfolding unit_at unit_with
+unit_of_type t h n ts is =
+    rw (is, type_is_no_closing t h) (type_is_declaration t h (expression_at n) (type_at n) (construction_at n) ts)
+    ∙ ended_same (declaration_with (expression_at n) (type_at n) (construction_at n)) (operation_tree n) ts (declaration_of_type t h n ts is)
+
+operation_first : (o : Operation) (n : ℕ) (rest : Lexemes) → unit_at n (spell_operation o ++ rest) ≡ ended_with (operation_tree n) (spell_operation o ++ rest)
+unfolding unit_at unit_with declaration_with ended_with
 operation_first o n rest = by_parts o.is_oneway o.result o.name o.parameters o.raises o.context
   where
     by_parts : (b : Bool) (result : Option TypeTree) (name : List ℕ) (ps : Option (Several Parameter)) (rs : Option (Several ScopedName)) (xs : Option (Several (Several (List ℕ))))
-        → unit_at n (spell_operation (made_operation b result name ps rs xs) ++ rest) ≡ ended_with tree.Operation (operation_with (type_at n)) (spell_operation (made_operation b result name ps rs xs) ++ rest)
+        → unit_at n (spell_operation (made_operation b result name ps rs xs) ++ rest) ≡ ended_with (operation_tree n) (spell_operation (made_operation b result name ps rs xs) ++ rest)
     by_parts true result name ps rs xs = refl
     by_parts false None name ps rs xs = refl
     by_parts false (Some t) name ps rs xs =
@@ -180,14 +197,14 @@ operation_first o n rest = by_parts o.is_oneway o.result o.name o.parameters o.r
         let group = append_assoc (spell_type t) tail rest in
         unit_of_type (first (spell_type t ++ (tail ++ rest))) ((type_is_again t).starts (tail ++ rest)) n ((spell_type t ++ tail) ++ rest) (ap first group)
 
-native_reads : (name : List ℕ) (rest : Lexemes) → ended_with tree.Native native_at (Word word.Native ∷ Identifier name ∷ (end ++ rest)) ≡ Ok (tree.Native name, rest)
+native_reads : (name : List ℕ) (rest : Lexemes) → ended_with (λ ts. native_at ts >>= λ name. Ok (tree.Native name.0, name.1)) (Word word.Native ∷ Identifier name ∷ (end ++ rest)) ≡ Ok (tree.Native name, rest)
 unfolding ended_with native_at
 native_reads name rest = refl
 
 -- ---- units
 
 unit_reads : (t : Tree) (n : ℕ) → length (spell t) ≤ n → Reads nothing (spell t) (unit_at n) t
-unfolding spell unit_at unit_with closing_at module_at
+unfolding spell unit_at unit_with ended_with declaration_with closing_at module_at
 unit_reads tree.Closing n le rest h = refl
 unit_reads (tree.Module name) n le rest h = refl
 unit_reads (tree.Interface i) n le rest h = interface_reads i.is_local i.name i.bases n rest h
@@ -205,7 +222,7 @@ unit_reads (tree.ReadonlyAttribute a) n le rest h =
 unit_reads (tree.Attribute a) n le rest h =
     ended_reads goes_attribute tree.Attribute (spell_attribute a) (attribute_with (type_at n)) a refl (attribute_reads a n (omega (arith, le, length-append (spell_attribute a) end))) rest refl
 unit_reads (tree.Operation o) n le rest h =
-    ap (unit_at n) (append_assoc (spell_operation o) end rest) ∙ operation_first o n (end ++ rest) ∙ ap (ended_with tree.Operation (operation_with (type_at n))) (sym (append_assoc (spell_operation o) end rest))
+    ap (unit_at n) (append_assoc (spell_operation o) end rest) ∙ operation_first o n (end ++ rest) ∙ ap (ended_with (operation_tree n)) (sym (append_assoc (spell_operation o) end rest))
     ∙ ended_reads goes_operation tree.Operation (spell_operation o) (operation_with (type_at n)) o refl (operation_reads o n (omega (arith, le, length-append (spell_operation o) end))) rest refl
 
 pub unit_again : (t : Tree) (n : ℕ) → length (spell t) < n → unit_at n (spell t) ≡ Ok (t, [])

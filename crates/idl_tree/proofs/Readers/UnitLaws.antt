@@ -15,7 +15,7 @@ use Rattle.idl_tree.specs.reading.ReadExpression.{expression_at}
 use Rattle.idl_tree.specs.reading.ReadInterface.{attribute_with, operation_with, readonly_attribute_with}
 use Rattle.idl_tree.specs.reading.ReadName.{name_at}
 use Rattle.idl_tree.specs.reading.ReadType.{discrete_at, string_with, type_at}
-use Rattle.idl_tree.specs.reading.ReadUnit.{ahead, ahead_at, bases_at, closing_at, constant_type_by, constant_type_with, constant_with, ended_with, exception_with, interface_at, interface_rest, made_constant, made_exception, made_typedef, module_at, native_at, opened, structure_unit_with, typedef_with, union_unit_with, unit_at, unit_by, unit_with}
+use Rattle.idl_tree.specs.reading.ReadUnit.{ahead, bases_at, closing_at, constant_type_by, constant_type_with, constant_with, declaration_by, declaration_with, ended_with, exception_with, interface_at, interface_rest, made_constant, made_exception, made_typedef, module_at, native_at, opened, structure_declaration_with, typedef_with, union_declaration_with, unit_at, unit_by, unit_with}
 use Rattle.idl_tree.specs.reading.Reading.{Reader, expect, first, many_of, ◌>>=◌}
 use Rattle.idl_tree.specs.Several.{spell_listed}
 use Rattle.idl_tree.specs.reading.Tests.{identifier_at, is_mark, is_word, keyword_of}
@@ -44,7 +44,7 @@ use Rattle.idl_tree.proofs.Readers.ConstructionLaws.{declarators_at, declarators
 use Rattle.idl_tree.proofs.ConstructionSpelling.{member_some, spell_construction-enumeration, spell_construction-structure, spell_construction-union, spell_structure-made, spell_union-made}
 use Rattle.idl_tree.proofs.Readers.ExpressionLaws.{expression_laws}
 use Rattle.idl_tree.proofs.Readers.InterfaceLaws.{attribute_laws, readonly_attribute_laws}
-use Rattle.idl_tree.proofs.Laws.{Laws, behind_at, choice_laws, deeper, done_laws, either, either_spells, ends_at, follow_laws, last_laws, mapped_at, next_at, ok, same, shape, skip_laws, then_laws}
+use Rattle.idl_tree.proofs.Laws.{Laws, behind_at, choice_laws, deeper, done_laws, either, either_spells, ends_at, follow_laws, last_laws, mapped_at, next_at, ok, same, shape, skip_laws, then_laws, valued_laws}
 use Rattle.idl_tree.proofs.Many.{many_laws, many_spell}
 use Rattle.idl_tree.proofs.Readers.NameLaws.{flat_map-many, name_laws}
 use Rattle.idl_tree.proofs.Readers.NestedConstructionLaws.{cases_behind, construction_laws, enumeration_laws, member_parts, members_behind, more_room, spell_members, spell_switched, structure_of, structure_rest_laws, switch_parts, union_of, union_rest_laws}
@@ -215,19 +215,15 @@ interface_laws d N = shape d N (either (interface_of true) (interface_of false))
 abbrev pub end : Lexemes
 end = Punctuation mark.Semicolon ∷ []
 
-ended_parts : (d N : ℕ) {B A : Type 0} (make : A → Tree) (value1 : B → A) (spell1 : B → Lexemes) (r : ℕ → Reader A) → Laws d N value1 spell1 r
-    → Laws d N (λ (p : B × Unit {0}). make (value1 p.0)) (λ p. spell1 p.0 ++ end) (λ n. ended_with make (r n))
+-- a declaration, whose trees are value b for its parts b, and its semicolon
+ended_parts : (d N : ℕ) {B : Type 0} (value : B → Tree) (spell1 : B → Lexemes) (r : ℕ → Reader Tree) → ((b : B) → spell (value b) ≡ spell1 b ++ end) → Laws d N value spell1 r → Laws d N same spell (λ n. ended_with (r n))
 unfolding ended_with
-ended_parts d N {B} {A} make value1 spell1 r laws =
-    follow_laws d N value1 spell1 r (λ (a : A) (u : Unit {0}). make a) (λ u. end) (λ a. close_at mark.Semicolon (make a)) laws (λ a. close_laws d N mark.Semicolon (make a))
+ended_parts d N {B} value spell1 r spells laws =
+    shape d N (λ (p : B × Unit {0}). value p.0) (λ p. spell1 p.0 ++ end) spell (next_at r (close_at mark.Semicolon)) (λ n. ended_with (r n)) (λ p. spells p.0) (λ n ts. refl)
+    (follow_laws d N value spell1 r (λ (t : Tree) (u : Unit {0}). t) (λ u. end) (close_at mark.Semicolon) laws (close_laws d N mark.Semicolon))
 
-ended_laws : (d N : ℕ) {A : Type 0} (make : A → Tree) (spell1 : A → Lexemes) (r : ℕ → Reader A) → ((a : A) → spell (make a) ≡ spell1 a ++ end) → Laws d N same spell1 r → Laws d N same spell (λ n. ended_with make (r n))
-ended_laws d N {A} make spell1 r spells laws =
-    shape d N (λ (p : A × Unit {0}). make p.0) (λ p. spell1 p.0 ++ end) spell (λ n. ended_with make (r n)) (λ n. ended_with make (r n)) (λ p. spells p.0) (λ n ts. refl) (ended_parts d N make (λ (a : A). a) spell1 r laws)
-
-ahead_laws : (d N : ℕ) (x : Tree) → Laws d N (λ (u : Unit {0}). x) (λ u. end) (λ n. ahead_at x)
-unfolding ahead_at
-ahead_laws d N x = close_laws d N mark.Semicolon x
+ended_laws : (d N : ℕ) {A : Type 0} (make : A → Tree) (spell1 : A → Lexemes) (r : ℕ → Reader A) → ((a : A) → spell (make a) ≡ spell1 a ++ end) → Laws d N same spell1 r → Laws d N same spell (λ n. ended_with (mapped_at make r n))
+ended_laws d N make spell1 r spells laws = ended_parts d N make spell1 (mapped_at make r) spells (last_laws d N make spell1 r laws)
 
 -- ---- structs and unions
 
@@ -238,33 +234,36 @@ abbrev structure_ahead : List ℕ → Tree
 structure_ahead name = tree.Forward (forward.Structure name)
 
 abbrev structure_tail : Type 0
-structure_tail = (member_parts × Unit {0}) ⊎ Unit {0}
+structure_tail = Unit {0} ⊎ member_parts
 
 abbrev structure_tail_value : List ℕ → structure_tail → Tree
-structure_tail_value name = either (λ p. structure_unit (structure_of name p.0)) (λ u. structure_ahead name)
+structure_tail_value name = either (λ u. structure_ahead name) (λ p. structure_unit (structure_of name p))
 
 abbrev spell_structure_tail : structure_tail → Lexemes
-spell_structure_tail = either (λ p. spell_members p.0 ++ end) (λ u. end)
+spell_structure_tail = either (λ u. []) spell_members
 
-structure_units : (name : List ℕ) (x : structure_tail) → spell (structure_tail_value name x) ≡ Word word.Struct ∷ (one_token Identifier name ++ spell_structure_tail x)
+abbrev structure_declared : List ℕ × structure_tail → Tree
+structure_declared p = structure_tail_value p.0 p.1
+
+abbrev spell_structure_declared : List ℕ × structure_tail → Lexemes
+spell_structure_declared p = Word word.Struct ∷ (one_token Identifier p.0 ++ spell_structure_tail p.1)
+
+structure_units : (p : List ℕ × structure_tail) → spell (structure_declared p) ≡ spell_structure_declared p ++ end
 unfolding spell
-structure_units name (inl p) = ap (λ (w : Lexemes). w ++ end) (spell_construction-structure (structure_of name p.0) ∙ spell_structure-made name p.0.0 p.0.1.0)
-structure_units name (inr u) = refl
+structure_units (name, inl u) = refl
+structure_units (name, inr p) = ap (λ (w : Lexemes). w ++ end) (spell_construction-structure (structure_of name p) ∙ spell_structure-made name p.0 p.1.0)
 
-structure_unit_laws : (d N : ℕ) (re : ℕ → Reader Expression) (rt : ℕ → Reader TypeTree) (rc : ℕ → Reader Construction) → Laws d N same spell_expression re → Laws d N same spell_type rt → Laws d N same spell_construction rc
-    → Laws d N same spell (λ n. structure_unit_with (re n) (rt n) (rc n))
-unfolding structure_unit_with
-structure_unit_laws d N re rt rc expressions types constructions =
+structure_declaration_laws : (d N : ℕ) (re : ℕ → Reader Expression) (rt : ℕ → Reader TypeTree) (rc : ℕ → Reader Construction) → Laws d N same spell_expression re → Laws d N same spell_type rt → Laws d N same spell_construction rc
+    → Laws d N structure_declared spell_structure_declared (λ n. structure_declaration_with (re n) (rt n) (rc n))
+unfolding structure_declaration_with
+structure_declaration_laws d N re rt rc expressions types constructions =
     let inside : List ℕ → ℕ → Reader Structure = λ name n. structure_rest_with (re n) (rt n) (rc n) name in
-    let tail_at : List ℕ → ℕ → Reader Tree = λ name n ts. cond (is_mark mark.OpenBrace (first ts)) (ended_with structure_unit (inside name n) ts) (ahead_at (structure_ahead name) ts) in
-    let value : List ℕ × structure_tail → Tree = λ p. structure_tail_value p.0 p.1 in
-    shape d N value (λ p. Word word.Struct ∷ (one_token Identifier p.0 ++ spell_structure_tail p.1)) spell (behind_at (is_word word.Struct) (next_at (λ n. identifier_at) tail_at)) (λ n. structure_unit_with (re n) (rt n) (rc n))
-    (λ p. structure_units p.0 p.1) (λ n ts. refl)
-    (skip_laws d N (is_word word.Struct) (Word word.Struct) value (λ p. one_token Identifier p.0 ++ spell_structure_tail p.1) (next_at (λ n. identifier_at) tail_at) (only_word word.Struct)
+    let tail_at : List ℕ → ℕ → Reader Tree = λ name n ts. cond (is_mark mark.Semicolon (first ts)) (ends_at (structure_ahead name) n ts) (mapped_at structure_unit (inside name) n ts) in
+    skip_laws d N (is_word word.Struct) (Word word.Struct) structure_declared (λ p. one_token Identifier p.0 ++ spell_structure_tail p.1) (next_at (λ n. identifier_at) tail_at) (only_word word.Struct)
     (then_laws (suc d) N (one_token Identifier) (λ n. identifier_at) structure_tail_value spell_structure_tail tail_at (identifier_laws (suc d) N)
-    (λ name. choice_laws (suc d) N (is_mark mark.OpenBrace) (λ (p : member_parts × Unit {0}). structure_unit (structure_of name p.0)) (λ p. spell_members p.0 ++ end) (λ n. ended_with structure_unit (inside name n)) (λ (u : Unit {0}). structure_ahead name) (λ u. end) (λ n. ahead_at (structure_ahead name))
-    (ended_parts (suc d) N structure_unit (structure_of name) spell_members (inside name) (structure_rest_laws (suc d) N re rt rc (members_behind d N 2 re rt rc expressions types constructions) name))
-    (ahead_laws (suc d) N (structure_ahead name)))))
+    (λ name. choice_laws (suc d) N (is_mark mark.Semicolon) (λ (u : Unit {0}). structure_ahead name) (λ u. []) (ends_at (structure_ahead name)) (λ (p : member_parts). structure_unit (structure_of name p)) spell_members (mapped_at structure_unit (inside name))
+    (done_laws (suc d) N (structure_ahead name))
+    (valued_laws (suc d) N structure_unit (structure_of name) spell_members (inside name) (structure_rest_laws (suc d) N re rt rc (members_behind d N 2 re rt rc expressions types constructions) name))))
 
 abbrev pub union_unit : Union → Tree
 union_unit u = tree.Construction (construction.Union u)
@@ -273,33 +272,36 @@ abbrev union_ahead : List ℕ → Tree
 union_ahead name = tree.Forward (forward.Union name)
 
 abbrev union_tail : Type 0
-union_tail = (switch_parts × Unit {0}) ⊎ Unit {0}
+union_tail = Unit {0} ⊎ switch_parts
 
 abbrev union_tail_value : List ℕ → union_tail → Tree
-union_tail_value name = either (λ p. union_unit (union_of name p.0)) (λ u. union_ahead name)
+union_tail_value name = either (λ u. union_ahead name) (λ p. union_unit (union_of name p))
 
 abbrev spell_union_tail : union_tail → Lexemes
-spell_union_tail = either (λ p. spell_switched p.0 ++ end) (λ u. end)
+spell_union_tail = either (λ u. []) spell_switched
 
-union_units : (name : List ℕ) (x : union_tail) → spell (union_tail_value name x) ≡ Word word.Union ∷ (one_token Identifier name ++ spell_union_tail x)
+abbrev union_declared : List ℕ × union_tail → Tree
+union_declared p = union_tail_value p.0 p.1
+
+abbrev spell_union_declared : List ℕ × union_tail → Lexemes
+spell_union_declared p = Word word.Union ∷ (one_token Identifier p.0 ++ spell_union_tail p.1)
+
+union_units : (p : List ℕ × union_tail) → spell (union_declared p) ≡ spell_union_declared p ++ end
 unfolding spell
-union_units name (inl p) = ap (λ (w : Lexemes). w ++ end) (spell_construction-union (union_of name p.0) ∙ spell_union-made name p.0.0 p.0.1.0 p.0.1.1.0)
-union_units name (inr u) = refl
+union_units (name, inl u) = refl
+union_units (name, inr p) = ap (λ (w : Lexemes). w ++ end) (spell_construction-union (union_of name p) ∙ spell_union-made name p.0 p.1.0 p.1.1.0)
 
-union_unit_laws : (d N : ℕ) (re : ℕ → Reader Expression) (rt : ℕ → Reader TypeTree) (rc : ℕ → Reader Construction) → Laws d N same spell_expression re → Laws d N same spell_type rt → Laws d N same spell_construction rc
-    → Laws d N same spell (λ n. union_unit_with (re n) (rt n) (rc n))
-unfolding union_unit_with
-union_unit_laws d N re rt rc expressions types constructions =
+union_declaration_laws : (d N : ℕ) (re : ℕ → Reader Expression) (rt : ℕ → Reader TypeTree) (rc : ℕ → Reader Construction) → Laws d N same spell_expression re → Laws d N same spell_type rt → Laws d N same spell_construction rc
+    → Laws d N union_declared spell_union_declared (λ n. union_declaration_with (re n) (rt n) (rc n))
+unfolding union_declaration_with
+union_declaration_laws d N re rt rc expressions types constructions =
     let inside : List ℕ → ℕ → Reader Union = λ name n. union_rest_with (re n) (rt n) (rc n) name in
-    let tail_at : List ℕ → ℕ → Reader Tree = λ name n ts. cond (is_word word.Switch (first ts)) (ended_with union_unit (inside name n) ts) (ahead_at (union_ahead name) ts) in
-    let value : List ℕ × union_tail → Tree = λ p. union_tail_value p.0 p.1 in
-    shape d N value (λ p. Word word.Union ∷ (one_token Identifier p.0 ++ spell_union_tail p.1)) spell (behind_at (is_word word.Union) (next_at (λ n. identifier_at) tail_at)) (λ n. union_unit_with (re n) (rt n) (rc n))
-    (λ p. union_units p.0 p.1) (λ n ts. refl)
-    (skip_laws d N (is_word word.Union) (Word word.Union) value (λ p. one_token Identifier p.0 ++ spell_union_tail p.1) (next_at (λ n. identifier_at) tail_at) (only_word word.Union)
+    let tail_at : List ℕ → ℕ → Reader Tree = λ name n ts. cond (is_mark mark.Semicolon (first ts)) (ends_at (union_ahead name) n ts) (mapped_at union_unit (inside name) n ts) in
+    skip_laws d N (is_word word.Union) (Word word.Union) union_declared (λ p. one_token Identifier p.0 ++ spell_union_tail p.1) (next_at (λ n. identifier_at) tail_at) (only_word word.Union)
     (then_laws (suc d) N (one_token Identifier) (λ n. identifier_at) union_tail_value spell_union_tail tail_at (identifier_laws (suc d) N)
-    (λ name. choice_laws (suc d) N (is_word word.Switch) (λ (p : switch_parts × Unit {0}). union_unit (union_of name p.0)) (λ p. spell_switched p.0 ++ end) (λ n. ended_with union_unit (inside name n)) (λ (u : Unit {0}). union_ahead name) (λ u. end) (λ n. ahead_at (union_ahead name))
-    (ended_parts (suc d) N union_unit (union_of name) spell_switched (inside name) (union_rest_laws (suc d) N re rt rc (cases_behind d N 5 re rt rc expressions types constructions) name))
-    (ahead_laws (suc d) N (union_ahead name)))))
+    (λ name. choice_laws (suc d) N (is_mark mark.Semicolon) (λ (u : Unit {0}). union_ahead name) (λ u. []) (ends_at (union_ahead name)) (λ (p : switch_parts). union_unit (union_of name p)) spell_switched (mapped_at union_unit (inside name))
+    (done_laws (suc d) N (union_ahead name))
+    (valued_laws (suc d) N union_unit (union_of name) spell_switched (inside name) (union_rest_laws (suc d) N re rt rc (cases_behind d N 5 re rt rc expressions types constructions) name))))
 
 -- ---- units
 
@@ -307,24 +309,35 @@ enumeration_units : (e : Enumeration) → spell (tree.Construction (construction
 unfolding spell
 enumeration_units e = ap (λ (w : Lexemes). w ++ end) (spell_construction-enumeration e)
 
+declared_each : (d N : ℕ) (re : ℕ → Reader Expression) (rt : ℕ → Reader TypeTree) (rc : ℕ → Reader Construction) → Laws d N same spell_expression re → Laws d N same spell_type rt → Laws d N same spell_construction rc
+    → (k : Option Keyword) → Laws d N same spell (λ n. ended_with (declaration_by (re n) (rt n) (rc n) k))
+unfolding spell
+declared_each d N re rt rc es tys cs (Some word.Struct) =
+    ended_parts d N structure_declared spell_structure_declared (λ n. structure_declaration_with (re n) (rt n) (rc n)) structure_units (structure_declaration_laws d N re rt rc es tys cs)
+declared_each d N re rt rc es tys cs (Some word.Union) =
+    ended_parts d N union_declared spell_union_declared (λ n. union_declaration_with (re n) (rt n) (rc n)) union_units (union_declaration_laws d N re rt rc es tys cs)
+declared_each d N re rt rc es tys cs (Some word.Enum) =
+    ended_laws d N (λ e. tree.Construction (construction.Enumeration e)) spell_enumeration (λ n. enumeration_at) enumeration_units (enumeration_laws d N)
+declared_each d N re rt rc es tys cs (Some word.Typedef) = ended_laws d N tree.Typedef spell_typedef (λ n. typedef_with (re n) (rt n) (rc n)) (λ x. refl) (typedef_laws d N re rt rc es tys cs)
+declared_each d N re rt rc es tys cs (Some word.Native) = ended_laws d N tree.Native (λ name. Word word.Native ∷ Identifier name ∷ []) (λ n. native_at) (λ x. refl) (native_laws d N)
+declared_each d N re rt rc es tys cs (Some word.Const) = ended_laws d N tree.Constant spell_constant (λ n. constant_with (re n)) (λ x. refl) (constant_laws d N re es)
+declared_each d N re rt rc es tys cs (Some word.Exception) = ended_laws d N tree.Exception spell_exception (λ n. exception_with (re n) (rt n) (rc n)) (λ x. refl) (exception_laws d N re rt rc es tys cs)
+declared_each d N re rt rc es tys cs (Some word.Readonly) =
+    ended_laws d N tree.ReadonlyAttribute spell_readonly_attribute (λ n. readonly_attribute_with (rt n)) (λ x. refl) (readonly_attribute_laws d N rt (more_room d N 2 spell_type rt tys))
+declared_each d N re rt rc es tys cs (Some word.Attribute) = ended_laws d N tree.Attribute spell_attribute (λ n. attribute_with (rt n)) (λ x. refl) (attribute_laws d N rt (more_room d N 1 spell_type rt tys))
+declared_each d N re rt rc es tys cs _ = ended_laws d N tree.Operation spell_operation (λ n. operation_with (rt n)) (λ x. refl) (operation_laws d N rt tys)
+
+declared_laws : (d N : ℕ) (re : ℕ → Reader Expression) (rt : ℕ → Reader TypeTree) (rc : ℕ → Reader Construction) → Laws d N same spell_expression re → Laws d N same spell_type rt → Laws d N same spell_construction rc
+    → Laws d N same spell (λ n. ended_with (declaration_with (re n) (rt n) (rc n)))
+unfolding declaration_with ended_with
+declared_laws d N re rt rc es tys cs = by_laws d N keyword_of spell (λ k n. ended_with (declaration_by (re n) (rt n) (rc n) k)) None (declared_each d N re rt rc es tys cs)
+
 unit_each : (d N : ℕ) (re : ℕ → Reader Expression) (rt : ℕ → Reader TypeTree) (rc : ℕ → Reader Construction) → Laws d N same spell_expression re → Laws d N same spell_type rt → Laws d N same spell_construction rc
     → (k : Option Keyword) → Laws d N same spell (λ n. unit_by (re n) (rt n) (rc n) k)
-unfolding spell
 unit_each d N re rt rc es tys cs (Some word.Module) = module_laws d N
 unit_each d N re rt rc es tys cs (Some word.Local) = interface_laws d N
 unit_each d N re rt rc es tys cs (Some word.Interface) = interface_laws d N
-unit_each d N re rt rc es tys cs (Some word.Struct) = structure_unit_laws d N re rt rc es tys cs
-unit_each d N re rt rc es tys cs (Some word.Union) = union_unit_laws d N re rt rc es tys cs
-unit_each d N re rt rc es tys cs (Some word.Enum) =
-    ended_laws d N (λ e. tree.Construction (construction.Enumeration e)) spell_enumeration (λ n. enumeration_at) enumeration_units (enumeration_laws d N)
-unit_each d N re rt rc es tys cs (Some word.Typedef) = ended_laws d N tree.Typedef spell_typedef (λ n. typedef_with (re n) (rt n) (rc n)) (λ x. refl) (typedef_laws d N re rt rc es tys cs)
-unit_each d N re rt rc es tys cs (Some word.Native) = ended_laws d N tree.Native (λ name. Word word.Native ∷ Identifier name ∷ []) (λ n. native_at) (λ x. refl) (native_laws d N)
-unit_each d N re rt rc es tys cs (Some word.Const) = ended_laws d N tree.Constant spell_constant (λ n. constant_with (re n)) (λ x. refl) (constant_laws d N re es)
-unit_each d N re rt rc es tys cs (Some word.Exception) = ended_laws d N tree.Exception spell_exception (λ n. exception_with (re n) (rt n) (rc n)) (λ x. refl) (exception_laws d N re rt rc es tys cs)
-unit_each d N re rt rc es tys cs (Some word.Readonly) =
-    ended_laws d N tree.ReadonlyAttribute spell_readonly_attribute (λ n. readonly_attribute_with (rt n)) (λ x. refl) (readonly_attribute_laws d N rt (more_room d N 2 spell_type rt tys))
-unit_each d N re rt rc es tys cs (Some word.Attribute) = ended_laws d N tree.Attribute spell_attribute (λ n. attribute_with (rt n)) (λ x. refl) (attribute_laws d N rt (more_room d N 1 spell_type rt tys))
-unit_each d N re rt rc es tys cs _ = ended_laws d N tree.Operation spell_operation (λ n. operation_with (rt n)) (λ x. refl) (operation_laws d N rt tys)
+unit_each d N re rt rc es tys cs _ = declared_laws d N re rt rc es tys cs
 
 abbrev unit_key_at : (ℕ → Reader Expression) → (ℕ → Reader TypeTree) → (ℕ → Reader Construction) → Bool → ℕ → Reader Tree
 unit_key_at re rt rc b n ts = cond b (closing_at ts) (unit_by (re n) (rt n) (rc n) (keyword_of (first ts)) ts)

@@ -136,40 +136,65 @@ interface_at ts = do
   name ← identifier_at rest
   interface_rest is_local name.0 name.1
 
--- what ends in ";"
-unfoldable pub ended_with : {A : Type 0} → (A → Tree) → Reader A → Reader Tree
-ended_with make reader ts = do
-  x ← reader ts
-  rest ← expect (is_mark mark.Semicolon) x.1
-  Ok (make x.0, rest)
-
--- ";" of a declaration ahead
-unfoldable pub ahead_at : Tree → Reader Tree
-ahead_at declaration ts = do
-  rest ← expect (is_mark mark.Semicolon) ts
-  Ok (declaration, rest)
-
--- "struct" ID ( ";" | "{" member+ "}" ";" )
-unfoldable pub structure_unit_with : Reader Expression → Reader TypeTree → Reader Construction
-    → Reader Tree
-structure_unit_with expression type inner ts = do
+-- "struct" ID "{" member+ "}", or "struct" ID ahead of its members, with `;` next
+unfoldable pub structure_declaration_with : Reader Expression → Reader TypeTree
+    → Reader Construction → Reader Tree
+structure_declaration_with expression type inner ts = do
   rest ← expect (is_word word.Struct) ts
   name ← identifier_at rest
-  if is_mark mark.OpenBrace (first name.1)
-      then ended_with (λ s. tree.Construction (construction.Structure s))
-      (structure_rest_with expression type inner name.0) name.1
-      else ahead_at (tree.Forward (forward.Structure name.0)) name.1
+  if is_mark mark.Semicolon (first name.1)
+      then Ok (tree.Forward (forward.Structure name.0), name.1)
+      else (do
+        s ← structure_rest_with expression type inner name.0 name.1
+        Ok (tree.Construction (construction.Structure s.0), s.1))
 
--- "union" ID ( ";" | "switch" "(" disc ")" "{" case+ "}" ";" )
-unfoldable pub union_unit_with : Reader Expression → Reader TypeTree → Reader Construction
-    → Reader Tree
-union_unit_with expression type inner ts = do
+-- "union" ID "switch" "(" disc ")" "{" case+ "}", or "union" ID ahead of it, with `;` next
+unfoldable pub union_declaration_with : Reader Expression → Reader TypeTree
+    → Reader Construction → Reader Tree
+union_declaration_with expression type inner ts = do
   rest ← expect (is_word word.Union) ts
   name ← identifier_at rest
-  if is_word word.Switch (first name.1)
-      then ended_with (λ u. tree.Construction (construction.Union u))
-      (union_rest_with expression type inner name.0) name.1
-      else ahead_at (tree.Forward (forward.Union name.0)) name.1
+  if is_mark mark.Semicolon (first name.1)
+      then Ok (tree.Forward (forward.Union name.0), name.1)
+      else (do
+        u ← union_rest_with expression type inner name.0 name.1
+        Ok (tree.Construction (construction.Union u.0), u.1))
+
+-- a declaration without its `;`, by its first keyword
+abbrev pub declaration_by : Reader Expression → Reader TypeTree → Reader Construction
+    → Option Keyword → Reader Tree
+declaration_by expression type inner (Some word.Struct) ts =
+    structure_declaration_with expression type inner ts
+declaration_by expression type inner (Some word.Union) ts =
+    union_declaration_with expression type inner ts
+declaration_by expression type inner (Some word.Enum) ts =
+    enumeration_at ts >>= λ e. Ok (tree.Construction (construction.Enumeration e.0), e.1)
+declaration_by expression type inner (Some word.Typedef) ts =
+    typedef_with expression type inner ts >>= λ t. Ok (tree.Typedef t.0, t.1)
+declaration_by expression type inner (Some word.Native) ts =
+    native_at ts >>= λ name. Ok (tree.Native name.0, name.1)
+declaration_by expression type inner (Some word.Const) ts =
+    constant_with expression ts >>= λ c. Ok (tree.Constant c.0, c.1)
+declaration_by expression type inner (Some word.Exception) ts =
+    exception_with expression type inner ts >>= λ e. Ok (tree.Exception e.0, e.1)
+declaration_by expression type inner (Some word.Readonly) ts =
+    readonly_attribute_with type ts >>= λ a. Ok (tree.ReadonlyAttribute a.0, a.1)
+declaration_by expression type inner (Some word.Attribute) ts =
+    attribute_with type ts >>= λ a. Ok (tree.Attribute a.0, a.1)
+declaration_by expression type inner others ts =
+    operation_with type ts >>= λ o. Ok (tree.Operation o.0, o.1)
+
+unfoldable pub declaration_with : Reader Expression → Reader TypeTree → Reader Construction
+    → Reader Tree
+declaration_with expression type inner ts =
+    declaration_by expression type inner (keyword_of (first ts)) ts
+
+-- a declaration and its `;`
+unfoldable pub ended_with : Reader Tree → Reader Tree
+ended_with declaration ts = do
+  d ← declaration ts
+  rest ← expect (is_mark mark.Semicolon) d.1
+  Ok (d.0, rest)
 
 -- a unit that isn't a closing, by its first keyword
 abbrev pub unit_by : Reader Expression → Reader TypeTree → Reader Construction
@@ -177,22 +202,7 @@ abbrev pub unit_by : Reader Expression → Reader TypeTree → Reader Constructi
 unit_by expression type inner (Some word.Module) ts = module_at ts
 unit_by expression type inner (Some word.Local) ts = interface_at ts
 unit_by expression type inner (Some word.Interface) ts = interface_at ts
-unit_by expression type inner (Some word.Struct) ts = structure_unit_with expression type inner ts
-unit_by expression type inner (Some word.Union) ts = union_unit_with expression type inner ts
-unit_by expression type inner (Some word.Enum) ts =
-    ended_with (λ e. tree.Construction (construction.Enumeration e)) enumeration_at ts
-unit_by expression type inner (Some word.Typedef) ts =
-    ended_with tree.Typedef (typedef_with expression type inner) ts
-unit_by expression type inner (Some word.Native) ts = ended_with tree.Native native_at ts
-unit_by expression type inner (Some word.Const) ts =
-    ended_with tree.Constant (constant_with expression) ts
-unit_by expression type inner (Some word.Exception) ts =
-    ended_with tree.Exception (exception_with expression type inner) ts
-unit_by expression type inner (Some word.Readonly) ts =
-    ended_with tree.ReadonlyAttribute (readonly_attribute_with type) ts
-unit_by expression type inner (Some word.Attribute) ts =
-    ended_with tree.Attribute (attribute_with type) ts
-unit_by expression type inner others ts = ended_with tree.Operation (operation_with type) ts
+unit_by expression type inner others ts = ended_with (declaration_with expression type inner) ts
 
 -- opening | closing | decl
 unfoldable pub unit_with : Reader Expression → Reader TypeTree → Reader Construction → Reader Tree
