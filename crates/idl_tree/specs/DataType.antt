@@ -1,5 +1,6 @@
 -- Types and declared names.
 use Rattle.std.specs.Prelude.{Bool, true, false, [], ◌∷◌, ◌++◌, flat_map, Option, None, Some}
+use Rattle.idl_lex.specs.declared.kinds.keyword.Keyword.{Keyword}
 use Rattle.idl_lex.specs.declared.kinds.keyword.Keyword.TheVariants as word
 use Rattle.idl_lex.specs.declared.kinds.mark.Mark.TheVariants as mark
 use Rattle.idl_tree.specs.Expression.{spell_expression}
@@ -15,6 +16,8 @@ use Rattle.idl_tree.specs.declared.declarations.data_type.IntegerSize.{IntegerSi
 use Rattle.idl_tree.specs.declared.declarations.data_type.IntegerSize.TheVariants.{Short, Long, LongLong}
 use Rattle.idl_tree.specs.declared.declarations.data_type.PlainType.{PlainType}
 use Rattle.idl_tree.specs.declared.declarations.data_type.PlainType.TheVariants as plain
+use Rattle.idl_tree.specs.declared.declarations.data_type.SizedInteger.{SizedInteger}
+use Rattle.idl_tree.specs.declared.declarations.data_type.SizedInteger.TheVariants as sized
 use Rattle.idl_tree.specs.declared.declarations.data_type.StringType.{StringType}
 use Rattle.idl_tree.specs.declared.declarations.declarator.Declarator.{Declarator}
 use Rattle.idl_tree.specs.declared.expression.Expression.{Expression}
@@ -28,10 +31,22 @@ spell_size Short = Word word.Short ∷ []
 spell_size Long = Word word.Long ∷ []
 spell_size LongLong = Word word.Long ∷ Word word.Long ∷ []
 
--- int = ["unsigned"] ( "short" | "long" | "long" "long" ); and "char" | "wchar" | "boolean" |
--- "octet"
+-- sized = "int8" | "int16" | "int32" | "int64" | "uint8" | "uint16" | "uint32" | "uint64"
+abbrev pub sized_word : SizedInteger → Keyword
+sized_word sized.Int8 = word.Int8
+sized_word sized.Int16 = word.Int16
+sized_word sized.Int32 = word.Int32
+sized_word sized.Int64 = word.Int64
+sized_word sized.Uint8 = word.Uint8
+sized_word sized.Uint16 = word.Uint16
+sized_word sized.Uint32 = word.Uint32
+sized_word sized.Uint64 = word.Uint64
+
+-- int = ["unsigned"] ( "short" | "long" | "long" "long" ) | sized; and "char" | "wchar" |
+-- "boolean" | "octet"
 abbrev pub spell_discrete : DiscreteType → Lexemes
 spell_discrete (discrete.Integer i) = spell_sign i.is_unsigned ++ spell_size i.size
+spell_discrete (discrete.Sized s) = Word (sized_word s) ∷ []
 spell_discrete discrete.Char = Word word.Char ∷ []
 spell_discrete discrete.WideChar = Word word.Wchar ∷ []
 spell_discrete discrete.Boolean = Word word.Boolean ∷ []

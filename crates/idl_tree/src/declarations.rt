@@ -12,7 +12,8 @@ pub use construction::{
     Case, Construction, Discriminator, Enumeration, Label, Member, MemberType, Structure, Union,
 };
 pub use data_type::{
-    BasicType, DiscreteType, IntegerSize, IntegerType, PlainType, Sequence, StringType, TypeTree,
+    BasicType, DiscreteType, IntegerSize, IntegerType, PlainType, Sequence, SizedInteger,
+    StringType, TypeTree,
 };
 pub use declarator::Declarator;
 pub use interface::{Forward, Interface};

@@ -1,19 +1,20 @@
 -- What members are made of is read again: declared names, labels, discriminators, enums.
 -- ---- declared names
-use Rattle.std.proofs.Common.{Bool, List, Ok, Option, Result, [], ap, arith, false, flat_map, length, refl, true, ℕ, ◌++◌, ◌∙◌, ◌∷◌, ◌≡◌}
+use Rattle.std.proofs.Common.{Bool, List, None, Ok, Option, Result, Some, [], ap, arith, false, flat_map, length, refl, true, ℕ, ◌++◌, ◌∙◌, ◌∷◌, ◌≡◌}
 use Rattle.std.proofs.lemmas.List.{length-append}
+use Rattle.idl_lex.specs.declared.kinds.keyword.Keyword.{Keyword}
 use Rattle.idl_lex.specs.declared.kinds.mark.Mark.TheVariants as mark
 use Rattle.idl_tree.specs.Construction.{spell_discriminator, spell_enumeration, spell_label}
 use Rattle.idl_tree.specs.DataType.{spell_declarator, spell_discrete, spell_length}
 use Rattle.idl_tree.specs.Expression.{spell_expression}
 use Rattle.idl_tree.specs.Lexeme.{Identifier, Lexeme, Lexemes, Punctuation}
 use Rattle.idl_tree.specs.Name.{spell_name}
-use Rattle.idl_tree.specs.reading.ReadConstruction.{all_with, begins_label, discriminator_at, enumerated, enumeration_at, label_with, listed_with}
+use Rattle.idl_tree.specs.reading.ReadConstruction.{all_with, begins_label, discriminator_at, discriminator_by, enumerated, enumeration_at, label_with, listed_with}
 use Rattle.idl_tree.specs.reading.ReadExpression.{expression_at}
 use Rattle.idl_tree.specs.reading.ReadType.{declarator_with, declared, discrete_at, length_with}
 use Rattle.idl_tree.specs.reading.Reading.{Reader, expect, first, many_of, ◌>>=◌}
 use Rattle.idl_tree.specs.Several.{spell_all, spell_listed}
-use Rattle.idl_tree.specs.reading.Tests.{identifier_at, is_mark}
+use Rattle.idl_tree.specs.reading.Tests.{identifier_at, is_mark, keyword_of}
 use Rattle.idl_tree.specs.declared.declarations.construction.Discriminator.{Discriminator}
 use Rattle.idl_tree.specs.declared.declarations.construction.Discriminator.TheVariants as discriminator
 use Rattle.idl_tree.specs.declared.declarations.construction.Enumeration.{Enumeration}
@@ -31,7 +32,7 @@ use Rattle.idl_tree.proofs.ReadAgain.ExpressionAgain.{goes_expression, name_agai
 use Rattle.idl_tree.proofs.Many.{many_spell}
 use Rattle.idl_tree.proofs.Readers.NameLaws.{flat_map-many, named}
 use Rattle.idl_tree.proofs.Readers.TokenLaws.{one_token}
-use Rattle.idl_tree.proofs.ReadAgain.TypeAgain.{by_discrete, discrete_reads, expression_reads, goes_type, type_stops}
+use Rattle.idl_tree.proofs.ReadAgain.TypeAgain.{discrete_reads, discrete_words, expression_reads, goes_type, is_discrete_word, type_stops}
 
 abbrev pub goes_declarator : Option Lexeme → Bool
 goes_declarator = goes_or (is_mark mark.OpenBracket) nothing
@@ -89,10 +90,13 @@ discriminator_name false s ss rest h = ap (λ (o : Result (ScopedName × Lexemes
 abbrev as_discriminator : Result (DiscreteType × Lexemes) ℕ → Result (Discriminator × Lexemes) ℕ
 as_discriminator o = o >>= λ d. Ok (discriminator.Discrete d.0, d.1)
 
+discriminator_by_discrete : (k : Option Keyword) → is_discrete_word k ≡ true → (ts : Lexemes) → discriminator_by k ts ≡ as_discriminator (discrete_at ts)
+discriminator_by_discrete None h ts = absurd cc
+discriminator_by_discrete _ h ts = refl
+
 discriminator_discrete : (d : DiscreteType) (rest : Lexemes) → discriminator_at (spell_discrete d ++ rest) ≡ as_discriminator (discrete_at (spell_discrete d ++ rest))
 unfolding discriminator_at
-discriminator_discrete = by_discrete (λ d. (rest : Lexemes) → discriminator_at (spell_discrete d ++ rest) ≡ as_discriminator (discrete_at (spell_discrete d ++ rest)))
-    (λ rest. refl) (λ rest. refl) (λ rest. refl) (λ rest. refl) (λ rest. refl) (λ rest. refl) (λ rest. refl) (λ rest. refl) (λ rest. refl) (λ rest. refl)
+discriminator_discrete d rest = discriminator_by_discrete (keyword_of (first (spell_discrete d ++ rest))) (discrete_words d rest) (spell_discrete d ++ rest)
 
 pub discriminator_reads : (x : Discriminator) → Reads goes_type (spell_discriminator x) discriminator_at x
 discriminator_reads (discriminator.Name m) rest h = discriminator_name m.is_global m.first m.rest rest (type_stops (first rest) h).name

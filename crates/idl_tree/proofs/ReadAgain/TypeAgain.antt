@@ -2,14 +2,15 @@
 -- what would go on with a type
 use Rattle.std.proofs.Common.{Bool, List, None, Ok, Option, Result, Some, [], ap, arith, cond, false, length, refl, subst, suc, sym, true, zero, ℕ, ◌++◌, ◌<◌, ◌∙◌, ◌∷◌, ◌≡◌, ◌≤◌}
 use Rattle.std.proofs.lemmas.List.{length-append}
+use Rattle.idl_lex.specs.declared.kinds.keyword.Keyword.{Keyword}
 use Rattle.idl_lex.specs.declared.kinds.keyword.Keyword.TheVariants as word
 use Rattle.idl_lex.specs.declared.kinds.mark.Mark.TheVariants as mark
-use Rattle.idl_tree.specs.DataType.{spell_basic, spell_bound, spell_discrete, spell_limit, spell_plain, spell_string, spell_type}
+use Rattle.idl_tree.specs.DataType.{sized_word, spell_basic, spell_bound, spell_discrete, spell_limit, spell_plain, spell_string, spell_type}
 use Rattle.idl_tree.specs.Expression.{spell_expression}
 use Rattle.idl_tree.specs.Lexeme.{Identifier, Lexeme, Lexemes, Punctuation, Word}
 use Rattle.idl_tree.specs.Name.{spell_name}
 use Rattle.idl_tree.specs.reading.ReadExpression.{expression_at}
-use Rattle.idl_tree.specs.reading.ReadType.{basic_at, bound_with, discrete_at, integer_type, limit_with, long_at, long_by, long_size_at, made_sequence, plain_with, sequence_with, signed_type, size_at, string_type, string_with, type_at, type_with}
+use Rattle.idl_tree.specs.reading.ReadType.{basic_at, bound_with, discrete_at, integer_type, limit_with, long_at, long_by, long_size_at, made_sequence, plain_by, plain_with, sequence_with, signed_type, size_at, string_type, string_with, type_at, type_with}
 use Rattle.idl_tree.specs.reading.Reading.{Reader, expect, first, ◌>>=◌}
 use Rattle.idl_tree.specs.reading.Tests.{is_mark, is_word, keyword_of}
 use Rattle.idl_tree.specs.declared.declarations.data_type.BasicType.{BasicType}
@@ -25,6 +26,8 @@ use Rattle.idl_tree.specs.declared.declarations.data_type.IntegerSize.TheVariant
 use Rattle.idl_tree.specs.declared.declarations.data_type.PlainType.{PlainType}
 use Rattle.idl_tree.specs.declared.declarations.data_type.PlainType.TheVariants as plain
 use Rattle.idl_tree.specs.declared.declarations.data_type.Sequence.{Sequence, roll-Sequence}
+use Rattle.idl_tree.specs.declared.declarations.data_type.SizedInteger.{SizedInteger}
+use Rattle.idl_tree.specs.declared.declarations.data_type.SizedInteger.TheVariants as sized
 use Rattle.idl_tree.specs.declared.declarations.data_type.StringType.{StringType}
 use Rattle.idl_tree.specs.declared.expression.Expression.{Expression}
 use Rattle.idl_tree.specs.declared.name.ScopedName.{ScopedName}
@@ -52,30 +55,76 @@ type_stops t h =
 
 -- ---- types of keywords
 
--- each of them
-pub by_discrete : (P : DiscreteType → Type 0) → P (integer_type true Short) → P (integer_type true Long) → P (integer_type true LongLong)
-    → P (integer_type false Short) → P (integer_type false Long) → P (integer_type false LongLong)
-    → P discrete.Char → P discrete.WideChar → P discrete.Boolean → P discrete.Octet → (d : DiscreteType) → P d
-by_discrete P a b c e f g h i j k (discrete.Integer x) = integers x.is_unsigned x.size
+-- what a type begins with whose values can be told one from another
+abbrev pub is_discrete_word : Option Keyword → Bool
+is_discrete_word (Some word.Unsigned) = true
+is_discrete_word (Some word.Short) = true
+is_discrete_word (Some word.Long) = true
+is_discrete_word (Some word.Int8) = true
+is_discrete_word (Some word.Int16) = true
+is_discrete_word (Some word.Int32) = true
+is_discrete_word (Some word.Int64) = true
+is_discrete_word (Some word.Uint8) = true
+is_discrete_word (Some word.Uint16) = true
+is_discrete_word (Some word.Uint32) = true
+is_discrete_word (Some word.Uint64) = true
+is_discrete_word (Some word.Char) = true
+is_discrete_word (Some word.Wchar) = true
+is_discrete_word (Some word.Boolean) = true
+is_discrete_word (Some word.Octet) = true
+is_discrete_word _ = false
+
+sized_words : (s : SizedInteger) → is_discrete_word (Some (sized_word s)) ≡ true
+sized_words sized.Int8 = refl
+sized_words sized.Int16 = refl
+sized_words sized.Int32 = refl
+sized_words sized.Int64 = refl
+sized_words sized.Uint8 = refl
+sized_words sized.Uint16 = refl
+sized_words sized.Uint32 = refl
+sized_words sized.Uint64 = refl
+
+pub discrete_words : (d : DiscreteType) (rest : Lexemes) → is_discrete_word (keyword_of (first (spell_discrete d ++ rest))) ≡ true
+discrete_words (discrete.Integer i) rest = integers i.is_unsigned i.size
   where
-    integers : (is_unsigned : Bool) (size : IntegerSize) → P (integer_type is_unsigned size)
-    integers true Short = a
-    integers true Long = b
-    integers true LongLong = c
-    integers false Short = e
-    integers false Long = f
-    integers false LongLong = g
-by_discrete P a b c e f g h i j k discrete.Char = h
-by_discrete P a b c e f g h i j k discrete.WideChar = i
-by_discrete P a b c e f g h i j k discrete.Boolean = j
-by_discrete P a b c e f g h i j k discrete.Octet = k
+    integers : (is_unsigned : Bool) (size : IntegerSize) → is_discrete_word (keyword_of (first (spell_discrete (integer_type is_unsigned size) ++ rest))) ≡ true
+    integers true size = refl
+    integers false Short = refl
+    integers false Long = refl
+    integers false LongLong = refl
+discrete_words (discrete.Sized s) rest = sized_words s
+discrete_words discrete.Char rest = refl
+discrete_words discrete.WideChar rest = refl
+discrete_words discrete.Boolean rest = refl
+discrete_words discrete.Octet rest = refl
+
+sized_reads : (s : SizedInteger) (rest : Lexemes) → (discrete_at (Word (sized_word s) ∷ rest) ≡ Ok (discrete.Sized s, rest)) × (basic_at (Word (sized_word s) ∷ rest) ≡ Ok (basic.Discrete (discrete.Sized s), rest))
+unfolding discrete_at basic_at
+sized_reads sized.Int8 rest = (refl, refl)
+sized_reads sized.Int16 rest = (refl, refl)
+sized_reads sized.Int32 rest = (refl, refl)
+sized_reads sized.Int64 rest = (refl, refl)
+sized_reads sized.Uint8 rest = (refl, refl)
+sized_reads sized.Uint16 rest = (refl, refl)
+sized_reads sized.Uint32 rest = (refl, refl)
+sized_reads sized.Uint64 rest = (refl, refl)
 
 pub discrete_reads : (d : DiscreteType) → Reads goes_type (spell_discrete d) discrete_at d
 unfolding discrete_at size_at long_size_at
-discrete_reads = by_discrete (λ d. Reads goes_type (spell_discrete d) discrete_at d)
-    (λ rest h. refl) (λ rest h. rw (type_stops (first rest) h).long refl) (λ rest h. refl)
-    (λ rest h. refl) (λ rest h. rw (type_stops (first rest) h).long refl) (λ rest h. refl)
-    (λ rest h. refl) (λ rest h. refl) (λ rest h. refl) (λ rest h. refl)
+discrete_reads (discrete.Integer i) rest h = integers i.is_unsigned i.size
+  where
+    integers : (is_unsigned : Bool) (size : IntegerSize) → discrete_at (spell_discrete (integer_type is_unsigned size) ++ rest) ≡ Ok (integer_type is_unsigned size, rest)
+    integers true Short = refl
+    integers true Long = rw (type_stops (first rest) h).long refl
+    integers true LongLong = refl
+    integers false Short = refl
+    integers false Long = rw (type_stops (first rest) h).long refl
+    integers false LongLong = refl
+discrete_reads (discrete.Sized s) rest h = (sized_reads s rest).0
+discrete_reads discrete.Char rest h = refl
+discrete_reads discrete.WideChar rest h = refl
+discrete_reads discrete.Boolean rest h = refl
+discrete_reads discrete.Octet rest h = refl
 
 long_ends : (t : Option Lexeme) (ts : Lexemes) → TypeStops t → long_by (keyword_of t) ts ≡ Ok (signed_type Long, ts)
 long_ends None ts stops = refl
@@ -88,13 +137,18 @@ as_basic o = o >>= λ d. Ok (basic.Discrete d.0, d.1)
 
 discrete_basic_reads : (d : DiscreteType) → Reads goes_type (spell_discrete d) basic_at (basic.Discrete d)
 unfolding basic_at long_at
-discrete_basic_reads = by_discrete (λ d. Reads goes_type (spell_discrete d) basic_at (basic.Discrete d))
-    (other (integer_type true Short)) (other (integer_type true Long)) (other (integer_type true LongLong))
-    (other (integer_type false Short)) (λ rest h. long_ends (first rest) rest (type_stops (first rest) h)) (λ rest h. refl)
-    (other discrete.Char) (other discrete.WideChar) (other discrete.Boolean) (other discrete.Octet)
+discrete_basic_reads (discrete.Integer i) rest h = integers i.is_unsigned i.size
   where
-    other : (d : DiscreteType) (rest : Lexemes) → goes_type (first rest) ≡ false → as_basic (discrete_at (spell_discrete d ++ rest)) ≡ Ok (basic.Discrete d, rest)
-    other d rest h = ap as_basic (discrete_reads d rest h)
+    integers : (is_unsigned : Bool) (size : IntegerSize) → basic_at (spell_discrete (integer_type is_unsigned size) ++ rest) ≡ Ok (basic.Discrete (integer_type is_unsigned size), rest)
+    integers true size = ap as_basic (discrete_reads (integer_type true size) rest h)
+    integers false Short = ap as_basic (discrete_reads (integer_type false Short) rest h)
+    integers false Long = long_ends (first rest) rest (type_stops (first rest) h)
+    integers false LongLong = refl
+discrete_basic_reads (discrete.Sized s) rest h = (sized_reads s rest).1
+discrete_basic_reads discrete.Char rest h = ap as_basic (discrete_reads discrete.Char rest h)
+discrete_basic_reads discrete.WideChar rest h = ap as_basic (discrete_reads discrete.WideChar rest h)
+discrete_basic_reads discrete.Boolean rest h = ap as_basic (discrete_reads discrete.Boolean rest h)
+discrete_basic_reads discrete.Octet rest h = ap as_basic (discrete_reads discrete.Octet rest h)
 
 pub basic_reads : (b : BasicType) → Reads goes_type (spell_basic b) basic_at b
 unfolding basic_at long_at
@@ -129,10 +183,15 @@ string_reads s n le = by_word s.is_wide s.bound le
 abbrev as_plain : Result (BasicType × Lexemes) ℕ → Result (PlainType × Lexemes) ℕ
 as_plain o = o >>= λ b. Ok (plain.Basic b.0, b.1)
 
+plain_by_discrete : (k : Option Keyword) → is_discrete_word k ≡ true → (e : Reader Expression) (ts : Lexemes) → plain_by e k ts ≡ as_plain (basic_at ts)
+plain_by_discrete (Some word.String) h e ts = absurd cc
+plain_by_discrete (Some word.Wstring) h e ts = absurd cc
+plain_by_discrete None h e ts = absurd cc
+plain_by_discrete _ h e ts = refl
+
 plain_discrete : (d : DiscreteType) (e : Reader Expression) (rest : Lexemes) → plain_with e (spell_discrete d ++ rest) ≡ as_plain (basic_at (spell_discrete d ++ rest))
 unfolding plain_with
-plain_discrete = by_discrete (λ d. (e : Reader Expression) (rest : Lexemes) → plain_with e (spell_discrete d ++ rest) ≡ as_plain (basic_at (spell_discrete d ++ rest)))
-    (λ e rest. refl) (λ e rest. refl) (λ e rest. refl) (λ e rest. refl) (λ e rest. refl) (λ e rest. refl) (λ e rest. refl) (λ e rest. refl) (λ e rest. refl) (λ e rest. refl)
+plain_discrete d e rest = plain_by_discrete (keyword_of (first (spell_discrete d ++ rest))) (discrete_words d rest) e (spell_discrete d ++ rest)
 
 plain_basic : (b : BasicType) (e : Reader Expression) (rest : Lexemes) → plain_with e (spell_basic b ++ rest) ≡ as_plain (basic_at (spell_basic b ++ rest))
 unfolding plain_with
@@ -166,13 +225,6 @@ plain_reads (plain.String s) n le rest h =
 -- ---- what a type begins with
 
 abbrev pub is_type_start : Option Lexeme → Bool
-is_type_start (Some (Word word.Unsigned)) = true
-is_type_start (Some (Word word.Short)) = true
-is_type_start (Some (Word word.Long)) = true
-is_type_start (Some (Word word.Char)) = true
-is_type_start (Some (Word word.Wchar)) = true
-is_type_start (Some (Word word.Boolean)) = true
-is_type_start (Some (Word word.Octet)) = true
 is_type_start (Some (Word word.Float)) = true
 is_type_start (Some (Word word.Double)) = true
 is_type_start (Some (Word word.Any)) = true
@@ -182,16 +234,24 @@ is_type_start (Some (Word word.Wstring)) = true
 is_type_start (Some (Word word.Sequence)) = true
 is_type_start (Some (Identifier name)) = true
 is_type_start (Some (Punctuation mark.ColonColon)) = true
-is_type_start _ = false
+is_type_start t = is_discrete_word (keyword_of t)
 
 -- not `sequence`
 abbrev is_plain_start : Option Lexeme → Bool
 is_plain_start (Some (Word word.Sequence)) = false
 is_plain_start t = is_type_start t
 
-discrete_start : (d : DiscreteType) (rest : Lexemes) → is_plain_start (first (spell_discrete d ++ rest)) ≡ true
-discrete_start = by_discrete (λ d. (rest : Lexemes) → is_plain_start (first (spell_discrete d ++ rest)) ≡ true)
-    (λ rest. refl) (λ rest. refl) (λ rest. refl) (λ rest. refl) (λ rest. refl) (λ rest. refl) (λ rest. refl) (λ rest. refl) (λ rest. refl) (λ rest. refl)
+discrete_is_plain : (t : Option Lexeme) → is_discrete_word (keyword_of t) ≡ true → is_plain_start t ≡ true
+discrete_is_plain (Some (Word word.Sequence)) h = absurd cc
+discrete_is_plain (Some (Word word.Float)) h = refl
+discrete_is_plain (Some (Word word.Double)) h = refl
+discrete_is_plain (Some (Word word.Any)) h = refl
+discrete_is_plain (Some (Word word.Object)) h = refl
+discrete_is_plain (Some (Word word.String)) h = refl
+discrete_is_plain (Some (Word word.Wstring)) h = refl
+discrete_is_plain (Some (Identifier name)) h = refl
+discrete_is_plain (Some (Punctuation mark.ColonColon)) h = refl
+discrete_is_plain t h = h
 
 string_start : (w : Bool) (b : Option Expression) (rest : Lexemes) → is_plain_start (first (spell_string (string_type w b) ++ rest)) ≡ true
 string_start true b rest = refl
@@ -202,7 +262,7 @@ name_start true s ss rest = refl
 name_start false s ss rest = refl
 
 plain_start : (p : PlainType) (rest : Lexemes) → is_plain_start (first (spell_plain p ++ rest)) ≡ true
-plain_start (plain.Basic (basic.Discrete d)) rest = discrete_start d rest
+plain_start (plain.Basic (basic.Discrete d)) rest = discrete_is_plain (first (spell_discrete d ++ rest)) (discrete_words d rest)
 plain_start (plain.Basic basic.Float) rest = refl
 plain_start (plain.Basic basic.Double) rest = refl
 plain_start (plain.Basic basic.LongDouble) rest = refl

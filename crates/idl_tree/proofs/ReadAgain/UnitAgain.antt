@@ -1,6 +1,7 @@
 -- A unit that is spelled is read again.
 use Rattle.std.proofs.Common.{Bool, List, None, Ok, Option, Result, Some, [], ap, append-nil, append_assoc, arith, false, flat_map, length, refl, suc, sym, true, zero, ℕ, ◌++◌, ◌<◌, ◌∙◌, ◌∷◌, ◌≡◌, ◌≤◌}
 use Rattle.std.proofs.lemmas.List.{length-append}
+use Rattle.idl_lex.specs.declared.kinds.keyword.Keyword.{Keyword}
 use Rattle.idl_lex.specs.declared.kinds.keyword.Keyword.TheVariants as word
 use Rattle.idl_lex.specs.declared.kinds.mark.Mark.TheVariants as mark
 use Rattle.idl_tree.specs.Construction.{spell_construction, spell_member, spell_member_type}
@@ -13,7 +14,7 @@ use Rattle.idl_tree.specs.reading.ReadConstruction.{construction_at, goes_on}
 use Rattle.idl_tree.specs.reading.ReadExpression.{expression_at}
 use Rattle.idl_tree.specs.reading.ReadInterface.{attribute_with, made_operation, operation_with, readonly_attribute_with}
 use Rattle.idl_tree.specs.reading.ReadType.{discrete_at, string_type, string_with, type_at}
-use Rattle.idl_tree.specs.reading.ReadUnit.{bases_at, closing_at, constant_type_with, constant_with, declaration_by, declaration_with, ended_with, exception_with, interface_at, interface_rest, made_constant, made_exception, made_typedef, module_at, native_at, opened, structure_declaration_with, typedef_with, union_declaration_with, unit_at, unit_by, unit_with}
+use Rattle.idl_tree.specs.reading.ReadUnit.{bases_at, closing_at, constant_type_by, constant_type_with, constant_with, declaration_by, declaration_with, ended_with, exception_with, interface_at, interface_rest, made_constant, made_exception, made_typedef, module_at, native_at, opened, structure_declaration_with, typedef_with, union_declaration_with, unit_at, unit_by, unit_with}
 use Rattle.idl_tree.specs.reading.Reading.{Reader, expect, first, many_of, ◌>>=◌}
 use Rattle.idl_tree.specs.reading.Tests.{identifier_at, is_mark, keyword_of}
 use Rattle.idl_tree.specs.Unit.{spell, spell_constant, spell_constant_type, spell_exception, spell_typedef}
@@ -45,7 +46,7 @@ use Rattle.idl_tree.proofs.ReadAgain.InterfaceAgain.{attribute_reads, goes_attri
 use Rattle.idl_tree.proofs.Many.{many_spell}
 use Rattle.idl_tree.proofs.ReadAgain.MemberAgain.{declarators_later, goes_declarators}
 use Rattle.idl_tree.proofs.Readers.NameLaws.{flat_map-many, named}
-use Rattle.idl_tree.proofs.ReadAgain.TypeAgain.{by_discrete, discrete_reads, expression_reads, goes_type, is_type_start, string_reads, type_is_again, type_stops}
+use Rattle.idl_tree.proofs.ReadAgain.TypeAgain.{discrete_reads, discrete_words, expression_reads, goes_type, is_discrete_word, is_type_start, string_reads, type_is_again, type_stops}
 use Rattle.idl_tree.proofs.Readers.UnitLaws.{end}
 
 -- ---- declarations
@@ -60,10 +61,15 @@ typedef_reads t (suc n) le rest h =
     (mapped_reads goes_declarators (spell_declarators t.declarators) (declarators_at expression_at (suc n)) (made_typedef t.kind) t.declarators (declarators_later t.declarators (suc n) (omega (arith, le, sum))))
     (λ rest h. refl) rest h
 
+constant_by_discrete : (k : Option Keyword) → is_discrete_word k ≡ true → (e : Reader Expression) (ts : Lexemes) → constant_type_by e k ts ≡ (discrete_at ts >>= λ d. Ok (constant_type.Discrete d.0, d.1))
+constant_by_discrete (Some word.String) h e ts = absurd cc
+constant_by_discrete (Some word.Wstring) h e ts = absurd cc
+constant_by_discrete None h e ts = absurd cc
+constant_by_discrete _ h e ts = refl
+
 constant_discrete : (d : DiscreteType) (e : Reader Expression) (rest : Lexemes) → constant_type_with e (spell_discrete d ++ rest) ≡ (discrete_at (spell_discrete d ++ rest) >>= λ d. Ok (constant_type.Discrete d.0, d.1))
 unfolding constant_type_with
-constant_discrete = by_discrete (λ d. (e : Reader Expression) (rest : Lexemes) → constant_type_with e (spell_discrete d ++ rest) ≡ (discrete_at (spell_discrete d ++ rest) >>= λ d. Ok (constant_type.Discrete d.0, d.1)))
-    (λ e rest. refl) (λ e rest. refl) (λ e rest. refl) (λ e rest. refl) (λ e rest. refl) (λ e rest. refl) (λ e rest. refl) (λ e rest. refl) (λ e rest. refl) (λ e rest. refl)
+constant_discrete d e rest = constant_by_discrete (keyword_of (first (spell_discrete d ++ rest))) (discrete_words d rest) e (spell_discrete d ++ rest)
 
 constant_name : (b : Bool) (s : List ℕ) (ss : List (List ℕ)) (e : Reader Expression) (rest : Lexemes) → is_mark mark.ColonColon (first rest) ≡ false
     → constant_type_with e (spell_name (named b s ss) ++ rest) ≡ Ok (constant_type.Name (named b s ss), rest)

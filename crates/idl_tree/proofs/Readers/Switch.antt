@@ -4,7 +4,7 @@ use Rattle.idl_lex.specs.declared.kinds.keyword.Keyword.{Keyword}
 use Rattle.idl_tree.specs.Lexeme.{Lexeme, Lexemes, Word}
 use Rattle.idl_tree.specs.reading.Reading.{Reader, first}
 use Rattle.idl_tree.specs.reading.Tests.{is_word, by_word}
-use Rattle.idl_tree.proofs.Laws.{err_is, first-append, Laws, same, mapped_at, behind_at, ends_at, last_laws, done_laws, skip_laws, shape}
+use Rattle.idl_tree.proofs.Laws.{first-append, Laws, same, mapped_at, behind_at, ends_at, last_laws, done_laws, skip_laws, shape}
 use Rattle.idl_tree.proofs.Readers.TokenLaws.{only_word}
 
 -- the key of the next token says which reader reads, and what its trees are
@@ -58,23 +58,6 @@ pub by_laws : (d N : ℕ) {K C : Type 0} (key : Option Lexeme → K) (spell : C 
 by_laws d N {K} {C} key spell r some each =
     shape d N (λ (p : K × C). p.1) (λ p. spell p.1) spell (λ n ts. r (key (first ts)) n ts) (λ n ts. r (key (first ts)) n ts)
     (λ b. refl) (λ n ts. refl) (switch_laws d N key (λ k c. c) (λ k. spell) r some each)
-
--- a reader that always fails
-pub fails_laws : (d N : ℕ) {C : Type 0} (spell : C → Lexemes) → C → Laws d N same spell (λ n ts. Err (length ts))
-fails_laws d N {C} spell c = record {
-  example = c;
-  sound = λ n ts x rest room e. absurd cc;
-  fault = λ n ts k room e. record {
-    front = [];
-    rest = ts;
-    parts = refl;
-    left = err_is {A = C × Lexemes} (length ts) k e;
-    local = λ m other room same_first. refl;
-    tree = c;
-    more = spell c;
-    alive = refl;
-  };
-}
 
 -- what was read, in another tree
 pub mapped_laws : (d N : ℕ) {A C : Type 0} (f : A → C) (spell1 : A → Lexemes) (spell : C → Lexemes) (r : ℕ → Reader A)

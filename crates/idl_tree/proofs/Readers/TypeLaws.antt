@@ -3,12 +3,12 @@ use Rattle.std.proofs.Common.{◌≡◌, ℕ, suc, Bool, true, false, cond, List
 use Rattle.idl_lex.specs.declared.kinds.keyword.Keyword.{Keyword}
 use Rattle.idl_lex.specs.declared.kinds.keyword.Keyword.TheVariants as word
 use Rattle.idl_lex.specs.declared.kinds.mark.Mark.TheVariants as mark
-use Rattle.idl_tree.specs.DataType.{spell_size, spell_discrete, spell_basic, spell_bound, spell_string, spell_plain, spell_length, spell_declarator}
+use Rattle.idl_tree.specs.DataType.{sized_word, spell_size, spell_discrete, spell_basic, spell_bound, spell_string, spell_plain, spell_length, spell_declarator}
 use Rattle.idl_tree.specs.Expression.{spell_expression}
 use Rattle.idl_tree.specs.Lexeme.{Lexeme, Lexemes, Word, Punctuation, Identifier}
 use Rattle.idl_tree.specs.Name.{spell_name}
 use Rattle.idl_tree.specs.reading.ReadName.{name_at}
-use Rattle.idl_tree.specs.reading.ReadType.{integer_type, long_size_at, size_at, unsigned_at, signed_at, discrete_by, discrete_at, signed_type, long_by, long_at, basic_by, basic_at, bound_with, string_word_of, string_type, string_with, plain_by, plain_with, length_with, declared, declarator_with}
+use Rattle.idl_tree.specs.reading.ReadType.{integer_type, long_size_at, size_at, unsigned_at, signed_at, sized_of, discrete_by, discrete_at, signed_type, long_by, long_at, basic_by, basic_at, bound_with, string_word_of, string_type, string_with, plain_by, plain_with, length_with, declared, declarator_with}
 use Rattle.idl_tree.specs.reading.Reading.{Reader, first, many_of}
 use Rattle.idl_tree.specs.reading.Tests.{is_mark, is_word, keyword_of, pick, identifier_at}
 use Rattle.idl_tree.specs.declared.declarations.data_type.BasicType.{BasicType}
@@ -17,11 +17,13 @@ use Rattle.idl_tree.specs.declared.declarations.data_type.DiscreteType.TheVarian
 use Rattle.idl_tree.specs.declared.declarations.data_type.IntegerSize.{IntegerSize}
 use Rattle.idl_tree.specs.declared.declarations.data_type.IntegerSize.TheVariants.{Short, Long, LongLong}
 use Rattle.idl_tree.specs.declared.declarations.data_type.PlainType.TheVariants as plain
+use Rattle.idl_tree.specs.declared.declarations.data_type.SizedInteger.{SizedInteger}
+use Rattle.idl_tree.specs.declared.declarations.data_type.SizedInteger.TheVariants as sized
 use Rattle.idl_tree.specs.declared.expression.Expression.{Expression}
 use Rattle.idl_tree.proofs.Laws.{Laws, same, either, next_at, mapped_at, behind_at, ends_at, then_laws, last_laws, done_laws, skip_laws, choice_laws, shape}
 use Rattle.idl_tree.proofs.Many.{many_spell, many_laws}
 use Rattle.idl_tree.proofs.Readers.NameLaws.{flat_map-many, name_laws}
-use Rattle.idl_tree.proofs.Readers.Switch.{switch_laws, by_laws, fails_laws, mapped_laws, word_at, word_laws, by_word_laws}
+use Rattle.idl_tree.proofs.Readers.Switch.{switch_laws, by_laws, mapped_laws, word_at, word_laws, by_word_laws}
 use Rattle.idl_tree.proofs.Readers.TokenLaws.{Picks, identifier_laws, only_mark, only_word, one_token, pick_laws, close_at, close_laws, some_is}
 
 -- ---- integer types
@@ -65,6 +67,33 @@ unsigned_laws d N = shape d N (integer_type true) (λ s. Word word.Unsigned ∷ 
 signed_laws : (d N : ℕ) → Laws d N same spell_discrete (λ n. signed_at)
 signed_laws d N = mapped_laws d N (integer_type false) spell_size spell_discrete (λ n. size_at) (λ s. refl) (size_laws d N)
 
+abbrev pub sized_token : SizedInteger → Lexeme
+sized_token s = Word (sized_word s)
+
+pub sized_words_picked : Picks sized_of sized_token
+sized_words_picked = record { example = sized.Int8; wanted = refl; only = only; again = again }
+  where
+    only : (t : Lexeme) (a : SizedInteger) → sized_of (Some t) ≡ Some a → t ≡ sized_token a
+    only (Word word.Int8) a h = ap sized_token (some_is sized.Int8 a h)
+    only (Word word.Int16) a h = ap sized_token (some_is sized.Int16 a h)
+    only (Word word.Int32) a h = ap sized_token (some_is sized.Int32 a h)
+    only (Word word.Int64) a h = ap sized_token (some_is sized.Int64 a h)
+    only (Word word.Uint8) a h = ap sized_token (some_is sized.Uint8 a h)
+    only (Word word.Uint16) a h = ap sized_token (some_is sized.Uint16 a h)
+    only (Word word.Uint32) a h = ap sized_token (some_is sized.Uint32 a h)
+    only (Word word.Uint64) a h = ap sized_token (some_is sized.Uint64 a h)
+    only _ a h = absurd cc
+
+    again : (a : SizedInteger) → sized_of (Some (sized_token a)) ≡ Some a
+    again sized.Int8 = refl
+    again sized.Int16 = refl
+    again sized.Int32 = refl
+    again sized.Int64 = refl
+    again sized.Uint8 = refl
+    again sized.Uint16 = refl
+    again sized.Uint32 = refl
+    again sized.Uint64 = refl
+
 discrete_each : (d N : ℕ) (k : Option Keyword) → Laws d N same spell_discrete (λ n. discrete_by k)
 discrete_each d N (Some word.Unsigned) = unsigned_laws d N
 discrete_each d N (Some word.Short) = signed_laws d N
@@ -73,7 +102,7 @@ discrete_each d N (Some word.Char) = by_word_laws d N spell_discrete word.Char d
 discrete_each d N (Some word.Wchar) = by_word_laws d N spell_discrete word.Wchar discrete.WideChar refl
 discrete_each d N (Some word.Boolean) = by_word_laws d N spell_discrete word.Boolean discrete.Boolean refl
 discrete_each d N (Some word.Octet) = by_word_laws d N spell_discrete word.Octet discrete.Octet refl
-discrete_each d N _ = fails_laws d N spell_discrete discrete.Octet
+discrete_each d N _ = mapped_laws d N discrete.Sized (one_token sized_token) spell_discrete (λ n. pick sized_of) (λ s. refl) (pick_laws d N sized_of sized_token sized_words_picked)
 
 pub discrete_laws : (d N : ℕ) → Laws d N same spell_discrete (λ n. discrete_at)
 unfolding discrete_at

@@ -19,6 +19,8 @@ use Rattle.idl_tree.specs.declared.declarations.data_type.IntegerSize.TheVariant
 use Rattle.idl_tree.specs.declared.declarations.data_type.PlainType.{PlainType}
 use Rattle.idl_tree.specs.declared.declarations.data_type.PlainType.TheVariants as plain
 use Rattle.idl_tree.specs.declared.declarations.data_type.Sequence.{roll-Sequence}
+use Rattle.idl_tree.specs.declared.declarations.data_type.SizedInteger.{SizedInteger}
+use Rattle.idl_tree.specs.declared.declarations.data_type.SizedInteger.TheVariants as sized
 use Rattle.idl_tree.specs.declared.declarations.data_type.StringType.{StringType}
 use Rattle.idl_tree.specs.declared.declarations.declarator.Declarator.{Declarator}
 use Rattle.idl_tree.specs.declared.expression.Expression.{Expression}
@@ -49,6 +51,18 @@ signed_at ts = do
   size ← size_at ts
   Ok (integer_type false size.0, size.1)
 
+-- the sized integer type that a token is
+abbrev pub sized_of : Option Lexeme → Option SizedInteger
+sized_of (Some (Word word.Int8)) = Some sized.Int8
+sized_of (Some (Word word.Int16)) = Some sized.Int16
+sized_of (Some (Word word.Int32)) = Some sized.Int32
+sized_of (Some (Word word.Int64)) = Some sized.Int64
+sized_of (Some (Word word.Uint8)) = Some sized.Uint8
+sized_of (Some (Word word.Uint16)) = Some sized.Uint16
+sized_of (Some (Word word.Uint32)) = Some sized.Uint32
+sized_of (Some (Word word.Uint64)) = Some sized.Uint64
+sized_of _ = None
+
 -- int | "char" | "wchar" | "boolean" | "octet", by the first keyword
 abbrev pub discrete_by : Option Keyword → Reader DiscreteType
 discrete_by (Some word.Unsigned) ts = unsigned_at ts
@@ -58,7 +72,7 @@ discrete_by (Some word.Char) ts = by_word word.Char discrete.Char ts
 discrete_by (Some word.Wchar) ts = by_word word.Wchar discrete.WideChar ts
 discrete_by (Some word.Boolean) ts = by_word word.Boolean discrete.Boolean ts
 discrete_by (Some word.Octet) ts = by_word word.Octet discrete.Octet ts
-discrete_by others ts = Err (length ts)
+discrete_by others ts = pick sized_of ts >>= λ s. Ok (discrete.Sized s.0, s.1)
 
 unfoldable pub discrete_at : Reader DiscreteType
 discrete_at ts = discrete_by (keyword_of (first ts)) ts

@@ -19,10 +19,24 @@ pub struct IntegerType {
     pub size: IntegerSize,
 }
 
+/// An integer type of one word, which says how wide it is.
+#[derive(Clone, Copy)]
+pub enum SizedInteger {
+    Int8,
+    Int16,
+    Int32,
+    Int64,
+    Uint8,
+    Uint16,
+    Uint32,
+    Uint64,
+}
+
 /// A type of keywords alone whose values can be told one from another by labels, and be constants.
 #[derive(Clone, Copy)]
 pub enum DiscreteType {
     Integer(IntegerType),
+    Sized(SizedInteger),
     Char,
     WideChar,
     Boolean,
