@@ -1,9 +1,9 @@
 -- The spelling of structs, unions and enums by those of their parts.
-use Rattle.std.proofs.Common.{◌≡◌, ◌∙◌, ℕ, List, [], ◌∷◌, ◌++◌, sym, ap, arith, length, subst, ◌<◌}
+use Rattle.std.proofs.Common.{◌≡◌, ◌∙◌, ℕ, List, Option, [], ◌∷◌, ◌++◌, sym, ap, arith, length, subst, ◌<◌}
 use Rattle.std.proofs.lemmas.List.{length-append}
 use Rattle.idl_lex.specs.declared.kinds.keyword.Keyword.TheVariants as word
 use Rattle.idl_lex.specs.declared.kinds.mark.Mark.TheVariants as mark
-use Rattle.idl_tree.specs.Construction.{spell_enumeration, spell_discriminator, spell_label, construction_step, member_type_step, case_step, member_step, structure_step, union_step, spell_construction, spell_member_type, spell_case, spell_member, spell_structure, spell_union}
+use Rattle.idl_tree.specs.Construction.{spell_base, spell_enumeration, spell_discriminator, spell_label, construction_step, member_type_step, case_step, member_step, structure_step, union_step, spell_construction, spell_member_type, spell_case, spell_member, spell_structure, spell_union}
 use Rattle.idl_tree.specs.DataType.{spell_type, spell_declarator}
 use Rattle.idl_tree.specs.Lexeme.{Lexemes, Word, Punctuation, Identifier, Lexeme}
 use Rattle.idl_tree.specs.reading.ReadConstruction.{made_member, made_structure, made_case, made_union}
@@ -25,6 +25,7 @@ use Rattle.idl_tree.specs.declared.declarations.construction.Structure.{Structur
 use Rattle.idl_tree.specs.declared.declarations.construction.Union.{Union}
 use Rattle.idl_tree.specs.declared.declarations.data_type.TypeTree.{TypeTree}
 use Rattle.idl_tree.specs.declared.declarations.declarator.Declarator.{Declarator}
+use Rattle.idl_tree.specs.declared.name.ScopedName.{ScopedName}
 use Rattle.idl_tree.specs.declared.several.Several.{Several}
 use Rattle.idl_tree.proofs.Many.{many_spell}
 use Rattle.idl_tree.proofs.SpellLemmas.{flat_map-map}
@@ -58,12 +59,16 @@ pub spell_member-made : (kind : MemberType) (ds : Several Declarator) → spell_
 unfolding spell_member spell_member_type
 spell_member-made kind ds = fold-roll-Member Lexemes Lexemes Lexemes Lexemes Lexemes Lexemes construction_step member_type_step case_step member_step structure_step union_step (record { kind = kind; declarators = ds })
 
-pub spell_structure-made : (name : List ℕ) (m : Member) (ms : List Member)
-    → spell_structure (made_structure name m ms) ≡ Word word.Struct ∷ Identifier name ∷ Punctuation mark.OpenBrace ∷ (spell_member m ++ (many_spell spell_member ms ++ Punctuation mark.CloseBrace ∷ []))
+-- "{" member* "}"
+abbrev pub spell_members : List Member → Lexemes
+spell_members ms = Punctuation mark.OpenBrace ∷ (many_spell spell_member ms ++ Punctuation mark.CloseBrace ∷ [])
+
+pub spell_structure-made : (name : List ℕ) (base : Option ScopedName) (ms : List Member)
+    → spell_structure (made_structure name base ms) ≡ Word word.Struct ∷ Identifier name ∷ (spell_base base ++ spell_members ms)
 unfolding spell_structure spell_member
-spell_structure-made name m ms =
-    fold-roll-Structure Lexemes Lexemes Lexemes Lexemes Lexemes Lexemes construction_step member_type_step case_step member_step structure_step union_step (record { name = name; first = m; rest = ms })
-    ∙ ap (λ (w : Lexemes). Word word.Struct ∷ Identifier name ∷ Punctuation mark.OpenBrace ∷ (spell_member m ++ (w ++ Punctuation mark.CloseBrace ∷ []))) (flat_map-map (λ w. w) _ ms)
+spell_structure-made name base ms =
+    fold-roll-Structure Lexemes Lexemes Lexemes Lexemes Lexemes Lexemes construction_step member_type_step case_step member_step structure_step union_step (record { name = name; base = base; members = ms })
+    ∙ ap (λ (w : Lexemes). Word word.Struct ∷ Identifier name ∷ (spell_base base ++ (Punctuation mark.OpenBrace ∷ (w ++ Punctuation mark.CloseBrace ∷ [])))) (flat_map-map (λ w. w) _ ms)
 
 pub spell_case-made : (labels : Several Label) (kind : MemberType) (d : Declarator) → spell_case (made_case labels kind d) ≡ spell_all spell_label labels ++ (spell_member_type kind ++ (spell_declarator d ++ Punctuation mark.Semicolon ∷ []))
 unfolding spell_case spell_member_type

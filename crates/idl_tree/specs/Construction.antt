@@ -1,5 +1,5 @@
 -- Structs, unions and enums.
-use Rattle.std.specs.Prelude.{[], ◌∷◌, ◌++◌, flat_map}
+use Rattle.std.specs.Prelude.{[], ◌∷◌, ◌++◌, flat_map, Option, None, Some}
 use Rattle.idl_lex.specs.declared.kinds.keyword.Keyword.TheVariants as word
 use Rattle.idl_lex.specs.declared.kinds.mark.Mark.TheVariants as mark
 use Rattle.idl_tree.specs.DataType.{spell_discrete, spell_type, spell_declarator}
@@ -20,6 +20,7 @@ use Rattle.idl_tree.specs.declared.declarations.construction.Member.{Member}
 use Rattle.idl_tree.specs.declared.declarations.construction.MemberType.{MemberType}
 use Rattle.idl_tree.specs.declared.declarations.construction.Structure.{Structure}
 use Rattle.idl_tree.specs.declared.declarations.construction.Union.{Union}
+use Rattle.idl_tree.specs.declared.name.ScopedName.{ScopedName}
 
 -- "enum" ID "{" ID/"," "}"
 abbrev pub spell_enumeration : Enumeration → Lexemes
@@ -49,11 +50,17 @@ construction_step (Construction-F.Structure s) = s
 construction_step (Construction-F.Union u) = u
 construction_step (Construction-F.Enumeration e) = spell_enumeration e
 
--- "struct" ID "{" member+ "}"
+-- [":" name]
+abbrev pub spell_base : Option ScopedName → Lexemes
+spell_base None = []
+spell_base (Some n) = Punctuation mark.Colon ∷ spell_name n
+
+-- "struct" ID [":" name] "{" member* "}"
 abbrev pub structure_step : Structure-F Lexemes Lexemes Lexemes Lexemes Lexemes Lexemes → Lexemes
 structure_step s =
-    Word word.Struct ∷ Identifier s.name ∷ Punctuation mark.OpenBrace
-    ∷ (s.first ++ (flat_map (λ m. m) s.rest ++ Punctuation mark.CloseBrace ∷ []))
+    Word word.Struct ∷ Identifier s.name
+    ∷ (spell_base s.base ++ (Punctuation mark.OpenBrace
+    ∷ (flat_map (λ m. m) s.members ++ Punctuation mark.CloseBrace ∷ [])))
 
 -- member = ( type | constr ) declr/"," ";"
 abbrev pub member_step : Member-F Lexemes Lexemes Lexemes Lexemes Lexemes Lexemes → Lexemes

@@ -1,12 +1,12 @@
 -- A struct, a union or an enum that is spelled is read again, alone and as a unit.
-use Rattle.std.proofs.Common.{Bool, List, Ok, Option, Some, [], ap, append_assoc, arith, cond, false, flat_map, length, map, refl, subst, suc, sym, true, zero, ℕ, ◌++◌, ◌+◌, ◌∙◌, ◌∷◌, ◌≡◌, ◌≤◌}
+use Rattle.std.proofs.Common.{Bool, List, None, Ok, Option, Result, Some, [], ap, append_assoc, arith, cond, false, flat_map, length, map, refl, subst, suc, sym, true, zero, ℕ, ◌++◌, ◌+◌, ◌∙◌, ◌∷◌, ◌≡◌, ◌≤◌}
 use Rattle.std.proofs.lemmas.List.{length-append}
 use Rattle.idl_lex.specs.declared.kinds.keyword.Keyword.TheVariants as word
 use Rattle.idl_lex.specs.declared.kinds.mark.Mark.TheVariants as mark
-use Rattle.idl_tree.specs.Construction.{spell_case, spell_construction, spell_discriminator, spell_enumeration, spell_label, spell_member, spell_member_type, spell_structure, spell_union}
+use Rattle.idl_tree.specs.Construction.{spell_base, spell_case, spell_construction, spell_discriminator, spell_enumeration, spell_label, spell_member, spell_member_type, spell_structure, spell_union}
 use Rattle.idl_tree.specs.DataType.{spell_declarator, spell_type}
 use Rattle.idl_tree.specs.Lexeme.{Identifier, Lexeme, Lexemes, Punctuation, Word}
-use Rattle.idl_tree.specs.reading.ReadConstruction.{all_with, begins_construction, begins_label, case_with, cases_with, construction_at, construction_with, discriminator_at, enumeration_at, goes_on, label_with, made_case, made_member, made_structure, made_union, member_type_with, member_with, structure_rest_with, structure_with, union_rest_with, union_with}
+use Rattle.idl_tree.specs.reading.ReadConstruction.{all_with, base_at, begins_construction, begins_label, case_with, cases_with, construction_at, construction_with, discriminator_at, enumeration_at, goes_on, label_with, made_case, made_member, made_structure, made_union, member_type_with, member_with, members_with, structure_rest_with, structure_with, union_rest_with, union_with}
 use Rattle.idl_tree.specs.reading.ReadExpression.{expression_at}
 use Rattle.idl_tree.specs.reading.ReadType.{declarator_with, type_at}
 use Rattle.idl_tree.specs.reading.ReadUnit.{declaration_with, ended_with, structure_declaration_with, union_declaration_with, unit_at, unit_with}
@@ -31,13 +31,15 @@ use Rattle.idl_tree.specs.declared.declarations.construction.Structure.{Structur
 use Rattle.idl_tree.specs.declared.declarations.construction.Union.{Union, roll-Union}
 use Rattle.idl_tree.specs.declared.declarations.data_type.TypeTree.{TypeTree}
 use Rattle.idl_tree.specs.declared.declarations.declarator.Declarator.{Declarator}
+use Rattle.idl_tree.specs.declared.name.ScopedName.{ScopedName}
 use Rattle.idl_tree.specs.declared.several.Several.{Several}
 use Rattle.idl_tree.specs.declared.unit.Tree.{Tree}
 use Rattle.idl_tree.specs.declared.unit.Tree.TheVariants as tree
-use Rattle.idl_tree.proofs.ReadAgain.Again.{Later, goes_or}
+use Rattle.idl_tree.proofs.ReadAgain.Again.{Later, goes_or, neither}
 use Rattle.idl_tree.proofs.ReadAgain.AgainParts.{Deep, Reads, many_reads, mapped_reads, nothing, spelled_reads, then_reads}
 use Rattle.idl_tree.proofs.Readers.ConstructionLaws.{declarators_at, spell_declarators}
-use Rattle.idl_tree.proofs.ConstructionSpelling.{case_some, member_some, spell_case-made, spell_construction-enumeration, spell_construction-structure, spell_construction-union, spell_member-made, spell_member_type-construction, spell_member_type-type, spell_structure-made, spell_union-made}
+use Rattle.idl_tree.proofs.ConstructionSpelling.{case_some, member_some, spell_case-made, spell_construction-enumeration, spell_construction-structure, spell_construction-union, spell_member-made, spell_member_type-construction, spell_member_type-type, spell_members, spell_structure-made, spell_union-made}
+use Rattle.idl_tree.proofs.ReadAgain.ExpressionAgain.{name_again}
 use Rattle.idl_tree.proofs.Many.{many_spell}
 use Rattle.idl_tree.proofs.ReadAgain.MemberAgain.{declarator_later, declarators_later, discriminator_reads, enumeration_reads, goes_declarator, goes_declarators, goes_labels, labels_later}
 use Rattle.idl_tree.proofs.ReadAgain.TypeAgain.{goes_type, is_type_start, type_is_again}
@@ -51,6 +53,9 @@ member_at n = member_with (expression_at n) (type_at n) (construction_at n)
 
 abbrev pub case_at : ℕ → Reader Case
 case_at n = case_with (expression_at n) (type_at n) (construction_at n)
+
+abbrev pub members_at : ℕ → Reader (List Member)
+members_at n = members_with (expression_at n) (type_at n) (construction_at n)
 
 abbrev structure_rest_at : ℕ → List ℕ → Reader Structure
 structure_rest_at n = structure_rest_with (expression_at n) (type_at n) (construction_at n)
@@ -111,8 +116,9 @@ IsCaseAgain = Deep nothing goes_on spell_case (λ n. case_at (suc n))
 pub record IsStructureAgain (s : Structure) : Type 0 where
   pub name : List ℕ
   pub body : Lexemes
-  pub is : spell_structure s ≡ Word word.Struct ∷ Identifier name ∷ Punctuation mark.OpenBrace ∷ body
-  pub again : (n : ℕ) → length (spell_structure s) ≤ n → Reads nothing (Punctuation mark.OpenBrace ∷ body) (structure_rest_at n name) s
+  pub is : spell_structure s ≡ Word word.Struct ∷ Identifier name ∷ body
+  pub goes : (rest : Lexemes) → is_mark mark.Semicolon (first (body ++ rest)) ≡ false
+  pub again : (n : ℕ) → length (spell_structure s) ≤ n → Reads nothing body (structure_rest_at n name) s
 
 pub record IsUnionAgain (u : Union) : Type 0 where
   pub name : List ℕ
@@ -207,25 +213,44 @@ Such {X} claim = (x : X) × claim x
 abbrev members_of : List (Such IsMemberAgain) → List Member
 members_of ms = map (λ m. m.0) ms
 
-structure_direct : (name : List ℕ) (m : Such IsMemberAgain) (ms : List (Such IsMemberAgain)) (n : ℕ) → 2 + length (spell_member m.0 ++ (many_spell spell_member (members_of ms) ++ Punctuation mark.CloseBrace ∷ [])) ≤ n
-    → Reads nothing (Punctuation mark.OpenBrace ∷ (spell_member m.0 ++ (many_spell spell_member (members_of ms) ++ Punctuation mark.CloseBrace ∷ []))) (structure_rest_at n name) (made_structure name m.0 (members_of ms))
-unfolding structure_rest_with
-structure_direct name m ms zero le rest h = absurd (omega (arith, le))
-structure_direct name m ms (suc n) le rest h =
-    let more : Lexemes = many_spell spell_member (members_of ms) in
-    let brace : Lexemes = Punctuation mark.CloseBrace ∷ [] in
-    let sum = length-append (spell_member m.0) (more ++ brace) in
-    let sum2 = length-append more brace in
-    then_reads nothing nothing (spell_member m.0) (more ++ brace) (member_at (suc n)) (λ m ts. many_of goes_on (member_at (suc n)) ts >>= λ ms. expect (is_mark mark.CloseBrace) ms.1 >>= λ r. Ok (made_structure name m ms.0, r)) m.0 (made_structure name m.0 (members_of ms))
-    (m.1.1 n (omega (arith, le, sum)))
-    (then_reads (goes_or goes_on nothing) nothing more brace (many_of goes_on (member_at (suc n))) (λ ms ts. expect (is_mark mark.CloseBrace) ts >>= λ r. Ok (made_structure name m.0 ms, r)) (members_of ms) (made_structure name m.0 (members_of ms))
-    (many_reads nothing goes_on spell_member (λ n. member_at (suc n)) ms n (omega (arith, le, sum, sum2))) (λ rest h. refl) (λ rest h. refl))
-    (λ rest h. refl) rest refl
+-- the braces around members that are read again
+pub members_read : (ms : List Member) (n : ℕ) → Reads (goes_or goes_on nothing) (many_spell spell_member ms) (many_of goes_on (member_at n)) ms → Reads nothing (spell_members ms) (members_at n) ms
+unfolding members_with
+members_read ms n reads rest h =
+    then_reads (goes_or goes_on nothing) nothing (many_spell spell_member ms) (Punctuation mark.CloseBrace ∷ []) (many_of goes_on (member_at n)) (λ ms ts. expect (is_mark mark.CloseBrace) ts >>= λ r. Ok (ms, r)) ms ms
+    reads (λ rest h. refl) (λ rest h. refl) rest refl
 
-structure_is_again : (name : List ℕ) (m : Such IsMemberAgain) (ms : List (Such IsMemberAgain)) → IsStructureAgain (made_structure name m.0 (members_of ms))
-structure_is_again name m ms =
-    let is = spell_structure-made name m.0 (members_of ms) in
-    record { name = name; body = spell_member m.0 ++ (many_spell spell_member (members_of ms) ++ Punctuation mark.CloseBrace ∷ []); is = is; again = λ n le. structure_direct name m ms n (omega (arith, le, ap length is)) }
+abbrev goes_base : Option Lexeme → Bool
+goes_base = goes_or (is_mark mark.Colon) (is_mark mark.ColonColon)
+
+base_reads : (b : Option ScopedName) → Reads goes_base (spell_base b) base_at b
+unfolding base_at
+base_reads None rest h = rw (neither (is_mark mark.Colon (first rest)) (is_mark mark.ColonColon (first rest)) h).0 refl
+base_reads (Some n) rest h =
+    ap (λ (o : Result (ScopedName × Lexemes) ℕ). o >>= λ n. Ok (Some n.0, n.1)) (name_again n rest (neither (is_mark mark.Colon (first rest)) (is_mark mark.ColonColon (first rest)) h).1)
+
+some_members_read : (ms : List (Such IsMemberAgain)) (n : ℕ) → length (spell_members (members_of ms)) ≤ n → Reads nothing (spell_members (members_of ms)) (members_at n) (members_of ms)
+some_members_read ms zero le = absurd (omega (arith, le))
+some_members_read ms (suc n) le =
+    let sum = length-append (many_spell spell_member (members_of ms)) (Punctuation mark.CloseBrace ∷ []) in
+    members_read (members_of ms) (suc n) (many_reads nothing goes_on spell_member (λ n. member_at (suc n)) ms n (omega (arith, le, sum)))
+
+structure_direct : (name : List ℕ) (b : Option ScopedName) (ms : List (Such IsMemberAgain)) (n : ℕ) → 2 + length (spell_base b ++ spell_members (members_of ms)) ≤ n
+    → Reads nothing (spell_base b ++ spell_members (members_of ms)) (structure_rest_at n name) (made_structure name b (members_of ms))
+unfolding structure_rest_with
+structure_direct name b ms n le =
+    let spelled : Lexemes = spell_members (members_of ms) in
+    then_reads goes_base nothing (spell_base b) spelled base_at (λ b ts. members_at n ts >>= λ ms. Ok (made_structure name b ms.0, ms.1)) b (made_structure name b (members_of ms)) (base_reads b)
+    (mapped_reads nothing spelled (members_at n) (made_structure name b) (members_of ms) (some_members_read ms n (omega (arith, le, length-append (spell_base b) spelled)))) (λ rest h. refl)
+
+structure_goes : (b : Option ScopedName) (ms : List Member) (rest : Lexemes) → is_mark mark.Semicolon (first ((spell_base b ++ spell_members ms) ++ rest)) ≡ false
+structure_goes None ms rest = refl
+structure_goes (Some n) ms rest = refl
+
+structure_is_again : (name : List ℕ) (b : Option ScopedName) (ms : List (Such IsMemberAgain)) → IsStructureAgain (made_structure name b (members_of ms))
+structure_is_again name b ms =
+    let is = spell_structure-made name b (members_of ms) in
+    record { name = name; body = spell_base b ++ spell_members (members_of ms); is = is; goes = structure_goes b (members_of ms); again = λ n le. structure_direct name b ms n (omega (arith, le, ap length is)) }
 
 -- ---- unions
 
@@ -280,12 +305,14 @@ unfolding construction_at construction_with structure_with unit_at unit_with end
 construction_of_structure s is =
     let c : Construction = construction.Structure s in
     let spelled = spell_construction-structure s ∙ is.is in
+    let shown = ap length (spell_construction-structure s) in
     record {
       starts = λ rest. ap (λ (w : Lexemes). begins_construction (first (w ++ rest))) spelled;
-      again = λ n le. spelled_reads nothing (spell_construction c) (Word word.Struct ∷ Identifier is.name ∷ Punctuation mark.OpenBrace ∷ is.body) (construction_at (suc n)) c spelled
-          (mapped_reads nothing (Punctuation mark.OpenBrace ∷ is.body) (structure_rest_at n is.name) construction.Structure s (is.again n (omega (arith, le, ap length (spell_construction-structure s)))));
-      unit = λ n le. spelled_reads nothing (spell_construction c ++ end) (Word word.Struct ∷ Identifier is.name ∷ Punctuation mark.OpenBrace ∷ (is.body ++ end)) (unit_at n) (tree.Construction c) (ap (λ (w : Lexemes). w ++ end) spelled)
-          (ended_reads nothing structure_unit (Punctuation mark.OpenBrace ∷ is.body) (structure_rest_at n is.name) s refl (is.again n (omega (arith, le, ap length (spell_construction-structure s)))));
+      again = λ n le. spelled_reads nothing (spell_construction c) (Word word.Struct ∷ Identifier is.name ∷ is.body) (construction_at (suc n)) c spelled
+          (mapped_reads nothing is.body (structure_rest_at n is.name) construction.Structure s (is.again n (omega (arith, le, shown))));
+      unit = λ n le. spelled_reads nothing (spell_construction c ++ end) (Word word.Struct ∷ Identifier is.name ∷ (is.body ++ end)) (unit_at n) (tree.Construction c) (ap (λ (w : Lexemes). w ++ end) spelled)
+          (λ rest h. rw (ap (λ (w : Lexemes). is_mark mark.Semicolon (first w)) (append_assoc is.body end rest) ∙ is.goes (end ++ rest))
+          (ended_reads nothing structure_unit is.body (structure_rest_at n is.name) s refl (is.again n (omega (arith, le, shown))) rest refl));
     }
 
 construction_of_union : (u : Union) → IsUnionAgain u → IsConstructionAgain (construction.Union u)
@@ -333,7 +360,7 @@ construction_is_again = ind-Construction IsConstructionAgain IsMemberTypeAgain I
     (λ x y is. subst (λ z. IsMemberTypeAgain (roll-MemberType z)) is (by_member_type y))
     (λ x y is. subst (λ z. IsCaseAgain (roll-Case z)) is (case_is_again y.labels y.kind.0 y.declarator y.kind.1))
     (λ x y is. subst (λ z. IsMemberAgain (roll-Member z)) is (member_is_again y.kind.0 y.declarators y.kind.1))
-    (λ x y is. subst (λ z. IsStructureAgain (roll-Structure z)) is (structure_is_again y.name y.first y.rest))
+    (λ x y is. subst (λ z. IsStructureAgain (roll-Structure z)) is (structure_is_again y.name y.base y.members))
     (λ x y is. subst (λ z. IsUnionAgain (roll-Union z)) is (union_is_again y.name y.discriminator y.first y.rest))
 
 pub member_type_is_again : (t : MemberType) → IsMemberTypeAgain t
@@ -342,7 +369,7 @@ member_type_is_again = ind-MemberType IsConstructionAgain IsMemberTypeAgain IsCa
     (λ x y is. subst (λ z. IsMemberTypeAgain (roll-MemberType z)) is (by_member_type y))
     (λ x y is. subst (λ z. IsCaseAgain (roll-Case z)) is (case_is_again y.labels y.kind.0 y.declarator y.kind.1))
     (λ x y is. subst (λ z. IsMemberAgain (roll-Member z)) is (member_is_again y.kind.0 y.declarators y.kind.1))
-    (λ x y is. subst (λ z. IsStructureAgain (roll-Structure z)) is (structure_is_again y.name y.first y.rest))
+    (λ x y is. subst (λ z. IsStructureAgain (roll-Structure z)) is (structure_is_again y.name y.base y.members))
     (λ x y is. subst (λ z. IsUnionAgain (roll-Union z)) is (union_is_again y.name y.discriminator y.first y.rest))
 
 pub member_again : (m : Member) → IsMemberAgain m
@@ -351,5 +378,5 @@ member_again = ind-Member IsConstructionAgain IsMemberTypeAgain IsCaseAgain IsMe
     (λ x y is. subst (λ z. IsMemberTypeAgain (roll-MemberType z)) is (by_member_type y))
     (λ x y is. subst (λ z. IsCaseAgain (roll-Case z)) is (case_is_again y.labels y.kind.0 y.declarator y.kind.1))
     (λ x y is. subst (λ z. IsMemberAgain (roll-Member z)) is (member_is_again y.kind.0 y.declarators y.kind.1))
-    (λ x y is. subst (λ z. IsStructureAgain (roll-Structure z)) is (structure_is_again y.name y.first y.rest))
+    (λ x y is. subst (λ z. IsStructureAgain (roll-Structure z)) is (structure_is_again y.name y.base y.members))
     (λ x y is. subst (λ z. IsUnionAgain (roll-Union z)) is (union_is_again y.name y.discriminator y.first y.rest))

@@ -15,7 +15,7 @@ use Rattle.idl_tree.specs.reading.ReadExpression.{expression_at}
 use Rattle.idl_tree.specs.reading.ReadInterface.{attribute_with, made_operation, operation_with, readonly_attribute_with}
 use Rattle.idl_tree.specs.reading.ReadType.{discrete_at, string_type, string_with, type_at}
 use Rattle.idl_tree.specs.reading.ReadUnit.{bases_at, closing_at, constant_type_by, constant_type_with, constant_with, declaration_by, declaration_with, ended_with, exception_with, interface_at, interface_rest, made_constant, made_exception, made_typedef, module_at, native_at, opened, structure_declaration_with, typedef_with, union_declaration_with, unit_at, unit_by, unit_with}
-use Rattle.idl_tree.specs.reading.Reading.{Reader, expect, first, many_of, ◌>>=◌}
+use Rattle.idl_tree.specs.reading.Reading.{Reader, expect, first, ◌>>=◌}
 use Rattle.idl_tree.specs.reading.Tests.{identifier_at, is_mark, keyword_of}
 use Rattle.idl_tree.specs.Unit.{spell, spell_constant, spell_constant_type, spell_exception, spell_typedef}
 use Rattle.idl_tree.specs.declared.declarations.construction.Construction.{Construction}
@@ -37,12 +37,12 @@ use Rattle.idl_tree.specs.declared.unit.Exception.{Exception}
 use Rattle.idl_tree.specs.declared.unit.Tree.{Tree}
 use Rattle.idl_tree.specs.declared.unit.Tree.TheVariants as tree
 use Rattle.idl_tree.specs.declared.unit.Typedef.{Typedef}
-use Rattle.idl_tree.proofs.ReadAgain.Again.{goes_or}
 use Rattle.idl_tree.proofs.ReadAgain.AgainParts.{Reads, all_read, mapped_reads, nothing, spelled_reads, then_reads}
-use Rattle.idl_tree.proofs.ReadAgain.ConstructionAgain.{construction_is_again, ended_reads, member_again, member_at, member_type_at, member_type_is_again}
+use Rattle.idl_tree.proofs.ReadAgain.ConstructionAgain.{construction_is_again, ended_reads, member_again, member_at, member_type_at, member_type_is_again, members_at, members_read}
 use Rattle.idl_tree.proofs.Readers.ConstructionLaws.{declarators_at, spell_declarators}
 use Rattle.idl_tree.proofs.ReadAgain.ExpressionAgain.{goes_expression, name_again}
 use Rattle.idl_tree.proofs.ReadAgain.InterfaceAgain.{attribute_reads, goes_attribute, goes_operation, goes_readonly, names_read, operation_reads, readonly_attribute_reads, spell_operation_rest}
+use Rattle.idl_tree.proofs.ConstructionSpelling.{spell_members}
 use Rattle.idl_tree.proofs.Many.{many_spell}
 use Rattle.idl_tree.proofs.ReadAgain.MemberAgain.{declarators_later, goes_declarators}
 use Rattle.idl_tree.proofs.Readers.NameLaws.{flat_map-many, named}
@@ -100,18 +100,19 @@ constant_reads c n le rest h =
     (λ rest h. mapped_reads goes_expression (spell_expression c.value) (expression_at n) (made_constant c.kind c.name) c.value (expression_reads c.value n (omega (arith, le, sum))) rest h)
     (λ rest h. refl) rest h
 
+all_members_read : (ms : List Member) (n : ℕ) → length (spell_members ms) ≤ n → Reads nothing (spell_members ms) (members_at n) ms
+all_members_read ms zero le = absurd (omega (arith, le))
+all_members_read ms (suc n) le =
+    let sum = length-append (many_spell spell_member ms) (Punctuation mark.CloseBrace ∷ []) in
+    members_read ms (suc n) (all_read nothing goes_on spell_member (λ n. member_at (suc n)) member_again ms n (omega (arith, le, sum)))
+
 exception_reads : (e : Exception) (n : ℕ) → length (spell_exception e) ≤ n → Reads nothing (spell_exception e) (exception_with (expression_at n) (type_at n) (construction_at n)) e
 unfolding exception_with
-exception_reads e zero le rest h = absurd (omega (arith, le))
-exception_reads e (suc n) le rest h =
-    let brace : Lexemes = Punctuation mark.CloseBrace ∷ [] in
-    let members : Lexemes = flat_map spell_member e.members in
-    let same_members = flat_map-many spell_member e.members in
-    let sum = length-append members brace in
-    let some_members : Reader (List Member) = many_of goes_on (member_at (suc n)) in
-    then_reads (goes_or goes_on nothing) nothing members brace some_members (λ ms ts. expect (is_mark mark.CloseBrace) ts >>= λ r. Ok (made_exception e.name ms, r)) e.members e
-    (spelled_reads (goes_or goes_on nothing) members (many_spell spell_member e.members) some_members e.members same_members
-    (all_read nothing goes_on spell_member (λ n. member_at (suc n)) member_again e.members n (omega (arith, le, sum, ap length same_members)))) (λ rest h. refl) (λ rest h. refl) rest refl
+exception_reads e n le rest h =
+    let members : Lexemes = Punctuation mark.OpenBrace ∷ (flat_map spell_member e.members ++ Punctuation mark.CloseBrace ∷ []) in
+    let same_members : members ≡ spell_members e.members = ap (λ (w : Lexemes). Punctuation mark.OpenBrace ∷ (w ++ Punctuation mark.CloseBrace ∷ [])) (flat_map-many spell_member e.members) in
+    mapped_reads nothing members (members_at n) (made_exception e.name) e.members
+    (spelled_reads nothing members (spell_members e.members) (members_at n) e.members same_members (all_members_read e.members n (omega (arith, le, ap length same_members)))) rest h
 
 -- ---- openings and closings
 

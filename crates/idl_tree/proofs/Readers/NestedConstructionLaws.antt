@@ -1,17 +1,19 @@
 -- What holds of the readers of structs, unions and enums, in one another.
 -- ---- structs
-use Rattle.std.proofs.Common.{None, Option, Some, [], refl, suc, zero, ◌++◌, ◌∷◌, ◌≡◌, List, ℕ}
+use Rattle.std.proofs.Common.{None, Option, Some, [], cond, inl, inr, refl, suc, zero, ◌++◌, ◌∷◌, ◌≡◌, ◌⊎◌, List, ℕ}
 use Rattle.idl_lex.specs.declared.kinds.keyword.Keyword.{Keyword}
 use Rattle.idl_lex.specs.declared.kinds.keyword.Keyword.TheVariants as word
 use Rattle.idl_lex.specs.declared.kinds.mark.Mark.TheVariants as mark
-use Rattle.idl_tree.specs.Construction.{spell_case, spell_construction, spell_discriminator, spell_enumeration, spell_member, spell_structure, spell_union}
+use Rattle.idl_tree.specs.Construction.{spell_base, spell_case, spell_construction, spell_discriminator, spell_enumeration, spell_member, spell_structure, spell_union}
 use Rattle.idl_tree.specs.DataType.{spell_type}
 use Rattle.idl_tree.specs.Expression.{spell_expression}
 use Rattle.idl_tree.specs.Lexeme.{Identifier, Lexemes, Punctuation, Word}
-use Rattle.idl_tree.specs.reading.ReadConstruction.{case_with, cases_with, construction_at, construction_by, construction_with, discriminator_at, enumerated, enumeration_at, goes_on, listed_with, made_structure, made_union, member_with, several, structure_rest_with, structure_with, union_rest_with, union_with}
+use Rattle.idl_tree.specs.Name.{spell_name}
+use Rattle.idl_tree.specs.reading.ReadConstruction.{base_at, case_with, cases_with, construction_at, construction_by, construction_with, discriminator_at, enumerated, enumeration_at, goes_on, listed_with, made_structure, made_union, member_with, members_with, several, structure_rest_with, structure_with, union_rest_with, union_with}
 use Rattle.idl_tree.specs.reading.ReadExpression.{expression_at}
+use Rattle.idl_tree.specs.reading.ReadName.{name_at}
 use Rattle.idl_tree.specs.reading.ReadType.{type_at}
-use Rattle.idl_tree.specs.reading.Reading.{Reader, many_of}
+use Rattle.idl_tree.specs.reading.Reading.{Reader, first, many_of}
 use Rattle.idl_tree.specs.Several.{spell_listed}
 use Rattle.idl_tree.specs.reading.Tests.{identifier_at, is_mark, is_word, keyword_of}
 use Rattle.idl_tree.specs.declared.declarations.construction.Case.{Case}
@@ -24,50 +26,77 @@ use Rattle.idl_tree.specs.declared.declarations.construction.Structure.{Structur
 use Rattle.idl_tree.specs.declared.declarations.construction.Union.{Union}
 use Rattle.idl_tree.specs.declared.declarations.data_type.TypeTree.{TypeTree}
 use Rattle.idl_tree.specs.declared.expression.Expression.{Expression}
+use Rattle.idl_tree.specs.declared.name.ScopedName.{ScopedName}
 use Rattle.idl_tree.specs.declared.several.Several.{Several}
 use Rattle.idl_tree.proofs.Readers.ConstructionLaws.{discriminator_laws, listed_laws, case_laws, member_laws}
-use Rattle.idl_tree.proofs.ConstructionSpelling.{case_some, member_some, spell_construction-enumeration, spell_construction-structure, spell_construction-union, spell_structure-made, spell_union-made}
+use Rattle.idl_tree.proofs.ConstructionSpelling.{case_some, member_some, spell_construction-enumeration, spell_construction-structure, spell_construction-union, spell_members, spell_structure-made, spell_union-made}
 use Rattle.idl_tree.proofs.Readers.ExpressionLaws.{expression_laws}
-use Rattle.idl_tree.proofs.Laws.{Laws, behind_at, deeper, later, later_laws, next_at, no_laws, same, shape, skip_laws, then_laws}
+use Rattle.idl_tree.proofs.Laws.{Laws, behind_at, choice_laws, deeper, done_laws, either, ends_at, last_laws, later, later_laws, mapped_at, next_at, no_laws, same, shape, skip_laws, then_laws}
 use Rattle.idl_tree.proofs.Many.{many_laws, many_spell}
+use Rattle.idl_tree.proofs.Readers.NameLaws.{name_laws}
 use Rattle.idl_tree.proofs.Readers.NestedTypeLaws.{type_laws}
 use Rattle.idl_tree.proofs.Readers.Switch.{by_laws, mapped_laws}
 use Rattle.idl_tree.proofs.Readers.TokenLaws.{close_at, close_laws, identifier_laws, one_token, only_mark, only_word}
 
-abbrev pub member_parts : Type 0
-member_parts = Member × (List Member × Unit {0})
+pub members_laws : (d N : ℕ) (re : ℕ → Reader Expression) (rt : ℕ → Reader TypeTree) (rc : ℕ → Reader Construction)
+    → Laws (suc d) N same spell_member (λ n. member_with (re n) (rt n) (rc n)) → Laws d N same spell_members (λ n. members_with (re n) (rt n) (rc n))
+unfolding members_with
+members_laws d N re rt rc members =
+    let one : ℕ → Reader Member = λ n. member_with (re n) (rt n) (rc n) in
+    let more : ℕ → Reader (List Member) = λ n. many_of goes_on (member_with (re n) (rt n) (rc n)) in
+    let closed : List Member → ℕ → Reader (List Member) = λ ms. close_at mark.CloseBrace ms in
+    let value : List Member × Unit {0} → List Member = λ p. p.0 in
+    let spell_inside : List Member × Unit {0} → Lexemes = λ p. many_spell spell_member p.0 ++ Punctuation mark.CloseBrace ∷ [] in
+    shape d N value (λ p. Punctuation mark.OpenBrace ∷ spell_inside p) spell_members (behind_at (is_mark mark.OpenBrace) (next_at more closed)) (λ n. members_with (re n) (rt n) (rc n)) (λ p. refl) (λ n ts. refl)
+    (skip_laws d N (is_mark mark.OpenBrace) (Punctuation mark.OpenBrace) value spell_inside (next_at more closed) (only_mark mark.OpenBrace)
+    (then_laws (suc d) N (many_spell spell_member) more (λ (ms : List Member) (u : Unit {0}). ms) (λ u. Punctuation mark.CloseBrace ∷ []) closed
+    (many_laws (suc d) N goes_on spell_member one member_some members) (λ ms. close_laws (suc d) N mark.CloseBrace ms)))
 
--- "{" member+ "}"
-abbrev pub spell_members : member_parts → Lexemes
-spell_members p = Punctuation mark.OpenBrace ∷ (spell_member p.0 ++ (many_spell spell_member p.1.0 ++ Punctuation mark.CloseBrace ∷ []))
+base_laws : (d N : ℕ) → Laws d N same spell_base (λ n. base_at)
+unfolding base_at
+base_laws d N =
+    let some_at : ℕ → Reader (Option ScopedName) = mapped_at (λ (n : ScopedName). Some n) (λ n. name_at) in
+    shape d N (either (λ (n : ScopedName). Some n) (λ (u : Unit {0}). None)) (either (λ n. Punctuation mark.Colon ∷ spell_name n) (λ u. [])) spell_base
+    (λ n ts. cond (is_mark mark.Colon (first ts)) (behind_at (is_mark mark.Colon) some_at n ts) (ends_at None n ts)) (λ n. base_at) spells (λ n ts. refl)
+    (choice_laws d N (is_mark mark.Colon) (λ (n : ScopedName). Some n) (λ n. Punctuation mark.Colon ∷ spell_name n) (behind_at (is_mark mark.Colon) some_at) (λ (u : Unit {0}). None) (λ u. []) (ends_at None)
+    (skip_laws d N (is_mark mark.Colon) (Punctuation mark.Colon) (λ (n : ScopedName). Some n) spell_name some_at (only_mark mark.Colon)
+    (last_laws (suc d) N (λ (n : ScopedName). Some n) spell_name (λ n. name_at) (name_laws (suc d) N)))
+    (done_laws d N None))
+  where
+    spells : (x : ScopedName ⊎ Unit {0}) → spell_base (either (λ (n : ScopedName). Some n) (λ (u : Unit {0}). None) x) ≡ either (λ n. Punctuation mark.Colon ∷ spell_name n) (λ u. []) x
+    spells (inl n) = refl
+    spells (inr u) = refl
 
-abbrev pub structure_of : List ℕ → member_parts → Structure
-structure_of name p = made_structure name p.0 p.1.0
+abbrev pub structure_parts : Type 0
+structure_parts = Option ScopedName × List Member
+
+-- [":" name] "{" member* "}"
+abbrev pub spell_structure_rest : structure_parts → Lexemes
+spell_structure_rest p = spell_base p.0 ++ spell_members p.1
+
+abbrev pub structure_of : List ℕ → structure_parts → Structure
+structure_of name p = made_structure name p.0 p.1
 
 pub structure_rest_laws : (d N : ℕ) (re : ℕ → Reader Expression) (rt : ℕ → Reader TypeTree) (rc : ℕ → Reader Construction)
     → Laws (suc d) N same spell_member (λ n. member_with (re n) (rt n) (rc n))
-    → (name : List ℕ) → Laws d N (structure_of name) spell_members (λ n. structure_rest_with (re n) (rt n) (rc n) name)
+    → (name : List ℕ) → Laws d N (structure_of name) spell_structure_rest (λ n. structure_rest_with (re n) (rt n) (rc n) name)
 unfolding structure_rest_with
 structure_rest_laws d N re rt rc members name =
-    let one : ℕ → Reader Member = λ n. member_with (re n) (rt n) (rc n) in
-    let more : ℕ → Reader (List Member) = λ n. many_of goes_on (member_with (re n) (rt n) (rc n)) in
-    skip_laws d N (is_mark mark.OpenBrace) (Punctuation mark.OpenBrace) (structure_of name) (λ q. spell_member q.0 ++ (many_spell spell_member q.1.0 ++ Punctuation mark.CloseBrace ∷ []))
-    (next_at one (λ m. next_at more (λ ms. close_at mark.CloseBrace (made_structure name m ms)))) (only_mark mark.OpenBrace)
-    (then_laws (suc d) N spell_member one (λ (m : Member) (q : List Member × Unit {0}). made_structure name m q.0) (λ q. many_spell spell_member q.0 ++ Punctuation mark.CloseBrace ∷ [])
-    (λ m. next_at more (λ ms. close_at mark.CloseBrace (made_structure name m ms))) members
-    (λ m. then_laws (suc d) N (many_spell spell_member) more (λ (ms : List Member) (u : Unit {0}). made_structure name m ms) (λ u. Punctuation mark.CloseBrace ∷ []) (λ ms. close_at mark.CloseBrace (made_structure name m ms))
-    (many_laws (suc d) N goes_on spell_member one member_some members) (λ ms. close_laws (suc d) N mark.CloseBrace (made_structure name m ms))))
+    let members_at : ℕ → Reader (List Member) = λ n. members_with (re n) (rt n) (rc n) in
+    then_laws d N spell_base (λ n. base_at) (made_structure name) spell_members (λ base. mapped_at (made_structure name base) members_at) (base_laws d N)
+    (λ base. last_laws d N (made_structure name base) spell_members members_at (members_laws d N re rt rc members))
 
 structure_laws : (d N : ℕ) (re : ℕ → Reader Expression) (rt : ℕ → Reader TypeTree) (rc : ℕ → Reader Construction)
     → Laws (suc (suc d)) N same spell_member (λ n. member_with (re n) (rt n) (rc n)) → Laws d N same spell_structure (λ n. structure_with (re n) (rt n) (rc n))
 unfolding structure_with
 structure_laws d N re rt rc members =
     let inside : List ℕ → ℕ → Reader Structure = λ name n. structure_rest_with (re n) (rt n) (rc n) name in
-    shape d N (λ (p : List ℕ × member_parts). structure_of p.0 p.1) (λ p. Word word.Struct ∷ (one_token Identifier p.0 ++ spell_members p.1)) spell_structure
+    let value : List ℕ × structure_parts → Structure = λ p. structure_of p.0 p.1 in
+    shape d N value (λ p. Word word.Struct ∷ (one_token Identifier p.0 ++ spell_structure_rest p.1)) spell_structure
     (behind_at (is_word word.Struct) (next_at (λ n. identifier_at) inside)) (λ n. structure_with (re n) (rt n) (rc n))
-    (λ p. spell_structure-made p.0 p.1.0 p.1.1.0) (λ n ts. refl)
-    (skip_laws d N (is_word word.Struct) (Word word.Struct) (λ (p : List ℕ × member_parts). structure_of p.0 p.1) (λ p. one_token Identifier p.0 ++ spell_members p.1) (next_at (λ n. identifier_at) inside) (only_word word.Struct)
-    (then_laws (suc d) N (one_token Identifier) (λ n. identifier_at) structure_of spell_members inside (identifier_laws (suc d) N) (structure_rest_laws (suc d) N re rt rc members)))
+    (λ p. spell_structure-made p.0 p.1.0 p.1.1) (λ n ts. refl)
+    (skip_laws d N (is_word word.Struct) (Word word.Struct) value (λ p. one_token Identifier p.0 ++ spell_structure_rest p.1) (next_at (λ n. identifier_at) inside) (only_word word.Struct)
+    (then_laws (suc d) N (one_token Identifier) (λ n. identifier_at) structure_of spell_structure_rest inside (identifier_laws (suc d) N) (structure_rest_laws (suc d) N re rt rc members)))
 
 -- ---- unions
 

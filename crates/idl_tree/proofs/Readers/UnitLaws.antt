@@ -10,13 +10,13 @@ use Rattle.idl_tree.specs.Expression.{spell_expression}
 use Rattle.idl_tree.specs.Interface.{spell_attribute, spell_bases, spell_operation, spell_readonly_attribute}
 use Rattle.idl_tree.specs.Lexeme.{Identifier, Lexemes, Punctuation, Word}
 use Rattle.idl_tree.specs.Name.{spell_name}
-use Rattle.idl_tree.specs.reading.ReadConstruction.{construction_at, enumeration_at, goes_on, listed_with, member_type_with, member_with, structure_rest_with, union_rest_with}
+use Rattle.idl_tree.specs.reading.ReadConstruction.{construction_at, enumeration_at, listed_with, member_type_with, members_with, structure_rest_with, union_rest_with}
 use Rattle.idl_tree.specs.reading.ReadExpression.{expression_at}
 use Rattle.idl_tree.specs.reading.ReadInterface.{attribute_with, operation_with, readonly_attribute_with}
 use Rattle.idl_tree.specs.reading.ReadName.{name_at}
 use Rattle.idl_tree.specs.reading.ReadType.{discrete_at, string_with, type_at}
 use Rattle.idl_tree.specs.reading.ReadUnit.{ahead, bases_at, closing_at, constant_type_by, constant_type_with, constant_with, declaration_by, declaration_with, ended_with, exception_with, interface_at, interface_rest, made_constant, made_exception, made_typedef, module_at, native_at, opened, structure_declaration_with, typedef_with, union_declaration_with, unit_at, unit_by, unit_with}
-use Rattle.idl_tree.specs.reading.Reading.{Reader, expect, first, many_of, ◌>>=◌}
+use Rattle.idl_tree.specs.reading.Reading.{Reader, expect, first, ◌>>=◌}
 use Rattle.idl_tree.specs.Several.{spell_listed}
 use Rattle.idl_tree.specs.reading.Tests.{identifier_at, is_mark, is_word, keyword_of}
 use Rattle.idl_tree.specs.Unit.{spell, spell_constant, spell_constant_type, spell_exception, spell_typedef}
@@ -41,13 +41,12 @@ use Rattle.idl_tree.specs.declared.unit.Tree.{Tree}
 use Rattle.idl_tree.specs.declared.unit.Tree.TheVariants as tree
 use Rattle.idl_tree.specs.declared.unit.Typedef.{Typedef}
 use Rattle.idl_tree.proofs.Readers.ConstructionLaws.{declarators_at, declarators_laws, listed_laws, member_type_laws, spell_declarators}
-use Rattle.idl_tree.proofs.ConstructionSpelling.{member_some, spell_construction-enumeration, spell_construction-structure, spell_construction-union, spell_structure-made, spell_union-made}
+use Rattle.idl_tree.proofs.ConstructionSpelling.{spell_construction-enumeration, spell_construction-structure, spell_construction-union, spell_members, spell_structure-made, spell_union-made}
 use Rattle.idl_tree.proofs.Readers.ExpressionLaws.{expression_laws}
 use Rattle.idl_tree.proofs.Readers.InterfaceLaws.{attribute_laws, readonly_attribute_laws}
 use Rattle.idl_tree.proofs.Laws.{Laws, behind_at, choice_laws, deeper, done_laws, either, either_spells, ends_at, follow_laws, last_laws, mapped_at, next_at, ok, same, shape, skip_laws, then_laws, valued_laws}
-use Rattle.idl_tree.proofs.Many.{many_laws, many_spell}
 use Rattle.idl_tree.proofs.Readers.NameLaws.{flat_map-many, name_laws}
-use Rattle.idl_tree.proofs.Readers.NestedConstructionLaws.{cases_behind, construction_laws, enumeration_laws, member_parts, members_behind, more_room, spell_members, spell_switched, structure_of, structure_rest_laws, switch_parts, union_of, union_rest_laws}
+use Rattle.idl_tree.proofs.Readers.NestedConstructionLaws.{cases_behind, construction_laws, enumeration_laws, members_behind, members_laws, more_room, spell_structure_rest, spell_switched, structure_of, structure_parts, structure_rest_laws, switch_parts, union_of, union_rest_laws}
 use Rattle.idl_tree.proofs.Readers.NestedTypeLaws.{type_laws}
 use Rattle.idl_tree.proofs.Readers.OperationLaws.{operation_laws}
 use Rattle.idl_tree.proofs.Readers.Switch.{by_laws, mapped_laws}
@@ -92,28 +91,23 @@ constant_laws d N re expressions =
     (last_laws (suc (suc d)) N (made_constant t name) spell_expression re (more_room d N 2 spell_expression re expressions))))))
 
 abbrev exception_parts : Type 0
-exception_parts = List ℕ × (List Member × Unit {0})
+exception_parts = List ℕ × List Member
 
-exceptions : (p : exception_parts) → spell_exception (made_exception p.0 p.1.0) ≡ Word word.Exception ∷ (one_token Identifier p.0 ++ (Punctuation mark.OpenBrace ∷ (many_spell spell_member p.1.0 ++ Punctuation mark.CloseBrace ∷ [])))
-exceptions p = ap (λ (w : Lexemes). Word word.Exception ∷ Identifier p.0 ∷ Punctuation mark.OpenBrace ∷ (w ++ Punctuation mark.CloseBrace ∷ [])) (flat_map-many spell_member p.1.0)
+exceptions : (p : exception_parts) → spell_exception (made_exception p.0 p.1) ≡ Word word.Exception ∷ (one_token Identifier p.0 ++ spell_members p.1)
+exceptions p = ap (λ (w : Lexemes). Word word.Exception ∷ Identifier p.0 ∷ Punctuation mark.OpenBrace ∷ (w ++ Punctuation mark.CloseBrace ∷ [])) (flat_map-many spell_member p.1)
 
 pub exception_laws : (d N : ℕ) (re : ℕ → Reader Expression) (rt : ℕ → Reader TypeTree) (rc : ℕ → Reader Construction) → Laws d N same spell_expression re → Laws d N same spell_type rt → Laws d N same spell_construction rc
     → Laws d N same spell_exception (λ n. exception_with (re n) (rt n) (rc n))
 unfolding exception_with
 exception_laws d N re rt rc expressions types constructions =
-    let one : ℕ → Reader Member = λ n. member_with (re n) (rt n) (rc n) in
-    let more : ℕ → Reader (List Member) = λ n. many_of goes_on (member_with (re n) (rt n) (rc n)) in
-    let closed : List ℕ → List Member → ℕ → Reader Exception = λ name ms. close_at mark.CloseBrace (made_exception name ms) in
-    let inside : List ℕ → ℕ → Reader Exception = λ name. behind_at (is_mark mark.OpenBrace) (next_at more (closed name)) in
-    let value : exception_parts → Exception = λ p. made_exception p.0 p.1.0 in
-    let spell_inside : List Member × Unit {0} → Lexemes = λ q. many_spell spell_member q.0 ++ Punctuation mark.CloseBrace ∷ [] in
-    shape d N value (λ p. Word word.Exception ∷ (one_token Identifier p.0 ++ (Punctuation mark.OpenBrace ∷ spell_inside p.1))) spell_exception
+    let members_at : ℕ → Reader (List Member) = λ n. members_with (re n) (rt n) (rc n) in
+    let inside : List ℕ → ℕ → Reader Exception = λ name. mapped_at (made_exception name) members_at in
+    let value : exception_parts → Exception = λ p. made_exception p.0 p.1 in
+    shape d N value (λ p. Word word.Exception ∷ (one_token Identifier p.0 ++ spell_members p.1)) spell_exception
     (behind_at (is_word word.Exception) (next_at (λ n. identifier_at) inside)) (λ n. exception_with (re n) (rt n) (rc n)) exceptions (λ n ts. refl)
-    (skip_laws d N (is_word word.Exception) (Word word.Exception) value (λ p. one_token Identifier p.0 ++ (Punctuation mark.OpenBrace ∷ spell_inside p.1)) (next_at (λ n. identifier_at) inside) (only_word word.Exception)
-    (then_laws (suc d) N (one_token Identifier) (λ n. identifier_at) (λ (name : List ℕ) (q : List Member × Unit {0}). made_exception name q.0) (λ q. Punctuation mark.OpenBrace ∷ spell_inside q) inside (identifier_laws (suc d) N)
-    (λ name. skip_laws (suc d) N (is_mark mark.OpenBrace) (Punctuation mark.OpenBrace) (λ (q : List Member × Unit {0}). made_exception name q.0) spell_inside (next_at more (closed name)) (only_mark mark.OpenBrace)
-    (then_laws (suc (suc d)) N (many_spell spell_member) more (λ (ms : List Member) (u : Unit {0}). made_exception name ms) (λ u. Punctuation mark.CloseBrace ∷ []) (closed name)
-    (many_laws (suc (suc d)) N goes_on spell_member one member_some (members_behind d N 2 re rt rc expressions types constructions)) (λ ms. close_laws (suc (suc d)) N mark.CloseBrace (made_exception name ms))))))
+    (skip_laws d N (is_word word.Exception) (Word word.Exception) value (λ p. one_token Identifier p.0 ++ spell_members p.1) (next_at (λ n. identifier_at) inside) (only_word word.Exception)
+    (then_laws (suc d) N (one_token Identifier) (λ n. identifier_at) made_exception spell_members inside (identifier_laws (suc d) N)
+    (λ name. last_laws (suc d) N (made_exception name) spell_members members_at (members_laws (suc d) N re rt rc (members_behind d N 2 re rt rc expressions types constructions)))))
 
 native_laws : (d N : ℕ) → Laws d N same (λ name. Word word.Native ∷ Identifier name ∷ []) (λ n. native_at)
 unfolding native_at
@@ -234,13 +228,13 @@ abbrev structure_ahead : List ℕ → Tree
 structure_ahead name = tree.Forward (forward.Structure name)
 
 abbrev structure_tail : Type 0
-structure_tail = Unit {0} ⊎ member_parts
+structure_tail = Unit {0} ⊎ structure_parts
 
 abbrev structure_tail_value : List ℕ → structure_tail → Tree
 structure_tail_value name = either (λ u. structure_ahead name) (λ p. structure_unit (structure_of name p))
 
 abbrev spell_structure_tail : structure_tail → Lexemes
-spell_structure_tail = either (λ u. []) spell_members
+spell_structure_tail = either (λ u. []) spell_structure_rest
 
 abbrev structure_declared : List ℕ × structure_tail → Tree
 structure_declared p = structure_tail_value p.0 p.1
@@ -251,7 +245,7 @@ spell_structure_declared p = Word word.Struct ∷ (one_token Identifier p.0 ++ s
 structure_units : (p : List ℕ × structure_tail) → spell (structure_declared p) ≡ spell_structure_declared p ++ end
 unfolding spell
 structure_units (name, inl u) = refl
-structure_units (name, inr p) = ap (λ (w : Lexemes). w ++ end) (spell_construction-structure (structure_of name p) ∙ spell_structure-made name p.0 p.1.0)
+structure_units (name, inr p) = ap (λ (w : Lexemes). w ++ end) (spell_construction-structure (structure_of name p) ∙ spell_structure-made name p.0 p.1)
 
 structure_declaration_laws : (d N : ℕ) (re : ℕ → Reader Expression) (rt : ℕ → Reader TypeTree) (rc : ℕ → Reader Construction) → Laws d N same spell_expression re → Laws d N same spell_type rt → Laws d N same spell_construction rc
     → Laws d N structure_declared spell_structure_declared (λ n. structure_declaration_with (re n) (rt n) (rc n))
@@ -261,9 +255,9 @@ structure_declaration_laws d N re rt rc expressions types constructions =
     let tail_at : List ℕ → ℕ → Reader Tree = λ name n ts. cond (is_mark mark.Semicolon (first ts)) (ends_at (structure_ahead name) n ts) (mapped_at structure_unit (inside name) n ts) in
     skip_laws d N (is_word word.Struct) (Word word.Struct) structure_declared (λ p. one_token Identifier p.0 ++ spell_structure_tail p.1) (next_at (λ n. identifier_at) tail_at) (only_word word.Struct)
     (then_laws (suc d) N (one_token Identifier) (λ n. identifier_at) structure_tail_value spell_structure_tail tail_at (identifier_laws (suc d) N)
-    (λ name. choice_laws (suc d) N (is_mark mark.Semicolon) (λ (u : Unit {0}). structure_ahead name) (λ u. []) (ends_at (structure_ahead name)) (λ (p : member_parts). structure_unit (structure_of name p)) spell_members (mapped_at structure_unit (inside name))
+    (λ name. choice_laws (suc d) N (is_mark mark.Semicolon) (λ (u : Unit {0}). structure_ahead name) (λ u. []) (ends_at (structure_ahead name)) (λ (p : structure_parts). structure_unit (structure_of name p)) spell_structure_rest (mapped_at structure_unit (inside name))
     (done_laws (suc d) N (structure_ahead name))
-    (valued_laws (suc d) N structure_unit (structure_of name) spell_members (inside name) (structure_rest_laws (suc d) N re rt rc (members_behind d N 2 re rt rc expressions types constructions) name))))
+    (valued_laws (suc d) N structure_unit (structure_of name) spell_structure_rest (inside name) (structure_rest_laws (suc d) N re rt rc (members_behind d N 2 re rt rc expressions types constructions) name))))
 
 abbrev pub union_unit : Union → Tree
 union_unit u = tree.Construction (construction.Union u)

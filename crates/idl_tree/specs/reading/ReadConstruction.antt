@@ -25,6 +25,7 @@ use Rattle.idl_tree.specs.declared.declarations.construction.Union.{Union, roll-
 use Rattle.idl_tree.specs.declared.declarations.data_type.TypeTree.{TypeTree}
 use Rattle.idl_tree.specs.declared.declarations.declarator.Declarator.{Declarator}
 use Rattle.idl_tree.specs.declared.expression.Expression.{Expression}
+use Rattle.idl_tree.specs.declared.name.ScopedName.{ScopedName}
 use Rattle.idl_tree.specs.declared.several.Several.{Several}
 
 abbrev pub several : {X : Type 0} → X → List X → Several X
@@ -89,8 +90,9 @@ member_type_with type inner ts =
 abbrev pub made_member : MemberType → Several Declarator → Member
 made_member kind declarators = roll-Member (record { kind = kind; declarators = declarators })
 
-abbrev pub made_structure : List ℕ → Member → List Member → Structure
-made_structure name m ms = roll-Structure (record { name = name; first = m; rest = ms })
+abbrev pub made_structure : List ℕ → Option ScopedName → List Member → Structure
+made_structure name base members =
+    roll-Structure (record { name = name; base = base; members = members })
 
 abbrev pub made_case : Several Label → MemberType → Declarator → Case
 made_case labels kind declarator =
@@ -123,17 +125,33 @@ case_with expression type inner ts = do
 abbrev pub goes_on : Option Lexeme → Bool
 goes_on t = not (is_mark mark.CloseBrace t)
 
--- "{" member+ "}", of the struct with this name
+-- "{" member* "}"
+unfoldable pub members_with : Reader Expression → Reader TypeTree → Reader Construction
+    → Reader (List Member)
+members_with expression type inner ts = do
+  rest ← expect (is_mark mark.OpenBrace) ts
+  ms ← many_of goes_on (member_with expression type inner) rest
+  rest2 ← expect (is_mark mark.CloseBrace) ms.1
+  Ok (ms.0, rest2)
+
+-- [":" name]
+unfoldable pub base_at : Reader (Option ScopedName)
+base_at ts =
+    if is_mark mark.Colon (first ts) then (do
+      rest ← expect (is_mark mark.Colon) ts
+      n ← name_at rest
+      Ok (Some n.0, n.1))
+    else Ok (None, ts)
+
+-- [":" name] "{" member* "}", of the struct with this name
 unfoldable pub structure_rest_with : Reader Expression → Reader TypeTree → Reader Construction
     → List ℕ → Reader Structure
 structure_rest_with expression type inner name ts = do
-  rest ← expect (is_mark mark.OpenBrace) ts
-  m ← member_with expression type inner rest
-  ms ← many_of goes_on (member_with expression type inner) m.1
-  rest2 ← expect (is_mark mark.CloseBrace) ms.1
-  Ok (made_structure name m.0 ms.0, rest2)
+  base ← base_at ts
+  ms ← members_with expression type inner base.1
+  Ok (made_structure name base.0 ms.0, ms.1)
 
--- "struct" ID "{" member+ "}"
+-- "struct" ID [":" name] "{" member* "}"
 unfoldable pub structure_with : Reader Expression → Reader TypeTree → Reader Construction
     → Reader Structure
 structure_with expression type inner ts = do

@@ -3,12 +3,12 @@ use Rattle.std.specs.Prelude.{ℕ, List, drop, Option, Some, None, Ok, Bool, if�
 use Rattle.idl_lex.specs.declared.kinds.keyword.Keyword.{Keyword}
 use Rattle.idl_lex.specs.declared.kinds.keyword.Keyword.TheVariants as word
 use Rattle.idl_lex.specs.declared.kinds.mark.Mark.TheVariants as mark
-use Rattle.idl_tree.specs.reading.ReadConstruction.{listed_with, member_type_with, member_with, goes_on, structure_rest_with, union_rest_with, enumeration_at, construction_at}
+use Rattle.idl_tree.specs.reading.ReadConstruction.{listed_with, member_type_with, members_with, structure_rest_with, union_rest_with, enumeration_at, construction_at}
 use Rattle.idl_tree.specs.reading.ReadExpression.{expression_at}
 use Rattle.idl_tree.specs.reading.ReadInterface.{readonly_attribute_with, attribute_with, operation_with}
 use Rattle.idl_tree.specs.reading.ReadName.{name_at}
 use Rattle.idl_tree.specs.reading.ReadType.{discrete_at, string_with, declarator_with, type_at}
-use Rattle.idl_tree.specs.reading.Reading.{Reader, ◌>>=◌, first, expect, many_of}
+use Rattle.idl_tree.specs.reading.Reading.{Reader, ◌>>=◌, first, expect}
 use Rattle.idl_tree.specs.reading.Tests.{is_mark, is_word, keyword_of, identifier_at}
 use Rattle.idl_tree.specs.declared.declarations.construction.Construction.{Construction}
 use Rattle.idl_tree.specs.declared.declarations.construction.Construction.TheVariants as construction
@@ -75,10 +75,8 @@ unfoldable pub exception_with : Reader Expression → Reader TypeTree → Reader
 exception_with expression type inner ts = do
   rest ← expect (is_word word.Exception) ts
   name ← identifier_at rest
-  rest2 ← expect (is_mark mark.OpenBrace) name.1
-  members ← many_of goes_on (member_with expression type inner) rest2
-  rest3 ← expect (is_mark mark.CloseBrace) members.1
-  Ok (made_exception name.0 members.0, rest3)
+  members ← members_with expression type inner name.1
+  Ok (made_exception name.0 members.0, members.1)
 
 -- "native" ID
 unfoldable pub native_at : Reader (List ℕ)
@@ -136,7 +134,7 @@ interface_at ts = do
   name ← identifier_at rest
   interface_rest is_local name.0 name.1
 
--- "struct" ID "{" member+ "}", or "struct" ID ahead of its members, with `;` next
+-- "struct" ID [":" name] "{" member* "}", or "struct" ID ahead of it, with `;` next
 unfoldable pub structure_declaration_with : Reader Expression → Reader TypeTree
     → Reader Construction → Reader Tree
 structure_declaration_with expression type inner ts = do

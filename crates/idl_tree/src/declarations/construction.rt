@@ -69,13 +69,13 @@ pub enum Construction {
     Enumeration(Enumeration),
 }
 
-/// A struct, with one member or more.
+/// A struct, with its members, and with what it inherits from.
 #[cycle(construction)]
 #[derive(Drop)]
 pub struct Structure {
     pub name: Bytes,
-    pub first: Member,
-    pub rest: Seq<Member>,
+    pub base: Option<ScopedName>,
+    pub members: Seq<Member>,
 }
 
 /// Members of one type.
