@@ -5,7 +5,7 @@ use Rattle.idl_lex.specs.declared.kinds.mark.Mark.TheVariants as mark
 use Rattle.idl_tree.specs.Construction.{spell_construction, spell_member, spell_member_type}
 use Rattle.idl_tree.specs.DataType.{spell_discrete, spell_string, spell_declarator}
 use Rattle.idl_tree.specs.Expression.{spell_expression}
-use Rattle.idl_tree.specs.Interface.{spell_interface, spell_forward, spell_readonly_attribute, spell_attribute, spell_operation}
+use Rattle.idl_tree.specs.Interface.{spell_interface, spell_forward, spell_readonly_attribute, spell_attribute, spell_operation, spell_text}
 use Rattle.idl_tree.specs.Lexeme.{Lexemes, Word, Punctuation, Identifier}
 use Rattle.idl_tree.specs.Name.{spell_name}
 use Rattle.idl_tree.specs.Several.{spell_listed}
@@ -16,6 +16,7 @@ use Rattle.idl_tree.specs.declared.unit.Exception.{Exception}
 use Rattle.idl_tree.specs.declared.unit.Tree.{Tree}
 use Rattle.idl_tree.specs.declared.unit.Tree.TheVariants as tree
 use Rattle.idl_tree.specs.declared.unit.Typedef.{Typedef}
+use Rattle.idl_tree.specs.declared.unit.Typeid.{Typeid}
 
 -- typedef = "typedef" ( type | constr ) declr/","
 abbrev pub spell_typedef : Typedef → Lexemes
@@ -41,6 +42,10 @@ spell_exception e =
     Word word.Exception ∷ Identifier e.name ∷ Punctuation mark.OpenBrace
     ∷ (flat_map spell_member e.members ++ Punctuation mark.CloseBrace ∷ [])
 
+-- "typeid" name text
+abbrev pub spell_typeid : Typeid → Lexemes
+spell_typeid t = Word word.Typeid ∷ (spell_name t.name ++ spell_text t.text)
+
 -- an opening, a closing, or a declaration with its `;`
 abbrev pub ended : Lexemes → Lexemes
 ended lexemes = lexemes ++ Punctuation mark.Semicolon ∷ []
@@ -58,3 +63,4 @@ spell (tree.Exception e) = ended (spell_exception e)
 spell (tree.ReadonlyAttribute a) = ended (spell_readonly_attribute a)
 spell (tree.Attribute a) = ended (spell_attribute a)
 spell (tree.Operation o) = ended (spell_operation o)
+spell (tree.Typeid t) = ended (spell_typeid t)

@@ -75,6 +75,21 @@ impl Drop for Exception {
     }
 }
 
+/// The id of what a name denotes.
+pub struct Typeid {
+    pub name: ScopedName,
+    pub text: Several<Seq<u16>>,
+}
+
+impl Drop for Typeid {
+    fn drop(self) {
+        let Typeid {
+            name: _name,
+            text: _text,
+        } = self;
+    }
+}
+
 /// What a unit is.
 pub enum Tree {
     Closing,
@@ -89,6 +104,7 @@ pub enum Tree {
     ReadonlyAttribute(ReadonlyAttribute),
     Attribute(Attribute),
     Operation(Operation),
+    Typeid(Typeid),
 }
 
 impl Drop for Tree {
@@ -106,6 +122,7 @@ impl Drop for Tree {
             Tree::ReadonlyAttribute(_a) => {}
             Tree::Attribute(_a) => {}
             Tree::Operation(_a) => {}
+            Tree::Typeid(_a) => {}
         }
     }
 }

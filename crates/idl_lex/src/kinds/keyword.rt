@@ -42,6 +42,7 @@ pub enum Keyword {
     Switch,
     True,
     Typedef,
+    Typeid,
     Uint16,
     Uint32,
     Uint64,

@@ -70,7 +70,7 @@ const KEYWORDS: [WordEntry<TokenKind>; 72] = [
     (b"TRUE", TokenKind::Accepted(Keyword::True)),
     (b"truncatable", TokenKind::Refused),
     (b"typedef", TokenKind::Accepted(Keyword::Typedef)),
-    (b"typeid", TokenKind::Refused),
+    (b"typeid", TokenKind::Accepted(Keyword::Typeid)),
     (b"typeprefix", TokenKind::Refused),
     (b"uint16", TokenKind::Accepted(Keyword::Uint16)),
     (b"uint32", TokenKind::Accepted(Keyword::Uint32)),

@@ -212,7 +212,7 @@ result_reads (Some t) n lt rest h =
     type_is_not_void (Some (Word word.Void)) h = absurd cc
     type_is_not_void _ h = refl
 
-abbrev goes_text : Option Lexeme → Bool
+abbrev pub goes_text : Option Lexeme → Bool
 goes_text = goes_or (λ t. is_some (text_of t)) nothing
 
 text_item : (piece : List ℕ) → Deep nothing (λ t. is_some (text_of t)) (one_token Text) (λ n. pick text_of) piece
@@ -221,6 +221,9 @@ text_item piece = (record { passes = λ rest. refl; stops = λ rest. refl; some 
 text_later : (x : Several (List ℕ)) → Later goes_text spell_text (λ n. text_at) x
 unfolding text_at
 text_later = several_read nothing (λ t. is_some (text_of t)) (one_token Text) (λ n. pick text_of) text_item
+
+pub text_reads : (x : Several (List ℕ)) → Reads goes_text (spell_text x) text_at x
+text_reads x = text_later x (length (spell_text x)) (omega arith)
 
 abbrev texts : Type 0
 texts = Several (Several (List ℕ))

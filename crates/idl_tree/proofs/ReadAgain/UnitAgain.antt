@@ -7,17 +7,18 @@ use Rattle.idl_lex.specs.declared.kinds.mark.Mark.TheVariants as mark
 use Rattle.idl_tree.specs.Construction.{spell_construction, spell_member, spell_member_type}
 use Rattle.idl_tree.specs.DataType.{spell_discrete, spell_string, spell_type}
 use Rattle.idl_tree.specs.Expression.{spell_expression}
-use Rattle.idl_tree.specs.Interface.{spell_attribute, spell_bases, spell_operation, spell_readonly_attribute}
+use Rattle.idl_tree.specs.Interface.{spell_attribute, spell_bases, spell_operation, spell_readonly_attribute, spell_text}
 use Rattle.idl_tree.specs.Lexeme.{Identifier, Lexeme, Lexemes, Punctuation, Word}
 use Rattle.idl_tree.specs.Name.{spell_name}
 use Rattle.idl_tree.specs.reading.ReadConstruction.{construction_at, goes_on}
 use Rattle.idl_tree.specs.reading.ReadExpression.{expression_at}
-use Rattle.idl_tree.specs.reading.ReadInterface.{attribute_with, made_operation, operation_with, readonly_attribute_with}
+use Rattle.idl_tree.specs.reading.ReadInterface.{attribute_with, made_operation, operation_with, readonly_attribute_with, text_at}
+use Rattle.idl_tree.specs.reading.ReadName.{name_at}
 use Rattle.idl_tree.specs.reading.ReadType.{discrete_at, string_type, string_with, type_at}
-use Rattle.idl_tree.specs.reading.ReadUnit.{bases_at, closing_at, constant_type_by, constant_type_with, constant_with, declaration_by, declaration_with, ended_with, exception_with, interface_at, interface_rest, made_constant, made_exception, made_typedef, module_at, native_at, opened, structure_declaration_with, typedef_with, union_declaration_with, unit_at, unit_by, unit_with}
+use Rattle.idl_tree.specs.reading.ReadUnit.{bases_at, closing_at, constant_type_by, constant_type_with, constant_with, declaration_by, declaration_with, ended_with, exception_with, interface_at, interface_rest, made_constant, made_exception, made_typedef, made_typeid, module_at, native_at, opened, structure_declaration_with, typedef_with, typeid_at, union_declaration_with, unit_at, unit_by, unit_with}
 use Rattle.idl_tree.specs.reading.Reading.{Reader, expect, first, ◌>>=◌}
 use Rattle.idl_tree.specs.reading.Tests.{identifier_at, is_mark, keyword_of}
-use Rattle.idl_tree.specs.Unit.{spell, spell_constant, spell_constant_type, spell_exception, spell_typedef}
+use Rattle.idl_tree.specs.Unit.{spell, spell_constant, spell_constant_type, spell_exception, spell_typedef, spell_typeid}
 use Rattle.idl_tree.specs.declared.declarations.construction.Construction.{Construction}
 use Rattle.idl_tree.specs.declared.declarations.construction.Member.{Member}
 use Rattle.idl_tree.specs.declared.declarations.data_type.TypeTree.{TypeTree}
@@ -37,11 +38,12 @@ use Rattle.idl_tree.specs.declared.unit.Exception.{Exception}
 use Rattle.idl_tree.specs.declared.unit.Tree.{Tree}
 use Rattle.idl_tree.specs.declared.unit.Tree.TheVariants as tree
 use Rattle.idl_tree.specs.declared.unit.Typedef.{Typedef}
+use Rattle.idl_tree.specs.declared.unit.Typeid.{Typeid}
 use Rattle.idl_tree.proofs.ReadAgain.AgainParts.{Reads, all_read, mapped_reads, nothing, spelled_reads, then_reads}
 use Rattle.idl_tree.proofs.ReadAgain.ConstructionAgain.{construction_is_again, ended_reads, member_again, member_at, member_type_at, member_type_is_again, members_at, members_read}
 use Rattle.idl_tree.proofs.Readers.ConstructionLaws.{declarators_at, spell_declarators}
 use Rattle.idl_tree.proofs.ReadAgain.ExpressionAgain.{goes_expression, name_again}
-use Rattle.idl_tree.proofs.ReadAgain.InterfaceAgain.{attribute_reads, goes_attribute, goes_operation, goes_readonly, names_read, operation_reads, readonly_attribute_reads, spell_operation_rest}
+use Rattle.idl_tree.proofs.ReadAgain.InterfaceAgain.{attribute_reads, goes_attribute, goes_operation, goes_readonly, goes_text, names_read, operation_reads, readonly_attribute_reads, spell_operation_rest, text_reads}
 use Rattle.idl_tree.proofs.ConstructionSpelling.{spell_members}
 use Rattle.idl_tree.proofs.Many.{many_spell}
 use Rattle.idl_tree.proofs.ReadAgain.MemberAgain.{declarators_later, goes_declarators}
@@ -114,6 +116,12 @@ exception_reads e n le rest h =
     mapped_reads nothing members (members_at n) (made_exception e.name) e.members
     (spelled_reads nothing members (spell_members e.members) (members_at n) e.members same_members (all_members_read e.members n (omega (arith, le, ap length same_members)))) rest h
 
+typeid_reads : (t : Typeid) → Reads goes_text (spell_typeid t) typeid_at t
+unfolding typeid_at
+typeid_reads t rest h =
+    then_reads (is_mark mark.ColonColon) goes_text (spell_name t.name) (spell_text t.text) name_at (λ name ts. text_at ts >>= λ x. Ok (made_typeid name x.0, x.1)) t.name t
+    (name_again t.name) (mapped_reads goes_text (spell_text t.text) text_at (made_typeid t.name) t.text (text_reads t.text)) (λ rest h. refl) rest h
+
 -- ---- openings and closings
 
 bases_reads : (o : Option (Several ScopedName)) (rest : Lexemes) → bases_at (spell_bases o ++ (Punctuation mark.OpenBrace ∷ rest)) ≡ Ok (o, Punctuation mark.OpenBrace ∷ rest)
@@ -170,6 +178,7 @@ type_is_operation (Some (Word word.Const)) h e r c ts = absurd cc
 type_is_operation (Some (Word word.Exception)) h e r c ts = absurd cc
 type_is_operation (Some (Word word.Readonly)) h e r c ts = absurd cc
 type_is_operation (Some (Word word.Attribute)) h e r c ts = absurd cc
+type_is_operation (Some (Word word.Typeid)) h e r c ts = absurd cc
 type_is_operation _ h e r c ts = refl
 
 type_is_no_closing : (t : Option Lexeme) → is_type_start t ≡ true → is_mark mark.CloseBrace t ≡ false
@@ -231,6 +240,7 @@ unit_reads (tree.Attribute a) n le rest h =
 unit_reads (tree.Operation o) n le rest h =
     ap (unit_at n) (append_assoc (spell_operation o) end rest) ∙ operation_first o n (end ++ rest) ∙ ap (ended_with (operation_tree n)) (sym (append_assoc (spell_operation o) end rest))
     ∙ ended_reads goes_operation tree.Operation (spell_operation o) (operation_with (type_at n)) o refl (operation_reads o n (omega (arith, le, length-append (spell_operation o) end))) rest refl
+unit_reads (tree.Typeid t) n le rest h = ended_reads goes_text tree.Typeid (spell_typeid t) typeid_at t refl (typeid_reads t) rest refl
 
 pub unit_again : (t : Tree) (n : ℕ) → length (spell t) < n → unit_at n (spell t) ≡ Ok (t, [])
 unit_again t n lt = ap (unit_at n) (sym (append-nil (spell t))) ∙ unit_reads t n (omega (arith, lt)) [] refl

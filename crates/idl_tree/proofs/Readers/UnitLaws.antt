@@ -7,19 +7,19 @@ use Rattle.idl_lex.specs.declared.kinds.mark.Mark.TheVariants as mark
 use Rattle.idl_tree.specs.Construction.{spell_construction, spell_enumeration, spell_member, spell_member_type}
 use Rattle.idl_tree.specs.DataType.{spell_discrete, spell_string, spell_type}
 use Rattle.idl_tree.specs.Expression.{spell_expression}
-use Rattle.idl_tree.specs.Interface.{spell_attribute, spell_bases, spell_operation, spell_readonly_attribute}
+use Rattle.idl_tree.specs.Interface.{spell_attribute, spell_bases, spell_operation, spell_readonly_attribute, spell_text}
 use Rattle.idl_tree.specs.Lexeme.{Identifier, Lexemes, Punctuation, Word}
 use Rattle.idl_tree.specs.Name.{spell_name}
 use Rattle.idl_tree.specs.reading.ReadConstruction.{construction_at, enumeration_at, listed_with, member_type_with, members_with, structure_rest_with, union_rest_with}
 use Rattle.idl_tree.specs.reading.ReadExpression.{expression_at}
-use Rattle.idl_tree.specs.reading.ReadInterface.{attribute_with, operation_with, readonly_attribute_with}
+use Rattle.idl_tree.specs.reading.ReadInterface.{attribute_with, operation_with, readonly_attribute_with, text_at}
 use Rattle.idl_tree.specs.reading.ReadName.{name_at}
 use Rattle.idl_tree.specs.reading.ReadType.{discrete_at, string_with, type_at}
-use Rattle.idl_tree.specs.reading.ReadUnit.{ahead, bases_at, closing_at, constant_type_by, constant_type_with, constant_with, declaration_by, declaration_with, ended_with, exception_with, interface_at, interface_rest, made_constant, made_exception, made_typedef, module_at, native_at, opened, structure_declaration_with, typedef_with, union_declaration_with, unit_at, unit_by, unit_with}
+use Rattle.idl_tree.specs.reading.ReadUnit.{ahead, bases_at, closing_at, constant_type_by, constant_type_with, constant_with, declaration_by, declaration_with, ended_with, exception_with, interface_at, interface_rest, made_constant, made_exception, made_typedef, made_typeid, module_at, native_at, opened, structure_declaration_with, typedef_with, typeid_at, union_declaration_with, unit_at, unit_by, unit_with}
 use Rattle.idl_tree.specs.reading.Reading.{Reader, expect, first, ◌>>=◌}
 use Rattle.idl_tree.specs.Several.{spell_listed}
 use Rattle.idl_tree.specs.reading.Tests.{identifier_at, is_mark, is_word, keyword_of}
-use Rattle.idl_tree.specs.Unit.{spell, spell_constant, spell_constant_type, spell_exception, spell_typedef}
+use Rattle.idl_tree.specs.Unit.{spell, spell_constant, spell_constant_type, spell_exception, spell_typedef, spell_typeid}
 use Rattle.idl_tree.specs.declared.declarations.construction.Construction.{Construction}
 use Rattle.idl_tree.specs.declared.declarations.construction.Construction.TheVariants as construction
 use Rattle.idl_tree.specs.declared.declarations.construction.Enumeration.{Enumeration}
@@ -40,10 +40,11 @@ use Rattle.idl_tree.specs.declared.unit.Exception.{Exception}
 use Rattle.idl_tree.specs.declared.unit.Tree.{Tree}
 use Rattle.idl_tree.specs.declared.unit.Tree.TheVariants as tree
 use Rattle.idl_tree.specs.declared.unit.Typedef.{Typedef}
+use Rattle.idl_tree.specs.declared.unit.Typeid.{Typeid}
 use Rattle.idl_tree.proofs.Readers.ConstructionLaws.{declarators_at, declarators_laws, listed_laws, member_type_laws, spell_declarators}
 use Rattle.idl_tree.proofs.ConstructionSpelling.{spell_construction-enumeration, spell_construction-structure, spell_construction-union, spell_members, spell_structure-made, spell_union-made}
 use Rattle.idl_tree.proofs.Readers.ExpressionLaws.{expression_laws}
-use Rattle.idl_tree.proofs.Readers.InterfaceLaws.{attribute_laws, readonly_attribute_laws}
+use Rattle.idl_tree.proofs.Readers.InterfaceLaws.{attribute_laws, readonly_attribute_laws, text_laws}
 use Rattle.idl_tree.proofs.Laws.{Laws, behind_at, choice_laws, deeper, done_laws, either, either_spells, ends_at, follow_laws, last_laws, mapped_at, next_at, ok, same, shape, skip_laws, then_laws, valued_laws}
 use Rattle.idl_tree.proofs.Readers.NameLaws.{flat_map-many, name_laws}
 use Rattle.idl_tree.proofs.Readers.NestedConstructionLaws.{cases_behind, construction_laws, enumeration_laws, members_behind, members_laws, more_room, spell_structure_rest, spell_switched, structure_of, structure_parts, structure_rest_laws, switch_parts, union_of, union_rest_laws}
@@ -112,6 +113,16 @@ exception_laws d N re rt rc expressions types constructions =
 native_laws : (d N : ℕ) → Laws d N same (λ name. Word word.Native ∷ Identifier name ∷ []) (λ n. native_at)
 unfolding native_at
 native_laws d N = skip_laws d N (is_word word.Native) (Word word.Native) same (one_token Identifier) (λ n. identifier_at) (only_word word.Native) (identifier_laws (suc d) N)
+
+typeid_laws : (d N : ℕ) → Laws d N same spell_typeid (λ n. typeid_at)
+unfolding typeid_at
+typeid_laws d N =
+    let texted : ScopedName → ℕ → Reader Typeid = λ name. mapped_at (made_typeid name) (λ n. text_at) in
+    let value : ScopedName × Several (List ℕ) → Typeid = λ p. made_typeid p.0 p.1 in
+    shape d N value (λ p. Word word.Typeid ∷ (spell_name p.0 ++ spell_text p.1)) spell_typeid (behind_at (is_word word.Typeid) (next_at (λ n. name_at) texted)) (λ n. typeid_at) (λ p. refl) (λ n ts. refl)
+    (skip_laws d N (is_word word.Typeid) (Word word.Typeid) value (λ p. spell_name p.0 ++ spell_text p.1) (next_at (λ n. name_at) texted) (only_word word.Typeid)
+    (then_laws (suc d) N spell_name (λ n. name_at) made_typeid spell_text texted (name_laws (suc d) N)
+    (λ name. last_laws (suc d) N (made_typeid name) spell_text (λ n. text_at) (text_laws (suc d) N))))
 
 -- ---- openings and closings
 
@@ -319,6 +330,7 @@ declared_each d N re rt rc es tys cs (Some word.Exception) = ended_laws d N tree
 declared_each d N re rt rc es tys cs (Some word.Readonly) =
     ended_laws d N tree.ReadonlyAttribute spell_readonly_attribute (λ n. readonly_attribute_with (rt n)) (λ x. refl) (readonly_attribute_laws d N rt (more_room d N 2 spell_type rt tys))
 declared_each d N re rt rc es tys cs (Some word.Attribute) = ended_laws d N tree.Attribute spell_attribute (λ n. attribute_with (rt n)) (λ x. refl) (attribute_laws d N rt (more_room d N 1 spell_type rt tys))
+declared_each d N re rt rc es tys cs (Some word.Typeid) = ended_laws d N tree.Typeid spell_typeid (λ n. typeid_at) (λ x. refl) (typeid_laws d N)
 declared_each d N re rt rc es tys cs _ = ended_laws d N tree.Operation spell_operation (λ n. operation_with (rt n)) (λ x. refl) (operation_laws d N rt tys)
 
 declared_laws : (d N : ℕ) (re : ℕ → Reader Expression) (rt : ℕ → Reader TypeTree) (rc : ℕ → Reader Construction) → Laws d N same spell_expression re → Laws d N same spell_type rt → Laws d N same spell_construction rc

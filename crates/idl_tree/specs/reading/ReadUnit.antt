@@ -5,7 +5,7 @@ use Rattle.idl_lex.specs.declared.kinds.keyword.Keyword.TheVariants as word
 use Rattle.idl_lex.specs.declared.kinds.mark.Mark.TheVariants as mark
 use Rattle.idl_tree.specs.reading.ReadConstruction.{listed_with, member_type_with, members_with, structure_rest_with, union_rest_with, enumeration_at, construction_at}
 use Rattle.idl_tree.specs.reading.ReadExpression.{expression_at}
-use Rattle.idl_tree.specs.reading.ReadInterface.{readonly_attribute_with, attribute_with, operation_with}
+use Rattle.idl_tree.specs.reading.ReadInterface.{readonly_attribute_with, attribute_with, operation_with, text_at}
 use Rattle.idl_tree.specs.reading.ReadName.{name_at}
 use Rattle.idl_tree.specs.reading.ReadType.{discrete_at, string_with, declarator_with, type_at}
 use Rattle.idl_tree.specs.reading.Reading.{Reader, ◌>>=◌, first, expect}
@@ -27,6 +27,7 @@ use Rattle.idl_tree.specs.declared.unit.Exception.{Exception}
 use Rattle.idl_tree.specs.declared.unit.Tree.{Tree}
 use Rattle.idl_tree.specs.declared.unit.Tree.TheVariants as tree
 use Rattle.idl_tree.specs.declared.unit.Typedef.{Typedef}
+use Rattle.idl_tree.specs.declared.unit.Typeid.{Typeid}
 
 abbrev pub made_typedef : MemberType → Several Declarator → Typedef
 made_typedef kind declarators = record { kind = kind; declarators = declarators }
@@ -83,6 +84,17 @@ unfoldable pub native_at : Reader (List ℕ)
 native_at ts = do
   rest ← expect (is_word word.Native) ts
   identifier_at rest
+
+abbrev pub made_typeid : ScopedName → Several (List ℕ) → Typeid
+made_typeid name text = record { name = name; text = text }
+
+-- "typeid" name text
+unfoldable pub typeid_at : Reader Typeid
+typeid_at ts = do
+  rest ← expect (is_word word.Typeid) ts
+  name ← name_at rest
+  text ← text_at name.1
+  Ok (made_typeid name.0 text.0, text.1)
 
 -- closing = "}" ";"
 unfoldable pub closing_at : Reader Tree
@@ -179,6 +191,8 @@ declaration_by expression type inner (Some word.Readonly) ts =
     readonly_attribute_with type ts >>= λ a. Ok (tree.ReadonlyAttribute a.0, a.1)
 declaration_by expression type inner (Some word.Attribute) ts =
     attribute_with type ts >>= λ a. Ok (tree.Attribute a.0, a.1)
+declaration_by expression type inner (Some word.Typeid) ts =
+    typeid_at ts >>= λ t. Ok (tree.Typeid t.0, t.1)
 declaration_by expression type inner others ts =
     operation_with type ts >>= λ o. Ok (tree.Operation o.0, o.1)
 
