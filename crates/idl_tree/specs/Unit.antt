@@ -1,5 +1,5 @@
 -- Units: one equation for each line of the grammar.
-use Rattle.std.specs.Prelude.{[], ◌∷◌, ◌++◌, flat_map}
+use Rattle.std.specs.Prelude.{Bool, true, false, [], ◌∷◌, ◌++◌, flat_map}
 use Rattle.idl_lex.specs.declared.kinds.keyword.Keyword.TheVariants as word
 use Rattle.idl_lex.specs.declared.kinds.mark.Mark.TheVariants as mark
 use Rattle.idl_tree.specs.Construction.{spell_construction, spell_member, spell_member_type}
@@ -17,6 +17,7 @@ use Rattle.idl_tree.specs.declared.unit.Tree.{Tree}
 use Rattle.idl_tree.specs.declared.unit.Tree.TheVariants as tree
 use Rattle.idl_tree.specs.declared.unit.Typedef.{Typedef}
 use Rattle.idl_tree.specs.declared.unit.Typeid.{Typeid}
+use Rattle.idl_tree.specs.declared.unit.Typeprefix.{Typeprefix}
 
 -- typedef = "typedef" ( type | constr ) declr/","
 abbrev pub spell_typedef : Typedef → Lexemes
@@ -46,6 +47,15 @@ spell_exception e =
 abbrev pub spell_typeid : Typeid → Lexemes
 spell_typeid t = Word word.Typeid ∷ (spell_name t.name ++ spell_text t.text)
 
+abbrev pub spell_equals : Bool → Lexemes
+spell_equals true = Punctuation mark.Equals ∷ []
+spell_equals false = []
+
+-- "typeprefix" name ["="] text
+abbrev pub spell_typeprefix : Typeprefix → Lexemes
+spell_typeprefix t =
+    Word word.Typeprefix ∷ (spell_name t.name ++ (spell_equals t.has_equals ++ spell_text t.text))
+
 -- an opening, a closing, or a declaration with its `;`
 abbrev pub ended : Lexemes → Lexemes
 ended lexemes = lexemes ++ Punctuation mark.Semicolon ∷ []
@@ -64,3 +74,4 @@ spell (tree.ReadonlyAttribute a) = ended (spell_readonly_attribute a)
 spell (tree.Attribute a) = ended (spell_attribute a)
 spell (tree.Operation o) = ended (spell_operation o)
 spell (tree.Typeid t) = ended (spell_typeid t)
+spell (tree.Typeprefix t) = ended (spell_typeprefix t)

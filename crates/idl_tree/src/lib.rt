@@ -20,4 +20,4 @@ pub use name::ScopedName;
 pub use name_parts::{last_at, name_length, part_at};
 pub use pragma::Pragma;
 pub use several::Several;
-pub use unit::{Constant, ConstantTypeTree, Exception, Tree, Typedef, Typeid};
+pub use unit::{Constant, ConstantTypeTree, Exception, Tree, Typedef, Typeid, Typeprefix};

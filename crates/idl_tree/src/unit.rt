@@ -90,6 +90,23 @@ impl Drop for Typeid {
     }
 }
 
+/// What the ids begin with of what a name denotes, and of what is in it.
+pub struct Typeprefix {
+    pub name: ScopedName,
+    pub has_equals: bool,
+    pub text: Several<Seq<u16>>,
+}
+
+impl Drop for Typeprefix {
+    fn drop(self) {
+        let Typeprefix {
+            name: _name,
+            has_equals: _has_equals,
+            text: _text,
+        } = self;
+    }
+}
+
 /// What a unit is.
 pub enum Tree {
     Closing,
@@ -105,6 +122,7 @@ pub enum Tree {
     Attribute(Attribute),
     Operation(Operation),
     Typeid(Typeid),
+    Typeprefix(Typeprefix),
 }
 
 impl Drop for Tree {
@@ -123,6 +141,7 @@ impl Drop for Tree {
             Tree::Attribute(_a) => {}
             Tree::Operation(_a) => {}
             Tree::Typeid(_a) => {}
+            Tree::Typeprefix(_a) => {}
         }
     }
 }

@@ -1,7 +1,7 @@
 -- The keywords, in alphabetical order.
 use Rattle.std.specs.Prelude.{ℕ, List, [], ◌∷◌, codes, find, Option}
 use Rattle.std.specs.Str.{bytes_eq, str_to_ascii_lowercase}
-use Rattle.idl_lex.specs.declared.kinds.keyword.Keyword.TheVariants.{Any, Attribute, Boolean, Case, Char, Const, Context, Default, Double, Enum, Exception, False, Float, Getraises, In, Inout, Int16, Int32, Int64, Int8, Interface, Local, Long, Module, Native, Object, Octet, Oneway, Out, Raises, Readonly, Sequence, Setraises, Short, String, Struct, Switch, True, Typedef, Typeid, Uint16, Uint32, Uint64, Uint8, Union, Unsigned, Void, Wchar, Wstring}
+use Rattle.idl_lex.specs.declared.kinds.keyword.Keyword.TheVariants.{Any, Attribute, Boolean, Case, Char, Const, Context, Default, Double, Enum, Exception, False, Float, Getraises, In, Inout, Int16, Int32, Int64, Int8, Interface, Local, Long, Module, Native, Object, Octet, Oneway, Out, Raises, Readonly, Sequence, Setraises, Short, String, Struct, Switch, True, Typedef, Typeid, Typeprefix, Uint16, Uint32, Uint64, Uint8, Union, Unsigned, Void, Wchar, Wstring}
 use Rattle.idl_lex.specs.declared.kinds.kind.TokenKind.{TokenKind}
 use Rattle.idl_lex.specs.declared.kinds.kind.TokenKind.TheVariants.{Accepted, Refused}
 
@@ -39,7 +39,7 @@ keywords =
     ∷ (codes "struct", Accepted Struct) ∷ (codes "supports", Refused)
     ∷ (codes "switch", Accepted Switch) ∷ (codes "TRUE", Accepted True)
     ∷ (codes "truncatable", Refused) ∷ (codes "typedef", Accepted Typedef)
-    ∷ (codes "typeid", Accepted Typeid) ∷ (codes "typeprefix", Refused) ∷ (codes "uint16", Accepted Uint16)
+    ∷ (codes "typeid", Accepted Typeid) ∷ (codes "typeprefix", Accepted Typeprefix) ∷ (codes "uint16", Accepted Uint16)
     ∷ (codes "uint32", Accepted Uint32) ∷ (codes "uint64", Accepted Uint64)
     ∷ (codes "uint8", Accepted Uint8) ∷ (codes "union", Accepted Union)
     ∷ (codes "unsigned", Accepted Unsigned) ∷ (codes "uses", Refused)

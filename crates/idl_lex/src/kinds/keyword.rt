@@ -43,6 +43,7 @@ pub enum Keyword {
     True,
     Typedef,
     Typeid,
+    Typeprefix,
     Uint16,
     Uint32,
     Uint64,

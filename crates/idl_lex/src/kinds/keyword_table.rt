@@ -71,7 +71,7 @@ const KEYWORDS: [WordEntry<TokenKind>; 72] = [
     (b"truncatable", TokenKind::Refused),
     (b"typedef", TokenKind::Accepted(Keyword::Typedef)),
     (b"typeid", TokenKind::Accepted(Keyword::Typeid)),
-    (b"typeprefix", TokenKind::Refused),
+    (b"typeprefix", TokenKind::Accepted(Keyword::Typeprefix)),
     (b"uint16", TokenKind::Accepted(Keyword::Uint16)),
     (b"uint32", TokenKind::Accepted(Keyword::Uint32)),
     (b"uint64", TokenKind::Accepted(Keyword::Uint64)),

@@ -15,10 +15,10 @@ use Rattle.idl_tree.specs.reading.ReadExpression.{expression_at}
 use Rattle.idl_tree.specs.reading.ReadInterface.{attribute_with, made_operation, operation_with, readonly_attribute_with, text_at}
 use Rattle.idl_tree.specs.reading.ReadName.{name_at}
 use Rattle.idl_tree.specs.reading.ReadType.{discrete_at, string_type, string_with, type_at}
-use Rattle.idl_tree.specs.reading.ReadUnit.{bases_at, closing_at, constant_type_by, constant_type_with, constant_with, declaration_by, declaration_with, ended_with, exception_with, interface_at, interface_rest, made_constant, made_exception, made_typedef, made_typeid, module_at, native_at, opened, structure_declaration_with, typedef_with, typeid_at, union_declaration_with, unit_at, unit_by, unit_with}
+use Rattle.idl_tree.specs.reading.ReadUnit.{bases_at, closing_at, constant_type_by, constant_type_with, constant_with, declaration_by, declaration_with, ended_with, equals_at, exception_with, interface_at, interface_rest, made_constant, made_exception, made_typedef, made_typeid, made_typeprefix, module_at, native_at, opened, structure_declaration_with, typedef_with, typeid_at, typeprefix_at, union_declaration_with, unit_at, unit_by, unit_with}
 use Rattle.idl_tree.specs.reading.Reading.{Reader, expect, first, ◌>>=◌}
 use Rattle.idl_tree.specs.reading.Tests.{identifier_at, is_mark, keyword_of}
-use Rattle.idl_tree.specs.Unit.{spell, spell_constant, spell_constant_type, spell_exception, spell_typedef, spell_typeid}
+use Rattle.idl_tree.specs.Unit.{spell, spell_constant, spell_constant_type, spell_equals, spell_exception, spell_typedef, spell_typeid, spell_typeprefix}
 use Rattle.idl_tree.specs.declared.declarations.construction.Construction.{Construction}
 use Rattle.idl_tree.specs.declared.declarations.construction.Member.{Member}
 use Rattle.idl_tree.specs.declared.declarations.data_type.TypeTree.{TypeTree}
@@ -39,7 +39,8 @@ use Rattle.idl_tree.specs.declared.unit.Tree.{Tree}
 use Rattle.idl_tree.specs.declared.unit.Tree.TheVariants as tree
 use Rattle.idl_tree.specs.declared.unit.Typedef.{Typedef}
 use Rattle.idl_tree.specs.declared.unit.Typeid.{Typeid}
-use Rattle.idl_tree.proofs.ReadAgain.AgainParts.{Reads, all_read, mapped_reads, nothing, spelled_reads, then_reads}
+use Rattle.idl_tree.specs.declared.unit.Typeprefix.{Typeprefix}
+use Rattle.idl_tree.proofs.ReadAgain.AgainParts.{Parted, Reads, all_read, mapped_reads, nothing, spelled_reads, then_reads}
 use Rattle.idl_tree.proofs.ReadAgain.ConstructionAgain.{construction_is_again, ended_reads, member_again, member_at, member_type_at, member_type_is_again, members_at, members_read}
 use Rattle.idl_tree.proofs.Readers.ConstructionLaws.{declarators_at, spell_declarators}
 use Rattle.idl_tree.proofs.ReadAgain.ExpressionAgain.{goes_expression, name_again}
@@ -122,6 +123,24 @@ typeid_reads t rest h =
     then_reads (is_mark mark.ColonColon) goes_text (spell_name t.name) (spell_text t.text) name_at (λ name ts. text_at ts >>= λ x. Ok (made_typeid name x.0, x.1)) t.name t
     (name_again t.name) (mapped_reads goes_text (spell_text t.text) text_at (made_typeid t.name) t.text (text_reads t.text)) (λ rest h. refl) rest h
 
+equals_reads : (b : Bool) → Reads (is_mark mark.Equals) (spell_equals b) equals_at b
+unfolding equals_at
+equals_reads true rest h = refl
+equals_reads false rest h = rw h refl
+
+equals_parted : (b : Bool) (x : Several (List ℕ)) → Parted (is_mark mark.ColonColon) goes_text (spell_equals b ++ spell_text x)
+equals_parted true x rest h = refl
+equals_parted false x rest h = refl
+
+typeprefix_reads : (t : Typeprefix) → Reads goes_text (spell_typeprefix t) typeprefix_at t
+unfolding typeprefix_at
+typeprefix_reads t rest h =
+    then_reads (is_mark mark.ColonColon) goes_text (spell_name t.name) (spell_equals t.has_equals ++ spell_text t.text) name_at (λ name ts. equals_at ts >>= λ b. text_at b.1 >>= λ x. Ok (made_typeprefix name b.0 x.0, x.1)) t.name t
+    (name_again t.name)
+    (then_reads (is_mark mark.Equals) goes_text (spell_equals t.has_equals) (spell_text t.text) equals_at (λ b ts. text_at ts >>= λ x. Ok (made_typeprefix t.name b x.0, x.1)) t.has_equals t
+    (equals_reads t.has_equals) (mapped_reads goes_text (spell_text t.text) text_at (made_typeprefix t.name t.has_equals) t.text (text_reads t.text)) (λ rest h. refl))
+    (equals_parted t.has_equals t.text) rest h
+
 -- ---- openings and closings
 
 bases_reads : (o : Option (Several ScopedName)) (rest : Lexemes) → bases_at (spell_bases o ++ (Punctuation mark.OpenBrace ∷ rest)) ≡ Ok (o, Punctuation mark.OpenBrace ∷ rest)
@@ -179,6 +198,7 @@ type_is_operation (Some (Word word.Exception)) h e r c ts = absurd cc
 type_is_operation (Some (Word word.Readonly)) h e r c ts = absurd cc
 type_is_operation (Some (Word word.Attribute)) h e r c ts = absurd cc
 type_is_operation (Some (Word word.Typeid)) h e r c ts = absurd cc
+type_is_operation (Some (Word word.Typeprefix)) h e r c ts = absurd cc
 type_is_operation _ h e r c ts = refl
 
 type_is_no_closing : (t : Option Lexeme) → is_type_start t ≡ true → is_mark mark.CloseBrace t ≡ false
@@ -241,6 +261,7 @@ unit_reads (tree.Operation o) n le rest h =
     ap (unit_at n) (append_assoc (spell_operation o) end rest) ∙ operation_first o n (end ++ rest) ∙ ap (ended_with (operation_tree n)) (sym (append_assoc (spell_operation o) end rest))
     ∙ ended_reads goes_operation tree.Operation (spell_operation o) (operation_with (type_at n)) o refl (operation_reads o n (omega (arith, le, length-append (spell_operation o) end))) rest refl
 unit_reads (tree.Typeid t) n le rest h = ended_reads goes_text tree.Typeid (spell_typeid t) typeid_at t refl (typeid_reads t) rest refl
+unit_reads (tree.Typeprefix t) n le rest h = ended_reads goes_text tree.Typeprefix (spell_typeprefix t) typeprefix_at t refl (typeprefix_reads t) rest refl
 
 pub unit_again : (t : Tree) (n : ℕ) → length (spell t) < n → unit_at n (spell t) ≡ Ok (t, [])
 unit_again t n lt = ap (unit_at n) (sym (append-nil (spell t))) ∙ unit_reads t n (omega (arith, lt)) [] refl

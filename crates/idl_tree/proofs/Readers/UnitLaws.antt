@@ -15,11 +15,11 @@ use Rattle.idl_tree.specs.reading.ReadExpression.{expression_at}
 use Rattle.idl_tree.specs.reading.ReadInterface.{attribute_with, operation_with, readonly_attribute_with, text_at}
 use Rattle.idl_tree.specs.reading.ReadName.{name_at}
 use Rattle.idl_tree.specs.reading.ReadType.{discrete_at, string_with, type_at}
-use Rattle.idl_tree.specs.reading.ReadUnit.{ahead, bases_at, closing_at, constant_type_by, constant_type_with, constant_with, declaration_by, declaration_with, ended_with, exception_with, interface_at, interface_rest, made_constant, made_exception, made_typedef, made_typeid, module_at, native_at, opened, structure_declaration_with, typedef_with, typeid_at, union_declaration_with, unit_at, unit_by, unit_with}
+use Rattle.idl_tree.specs.reading.ReadUnit.{ahead, bases_at, closing_at, constant_type_by, constant_type_with, constant_with, declaration_by, declaration_with, ended_with, equals_at, exception_with, interface_at, interface_rest, made_constant, made_exception, made_typedef, made_typeid, made_typeprefix, module_at, native_at, opened, structure_declaration_with, typedef_with, typeid_at, typeprefix_at, union_declaration_with, unit_at, unit_by, unit_with}
 use Rattle.idl_tree.specs.reading.Reading.{Reader, expect, first, ◌>>=◌}
 use Rattle.idl_tree.specs.Several.{spell_listed}
 use Rattle.idl_tree.specs.reading.Tests.{identifier_at, is_mark, is_word, keyword_of}
-use Rattle.idl_tree.specs.Unit.{spell, spell_constant, spell_constant_type, spell_exception, spell_typedef, spell_typeid}
+use Rattle.idl_tree.specs.Unit.{spell, spell_constant, spell_constant_type, spell_equals, spell_exception, spell_typedef, spell_typeid, spell_typeprefix}
 use Rattle.idl_tree.specs.declared.declarations.construction.Construction.{Construction}
 use Rattle.idl_tree.specs.declared.declarations.construction.Construction.TheVariants as construction
 use Rattle.idl_tree.specs.declared.declarations.construction.Enumeration.{Enumeration}
@@ -41,6 +41,7 @@ use Rattle.idl_tree.specs.declared.unit.Tree.{Tree}
 use Rattle.idl_tree.specs.declared.unit.Tree.TheVariants as tree
 use Rattle.idl_tree.specs.declared.unit.Typedef.{Typedef}
 use Rattle.idl_tree.specs.declared.unit.Typeid.{Typeid}
+use Rattle.idl_tree.specs.declared.unit.Typeprefix.{Typeprefix}
 use Rattle.idl_tree.proofs.Readers.ConstructionLaws.{declarators_at, declarators_laws, listed_laws, member_type_laws, spell_declarators}
 use Rattle.idl_tree.proofs.ConstructionSpelling.{spell_construction-enumeration, spell_construction-structure, spell_construction-union, spell_members, spell_structure-made, spell_union-made}
 use Rattle.idl_tree.proofs.Readers.ExpressionLaws.{expression_laws}
@@ -123,6 +124,30 @@ typeid_laws d N =
     (skip_laws d N (is_word word.Typeid) (Word word.Typeid) value (λ p. spell_name p.0 ++ spell_text p.1) (next_at (λ n. name_at) texted) (only_word word.Typeid)
     (then_laws (suc d) N spell_name (λ n. name_at) made_typeid spell_text texted (name_laws (suc d) N)
     (λ name. last_laws (suc d) N (made_typeid name) spell_text (λ n. text_at) (text_laws (suc d) N))))
+
+equals_laws : (d N : ℕ) → Laws d N same spell_equals (λ n. equals_at)
+unfolding equals_at
+equals_laws d N =
+    shape d N (either (λ (u : Unit {0}). true) (λ (u : Unit {0}). false)) (either (λ u. Punctuation mark.Equals ∷ []) (λ u. [])) spell_equals
+    (λ n ts. cond (is_mark mark.Equals (first ts)) (close_at mark.Equals true n ts) (ends_at false n ts)) (λ n. equals_at) spells (λ n ts. refl)
+    (choice_laws d N (is_mark mark.Equals) (λ (u : Unit {0}). true) (λ u. Punctuation mark.Equals ∷ []) (close_at mark.Equals true) (λ (u : Unit {0}). false) (λ u. []) (ends_at false) (close_laws d N mark.Equals true) (done_laws d N false))
+  where
+    spells : (x : Unit {0} ⊎ Unit {0}) → spell_equals (either (λ (u : Unit {0}). true) (λ (u : Unit {0}). false) x) ≡ either (λ u. Punctuation mark.Equals ∷ []) (λ u. []) x
+    spells (inl u) = refl
+    spells (inr u) = refl
+
+typeprefix_laws : (d N : ℕ) → Laws d N same spell_typeprefix (λ n. typeprefix_at)
+unfolding typeprefix_at
+typeprefix_laws d N =
+    let texted : ScopedName → Bool → ℕ → Reader Typeprefix = λ name b. mapped_at (made_typeprefix name b) (λ n. text_at) in
+    let named : ScopedName → ℕ → Reader Typeprefix = λ name. next_at (λ n. equals_at) (texted name) in
+    let value : ScopedName × (Bool × Several (List ℕ)) → Typeprefix = λ p. made_typeprefix p.0 p.1.0 p.1.1 in
+    let spell_rest : Bool × Several (List ℕ) → Lexemes = λ q. spell_equals q.0 ++ spell_text q.1 in
+    shape d N value (λ p. Word word.Typeprefix ∷ (spell_name p.0 ++ spell_rest p.1)) spell_typeprefix (behind_at (is_word word.Typeprefix) (next_at (λ n. name_at) named)) (λ n. typeprefix_at) (λ p. refl) (λ n ts. refl)
+    (skip_laws d N (is_word word.Typeprefix) (Word word.Typeprefix) value (λ p. spell_name p.0 ++ spell_rest p.1) (next_at (λ n. name_at) named) (only_word word.Typeprefix)
+    (then_laws (suc d) N spell_name (λ n. name_at) (λ (name : ScopedName) (q : Bool × Several (List ℕ)). made_typeprefix name q.0 q.1) spell_rest named (name_laws (suc d) N)
+    (λ name. then_laws (suc d) N spell_equals (λ n. equals_at) (made_typeprefix name) spell_text (texted name) (equals_laws (suc d) N)
+    (λ b. last_laws (suc d) N (made_typeprefix name b) spell_text (λ n. text_at) (text_laws (suc d) N)))))
 
 -- ---- openings and closings
 
@@ -331,6 +356,7 @@ declared_each d N re rt rc es tys cs (Some word.Readonly) =
     ended_laws d N tree.ReadonlyAttribute spell_readonly_attribute (λ n. readonly_attribute_with (rt n)) (λ x. refl) (readonly_attribute_laws d N rt (more_room d N 2 spell_type rt tys))
 declared_each d N re rt rc es tys cs (Some word.Attribute) = ended_laws d N tree.Attribute spell_attribute (λ n. attribute_with (rt n)) (λ x. refl) (attribute_laws d N rt (more_room d N 1 spell_type rt tys))
 declared_each d N re rt rc es tys cs (Some word.Typeid) = ended_laws d N tree.Typeid spell_typeid (λ n. typeid_at) (λ x. refl) (typeid_laws d N)
+declared_each d N re rt rc es tys cs (Some word.Typeprefix) = ended_laws d N tree.Typeprefix spell_typeprefix (λ n. typeprefix_at) (λ x. refl) (typeprefix_laws d N)
 declared_each d N re rt rc es tys cs _ = ended_laws d N tree.Operation spell_operation (λ n. operation_with (rt n)) (λ x. refl) (operation_laws d N rt tys)
 
 declared_laws : (d N : ℕ) (re : ℕ → Reader Expression) (rt : ℕ → Reader TypeTree) (rc : ℕ → Reader Construction) → Laws d N same spell_expression re → Laws d N same spell_type rt → Laws d N same spell_construction rc

@@ -1,5 +1,5 @@
 -- Reading of units.
-use Rattle.std.specs.Prelude.{ℕ, List, drop, Option, Some, None, Ok, Bool, if◌then◌else◌}
+use Rattle.std.specs.Prelude.{ℕ, List, drop, Option, Some, None, Ok, Bool, true, false, if◌then◌else◌}
 use Rattle.idl_lex.specs.declared.kinds.keyword.Keyword.{Keyword}
 use Rattle.idl_lex.specs.declared.kinds.keyword.Keyword.TheVariants as word
 use Rattle.idl_lex.specs.declared.kinds.mark.Mark.TheVariants as mark
@@ -28,6 +28,7 @@ use Rattle.idl_tree.specs.declared.unit.Tree.{Tree}
 use Rattle.idl_tree.specs.declared.unit.Tree.TheVariants as tree
 use Rattle.idl_tree.specs.declared.unit.Typedef.{Typedef}
 use Rattle.idl_tree.specs.declared.unit.Typeid.{Typeid}
+use Rattle.idl_tree.specs.declared.unit.Typeprefix.{Typeprefix}
 
 abbrev pub made_typedef : MemberType → Several Declarator → Typedef
 made_typedef kind declarators = record { kind = kind; declarators = declarators }
@@ -95,6 +96,25 @@ typeid_at ts = do
   name ← name_at rest
   text ← text_at name.1
   Ok (made_typeid name.0 text.0, text.1)
+
+-- ["="]
+unfoldable pub equals_at : Reader Bool
+equals_at ts =
+    if is_mark mark.Equals (first ts)
+    then (expect (is_mark mark.Equals) ts >>= λ rest. Ok (true, rest)) else Ok (false, ts)
+
+abbrev pub made_typeprefix : ScopedName → Bool → Several (List ℕ) → Typeprefix
+made_typeprefix name has_equals text =
+    record { name = name; has_equals = has_equals; text = text }
+
+-- "typeprefix" name ["="] text
+unfoldable pub typeprefix_at : Reader Typeprefix
+typeprefix_at ts = do
+  rest ← expect (is_word word.Typeprefix) ts
+  name ← name_at rest
+  equals ← equals_at name.1
+  text ← text_at equals.1
+  Ok (made_typeprefix name.0 equals.0 text.0, text.1)
 
 -- closing = "}" ";"
 unfoldable pub closing_at : Reader Tree
@@ -193,6 +213,8 @@ declaration_by expression type inner (Some word.Attribute) ts =
     attribute_with type ts >>= λ a. Ok (tree.Attribute a.0, a.1)
 declaration_by expression type inner (Some word.Typeid) ts =
     typeid_at ts >>= λ t. Ok (tree.Typeid t.0, t.1)
+declaration_by expression type inner (Some word.Typeprefix) ts =
+    typeprefix_at ts >>= λ t. Ok (tree.Typeprefix t.0, t.1)
 declaration_by expression type inner others ts =
     operation_with type ts >>= λ o. Ok (tree.Operation o.0, o.1)
 

@@ -50,14 +50,14 @@ static KINDS: [&str; 15] = [
     "'' · 'ab' · '\\qa' · '\\xg' · '\\u0041' => Bad(NotOneCharacter)",
     "'\\q' · '\\400' · L'\\400' · \"\\u0041\" · \"\\0\" · \"a\0\" => Bad(BadEscape)",
     "abstract · component · consumes · custom · emits · eventtype · factory · finder · fixed · home · import · multiple · \
-     primarykey · private · provides · public · publishes · supports · truncatable · typeprefix · uses · \
+     primarykey · private · provides · public · publishes · supports · truncatable · uses · \
      ValueBase · valuetype => like a keyword: Refused",
     "; · , · { · } · ( · ) · :: · : · < · > · = · [ · ] · + · - · * · / · % · ~ · | · ^ · & · << · >> => Punctuation",
     "# · ## · ! · ? · . · && · || · == · != · <= · >= => Preprocessing",
     "any · attribute · boolean · case · char · const · context · default · double · enum · exception · FALSE · float · \
      getraises · in · inout · int16 · int32 · int64 · int8 · interface · local · long · module · native · Object · \
      octet · oneway · out · raises · readonly · sequence · setraises · short · string · struct · switch · TRUE · \
-     typedef · typeid · uint16 · uint32 · uint64 · uint8 · union · unsigned · void · wchar · wstring => like a keyword: Accepted",
+     typedef · typeid · typeprefix · uint16 · uint32 · uint64 · uint8 · union · unsigned · void · wchar · wstring => like a keyword: Accepted",
     "0 · 00 => Integer 0 ¶ 12 => Integer 12 ¶ 0755 => Integer 493 ¶ 0xfF => Integer 255 ¶ 0X1e => Integer 30",
     "18446744073709551615 · 01777777777777777777777 => Integer 18446744073709551615",
 ];
