@@ -67,7 +67,7 @@ fn name_word(name: &ScopedName) -> &'static str {
     }
 }
 
-static UNITS: [&str; 6] = [
+static UNITS: [&str; 7] = [
     "}; module M { interface I { interface I : A { interface I : ::A, B { local interface I { interface I; \
      local interface I; struct S; union U; native N; => tree ¶ typedef A B; typedef A B, C[1]; typedef A B[1]; \
      typedef struct S { A a; } T; enum E { A }; enum E { A, B, C }; struct S { A a; }; struct S { A a, b; A c; }; \
@@ -93,6 +93,10 @@ static UNITS: [&str; 6] = [
      union U switch (boolean) { default: A a; }; union U switch (octet) { default: A a; }; => tree",
     "const A K = ::A::B; const A K = 0x1F; const A K = 'a'; const A K = L'a'; const A K = \"a\" \"\" \"b\"; \
      const A K = L\"a\" L\"b\"; const A K = TRUE; const A K = FALSE; const A K = (1 | +2 * ~3); => tree",
+    "typedef int8 T; typedef int16 T; const int32 K = A; const int64 K = A; typedef uint8 T; typedef sequence<uint16> T; \
+     union U switch (uint32) { default: A a; }; uint64 f(in int8 a); => tree ¶ struct S { }; struct S : A { }; \
+     struct S : ::A::B { A a; A b; }; struct S { struct T : A { } b; }; => tree ¶ typeid A \"x\"; \
+     typeid ::A::B \"x\" \"y\"; typeprefix A \"x\"; typeprefix A::B = \"x\" \"y\"; => tree",
 ];
 
 // 64 brackets may stand in one another; one more is a fault. A scope is opened by a unit, so that no unit nests deeply.
@@ -103,10 +107,12 @@ static LONG: [&str; 4] = [
     "typedef A B`10000×\n[1]`; => tree ¶ struct S {`10000×A a;\n` => E20",
 ];
 
-static FAULTS: [&str; 9] = [
+static FAULTS: [&str; 11] = [
     // The first of several faults, before a tree that isn't there.
     "typedef Boolean 08; => E36 1",
-    "A A · x x x x · struct S { }; · void f() context (L\"a\"); => E20",
+    "A A · x x x x · union U switch (A) { }; · void f() context (L\"a\"); => E20",
+    "typedef unsigned int8 T; · struct S : { }; · struct S : A; · struct S : A, B { }; · struct S : int8 { }; => E20",
+    "typeid A; · typeid A L\"x\"; · typeid A = \"x\"; · typeid int8 \"x\"; · typeprefix A = = \"x\"; => E20",
     "} typedef A X; => E20 / tree ¶ #pragma prefix \"P\" => prefix 1",
     "#pragma ID ::A::_b \"x\" => ID global name of parts 1 ¶ #pragma ID Boolean \"\" => ID name 0",
     "#pragma version A::B 02.4 => version name of parts 2 4",
