@@ -35,15 +35,15 @@ impl IntegerKind {
         }
     }
 
-    /// How many values the type has.
-    pub fn value_count(self) -> i128
-        ensures { result ≡ power (width self) }
+    // How many bits a value of the type has.
+    fn width(self) -> u32
+        ensures { result ≡ width self }
     {
         match self {
-            IntegerKind::Octet => 256,
-            IntegerKind::Short | IntegerKind::UnsignedShort => 65536,
-            IntegerKind::Long | IntegerKind::UnsignedLong => 4294967296,
-            IntegerKind::LongLong | IntegerKind::UnsignedLongLong => 18446744073709551616,
+            IntegerKind::Octet => 8,
+            IntegerKind::Short | IntegerKind::UnsignedShort => 16,
+            IntegerKind::Long | IntegerKind::UnsignedLong => 32,
+            IntegerKind::LongLong | IntegerKind::UnsignedLongLong => 64,
         }
     }
 
@@ -60,18 +60,21 @@ impl IntegerKind {
         }
     }
 
+    /// How many values the type has.
+    pub fn value_count(self) -> i128
+        ensures { result ≡ power (width self) }
+    {
+        1i128 << self.width()
+    }
+
     /// The least value of the type.
     pub fn least(self) -> i128
         ensures { result ≡ least self }
     {
-        match self {
-            IntegerKind::Short => i16::MIN as i128,
-            IntegerKind::Long => i32::MIN as i128,
-            IntegerKind::LongLong => i64::MIN as i128,
-            IntegerKind::Octet
-            | IntegerKind::UnsignedShort
-            | IntegerKind::UnsignedLong
-            | IntegerKind::UnsignedLongLong => 0,
+        if self.is_signed() {
+            -(self.value_count() / 2)
+        } else {
+            0
         }
     }
 
@@ -79,15 +82,7 @@ impl IntegerKind {
     pub fn greatest(self) -> i128
         ensures { result ≡ greatest self }
     {
-        match self {
-            IntegerKind::Octet => u8::MAX as i128,
-            IntegerKind::Short => i16::MAX as i128,
-            IntegerKind::UnsignedShort => u16::MAX as i128,
-            IntegerKind::Long => i32::MAX as i128,
-            IntegerKind::UnsignedLong => u32::MAX as i128,
-            IntegerKind::LongLong => i64::MAX as i128,
-            IntegerKind::UnsignedLongLong => u64::MAX as i128,
-        }
+        self.least() + (self.value_count() - 1)
     }
 
     /// Whether it is a value of the type.
@@ -101,11 +96,10 @@ impl IntegerKind {
     pub fn holds_part(self, value: i128) -> bool
         ensures { result ≡ holds_part self value }
     {
-        match self {
-            IntegerKind::LongLong | IntegerKind::UnsignedLongLong => {
-                i64::MIN as i128 <= value && value <= u64::MAX as i128
-            }
-            _ => i32::MIN as i128 <= value && value <= u32::MAX as i128,
+        if self.width() > 32 {
+            i64::MIN as i128 <= value && value <= u64::MAX as i128
+        } else {
+            i32::MIN as i128 <= value && value <= u32::MAX as i128
         }
     }
 }

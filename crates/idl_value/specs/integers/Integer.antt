@@ -1,5 +1,5 @@
 -- The integer types, their ranges, and the range of every part of a value.
-use Rattle.std.specs.Prelude.{ℕ, ◌-◌, ◌^◌, ℤ, pos, Bool, true, false, int_le, ◌&&◌, neg_ℤ}
+use Rattle.std.specs.Prelude.{ℕ, ◌-◌, ◌^◌, ℤ, pos, Bool, true, false, if◌then◌else◌, int_le, max, ◌&&◌, neg_ℤ}
 use Rattle.idl_value.specs.declared.integer.IntegerKind.{IntegerKind}
 use Rattle.idl_value.specs.declared.integer.IntegerKind.TheVariants.{Octet, Short, UnsignedShort, Long, UnsignedLong, LongLong, UnsignedLongLong}
 
@@ -25,43 +25,22 @@ is_signed UnsignedLongLong = false
 abbrev pub power : ℕ → ℤ
 power n = pos (2 ^ n)
 
--- the least and the greatest value of a type
+-- The least and the greatest value of a type: where there are negative values, they are half of all.
 abbrev pub least : IntegerKind → ℤ
-least Octet = pos 0
-least Short = neg_ℤ (power 15)
-least UnsignedShort = pos 0
-least Long = neg_ℤ (power 31)
-least UnsignedLong = pos 0
-least LongLong = neg_ℤ (power 63)
-least UnsignedLongLong = pos 0
+least kind = if is_signed kind then neg_ℤ (power (width kind - 1)) else pos 0
 
 abbrev pub greatest : IntegerKind → ℤ
-greatest Octet = pos (2 ^ 8 - 1)
-greatest Short = pos (2 ^ 15 - 1)
-greatest UnsignedShort = pos (2 ^ 16 - 1)
-greatest Long = pos (2 ^ 31 - 1)
-greatest UnsignedLong = pos (2 ^ 32 - 1)
-greatest LongLong = pos (2 ^ 63 - 1)
-greatest UnsignedLongLong = pos (2 ^ 64 - 1)
+greatest kind = pos (2 ^ (if is_signed kind then width kind - 1 else width kind) - 1)
 
--- the same for each part of a value of that type
+-- The same for each part of a value of that type, which has 32 bits at least, with a sign or without.
+abbrev pub part_width : IntegerKind → ℕ
+part_width kind = max 32 (width kind)
+
 abbrev pub lowest : IntegerKind → ℤ
-lowest Octet = neg_ℤ (power 31)
-lowest Short = neg_ℤ (power 31)
-lowest UnsignedShort = neg_ℤ (power 31)
-lowest Long = neg_ℤ (power 31)
-lowest UnsignedLong = neg_ℤ (power 31)
-lowest LongLong = neg_ℤ (power 63)
-lowest UnsignedLongLong = neg_ℤ (power 63)
+lowest kind = neg_ℤ (power (part_width kind - 1))
 
 abbrev pub highest : IntegerKind → ℤ
-highest Octet = pos (2 ^ 32 - 1)
-highest Short = pos (2 ^ 32 - 1)
-highest UnsignedShort = pos (2 ^ 32 - 1)
-highest Long = pos (2 ^ 32 - 1)
-highest UnsignedLong = pos (2 ^ 32 - 1)
-highest LongLong = pos (2 ^ 64 - 1)
-highest UnsignedLongLong = pos (2 ^ 64 - 1)
+highest kind = pos (2 ^ part_width kind - 1)
 
 abbrev pub is_within : ℤ → ℤ → ℤ → Bool
 is_within low high value = int_le low value && int_le value high
