@@ -52,6 +52,8 @@ impl PlainTypes {
             Element::Constants(ConstantType::WideCharacter),
         )?;
         push(&mut types, alloc, Element::Unvalued(Unvalued::LongDouble))?;
+        push(&mut types, alloc, integer(IntegerKind::Int8))?;
+        push(&mut types, alloc, integer(IntegerKind::Uint8))?;
         Ok(PlainTypes { types })
     }
 

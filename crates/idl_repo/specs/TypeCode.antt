@@ -26,6 +26,8 @@ use Rattle.idl_value.specs.declared.value.Value.TheVariants as value
 -- the word of an integer type
 abbrev pub integer_word : IntegerKind → List ℕ
 integer_word integer.Octet = codes "tk_octet"
+integer_word integer.Int8 = codes "tk_int8"
+integer_word integer.Uint8 = codes "tk_uint8"
 integer_word integer.Short = codes "tk_short"
 integer_word integer.UnsignedShort = codes "tk_ushort"
 integer_word integer.Long = codes "tk_long"

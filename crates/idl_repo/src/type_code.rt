@@ -368,6 +368,8 @@ fn integer_word(kind: IntegerKind) -> &'static [u8]
 {
     match kind {
         IntegerKind::Octet => b"tk_octet",
+        IntegerKind::Int8 => b"tk_int8",
+        IntegerKind::Uint8 => b"tk_uint8",
         IntegerKind::Short => b"tk_short",
         IntegerKind::UnsignedShort => b"tk_ushort",
         IntegerKind::Long => b"tk_long",

@@ -4,9 +4,11 @@ use Rattle.idl_tree.specs.declared.declarations.data_type.DiscreteType.{Discrete
 use Rattle.idl_tree.specs.declared.declarations.data_type.DiscreteType.TheVariants as discrete
 use Rattle.idl_tree.specs.declared.declarations.data_type.IntegerSize.{IntegerSize}
 use Rattle.idl_tree.specs.declared.declarations.data_type.IntegerSize.TheVariants as size
+use Rattle.idl_tree.specs.declared.declarations.data_type.SizedInteger.{SizedInteger}
+use Rattle.idl_tree.specs.declared.declarations.data_type.SizedInteger.TheVariants as sized
 use Rattle.idl_value.specs.integers.Integer.{power, width}
 use Rattle.idl_value.specs.declared.integer.IntegerKind.{IntegerKind}
-use Rattle.idl_value.specs.declared.integer.IntegerKind.TheVariants.{Octet, Short, UnsignedShort, Long, UnsignedLong, LongLong, UnsignedLongLong}
+use Rattle.idl_value.specs.declared.integer.IntegerKind.TheVariants.{Octet, Int8, Uint8, Short, UnsignedShort, Long, UnsignedLong, LongLong, UnsignedLongLong}
 use Rattle.idl_value.specs.declared.constant_type.ConstantType.{ConstantType}
 use Rattle.idl_value.specs.declared.constant_type.ConstantType.TheVariants as target
 
@@ -19,9 +21,21 @@ integer_of false size.Short = Short
 integer_of false size.Long = Long
 integer_of false size.LongLong = LongLong
 
+-- the one whose width a word tells: those of 16 bits and more have two spellings
+abbrev pub sized_kind : SizedInteger → IntegerKind
+sized_kind sized.Int8 = Int8
+sized_kind sized.Int16 = Short
+sized_kind sized.Int32 = Long
+sized_kind sized.Int64 = LongLong
+sized_kind sized.Uint8 = Uint8
+sized_kind sized.Uint16 = UnsignedShort
+sized_kind sized.Uint32 = UnsignedLong
+sized_kind sized.Uint64 = UnsignedLongLong
+
 -- the type that keywords name
 abbrev pub target_of : DiscreteType → ConstantType
 target_of (discrete.Integer i) = target.Integer (integer_of i.is_unsigned i.size)
+target_of (discrete.Sized s) = target.Integer (sized_kind s)
 target_of discrete.Char = target.Character
 target_of discrete.WideChar = target.WideCharacter
 target_of discrete.Boolean = target.Boolean

@@ -2,11 +2,11 @@
 
 ghost use Rattle.std.specs.Prelude.{◌≡◌};
 ghost use Rattle.idl_value.specs.Evaluation.{kind_in};
-ghost use Rattle.idl_value.specs.ConstantType.{discriminates, integer_of, target_of, value_count};
+ghost use Rattle.idl_value.specs.ConstantType.{discriminates, integer_of, sized_kind, target_of, value_count};
 
 use crate::integer::IntegerKind;
 use idl_base::{Bytes, Datum, Seq};
-use idl_tree::declarations::{DiscreteType, IntegerSize};
+use idl_tree::declarations::{DiscreteType, IntegerSize, SizedInteger};
 use std::alloc::AllocError;
 
 /// A type of which there are constants.
@@ -68,6 +68,7 @@ impl ConstantType {
             DiscreteType::Integer(integer) => {
                 ConstantType::Integer(integer_of(integer.is_unsigned, integer.size))
             }
+            DiscreteType::Sized(sized) => ConstantType::Integer(sized_kind(sized)),
             DiscreteType::Char => ConstantType::Character,
             DiscreteType::WideChar => ConstantType::WideCharacter,
             DiscreteType::Boolean => ConstantType::Boolean,
@@ -126,5 +127,21 @@ fn integer_of(is_unsigned: bool, size: IntegerSize) -> IntegerKind
         IntegerSize::Long => IntegerKind::Long,
         IntegerSize::LongLong if is_unsigned => IntegerKind::UnsignedLongLong,
         IntegerSize::LongLong => IntegerKind::LongLong,
+    }
+}
+
+// The integer type whose width the word tells.
+fn sized_kind(sized: SizedInteger) -> IntegerKind
+    ensures { result ≡ sized_kind sized }
+{
+    match sized {
+        SizedInteger::Int8 => IntegerKind::Int8,
+        SizedInteger::Int16 => IntegerKind::Short,
+        SizedInteger::Int32 => IntegerKind::Long,
+        SizedInteger::Int64 => IntegerKind::LongLong,
+        SizedInteger::Uint8 => IntegerKind::Uint8,
+        SizedInteger::Uint16 => IntegerKind::UnsignedShort,
+        SizedInteger::Uint32 => IntegerKind::UnsignedLong,
+        SizedInteger::Uint64 => IntegerKind::UnsignedLongLong,
     }
 }

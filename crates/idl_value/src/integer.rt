@@ -11,6 +11,8 @@ use idl_base::Datum;
 #[derive(Clone, Copy)]
 pub enum IntegerKind {
     Octet,
+    Int8,
+    Uint8,
     Short,
     UnsignedShort,
     Long,
@@ -26,12 +28,14 @@ impl IntegerKind {
     {
         match self {
             IntegerKind::Octet => 0,
-            IntegerKind::Short => 1,
-            IntegerKind::UnsignedShort => 2,
-            IntegerKind::Long => 3,
-            IntegerKind::UnsignedLong => 4,
-            IntegerKind::LongLong => 5,
-            IntegerKind::UnsignedLongLong => 6,
+            IntegerKind::Int8 => 1,
+            IntegerKind::Uint8 => 2,
+            IntegerKind::Short => 3,
+            IntegerKind::UnsignedShort => 4,
+            IntegerKind::Long => 5,
+            IntegerKind::UnsignedLong => 6,
+            IntegerKind::LongLong => 7,
+            IntegerKind::UnsignedLongLong => 8,
         }
     }
 
@@ -40,7 +44,7 @@ impl IntegerKind {
         ensures { result ≡ width self }
     {
         match self {
-            IntegerKind::Octet => 8,
+            IntegerKind::Octet | IntegerKind::Int8 | IntegerKind::Uint8 => 8,
             IntegerKind::Short | IntegerKind::UnsignedShort => 16,
             IntegerKind::Long | IntegerKind::UnsignedLong => 32,
             IntegerKind::LongLong | IntegerKind::UnsignedLongLong => 64,
@@ -52,8 +56,10 @@ impl IntegerKind {
         ensures { result ≡ is_signed self }
     {
         match self {
-            IntegerKind::Short | IntegerKind::Long | IntegerKind::LongLong => true,
+            IntegerKind::Int8 | IntegerKind::Short | IntegerKind::Long | IntegerKind::LongLong =>
+                true,
             IntegerKind::Octet
+            | IntegerKind::Uint8
             | IntegerKind::UnsignedShort
             | IntegerKind::UnsignedLong
             | IntegerKind::UnsignedLongLong => false,

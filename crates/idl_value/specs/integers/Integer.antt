@@ -1,11 +1,13 @@
 -- The integer types, their ranges, and the range of every part of a value.
 use Rattle.std.specs.Prelude.{ℕ, ◌-◌, ◌^◌, ℤ, pos, Bool, true, false, if◌then◌else◌, int_le, max, ◌&&◌, neg_ℤ}
 use Rattle.idl_value.specs.declared.integer.IntegerKind.{IntegerKind}
-use Rattle.idl_value.specs.declared.integer.IntegerKind.TheVariants.{Octet, Short, UnsignedShort, Long, UnsignedLong, LongLong, UnsignedLongLong}
+use Rattle.idl_value.specs.declared.integer.IntegerKind.TheVariants.{Octet, Int8, Uint8, Short, UnsignedShort, Long, UnsignedLong, LongLong, UnsignedLongLong}
 
 -- how many bits a value of the type has
 abbrev pub width : IntegerKind → ℕ
 width Octet = 8
+width Int8 = 8
+width Uint8 = 8
 width Short = 16
 width UnsignedShort = 16
 width Long = 32
@@ -15,6 +17,8 @@ width UnsignedLongLong = 64
 
 abbrev pub is_signed : IntegerKind → Bool
 is_signed Octet = false
+is_signed Int8 = true
+is_signed Uint8 = false
 is_signed Short = true
 is_signed UnsignedShort = false
 is_signed Long = true

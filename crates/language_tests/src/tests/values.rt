@@ -3,7 +3,7 @@
 use super::support::have_rows;
 use std::test::Fail;
 
-static CONSTANTS: [&str; 7] = [
+static CONSTANTS: [&str; 9] = [
     // Exact values, in every form.
     "const long K = -7 / 2;\nconst long R = -7 % 2;\nconst long long L = 65536 * 65536;\n\
      const unsigned long long M = 0xFFFFFFFFFFFFFFFF;\nconst unsigned long N = ~0;\nconst octet O = ~017;\n\
@@ -22,6 +22,22 @@ static CONSTANTS: [&str; 7] = [
      typedef Q A[N][1 << N];\ninterface I { const short N = 5; attribute string<N> s; };\n=const long N = 2;\n\
      =typedef string < 3 > S;\n=typedef sequence < ::S, 4 > Q;\n=typedef ::Q A [ 2 ] [ 4 ];\n=interface I {\n\
      =  const short N = 5;\n=  attribute string < 5 > s;\n=};",
+    // Integer types by a word that tells how wide they are.
+    "const int8 A = -128;\nconst int8 B = 127;\nconst uint8 C = 255;\nconst int16 D = -32768;\nconst uint16 E = 65535;\n\
+     const int32 F = -2147483648;\nconst uint32 G = 4294967295;\nconst int64 H = -9223372036854775808;\n\
+     const uint64 I = 18446744073709551615;\nconst uint8 J = ~0;\nconst uint8 K = ~255;\nconst int8 L = ~0;\n\
+     const uint16 M = ~0;\nconst int8 N = 200 - 100;\nconst uint64 O = ~0;\nconst int64 P = 1 << 62;\n\
+     =const int8 A = -128;\n=const int8 B = 127;\n=const uint8 C = 255;\n=const int16 D = -32768;\n\
+     =const uint16 E = 65535;\n=const int32 F = -2147483648;\n=const uint32 G = 4294967295;\n\
+     =const int64 H = -9223372036854775808;\n=const uint64 I = 18446744073709551615;\n=const uint8 J = 255;\n\
+     =const uint8 K = 0;\n=const int8 L = -1;\n=const uint16 M = 65535;\n=const int8 N = 100;\n\
+     =const uint64 O = 18446744073709551615;\n=const int64 P = 4611686018427387904;",
+    "const int8 A = 128;\nconst int8 B = -129;\nconst uint8 C = 256;\nconst uint8 D = -1;\n\
+     const int8 E = 4294967296 - 4294967295;\nconst int16 F = 32768;\nconst uint16 G = 65536;\n\
+     const int32 H = 2147483648;\nconst uint32 I = -1;\nconst uint32 J = 4294967296;\nconst int64 K = 1 << 63;\n\
+     const uint8 L = 'a';\nconst int8 M = ~128;\nconst int8 N = ~127;\n=a:1: E51 128\n=a:2: E51 -\n=a:3: E51 256\n\
+     =a:4: E51 -\n=a:5: E51 4294967296\n=a:6: E51 32768\n=a:7: E51 65536\n=a:8: E51 2147483648\n=a:9: E51 -\n\
+     =a:10: E51 4294967296\n=a:11: E51 1\n=a:12: E50 'a'\n=a:13: E51 ~",
     // The operator that is applied first.
     "const long A = 1 | 2 ^ 3;\nconst long B = 4 ^ 6 & 3;\nconst long C = 6 & 1 << 2;\nconst long D = 1 << 2 + 1;\n\
      const long E = 16 >> 2 << 1;\nconst long F = 1 << 3 >> 1;\nconst long G = 10 - 4 - 3;\n\

@@ -3,7 +3,7 @@
 use super::scripts::have_replies;
 use std::test::Fail;
 
-static LISTINGS: [&str; 8] = [
+static LISTINGS: [&str; 9] = [
     // Prefixes, versions and ids.
     "put m.idl 14\nmodule M1 {\ntypedef long T1;\ntypedef long T2;\n\
      #pragma ID T2 \"DCE:d62207a2-011e-11ce-88b4-0800090b5d3e:3\"\n};\n#pragma prefix \"P1\"\nmodule M2 {\n\
@@ -55,6 +55,16 @@ static LISTINGS: [&str; 8] = [
      tk_array(tk_array(tk_sequence(tk_sequence(tk_any,3),0),5),2))\n\
      =alias B IDL:B:1.0 tk_alias(IDL:B:1.0,B,tk_sequence(tk_sequence(tk_any,3),0))\n\
      =native N IDL:N:1.0 tk_native(IDL:N:1.0,N)\n=exception X IDL:X:1.0 tk_except(IDL:X:1.0,X)",
+    // Integer types by their width: those of 8 bits have words of their own.
+    "put w.idl 6\ntypedef int8 A;\ntypedef sequence<uint8, 3> B;\ntypedef uint16 C[2];\n\
+     struct S { int16 a; int32 b; int64 c; uint32 d; uint64 e; int8 f; uint8 g; };\n\
+     interface I { attribute int8 a; uint8 f(in int64 x); };\nconst A K = 3;\n=ok\nroot w.idl\n=ok\n\
+     listing w.idl\n=rows 8\n=alias A IDL:A:1.0 tk_alias(IDL:A:1.0,A,tk_int8)\n\
+     =alias B IDL:B:1.0 tk_alias(IDL:B:1.0,B,tk_sequence(tk_uint8,3))\n\
+     =alias C IDL:C:1.0 tk_alias(IDL:C:1.0,C,tk_array(tk_ushort,2))\n=struct S IDL:S:1.0 tk_struct(IDL:S:1.0,S,\
+     a:tk_short,b:tk_long,c:tk_longlong,d:tk_ulong,e:tk_ulonglong,f:tk_int8,g:tk_uint8)\n\
+     =interface I IDL:I:1.0 tk_objref(IDL:I:1.0,I) bases()\n=attribute I::a IDL:I/a:1.0 tk_int8 get() set()\n\
+     =operation I::f IDL:I/f:1.0 tk_uint8 (in x:tk_longlong) raises() context()\n=const K IDL:K:1.0 @IDL:A:1.0 3",
     // Names without a root, and a name that is none.
     "listing y.idl\n=refused 7\nlisting a//b\n=refused 2\nlisting\n=refused 1",
 ];
