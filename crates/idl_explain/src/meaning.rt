@@ -195,7 +195,7 @@ pub static BAD_DISCRIMINATOR: Explanation = Explanation {
     words: Words::Around("`", "` can't be the type of a discriminator"),
     example: "typedef string D;\nunion U switch (D) { case 1: long a; };",
     mended: "typedef long D;\nunion U switch (D) { case 1: long a; };",
-    hint: "Take an integer, char, boolean or enum.",
+    hint: "Take an integer, char, wchar, boolean, octet or enum.",
 };
 
 pub static REPEATED_LABEL: Explanation = Explanation {

@@ -41,16 +41,11 @@ target_of discrete.WideChar = target.WideCharacter
 target_of discrete.Boolean = target.Boolean
 target_of discrete.Octet = target.Integer Octet
 
--- a union may have a discriminator of the type
+-- a union may have a discriminator of the type: of every one but the strings, which have no end
 abbrev pub discriminates : ConstantType → Bool
-discriminates (target.Integer Octet) = false
-discriminates (target.Integer other) = true
-discriminates target.Boolean = true
-discriminates target.Character = true
-discriminates (target.Enumeration path) = true
-discriminates target.WideCharacter = false
 discriminates (target.Text bound) = false
 discriminates (target.WideText bound) = false
+discriminates other = true
 
 -- how many values the type has, where its enum has so many enumerators
 abbrev pub value_count : ConstantType → ℕ → Option ℤ

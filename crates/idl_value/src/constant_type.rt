@@ -105,13 +105,12 @@ impl ConstantType {
         ensures { result ≡ discriminates self.now }
     {
         match self {
-            ConstantType::Integer(IntegerKind::Octet) => false,
             ConstantType::Integer(_)
             | ConstantType::Boolean
             | ConstantType::Character
+            | ConstantType::WideCharacter
             | ConstantType::Enumeration(_) => true,
-            ConstantType::WideCharacter | ConstantType::Text(_) | ConstantType::WideText(_) =>
-                false,
+            ConstantType::Text(_) | ConstantType::WideText(_) => false,
         }
     }
 }

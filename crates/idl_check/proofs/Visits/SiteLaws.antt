@@ -16,7 +16,7 @@ use Rattle.idl_check.specs.walk.Walk.{turns_at, Visit, Walk, begin_of, declared_
 use Rattle.idl_check.specs.declared.tables.standing.Standing.{Standing}
 use Rattle.idl_fault.specs.Code.{number_of}
 use Rattle.idl_fault.specs.declared.code.Code.{Code}
-use Rattle.idl_fault.specs.declared.code.Code.TheVariants.{BadDiscriminator, BadOneway, NoScope, RepeatedLabel, UselessDefault}
+use Rattle.idl_fault.specs.declared.code.Code.TheVariants.{BadOneway, NoScope, RepeatedLabel, UselessDefault}
 use Rattle.idl_memo.specs.Query.{Done, and_then, outcome}
 use Rattle.idl_memo.proofs.QueryLaws.{outcome-and_then}
 use Rattle.idl_entity.specs.DataType.{plain_type}
@@ -44,7 +44,7 @@ use Rattle.idl_tree.specs.declared.expression.Expression.{Expression}
 use Rattle.idl_tree.specs.declared.name.ScopedName.{ScopedName}
 use Rattle.idl_unit.specs.TokenRules.{fault_at, first}
 use Rattle.idl_unit.specs.declared.fault.Fault.{Fault}
-use Rattle.idl_value.specs.ConstantType.{discriminates, target_of}
+use Rattle.idl_value.specs.ConstantType.{target_of}
 use Rattle.idl_value.specs.declared.outcome.ValueCode.{ValueCode}
 use Rattle.idl_value.specs.declared.outcome.ValueCode.TheVariants as value_code
 use Rattle.idl_value.specs.declared.outcome.Outcome.{Outcome}
@@ -376,8 +376,7 @@ module _ (turns : ℕ) (answers : Key → Option Answer) where
   visit-placed (item.Enumerates names) w =
       quiet-placed (item.Enumerates names) w (record w { written = record w.written { enumerators = names.first ∷ names.rest } }) (omega arith) refl refl
   visit-placed (item.Switches discrete) w =
-      faulty-placed (item.Switches discrete) w (record w { written = record w.written { data_type = Some (plain_type (Constants (target_of discrete))) }; unions = no_labels (Some (target_of discrete)) 0 ∷ w.unions }) (not (discriminates (target_of discrete))) BadDiscriminator (omega arith)
-      (omega arith) (omega arith) refl refl
+      quiet-placed (item.Switches discrete) w (record w { written = record w.written { data_type = Some (plain_type (Constants (target_of discrete))) }; unions = no_labels (Some (target_of discrete)) 0 ∷ w.unions }) (omega arith) refl refl
   visit-placed item.Default w =
       faulty-placed item.Default w (record w { unions = with_labels with_default w.unions; bodies = with_body_label None w.bodies }) (list_any (λ l. l.has_default) (take 1 w.unions)) RepeatedLabel (omega arith) (omega arith) (omega arith) refl
       refl

@@ -156,8 +156,8 @@ abbrev pub is_incomplete : Entity → Bool
 is_incomplete e =
     (kind_eq e.kind Structure || kind_eq e.kind Union) && not (stage_eq e.stage Complete)
 
--- E60: A union switches on an integer type but octet, `char`, `boolean` or an enum, written out or
--- behind typedefs.
+-- E60: A union switches on an integer type, a character type, `boolean` or an enum, written out or
+-- behind typedefs. All types of keywords that may be written there are such, so it is of a name.
 abbrev pub is_no_discriminator : Option ConstantType → Bool
 is_no_discriminator constants = not (may_switch constants)
 

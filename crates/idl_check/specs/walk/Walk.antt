@@ -6,7 +6,7 @@ use Rattle.idl_check.specs.tables.Codes.{faults_by}
 use Rattle.idl_check.specs.tables.Declaring.{Written, declared_table, entity_of, kind_of, standing, with_declared, written_after}
 use Rattle.idl_check.specs.told.Labels.{Labels, no_labels, with_default, with_label}
 use Rattle.idl_tree.specs.NameParts.{last_at, part_at}
-use Rattle.idl_check.specs.tables.Rules.{is_default_again, is_label_again, is_no_discriminator, is_useless_default}
+use Rattle.idl_check.specs.tables.Rules.{is_default_again, is_label_again, is_useless_default}
 use Rattle.idl_check.specs.told.Types.{looked_through, target_in, written_as}
 use Rattle.idl_check.specs.tables.Using.{Bases, bases_after, constants_after, name_code, type_after, unions_after, used_table, values_after, with_uses}
 use Rattle.idl_check.specs.told.Values.{Values, begun_at, code_of, evaluation_for, no_values, with_value}
@@ -341,8 +341,7 @@ visit turns (item.Enumerates names) w =
     }))
 visit turns (item.Switches discrete) w =
     let t = target_of discrete in
-    Done (faulty_if (is_no_discriminator (Some t)) code.BadDiscriminator w
-    (record w {
+    Done (quiet (record w {
       written = record w.written { data_type = Some (plain_type (Constants t)) };
       unions = no_labels (Some t) 0 ∷ w.unions;
     }))

@@ -10,10 +10,10 @@ ghost use Rattle.idl_entity.specs.DataType.{plain_type};
 ghost use Rattle.idl_entity.specs.declared.data_type.Element.TheVariants.{Constants};
 ghost use Rattle.idl_check.specs.told.Values.{begun_at, code_of};
 ghost use Rattle.idl_check.specs.walk.Walk.{begin_of, faulty_if, is_repeated, noted, noted_in, outcome_at, token_of, ended_array, value_visit, valued_after, with_labels};
-ghost use Rattle.idl_fault.specs.declared.code.Code.TheVariants.{BadDiscriminator, RepeatedLabel};
+ghost use Rattle.idl_fault.specs.declared.code.Code.TheVariants.{RepeatedLabel};
 ghost use Rattle.idl_parts.specs.declared.part.Purpose.TheVariants as purpose;
 ghost use Rattle.idl_unit.specs.TokenRules.{fault_at};
-ghost use Rattle.idl_value.specs.ConstantType.{discriminates, target_of};
+ghost use Rattle.idl_value.specs.ConstantType.{target_of};
 ghost use Rattle.idl_value.specs.declared.outcome.Outcome.TheVariants as outcome;
 
 use crate::tables::declaring::array_of;
@@ -214,31 +214,24 @@ impl<'a> Walker<'a> {
         Ok(())
     }
 
-    /// A discriminator of keywords follows.
+    /// A discriminator of keywords follows: a type of which there may be one, as the grammar has no other there.
     pub fn switch(&mut self, discrete: DiscreteType) -> Result<(), AllocError>
         ensures visit { OnOk result
             (held self.new
-            ≡ noted_in
-            (faulty_if (not (discriminates (target_of discrete))) BadDiscriminator
-            (held self.old) (record (held self.old) {
+            ≡ record (held self.old) {
               written = record (held_written self.old.written) {
                 data_type = Some (plain_type (Constants (target_of discrete)));
               };
               unions = no_labels (Some (target_of discrete)) 0 ∷ self.old.unions.items;
-            })) self.old.fault) }
+            }) }
         ensures at { OnOk result (self.new.at ≡ self.old.at) }
         ensures env { OnOk result (self.new.env.now ≡ self.old.env.now) }
     {
         let target = ConstantType::of_keywords(discrete);
-        let discriminates = target.discriminates();
         let element = Element::Constants(target.clone()?);
         self.written.data_type = LastType::told(Some(self.env.plain(element)?));
         let labels = Labels::new(self.env.alloc(), Some(target), 0);
         self.unions.insert(0, labels)?;
-        if discriminates {
-            return Ok(());
-        }
-        self.note(self.at, Some(Code::BadDiscriminator));
         Ok(())
     }
 

@@ -66,7 +66,7 @@ static CONSTANTS: [&str; 9] = [
      =a:3: E30 K\n=a:4: E52 /\n=a:5: E30 N\n=a:6: E30 M",
 ];
 
-static TYPES: [&str; 9] = [
+static TYPES: [&str; 11] = [
     // Unions.
     "union U switch (long) { case 1: case 2: long a; default: string b; };\nenum E { e1, e2 };\n\
      union V switch (E) { case e1: long a; case e2: string<3> b; };\nunion W switch (char) { case 'a': case 'b': U x; \
@@ -75,8 +75,23 @@ static TYPES: [&str; 9] = [
      =union V switch ( ::E ) { case ::e1 : long a; case ::e2 : string < 3 > b; };\n\
      =union W switch ( char ) { case 'a' : case 'b' : ::U x; };\n=union X switch ( boolean ) { case TRUE : long a; \
      case FALSE : ::V y; };",
-    "union U switch (octet) { case 1: long a; };\ntypedef string T;\nunion W switch (T) { case 1: long a; };\n\
-     struct S { long x; };\nunion X switch (S) { case 1: long a; };\n=a:1: E60 octet\n=a:3: E60 T\n=a:5: E60 S",
+    "union U switch (octet) { case 1: long a; };\nunion V switch (wchar) { case L'x': long a; default: short b; };\n\
+     union W switch (int8) { case -128: long a; case 127: short b; };\nunion X switch (uint8) { case 255: long a; };\n\
+     typedef int64 A;\nunion Y switch (A) { case 1: long a; };\n=union U switch ( octet ) { case 1 : long a; };\n\
+     =union V switch ( wchar ) { case L'x' : long a; default : short b; };\n\
+     =union W switch ( int8 ) { case -128 : long a; case 127 : short b; };\n\
+     =union X switch ( uint8 ) { case 255 : long a; };\n=typedef int64 A;\n\
+     =union Y switch ( ::A ) { case 1 : long a; };",
+    "typedef string T;\nunion W switch (T) { case \"a\": long a; };\ntypedef wstring<2> R;\n\
+     union V switch (R) { case L\"a\": long a; };\nstruct S { long x; };\nunion X switch (S) { case 1: long a; };\n\
+     union Y switch (octet) { case 256: long a; };\nunion Z switch (int8) { case 1: long a; case 0 + 1: long b; };\n\
+     union U switch (uint8) { case 1: long a; case -1: long b; };\ntypedef float F;\n\
+     union Q switch (F) { case 1: long a; };\nunion P switch (wchar) { case 'x': long a; };\n\
+     =a:2: E60 T\n=a:4: E60 R\n=a:6: E60 S\n=a:7: E51 256\n=a:8: E61 0\n=a:9: E51 -\n=a:11: E60 F\n=a:12: E50 'x'",
+    // All values of a type are labelled, but for the default.
+    "union U switch (octet) {\ncase 0: `255×case @:` long a;\ndefault: long b; };\n\
+     union V switch (int8) {\ncase 0: `127×case @: case -@:` case -128: long a;\ndefault: long b; };\n\
+     union W switch (uint8) {\ncase 0: `255×case @:` long a;\ndefault: long b; };\n=a:3: E62 }\n=a:6: E62 }\n=a:9: E62 }",
     "union U switch (long) { case 1: long a; case 0 + 1: long b; };\nunion V switch (boolean) { case TRUE: long a; \
      case FALSE: long b; default: long c; };\nunion W switch (long) { default: long a; case 2: default: long b; };\n\
      enum E { e1, e2 };\ntypedef E F;\nunion X switch (F) { case e1: case e2: long a; default: long b; };\n\
