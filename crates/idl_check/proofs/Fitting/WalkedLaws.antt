@@ -29,7 +29,6 @@ use Rattle.idl_check.specs.told.Types.{looked_through}
 use Rattle.idl_check.specs.tables.Codes.{codes_in}
 use Rattle.idl_check.specs.tables.Rules.{is_open_base, suits}
 use Rattle.idl_check.specs.tables.Using.{Bases, base_table, bases_after, with_uses}
-use Rattle.idl_fault.specs.declared.code.Code.{Code}
 use Rattle.idl_fault.specs.declared.code.Code.TheVariants as code
 use Rattle.idl_check.specs.walk.Verdict.{sound}
 use Rattle.idl_check.specs.walk.Walk.{Visit, Walk, declared_visit, ended_array, ended_scope, first_walk, given_back, is_begun, outcome_at, passed, turns_at, used, used_visit, value_visit, visit, with_array, with_scope}

@@ -14,7 +14,6 @@ use Rattle.idl_check.specs.told.Types.{constants_of, looked_through, target_in, 
 use Rattle.idl_check.specs.tables.Using.{constants_after, suited_table, unions_after, used_table, values_after}
 use Rattle.idl_check.specs.told.Values.{Values}
 use Rattle.idl_check.specs.walk.Walk.{Visit, Walk, declared_visit, turns_at, used, used_visit, valued_after, visit, with_labels, with_scope}
-use Rattle.idl_fault.specs.declared.code.Code.{Code}
 use Rattle.idl_fault.specs.declared.code.Code.TheVariants as code
 use Rattle.idl_memo.proofs.QueryLaws.{outcome-and_then}
 use Rattle.idl_memo.specs.Query.{Done, outcome}

@@ -2,7 +2,7 @@
 use Rattle.std.proofs.Common.{◌≡◌, ℕ, ◌+◌, ◌<◌, ◌≤◌, min, Bool, true, false, cond, List, [], ◌∷◌, length, Option, Some, None, Result, Ok, Err, refl, sym, subst, arith}
 use Rattle.std.proofs.lemmas.List.Elements.{All-append, All-cons, All-nil, All-weaker}
 use Rattle.std.specs.List.{list_any}
-use Rattle.std.specs.Prelude.{All, drop, not, take}
+use Rattle.std.specs.Prelude.{All, drop, take}
 use Rattle.idl_check.specs.tables.Codes.{Table, faults_by}
 use Rattle.idl_check.specs.tables.Declaring.{declared_table, entity_of, standing}
 use Rattle.idl_check.specs.walk.Judging.{spoken_from, spoken_till, walked}
