@@ -2,17 +2,12 @@
 
 ghost use Rattle.std.specs.Prelude.{◌≡◌, ◌<◌, ◌≤◌, length, IfOk};
 ghost use Rattle.idl_tree.specs.Lexeme.{lexemes};
-ghost use Rattle.idl_tree.specs.reading.ReadConstruction.{construction_at, enumeration_at};
 ghost use Rattle.idl_tree.specs.reading.ReadExpression.{expression_at};
-ghost use Rattle.idl_tree.specs.reading.ReadInterface.{attribute_with, operation_with, readonly_attribute_with};
-ghost use Rattle.idl_tree.specs.reading.ReadType.{type_at};
-ghost use Rattle.idl_tree.specs.reading.ReadUnit.{constant_type_with, constant_with, ended_with, exception_with, native_at, structure_unit_with, typedef_with, union_unit_with, unit_at};
-ghost use Rattle.idl_tree.specs.declared.declarations.construction.Construction.TheVariants as construction;
-ghost use Rattle.idl_tree.specs.declared.unit.Tree.TheVariants as tree;
+ghost use Rattle.idl_tree.specs.reading.ReadUnit.{constant_type_with, constant_with, declaration_with, ended_with, exception_with, native_at, structure_declaration_with, typedef_with, union_declaration_with, unit_at};
 ghost use Rattle.idl_syntax.specs.Gives.{Advances, Reads, Remains};
 ghost use Rattle.idl_syntax.specs.Nested.{nested};
 
-use crate::cursor::{behind, behind_word, closed, identifier, is_at, is_at_word, keyword, named};
+use crate::cursor::{behind, behind_word, closed, identifier, is_at, keyword, named};
 use crate::declarations::attribute::{attribute, readonly_attribute};
 use crate::declarations::construction::{
     enumeration, member_type, members, structure_rest, union_rest,
@@ -43,83 +38,114 @@ pub fn unit(alloc: Global, depth: usize, tokens: &[Token]) -> Result<(Tree, &[To
     match keyword(tokens) {
         Some(Keyword::Module) => module(tokens),
         Some(Keyword::Local | Keyword::Interface) => interface(alloc, tokens),
-        Some(Keyword::Struct) => structure_unit(alloc, depth, tokens),
-        Some(Keyword::Union) => union_unit(alloc, depth, tokens),
-        Some(Keyword::Enum) => enumeration_unit(alloc, tokens),
-        Some(Keyword::Typedef) => typedef_unit(alloc, depth, tokens),
-        Some(Keyword::Native) => native_unit(tokens),
-        Some(Keyword::Const) => constant_unit(alloc, depth, tokens),
-        Some(Keyword::Exception) => exception_unit(alloc, depth, tokens),
-        Some(Keyword::Readonly) => readonly_attribute_unit(alloc, depth, tokens),
-        Some(Keyword::Attribute) => attribute_unit(alloc, depth, tokens),
-        _ => operation_unit(alloc, depth, tokens),
+        _ => ended_declaration(alloc, depth, tokens),
     }
 }
 
-/// A struct, or its declaration ahead.
-#[tactic(auto, unfolding(idl_tree::specs::reading::ReadUnit::structure_unit_with, idl_tree::specs::reading::ReadUnit::ended_with, idl_tree::specs::reading::ReadUnit::ahead_at))]
-#[inline(never)]
-fn structure_unit(
+/// A declaration and its `;`.
+#[tactic(auto, unfolding(idl_tree::specs::reading::ReadUnit::ended_with))]
+fn ended_declaration(
     alloc: Global,
     depth: usize,
     tokens: &[Token],
 ) -> Result<(Tree, &[Token]), SyntaxFault>
-    ensures reads { Reads (nested structure_unit_with depth) tokens.now result }
+    ensures reads { Reads (ended_with (nested declaration_with depth)) tokens.now result }
+    ensures shorter { Advances tokens.now result }
+{
+    let (tree, rest) = declaration(alloc, depth, tokens)?;
+    closed(tree, rest, Mark::Semicolon)
+}
+
+/// A declaration, without its `;`.
+#[tactic(auto, unfolding(idl_tree::specs::reading::ReadUnit::declaration_with))]
+#[inline(never)]
+fn declaration(
+    alloc: Global,
+    depth: usize,
+    tokens: &[Token],
+) -> Result<(Tree, &[Token]), SyntaxFault>
+    ensures reads { Reads (nested declaration_with depth) tokens.now result }
+    ensures shorter { Advances tokens.now result }
+{
+    match keyword(tokens) {
+        Some(Keyword::Struct) => structure_declaration(alloc, depth, tokens),
+        Some(Keyword::Union) => union_declaration(alloc, depth, tokens),
+        Some(Keyword::Enum) => {
+            let (enumeration, rest) = enumeration(alloc, tokens)?;
+            let construction = Construction::Enumeration(enumeration);
+            Ok((Tree::Construction(construction), rest))
+        }
+        Some(Keyword::Typedef) => {
+            let (typedef, rest) = typedef(alloc, depth, tokens)?;
+            Ok((Tree::Typedef(typedef), rest))
+        }
+        Some(Keyword::Native) => {
+            let (name, rest) = native(tokens)?;
+            Ok((Tree::Native(name), rest))
+        }
+        Some(Keyword::Const) => {
+            let (constant, rest) = constant(alloc, depth, tokens)?;
+            Ok((Tree::Constant(constant), rest))
+        }
+        Some(Keyword::Exception) => {
+            let (exception, rest) = exception(alloc, depth, tokens)?;
+            Ok((Tree::Exception(exception), rest))
+        }
+        Some(Keyword::Readonly) => {
+            let (attribute, rest) = readonly_attribute(alloc, depth, tokens)?;
+            Ok((Tree::ReadonlyAttribute(attribute), rest))
+        }
+        Some(Keyword::Attribute) => {
+            let (attribute, rest) = attribute(alloc, depth, tokens)?;
+            Ok((Tree::Attribute(attribute), rest))
+        }
+        _ => {
+            let (operation, rest) = operation(alloc, depth, tokens)?;
+            Ok((Tree::Operation(operation), rest))
+        }
+    }
+}
+
+/// A struct, or its declaration ahead, which ends before the `;`.
+#[tactic(auto, unfolding(idl_tree::specs::reading::ReadUnit::structure_declaration_with))]
+#[inline(never)]
+fn structure_declaration(
+    alloc: Global,
+    depth: usize,
+    tokens: &[Token],
+) -> Result<(Tree, &[Token]), SyntaxFault>
+    ensures reads { Reads (nested structure_declaration_with depth) tokens.now result }
     ensures shorter { Advances tokens.now result }
 {
     let rest = behind_word(tokens, Keyword::Struct)?;
     let (name, rest) = identifier(rest)?;
-    if is_at(rest, Mark::OpenBrace) {
-        let (structure, rest) = structure_rest(alloc, depth, name, rest)?;
-        closed(
-            Tree::Construction(Construction::Structure(structure)),
-            rest,
-            Mark::Semicolon,
-        )
+    if is_at(rest, Mark::Semicolon) {
+        Ok((Tree::Forward(Forward::Structure(name)), rest))
     } else {
-        closed(
-            Tree::Forward(Forward::Structure(name)),
-            rest,
-            Mark::Semicolon,
-        )
+        let (structure, rest) = structure_rest(alloc, depth, name, rest)?;
+        Ok((Tree::Construction(Construction::Structure(structure)), rest))
     }
 }
 
-/// A union, or its declaration ahead.
-#[tactic(auto, unfolding(idl_tree::specs::reading::ReadUnit::union_unit_with, idl_tree::specs::reading::ReadUnit::ended_with, idl_tree::specs::reading::ReadUnit::ahead_at))]
+/// A union, or its declaration ahead, which ends before the `;`.
+#[tactic(auto, unfolding(idl_tree::specs::reading::ReadUnit::union_declaration_with))]
 #[inline(never)]
-fn union_unit(
+fn union_declaration(
     alloc: Global,
     depth: usize,
     tokens: &[Token],
 ) -> Result<(Tree, &[Token]), SyntaxFault>
-    ensures reads { Reads (nested union_unit_with depth) tokens.now result }
+    ensures reads { Reads (nested union_declaration_with depth) tokens.now result }
     ensures shorter { Advances tokens.now result }
 {
     let rest = behind_word(tokens, Keyword::Union)?;
     let (name, rest) = identifier(rest)?;
-    if is_at_word(rest, Keyword::Switch) {
-        let (union, rest) = union_rest(alloc, depth, name, rest)?;
-        closed(
-            Tree::Construction(Construction::Union(union)),
-            rest,
-            Mark::Semicolon,
-        )
+    if is_at(rest, Mark::Semicolon) {
+        Ok((Tree::Forward(Forward::Union(name)), rest))
     } else {
-        closed(Tree::Forward(Forward::Union(name)), rest, Mark::Semicolon)
+        let (union, rest) = union_rest(alloc, depth, name, rest)?;
+        Ok((Tree::Construction(Construction::Union(union)), rest))
     }
-}
-
-/// An enum.
-#[tactic(auto, unfolding(idl_tree::specs::reading::ReadUnit::ended_with))]
-fn enumeration_unit(alloc: Global, tokens: &[Token]) -> Result<(Tree, &[Token]), SyntaxFault>
-    ensures reads { Reads (ended_with (λ e. tree.Construction (construction.Enumeration e)) enumeration_at)
-        tokens.now result }
-    ensures shorter { Advances tokens.now result }
-{
-    let (enumeration, rest) = enumeration(alloc, tokens)?;
-    let tree = Tree::Construction(Construction::Enumeration(enumeration));
-    closed(tree, rest, Mark::Semicolon)
 }
 
 /// A typedef, without its `;`.
@@ -138,21 +164,6 @@ fn typedef(
     Ok((Typedef { kind, declarators }, rest))
 }
 
-/// A typedef.
-#[tactic(auto, unfolding(idl_tree::specs::reading::ReadUnit::ended_with))]
-#[inline(never)]
-fn typedef_unit(
-    alloc: Global,
-    depth: usize,
-    tokens: &[Token],
-) -> Result<(Tree, &[Token]), SyntaxFault>
-    ensures reads { Reads (ended_with tree.Typedef (nested typedef_with depth)) tokens.now result }
-    ensures shorter { Advances tokens.now result }
-{
-    let (typedef, rest) = typedef(alloc, depth, tokens)?;
-    closed(Tree::Typedef(typedef), rest, Mark::Semicolon)
-}
-
 /// `native` and a name, without the `;`.
 #[tactic(auto, unfolding(idl_tree::specs::reading::ReadUnit::native_at))]
 fn native(tokens: &[Token]) -> Result<(Bytes, &[Token]), SyntaxFault>
@@ -161,16 +172,6 @@ fn native(tokens: &[Token]) -> Result<(Bytes, &[Token]), SyntaxFault>
 {
     let rest = behind_word(tokens, Keyword::Native)?;
     identifier(rest)
-}
-
-/// A native type.
-#[tactic(auto, unfolding(idl_tree::specs::reading::ReadUnit::ended_with))]
-fn native_unit(tokens: &[Token]) -> Result<(Tree, &[Token]), SyntaxFault>
-    ensures reads { Reads (ended_with tree.Native native_at) tokens.now result }
-    ensures shorter { Advances tokens.now result }
-{
-    let (name, rest) = native(tokens)?;
-    closed(Tree::Native(name), rest, Mark::Semicolon)
 }
 
 /// The type of a constant.
@@ -217,22 +218,6 @@ fn constant(
     Ok((Constant { kind, name, value }, rest))
 }
 
-/// A constant.
-#[tactic(auto, unfolding(idl_tree::specs::reading::ReadUnit::ended_with))]
-#[inline(never)]
-fn constant_unit(
-    alloc: Global,
-    depth: usize,
-    tokens: &[Token],
-) -> Result<(Tree, &[Token]), SyntaxFault>
-    ensures reads { Reads (ended_with tree.Constant (constant_with (expression_at depth)))
-        tokens.now result }
-    ensures shorter { Advances tokens.now result }
-{
-    let (constant, rest) = constant(alloc, depth, tokens)?;
-    closed(Tree::Constant(constant), rest, Mark::Semicolon)
-}
-
 /// An exception, without its `;`.
 #[tactic(auto, unfolding(idl_tree::specs::reading::ReadUnit::exception_with))]
 fn exception(
@@ -248,68 +233,4 @@ fn exception(
     let rest = behind(rest, Mark::OpenBrace)?;
     let (members, rest) = members(alloc, depth, rest)?;
     closed(Exception { name, members }, rest, Mark::CloseBrace)
-}
-
-/// An exception.
-#[tactic(auto, unfolding(idl_tree::specs::reading::ReadUnit::ended_with))]
-#[inline(never)]
-fn exception_unit(
-    alloc: Global,
-    depth: usize,
-    tokens: &[Token],
-) -> Result<(Tree, &[Token]), SyntaxFault>
-    ensures reads { Reads (ended_with tree.Exception (nested exception_with depth))
-        tokens.now result }
-    ensures shorter { Advances tokens.now result }
-{
-    let (exception, rest) = exception(alloc, depth, tokens)?;
-    closed(Tree::Exception(exception), rest, Mark::Semicolon)
-}
-
-/// An attribute that is read alone.
-#[tactic(auto, unfolding(idl_tree::specs::reading::ReadUnit::ended_with))]
-#[inline(never)]
-fn readonly_attribute_unit(
-    alloc: Global,
-    depth: usize,
-    tokens: &[Token],
-) -> Result<(Tree, &[Token]), SyntaxFault>
-    ensures reads { Reads (ended_with tree.ReadonlyAttribute (readonly_attribute_with (type_at depth)))
-        tokens.now result }
-    ensures shorter { Advances tokens.now result }
-{
-    let (attribute, rest) = readonly_attribute(alloc, depth, tokens)?;
-    closed(Tree::ReadonlyAttribute(attribute), rest, Mark::Semicolon)
-}
-
-/// An attribute that is read and written.
-#[tactic(auto, unfolding(idl_tree::specs::reading::ReadUnit::ended_with))]
-#[inline(never)]
-fn attribute_unit(
-    alloc: Global,
-    depth: usize,
-    tokens: &[Token],
-) -> Result<(Tree, &[Token]), SyntaxFault>
-    ensures reads { Reads (ended_with tree.Attribute (attribute_with (type_at depth)))
-        tokens.now result }
-    ensures shorter { Advances tokens.now result }
-{
-    let (attribute, rest) = attribute(alloc, depth, tokens)?;
-    closed(Tree::Attribute(attribute), rest, Mark::Semicolon)
-}
-
-/// An operation.
-#[tactic(auto, unfolding(idl_tree::specs::reading::ReadUnit::ended_with))]
-#[inline(never)]
-fn operation_unit(
-    alloc: Global,
-    depth: usize,
-    tokens: &[Token],
-) -> Result<(Tree, &[Token]), SyntaxFault>
-    ensures reads { Reads (ended_with tree.Operation (operation_with (type_at depth)))
-        tokens.now result }
-    ensures shorter { Advances tokens.now result }
-{
-    let (operation, rest) = operation(alloc, depth, tokens)?;
-    closed(Tree::Operation(operation), rest, Mark::Semicolon)
 }
