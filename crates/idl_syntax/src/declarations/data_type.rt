@@ -3,8 +3,9 @@
 ghost use Rattle.std.specs.Prelude.{◌≡◌};
 ghost use Rattle.idl_tree.specs.Lexeme.{lexemes};
 ghost use Rattle.idl_tree.specs.reading.ReadExpression.{expression_at};
-ghost use Rattle.idl_tree.specs.reading.ReadType.{basic_at, bound_with, discrete_at, limit_with, long_at, long_size_at, plain_with, sequence_with, signed_at, signed_type, size_at, string_with, string_word_of, type_at, unsigned_at};
+ghost use Rattle.idl_tree.specs.reading.ReadType.{basic_at, bound_with, discrete_at, limit_with, long_at, long_size_at, plain_with, sequence_with, signed_at, signed_type, size_at, sized_of, string_with, string_word_of, type_at, unsigned_at};
 ghost use Rattle.idl_tree.specs.reading.Reading.{first};
+ghost use Rattle.idl_tree.specs.reading.Tests.{pick};
 ghost use Rattle.idl_syntax.specs.Gives.{Advances, Reads, Remains};
 
 use crate::cursor::{behind, behind_word, by_word, closed, is_at, is_at_word, keyword};
@@ -16,7 +17,8 @@ use idl_lex::Token;
 use idl_lex::kinds::{Keyword, Mark};
 use idl_tree::Expression;
 use idl_tree::declarations::{
-    BasicType, DiscreteType, IntegerSize, IntegerType, PlainType, Sequence, StringType, TypeTree,
+    BasicType, DiscreteType, IntegerSize, IntegerType, PlainType, Sequence, SizedInteger,
+    StringType, TypeTree,
 };
 use std::alloc::Global;
 
@@ -87,7 +89,38 @@ pub fn discrete_type(tokens: &[Token]) -> Result<(DiscreteType, &[Token]), Synta
         Some(Keyword::Wchar) => by_word(tokens, Keyword::Wchar, DiscreteType::WideChar),
         Some(Keyword::Boolean) => by_word(tokens, Keyword::Boolean, DiscreteType::Boolean),
         Some(Keyword::Octet) => by_word(tokens, Keyword::Octet, DiscreteType::Octet),
-        _ => Err(SyntaxFault::NoTree(tokens.len())),
+        _ => {
+            let (sized, rest) = sized_integer(tokens)?;
+            Ok((DiscreteType::Sized(sized), rest))
+        }
+    }
+}
+
+/// An integer type by the word that says its width.
+fn sized_integer(tokens: &[Token]) -> Result<(SizedInteger, &[Token]), SyntaxFault>
+    ensures reads { Reads (pick sized_of) tokens.now result }
+    ensures shorter { Advances tokens.now result }
+{
+    match sized_word(tokens) {
+        Some(sized) => Ok((sized, &tokens[1..])),
+        None => Err(SyntaxFault::NoTree(tokens.len())),
+    }
+}
+
+/// The sized integer type that the next token is.
+fn sized_word(tokens: &[Token]) -> Option<SizedInteger>
+    ensures { result ≡ sized_of (first (lexemes tokens.now)) }
+{
+    match keyword(tokens) {
+        Some(Keyword::Int8) => Some(SizedInteger::Int8),
+        Some(Keyword::Int16) => Some(SizedInteger::Int16),
+        Some(Keyword::Int32) => Some(SizedInteger::Int32),
+        Some(Keyword::Int64) => Some(SizedInteger::Int64),
+        Some(Keyword::Uint8) => Some(SizedInteger::Uint8),
+        Some(Keyword::Uint16) => Some(SizedInteger::Uint16),
+        Some(Keyword::Uint32) => Some(SizedInteger::Uint32),
+        Some(Keyword::Uint64) => Some(SizedInteger::Uint64),
+        _ => None,
     }
 }
 
