@@ -7,7 +7,7 @@ ghost use Rattle.idl_tree.specs.reading.ReadUnit.{constant_type_with, constant_w
 ghost use Rattle.idl_syntax.specs.Gives.{Advances, Reads, Remains};
 ghost use Rattle.idl_syntax.specs.Nested.{nested};
 
-use crate::cursor::{behind, behind_word, closed, identifier, is_at, keyword, named};
+use crate::cursor::{behind_word, closed, identifier, is_at, keyword, named};
 use crate::declarations::attribute::{attribute, readonly_attribute};
 use crate::declarations::construction::{
     enumeration, member_type, members, structure_rest, union_rest,
@@ -230,7 +230,6 @@ fn exception(
 {
     let rest = behind_word(tokens, Keyword::Exception)?;
     let (name, rest) = identifier(rest)?;
-    let rest = behind(rest, Mark::OpenBrace)?;
     let (members, rest) = members(alloc, depth, rest)?;
-    closed(Exception { name, members }, rest, Mark::CloseBrace)
+    Ok((Exception { name, members }, rest))
 }

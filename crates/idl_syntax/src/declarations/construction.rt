@@ -2,7 +2,7 @@
 
 ghost use Rattle.std.specs.Prelude.{◌≡◌};
 ghost use Rattle.idl_tree.specs.Lexeme.{lexemes};
-ghost use Rattle.idl_tree.specs.reading.ReadConstruction.{all_with, begins_construction, begins_label, case_with, cases_with, construction_at, construction_with, discriminator_at, enumeration_at, goes_on, label_with, member_type_with, member_with, structure_rest_with, structure_with, union_rest_with, union_with};
+ghost use Rattle.idl_tree.specs.reading.ReadConstruction.{all_with, base_at, begins_construction, begins_label, case_with, cases_with, construction_at, construction_with, discriminator_at, enumeration_at, goes_on, label_with, member_type_with, member_with, members_with, structure_rest_with, structure_with, union_rest_with, union_with};
 ghost use Rattle.idl_tree.specs.reading.ReadExpression.{expression_at};
 ghost use Rattle.idl_tree.specs.reading.ReadType.{type_at};
 ghost use Rattle.idl_tree.specs.reading.Reading.{first, many_of};
@@ -18,10 +18,10 @@ use crate::name::{identifiers, scoped_name};
 use idl_base::{Boxed, Bytes, Seq};
 use idl_lex::Token;
 use idl_lex::kinds::{Keyword, Mark};
-use idl_tree::Several;
 use idl_tree::declarations::{
     Case, Construction, Discriminator, Enumeration, Label, Member, MemberType, Structure, Union,
 };
+use idl_tree::{ScopedName, Several};
 use std::alloc::Global;
 
 /// An enum.
@@ -207,9 +207,25 @@ fn member(alloc: Global, depth: usize, tokens: &[Token]) -> Result<(Member, &[To
     closed(Member { kind, declarators }, rest, Mark::Semicolon)
 }
 
+/// Members in braces.
+#[cycle(construction)]
+#[tactic(auto, unfolding(idl_tree::specs::reading::ReadConstruction::members_with))]
+pub fn members(
+    alloc: Global,
+    depth: usize,
+    tokens: &[Token],
+) -> Result<(Seq<Member>, &[Token]), SyntaxFault>
+    ensures reads { Reads (nested members_with depth) tokens.now result }
+    ensures shorter { Advances tokens.now result }
+{
+    let rest = behind(tokens, Mark::OpenBrace)?;
+    let (members, rest) = more_members(alloc, depth, rest)?;
+    closed(members, rest, Mark::CloseBrace)
+}
+
 /// The members before a closing brace.
 #[cycle(construction)]
-pub fn members(
+fn more_members(
     alloc: Global,
     depth: usize,
     tokens: &[Token],
@@ -244,7 +260,21 @@ fn structure(
     structure_rest(alloc, depth, name, rest)
 }
 
-/// The members of the struct with this name, in braces.
+/// What a struct inherits from, if that is said.
+#[tactic(auto, unfolding(idl_tree::specs::reading::ReadConstruction::base_at))]
+fn base(alloc: Global, tokens: &[Token]) -> Result<(Option<ScopedName>, &[Token]), SyntaxFault>
+    ensures reads { Reads base_at tokens.now result }
+    ensures within { Remains tokens.now result }
+{
+    if !is_at(tokens, Mark::Colon) {
+        return Ok((None, tokens));
+    }
+    let rest = behind(tokens, Mark::Colon)?;
+    let (name, rest) = scoped_name(alloc, rest)?;
+    Ok((Some(name), rest))
+}
+
+/// The base and the members of the struct with this name.
 #[cycle(construction)]
 #[tactic(auto, unfolding(idl_tree::specs::reading::ReadConstruction::structure_rest_with))]
 pub fn structure_rest(
@@ -256,15 +286,14 @@ pub fn structure_rest(
     ensures reads { Reads (nested structure_rest_with depth name) tokens.now result }
     ensures shorter { Advances tokens.now result }
 {
-    let rest = behind(tokens, Mark::OpenBrace)?;
-    let (first, rest) = member(alloc, depth, rest)?;
-    let (more, rest) = members(alloc, depth, rest)?;
+    let (base, rest) = base(alloc, tokens)?;
+    let (members, rest) = members(alloc, depth, rest)?;
     let structure = Structure {
         name,
-        first,
-        rest: more,
+        base,
+        members,
     };
-    closed(Boxed::new(alloc, structure)?, rest, Mark::CloseBrace)
+    Ok((Boxed::new(alloc, structure)?, rest))
 }
 
 /// A union.

@@ -6,11 +6,11 @@ use Rattle.std.proofs.lemmas.Result.{err_from_is_err_and}
 use Rattle.idl_syntax.proofs.Turns.{turns_start, turns_stop, turns_fail, loop_step}
 use Rattle.idl_syntax.proofs.declarations.construction.+construction.Goals as goal
 
-pub members-members-init : goal.members-members-init
-members-members-init t c = record { turns = turns_start _ _ _ _ c.new-members.ensures.items; long = omega arith }
+pub more_members-members-init : goal.more_members-members-init
+more_members-members-init t c = record { turns = turns_start _ _ _ _ c.new-members.ensures.items; long = omega arith }
 
-pub members-members-preserved : goal.members-members-preserved
-members-members-preserved t c =
+pub more_members-members-preserved : goal.more_members-members-preserved
+more_members-members-preserved t c =
     let test : goes_on (first (lexemes c.members.rest.now)) ≡ true = search rules in
     record {
       turns = loop_step _ _ _ _ _ _ _ _ c.members.invariant.turns test c.in_ok-one.ensures.reads c.in_ok-one.ensures.shorter c.in_ok-push.ensures.items;
@@ -28,13 +28,13 @@ cases-cases-preserved t c =
       long = omega (arith, c.in_ok-one.ensures.shorter, c.cases.invariant.long);
     }
 
-pub members-returns-clause-reads : goal.members-returns-clause-reads
-members-returns-clause-reads t c =
+pub more_members-returns-clause-reads : goal.more_members-returns-clause-reads
+more_members-returns-clause-reads t c =
     let test : goes_on (first (lexemes c.members.rest.now)) ≡ false = search rules in
     rw c.from_vec.ensures (turns_stop _ _ _ _ _ c.members.invariant.turns test)
 
-pub members-returns-in_err-one-clause-reads : goal.members-returns-in_err-one-clause-reads
-members-returns-in_err-one-clause-reads t c =
+pub more_members-returns-in_err-one-clause-reads : goal.more_members-returns-in_err-one-clause-reads
+more_members-returns-in_err-one-clause-reads t c =
     let test : goes_on (first (lexemes c.members.rest.now)) ≡ true = search rules in
     let why = err_from_is_err_and c.from_residual.result c.from_residual.ensures.1 in
     rw (why.1, why.2) (turns_fail _ _ _ _ _ _ c.members.invariant.turns test c.in_err-one.ensures.reads)

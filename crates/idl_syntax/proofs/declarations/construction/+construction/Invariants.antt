@@ -14,10 +14,10 @@ abbrev pub decreases-construction_inside : goal.decreases-construction_inside
 decreases-construction_inside l = l.depth * 20 + 13
 
 abbrev pub decreases-structure : goal.decreases-structure
-decreases-structure l = l.depth * 20 + 11
+decreases-structure l = l.depth * 20 + 12
 
 abbrev pub decreases-structure_rest : goal.decreases-structure_rest
-decreases-structure_rest l = l.depth * 20 + 10
+decreases-structure_rest l = l.depth * 20 + 11
 
 abbrev pub decreases-union_type : goal.decreases-union_type
 decreases-union_type l = l.depth * 20 + 9
@@ -29,7 +29,10 @@ abbrev pub decreases-union_cases : goal.decreases-union_cases
 decreases-union_cases l = l.depth * 20 + 7
 
 abbrev pub decreases-members : goal.decreases-members
-decreases-members l = l.depth * 20 + 6
+decreases-members l = l.depth * 20 + 10
+
+abbrev pub decreases-more_members : goal.decreases-more_members
+decreases-more_members l = l.depth * 20 + 6
 
 abbrev pub decreases-cases : goal.decreases-cases
 decreases-cases l = l.depth * 20 + 5
@@ -43,14 +46,14 @@ decreases-case l = l.depth * 20 + 3
 abbrev pub decreases-member_type : goal.decreases-member_type
 decreases-member_type l = l.depth * 20 + 2
 
-abbrev pub invariant-members-members : goal.invariant-members-members
-invariant-members-members l = record {
+abbrev pub invariant-more_members-members : goal.invariant-more_members-members
+invariant-more_members-members l = record {
   turns : Turns goes_on (member_with (expression_at l.fn.depth) (type_at l.fn.depth) (construction_at l.fn.depth)) l.members.items (lexemes l.rest) (many_of goes_on (member_with (expression_at l.fn.depth) (type_at l.fn.depth) (construction_at l.fn.depth)) (lexemes l.fn.tokens));
   long : length l.rest ≤ length l.fn.tokens;
 }
 
-abbrev pub decreases-members-members : goal.decreases-members-members
-decreases-members-members l = length l.rest
+abbrev pub decreases-more_members-members : goal.decreases-more_members-members
+decreases-more_members-members l = length l.rest
 
 abbrev pub invariant-cases-cases : goal.invariant-cases-cases
 invariant-cases-cases l = record {
