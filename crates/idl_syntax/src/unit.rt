@@ -3,7 +3,7 @@
 ghost use Rattle.std.specs.Prelude.{◌≡◌, ◌<◌, ◌≤◌, length, IfOk};
 ghost use Rattle.idl_tree.specs.Lexeme.{lexemes};
 ghost use Rattle.idl_tree.specs.reading.ReadExpression.{expression_at};
-ghost use Rattle.idl_tree.specs.reading.ReadUnit.{constant_type_with, constant_with, declaration_with, ended_with, exception_with, native_at, structure_declaration_with, typedef_with, union_declaration_with, unit_at};
+ghost use Rattle.idl_tree.specs.reading.ReadUnit.{constant_type_with, constant_with, declaration_with, ended_with, exception_with, native_at, structure_declaration_with, typedef_with, typeid_at, union_declaration_with, unit_at};
 ghost use Rattle.idl_syntax.specs.Gives.{Advances, Reads, Remains};
 ghost use Rattle.idl_syntax.specs.Nested.{nested};
 
@@ -18,12 +18,13 @@ use crate::declarations::interface::{closing, interface, module};
 use crate::declarations::operation::operation;
 use crate::expression::expression;
 use crate::fault::SyntaxFault;
+use crate::literal::text;
 use crate::name::scoped_name;
 use idl_base::Bytes;
 use idl_lex::Token;
 use idl_lex::kinds::{Keyword, Mark};
 use idl_tree::declarations::{Construction, Forward};
-use idl_tree::{Constant, ConstantTypeTree, Exception, Tree, Typedef};
+use idl_tree::{Constant, ConstantTypeTree, Exception, Tree, Typedef, Typeid};
 use std::alloc::Global;
 
 /// A unit, with parts of less than so many levels.
@@ -98,6 +99,10 @@ fn declaration(
         Some(Keyword::Attribute) => {
             let (attribute, rest) = attribute(alloc, depth, tokens)?;
             Ok((Tree::Attribute(attribute), rest))
+        }
+        Some(Keyword::Typeid) => {
+            let (typeid, rest) = typeid(alloc, tokens)?;
+            Ok((Tree::Typeid(typeid), rest))
         }
         _ => {
             let (operation, rest) = operation(alloc, depth, tokens)?;
@@ -232,4 +237,16 @@ fn exception(
     let (name, rest) = identifier(rest)?;
     let (members, rest) = members(alloc, depth, rest)?;
     Ok((Exception { name, members }, rest))
+}
+
+/// `typeid`, a name and its id, without the `;`.
+#[tactic(auto, unfolding(idl_tree::specs::reading::ReadUnit::typeid_at))]
+fn typeid(alloc: Global, tokens: &[Token]) -> Result<(Typeid, &[Token]), SyntaxFault>
+    ensures reads { Reads typeid_at tokens.now result }
+    ensures shorter { Advances tokens.now result }
+{
+    let rest = behind_word(tokens, Keyword::Typeid)?;
+    let (name, rest) = scoped_name(alloc, rest)?;
+    let (text, rest) = text(alloc, rest)?;
+    Ok((Typeid { name, text }, rest))
 }
