@@ -3,11 +3,11 @@
 ghost use Rattle.std.specs.Prelude.{◌≡◌, ◌<◌, ◌≤◌, length, IfOk};
 ghost use Rattle.idl_tree.specs.Lexeme.{lexemes};
 ghost use Rattle.idl_tree.specs.reading.ReadExpression.{expression_at};
-ghost use Rattle.idl_tree.specs.reading.ReadUnit.{constant_type_with, constant_with, declaration_with, ended_with, exception_with, native_at, structure_declaration_with, typedef_with, typeid_at, union_declaration_with, unit_at};
+ghost use Rattle.idl_tree.specs.reading.ReadUnit.{constant_type_with, constant_with, declaration_with, ended_with, equals_at, exception_with, native_at, structure_declaration_with, typedef_with, typeid_at, typeprefix_at, union_declaration_with, unit_at};
 ghost use Rattle.idl_syntax.specs.Gives.{Advances, Reads, Remains};
 ghost use Rattle.idl_syntax.specs.Nested.{nested};
 
-use crate::cursor::{behind_word, closed, identifier, is_at, keyword, named};
+use crate::cursor::{behind, behind_word, closed, identifier, is_at, keyword, named};
 use crate::declarations::attribute::{attribute, readonly_attribute};
 use crate::declarations::construction::{
     enumeration, member_type, members, structure_rest, union_rest,
@@ -24,7 +24,7 @@ use idl_base::Bytes;
 use idl_lex::Token;
 use idl_lex::kinds::{Keyword, Mark};
 use idl_tree::declarations::{Construction, Forward};
-use idl_tree::{Constant, ConstantTypeTree, Exception, Tree, Typedef, Typeid};
+use idl_tree::{Constant, ConstantTypeTree, Exception, Tree, Typedef, Typeid, Typeprefix};
 use std::alloc::Global;
 
 /// A unit, with parts of less than so many levels.
@@ -103,6 +103,10 @@ fn declaration(
         Some(Keyword::Typeid) => {
             let (typeid, rest) = typeid(alloc, tokens)?;
             Ok((Tree::Typeid(typeid), rest))
+        }
+        Some(Keyword::Typeprefix) => {
+            let (typeprefix, rest) = typeprefix(alloc, tokens)?;
+            Ok((Tree::Typeprefix(typeprefix), rest))
         }
         _ => {
             let (operation, rest) = operation(alloc, depth, tokens)?;
@@ -249,4 +253,35 @@ fn typeid(alloc: Global, tokens: &[Token]) -> Result<(Typeid, &[Token]), SyntaxF
     let (name, rest) = scoped_name(alloc, rest)?;
     let (text, rest) = text(alloc, rest)?;
     Ok((Typeid { name, text }, rest))
+}
+
+/// Whether a `=` stands here, and what is behind it if one does.
+#[tactic(auto, unfolding(idl_tree::specs::reading::ReadUnit::equals_at))]
+fn equals(tokens: &[Token]) -> Result<(bool, &[Token]), SyntaxFault>
+    ensures reads { Reads equals_at tokens.now result }
+    ensures within { Remains tokens.now result }
+{
+    if !is_at(tokens, Mark::Equals) {
+        return Ok((false, tokens));
+    }
+    let rest = behind(tokens, Mark::Equals)?;
+    Ok((true, rest))
+}
+
+/// `typeprefix`, a name and what the ids in it begin with, without the `;`.
+#[tactic(auto, unfolding(idl_tree::specs::reading::ReadUnit::typeprefix_at))]
+fn typeprefix(alloc: Global, tokens: &[Token]) -> Result<(Typeprefix, &[Token]), SyntaxFault>
+    ensures reads { Reads typeprefix_at tokens.now result }
+    ensures shorter { Advances tokens.now result }
+{
+    let rest = behind_word(tokens, Keyword::Typeprefix)?;
+    let (name, rest) = scoped_name(alloc, rest)?;
+    let (has_equals, rest) = equals(rest)?;
+    let (text, rest) = text(alloc, rest)?;
+    let typeprefix = Typeprefix {
+        name,
+        has_equals,
+        text,
+    };
+    Ok((typeprefix, rest))
 }
