@@ -102,8 +102,11 @@ pub fn discrete_len(discrete: DiscreteType) -> usize
 {
     match discrete {
         DiscreteType::Integer(integer) => integer_len(integer),
-        DiscreteType::Char | DiscreteType::WideChar | DiscreteType::Boolean | DiscreteType::Octet =>
-            1,
+        DiscreteType::Sized(_)
+        | DiscreteType::Char
+        | DiscreteType::WideChar
+        | DiscreteType::Boolean
+        | DiscreteType::Octet => 1,
     }
 }
 
