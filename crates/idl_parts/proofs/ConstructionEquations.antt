@@ -1,10 +1,10 @@
 -- The parts of structs, unions and enums by those of their members.
-use Rattle.std.proofs.Common.{◌≡◌, ◌∙◌, ℕ, List, [], ◌∷◌, ◌++◌, flat_map, ap, sym}
+use Rattle.std.proofs.Common.{◌≡◌, ◌∙◌, ℕ, List, Option, [], ◌∷◌, ◌++◌, flat_map, ap, sym}
 use Rattle.std.proofs.lemmas.List.Folds.{flat_map-map}
 use Rattle.idl_lex.specs.declared.kinds.keyword.Keyword.TheVariants as word
 use Rattle.idl_lex.specs.declared.kinds.mark.Mark.TheVariants as mark
-use Rattle.idl_parts.specs.ConstructionParts.{case_parts, case_step, construction_parts, construction_step, discriminator_parts, enumeration_parts, label_parts, member_parts, member_step, member_type_parts, member_type_step, structure_parts, structure_step, union_parts, union_step}
-use Rattle.idl_parts.specs.Part.{Parts, Plain, Declares, ScopeBegins, ScopeEnds, all_parts, keyword_part, listed, punctuation}
+use Rattle.idl_parts.specs.ConstructionParts.{base_parts, case_parts, case_step, construction_parts, construction_step, discriminator_parts, enumeration_parts, label_parts, member_parts, member_step, member_type_parts, member_type_step, structure_parts, structure_step, union_parts, union_step}
+use Rattle.idl_parts.specs.Part.{Parts, Plain, Declares, ScopeBegins, ScopeEnds, all_parts, if_some, keyword_part, listed, punctuation}
 use Rattle.idl_parts.specs.TypeParts.{declarator_parts, type_parts}
 use Rattle.idl_parts.specs.declared.part.Declaration.TheVariants as declaration
 use Rattle.idl_tree.specs.Lexeme.{Word, Punctuation}
@@ -25,6 +25,7 @@ use Rattle.idl_tree.specs.declared.declarations.construction.Structure.{Structur
 use Rattle.idl_tree.specs.declared.declarations.construction.Union.{Union, out-Union}
 use Rattle.idl_tree.specs.declared.declarations.data_type.TypeTree.{TypeTree}
 use Rattle.idl_tree.specs.declared.declarations.declarator.Declarator.{Declarator}
+use Rattle.idl_tree.specs.declared.name.ScopedName.{ScopedName}
 use Rattle.idl_tree.specs.declared.several.Several.{Several}
 use Rattle.idl_tree.specs.reading.ReadConstruction.{made_case, made_member, made_structure, made_union}
 
@@ -70,16 +71,20 @@ case_parts-out c = fold_out-Case Parts Parts Parts Parts Parts Parts constructio
 
 pub structure_parts-out : (s : Structure)
     → structure_parts s
-    ≡ keyword_part word.Struct ∷ Declares declaration.Structure (out-Structure s).name ∷ punctuation mark.OpenBrace ∷ ScopeBegins declaration.Structure (out-Structure s).name
-    ∷ (member_parts (out-Structure s).first ++ (flat_map member_parts (out-Structure s).rest ++ ScopeEnds ∷ punctuation mark.CloseBrace ∷ []))
+    ≡ keyword_part word.Struct ∷ Declares declaration.Structure (out-Structure s).name
+    ∷ (if_some base_parts (out-Structure s).base
+    ++ punctuation mark.OpenBrace ∷ ScopeBegins declaration.Structure (out-Structure s).name
+    ∷ (flat_map member_parts (out-Structure s).members ++ ScopeEnds ∷ punctuation mark.CloseBrace ∷ []))
 unfolding structure_parts member_parts
 structure_parts-out s =
     fold_out-Structure Parts Parts Parts Parts Parts Parts construction_step member_type_step case_step member_step structure_step union_step s
     ∙ ap
     (λ (w : Parts).
-    keyword_part word.Struct ∷ Declares declaration.Structure (out-Structure s).name ∷ punctuation mark.OpenBrace ∷ ScopeBegins declaration.Structure (out-Structure s).name
-    ∷ (member_parts (out-Structure s).first ++ (w ++ ScopeEnds ∷ punctuation mark.CloseBrace ∷ [])))
-    (flat_map-map (λ m. m) _ (out-Structure s).rest)
+    keyword_part word.Struct ∷ Declares declaration.Structure (out-Structure s).name
+    ∷ (if_some base_parts (out-Structure s).base
+    ++ punctuation mark.OpenBrace ∷ ScopeBegins declaration.Structure (out-Structure s).name
+    ∷ (w ++ ScopeEnds ∷ punctuation mark.CloseBrace ∷ [])))
+    (flat_map-map (λ m. m) _ (out-Structure s).members)
 
 pub union_parts-out : (u : Union)
     → union_parts u
@@ -98,9 +103,12 @@ union_parts-out u =
     ∷ (case_parts (out-Union u).first ++ (w ++ ScopeEnds ∷ punctuation mark.CloseBrace ∷ []))))
     (flat_map-map (λ c. c) _ (out-Union u).rest)
 
--- what stands before the members of a struct, and before the discriminator and the cases of a union
+-- what stands before the base and the members of a struct, and before the discriminator and the cases of a union
 abbrev pub structure_opening : List ℕ → Parts
-structure_opening name = keyword_part word.Struct ∷ Declares declaration.Structure name ∷ punctuation mark.OpenBrace ∷ ScopeBegins declaration.Structure name ∷ []
+structure_opening name = keyword_part word.Struct ∷ Declares declaration.Structure name ∷ []
+
+abbrev pub structure_brace : List ℕ → Parts
+structure_brace name = punctuation mark.OpenBrace ∷ ScopeBegins declaration.Structure name ∷ []
 
 abbrev pub union_opening : List ℕ → Parts
 union_opening name = keyword_part word.Union ∷ Declares declaration.Union name ∷ Plain (Word word.Switch ∷ Punctuation mark.OpenParenthesis ∷ []) ∷ []
@@ -117,12 +125,13 @@ pub case_parts-made : (labels : Several Label) (kind : MemberType) (d : Declarat
 unfolding case_parts member_type_parts
 case_parts-made labels kind d = fold-roll-Case Parts Parts Parts Parts Parts Parts construction_step member_type_step case_step member_step structure_step union_step (record { labels = labels; kind = kind; declarator = d })
 
-pub structure_parts-made : (name : List ℕ) (m : Member) (ms : List Member)
-    → structure_parts (made_structure name m ms) ≡ structure_opening name ++ (member_parts m ++ (flat_map member_parts ms ++ ScopeEnds ∷ punctuation mark.CloseBrace ∷ []))
+pub structure_parts-made : (name : List ℕ) (base : Option ScopedName) (ms : List Member)
+    → structure_parts (made_structure name base ms)
+    ≡ structure_opening name ++ (if_some base_parts base ++ (structure_brace name ++ (flat_map member_parts ms ++ ScopeEnds ∷ punctuation mark.CloseBrace ∷ [])))
 unfolding structure_parts member_parts
-structure_parts-made name m ms =
-    fold-roll-Structure Parts Parts Parts Parts Parts Parts construction_step member_type_step case_step member_step structure_step union_step (record { name = name; first = m; rest = ms })
-    ∙ ap (λ (w : Parts). structure_opening name ++ (member_parts m ++ (w ++ ScopeEnds ∷ punctuation mark.CloseBrace ∷ []))) (flat_map-map (λ m. m) _ ms)
+structure_parts-made name base ms =
+    fold-roll-Structure Parts Parts Parts Parts Parts Parts construction_step member_type_step case_step member_step structure_step union_step (record { name = name; base = base; members = ms })
+    ∙ ap (λ (w : Parts). structure_opening name ++ (if_some base_parts base ++ (structure_brace name ++ (w ++ ScopeEnds ∷ punctuation mark.CloseBrace ∷ [])))) (flat_map-map (λ m. m) _ ms)
 
 pub union_parts-made : (name : List ℕ) (d : Discriminator) (c : Case) (cs : List Case)
     → union_parts (made_union name d c cs) ≡ union_opening name ++ (discriminator_parts d ++ (union_brace name ++ (case_parts c ++ (flat_map case_parts cs ++ ScopeEnds ∷ punctuation mark.CloseBrace ∷ []))))

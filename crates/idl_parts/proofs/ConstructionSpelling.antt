@@ -1,18 +1,18 @@
 -- The parts of structs, unions and enums are spelled as these are.
-use Rattle.std.proofs.Common.{◌≡◌, ◌∙◌, ℕ, List, [], ◌∷◌, ◌++◌, flat_map, map, refl, sym, ap, subst}
+use Rattle.std.proofs.Common.{◌≡◌, ◌∙◌, ℕ, List, Option, None, Some, [], ◌∷◌, ◌++◌, flat_map, map, refl, sym, ap, subst}
 use Rattle.std.proofs.lemmas.List.{append-nil}
 use Rattle.idl_lex.specs.declared.kinds.keyword.Keyword.TheVariants as word
 use Rattle.idl_lex.specs.declared.kinds.mark.Mark.TheVariants as mark
-use Rattle.idl_parts.specs.ConstructionParts.{case_parts, construction_parts, discriminator_parts, enumeration_parts, label_parts, member_parts, member_type_parts, structure_parts, union_parts}
+use Rattle.idl_parts.specs.ConstructionParts.{base_parts, case_parts, construction_parts, discriminator_parts, enumeration_parts, label_parts, member_parts, member_type_parts, structure_parts, union_parts}
 use Rattle.idl_parts.specs.ExpressionParts.{value_parts}
-use Rattle.idl_parts.specs.Part.{Parts, ScopeEnds, all_parts, declared, listed, punctuation, spell_parts}
+use Rattle.idl_parts.specs.Part.{Parts, ScopeEnds, all_parts, declared, if_some, listed, punctuation, spell_parts}
 use Rattle.idl_parts.specs.TypeParts.{declarator_parts}
 use Rattle.idl_parts.specs.declared.part.Declaration.TheVariants as declaration
 use Rattle.idl_parts.specs.declared.part.Purpose.TheVariants as target
 use Rattle.idl_parts.specs.declared.part.Use.TheVariants.{AsType}
-use Rattle.idl_tree.proofs.ConstructionSpelling.{spell_case-made, spell_construction-enumeration, spell_construction-structure, spell_construction-union, spell_member-made, spell_member_type-construction, spell_member_type-type, spell_structure-made, spell_union-made}
+use Rattle.idl_tree.proofs.ConstructionSpelling.{spell_case-made, spell_construction-enumeration, spell_construction-structure, spell_construction-union, spell_member-made, spell_member_type-construction, spell_member_type-type, spell_members, spell_structure-made, spell_union-made}
 use Rattle.idl_tree.proofs.Many.{many_spell}
-use Rattle.idl_tree.specs.Construction.{spell_case, spell_construction, spell_discriminator, spell_enumeration, spell_label, spell_member, spell_member_type, spell_structure, spell_union}
+use Rattle.idl_tree.specs.Construction.{spell_base, spell_case, spell_construction, spell_discriminator, spell_enumeration, spell_label, spell_member, spell_member_type, spell_structure, spell_union}
 use Rattle.idl_tree.specs.DataType.{spell_declarator, spell_discrete}
 use Rattle.idl_tree.specs.Expression.{spell_expression}
 use Rattle.idl_tree.specs.Lexeme.{Lexemes, Identifier, Punctuation, Word}
@@ -35,8 +35,9 @@ use Rattle.idl_tree.specs.declared.declarations.construction.MemberType.TheVaria
 use Rattle.idl_tree.specs.declared.declarations.construction.Structure.{Structure, roll-Structure}
 use Rattle.idl_tree.specs.declared.declarations.construction.Union.{Union, roll-Union}
 use Rattle.idl_tree.specs.declared.declarations.declarator.Declarator.{Declarator}
+use Rattle.idl_tree.specs.declared.name.ScopedName.{ScopedName}
 use Rattle.idl_tree.specs.declared.several.Several.{Several}
-use Rattle.idl_parts.proofs.ConstructionEquations.{case_parts-made, construction_parts-enumeration, construction_parts-structure, construction_parts-union, member_parts-made, member_type_parts-construction, member_type_parts-type, structure_parts-made, union_brace, union_parts-made}
+use Rattle.idl_parts.proofs.ConstructionEquations.{case_parts-made, construction_parts-enumeration, construction_parts-structure, construction_parts-union, member_parts-made, member_type_parts-construction, member_type_parts-type, structure_brace, structure_parts-made, union_brace, union_parts-made}
 use Rattle.idl_parts.proofs.ExpressionSpelling.{value_spells}
 use Rattle.idl_parts.proofs.PartSpelling.{spells-all, spells-listed, spells-many, spells-then}
 use Rattle.idl_parts.proofs.Such.{Such}
@@ -100,16 +101,21 @@ case_spells labels kind d h =
 abbrev members_of : List (Such Members) → List Member
 members_of ms = map (λ m. m.0) ms
 
-structure_spells : (name : List ℕ) (m : Such Members) (ms : List (Such Members)) → Structures (made_structure name m.0 (members_of ms))
-structure_spells name m ms =
-    let rest = members_of ms in
-    ap spell_parts (structure_parts-made name m.0 rest)
-    ∙ ap (λ (w : Lexemes). Word word.Struct ∷ Identifier name ∷ Punctuation mark.OpenBrace ∷ w)
-    (spells-then (member_parts m.0) (flat_map member_parts rest ++ ScopeEnds ∷ punctuation mark.CloseBrace ∷ [])
-    (spell_member m.0) (many_spell spell_member rest ++ Punctuation mark.CloseBrace ∷ []) m.1
-    (spells-then (flat_map member_parts rest) (ScopeEnds ∷ punctuation mark.CloseBrace ∷ []) (many_spell spell_member rest) (Punctuation mark.CloseBrace ∷ [])
-    (spells-many member_parts spell_member (λ m. m.0) (λ m. m.1) ms) refl))
-    ∙ sym (spell_structure-made name m.0 rest)
+base_spells : (base : Option ScopedName) → spell_parts (if_some base_parts base) ≡ spell_base base
+base_spells None = refl
+base_spells (Some name) = ap (λ (w : Lexemes). Punctuation mark.Colon ∷ w) (append-nil (spell_name name))
+
+structure_spells : (name : List ℕ) (base : Option ScopedName) (ms : List (Such Members)) → Structures (made_structure name base (members_of ms))
+structure_spells name base ms =
+    let members = members_of ms in
+    let last : Parts = flat_map member_parts members ++ ScopeEnds ∷ punctuation mark.CloseBrace ∷ [] in
+    ap spell_parts (structure_parts-made name base members)
+    ∙ ap (λ (w : Lexemes). Word word.Struct ∷ Identifier name ∷ w)
+    (spells-then (if_some base_parts base) (structure_brace name ++ last) (spell_base base) (spell_members members) (base_spells base)
+    (ap (λ (w : Lexemes). Punctuation mark.OpenBrace ∷ w)
+    (spells-then (flat_map member_parts members) (ScopeEnds ∷ punctuation mark.CloseBrace ∷ []) (many_spell spell_member members) (Punctuation mark.CloseBrace ∷ [])
+    (spells-many member_parts spell_member (λ m. m.0) (λ m. m.1) ms) refl)))
+    ∙ sym (spell_structure-made name base members)
 
 abbrev cases_of : List (Such Cases) → List Case
 cases_of cs = map (λ c. c.0) cs
@@ -153,7 +159,7 @@ construction_spells = ind-Construction Constructions MemberTypes Cases Members S
     (λ x y is. subst (λ z. MemberTypes (roll-MemberType z)) is (by_member_type y))
     (λ x y is. subst (λ z. Cases (roll-Case z)) is (case_spells y.labels y.kind.0 y.declarator y.kind.1))
     (λ x y is. subst (λ z. Members (roll-Member z)) is (member_spells y.kind.0 y.declarators y.kind.1))
-    (λ x y is. subst (λ z. Structures (roll-Structure z)) is (structure_spells y.name y.first y.rest))
+    (λ x y is. subst (λ z. Structures (roll-Structure z)) is (structure_spells y.name y.base y.members))
     (λ x y is. subst (λ z. Unions (roll-Union z)) is (union_spells y.name y.discriminator y.first y.rest))
 
 pub member_type_spells : (t : MemberType) → MemberTypes t
@@ -162,7 +168,7 @@ member_type_spells = ind-MemberType Constructions MemberTypes Cases Members Stru
     (λ x y is. subst (λ z. MemberTypes (roll-MemberType z)) is (by_member_type y))
     (λ x y is. subst (λ z. Cases (roll-Case z)) is (case_spells y.labels y.kind.0 y.declarator y.kind.1))
     (λ x y is. subst (λ z. Members (roll-Member z)) is (member_spells y.kind.0 y.declarators y.kind.1))
-    (λ x y is. subst (λ z. Structures (roll-Structure z)) is (structure_spells y.name y.first y.rest))
+    (λ x y is. subst (λ z. Structures (roll-Structure z)) is (structure_spells y.name y.base y.members))
     (λ x y is. subst (λ z. Unions (roll-Union z)) is (union_spells y.name y.discriminator y.first y.rest))
 
 pub members_spell : (m : Member) → Members m
@@ -171,5 +177,5 @@ members_spell = ind-Member Constructions MemberTypes Cases Members Structures Un
     (λ x y is. subst (λ z. MemberTypes (roll-MemberType z)) is (by_member_type y))
     (λ x y is. subst (λ z. Cases (roll-Case z)) is (case_spells y.labels y.kind.0 y.declarator y.kind.1))
     (λ x y is. subst (λ z. Members (roll-Member z)) is (member_spells y.kind.0 y.declarators y.kind.1))
-    (λ x y is. subst (λ z. Structures (roll-Structure z)) is (structure_spells y.name y.first y.rest))
+    (λ x y is. subst (λ z. Structures (roll-Structure z)) is (structure_spells y.name y.base y.members))
     (λ x y is. subst (λ z. Unions (roll-Union z)) is (union_spells y.name y.discriminator y.first y.rest))

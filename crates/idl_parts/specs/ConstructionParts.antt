@@ -3,11 +3,11 @@ use Rattle.std.specs.Prelude.{[], ◌∷◌, ◌++◌, flat_map}
 use Rattle.idl_lex.specs.declared.kinds.keyword.Keyword.TheVariants as word
 use Rattle.idl_lex.specs.declared.kinds.mark.Mark.TheVariants as mark
 use Rattle.idl_parts.specs.ExpressionParts.{value_parts}
-use Rattle.idl_parts.specs.Part.{Parts, Plain, Declares, Uses, ScopeBegins, ScopeEnds, Enumerates, Switches, Default, all_parts, declared, keyword_part, listed, punctuation}
+use Rattle.idl_parts.specs.Part.{Parts, Plain, Declares, Uses, ScopeBegins, ScopeEnds, Enumerates, Switches, Default, all_parts, declared, if_some, keyword_part, listed, punctuation}
 use Rattle.idl_parts.specs.TypeParts.{declarator_parts, type_parts}
 use Rattle.idl_parts.specs.declared.part.Declaration.TheVariants as declaration
 use Rattle.idl_parts.specs.declared.part.Purpose.TheVariants as target
-use Rattle.idl_parts.specs.declared.part.Use.TheVariants.{AsDiscriminator}
+use Rattle.idl_parts.specs.declared.part.Use.TheVariants.{AsDiscriminator, AsStructBase}
 use Rattle.idl_tree.specs.DataType.{spell_discrete}
 use Rattle.idl_tree.specs.Lexeme.{Word, Punctuation}
 use Rattle.idl_tree.specs.declared.declarations.construction.Case.{Case}
@@ -23,6 +23,7 @@ use Rattle.idl_tree.specs.declared.declarations.construction.Member.{Member}
 use Rattle.idl_tree.specs.declared.declarations.construction.MemberType.{MemberType}
 use Rattle.idl_tree.specs.declared.declarations.construction.Structure.{Structure}
 use Rattle.idl_tree.specs.declared.declarations.construction.Union.{Union}
+use Rattle.idl_tree.specs.declared.name.ScopedName.{ScopedName}
 
 -- "enum" ID "{" ID/"," "}"; the enumerators are declared in the scope around
 abbrev pub enumeration_parts : Enumeration → Parts
@@ -52,12 +53,17 @@ construction_step (Construction-F.Structure s) = s
 construction_step (Construction-F.Union u) = u
 construction_step (Construction-F.Enumeration e) = enumeration_parts e
 
--- "struct" ID "{" member+ "}"
+-- ":" name; the base is used in the scope around
+abbrev pub base_parts : ScopedName → Parts
+base_parts name = punctuation mark.Colon ∷ Uses AsStructBase name ∷ []
+
+-- "struct" ID [":" name] "{" member* "}"
 abbrev pub structure_step : Structure-F Parts Parts Parts Parts Parts Parts → Parts
 structure_step s =
-    keyword_part word.Struct ∷ Declares declaration.Structure s.name ∷ punctuation mark.OpenBrace
-    ∷ ScopeBegins declaration.Structure s.name
-    ∷ (s.first ++ (flat_map (λ m. m) s.rest ++ ScopeEnds ∷ punctuation mark.CloseBrace ∷ []))
+    keyword_part word.Struct ∷ Declares declaration.Structure s.name
+    ∷ (if_some base_parts s.base
+    ++ punctuation mark.OpenBrace ∷ ScopeBegins declaration.Structure s.name
+    ∷ (flat_map (λ m. m) s.members ++ ScopeEnds ∷ punctuation mark.CloseBrace ∷ []))
 
 -- member = ( type | constr ) declr/"," ";"
 abbrev pub member_step : Member-F Parts Parts Parts Parts Parts Parts → Parts

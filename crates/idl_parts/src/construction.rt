@@ -1,20 +1,20 @@
 //! Structs, unions and enums.
 
 ghost use Rattle.std.specs.Prelude.{OnOk};
-ghost use Rattle.idl_parts.specs.ConstructionParts.{case_parts, construction_parts, discriminator_parts, enumeration_parts, label_parts, member_parts, member_type_parts, structure_parts, union_parts};
+ghost use Rattle.idl_parts.specs.ConstructionParts.{base_parts, case_parts, construction_parts, discriminator_parts, enumeration_parts, label_parts, member_parts, member_type_parts, structure_parts, union_parts};
 ghost use Rattle.idl_parts.specs.Item.{Pushes};
-ghost use Rattle.idl_parts.specs.Part.{all_parts, listed};
+ghost use Rattle.idl_parts.specs.Part.{all_parts, if_some, listed};
 ghost use Rattle.idl_parts.specs.TypeParts.{declarator_parts};
 
 use crate::data_type::{discrete_len, push_declarator, push_type};
 use crate::expression::push_value;
 use crate::listed::push_declared;
 use crate::part::{Declaration, Purpose, UnitPart, Use};
-use idl_tree::Several;
 use idl_tree::declarations::{
     Case, Construction, Declarator, Discriminator, Enumeration, Label, Member, MemberType,
     Structure, Union,
 };
+use idl_tree::{ScopedName, Several};
 use std::alloc::AllocError;
 
 /// A struct, a union or an enum.
@@ -44,17 +44,35 @@ fn push_structure<'a>(
     ensures { OnOk result
         (Pushes sites.old.items sites.new.items (structure_parts structure.now)) }
 {
-    let Structure { name, first, rest } = structure;
+    let Structure {
+        name,
+        base,
+        members,
+    } = structure;
     sites.push(UnitPart::Tokens(1))?;
     sites.push(UnitPart::Declared(Declaration::Structure, name))?;
+    push_base(sites, base)?;
     sites.push(UnitPart::Tokens(1))?;
     sites.push(UnitPart::ScopeBegins(Declaration::Structure, name))?;
-    push_member(sites, first)?;
-    for member in rest.as_slice() {
+    for member in members.as_slice() {
         push_member(sites, member)?;
     }
     sites.push(UnitPart::ScopeEnds)?;
     sites.push(UnitPart::Tokens(1))?;
+    Ok(())
+}
+
+/// The base of a struct, if it has one.
+fn push_base<'a>(
+    sites: &mut Vec<UnitPart<'a>>,
+    base: &'a Option<ScopedName>,
+) -> Result<(), AllocError>
+    ensures { OnOk result (Pushes sites.old.items sites.new.items (if_some base_parts base.now)) }
+{
+    if let Some(name) = base {
+        sites.push(UnitPart::Tokens(1))?;
+        sites.push(UnitPart::Used(Use::AsStructBase, name))?;
+    }
     Ok(())
 }
 

@@ -36,6 +36,8 @@ pub enum Declaration {
 pub enum Use {
     /// A base of an interface, and whether that interface is local.
     AsBase(bool),
+    /// The base of a struct.
+    AsStructBase,
     /// The type of what is declared.
     AsType,
     /// The type of a sequence's elements.

@@ -1,14 +1,14 @@
 use Rattle.std.proofs.Common.{[], ◌∷◌, ◌++◌, ap, arith, length, refl, ◌≡◌}
 use Rattle.idl_lex.specs.declared.kinds.mark.Mark.TheVariants as mark
-use Rattle.idl_parts.specs.ConstructionParts.{case_parts, discriminator_parts, label_parts, member_parts, member_type_parts}
-use Rattle.idl_parts.specs.Part.{ScopeEnds, all_parts, listed, punctuation}
+use Rattle.idl_parts.specs.ConstructionParts.{base_parts, case_parts, discriminator_parts, label_parts, member_parts, member_type_parts}
+use Rattle.idl_parts.specs.Part.{ScopeEnds, all_parts, if_some, listed, punctuation}
 use Rattle.idl_parts.specs.TypeParts.{declarator_parts}
 use Rattle.idl_parts.specs.declared.part.Declaration.TheVariants as declaration
 use Rattle.idl_parts.specs.declared.part.UnitPart.TheVariants as site
 use Rattle.idl_tree.specs.declared.declarations.construction.Structure.{out-Structure}
 use Rattle.idl_tree.specs.declared.declarations.construction.Union.{out-Union}
-use Rattle.idl_parts.proofs.ConstructionEquations.{case_parts-out, construction_parts-structure, construction_parts-union, member_parts-out, member_type_parts-construction, structure_opening, structure_parts-out, union_brace, union_opening, union_parts-out}
-use Rattle.idl_parts.proofs.PushLemmas.{pushes-append, pushes-close, pushes-close_behind, pushes-one}
+use Rattle.idl_parts.proofs.ConstructionEquations.{case_parts-out, construction_parts-structure, construction_parts-union, member_parts-out, member_type_parts-construction, structure_brace, structure_opening, structure_parts-out, union_brace, union_opening, union_parts-out}
+use Rattle.idl_parts.proofs.PushLemmas.{pushes-append, pushes-close_behind, pushes-one}
 use Rattle.idl_parts.proofs.construction.+construction.Goals as goal
 
 pub push_construction-returns-in-Structure : goal.push_construction-returns-in-Structure
@@ -51,13 +51,13 @@ push_case-returns t c =
 pub push_structure-returns : goal.push_structure-returns
 push_structure-returns t c =
     let x = out-Structure c.args.structure.now in
-    let same : c.as_slice-member-items.result.now ≡ x.rest = c.as_slice-member-items.ensures in
+    let same : c.as_slice-member-items.result.now ≡ x.members = c.as_slice-member-items.ensures in
     let long = ap length same in
     let b = c.loop-member.sites.items in
     let m = c.push-5.new.self.items in
     let z = c.push-6.new.self.items in
     rw structure_parts-out
-    (pushes-close member_parts x.rest c.loop-member.member-index c.args.sites.now.items b z (structure_opening x.name ++ member_parts x.first)
+    (pushes-close_behind member_parts x.members c.loop-member.member-index c.args.sites.now.items b z (structure_opening x.name) (if_some base_parts x.base) (structure_brace x.name)
     (ScopeEnds ∷ punctuation mark.CloseBrace ∷ []) (omega arith) c.loop-member.invariant
     (pushes-append b m z (ScopeEnds ∷ []) (punctuation mark.CloseBrace ∷ []) (pushes-one b m site.ScopeEnds ScopeEnds c.in_ok-push-5.ensures.items refl)
     (pushes-one m z (site.Tokens 1) (punctuation mark.CloseBrace) c.in_ok-push-6.ensures.items refl)))
