@@ -8,6 +8,7 @@ use Rattle.idl_parts.specs.Part.{Parts, Plain, Declares, Says, ScopeBegins, Scop
 use Rattle.idl_parts.specs.TypeParts.{type_parts}
 use Rattle.idl_parts.specs.UnitParts.{attribute_names_parts, attribute_parts, bases_parts, context_parts, direction_parts, exceptions_parts, forward_parts, given_back, interface_parts, oneway_parts, operation_parts, parameter_parts, raises_parts, readonly_attribute_parts, readonly_names_parts, result_parts}
 use Rattle.idl_parts.specs.declared.part.Declaration.TheVariants as declaration
+use Rattle.idl_parts.specs.declared.part.TextPurpose.TheVariants.{Context}
 use Rattle.idl_parts.specs.declared.part.Use.{Use}
 use Rattle.idl_parts.specs.declared.part.Use.TheVariants.{AsBase, AsType, Raised, RaisedBySet}
 use Rattle.idl_tree.specs.DataType.{spell_type}
@@ -117,8 +118,8 @@ raises_spell is_oneway ns = given_back_spells is_oneway (raised Raised word.Rais
 context_spells : (texts : Several (Several (List ℕ))) → spell_parts (context_parts texts) ≡ spell_context texts
 context_spells texts =
     ap (λ (w : Lexemes). Word word.Context ∷ Punctuation mark.OpenParenthesis ∷ w)
-    (spells-then (listed (λ text. Says text ∷ []) texts) (punctuation mark.CloseParenthesis ∷ []) (spell_listed spell_text texts) (Punctuation mark.CloseParenthesis ∷ [])
-    (spells-listed (λ text. Says text ∷ []) spell_text (λ text. append-nil (spell_text text)) texts) refl)
+    (spells-then (listed (λ text. Says Context text ∷ []) texts) (punctuation mark.CloseParenthesis ∷ []) (spell_listed spell_text texts) (Punctuation mark.CloseParenthesis ∷ [])
+    (spells-listed (λ text. Says Context text ∷ []) spell_text (λ text. append-nil (spell_text text)) texts) refl)
 
 pub operation_spells : (o : Operation) → spell_parts (operation_parts o) ≡ spell_operation o
 operation_spells o =

@@ -1,6 +1,6 @@
 -- The parts of a unit are spelled as it is, and their items count its tokens.
 use Rattle.std.proofs.Common.{◌≡◌, ◌∙◌, [], ◌∷◌, ◌++◌, drop, flat_map, length, refl, sym, ap, arith}
-use Rattle.std.proofs.lemmas.List.{length-append}
+use Rattle.std.proofs.lemmas.List.{append-nil, length-append}
 use Rattle.std.proofs.Math.Seq.{drop-append_seam}
 use Rattle.idl_lex.specs.declared.kinds.keyword.Keyword.TheVariants as word
 use Rattle.idl_lex.specs.declared.kinds.mark.Mark.TheVariants as mark
@@ -9,21 +9,23 @@ use Rattle.idl_parts.specs.ExpressionParts.{value_parts}
 use Rattle.idl_parts.specs.Item.{item_length, item_of, items, items_length}
 use Rattle.idl_parts.specs.Part.{Part, Parts, Declares, ScopeEnds, listed, punctuation, spell_part, spell_parts}
 use Rattle.idl_parts.specs.TypeParts.{constant_type_parts, declarator_parts}
-use Rattle.idl_parts.specs.UnitParts.{attribute_parts, constant_parts, exception_parts, forward_parts, operation_parts, readonly_attribute_parts, typedef_parts, unit_parts}
+use Rattle.idl_parts.specs.UnitParts.{attribute_parts, constant_parts, exception_parts, forward_parts, operation_parts, readonly_attribute_parts, typedef_parts, typeid_parts, unit_parts}
 use Rattle.idl_parts.specs.declared.part.Declaration.TheVariants as declaration
 use Rattle.idl_parts.specs.declared.part.Purpose.TheVariants as target
 use Rattle.idl_tree.specs.Construction.{spell_construction, spell_member, spell_member_type}
 use Rattle.idl_tree.specs.DataType.{spell_declarator}
 use Rattle.idl_tree.specs.Expression.{spell_expression}
-use Rattle.idl_tree.specs.Interface.{spell_attribute, spell_forward, spell_operation, spell_readonly_attribute}
+use Rattle.idl_tree.specs.Interface.{spell_attribute, spell_forward, spell_operation, spell_readonly_attribute, spell_text}
 use Rattle.idl_tree.specs.Lexeme.{Lexemes, Identifier, Punctuation, Word}
+use Rattle.idl_tree.specs.Name.{spell_name}
 use Rattle.idl_tree.specs.Several.{spell_listed}
-use Rattle.idl_tree.specs.Unit.{spell, spell_constant, spell_constant_type, spell_exception, spell_typedef}
+use Rattle.idl_tree.specs.Unit.{spell, spell_constant, spell_constant_type, spell_exception, spell_typedef, spell_typeid}
 use Rattle.idl_tree.specs.declared.unit.Constant.{Constant}
 use Rattle.idl_tree.specs.declared.unit.Exception.{Exception}
 use Rattle.idl_tree.specs.declared.unit.Tree.{Tree}
 use Rattle.idl_tree.specs.declared.unit.Tree.TheVariants as tree
 use Rattle.idl_tree.specs.declared.unit.Typedef.{Typedef}
+use Rattle.idl_tree.specs.declared.unit.Typeid.{Typeid}
 use Rattle.idl_parts.proofs.ConstructionSpelling.{construction_spells, member_type_spells, members_spell}
 use Rattle.idl_parts.proofs.ExpressionSpelling.{value_spells}
 use Rattle.idl_parts.proofs.InterfaceSpelling.{attribute_spells, forward_spells, interface_spells, operation_spells, readonly_attribute_spells}
@@ -49,6 +51,9 @@ exception_spells e =
     (spells-then (flat_map member_parts e.members) (ScopeEnds ∷ punctuation mark.CloseBrace ∷ []) (flat_map spell_member e.members) (Punctuation mark.CloseBrace ∷ [])
     (spells-each member_parts spell_member members_spell e.members) refl)
 
+typeid_spells : (t : Typeid) → spell_parts (typeid_parts t) ≡ spell_typeid t
+typeid_spells t = ap (λ (w : Lexemes). Word word.Typeid ∷ (spell_name t.name ++ w)) (append-nil (spell_text t.text))
+
 ended_spells : (p : Parts) (a : Lexemes) → spell_parts p ≡ a → spell_parts (p ++ punctuation mark.Semicolon ∷ []) ≡ a ++ Punctuation mark.Semicolon ∷ []
 ended_spells p a h = spells-then p (punctuation mark.Semicolon ∷ []) a (Punctuation mark.Semicolon ∷ []) h refl
 
@@ -63,6 +68,7 @@ unit_spells (tree.Exception e) = ended_spells (exception_parts e) (spell_excepti
 unit_spells (tree.ReadonlyAttribute a) = ended_spells (readonly_attribute_parts a) (spell_readonly_attribute a) (readonly_attribute_spells a)
 unit_spells (tree.Attribute a) = ended_spells (attribute_parts a) (spell_attribute a) (attribute_spells a)
 unit_spells (tree.Operation o) = ended_spells (operation_parts o) (spell_operation o) (operation_spells o)
+unit_spells (tree.Typeid t) = ended_spells (typeid_parts t) (spell_typeid t) (typeid_spells t)
 unit_spells other = refl
 
 -- ---- counts

@@ -8,6 +8,7 @@ use Rattle.idl_lex.specs.declared.kinds.mark.Mark.TheVariants.{Comma, OpenParent
 use Rattle.idl_parts.specs.declared.part.Declaration.{Declaration}
 use Rattle.idl_parts.specs.declared.part.Shape.{Shape}
 use Rattle.idl_parts.specs.declared.part.Purpose.{Purpose}
+use Rattle.idl_parts.specs.declared.part.TextPurpose.{TextPurpose}
 use Rattle.idl_parts.specs.declared.part.Use.{Use}
 use Rattle.idl_tree.specs.Interface.{spell_text}
 use Rattle.idl_tree.specs.Lexeme.{Lexemes, Word, Punctuation, Identifier}
@@ -22,8 +23,8 @@ pub data Part (P : Type 0) : Type 0 where
   Plain : P → Part P
   Declares : Declaration → List ℕ → Part P
   Uses : Use → ScopedName → Part P
-  -- string literals that are joined
-  Says : Several (List ℕ) → Part P
+  -- string literals that are joined, and what for
+  Says : TextPurpose → Several (List ℕ) → Part P
   -- an expression begins, or ends
   ValueBegins : Part P
   ValueEnds : Purpose → Expression → Part P
@@ -36,6 +37,8 @@ pub data Part (P : Type 0) : Type 0 where
   ArrayEnds : Part P
   -- the enum that is declared next has these enumerators
   Enumerates : Several (List ℕ) → Part P
+  -- the name that follows is given this text, which stands behind it
+  Identifies : Several (List ℕ) → Part P
   -- a discriminator of keywords follows
   Switches : DiscreteType → Part P
   -- the label `default` follows
@@ -51,7 +54,7 @@ abbrev pub spell_part : Part Lexemes → Lexemes
 spell_part (Plain lexemes) = lexemes
 spell_part (Declares declaration name) = Identifier name ∷ []
 spell_part (Uses way name) = spell_name name
-spell_part (Says text) = spell_text text
+spell_part (Says purpose text) = spell_text text
 spell_part mark = []
 
 abbrev pub spell_parts : Parts → Lexemes

@@ -4,11 +4,12 @@ use Rattle.idl_lex.specs.declared.kinds.keyword.Keyword.TheVariants as word
 use Rattle.idl_lex.specs.declared.kinds.mark.Mark.TheVariants as mark
 use Rattle.idl_parts.specs.ConstructionParts.{construction_parts, member_parts, member_type_parts}
 use Rattle.idl_parts.specs.ExpressionParts.{value_parts}
-use Rattle.idl_parts.specs.Part.{Parts, Plain, Declares, Says, ScopeBegins, ScopeEnds, GivesBack, declared, if_some, keyword_part, listed, punctuation, raised, used}
+use Rattle.idl_parts.specs.Part.{Parts, Plain, Declares, Uses, Says, Identifies, ScopeBegins, ScopeEnds, GivesBack, declared, if_some, keyword_part, listed, punctuation, raised, used}
 use Rattle.idl_parts.specs.TypeParts.{constant_type_parts, declarator_parts, type_parts}
 use Rattle.idl_parts.specs.declared.part.Declaration.TheVariants as declaration
 use Rattle.idl_parts.specs.declared.part.Purpose.TheVariants as target
-use Rattle.idl_parts.specs.declared.part.Use.TheVariants.{AsBase, Raised, RaisedBySet}
+use Rattle.idl_parts.specs.declared.part.TextPurpose.TheVariants.{Context, Id}
+use Rattle.idl_parts.specs.declared.part.Use.TheVariants.{AsBase, AsIdentified, Raised, RaisedBySet}
 use Rattle.idl_tree.specs.Interface.{spell_direction, spell_local}
 use Rattle.idl_tree.specs.Lexeme.{Word, Punctuation}
 use Rattle.idl_tree.specs.declared.declarations.attribute.Attribute.{Attribute}
@@ -34,6 +35,7 @@ use Rattle.idl_tree.specs.declared.unit.Exception.{Exception}
 use Rattle.idl_tree.specs.declared.unit.Tree.{Tree}
 use Rattle.idl_tree.specs.declared.unit.Tree.TheVariants as tree
 use Rattle.idl_tree.specs.declared.unit.Typedef.{Typedef}
+use Rattle.idl_tree.specs.declared.unit.Typeid.{Typeid}
 
 -- "module" ID "{"
 abbrev pub module_parts : List ℕ → Parts
@@ -153,7 +155,7 @@ raises_parts is_oneway names = given_back is_oneway ++ raised Raised word.Raises
 abbrev pub context_parts : Several (Several (List ℕ)) → Parts
 context_parts texts =
     Plain (Word word.Context ∷ Punctuation mark.OpenParenthesis ∷ [])
-    ∷ (listed (λ text. Says text ∷ []) texts ++ punctuation mark.CloseParenthesis ∷ [])
+    ∷ (listed (λ text. Says Context text ∷ []) texts ++ punctuation mark.CloseParenthesis ∷ [])
 
 -- oper = ["oneway"] ( "void" | type ) ID "(" [ param/"," ] ")" [raises]
 --     [ "context" "(" text/"," ")" ]; its scope begins with the parameters
@@ -168,6 +170,11 @@ operation_parts o =
     ++ punctuation mark.CloseParenthesis
     ∷ (if_some (raises_parts o.is_oneway) o.raises
     ++ (if_some context_parts o.context ++ ScopeEnds ∷ []))))
+
+-- "typeid" name text; what the text says is known at the name
+abbrev pub typeid_parts : Typeid → Parts
+typeid_parts t =
+    keyword_part word.Typeid ∷ Identifies t.text ∷ Uses AsIdentified t.name ∷ Says Id t.text ∷ []
 
 -- a declaration with its `;`
 abbrev pub ended : Parts → Parts
@@ -186,3 +193,4 @@ unit_parts (tree.Exception e) = ended (exception_parts e)
 unit_parts (tree.ReadonlyAttribute a) = ended (readonly_attribute_parts a)
 unit_parts (tree.Attribute a) = ended (attribute_parts a)
 unit_parts (tree.Operation o) = ended (operation_parts o)
+unit_parts (tree.Typeid t) = ended (typeid_parts t)

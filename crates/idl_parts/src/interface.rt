@@ -9,7 +9,7 @@ ghost use Rattle.idl_parts.specs.UnitParts.{attribute_parts, context_parts, dire
 
 use crate::data_type::push_type;
 use crate::listed::{push_declared, push_raised, push_used};
-use crate::part::{Declaration, UnitPart, Use};
+use crate::part::{Declaration, TextPurpose, UnitPart, Use};
 use idl_base::{Boxed, Seq};
 use idl_tree::declarations::{
     Attribute, AttributeNames, AttributeRaises, Direction, Forward, Interface, Operation,
@@ -297,10 +297,10 @@ fn push_texts<'a>(
     ensures { OnOk result (Pushes sites.old.items sites.new.items (context_parts texts.now)) }
 {
     sites.push(UnitPart::Tokens(2))?;
-    sites.push(UnitPart::Joined(&texts.first))?;
+    sites.push(UnitPart::Joined(TextPurpose::Context, &texts.first))?;
     for text in texts.rest.as_slice() {
         sites.push(UnitPart::Tokens(1))?;
-        sites.push(UnitPart::Joined(text))?;
+        sites.push(UnitPart::Joined(TextPurpose::Context, text))?;
     }
     sites.push(UnitPart::Tokens(1))?;
     Ok(())

@@ -14,5 +14,5 @@ mod part;
 mod unit;
 
 pub use laws::{counting, spelling};
-pub use part::{Declaration, Purpose, Shape, UnitPart, Use};
+pub use part::{Declaration, Purpose, Shape, TextPurpose, UnitPart, Use};
 pub use unit::sites;

@@ -52,6 +52,8 @@ pub enum Use {
     Raised,
     /// An exception that the writing of an attribute raises.
     RaisedBySet,
+    /// What is given an id.
+    AsIdentified,
 }
 
 /// What an expression is for.
@@ -65,6 +67,15 @@ pub enum Purpose {
     Constant,
     /// The label of a case.
     Label,
+}
+
+/// What string literals that are joined are for.
+#[derive(Clone, Copy)]
+pub enum TextPurpose {
+    /// The context of an operation.
+    Context,
+    /// The id of what a name denotes.
+    Id,
 }
 
 /// What a type that is no name is, beside the type and the bound in it.
@@ -86,8 +97,8 @@ pub enum UnitPart<'a> {
     Declared(Declaration, &'a Bytes),
     /// A name that is used.
     Used(Use, &'a ScopedName),
-    /// String literals that are joined.
-    Joined(&'a Several<Seq<u16>>),
+    /// String literals that are joined, and what for.
+    Joined(TextPurpose, &'a Several<Seq<u16>>),
     /// An expression begins.
     ValueBegins,
     /// That expression ends: what it is for, and its tree.
@@ -102,6 +113,8 @@ pub enum UnitPart<'a> {
     ArrayEnds,
     /// The enum that is declared next has these enumerators.
     Enumerates(&'a Several<Bytes>),
+    /// The name that follows is given this text, which stands behind it.
+    Identifies(&'a Several<Seq<u16>>),
     /// The discriminator of a union is this type, whose keywords follow.
     Switches(DiscreteType),
     /// The label `default` follows.

@@ -2,7 +2,7 @@
 
 ghost use Rattle.std.specs.Prelude.{◌≡◌, map, IfOk, OnOk};
 ghost use Rattle.idl_parts.specs.Item.{Pushes, item_at, items};
-ghost use Rattle.idl_parts.specs.UnitParts.{constant_parts, exception_parts, module_parts, native_parts, typedef_parts, unit_parts};
+ghost use Rattle.idl_parts.specs.UnitParts.{constant_parts, exception_parts, module_parts, native_parts, typedef_parts, typeid_parts, unit_parts};
 
 use crate::construction::{push_construction, push_declarators, push_member, push_member_type};
 use crate::data_type::push_constant_type;
@@ -10,9 +10,9 @@ use crate::expression::push_value;
 use crate::interface::{
     push_attribute, push_forward, push_interface, push_operation, push_readonly_attribute,
 };
-use crate::part::{Declaration, Purpose, UnitPart};
+use crate::part::{Declaration, Purpose, TextPurpose, UnitPart, Use};
 use idl_base::Bytes;
-use idl_tree::{Constant, Exception, Tree, Typedef};
+use idl_tree::{Constant, Exception, Tree, Typedef, Typeid};
 use std::alloc::{AllocError, Global};
 
 // For so many sites there is room from the start. Few units have more.
@@ -49,6 +49,7 @@ fn push_unit<'a>(sites: &mut Vec<UnitPart<'a>>, tree: &'a Tree) -> Result<(), Al
         Tree::ReadonlyAttribute(attribute) => push_readonly_attribute(sites, attribute)?,
         Tree::Attribute(attribute) => push_attribute(sites, attribute)?,
         Tree::Operation(operation) => push_operation(sites, operation)?,
+        Tree::Typeid(typeid) => push_typeid(sites, typeid)?,
     }
     sites.push(UnitPart::Tokens(1))?;
     Ok(())
@@ -113,5 +114,16 @@ fn push_exception<'a>(
     }
     sites.push(UnitPart::ScopeEnds)?;
     sites.push(UnitPart::Tokens(1))?;
+    Ok(())
+}
+
+/// The id of a name.
+fn push_typeid<'a>(sites: &mut Vec<UnitPart<'a>>, typeid: &'a Typeid) -> Result<(), AllocError>
+    ensures { OnOk result (Pushes sites.old.items sites.new.items (typeid_parts typeid.now)) }
+{
+    sites.push(UnitPart::Tokens(1))?;
+    sites.push(UnitPart::Identifies(&typeid.text))?;
+    sites.push(UnitPart::Used(Use::AsIdentified, &typeid.name))?;
+    sites.push(UnitPart::Joined(TextPurpose::Id, &typeid.text))?;
     Ok(())
 }
