@@ -1,5 +1,5 @@
 -- The parts of a unit are spelled as it is, and their items count its tokens.
-use Rattle.std.proofs.Common.{◌≡◌, ◌∙◌, [], ◌∷◌, ◌++◌, drop, flat_map, length, refl, sym, ap, arith}
+use Rattle.std.proofs.Common.{◌≡◌, ◌∙◌, ℕ, Bool, true, false, List, [], ◌∷◌, ◌++◌, drop, flat_map, length, refl, sym, ap, arith}
 use Rattle.std.proofs.lemmas.List.{append-nil, length-append}
 use Rattle.std.proofs.Math.Seq.{drop-append_seam}
 use Rattle.idl_lex.specs.declared.kinds.keyword.Keyword.TheVariants as word
@@ -7,11 +7,12 @@ use Rattle.idl_lex.specs.declared.kinds.mark.Mark.TheVariants as mark
 use Rattle.idl_parts.specs.ConstructionParts.{construction_parts, member_parts, member_type_parts}
 use Rattle.idl_parts.specs.ExpressionParts.{value_parts}
 use Rattle.idl_parts.specs.Item.{item_length, item_of, items, items_length}
-use Rattle.idl_parts.specs.Part.{Part, Parts, Declares, ScopeEnds, listed, punctuation, spell_part, spell_parts}
+use Rattle.idl_parts.specs.Part.{Part, Parts, Declares, Says, ScopeEnds, listed, punctuation, spell_part, spell_parts}
 use Rattle.idl_parts.specs.TypeParts.{constant_type_parts, declarator_parts}
-use Rattle.idl_parts.specs.UnitParts.{attribute_parts, constant_parts, exception_parts, forward_parts, operation_parts, readonly_attribute_parts, typedef_parts, typeid_parts, unit_parts}
+use Rattle.idl_parts.specs.UnitParts.{attribute_parts, constant_parts, equals_parts, exception_parts, forward_parts, operation_parts, readonly_attribute_parts, typedef_parts, typeid_parts, typeprefix_parts, unit_parts}
 use Rattle.idl_parts.specs.declared.part.Declaration.TheVariants as declaration
 use Rattle.idl_parts.specs.declared.part.Purpose.TheVariants as target
+use Rattle.idl_parts.specs.declared.part.TextPurpose.TheVariants.{Prefix}
 use Rattle.idl_tree.specs.Construction.{spell_construction, spell_member, spell_member_type}
 use Rattle.idl_tree.specs.DataType.{spell_declarator}
 use Rattle.idl_tree.specs.Expression.{spell_expression}
@@ -19,13 +20,15 @@ use Rattle.idl_tree.specs.Interface.{spell_attribute, spell_forward, spell_opera
 use Rattle.idl_tree.specs.Lexeme.{Lexemes, Identifier, Punctuation, Word}
 use Rattle.idl_tree.specs.Name.{spell_name}
 use Rattle.idl_tree.specs.Several.{spell_listed}
-use Rattle.idl_tree.specs.Unit.{spell, spell_constant, spell_constant_type, spell_exception, spell_typedef, spell_typeid}
+use Rattle.idl_tree.specs.Unit.{spell, spell_constant, spell_constant_type, spell_equals, spell_exception, spell_typedef, spell_typeid, spell_typeprefix}
+use Rattle.idl_tree.specs.declared.several.Several.{Several}
 use Rattle.idl_tree.specs.declared.unit.Constant.{Constant}
 use Rattle.idl_tree.specs.declared.unit.Exception.{Exception}
 use Rattle.idl_tree.specs.declared.unit.Tree.{Tree}
 use Rattle.idl_tree.specs.declared.unit.Tree.TheVariants as tree
 use Rattle.idl_tree.specs.declared.unit.Typedef.{Typedef}
 use Rattle.idl_tree.specs.declared.unit.Typeid.{Typeid}
+use Rattle.idl_tree.specs.declared.unit.Typeprefix.{Typeprefix}
 use Rattle.idl_parts.proofs.ConstructionSpelling.{construction_spells, member_type_spells, members_spell}
 use Rattle.idl_parts.proofs.ExpressionSpelling.{value_spells}
 use Rattle.idl_parts.proofs.InterfaceSpelling.{attribute_spells, forward_spells, interface_spells, operation_spells, readonly_attribute_spells}
@@ -54,6 +57,13 @@ exception_spells e =
 typeid_spells : (t : Typeid) → spell_parts (typeid_parts t) ≡ spell_typeid t
 typeid_spells t = ap (λ (w : Lexemes). Word word.Typeid ∷ (spell_name t.name ++ w)) (append-nil (spell_text t.text))
 
+prefix_spells : (has_equals : Bool) (text : Several (List ℕ)) → spell_parts (equals_parts has_equals ++ Says Prefix text ∷ []) ≡ spell_equals has_equals ++ spell_text text
+prefix_spells true text = ap (λ (w : Lexemes). Punctuation mark.Equals ∷ w) (append-nil (spell_text text))
+prefix_spells false text = append-nil (spell_text text)
+
+typeprefix_spells : (t : Typeprefix) → spell_parts (typeprefix_parts t) ≡ spell_typeprefix t
+typeprefix_spells t = ap (λ (w : Lexemes). Word word.Typeprefix ∷ (spell_name t.name ++ w)) (prefix_spells t.has_equals t.text)
+
 ended_spells : (p : Parts) (a : Lexemes) → spell_parts p ≡ a → spell_parts (p ++ punctuation mark.Semicolon ∷ []) ≡ a ++ Punctuation mark.Semicolon ∷ []
 ended_spells p a h = spells-then p (punctuation mark.Semicolon ∷ []) a (Punctuation mark.Semicolon ∷ []) h refl
 
@@ -69,6 +79,7 @@ unit_spells (tree.ReadonlyAttribute a) = ended_spells (readonly_attribute_parts 
 unit_spells (tree.Attribute a) = ended_spells (attribute_parts a) (spell_attribute a) (attribute_spells a)
 unit_spells (tree.Operation o) = ended_spells (operation_parts o) (spell_operation o) (operation_spells o)
 unit_spells (tree.Typeid t) = ended_spells (typeid_parts t) (spell_typeid t) (typeid_spells t)
+unit_spells (tree.Typeprefix t) = ended_spells (typeprefix_parts t) (spell_typeprefix t) (typeprefix_spells t)
 unit_spells other = refl
 
 -- ---- counts

@@ -8,8 +8,8 @@ use Rattle.idl_parts.specs.Part.{Parts, Plain, Declares, Uses, Says, Identifies,
 use Rattle.idl_parts.specs.TypeParts.{constant_type_parts, declarator_parts, type_parts}
 use Rattle.idl_parts.specs.declared.part.Declaration.TheVariants as declaration
 use Rattle.idl_parts.specs.declared.part.Purpose.TheVariants as target
-use Rattle.idl_parts.specs.declared.part.TextPurpose.TheVariants.{Context, Id}
-use Rattle.idl_parts.specs.declared.part.Use.TheVariants.{AsBase, AsIdentified, Raised, RaisedBySet}
+use Rattle.idl_parts.specs.declared.part.TextPurpose.TheVariants.{Context, Id, Prefix}
+use Rattle.idl_parts.specs.declared.part.Use.TheVariants.{AsBase, AsIdentified, AsPrefixed, Raised, RaisedBySet}
 use Rattle.idl_tree.specs.Interface.{spell_direction, spell_local}
 use Rattle.idl_tree.specs.Lexeme.{Word, Punctuation}
 use Rattle.idl_tree.specs.declared.declarations.attribute.Attribute.{Attribute}
@@ -36,6 +36,7 @@ use Rattle.idl_tree.specs.declared.unit.Tree.{Tree}
 use Rattle.idl_tree.specs.declared.unit.Tree.TheVariants as tree
 use Rattle.idl_tree.specs.declared.unit.Typedef.{Typedef}
 use Rattle.idl_tree.specs.declared.unit.Typeid.{Typeid}
+use Rattle.idl_tree.specs.declared.unit.Typeprefix.{Typeprefix}
 
 -- "module" ID "{"
 abbrev pub module_parts : List ℕ → Parts
@@ -176,6 +177,17 @@ abbrev pub typeid_parts : Typeid → Parts
 typeid_parts t =
     keyword_part word.Typeid ∷ Identifies t.text ∷ Uses AsIdentified t.name ∷ Says Id t.text ∷ []
 
+-- ["="]
+abbrev pub equals_parts : Bool → Parts
+equals_parts true = punctuation mark.Equals ∷ []
+equals_parts false = []
+
+-- "typeprefix" name ["="] text
+abbrev pub typeprefix_parts : Typeprefix → Parts
+typeprefix_parts t =
+    keyword_part word.Typeprefix ∷ Identifies t.text ∷ Uses AsPrefixed t.name
+    ∷ (equals_parts t.has_equals ++ Says Prefix t.text ∷ [])
+
 -- a declaration with its `;`
 abbrev pub ended : Parts → Parts
 ended parts = parts ++ punctuation mark.Semicolon ∷ []
@@ -194,3 +206,4 @@ unit_parts (tree.ReadonlyAttribute a) = ended (readonly_attribute_parts a)
 unit_parts (tree.Attribute a) = ended (attribute_parts a)
 unit_parts (tree.Operation o) = ended (operation_parts o)
 unit_parts (tree.Typeid t) = ended (typeid_parts t)
+unit_parts (tree.Typeprefix t) = ended (typeprefix_parts t)

@@ -54,6 +54,8 @@ pub enum Use {
     RaisedBySet,
     /// What is given an id.
     AsIdentified,
+    /// A scope whose ids are given a prefix.
+    AsPrefixed,
 }
 
 /// What an expression is for.
@@ -76,6 +78,8 @@ pub enum TextPurpose {
     Context,
     /// The id of what a name denotes.
     Id,
+    /// What the ids begin with of what is in a scope.
+    Prefix,
 }
 
 /// What a type that is no name is, beside the type and the bound in it.

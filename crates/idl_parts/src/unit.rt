@@ -2,7 +2,7 @@
 
 ghost use Rattle.std.specs.Prelude.{◌≡◌, map, IfOk, OnOk};
 ghost use Rattle.idl_parts.specs.Item.{Pushes, item_at, items};
-ghost use Rattle.idl_parts.specs.UnitParts.{constant_parts, exception_parts, module_parts, native_parts, typedef_parts, typeid_parts, unit_parts};
+ghost use Rattle.idl_parts.specs.UnitParts.{constant_parts, exception_parts, module_parts, native_parts, typedef_parts, typeid_parts, typeprefix_parts, unit_parts};
 
 use crate::construction::{push_construction, push_declarators, push_member, push_member_type};
 use crate::data_type::push_constant_type;
@@ -12,7 +12,7 @@ use crate::interface::{
 };
 use crate::part::{Declaration, Purpose, TextPurpose, UnitPart, Use};
 use idl_base::Bytes;
-use idl_tree::{Constant, Exception, Tree, Typedef, Typeid};
+use idl_tree::{Constant, Exception, Tree, Typedef, Typeid, Typeprefix};
 use std::alloc::{AllocError, Global};
 
 // For so many sites there is room from the start. Few units have more.
@@ -50,6 +50,7 @@ fn push_unit<'a>(sites: &mut Vec<UnitPart<'a>>, tree: &'a Tree) -> Result<(), Al
         Tree::Attribute(attribute) => push_attribute(sites, attribute)?,
         Tree::Operation(operation) => push_operation(sites, operation)?,
         Tree::Typeid(typeid) => push_typeid(sites, typeid)?,
+        Tree::Typeprefix(typeprefix) => push_typeprefix(sites, typeprefix)?,
     }
     sites.push(UnitPart::Tokens(1))?;
     Ok(())
@@ -125,5 +126,23 @@ fn push_typeid<'a>(sites: &mut Vec<UnitPart<'a>>, typeid: &'a Typeid) -> Result<
     sites.push(UnitPart::Identifies(&typeid.text))?;
     sites.push(UnitPart::Used(Use::AsIdentified, &typeid.name))?;
     sites.push(UnitPart::Joined(TextPurpose::Id, &typeid.text))?;
+    Ok(())
+}
+
+/// The prefix of the ids in a scope.
+fn push_typeprefix<'a>(
+    sites: &mut Vec<UnitPart<'a>>,
+    typeprefix: &'a Typeprefix,
+) -> Result<(), AllocError>
+    ensures { OnOk result
+        (Pushes sites.old.items sites.new.items (typeprefix_parts typeprefix.now)) }
+{
+    sites.push(UnitPart::Tokens(1))?;
+    sites.push(UnitPart::Identifies(&typeprefix.text))?;
+    sites.push(UnitPart::Used(Use::AsPrefixed, &typeprefix.name))?;
+    if typeprefix.has_equals {
+        sites.push(UnitPart::Tokens(1))?;
+    }
+    sites.push(UnitPart::Joined(TextPurpose::Prefix, &typeprefix.text))?;
     Ok(())
 }
