@@ -47,7 +47,7 @@ site_text rest (item.Plain n) =
     if rest.in_value then [] else flat_map token_text (take n rest.tokens)
 site_text rest (item.Declares way name) = spaced (escaped name)
 site_text rest (item.Uses way name) = if rest.in_value then [] else next_path rest.found
-site_text rest (item.Says text) = spaced (text_word text)
+site_text rest (item.Says purpose text) = spaced (text_word text)
 site_text rest (item.ValueEnds way expression) = next_value rest.values
 site_text rest other = []
 

@@ -101,7 +101,7 @@ impl<'a> Rest<'a> {
                 push_declared(text, name.as_bytes())
             }
             UnitPart::Used(_, name) => self.push_used(text, name),
-            UnitPart::Joined(pieces) => {
+            UnitPart::Joined(_, pieces) => {
                 self.pass(1 + pieces.rest.len());
                 push_joined(text, pieces)
             }
