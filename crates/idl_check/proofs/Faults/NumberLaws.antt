@@ -25,7 +25,7 @@ use Rattle.idl_env.specs.declared.keys.key.Key.TheVariants.{Cursor}
 use Rattle.idl_parts.specs.Item.{items, items_length}
 use Rattle.idl_parts.specs.ConstructionParts.{construction_parts}
 use Rattle.idl_parts.specs.Part.{Parts, Declares, Plain, if_some, keyword_part, punctuation}
-use Rattle.idl_parts.specs.UnitParts.{attribute_parts, bases_parts, constant_parts, exception_parts, forward_parts, native_parts, operation_parts, readonly_attribute_parts, typedef_parts, unit_parts}
+use Rattle.idl_parts.specs.UnitParts.{attribute_parts, bases_parts, constant_parts, exception_parts, forward_parts, native_parts, operation_parts, readonly_attribute_parts, typedef_parts, typeid_parts, typeprefix_parts, unit_parts}
 use Rattle.idl_parts.specs.declared.part.Declaration.TheVariants as declaration
 use Rattle.idl_parts.proofs.UnitSpelling.{counted, unit_spells}
 use Rattle.idl_tree.specs.Interface.{spell_local}
@@ -75,6 +75,8 @@ unit-ends (tree.Exception e) = mark-ends (exception_parts e) mark.Semicolon
 unit-ends (tree.ReadonlyAttribute a) = mark-ends (readonly_attribute_parts a) mark.Semicolon
 unit-ends (tree.Attribute a) = mark-ends (attribute_parts a) mark.Semicolon
 unit-ends (tree.Operation o) = mark-ends (operation_parts o) mark.Semicolon
+unit-ends (tree.Typeid t) = mark-ends (typeid_parts t) mark.Semicolon
+unit-ends (tree.Typeprefix t) = mark-ends (typeprefix_parts t) mark.Semicolon
 
 -- ---- the faults of the steps
 

@@ -15,7 +15,7 @@ use Rattle.idl_entity.specs.declared.entity.Entity.{Entity}
 use Rattle.idl_scope.specs.declared.fault.NameCode.{NameCode}
 use Rattle.idl_scope.specs.declared.fault.NameCode.TheVariants.{Undeclared}
 use Rattle.idl_parts.specs.declared.part.Use.{Use}
-use Rattle.idl_parts.specs.declared.part.Use.TheVariants.{AsBase, AsType, AsConstantType, AsDiscriminator}
+use Rattle.idl_parts.specs.declared.part.Use.TheVariants.{AsBase, AsStructBase, AsType, AsConstantType, AsDiscriminator}
 use Rattle.idl_unit.specs.TokenRules.{fault_at}
 use Rattle.idl_unit.specs.declared.fault.Fault.{Fault}
 use Rattle.idl_check.proofs.Faults.FaultOrder.{AreLed, IsLed, led-codes}
@@ -69,6 +69,7 @@ declared-up s standing e = (omega arith, (omega arith, (omega arith, (omega arit
 
 suited-up : (way : Use) (bases : Bases) (e behind : Entity) → Ascends 22 (suited_table way bases e behind)
 suited-up (AsBase is_local) bases e behind = (omega arith, (omega arith, (omega arith, (omega arith, tt))))
+suited-up AsStructBase bases e behind = (omega arith, tt)
 suited-up AsType bases e behind = (omega arith, tt)
 suited-up AsConstantType bases e behind = (omega arith, (omega arith, tt))
 suited-up AsDiscriminator bases e behind = (omega arith, (omega arith, tt))

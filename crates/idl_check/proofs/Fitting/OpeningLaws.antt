@@ -67,7 +67,7 @@ rest-sited [] s h = tt
 rest-sited (item.Plain n ∷ sites) s h = (tt, rest-sited sites s h)
 rest-sited (item.Uses way name ∷ sites) s h = (tt, rest-sited sites s h)
 rest-sited (item.Declares way name ∷ sites) s h = absurd h
-rest-sited (item.Says text ∷ sites) s h = absurd h
+rest-sited (item.Says purpose text ∷ sites) s h = absurd h
 rest-sited (item.ValueBegins ∷ sites) s h = absurd h
 rest-sited (item.ValueEnds way e ∷ sites) s h = absurd h
 rest-sited (item.ScopeBegins way name ∷ sites) s h = absurd h
@@ -75,6 +75,7 @@ rest-sited (item.ScopeEnds ∷ sites) s h = absurd h
 rest-sited (item.TypeEnds shape ∷ sites) s h = absurd h
 rest-sited (item.ArrayEnds ∷ sites) s h = absurd h
 rest-sited (item.Enumerates names ∷ sites) s h = absurd h
+rest-sited (item.Identifies text ∷ sites) s h = absurd h
 rest-sited (item.Switches discrete ∷ sites) s h = absurd h
 rest-sited (item.Default ∷ sites) s h = absurd h
 rest-sited (item.GivesBack ∷ sites) s h = absurd h
@@ -135,7 +136,7 @@ module _ (facts : List UnitFacts) (k : IsSettled (world facts)) (turns : ℕ) (e
       let parts = none-append v.faults (visit_faults turns (answers facts) sites v.after) none in
       rest-on w v.after (walked turns (answers facts) sites v.after) (named-rest way name w w.gives_back parts.0) (sites-rest sites v.after h parts.1)
   sites-rest (item.Declares way name ∷ sites) w h none = absurd h
-  sites-rest (item.Says text ∷ sites) w h none = absurd h
+  sites-rest (item.Says purpose text ∷ sites) w h none = absurd h
   sites-rest (item.ValueBegins ∷ sites) w h none = absurd h
   sites-rest (item.ValueEnds way e ∷ sites) w h none = absurd h
   sites-rest (item.ScopeBegins way name ∷ sites) w h none = absurd h
@@ -143,6 +144,7 @@ module _ (facts : List UnitFacts) (k : IsSettled (world facts)) (turns : ℕ) (e
   sites-rest (item.TypeEnds shape ∷ sites) w h none = absurd h
   sites-rest (item.ArrayEnds ∷ sites) w h none = absurd h
   sites-rest (item.Enumerates enumerators ∷ sites) w h none = absurd h
+  sites-rest (item.Identifies text ∷ sites) w h none = absurd h
   sites-rest (item.Switches discrete ∷ sites) w h none = absurd h
   sites-rest (item.Default ∷ sites) w h none = absurd h
   sites-rest (item.GivesBack ∷ sites) w h none = absurd h

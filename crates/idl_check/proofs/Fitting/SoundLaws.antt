@@ -168,6 +168,8 @@ module _ (front : List UnitFacts) (k : IsSettled (world front)) (tokens : List T
   tree-fits (tree.ReadonlyAttribute a) = plain-fits (tree.ReadonlyAttribute a) refl (λ u. tt)
   tree-fits (tree.Attribute a) = plain-fits (tree.Attribute a) refl (λ u. tt)
   tree-fits (tree.Operation o) = plain-fits (tree.Operation o) refl (λ u. tt)
+  tree-fits (tree.Typeid t) = plain-fits (tree.Typeid t) refl (λ u. tt)
+  tree-fits (tree.Typeprefix t) = plain-fits (tree.Typeprefix t) refl (λ u. tt)
 
   -- it adds what all its sites come to
   pub sound-fits : (v : Verdict) → IsSound (turns_for front) (answers front) around tokens v → IsFitting (world front) v.writes

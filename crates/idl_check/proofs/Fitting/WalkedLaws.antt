@@ -393,7 +393,7 @@ module _ (facts : List UnitFacts) (k : IsSettled (world facts)) (turns : ℕ) (e
   site-walks (item.Plain n) w s h sited none = calm w (passed n w) s h refl refl refl refl refl refl
   site-walks (item.Declares way name) w s h sited none = walks-declared way name w s h sited w.cursor refl none
   site-walks (item.Uses way name) w s h sited none = named-walks way name w s w.gives_back none h
-  site-walks (item.Says text) w s h sited none = calm w (visited turns (answers facts) (item.Says text) w).after s h refl refl refl refl refl refl
+  site-walks (item.Says purpose text) w s h sited none = calm w (visited turns (answers facts) (item.Says purpose text) w).after s h refl refl refl refl refl refl
   site-walks item.ValueBegins w s h sited none = calm w (visited turns (answers facts) item.ValueBegins w).after s h refl refl refl refl refl refl
   site-walks (item.ValueEnds way e) w s h sited none = valued-walks w s way (outcome_at w way e) h
   site-walks (item.ScopeBegins way name) w s h sited none = begins way name w s h sited w.cursor refl
@@ -402,6 +402,7 @@ module _ (facts : List UnitFacts) (k : IsSettled (world facts)) (turns : ℕ) (e
   site-walks item.ArrayEnds w s h sited none =
       walks-on w (ended_array w) s h (array-grows w.values.lengths w.last w.own h.grown h.last) refl refl refl (array-member w.values.lengths w.last w.bodies) h.bases
   site-walks (item.Enumerates names) w s h sited none = calm w (visited turns (answers facts) (item.Enumerates names) w).after s h refl refl refl refl refl refl
+  site-walks (item.Identifies text) w s h sited none = calm w (visited turns (answers facts) (item.Identifies text) w).after s h refl refl refl refl refl refl
   site-walks (item.Switches discrete) w s h sited none = calm w (visited turns (answers facts) (item.Switches discrete) w).after s h refl refl refl refl refl refl
   site-walks item.Default w s h sited none = walks-on w (visited turns (answers facts) item.Default w).after s h (grows-none names around w.own h.grown) refl refl refl (labelled None w.bodies) h.bases
   site-walks item.GivesBack w s h sited none = calm w (visited turns (answers facts) item.GivesBack w).after s h refl refl refl refl refl refl

@@ -282,7 +282,7 @@ module _ (turns : ℕ) (answers : Key → Option Answer) where
   single-kept (item.Plain n) w a single given inside none k = record { stands = k; told = refl; constant = refl }
   single-kept (item.Declares way name) w a single given inside none k = declared-kept turns answers way name w a (first w.cursor) k
   single-kept (item.Uses way name) w a single given inside none k = named-kept turns answers way name w a w.gives_back given none k
-  single-kept (item.Says text) w a single given inside none k = record { stands = k; told = refl; constant = refl }
+  single-kept (item.Says purpose text) w a single given inside none k = record { stands = k; told = refl; constant = refl }
   single-kept item.ValueBegins w a single given inside none k = cc
   single-kept (item.ValueEnds way e) w a single given inside none k = cc
   single-kept (item.ScopeBegins way name) w a single given inside none k = record {
@@ -303,6 +303,7 @@ module _ (turns : ℕ) (answers : Key → Option Answer) where
   }
   single-kept item.ArrayEnds w a single given inside none k = record { stands = k; told = refl; constant = refl }
   single-kept (item.Enumerates names) w a single given inside none k = record { stands = k; told = refl; constant = refl }
+  single-kept (item.Identifies text) w a single given inside none k = record { stands = k; told = refl; constant = refl }
   single-kept (item.Switches discrete) w a single given inside none k = record {
     stands = record {
       count = let c = k.count in omega (arith, c);

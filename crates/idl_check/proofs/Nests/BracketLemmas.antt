@@ -56,7 +56,7 @@ pub tokens-case : (P : Item → Type 0) → ((n : ℕ) → P (item.Plain n)) →
 tokens-case P tokens used (item.Plain n) h = tokens n
 tokens-case P tokens used (item.Declares way name) h = cc
 tokens-case P tokens used (item.Uses way name) h = used way name
-tokens-case P tokens used (item.Says text) h = cc
+tokens-case P tokens used (item.Says purpose text) h = cc
 tokens-case P tokens used item.ValueBegins h = cc
 tokens-case P tokens used (item.ValueEnds way e) h = cc
 tokens-case P tokens used (item.ScopeBegins way name) h = cc
@@ -64,6 +64,7 @@ tokens-case P tokens used item.ScopeEnds h = cc
 tokens-case P tokens used (item.TypeEnds shape) h = cc
 tokens-case P tokens used item.ArrayEnds h = cc
 tokens-case P tokens used (item.Enumerates names) h = cc
+tokens-case P tokens used (item.Identifies text) h = cc
 tokens-case P tokens used (item.Switches discrete) h = cc
 tokens-case P tokens used item.Default h = cc
 tokens-case P tokens used item.GivesBack h = cc

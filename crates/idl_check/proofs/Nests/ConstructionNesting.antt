@@ -3,7 +3,7 @@ use Rattle.idl_tree.specs.declared.declarations.data_type.TypeTree.TheFolds.{fol
 use Rattle.std.proofs.Common.{◌≡◌, ℕ, true, false, List, [], ◌∷◌, ◌++◌, Option, None, Some, append_assoc, flat_map, is_some, map, refl, sym, subst, ◌∙◌, ap}
 use Rattle.idl_lex.specs.declared.kinds.keyword.Keyword.TheVariants as word
 use Rattle.idl_lex.specs.declared.kinds.mark.Mark.TheVariants as mark
-use Rattle.idl_parts.proofs.ConstructionEquations.{case_parts-made, construction_parts-enumeration, construction_parts-structure, construction_parts-union, member_parts-made, member_type_parts-construction, member_type_parts-type, structure_parts-made, union_brace, union_parts-made}
+use Rattle.idl_parts.proofs.ConstructionEquations.{case_parts-made, construction_parts-enumeration, construction_parts-structure, construction_parts-union, member_parts-made, member_type_parts-construction, member_type_parts-type, structure_brace, structure_parts-made, union_brace, union_parts-made}
 use Rattle.idl_parts.proofs.Such.{Such}
 use Rattle.idl_parts.specs.ConstructionParts.{case_parts, construction_parts, discriminator_parts, enumeration_parts, label_parts, member_parts, member_type_parts, structure_parts, union_parts}
 use Rattle.idl_parts.specs.ExpressionParts.{value_parts}
@@ -45,10 +45,11 @@ use Rattle.idl_tree.specs.declared.declarations.data_type.Sequence.{Sequence, ro
 use Rattle.idl_tree.specs.declared.declarations.data_type.StringType.{StringType}
 use Rattle.idl_tree.specs.declared.declarations.declarator.Declarator.{Declarator}
 use Rattle.idl_tree.specs.declared.expression.Expression.{Expression}
+use Rattle.idl_tree.specs.declared.name.ScopedName.{ScopedName}
 use Rattle.idl_tree.specs.declared.several.Several.{Several}
 use Rattle.idl_tree.specs.declared.unit.ConstantTypeTree.{ConstantTypeTree}
 use Rattle.idl_tree.specs.declared.unit.ConstantTypeTree.TheVariants as constant
-use Rattle.idl_check.proofs.Nests.Nesting.{Gives, Nests, NestsAt, NestsIn, at_least, before, before_in, carry, declares, discriminated, each, ends, expression, follow, follow_in, gives, label_value, lifted, many, none, one, scope, several, union_scope}
+use Rattle.idl_check.proofs.Nests.Nesting.{Gives, Nests, NestsAt, NestsIn, at_least, based, before, before_in, carry, declares, discriminated, each, ends, expression, follow, follow_in, gives, label_value, lifted, many, none, one, scope, several, union_scope}
 use Rattle.idl_check.proofs.Nests.LevelSites.{is_declared_at, is_level_use}
 
 -- ---- types
@@ -197,15 +198,15 @@ brace = punctuation mark.CloseBrace ∷ []
 inside : (first rest : Parts) → (first ++ rest) ++ ScopeEnds ∷ brace ≡ first ++ (rest ++ ScopeEnds ∷ brace)
 inside first rest = append_assoc first rest (ScopeEnds ∷ brace)
 
-a_structure : (name : List ℕ) (m : Such Members) (ms : List (Such Members)) → Structures (made_structure name m.0 (map (λ s. s.0) ms))
-a_structure name m ms =
-    let rest = flat_map member_parts (map (λ s. s.0) ms) in
-    let body = scope declaration.Structure name (member_parts m.0 ++ rest) brace refl (follow (member_parts m.0) rest m.1 (many 0 member_parts (λ s. s.0) (λ s. s.1) ms)) (one (punctuation mark.CloseBrace) refl) in
-    subst Nests (sym (structure_parts-made name m.0 (map (λ s. s.0) ms)))
+a_structure : (name : List ℕ) (base : Option ScopedName) (ms : List (Such Members)) → Structures (made_structure name base (map (λ s. s.0) ms))
+a_structure name base ms =
+    let members = flat_map member_parts (map (λ s. s.0) ms) in
+    let body = scope declaration.Structure name members brace refl (many 0 member_parts (λ s. s.0) (λ s. s.1) ms) (one (punctuation mark.CloseBrace) refl) in
+    subst Nests (sym (structure_parts-made name base (map (λ s. s.0) ms)))
     (before (keyword_part word.Struct) _ refl
     (declares declaration.Structure name _ refl refl
-    (carry (Punctuation mark.OpenBrace ∷ []) (ScopeBegins declaration.Structure name ∷ (member_parts m.0 ++ (rest ++ ScopeEnds ∷ brace)))
-    (subst (λ p. NestsAt (Some name) false 0 (ScopeBegins declaration.Structure name ∷ p)) (inside (member_parts m.0) rest) body))))
+    (based base (structure_brace name ++ (members ++ ScopeEnds ∷ brace))
+    (carry (Punctuation mark.OpenBrace ∷ []) (ScopeBegins declaration.Structure name ∷ (members ++ ScopeEnds ∷ brace)) body))))
 
 a_union : (name : List ℕ) (d : Discriminator) (c : Such Cases) (cs : List (Such Cases)) → Unions (made_union name d c.0 (map (λ s. s.0) cs))
 a_union name d c cs =
@@ -236,7 +237,7 @@ construction = ind-Construction Constructions MemberTypes Cases Members Structur
     (λ x y is. subst (λ z. MemberTypes (roll-MemberType z)) is (by_member_type y))
     (λ x y is. subst (λ z. Cases (roll-Case z)) is (a_case y.labels y.kind.0 y.declarator y.kind.1))
     (λ x y is. subst (λ z. Members (roll-Member z)) is (a_member y.kind.0 y.declarators y.kind.1))
-    (λ x y is. subst (λ z. Structures (roll-Structure z)) is (a_structure y.name y.first y.rest))
+    (λ x y is. subst (λ z. Structures (roll-Structure z)) is (a_structure y.name y.base y.members))
     (λ x y is. subst (λ z. Unions (roll-Union z)) is (a_union y.name y.discriminator y.first y.rest))
 
 pub member_type : (t : MemberType) → MemberTypes t
@@ -245,7 +246,7 @@ member_type = ind-MemberType Constructions MemberTypes Cases Members Structures 
     (λ x y is. subst (λ z. MemberTypes (roll-MemberType z)) is (by_member_type y))
     (λ x y is. subst (λ z. Cases (roll-Case z)) is (a_case y.labels y.kind.0 y.declarator y.kind.1))
     (λ x y is. subst (λ z. Members (roll-Member z)) is (a_member y.kind.0 y.declarators y.kind.1))
-    (λ x y is. subst (λ z. Structures (roll-Structure z)) is (a_structure y.name y.first y.rest))
+    (λ x y is. subst (λ z. Structures (roll-Structure z)) is (a_structure y.name y.base y.members))
     (λ x y is. subst (λ z. Unions (roll-Union z)) is (a_union y.name y.discriminator y.first y.rest))
 
 pub member : (m : Member) → Members m
@@ -254,5 +255,5 @@ member = ind-Member Constructions MemberTypes Cases Members Structures Unions
     (λ x y is. subst (λ z. MemberTypes (roll-MemberType z)) is (by_member_type y))
     (λ x y is. subst (λ z. Cases (roll-Case z)) is (a_case y.labels y.kind.0 y.declarator y.kind.1))
     (λ x y is. subst (λ z. Members (roll-Member z)) is (a_member y.kind.0 y.declarators y.kind.1))
-    (λ x y is. subst (λ z. Structures (roll-Structure z)) is (a_structure y.name y.first y.rest))
+    (λ x y is. subst (λ z. Structures (roll-Structure z)) is (a_structure y.name y.base y.members))
     (λ x y is. subst (λ z. Unions (roll-Union z)) is (a_union y.name y.discriminator y.first y.rest))

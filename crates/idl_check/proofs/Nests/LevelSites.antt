@@ -12,7 +12,7 @@ use Rattle.idl_parts.specs.declared.part.Shape.TheVariants.{Basic, Text, Sequenc
 use Rattle.idl_parts.specs.declared.part.Purpose.{Purpose}
 use Rattle.idl_parts.specs.declared.part.Purpose.TheVariants as purpose
 use Rattle.idl_parts.specs.declared.part.Use.{Use}
-use Rattle.idl_parts.specs.declared.part.Use.TheVariants.{AsBase, AsType, AsElement, AsConstantType, AsDiscriminator, AsOperand, Raised, RaisedBySet}
+use Rattle.idl_parts.specs.declared.part.Use.TheVariants.{AsBase, AsStructBase, AsType, AsElement, AsConstantType, AsDiscriminator, AsOperand, Raised, RaisedBySet, AsIdentified, AsPrefixed}
 use Rattle.idl_tree.specs.declared.declarations.data_type.BasicType.{BasicType}
 use Rattle.idl_tree.specs.declared.declarations.data_type.BasicType.TheVariants.{Discrete}
 
@@ -134,6 +134,9 @@ same-used AsDiscriminator a h = cc
 same-used AsOperand a h = same-here a
 same-used Raised a h = same-here a
 same-used RaisedBySet a h = same-here a
+same-used AsStructBase a h = same-here a
+same-used AsIdentified a h = same-here a
+same-used AsPrefixed a h = same-here a
 
 pub known-level : (way : Purpose) (a : Around) → is_level_value way ≡ true → IsKnown way a
 known-level purpose.Bound a h = tt
@@ -161,7 +164,7 @@ level-site top (item.Declares way name) h =
     let parts = at-declared top (is_other way) (is_operation_way way) h in
     record { single = refl; fit = λ a. tt; same = same-here; placed = λ s at. (parts.0, λ o. at (parts.1 o)); level = λ s. refl }
 level-site top (item.Uses way name) h = record { single = refl; fit = λ a. tt; same = λ a. same-used way a h; placed = λ s at. tt; level = λ s. refl }
-level-site top (item.Says text) h = record { single = refl; fit = λ a. tt; same = same-here; placed = λ s at. tt; level = λ s. refl }
+level-site top (item.Says purpose text) h = record { single = refl; fit = λ a. tt; same = same-here; placed = λ s at. tt; level = λ s. refl }
 level-site top item.ValueBegins h = cc
 level-site top (item.ValueEnds way e) h = cc
 level-site top (item.ScopeBegins way name) h = cc
@@ -169,6 +172,7 @@ level-site top item.ScopeEnds h = cc
 level-site top (item.TypeEnds shape) h = record { single = refl; fit = λ a. tt; same = λ a. record { unions = refl; scopes = refl }; placed = λ s at. tt; level = λ s. refl }
 level-site top item.ArrayEnds h = record { single = refl; fit = λ a. tt; same = same-here; placed = λ s at. tt; level = λ s. refl }
 level-site top (item.Enumerates names) h = record { single = refl; fit = λ a. tt; same = same-here; placed = λ s at. tt; level = λ s. refl }
+level-site top (item.Identifies text) h = record { single = refl; fit = λ a. tt; same = same-here; placed = λ s at. tt; level = λ s. refl }
 level-site top (item.Switches discrete) h = cc
 level-site top item.Default h = record { single = refl; fit = λ a. tt; same = same-here; placed = λ s at. tt; level = λ s. refl }
 level-site top item.GivesBack h = cc

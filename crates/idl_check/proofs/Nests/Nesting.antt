@@ -10,7 +10,7 @@ use Rattle.idl_check.proofs.Nests.Scenes.{ArePlaced, AtTop, IsFrom, Scene, last_
 use Rattle.idl_check.proofs.Nests.LevelSites.{AreFit, AreSame, Around, around_after, arounds, arounds-append, fit-append, is_declared_at, is_inside, is_level_at, is_level_value, opens_union, popped, same-here, IsFit, IsKnown, known-level, level-site}
 use Rattle.idl_tree.specs.Lexeme.{Lexemes, Punctuation}
 use Rattle.idl_lex.specs.declared.kinds.mark.Mark.TheVariants as mark
-use Rattle.idl_parts.specs.ConstructionParts.{discriminator_parts}
+use Rattle.idl_parts.specs.ConstructionParts.{base_parts, discriminator_parts}
 use Rattle.idl_parts.specs.ExpressionParts.{expression_parts, value_parts}
 use Rattle.idl_parts.specs.Item.{Item, item_of, items}
 use Rattle.idl_parts.specs.Part.{Part, Parts, Declares, Plain, ScopeBegins, ScopeEnds, ValueEnds, all_parts, if_some, listed, punctuation, GivesBack, Switches, Uses, Part as item}
@@ -19,10 +19,11 @@ use Rattle.idl_parts.specs.declared.part.Declaration.{Declaration}
 use Rattle.idl_parts.specs.declared.part.Declaration.TheVariants as declaration
 use Rattle.idl_parts.specs.declared.part.Purpose.{Purpose}
 use Rattle.idl_parts.specs.declared.part.Purpose.TheVariants as purpose
-use Rattle.idl_parts.specs.declared.part.Use.TheVariants.{AsDiscriminator}
+use Rattle.idl_parts.specs.declared.part.Use.TheVariants.{AsDiscriminator, AsStructBase}
 use Rattle.idl_tree.specs.declared.declarations.construction.Discriminator.{Discriminator}
 use Rattle.idl_tree.specs.declared.declarations.construction.Discriminator.TheVariants as discriminator
 use Rattle.idl_tree.specs.declared.expression.Expression.{Expression}
+use Rattle.idl_tree.specs.declared.name.ScopedName.{ScopedName}
 use Rattle.idl_tree.specs.declared.several.Several.{Several}
 use Rattle.idl_check.proofs.Nests.Operands.{is_operand, expression-operands, operand-case}
 
@@ -116,6 +117,20 @@ carry words p n = record {
   placed = λ s from t. (tt, n.placed s from t);
   level = λ s. n.level s;
 }
+
+-- and so the base of a struct, if it has one
+carry_base : {behind : Option (List ℕ)} {top : Bool} (base : ScopedName) (p : Parts) → NestsAt behind top 0 p → NestsAt behind top 0 (Uses AsStructBase base ∷ p)
+carry_base base p n = record {
+  bracketed = bracketed-before (Uses AsStructBase base) p refl n.bracketed;
+  fit = λ a h. (tt, n.fit a h);
+  same = λ a. n.same a;
+  placed = λ s from t. (tt, n.placed s from t);
+  level = λ s. n.level s;
+}
+
+pub based : {behind : Option (List ℕ)} {top : Bool} (base : Option ScopedName) (p : Parts) → NestsAt behind top 0 p → NestsAt behind top 0 (if_some base_parts base ++ p)
+based None p n = n
+based (Some base) p n = carry (Punctuation mark.Colon ∷ []) (Uses AsStructBase base ∷ p) (carry_base base p n)
 
 pub one : {top : Bool} (x : Part Lexemes) → is_level_at top (item_of x) ≡ true → NestsAt None top 0 (x ∷ [])
 one x h = before x [] h none

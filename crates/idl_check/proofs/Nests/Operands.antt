@@ -14,7 +14,7 @@ use Rattle.idl_parts.specs.ExpressionParts.{and_parts, exclusive_or_parts, expre
 use Rattle.idl_parts.specs.Item.{Item, item_of, items}
 use Rattle.idl_parts.specs.Part.{Part, Parts, Plain, Uses, punctuation, Part as item}
 use Rattle.idl_parts.specs.declared.part.Use.{Use}
-use Rattle.idl_parts.specs.declared.part.Use.TheVariants.{AsBase, AsType, AsElement, AsConstantType, AsDiscriminator, AsOperand, Raised, RaisedBySet}
+use Rattle.idl_parts.specs.declared.part.Use.TheVariants.{AsBase, AsStructBase, AsType, AsElement, AsConstantType, AsDiscriminator, AsOperand, Raised, RaisedBySet, AsIdentified, AsPrefixed}
 use Rattle.idl_tree.specs.Expression.{product_mark, shift_mark, spell_literal, spell_unary_operator, sum_mark}
 use Rattle.idl_tree.specs.Lexeme.{Lexemes}
 use Rattle.idl_tree.specs.reading.ReadExpression.{made_and, made_exclusive_or, made_expression, made_product, made_shift, made_sum, made_unary}
@@ -63,8 +63,11 @@ operand-case P tokens used (item.Uses AsConstantType name) h = cc
 operand-case P tokens used (item.Uses AsDiscriminator name) h = cc
 operand-case P tokens used (item.Uses Raised name) h = cc
 operand-case P tokens used (item.Uses RaisedBySet name) h = cc
+operand-case P tokens used (item.Uses AsStructBase name) h = cc
+operand-case P tokens used (item.Uses AsIdentified name) h = cc
+operand-case P tokens used (item.Uses AsPrefixed name) h = cc
 operand-case P tokens used (item.Declares way name) h = cc
-operand-case P tokens used (item.Says text) h = cc
+operand-case P tokens used (item.Says purpose text) h = cc
 operand-case P tokens used item.ValueBegins h = cc
 operand-case P tokens used (item.ValueEnds way e) h = cc
 operand-case P tokens used (item.ScopeBegins way name) h = cc
@@ -72,6 +75,7 @@ operand-case P tokens used item.ScopeEnds h = cc
 operand-case P tokens used (item.TypeEnds shape) h = cc
 operand-case P tokens used item.ArrayEnds h = cc
 operand-case P tokens used (item.Enumerates names) h = cc
+operand-case P tokens used (item.Identifies text) h = cc
 operand-case P tokens used (item.Switches discrete) h = cc
 operand-case P tokens used item.Default h = cc
 operand-case P tokens used item.GivesBack h = cc

@@ -8,14 +8,15 @@ use Rattle.idl_lex.specs.declared.kinds.mark.Mark.TheVariants as mark
 use Rattle.idl_parts.specs.ConstructionParts.{construction_parts, member_parts, member_type_parts}
 use Rattle.idl_parts.specs.ExpressionParts.{value_parts}
 use Rattle.idl_parts.specs.Item.{item_of, items}
-use Rattle.idl_parts.specs.Part.{Part, Parts, Declares, Plain, Says, ScopeBegins, ScopeEnds, TypeEnds, Uses, declared, if_some, keyword_part, listed, punctuation, raised, used}
+use Rattle.idl_parts.specs.Part.{Part, Parts, Declares, Identifies, Plain, Says, ScopeBegins, ScopeEnds, TypeEnds, Uses, declared, if_some, keyword_part, listed, punctuation, raised, used}
 use Rattle.idl_parts.specs.TypeParts.{bound_parts, constant_type_parts, declarator_parts, type_parts}
-use Rattle.idl_parts.specs.UnitParts.{attribute_names, attribute_names_parts, attribute_parts, bases_parts, constant_parts, context_parts, direction_parts, exception_parts, exceptions_parts, given_back, interface_parts, native_parts, oneway_parts, operation_parts, parameter_parts, raises_parts, readonly_attribute_parts, readonly_names_parts, result_parts, typedef_parts, ended, unit_parts}
+use Rattle.idl_parts.specs.UnitParts.{attribute_names, attribute_names_parts, attribute_parts, bases_parts, constant_parts, context_parts, direction_parts, ended, equals_parts, exception_parts, exceptions_parts, given_back, interface_parts, native_parts, oneway_parts, operation_parts, parameter_parts, raises_parts, readonly_attribute_parts, readonly_names_parts, result_parts, typedef_parts, typeid_parts, typeprefix_parts, unit_parts}
 use Rattle.idl_parts.specs.declared.part.Declaration.TheVariants as declaration
 use Rattle.idl_parts.specs.declared.part.Shape.TheVariants.{Text}
 use Rattle.idl_parts.specs.declared.part.Purpose.TheVariants as purpose
 use Rattle.idl_parts.specs.declared.part.Use.{Use}
-use Rattle.idl_parts.specs.declared.part.Use.TheVariants.{AsBase, Raised, RaisedBySet}
+use Rattle.idl_parts.specs.declared.part.TextPurpose.TheVariants.{Context, Id, Prefix}
+use Rattle.idl_parts.specs.declared.part.Use.TheVariants.{AsBase, AsIdentified, AsPrefixed, Raised, RaisedBySet}
 use Rattle.idl_tree.specs.Interface.{spell_direction, spell_local}
 use Rattle.idl_tree.specs.Lexeme.{Word, Punctuation, Lexemes}
 use Rattle.idl_tree.specs.declared.declarations.attribute.Attribute.{Attribute}
@@ -42,6 +43,8 @@ use Rattle.idl_tree.specs.declared.unit.Exception.{Exception}
 use Rattle.idl_tree.specs.declared.unit.Tree.{Tree}
 use Rattle.idl_tree.specs.declared.unit.Tree.TheVariants as tree
 use Rattle.idl_tree.specs.declared.unit.Typedef.{Typedef}
+use Rattle.idl_tree.specs.declared.unit.Typeid.{Typeid}
+use Rattle.idl_tree.specs.declared.unit.Typeprefix.{Typeprefix}
 use Rattle.idl_check.specs.walk.Sections.{AreBracketed}
 use Rattle.idl_check.proofs.Nests.BracketLemmas.{bracketed-before, bracketed-follow, bracketed-none, bracketed-value}
 use Rattle.idl_check.proofs.Nests.ConstructionNesting.{a_result, a_type, constant_type, construction, declarator, member, member_type}
@@ -128,7 +131,7 @@ raises is_oneway ns =
 context : (texts : Several (Several (List ℕ))) → Nests (context_parts texts)
 context texts =
     before (Plain (Word word.Context ∷ Punctuation mark.OpenParenthesis ∷ [])) _ refl
-    (ends (listed (λ text. Says text ∷ []) texts) (punctuation mark.CloseParenthesis) refl (several (λ text. Says text ∷ []) (λ text. one (Says text) refl) texts))
+    (ends (listed (λ text. Says Context text ∷ []) texts) (punctuation mark.CloseParenthesis) refl (several (λ text. Says Context text ∷ []) (λ text. one (Says Context text) refl) texts))
 
 -- the parameters and what stands behind them are what stands inside an operation
 inside : (parameters exceptions contexts : Parts) (x y : Part Lexemes)
@@ -169,6 +172,18 @@ an_exception e =
     (declares declaration.Exception e.name _ refl refl
     (carry (Punctuation mark.OpenBrace ∷ []) _
     (scope declaration.Exception e.name (flat_map member_parts e.members) (punctuation mark.CloseBrace ∷ []) refl (each member_parts member e.members) (one (punctuation mark.CloseBrace) refl))))
+
+a_typeid : (t : Typeid) → Nests (typeid_parts t)
+a_typeid t = before (keyword_part word.Typeid) _ refl (before (Identifies t.text) _ refl (before (Uses AsIdentified t.name) _ refl (one (Says Id t.text) refl)))
+
+equals : (has_equals : Bool) → Nests (equals_parts has_equals)
+equals true = one (punctuation mark.Equals) refl
+equals false = none
+
+a_typeprefix : (t : Typeprefix) → Nests (typeprefix_parts t)
+a_typeprefix t =
+    before (keyword_part word.Typeprefix) _ refl
+    (before (Identifies t.text) _ refl (before (Uses AsPrefixed t.name) _ refl (ends (equals_parts t.has_equals) (Says Prefix t.text) refl (equals t.has_equals))))
 
 -- ---- a constant: its type is told before its value
 
@@ -266,3 +281,5 @@ unit-whole (tree.Exception e) = ended_whole true (exception_parts e) (an_excepti
 unit-whole (tree.ReadonlyAttribute a) = ended_whole true (readonly_attribute_parts a) (readonly_attribute a)
 unit-whole (tree.Attribute a) = ended_whole true (attribute_parts a) (attribute a)
 unit-whole (tree.Operation o) = ended_whole true (operation_parts o) (operation o)
+unit-whole (tree.Typeid t) = ended_whole true (typeid_parts t) (a_typeid t)
+unit-whole (tree.Typeprefix t) = ended_whole true (typeprefix_parts t) (a_typeprefix t)

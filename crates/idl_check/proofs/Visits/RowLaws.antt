@@ -252,6 +252,8 @@ tree-word (tree.Constant c) = refl
 tree-word (tree.Exception e) = refl
 tree-word (tree.ReadonlyAttribute a) = refl
 tree-word (tree.Attribute a) = refl
+tree-word (tree.Typeid t) = refl
+tree-word (tree.Typeprefix t) = refl
 tree-word (tree.Operation o) =
     operation-word o.is_oneway o.result
     (Identifier o.name ∷ Punctuation mark.OpenParenthesis

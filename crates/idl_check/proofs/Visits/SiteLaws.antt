@@ -7,7 +7,7 @@ use Rattle.idl_check.specs.tables.Codes.{Table, faults_by}
 use Rattle.idl_check.specs.tables.Declaring.{declared_table, entity_of, standing}
 use Rattle.idl_check.specs.walk.Judging.{spoken_from, spoken_till, walked}
 use Rattle.idl_check.specs.told.Labels.{is_idle, no_labels, with_default}
-use Rattle.idl_check.specs.told.Bodies.{begun_body, with_body_label, with_context}
+use Rattle.idl_check.specs.told.Bodies.{begun_body, with_body_label, with_text}
 use Rattle.idl_tree.specs.NameParts.{last_at, part_at}
 use Rattle.idl_check.specs.told.Types.{looked_through, target_in, written_as}
 use Rattle.idl_check.specs.tables.Using.{name_code, used_table, values_after}
@@ -361,8 +361,8 @@ module _ (turns : ℕ) (answers : Key → Option Answer) where
   visit-placed (item.Plain n) w = faulty-placed (item.Plain n) w (passed n w) w.gives_back BadOneway (omega arith) (omega arith) refl refl refl
   visit-placed (item.Declares way name) w = declared-by-placed way name w (first w.cursor)
   visit-placed (item.Uses way name) w = named-placed way name w w.gives_back
-  visit-placed (item.Says text) w =
-      faulty-placed (item.Says text) w (record (passed (item_length (item.Says text)) w) { clauses = with_context text w.clauses }) w.gives_back BadOneway (omega arith) (omega arith) refl refl refl
+  visit-placed (item.Says purpose text) w =
+      faulty-placed (item.Says purpose text) w (record (passed (item_length (item.Says purpose text)) w) { clauses = with_text purpose text w.clauses }) w.gives_back BadOneway (omega arith) (omega arith) refl refl refl
   visit-placed item.ValueBegins w =
       let u : Walk = record w { values = begun_at w.at w.values } in
       record { passes = omega arith; begins = omega (arith, begin-at w); within = none-within item.ValueBegins w; keeps = refl }
@@ -375,6 +375,7 @@ module _ (turns : ℕ) (answers : Key → Option Answer) where
   visit-placed item.ArrayEnds w = quiet-placed item.ArrayEnds w (ended_array w) (omega arith) refl refl
   visit-placed (item.Enumerates names) w =
       quiet-placed (item.Enumerates names) w (record w { written = record w.written { enumerators = names.first ∷ names.rest } }) (omega arith) refl refl
+  visit-placed (item.Identifies text) w = quiet-placed (item.Identifies text) w w (omega arith) refl refl
   visit-placed (item.Switches discrete) w =
       quiet-placed (item.Switches discrete) w (record w { written = record w.written { data_type = Some (plain_type (Constants (target_of discrete))) }; unions = no_labels (Some (target_of discrete)) 0 ∷ w.unions }) (omega arith) refl refl
   visit-placed item.Default w =

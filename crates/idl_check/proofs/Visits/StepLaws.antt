@@ -215,6 +215,8 @@ tree-step (tree.Constant c) scope = refl
 tree-step (tree.Exception e) scope = refl
 tree-step (tree.ReadonlyAttribute a) scope = refl
 tree-step (tree.Attribute a) scope = refl
+tree-step (tree.Typeid t) scope = refl
+tree-step (tree.Typeprefix t) scope = refl
 tree-step (tree.Operation o) scope =
     operation-step o.is_oneway o.result
     (Identifier o.name ∷ Punctuation mark.OpenParenthesis

@@ -325,7 +325,7 @@ single-none : (x : Item) → is_single x ≡ true → expression_at x ≡ []
 single-none (item.Plain n) h = refl
 single-none (item.Declares way name) h = refl
 single-none (item.Uses way name) h = refl
-single-none (item.Says text) h = refl
+single-none (item.Says purpose text) h = refl
 single-none item.ValueBegins h = refl
 single-none (item.ValueEnds way e) h = cc
 single-none (item.ScopeBegins way name) h = refl
@@ -333,6 +333,7 @@ single-none item.ScopeEnds h = refl
 single-none (item.TypeEnds shape) h = refl
 single-none item.ArrayEnds h = refl
 single-none (item.Enumerates names) h = refl
+single-none (item.Identifies text) h = refl
 single-none (item.Switches discrete) h = refl
 single-none item.Default h = refl
 single-none item.GivesBack h = refl

@@ -99,7 +99,7 @@ module _ (turns : ℕ) (answers : Key → Option Answer) where
   single-calm (item.Plain n) w single h = record { begin = refl; given = refl }
   single-calm (item.Declares way name) w single h = declared-calm way name w (first w.cursor) h
   single-calm (item.Uses way name) w single h = named-calm way name w w.gives_back h
-  single-calm (item.Says text) w single h = record { begin = refl; given = refl }
+  single-calm (item.Says purpose text) w single h = record { begin = refl; given = refl }
   single-calm item.ValueBegins w single h = cc
   single-calm (item.ValueEnds way e) w single h = cc
   single-calm item.ScopeEnds w single h = end-calm w (first w.cursor) h
@@ -161,7 +161,7 @@ module _ (turns : ℕ) (answers : Key → Option Answer) where
   whole-behind (item.Plain n) w = by-visit (item.Plain n) w
   whole-behind (item.Declares way name) w = by-visit (item.Declares way name) w
   whole-behind (item.Uses way name) w = name-behind way name w w.gives_back
-  whole-behind (item.Says text) w = by-visit (item.Says text) w
+  whole-behind (item.Says purpose text) w = by-visit (item.Says purpose text) w
   whole-behind item.ValueBegins w = by-visit item.ValueBegins w
   whole-behind (item.ValueEnds way e) w =
       record { begins = (by-visit (item.ValueEnds way e) w).begins; from = evaluation-from w way (evaluation_at w way e) }
@@ -170,6 +170,7 @@ module _ (turns : ℕ) (answers : Key → Option Answer) where
   whole-behind (item.TypeEnds shape) w = by-visit (item.TypeEnds shape) w
   whole-behind item.ArrayEnds w = by-visit item.ArrayEnds w
   whole-behind (item.Enumerates names) w = by-visit (item.Enumerates names) w
+  whole-behind (item.Identifies text) w = by-visit (item.Identifies text) w
   whole-behind (item.Switches discrete) w = by-visit (item.Switches discrete) w
   whole-behind item.Default w = by-visit item.Default w
   whole-behind item.GivesBack w = by-visit item.GivesBack w
@@ -227,7 +228,7 @@ module _ (turns : ℕ) (answers : Key → Option Answer) where
   site-even (item.Plain n) w = even-same (visited turns answers (item.Plain n) w) (visited turns answers (item.Plain n) w) refl
   site-even (item.Declares way name) w = even-same (visited turns answers (item.Declares way name) w) (visited turns answers (item.Declares way name) w) refl
   site-even (item.Uses way name) w = named-even way name w w.gives_back
-  site-even (item.Says text) w = even-same (visited turns answers (item.Says text) w) (visited turns answers (item.Says text) w) refl
+  site-even (item.Says purpose text) w = even-same (visited turns answers (item.Says purpose text) w) (visited turns answers (item.Says purpose text) w) refl
   site-even item.ValueBegins w = even-same (visited turns answers item.ValueBegins w) (visited turns answers item.ValueBegins w) refl
   site-even (item.ValueEnds way e) w = value-even w way (evaluation_at w way e)
   site-even (item.ScopeBegins way name) w = even-same (visited turns answers (item.ScopeBegins way name) w) (visited turns answers (item.ScopeBegins way name) w) refl
@@ -235,6 +236,7 @@ module _ (turns : ℕ) (answers : Key → Option Answer) where
   site-even (item.TypeEnds shape) w = even-same (visited turns answers (item.TypeEnds shape) w) (visited turns answers (item.TypeEnds shape) w) refl
   site-even item.ArrayEnds w = even-same (visited turns answers item.ArrayEnds w) (visited turns answers item.ArrayEnds w) refl
   site-even (item.Enumerates names) w = even-same (visited turns answers (item.Enumerates names) w) (visited turns answers (item.Enumerates names) w) refl
+  site-even (item.Identifies text) w = even-same (visited turns answers (item.Identifies text) w) (visited turns answers (item.Identifies text) w) refl
   site-even (item.Switches discrete) w = even-same (visited turns answers (item.Switches discrete) w) (visited turns answers (item.Switches discrete) w) refl
   site-even item.Default w = even-same (visited turns answers item.Default w) (visited turns answers item.Default w) refl
   site-even item.GivesBack w = even-same (visited turns answers item.GivesBack w) (visited turns answers item.GivesBack w) refl

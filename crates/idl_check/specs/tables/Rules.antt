@@ -22,7 +22,7 @@ use Rattle.idl_entity.specs.declared.kind.Kind.{Kind}
 use Rattle.idl_entity.specs.declared.kind.Kind.TheVariants.{Module, Interface, Structure, Union, Exception, Enumeration, Enumerator, Alias, Native, Parameter, Member}
 use Rattle.idl_entity.specs.declared.kind.Stage.TheVariants.{Ahead, Complete}
 use Rattle.idl_parts.specs.declared.part.Use.{Use}
-use Rattle.idl_parts.specs.declared.part.Use.TheVariants.{AsBase, AsType, AsElement, AsConstantType, AsDiscriminator, AsOperand, Raised, RaisedBySet}
+use Rattle.idl_parts.specs.declared.part.Use.TheVariants.{AsBase, AsStructBase, AsType, AsElement, AsConstantType, AsDiscriminator, AsOperand, Raised, RaisedBySet, AsIdentified, AsPrefixed}
 use Rattle.idl_tree.specs.declared.declarations.interface.Forward.TheVariants as forward
 use Rattle.idl_tree.specs.declared.unit.Tree.{Tree}
 use Rattle.idl_tree.specs.declared.unit.Tree.TheVariants as tree
@@ -107,6 +107,7 @@ is_type other = false
 
 abbrev pub suits : Use → Entity → Bool
 suits (AsBase is_local) e = kind_eq e.kind Interface
+suits AsStructBase e = kind_eq e.kind Structure
 suits AsType e = is_type e.kind
 suits AsElement e = is_type e.kind
 suits AsConstantType e = is_type e.kind
@@ -114,6 +115,8 @@ suits AsDiscriminator e = is_type e.kind
 suits AsOperand e = is_some e.value
 suits Raised e = kind_eq e.kind Exception
 suits RaisedBySet e = kind_eq e.kind Exception
+suits AsIdentified e = true
+suits AsPrefixed e = true
 
 -- E39: What is declared ahead, and its definition, are of one kind, and `local` both or neither.
 abbrev pub differs : Entity → Entity → Bool

@@ -22,7 +22,7 @@ use Rattle.idl_entity.specs.declared.entity.Entity.{Entity}
 use Rattle.idl_scope.specs.declared.fault.NameCode.{NameCode}
 use Rattle.idl_scope.specs.declared.fault.NameCode.TheVariants.{Undeclared, Ambiguous, OtherSpelling, NoScope}
 use Rattle.idl_parts.specs.declared.part.Use.{Use}
-use Rattle.idl_parts.specs.declared.part.Use.TheVariants.{AsBase, AsType, AsElement, AsConstantType, AsDiscriminator, AsOperand}
+use Rattle.idl_parts.specs.declared.part.Use.TheVariants.{AsBase, AsStructBase, AsType, AsElement, AsConstantType, AsDiscriminator, AsOperand}
 use Rattle.idl_value.specs.declared.constant_type.ConstantType.{ConstantType}
 use Rattle.idl_value.specs.declared.value.Value.{Value}
 
@@ -68,6 +68,7 @@ is_base other = false
 -- the faults of a name that denotes this, behind which that stands
 abbrev pub suited_table : Use → Bases → Entity → Entity → Table
 suited_table (AsBase is_local) bases e behind = base_table is_local bases e
+suited_table AsStructBase bases e behind = (is_incomplete e, code.IncompleteType) ∷ []
 suited_table AsType bases e behind = (is_incomplete e, code.IncompleteType) ∷ []
 suited_table AsConstantType bases e behind =
     (has_no_constants (constants_of behind), code.NoConstantType)

@@ -13,6 +13,8 @@ use Rattle.idl_entity.specs.declared.signature.Member.{Member}
 use Rattle.idl_entity.specs.declared.signature.Signature.{Signature}
 use Rattle.idl_parts.specs.declared.part.Declaration.{Declaration}
 use Rattle.idl_parts.specs.declared.part.Declaration.TheVariants as declaration
+use Rattle.idl_parts.specs.declared.part.TextPurpose.{TextPurpose}
+use Rattle.idl_parts.specs.declared.part.TextPurpose.TheVariants.{Context}
 use Rattle.idl_parts.specs.declared.part.Use.{Use}
 use Rattle.idl_parts.specs.declared.part.Use.TheVariants.{Raised, RaisedBySet}
 use Rattle.idl_tree.specs.declared.declarations.operation.Direction.TheVariants.{In, Out}
@@ -37,10 +39,11 @@ with_raised RaisedBySet path clauses =
     record clauses { raised_by_set = clauses.raised_by_set ++ path ∷ [] }
 with_raised other path clauses = clauses
 
--- with string literals, which are joined
-abbrev pub with_context : Several (List ℕ) → Clauses → Clauses
-with_context text clauses =
+-- with string literals, which are joined, if they are of a context
+abbrev pub with_text : TextPurpose → Several (List ℕ) → Clauses → Clauses
+with_text Context text clauses =
     record clauses { contexts = clauses.contexts ++ joined text ∷ [] }
+with_text other text clauses = clauses
 
 abbrev pub is_nothing : List (List (List ℕ)) → Bool
 is_nothing [] = true

@@ -1,7 +1,7 @@
 -- The walk over the sites of a unit, in the order of its tokens: what is asked at each, what is
 -- wrong there, and what it adds.
 use Rattle.std.specs.Prelude.{ℕ, ◌+◌, Bool, true, false, ◌&&◌, ◌||◌, List, [], ◌∷◌, ◌++◌, drop, is_some, min, nat_lt, not, take, Option, None, Some, Result, Ok, Err, if◌then◌else◌, option_to_list}
-use Rattle.idl_check.specs.told.Bodies.{Body, Clauses, array_of, begun_body, no_clauses, told_innermost, with_array_member, with_body_label, with_context, with_member, with_raised}
+use Rattle.idl_check.specs.told.Bodies.{Body, Clauses, array_of, begun_body, no_clauses, told_innermost, with_array_member, with_body_label, with_text, with_member, with_raised}
 use Rattle.idl_check.specs.tables.Codes.{faults_by}
 use Rattle.idl_check.specs.tables.Declaring.{Written, declared_table, entity_of, kind_of, standing, with_declared, written_after}
 use Rattle.idl_check.specs.told.Labels.{Labels, no_labels, with_default, with_label}
@@ -339,6 +339,7 @@ visit turns (item.Enumerates names) w =
     Done (quiet (record w {
       written = record w.written { enumerators = names.first ∷ names.rest };
     }))
+visit turns (item.Identifies text) w = Done (quiet w)
 visit turns (item.Switches discrete) w =
     let t = target_of discrete in
     Done (quiet (record w {
@@ -354,10 +355,10 @@ visit turns item.Default w =
 visit turns item.GivesBack w = Done (quiet (record w { gives_back = true }))
 visit turns (item.Plain n) w =
     Done (faulty_if w.gives_back code.BadOneway w (passed n w))
-visit turns (item.Says text) w =
+visit turns (item.Says purpose text) w =
     Done (faulty_if w.gives_back code.BadOneway w
-    (record (passed (item_length (item.Says text)) w) {
-      clauses = with_context text w.clauses;
+    (record (passed (item_length (item.Says purpose text)) w) {
+      clauses = with_text purpose text w.clauses;
     }))
 
 -- after a site: the least of its faults and of the one before

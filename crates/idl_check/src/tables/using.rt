@@ -62,11 +62,13 @@ fn suits(way: Use, entity: &Entity) -> bool
 {
     match way {
         Use::AsBase(_) => entity.kind() == Kind::Interface,
+        Use::AsStructBase => entity.kind() == Kind::Structure,
         Use::AsType | Use::AsElement | Use::AsConstantType | Use::AsDiscriminator => {
             is_type(entity.kind())
         }
         Use::AsOperand => entity.value().is_some(),
         Use::Raised | Use::RaisedBySet => entity.kind() == Kind::Exception,
+        Use::AsIdentified | Use::AsPrefixed => true,
     }
 }
 
@@ -107,7 +109,7 @@ fn type_code(way: Use, denoted: Denoted<'_>) -> Option<Code>
 {
     let is_incomplete = is_incomplete(denoted.entity);
     match way {
-        Use::AsType => first_code(&[(is_incomplete, Code::IncompleteType)]),
+        Use::AsType | Use::AsStructBase => first_code(&[(is_incomplete, Code::IncompleteType)]),
         Use::AsConstantType => first_code(&[
             (denoted.constants.is_none(), Code::NoConstantType),
             (is_incomplete, Code::IncompleteType),

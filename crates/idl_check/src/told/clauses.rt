@@ -1,13 +1,13 @@
 //! What the clauses behind an operation or an attribute say.
 
 ghost use Rattle.std.specs.Prelude.{◌≡◌, ◌++◌, ◌&&◌, IfOk, OnOk};
-ghost use Rattle.idl_check.specs.told.Bodies.{is_nothing, no_clauses, raises, raising, signature_of, with_context, with_raised};
+ghost use Rattle.idl_check.specs.told.Bodies.{is_nothing, no_clauses, raises, raising, signature_of, with_raised, with_text};
 ghost use Rattle.idl_entity.specs.Kind.{kind_eq};
 ghost use Rattle.idl_entity.specs.declared.kind.Kind.TheVariants.{Attribute};
 
 use idl_base::{Seq, Shared};
 use idl_entity::{Entity, Kind, Member, Path, Signature};
-use idl_parts::Use;
+use idl_parts::{TextPurpose, Use};
 use idl_tree::Several;
 use idl_value::joined;
 use std::alloc::{AllocError, Global};
@@ -85,14 +85,24 @@ impl Clauses {
         }
     }
 
-    /// A text of a context: string literals, which are joined.
-    pub fn add_context(&mut self, alloc: Global, text: &Several<Seq<u16>>) -> Result<(), AllocError>
-        ensures { OnOk result (self.new ≡ with_context text.now self.old) }
+    /// String literals, which are joined, if they are of a context.
+    pub fn add_text(
+        &mut self,
+        alloc: Global,
+        purpose: TextPurpose,
+        text: &Several<Seq<u16>>,
+    ) -> Result<(), AllocError>
+        ensures { OnOk result (self.new ≡ with_text purpose text.now self.old) }
     {
-        let mut told = self.take()?;
-        told.contexts.push(joined(alloc, text)?)?;
-        self.told = Some(told);
-        Ok(())
+        match purpose {
+            TextPurpose::Context => {
+                let mut told = self.take()?;
+                told.contexts.push(joined(alloc, text)?)?;
+                self.told = Some(told);
+                Ok(())
+            }
+            TextPurpose::Id | TextPurpose::Prefix => Ok(()),
+        }
     }
 
     // Those so far.

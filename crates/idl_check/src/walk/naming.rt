@@ -361,6 +361,7 @@ impl<'a> Walker<'a> {
             }
             Use::AsOperand => self.values.add_operand(entity.value()),
             Use::Raised | Use::RaisedBySet => Ok(()),
+            Use::AsStructBase | Use::AsIdentified | Use::AsPrefixed => Ok(()),
         }
     }
 }

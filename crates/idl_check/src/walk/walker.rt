@@ -1,7 +1,7 @@
 //! The walk over the sites of a unit.
 
 ghost use Rattle.std.specs.Prelude.{◌≡◌, ◌≤◌, ◌+◌, ◌∷◌, ◌++◌, [], ℕ, OnOk, Some, drop, map, option_to_list, take, true};
-ghost use Rattle.idl_check.specs.told.Bodies.{begun_body, raising, with_context};
+ghost use Rattle.idl_check.specs.told.Bodies.{begun_body, raising, with_text};
 ghost use Rattle.idl_check.specs.tables.Declaring.{finished, with_finished};
 ghost use Rattle.idl_check.specs.walk.Held.{HasRoomFor, held, visited};
 ghost use Rattle.idl_check.specs.walk.Walk.{faulty_if, first_walk, is_over, noted, noted_in, passed, scope_visit, walk, with_scope};
@@ -29,7 +29,7 @@ use idl_entity::{Entity, Kind, Path};
 use idl_env::{Addition, Env, Facts, OpenScopes, Scope, Step};
 use idl_fault::Code;
 use idl_memo::Journal;
-use idl_parts::{Declaration, UnitPart};
+use idl_parts::{Declaration, TextPurpose, UnitPart};
 use idl_scope::{Cursor, View};
 use idl_tree::Several;
 use idl_unit::Fault;
@@ -168,13 +168,14 @@ impl<'a> Walker<'a> {
             UnitPart::Used(way, name) => self.use_name(log, way, name),
             UnitPart::ScopeBegins(way, name) => self.begin_scope(way, name),
             UnitPart::Tokens(count) => self.pass(count),
-            UnitPart::Joined(text) => self.join(text),
+            UnitPart::Joined(purpose, text) => self.join(purpose, text),
             UnitPart::ScopeEnds => self.end_scope(),
             UnitPart::ValueBegins => self.begin_value(),
             UnitPart::ValueEnds(way, expression) => self.end_value(way, expression),
             UnitPart::TypeEnds(shape) => self.end_type(shape),
             UnitPart::ArrayEnds => self.end_array(),
             UnitPart::Enumerates(names) => self.enumerate(names),
+            UnitPart::Identifies(_) => Ok(()),
             UnitPart::Switches(discrete) => self.switch(discrete),
             UnitPart::Default => self.label_default(),
             UnitPart::GivesBack => self.give_back(),
@@ -202,21 +203,21 @@ impl<'a> Walker<'a> {
         Ok(())
     }
 
-    // String literals, which are joined: a text of a context.
-    fn join(&mut self, text: &Several<Seq<u16>>) -> Result<(), AllocError>
-        requires { HasRoomFor (held self.old) (item.Says text.now ∷ []) }
+    // String literals, which are joined: a text of a context, or what a name is given.
+    fn join(&mut self, purpose: TextPurpose, text: &Several<Seq<u16>>) -> Result<(), AllocError>
+        requires { HasRoomFor (held self.old) (item.Says purpose text.now ∷ []) }
         ensures visit { OnOk result
             (held self.new
             ≡ noted_in
             (faulty_if self.old.gives_back BadOneway (held self.old)
-            (record (passed (item_length (item.Says text.now)) (held self.old)) {
-              clauses = with_context text.now self.old.clauses;
+            (record (passed (item_length (item.Says purpose text.now)) (held self.old)) {
+              clauses = with_text purpose text.now self.old.clauses;
             })) self.old.fault) }
         ensures at { OnOk result
-            (self.new.at ≡ self.old.at + item_length (item.Says text.now)) }
+            (self.new.at ≡ self.old.at + item_length (item.Says purpose text.now)) }
         ensures env { OnOk result (self.new.env.now ≡ self.old.env.now) }
     {
-        self.clauses.add_context(self.env.alloc(), text)?;
+        self.clauses.add_text(self.env.alloc(), purpose, text)?;
         self.pass(1 + text.rest.len())
     }
 

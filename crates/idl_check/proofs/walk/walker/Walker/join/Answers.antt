@@ -1,7 +1,7 @@
 use Rattle.std.proofs.Common.{◌+◌, sym, ◌∙◌, arith}
 use Rattle.idl_tree.proofs.NameLemmas.{text-length}
 use Rattle.idl_check.proofs.Visits.VisitLemmas.{OnOk-always}
-use Rattle.idl_check.specs.told.Bodies.{with_context}
+use Rattle.idl_check.specs.told.Bodies.{with_text}
 use Rattle.idl_check.specs.walk.Held.{held}
 use Rattle.idl_check.specs.walk.Walk.{faulty_if, noted_in, passed}
 use Rattle.idl_fault.specs.declared.code.Code.TheVariants.{BadOneway}
@@ -23,8 +23,8 @@ returns-clause-visit c =
     let text = c.args.text.now in
     OnOk-always c.pass.result
     (c.pass.ensures.visit
-    ∙ (λ i. noted_in (faulty_if w.gives_back BadOneway w (record (passed (1 + c.len.ensures i) w) { clauses = c.in_ok-add_context.ensures i })) w.fault)
-    ∙ (λ i. noted_in (faulty_if w.gives_back BadOneway w (record (passed (sym (text-length text) i) w) { clauses = with_context text w.clauses })) w.fault))
+    ∙ (λ i. noted_in (faulty_if w.gives_back BadOneway w (record (passed (1 + c.len.ensures i) w) { clauses = c.in_ok-add_text.ensures i })) w.fault)
+    ∙ (λ i. noted_in (faulty_if w.gives_back BadOneway w (record (passed (sym (text-length text) i) w) { clauses = with_text c.args.purpose text w.clauses })) w.fault))
 
 pub returns-clause-at : goal.returns-clause-at
 returns-clause-at c =
