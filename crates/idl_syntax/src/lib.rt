@@ -14,6 +14,7 @@ mod literal;
 mod name;
 mod operator;
 mod pragma;
+mod production;
 mod unit;
 mod unit_tree;
 mod version;

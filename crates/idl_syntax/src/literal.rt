@@ -12,6 +12,7 @@ ghost use Rattle.idl_syntax.specs.Gives.{Advances, Reads, Remains};
 ghost use Rattle.idl_syntax.specs.Literal.{is_at_text, is_at_wide_text, single_at, wide_text_at};
 
 use crate::fault::SyntaxFault;
+use crate::production::Production;
 use idl_base::Seq;
 use idl_lex::Token;
 use idl_lex::kinds::{Keyword, TokenKind, decode, integer_value};
@@ -65,6 +66,23 @@ pub fn text(alloc: Global, tokens: &[Token]) -> Result<(Several<Seq<u16>>, &[Tok
     };
     let (more, rest) = more_text(alloc, &tokens[1..])?;
     Ok((Several { first, rest: more }, rest))
+}
+
+/// Narrow string literals, side by side.
+pub struct NarrowText;
+
+impl Production for NarrowText {
+    type Tree = Several<Seq<u16>>;
+
+    ghost reader = { λ _. text_at };
+
+    fn read<'a>(
+        &self,
+        alloc: Global,
+        tokens: &'a [Token],
+    ) -> Result<(Several<Seq<u16>>, &'a [Token]), SyntaxFault> {
+        text(alloc, tokens)
+    }
 }
 
 /// The narrow string literals that stand here.

@@ -1,24 +1,22 @@
 //! Scoped names, and lists of names.
 
-ghost use Rattle.idl_lex.specs.declared.kinds.mark.Mark.TheVariants.{Comma};
-ghost use Rattle.idl_tree.specs.reading.ReadConstruction.{listed_with};
-ghost use Rattle.idl_tree.specs.reading.ReadExpression.{behind_with};
-ghost use Rattle.idl_tree.specs.reading.ReadInterface.{list_at, more_names_at, raises_at, raises_if};
-ghost use Rattle.idl_tree.specs.reading.ReadName.{name_at, part_at, parts_at};
-ghost use Rattle.idl_tree.specs.reading.Reading.{many_of};
+ghost use Rattle.idl_lex.specs.declared.kinds.mark.Mark.TheVariants.{ColonColon};
+ghost use Rattle.idl_tree.specs.reading.ReadInterface.{list_at, raises_at, raises_if};
+ghost use Rattle.idl_tree.specs.reading.ReadName.{name_at, part_at};
 ghost use Rattle.idl_tree.specs.reading.Tests.{identifier_at, is_mark};
 ghost use Rattle.idl_syntax.specs.Gives.{Advances, Reads, Remains};
 
 use crate::cursor::{behind, behind_word, closed, identifier, is_at, is_at_word};
 use crate::fault::SyntaxFault;
-use idl_base::{Bytes, Seq};
+use crate::production::{Production, Series, listed, many};
+use idl_base::Bytes;
 use idl_lex::Token;
 use idl_lex::kinds::{Keyword, Mark};
 use idl_tree::{ScopedName, Several};
 use std::alloc::Global;
 
 /// A scoped name, with or without a leading `::`.
-#[tactic(auto, unfolding(idl_tree::specs::reading::ReadName::name_at))]
+#[tactic(auto, unfolding(idl_tree::specs::reading::ReadName::name_at, idl_tree::specs::reading::ReadName::parts_at))]
 pub fn scoped_name(alloc: Global, tokens: &[Token]) -> Result<(ScopedName, &[Token]), SyntaxFault>
     ensures reads { Reads name_at tokens.now result }
     ensures shorter { Advances tokens.now result }
@@ -26,7 +24,7 @@ pub fn scoped_name(alloc: Global, tokens: &[Token]) -> Result<(ScopedName, &[Tok
     let is_global = is_at(tokens, Mark::ColonColon);
     let rest = if is_global { &tokens[1..] } else { tokens };
     let (first, rest) = identifier(rest)?;
-    let (more, rest) = parts(alloc, rest)?;
+    let (more, rest) = many(alloc, &Part, rest)?;
     let name = ScopedName {
         is_global,
         first,
@@ -36,92 +34,64 @@ pub fn scoped_name(alloc: Global, tokens: &[Token]) -> Result<(ScopedName, &[Tok
 }
 
 /// A further part of a name.
-#[tactic(auto, unfolding(idl_tree::specs::reading::ReadName::part_at))]
-fn part(tokens: &[Token]) -> Result<(Bytes, &[Token]), SyntaxFault>
-    ensures reads { Reads part_at tokens.now result }
-    ensures shorter { Advances tokens.now result }
-{
-    let rest = behind(tokens, Mark::ColonColon)?;
-    identifier(rest)
-}
+struct Part;
 
-/// The further parts of a name.
-fn parts(alloc: Global, tokens: &[Token]) -> Result<(Seq<Bytes>, &[Token]), SyntaxFault>
-    ensures reads { Reads parts_at tokens.now result }
-    ensures within { Remains tokens.now result }
-{
-    let mut parts = Vec::new(alloc);
-    let mut rest = tokens;
-    'parts: while is_at(rest, Mark::ColonColon) {
-        let (one, after) = part(rest)?;
-        parts.push(one)?;
-        rest = after;
+impl Production for Part {
+    type Tree = Bytes;
+
+    ghost reader = { λ _. part_at };
+
+    #[tactic(auto, unfolding(idl_tree::specs::reading::ReadName::part_at))]
+    fn read<'a>(
+        &self,
+        _alloc: Global,
+        tokens: &'a [Token],
+    ) -> Result<(Bytes, &'a [Token]), SyntaxFault> {
+        let rest = behind(tokens, Mark::ColonColon)?;
+        identifier(rest)
     }
-    Ok((Seq::from_vec(parts), rest))
 }
 
-/// One scoped name or more, with commas between.
-#[tactic(auto, unfolding(idl_tree::specs::reading::ReadExpression::parted_with))]
-pub fn scoped_names(
-    alloc: Global,
-    tokens: &[Token],
-) -> Result<(Several<ScopedName>, &[Token]), SyntaxFault>
-    ensures reads { Reads (listed_with name_at) tokens.now result }
-    ensures shorter { Advances tokens.now result }
-{
-    let (first, rest) = scoped_name(alloc, tokens)?;
-    let (more, rest) = more_scoped_names(alloc, rest)?;
-    Ok((Several { first, rest: more }, rest))
-}
+impl Series for Part {
+    ghost begins = { λ _. is_mark ColonColon };
 
-/// Scoped names, each behind a comma.
-fn more_scoped_names(
-    alloc: Global,
-    tokens: &[Token],
-) -> Result<(Seq<ScopedName>, &[Token]), SyntaxFault>
-    ensures reads { Reads (many_of (is_mark Comma) (behind_with Comma name_at)) tokens.now result }
-    ensures within { Remains tokens.now result }
-{
-    let mut names = Vec::new(alloc);
-    let mut rest = tokens;
-    'names: while is_at(rest, Mark::Comma) {
-        let (one, after) = scoped_name(alloc, &rest[1..])?;
-        names.push(one)?;
-        rest = after;
+    fn is_ahead(&self, tokens: &[Token]) -> bool {
+        is_at(tokens, Mark::ColonColon)
     }
-    Ok((Seq::from_vec(names), rest))
 }
 
-/// One identifier or more, with commas between.
-#[tactic(auto, unfolding(idl_tree::specs::reading::ReadExpression::parted_with))]
-pub fn identifiers(
-    alloc: Global,
-    tokens: &[Token],
-) -> Result<(Several<Bytes>, &[Token]), SyntaxFault>
-    ensures reads { Reads (listed_with identifier_at) tokens.now result }
-    ensures shorter { Advances tokens.now result }
-{
-    let (first, rest) = identifier(tokens)?;
-    let (more, rest) = more_identifiers(alloc, rest)?;
-    Ok((Several { first, rest: more }, rest))
-}
+/// A scoped name.
+pub struct Name;
 
-/// Identifiers, each behind a comma.
-pub fn more_identifiers(
-    alloc: Global,
-    tokens: &[Token],
-) -> Result<(Seq<Bytes>, &[Token]), SyntaxFault>
-    ensures reads { Reads more_names_at tokens.now result }
-    ensures within { Remains tokens.now result }
-{
-    let mut names = Vec::new(alloc);
-    let mut rest = tokens;
-    'names: while is_at(rest, Mark::Comma) {
-        let (one, after) = identifier(&rest[1..])?;
-        names.push(one)?;
-        rest = after;
+impl Production for Name {
+    type Tree = ScopedName;
+
+    ghost reader = { λ _. name_at };
+
+    fn read<'a>(
+        &self,
+        alloc: Global,
+        tokens: &'a [Token],
+    ) -> Result<(ScopedName, &'a [Token]), SyntaxFault> {
+        scoped_name(alloc, tokens)
     }
-    Ok((Seq::from_vec(names), rest))
+}
+
+/// An identifier.
+pub struct Identifier;
+
+impl Production for Identifier {
+    type Tree = Bytes;
+
+    ghost reader = { λ _. identifier_at };
+
+    fn read<'a>(
+        &self,
+        _alloc: Global,
+        tokens: &'a [Token],
+    ) -> Result<(Bytes, &'a [Token]), SyntaxFault> {
+        identifier(tokens)
+    }
 }
 
 /// Scoped names in parentheses.
@@ -134,7 +104,7 @@ fn scoped_name_list(
     ensures shorter { Advances tokens.now result }
 {
     let rest = behind(tokens, Mark::OpenParenthesis)?;
-    let (names, rest) = scoped_names(alloc, rest)?;
+    let (names, rest) = listed(alloc, &Name, rest)?;
     closed(names, rest, Mark::CloseParenthesis)
 }
 

@@ -13,13 +13,14 @@ use crate::declarations::construction::{
     enumeration, member_type, members, structure_rest, union_rest,
 };
 use crate::declarations::data_type::{discrete_type, string_type};
-use crate::declarations::declarator::declarators;
+use crate::declarations::declarator::Declared;
 use crate::declarations::interface::{closing, interface, module};
 use crate::declarations::operation::operation;
 use crate::expression::expression;
 use crate::fault::SyntaxFault;
 use crate::literal::text;
 use crate::name::scoped_name;
+use crate::production::listed;
 use idl_base::Bytes;
 use idl_lex::Token;
 use idl_lex::kinds::{Keyword, Mark};
@@ -169,7 +170,7 @@ fn typedef(
 {
     let rest = behind_word(tokens, Keyword::Typedef)?;
     let (kind, rest) = member_type(alloc, depth, rest)?;
-    let (declarators, rest) = declarators(alloc, depth, rest)?;
+    let (declarators, rest) = listed(alloc, &Declared { depth }, rest)?;
     Ok((Typedef { kind, declarators }, rest))
 }
 

@@ -9,7 +9,8 @@ ghost use Rattle.idl_syntax.specs.Gives.{Advances, Reads, Remains};
 use crate::cursor::{behind_word, identifier, is_at_word, keyword};
 use crate::declarations::data_type::data_type;
 use crate::fault::SyntaxFault;
-use crate::name::{more_identifiers, raises, raises_if};
+use crate::name::{Identifier, raises, raises_if};
+use crate::production::more_listed;
 use idl_base::Bytes;
 use idl_lex::Token;
 use idl_lex::kinds::Keyword;
@@ -60,7 +61,7 @@ fn readonly_names_rest(
         let (raised, rest) = raises(alloc, Keyword::Raises, tokens)?;
         Ok((ReadonlyNames::Raising(name, raised), rest))
     } else {
-        let (more, rest) = more_identifiers(alloc, tokens)?;
+        let (more, rest) = more_listed(alloc, &Identifier, tokens)?;
         let names = Several {
             first: name,
             rest: more,
@@ -120,7 +121,7 @@ fn attribute_names_rest(
             ))
         }
         _ => {
-            let (more, rest) = more_identifiers(alloc, tokens)?;
+            let (more, rest) = more_listed(alloc, &Identifier, tokens)?;
             let names = Several {
                 first: name,
                 rest: more,

@@ -2,7 +2,7 @@
 
 ghost use Rattle.std.specs.Prelude.{◌≡◌};
 ghost use Rattle.idl_tree.specs.Lexeme.{lexemes};
-ghost use Rattle.idl_tree.specs.reading.ReadConstruction.{all_with, base_at, begins_construction, begins_label, case_with, cases_with, construction_at, construction_with, discriminator_at, enumeration_at, goes_on, label_with, member_type_with, member_with, members_with, structure_rest_with, structure_with, union_rest_with, union_with};
+ghost use Rattle.idl_tree.specs.reading.ReadConstruction.{base_at, begins_construction, begins_label, case_with, cases_with, construction_at, construction_with, discriminator_at, enumeration_at, goes_on, label_with, member_type_with, member_with, members_with, structure_rest_with, structure_with, union_rest_with, union_with};
 ghost use Rattle.idl_tree.specs.reading.ReadExpression.{expression_at};
 ghost use Rattle.idl_tree.specs.reading.ReadType.{type_at};
 ghost use Rattle.idl_tree.specs.reading.Reading.{first, many_of};
@@ -11,10 +11,11 @@ ghost use Rattle.idl_syntax.specs.Nested.{nested};
 
 use crate::cursor::{behind, behind_word, closed, identifier, is_at, is_at_word, keyword};
 use crate::declarations::data_type::{data_type, discrete_type};
-use crate::declarations::declarator::{declarator, declarators};
+use crate::declarations::declarator::{Declared, declarator};
 use crate::expression::expression;
 use crate::fault::SyntaxFault;
-use crate::name::{identifiers, scoped_name};
+use crate::name::{Identifier, scoped_name};
+use crate::production::{Production, Series, all, listed};
 use idl_base::{Boxed, Bytes, Seq};
 use idl_lex::Token;
 use idl_lex::kinds::{Keyword, Mark};
@@ -33,7 +34,7 @@ pub fn enumeration(alloc: Global, tokens: &[Token]) -> Result<(Enumeration, &[To
     let rest = behind_word(tokens, Keyword::Enum)?;
     let (name, rest) = identifier(rest)?;
     let rest = behind(rest, Mark::OpenBrace)?;
-    let (enumerators, rest) = identifiers(alloc, rest)?;
+    let (enumerators, rest) = listed(alloc, &Identifier, rest)?;
     closed(Enumeration { name, enumerators }, rest, Mark::CloseBrace)
 }
 
@@ -56,66 +57,40 @@ fn discriminator(alloc: Global, tokens: &[Token]) -> Result<(Discriminator, &[To
     }
 }
 
-/// A label of a case.
-#[tactic(auto, unfolding(idl_tree::specs::reading::ReadConstruction::label_with))]
-fn label(alloc: Global, depth: usize, tokens: &[Token]) -> Result<(Label, &[Token]), SyntaxFault>
-    ensures reads { Reads (label_with (expression_at depth)) tokens.now result }
-    ensures shorter { Advances tokens.now result }
-{
-    if is_at_word(tokens, Keyword::Case) {
-        let rest = behind_word(tokens, Keyword::Case)?;
-        let (value, rest) = expression(alloc, depth, rest)?;
-        closed(Label::Case(value), rest, Mark::Colon)
-    } else {
-        let rest = behind_word(tokens, Keyword::Default)?;
-        let rest = behind(rest, Mark::Colon)?;
-        Ok((Label::Default, rest))
+/// A label of a case, with parts of less than so many levels.
+struct LabelProduction {
+    depth: usize,
+}
+
+impl Production for LabelProduction {
+    type Tree = Label;
+
+    ghost reader = { λ one. label_with (expression_at one.depth) };
+
+    #[tactic(auto, unfolding(idl_tree::specs::reading::ReadConstruction::label_with))]
+    fn read<'a>(
+        &self,
+        alloc: Global,
+        tokens: &'a [Token],
+    ) -> Result<(Label, &'a [Token]), SyntaxFault> {
+        if is_at_word(tokens, Keyword::Case) {
+            let rest = behind_word(tokens, Keyword::Case)?;
+            let (value, rest) = expression(alloc, self.depth, rest)?;
+            closed(Label::Case(value), rest, Mark::Colon)
+        } else {
+            let rest = behind_word(tokens, Keyword::Default)?;
+            let rest = behind(rest, Mark::Colon)?;
+            Ok((Label::Default, rest))
+        }
     }
 }
 
-/// Whether a label begins here.
-fn is_at_label(tokens: &[Token]) -> bool
-    ensures { result ≡ begins_label (first (lexemes tokens.now)) }
-{
-    matches!(keyword(tokens), Some(Keyword::Case | Keyword::Default))
-}
+impl Series for LabelProduction {
+    ghost begins = { λ _. begins_label };
 
-/// One label or more.
-#[tactic(auto, unfolding(idl_tree::specs::reading::ReadConstruction::all_with))]
-#[inline(never)]
-fn labels(
-    alloc: Global,
-    depth: usize,
-    tokens: &[Token],
-) -> Result<(Several<Label>, &[Token]), SyntaxFault>
-    ensures reads { Reads (all_with begins_label (label_with (expression_at depth)))
-        tokens.now result }
-    ensures shorter { Advances tokens.now result }
-{
-    let (first, rest) = label(alloc, depth, tokens)?;
-    let (more, rest) = more_labels(alloc, depth, rest)?;
-    Ok((Several { first, rest: more }, rest))
-}
-
-/// The labels that stand here.
-#[inline(never)]
-fn more_labels(
-    alloc: Global,
-    depth: usize,
-    tokens: &[Token],
-) -> Result<(Seq<Label>, &[Token]), SyntaxFault>
-    ensures reads { Reads (many_of begins_label (label_with (expression_at depth)))
-        tokens.now result }
-    ensures within { Remains tokens.now result }
-{
-    let mut labels = Vec::new(alloc);
-    let mut rest = tokens;
-    'labels: while is_at_label(rest) {
-        let (one, after) = label(alloc, depth, rest)?;
-        labels.push(one)?;
-        rest = after;
+    fn is_ahead(&self, tokens: &[Token]) -> bool {
+        matches!(keyword(tokens), Some(Keyword::Case | Keyword::Default))
     }
-    Ok((Seq::from_vec(labels), rest))
 }
 
 /// Whether a struct, a union or an enum begins here.
@@ -203,7 +178,7 @@ fn member(alloc: Global, depth: usize, tokens: &[Token]) -> Result<(Member, &[To
     ensures shorter { Advances tokens.now result }
 {
     let (kind, rest) = member_type(alloc, depth, tokens)?;
-    let (declarators, rest) = declarators(alloc, depth, rest)?;
+    let (declarators, rest) = listed(alloc, &Declared { depth }, rest)?;
     closed(Member { kind, declarators }, rest, Mark::Semicolon)
 }
 
@@ -365,7 +340,7 @@ fn case(alloc: Global, depth: usize, tokens: &[Token]) -> Result<(Case, &[Token]
     ensures reads { Reads (nested case_with depth) tokens.now result }
     ensures shorter { Advances tokens.now result }
 {
-    let (labels, rest) = labels(alloc, depth, tokens)?;
+    let (labels, rest) = all(alloc, &LabelProduction { depth }, tokens)?;
     let (kind, rest) = member_type(alloc, depth, rest)?;
     let (declarator, rest) = declarator(alloc, depth, rest)?;
     let case = Case {

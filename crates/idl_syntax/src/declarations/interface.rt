@@ -5,7 +5,8 @@ ghost use Rattle.idl_syntax.specs.Gives.{Advances, Reads, Remains};
 
 use crate::cursor::{behind, behind_word, closed, identifier, is_at, is_at_word};
 use crate::fault::SyntaxFault;
-use crate::name::scoped_names;
+use crate::name::Name;
+use crate::production::listed;
 use idl_base::Bytes;
 use idl_lex::Token;
 use idl_lex::kinds::{Keyword, Mark};
@@ -85,6 +86,6 @@ fn bases(
         return Ok((None, tokens));
     }
     let rest = behind(tokens, Mark::Colon)?;
-    let (names, rest) = scoped_names(alloc, rest)?;
+    let (names, rest) = listed(alloc, &Name, rest)?;
     Ok((Some(names), rest))
 }

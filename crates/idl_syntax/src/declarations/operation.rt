@@ -1,21 +1,18 @@
 //! Operations.
 
 ghost use Rattle.std.specs.Prelude.{◌≡◌};
-ghost use Rattle.idl_lex.specs.declared.kinds.mark.Mark.TheVariants.{Comma};
 ghost use Rattle.idl_tree.specs.Lexeme.{lexemes};
-ghost use Rattle.idl_tree.specs.reading.ReadConstruction.{listed_with};
-ghost use Rattle.idl_tree.specs.reading.ReadExpression.{behind_with};
-ghost use Rattle.idl_tree.specs.reading.ReadInterface.{context_at, context_if, direction_of, operation_rest_with, operation_with, parameter_with, parameters_with, result_with, text_at};
+ghost use Rattle.idl_tree.specs.reading.ReadInterface.{context_at, context_if, direction_of, operation_rest_with, operation_with, parameter_with, parameters_with, result_with};
 ghost use Rattle.idl_tree.specs.reading.ReadType.{type_at};
-ghost use Rattle.idl_tree.specs.reading.Reading.{first, many_of};
-ghost use Rattle.idl_tree.specs.reading.Tests.{is_mark};
+ghost use Rattle.idl_tree.specs.reading.Reading.{first};
 ghost use Rattle.idl_syntax.specs.Gives.{Advances, Reads, Remains};
 
 use crate::cursor::{behind, behind_word, closed, is_at, is_at_word, keyword, named};
 use crate::declarations::data_type::data_type;
 use crate::fault::SyntaxFault;
-use crate::literal::text;
+use crate::literal::NarrowText;
 use crate::name::raises_if;
+use crate::production::{Production, listed};
 use idl_base::{Boxed, Bytes, Seq};
 use idl_lex::Token;
 use idl_lex::kinds::{Keyword, Mark};
@@ -35,42 +32,34 @@ fn direction(tokens: &[Token]) -> Option<Direction>
     }
 }
 
-/// A parameter.
-#[tactic(auto, unfolding(idl_tree::specs::reading::ReadInterface::parameter_with))]
-fn parameter(
-    alloc: Global,
+/// A parameter, with parts of less than so many levels.
+struct ParameterProduction {
     depth: usize,
-    tokens: &[Token],
-) -> Result<(Parameter, &[Token]), SyntaxFault>
-    ensures reads { Reads (parameter_with (type_at depth)) tokens.now result }
-    ensures shorter { Advances tokens.now result }
-{
-    let Some(direction) = direction(tokens) else {
-        return Err(SyntaxFault::NoTree(tokens.len()));
-    };
-    let (kind, rest) = data_type(alloc, depth, &tokens[1..])?;
-    let ((kind, name), rest) = named(kind, rest)?;
-    let parameter = Parameter {
-        direction,
-        kind,
-        name,
-    };
-    Ok((parameter, rest))
 }
 
-/// One parameter or more, with commas between.
-#[tactic(auto, unfolding(idl_tree::specs::reading::ReadExpression::parted_with))]
-fn some_parameters(
-    alloc: Global,
-    depth: usize,
-    tokens: &[Token],
-) -> Result<(Several<Parameter>, &[Token]), SyntaxFault>
-    ensures reads { Reads (listed_with (parameter_with (type_at depth))) tokens.now result }
-    ensures shorter { Advances tokens.now result }
-{
-    let (first, rest) = parameter(alloc, depth, tokens)?;
-    let (more, rest) = more_parameters(alloc, depth, rest)?;
-    Ok((Several { first, rest: more }, rest))
+impl Production for ParameterProduction {
+    type Tree = Parameter;
+
+    ghost reader = { λ one. parameter_with (type_at one.depth) };
+
+    #[tactic(auto, unfolding(idl_tree::specs::reading::ReadInterface::parameter_with))]
+    fn read<'a>(
+        &self,
+        alloc: Global,
+        tokens: &'a [Token],
+    ) -> Result<(Parameter, &'a [Token]), SyntaxFault> {
+        let Some(direction) = direction(tokens) else {
+            return Err(SyntaxFault::NoTree(tokens.len()));
+        };
+        let (kind, rest) = data_type(alloc, self.depth, &tokens[1..])?;
+        let ((kind, name), rest) = named(kind, rest)?;
+        let parameter = Parameter {
+            direction,
+            kind,
+            name,
+        };
+        Ok((parameter, rest))
+    }
 }
 
 /// The parameters before a closing parenthesis, if there are any.
@@ -86,28 +75,8 @@ fn parameters(
     if is_at(tokens, Mark::CloseParenthesis) {
         return Ok((None, tokens));
     }
-    let (parameters, rest) = some_parameters(alloc, depth, tokens)?;
+    let (parameters, rest) = listed(alloc, &ParameterProduction { depth }, tokens)?;
     Ok((Some(parameters), rest))
-}
-
-/// Parameters, each behind a comma.
-fn more_parameters(
-    alloc: Global,
-    depth: usize,
-    tokens: &[Token],
-) -> Result<(Seq<Parameter>, &[Token]), SyntaxFault>
-    ensures reads { Reads (many_of (is_mark Comma) (behind_with Comma (parameter_with (type_at
-        depth)))) tokens.now result }
-    ensures within { Remains tokens.now result }
-{
-    let mut parameters = Vec::new(alloc);
-    let mut rest = tokens;
-    'parameters: while is_at(rest, Mark::Comma) {
-        let (one, after) = parameter(alloc, depth, &rest[1..])?;
-        parameters.push(one)?;
-        rest = after;
-    }
-    Ok((Seq::from_vec(parameters), rest))
 }
 
 /// An operation's result, which is none of `void`.
@@ -129,38 +98,6 @@ fn operation_result(
     }
 }
 
-/// One narrow string or more, with commas between.
-#[tactic(auto, unfolding(idl_tree::specs::reading::ReadExpression::parted_with))]
-fn texts(
-    alloc: Global,
-    tokens: &[Token],
-) -> Result<(Several<Several<Seq<u16>>>, &[Token]), SyntaxFault>
-    ensures reads { Reads (listed_with text_at) tokens.now result }
-    ensures shorter { Advances tokens.now result }
-{
-    let (first, rest) = text(alloc, tokens)?;
-    let (more, rest) = more_texts(alloc, rest)?;
-    Ok((Several { first, rest: more }, rest))
-}
-
-/// Narrow strings, each behind a comma.
-fn more_texts(
-    alloc: Global,
-    tokens: &[Token],
-) -> Result<(Seq<Several<Seq<u16>>>, &[Token]), SyntaxFault>
-    ensures reads { Reads (many_of (is_mark Comma) (behind_with Comma text_at)) tokens.now result }
-    ensures within { Remains tokens.now result }
-{
-    let mut texts = Vec::new(alloc);
-    let mut rest = tokens;
-    'texts: while is_at(rest, Mark::Comma) {
-        let (one, after) = text(alloc, &rest[1..])?;
-        texts.push(one)?;
-        rest = after;
-    }
-    Ok((Seq::from_vec(texts), rest))
-}
-
 /// `context` and narrow strings in parentheses.
 #[tactic(auto, unfolding(idl_tree::specs::reading::ReadInterface::context_at))]
 fn context(
@@ -172,7 +109,7 @@ fn context(
 {
     let rest = behind_word(tokens, Keyword::Context)?;
     let rest = behind(rest, Mark::OpenParenthesis)?;
-    let (texts, rest) = texts(alloc, rest)?;
+    let (texts, rest) = listed(alloc, &NarrowText, rest)?;
     closed(texts, rest, Mark::CloseParenthesis)
 }
 
