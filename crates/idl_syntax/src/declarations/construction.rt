@@ -58,6 +58,7 @@ fn discriminator(alloc: Global, tokens: &[Token]) -> Result<(Discriminator, &[To
 }
 
 /// A label of a case, with parts of less than so many levels.
+#[derive(Clone, Copy)]
 struct LabelProduction {
     depth: usize,
 }

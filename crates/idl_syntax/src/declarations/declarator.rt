@@ -17,6 +17,7 @@ use idl_tree::declarations::Declarator;
 use std::alloc::Global;
 
 /// The length of an array, in brackets, with parts of less than so many levels.
+#[derive(Clone, Copy)]
 struct ArrayLength {
     depth: usize,
 }
@@ -63,6 +64,7 @@ pub fn declarator(
 }
 
 /// A declared name, with parts of less than so many levels.
+#[derive(Clone, Copy)]
 pub struct Declared {
     pub depth: usize,
 }

@@ -33,6 +33,7 @@ fn direction(tokens: &[Token]) -> Option<Direction>
 }
 
 /// A parameter, with parts of less than so many levels.
+#[derive(Clone, Copy)]
 struct ParameterProduction {
     depth: usize,
 }
