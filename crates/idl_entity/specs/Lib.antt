@@ -5,5 +5,6 @@ pub mod Entity
 pub mod Identity
 pub mod Kind
 pub mod Path
+pub mod SameIdentity
 pub mod Signature
 pub mod Unvalued

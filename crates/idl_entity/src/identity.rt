@@ -1,14 +1,15 @@
-//! Repository ids, how they are told at first, and the prefixes that they begin with.
+//! What identifies a declared name: the prefix under which it was declared first, and what a pragma fixed of its repository id. The
+//! two tell the id.
 
-ghost use Rattle.std.specs.Cmp.{on_equiv, on_per, partial_equiv_from_equiv, nat_eq_equiv};
-ghost use Rattle.std.specs.Prelude.{◌≡◌, ◌++◌, IfOk, OnOk};
-ghost use Rattle.idl_entity.specs.Identity.{first_identity, fixed_eq, fixed_number, identity_of, is_within, prefix_for, prefixed, relative, same_fixed, slashed, no_prefix};
+ghost use Rattle.std.specs.Prelude.{◌≡◌, ◌++◌, IfOk, None, OnOk, Some, decimal};
+ghost use Rattle.idl_entity.specs.Identity.{fixed_for, identity_of, is_within, no_prefix, prefix_for, prefixed, relative, slashed, stem, told, without_scope};
 ghost use Rattle.idl_entity.specs.Path.{scope_of};
 
 use crate::paths::name::shared_name;
 use crate::paths::names::Names;
 use crate::paths::path::Path;
 use idl_base::{Bytes, Datum, Shared};
+use itoa::Buffer;
 use std::alloc::{AllocError, Global};
 
 /// A prefix of repository ids: its text, and the path of the scope in which it was met.
@@ -18,28 +19,29 @@ pub struct Prefix {
     pub scope: Path,
 }
 
-/// The pragma that fixed an id.
-#[derive(Clone, Copy)]
+/// What a pragma fixed of an id.
+#[derive(Clone, PartialEq, Eq)]
 pub enum Fixed {
-    Version,
-    Id,
+    /// Its version.
+    Version(u16, u16),
+    /// All of it.
+    Id(Bytes),
 }
 
-/// The repository id of a declared name.
+/// What identifies a declared name.
 pub struct Identity {
-    pub id: Bytes,
-    /// The text of the prefix that was in force where the name was declared first.
-    pub prefix: Bytes,
-    /// The pragma that fixed it, if one did so far.
+    /// The prefix that was in force where the name was declared first.
+    pub prefix: Shared<Prefix>,
+    /// What a pragma fixed, if one did so far.
     pub fixed: Option<Fixed>,
 }
 
-/// A repository id that a pragma fixed.
+/// What identifies a name by a pragma.
 #[derive(Clone, PartialEq, Eq)]
 pub struct FixedIdentity {
-    pub id: Bytes,
-    /// The text of the prefix that was in force where the name was declared first.
-    pub prefix: Bytes,
+    /// The prefix that was in force where the name was declared first.
+    pub prefix: Shared<Prefix>,
+    /// What the pragma fixed.
     pub by: Fixed,
 }
 
@@ -52,10 +54,18 @@ impl Drop for Prefix {
     }
 }
 
+impl Drop for Fixed {
+    fn drop(self) {
+        match self {
+            Fixed::Version(_, _) => {}
+            Fixed::Id(_text) => {}
+        }
+    }
+}
+
 impl Drop for Identity {
     fn drop(self) {
         let Identity {
-            id: _id,
             prefix: _prefix,
             fixed: _fixed,
         } = self;
@@ -65,7 +75,6 @@ impl Drop for Identity {
 impl Drop for FixedIdentity {
     fn drop(self) {
         let FixedIdentity {
-            id: _id,
             prefix: _prefix,
             by: _by,
         } = self;
@@ -90,14 +99,33 @@ impl Prefix {
         self.scope.lent().is_empty() || path.around().are_within(&self.scope)
     }
 
-    /// Writes the id of the name at a path, as it is where the name is declared first under this prefix.
-    pub fn push_id(&self, text: &mut Vec<u8>, path: &Path) -> Result<(), AllocError>
-        ensures { OnOk result
-            (text.new.items ≡ text.old.items ++ (first_identity self.now path.now).id) }
+    // It with its text alone.
+    fn without_scope(&self, alloc: Global) -> Result<Shared<Prefix>, AllocError>
+        ensures { IfOk result (λ prefix. prefix ≡ without_scope self.now) }
+    {
+        let text = self.text.clone()?;
+        let scope = Path::global();
+        Shared::new(alloc, Prefix { text, scope })
+    }
+
+    // Writes the id of the name at a path up to its version.
+    #[inline(always)]
+    fn push_stem(&self, text: &mut Vec<u8>, path: &Path) -> Result<(), AllocError>
+        ensures { OnOk result (text.new.items ≡ text.old.items ++ stem path.now self.now) }
     {
         text.extend_from_slice(b"IDL:")?;
         push_prefix(text, self.text.as_bytes())?;
         push_slashed(text, path.lent(), &self.scope)?;
+        Ok(())
+    }
+
+    /// Writes the id of the name at a path that this prefix identifies, of which nothing is fixed.
+    pub fn push_id(&self, text: &mut Vec<u8>, path: &Path) -> Result<(), AllocError>
+        ensures { OnOk result
+            (text.new.items
+            ≡ text.old.items ++ told path.now (record { prefix = self.now; fixed = None })) }
+    {
+        self.push_stem(text, path)?;
         text.extend_from_slice(b":1.0")?;
         Ok(())
     }
@@ -115,9 +143,7 @@ pub fn prefix_for(
     if prefix.get().is_around(path) {
         return Ok(prefix);
     }
-    let text = prefix.get().text.clone()?;
-    let scope = Path::global();
-    Shared::new(alloc, Prefix { text, scope })
+    prefix.get().without_scope(alloc)
 }
 
 // A prefix with the `/` behind it.
@@ -150,78 +176,98 @@ fn push_slashed(id: &mut Vec<u8>, path: Names<'_>, scope: &Path) -> Result<(), A
     Ok(())
 }
 
+// A version.
+fn push_version(id: &mut Vec<u8>, major: u16, minor: u16) -> Result<(), AllocError>
+    ensures { OnOk result (id.new.items ≡ id.old.items ++ decimal major ++ 46 ∷ decimal minor) }
+{
+    push_number(id, major)?;
+    id.push(b'.')?;
+    push_number(id, minor)?;
+    Ok(())
+}
+
+// A number in decimal.
+fn push_number(id: &mut Vec<u8>, number: u16) -> Result<(), AllocError>
+    ensures { OnOk result (id.new.items ≡ id.old.items ++ decimal number) }
+{
+    let mut buffer = Buffer::new();
+    id.extend_from_slice(buffer.format(number).as_bytes())?;
+    Ok(())
+}
+
 impl Identity {
-    /// What the name at a path is identified by where it is declared first under a prefix.
-    pub fn first(
-        alloc: Global,
-        prefix: &Prefix,
-        path: &Path,
-    ) -> Result<Shared<Identity>, AllocError>
-        ensures { IfOk result (λ d. d ≡ first_identity prefix.now path.now) }
+    /// Writes the id of the name at a path that this identifies.
+    pub fn push_id(&self, text: &mut Vec<u8>, path: &Path) -> Result<(), AllocError>
+        ensures { OnOk result (text.new.items ≡ text.old.items ++ told path.now self.now) }
     {
-        let mut id = Vec::new(alloc);
-        prefix.push_id(&mut id, path)?;
-        let id = Bytes::from_slice(alloc, id.as_slice())?;
-        let prefix = prefix.text.clone()?;
-        Shared::new(
-            alloc,
-            Identity {
-                id,
-                prefix,
-                fixed: None,
-            },
-        )
-    }
-}
-
-impl FixedIdentity {
-    /// What a name is identified by that has it.
-    pub fn identity(&self, alloc: Global) -> Result<Shared<Identity>, AllocError>
-        ensures { IfOk result (λ d. d ≡ identity_of self.now) }
-    {
-        let id = self.id.clone()?;
-        let prefix = self.prefix.clone()?;
-        let fixed = Some(self.by);
-        Shared::new(alloc, Identity { id, prefix, fixed })
-    }
-}
-
-impl Fixed {
-    // A number for each.
-    fn number(self) -> u8
-        ensures { result ≡ fixed_number self }
-    {
-        match self {
-            Fixed::Version => 0,
-            Fixed::Id => 1,
+        match &self.fixed {
+            Some(by) => push_fixed(text, path, self.prefix.get(), by),
+            None => self.prefix.get().push_id(text, path),
         }
     }
 }
 
-impl PartialEq for Fixed {
-    ghost eq = { fixed_eq };
-
-    ghost laws = { partial_equiv_from_equiv (on_equiv fixed_number nat_eq_equiv) };
-
-    fn eq(&self, other: &Fixed) -> bool
-        ensures { result ≡ fixed_eq self.now other.now }
+impl FixedIdentity {
+    /// Writes the id of the name at a path that this identifies.
+    pub fn push_id(&self, text: &mut Vec<u8>, path: &Path) -> Result<(), AllocError>
+        ensures { OnOk result (text.new.items ≡ text.old.items ++ told path.now (identity_of self.now)) }
     {
-        self.number() == other.number()
+        push_fixed(text, path, self.prefix.get(), &self.by)
+    }
+
+    /// What a name is identified by that has it.
+    pub fn identity(&self) -> Result<Identity, AllocError>
+        ensures { IfOk result (λ d. d ≡ identity_of self.now) }
+    {
+        let prefix = self.prefix.clone()?;
+        let fixed = Some(self.by.clone()?);
+        Ok(Identity { prefix, fixed })
+    }
+
+    /// It with no more than tells the id of the name at a path: of an id that was given the prefix has its text alone.
+    pub fn told_at(&self, alloc: Global, path: &Path) -> Result<Shared<FixedIdentity>, AllocError>
+        ensures { IfOk result (λ d. d ≡ fixed_for path.now self.now) }
+    {
+        let prefix = match &self.by {
+            Fixed::Version(_, _) => prefix_for(alloc, path, self.prefix.clone()?)?,
+            Fixed::Id(_) => self.prefix.get().without_scope(alloc)?,
+        };
+        let by = self.by.clone()?;
+        Shared::new(alloc, FixedIdentity { prefix, by })
     }
 }
 
-impl Eq for Fixed {
-    ghost laws = { on_equiv fixed_number nat_eq_equiv };
+// Writes the id of the name at a path, of which so much is fixed.
+fn push_fixed(
+    text: &mut Vec<u8>,
+    path: &Path,
+    prefix: &Prefix,
+    by: &Fixed,
+) -> Result<(), AllocError>
+    ensures { OnOk result
+        (text.new.items
+        ≡ text.old.items ++ told path.now (record { prefix = prefix.now; fixed = Some by.now })) }
+{
+    match by {
+        Fixed::Version(major, minor) => {
+            prefix.push_stem(text, path)?;
+            text.push(b':')?;
+            push_version(text, *major, *minor)
+        }
+        Fixed::Id(id) => text.extend_from_slice(id.as_bytes()),
+    }
 }
 
 impl Datum for Fixed {
+    ghost use Rattle.idl_entity.specs.SameIdentity.{same_fixed, copied_fixed};
+
     ghost same = { same_fixed };
 
-    ghost copy = { λ x y h. h };
+    ghost copy = { copied_fixed };
 }
 
 impl Datum for Prefix {
-    ghost use Rattle.idl_entity.specs.Identity.{same_prefix, copied_prefix};
+    ghost use Rattle.idl_entity.specs.SameIdentity.{same_prefix, copied_prefix};
 
     ghost same = { same_prefix };
 
@@ -229,7 +275,7 @@ impl Datum for Prefix {
 }
 
 impl Datum for FixedIdentity {
-    ghost use Rattle.idl_entity.specs.Identity.{same_identity, copied_identity};
+    ghost use Rattle.idl_entity.specs.SameIdentity.{same_identity, copied_identity};
 
     ghost same = { same_identity };
 

@@ -3,8 +3,10 @@ use Rattle.std.specs.Prelude.{ℕ, ◌+◌, List, [], ◌∷◌, ◌++◌, Optio
 use Rattle.std.specs.List.{list_any}
 use Rattle.idl_lex.specs.kinds.Keywords.{folded}
 use Rattle.idl_entity.specs.Entity.{is_operation}
-use Rattle.idl_entity.specs.Identity.{first_identity, identity_of, prefix_for, no_prefix}
+use Rattle.idl_entity.specs.Identity.{fixed_for, identity_of, no_prefix, prefix_for, told}
 use Rattle.idl_env.specs.keys.Key.{key_eq}
+use Rattle.idl_env.specs.declared.keys.key.Key.{Key}
+use Rattle.idl_env.specs.declared.keys.key.Key.TheVariants.{Cursor, Declared, Introduced, Opened, Nameless, Prefix as PrefixKey, IdOf}
 use Rattle.idl_entity.specs.Kind.{kind_eq}
 use Rattle.idl_entity.specs.Path.{name_of, path_eq, scope_of}
 use Rattle.idl_env.specs.declared.additions.addition.Addition.{Addition}
@@ -17,8 +19,6 @@ use Rattle.idl_env.specs.declared.answering.answer.Scope.{Scope}
 use Rattle.idl_entity.specs.declared.entity.Entity.{Entity}
 use Rattle.idl_entity.specs.declared.identity.Identity.{Identity}
 use Rattle.idl_entity.specs.declared.identity.Prefix.{Prefix}
-use Rattle.idl_env.specs.declared.keys.key.Key.{Key}
-use Rattle.idl_env.specs.declared.keys.key.Key.TheVariants.{Cursor, Declared, Introduced, Opened, Nameless, Prefix as PrefixKey, IdOf}
 use Rattle.idl_entity.specs.declared.kind.Kind.TheVariants.{Module, Interface}
 use Rattle.idl_entity.specs.declared.kind.Stage.TheVariants.{Complete}
 
@@ -44,7 +44,7 @@ abbrev pub answer_of : Addition → Answer
 answer_of (Declares e) = Known e
 answer_of (Uses n path body) = Used
 answer_of (Appears path prefix) = Appeared (prefix_for path prefix)
-answer_of (Identifies path fixed) = Identified fixed
+answer_of (Identifies path fixed) = Identified (fixed_for path fixed)
 
 -- the addition at a key, or nothing
 abbrev pub addition_at : List Addition → Key → Option Addition
@@ -114,15 +114,15 @@ abbrev pub prefix_in : Option Answer → Prefix
 prefix_in (Some (InForce prefix)) = prefix
 prefix_in other = no_prefix
 
--- what identifies the name at a path, by what is answered of its id
-abbrev pub identity_at : List (List ℕ) → Option Answer → Option Identity
-identity_at path (Some (Appeared prefix)) = Some (first_identity prefix path)
-identity_at path (Some (Identified fixed)) = Some (identity_of fixed)
-identity_at path other = None
+-- what identifies a name, by what is answered of its id
+abbrev pub identity_in : Option Answer → Option Identity
+identity_in (Some (Appeared prefix)) = Some (record { prefix = prefix; fixed = None })
+identity_in (Some (Identified fixed)) = Some (identity_of fixed)
+identity_in other = None
 
--- its id, and nothing where none is told
+-- the id of the name at a path, and nothing where none is told
 abbrev pub id_at : List (List ℕ) → Option Answer → List ℕ
-id_at path answer = elim (identity_at path answer) [ None ↦ [] | Some d ↦ d.id ]
+id_at path answer = elim (identity_in answer) [ None ↦ [] | Some d ↦ told path d ]
 
 -- the paths of operations and attributes among what is declared
 abbrev pub operations_among : List Addition → List (List (List ℕ))

@@ -4,7 +4,7 @@ use Rattle.std.specs.Prelude.{◌≡◌, Bool, true, refl}
 use Rattle.std.proofs.Common.{ap}
 use Rattle.idl_base.specs.Exact.{same_list, same_number}
 use Rattle.idl_entity.specs.Entity.{same_entity}
-use Rattle.idl_entity.specs.Identity.{same_identity, same_prefix}
+use Rattle.idl_entity.specs.SameIdentity.{same_identity, same_prefix}
 use Rattle.idl_env.specs.answering.Scope.{same_scope, scope_eq}
 use Rattle.idl_env.specs.contracts.answering.answer.AnswerPartialEq.TheImpl.{ghosts}
 use Rattle.idl_env.specs.declared.answering.answer.Answer.{Answer}

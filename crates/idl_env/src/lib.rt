@@ -14,7 +14,7 @@ pub use additions::addition::{Addition, Step};
 pub use additions::facts::Facts;
 pub use additions::room::{Room, Writes};
 pub use answering::answer::{
-    Answer, Scope, count_in, entity_in, identity_at, prefix_in, push_id_at, scopes_in,
+    Answer, Scope, count_in, entity_in, identity_in, prefix_in, push_id_at, scopes_in,
 };
 pub use answering::open_scopes::OpenScopes;
 pub use answering::queue::BaseQueue;

@@ -5,9 +5,11 @@ use Rattle.std.specs.Prelude.{flat_map}
 use Rattle.idl_lex.specs.kinds.Keywords.{folded}
 use Rattle.idl_env.specs.Turns.{bases_in, bases_among, bases_named, declared_in, declared_among, declared_named}
 use Rattle.idl_env.specs.Facts.{UnitFacts, World, entity_key, entity_in, scopes_in, key_of, answer_of, addition_at, over, with_answer, with_additions, first_answer, first_world, given_back, with_prefix, closed, closing, after_closing, after_opening, after_nameless, after_step, after, after_all, world, answers}
-use Rattle.idl_entity.specs.Identity.{prefix_for, no_prefix}
+use Rattle.idl_entity.specs.Identity.{fixed_for, no_prefix, prefix_for}
 use Rattle.idl_env.specs.keys.Key.{key_eq}
-use Rattle.idl_env.specs.SameKey.{same_key}
+use Rattle.idl_env.specs.declared.keys.key.Key.{Key}
+use Rattle.idl_env.specs.declared.keys.key.Key.TheVariants.{Cursor, Declared, Introduced, Opened, Nameless, Prefix as PrefixKey, IdOf}
+use Rattle.idl_env.specs.keys.KeyLaws.{same_key}
 use Rattle.idl_entity.specs.Kind.{kind_eq, has_bases}
 use Rattle.idl_scope.specs.Lookup.{bases_of}
 use Rattle.idl_scope.specs.Meaning.{own_at, bases_at}
@@ -22,8 +24,6 @@ use Rattle.idl_env.specs.declared.answering.answer.Scope.{Scope}
 use Rattle.idl_entity.specs.declared.entity.Entity.{Entity}
 use Rattle.idl_entity.specs.declared.identity.FixedIdentity.{FixedIdentity}
 use Rattle.idl_entity.specs.declared.identity.Prefix.{Prefix}
-use Rattle.idl_env.specs.declared.keys.key.Key.{Key}
-use Rattle.idl_env.specs.declared.keys.key.Key.TheVariants.{Cursor, Declared, Introduced, Opened, Nameless, Prefix as PrefixKey, IdOf}
 use Rattle.idl_entity.specs.declared.kind.Kind.TheVariants.{Interface}
 use Rattle.idl_scope.proofs.Constructors.{none_some, some_same}
 use Rattle.idl_env.proofs.Membership.{IsIn, IsIn-left, IsIn-right}
@@ -119,7 +119,7 @@ module _ (parts : Entity → List (List (List ℕ))) (places : List (List (List 
       (ap (λ x. entity_key x.path) same, λ c i. within d refl c (let Q : Entity → Type 0 = λ x. IsIn c (parts x) in subst Q (sym same) i))
   addition-grounded (Uses n path body) within e h = no_entity_used (Introduced n path body) e h
   addition-grounded (Appears path prefix) within e h = no_entity_first (IdOf path) (prefix_for path prefix) e h
-  addition-grounded (Identifies path identity) within e h = no_entity_identity (IdOf path) identity e h
+  addition-grounded (Identifies path identity) within e h = no_entity_identity (IdOf path) (fixed_for path identity) e h
 
   pub over-grounded : (additions : List Addition) (answers : Key → Option Answer) → AreGroundedBy parts places answers → ((a : Addition) → IsIn a additions → IsGroundedBy parts places (key_of a) (answer_of a)) → AreGroundedBy parts places (λ k. over additions k (answers k))
   over-grounded additions answers before new k x h = elim (over-Some additions k (answers k) x h) as (λ _. IsGroundedBy parts places k x) [

@@ -1,4 +1,5 @@
 pub mod Finds
+pub mod Known
 pub mod Lookup
 pub mod Meaning
 pub mod Question

@@ -9,8 +9,11 @@ ghost use Rattle.idl_memo.specs.Query.{Agree, asked, outcome, run};
 ghost use Rattle.idl_entity.specs.Identity.{no_prefix};
 ghost use Rattle.idl_tree.specs.declared.name.ScopedName.{ScopedName};
 ghost use Rattle.idl_env.specs.Turns.{HasTurnsFor};
-ghost use Rattle.idl_env.specs.Facts.{UnitFacts, World, after, after_all, answers, entity_key, identity_at, key_of, operations_among, over, path_around, prefix_in, scopes_in, world};
+ghost use Rattle.idl_env.specs.Facts.{UnitFacts, World, after, after_all, answers, entity_key, key_of, operations_among, over, path_around, prefix_in, scopes_in, world};
 ghost use Rattle.idl_env.specs.keys.Key.{key_eq};
+ghost use Rattle.idl_env.specs.declared.keys.key.Key.{Key};
+ghost use Rattle.idl_env.specs.declared.keys.key.Key.TheVariants as key;
+ghost use Rattle.idl_scope.specs.Known.{told_at};
 ghost use Rattle.idl_scope.specs.Lookup.{Lookup, denoted, has, reached, under};
 ghost use Rattle.idl_scope.specs.Meaning.{Denotes, Has, Reaches, Through, bases_at, entity_found, own_at, seen};
 ghost use Rattle.idl_env.specs.Outside.{AgreeOutside, AreApart, IsInnermost, WorldsAgreeAround, WorldsAgreeOutside, looked_at_by};
@@ -23,8 +26,6 @@ ghost use Rattle.idl_env.specs.declared.answering.answer.Scope.{Scope};
 ghost use Rattle.idl_entity.specs.declared.entity.Entity.{Entity};
 ghost use Rattle.idl_scope.specs.declared.fault.NameFault.{NameFault};
 ghost use Rattle.idl_scope.specs.declared.found.Found.{Found};
-ghost use Rattle.idl_env.specs.declared.keys.key.Key.{Key};
-ghost use Rattle.idl_env.specs.declared.keys.key.Key.TheVariants as key;
 ghost use Rattle.idl_entity.specs.declared.kind.Kind.{Kind};
 
 /// An entity is answered at the name and in the scope that its path tells, and nowhere else.
@@ -181,12 +182,12 @@ pub fn reliance()
         → AgreeOutside keys bank other → AreApart asks keys → Agree asks bank other }
 {}
 
-/// Facts that come to the same id of a name, the same text of its prefix and the same pragma that fixed it answer the same where its
-/// id is asked: the scope in which the prefix was met shows in the id alone.
+/// Facts that come to the same id of a name, the same text of its prefix and the same that a pragma fixed answer the same where its id
+/// is asked: the scope in which the prefix was met shows in the id alone.
 pub fn identities()
     ensures { (facts others : List UnitFacts) (path : List (List ℕ))
-        → identity_at path (answers facts (key.IdOf path))
-        ≡ identity_at path (answers others (key.IdOf path))
+        → told_at path (answers facts (key.IdOf path))
+        ≡ told_at path (answers others (key.IdOf path))
         → answers facts (key.IdOf path) ≡ answers others (key.IdOf path) }
 {}
 

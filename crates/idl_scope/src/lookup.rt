@@ -3,7 +3,7 @@
 ghost use Rattle.std.specs.Prelude.{◌≡◌, ◌<◌, ◌≤◌, ◌+◌, ◌++◌, ℕ, IfOk, OnOk, Some, length, map, option_to_list};
 ghost use Rattle.std.specs.Option.{option_copied};
 ghost use Rattle.idl_memo.specs.Query.{noted, run};
-ghost use Rattle.idl_env.specs.Facts.{answer_of, answers, entity_in, entity_key, identity_at, over, prefix_in};
+ghost use Rattle.idl_env.specs.Facts.{answer_of, answers, entity_in, entity_key, identity_in, over, prefix_in};
 ghost use Rattle.idl_scope.specs.Finds.{those};
 ghost use Rattle.idl_env.specs.keys.Key.{key_eq};
 ghost use Rattle.idl_scope.specs.Lookup.{bases_of, entered, has, outward, reached, under};
@@ -15,7 +15,7 @@ use idl_base::{Bytes, Shared};
 use idl_entity::{Entity, Identity, Kind, Path, Prefix};
 use idl_env::{
     Addition, Answer, BaseQueue, DigestedKey, Env, Facts, LentKey, OpenScopes, entity_in,
-    identity_at, prefix_in,
+    identity_in, prefix_in,
 };
 use idl_memo::Journal;
 use std::alloc::AllocError;
@@ -77,10 +77,10 @@ impl<'a> View<'a> {
         self,
         log: &mut Journal<Env>,
         path: &Path,
-    ) -> Result<Option<Shared<Identity>>, AllocError>
+    ) -> Result<Option<Identity>, AllocError>
         ensures identity { IfOk result (λ d.
             d
-            ≡ identity_at path.now
+            ≡ identity_in
             (over self.entry.own.now.additions (IdOf path.now)
             (answers self.entry.env.now (IdOf path.now)))) }
         ensures logged { OnOk result
@@ -92,9 +92,9 @@ impl<'a> View<'a> {
         match self.own.get(&key)? {
             Some(addition) => {
                 let answer = addition.answer(alloc)?;
-                identity_at(alloc, path, Some(&answer))
+                identity_in(Some(&answer))
             }
-            None => identity_at(alloc, path, before),
+            None => identity_in(before),
         }
     }
 

@@ -1,73 +1,41 @@
 -- The fault that is told of a unit is the least of all.
-use Rattle.std.proofs.Common.{◌≡◌, ◌∙◌, ℕ, ◌+◌, ◌^◌, ◌<◌, ◌≤◌, Bool, true, false, cond, List, [], ◌∷◌, ◌++◌, length, Option, None, Some, Result, Ok, Err, refl, sym, ap, subst, arith}
+use Rattle.std.proofs.Common.{◌≡◌, ◌∙◌, ℕ, ◌+◌, ◌^◌, ◌<◌, cond, List, [], ◌∷◌, ◌++◌, length, Option, None, Result, Ok, Err, refl, sym, ap, subst, arith}
 use Rattle.std.proofs.lemmas.List.{length-map}
-use Rattle.std.proofs.lemmas.List.Elements.{All-cons, All-nil}
-use Rattle.std.specs.Prelude.{All, flat_map, not}
-use Rattle.idl_check.specs.walk.AllFaults.{further_faults, given_faults, name_faults, or_else, said_faults, site_faults, unit_faults}
-use Rattle.idl_check.specs.tables.Codes.{faults_by}
-use Rattle.idl_check.specs.ids.Identifying.{given}
+use Rattle.std.specs.Prelude.{flat_map}
+use Rattle.idl_check.specs.walk.AllFaults.{further_faults, name_faults, or_else, site_faults, unit_faults}
 use Rattle.idl_check.specs.walk.Judging.{FitsMemory}
-use Rattle.idl_tree.specs.NameParts.{last_at, part_at}
-use Rattle.idl_check.specs.tables.Rules.{has_id, is_id, is_misplaced}
-use Rattle.idl_check.specs.ids.Pragmas.{Said, about, id_faults, refused_for, said, said_by, text_faults, unnamed_faults}
+use Rattle.idl_check.specs.tables.Rules.{is_misplaced}
 use Rattle.idl_check.specs.walk.Sections.{section_sites}
-use Rattle.idl_check.specs.tables.Using.{name_code}
 use Rattle.idl_check.specs.walk.Verdict.{first_faults, tree_of, verdict}
 use Rattle.idl_check.specs.walk.Walk.{first_walk}
-use Rattle.idl_fault.specs.declared.code.Code.TheVariants.{BadIdText, MisplacedUnit, NoRepositoryId, NoTree}
+use Rattle.idl_fault.specs.declared.code.Code.TheVariants.{MisplacedUnit, NoTree}
 use Rattle.idl_lex.specs.tokens.Tokens.{Token}
-use Rattle.idl_memo.proofs.QueryLaws.{outcome-and_then}
-use Rattle.idl_memo.specs.Query.{Done, outcome}
+use Rattle.idl_memo.specs.Query.{outcome}
 use Rattle.idl_env.specs.Facts.{scopes_in}
-use Rattle.idl_scope.specs.Lookup.{by_result, denoted}
 use Rattle.idl_env.specs.declared.answering.answer.Answer.{Answer}
 use Rattle.idl_env.specs.declared.answering.answer.Scope.{Scope}
-use Rattle.idl_entity.specs.declared.entity.Entity.{Entity}
-use Rattle.idl_scope.specs.declared.fault.NameFault.{NameFault}
-use Rattle.idl_scope.specs.declared.fault.NameFault.TheVariants.{At, Memory}
-use Rattle.idl_scope.specs.declared.found.Found.{Found}
 use Rattle.idl_env.specs.declared.keys.key.Key.{Key}
 use Rattle.idl_env.specs.declared.keys.key.Key.TheVariants.{Cursor}
 use Rattle.idl_parts.proofs.UnitSpelling.{counted, unit_spells}
 use Rattle.idl_parts.specs.Item.{items, items_length}
 use Rattle.idl_parts.specs.UnitParts.{unit_parts}
-use Rattle.idl_syntax.specs.Parse.{pragma_faults}
 use Rattle.idl_tree.specs.Lexeme.{lexeme_of, lexemes}
-use Rattle.idl_tree.specs.Pragma.{pragma_of}
 use Rattle.idl_tree.specs.Unit.{spell}
-use Rattle.idl_tree.specs.declared.name.ScopedName.{ScopedName}
-use Rattle.idl_tree.specs.declared.pragma.Pragma.{Pragma}
-use Rattle.idl_tree.specs.declared.pragma.Pragma.TheVariants as pragma
 use Rattle.idl_tree.specs.declared.unit.Tree.{Tree}
 use Rattle.idl_unit.specs.Faults.{least_fault}
 use Rattle.idl_unit.specs.TokenRules.{fault_at}
 use Rattle.idl_unit.specs.declared.fault.Fault.{Fault}
 use Rattle.idl_unit.specs.declared.unit.UnitText.{UnitText}
 use Rattle.idl_unit.specs.declared.unit.UnitText.TheVariants as unit
-use Rattle.idl_check.proofs.Faults.AlikeLemmas.{AreAlike, alike-append, alike-led}
+use Rattle.idl_check.proofs.Faults.AlikeLemmas.{AreAlike, alike-append}
 use Rattle.idl_check.proofs.Nests.UnitNesting.{unit-whole}
-use Rattle.idl_check.proofs.Faults.FaultOrder.{Leads, leads-later}
 use Rattle.idl_check.proofs.Faults.LeastFault.{least-none}
-use Rattle.idl_check.proofs.PartLemmas.{IsUpTo, denoted-IsUpTo}
-use Rattle.idl_check.proofs.PragmaLaws.PragmaLaws.{about_by, least-is}
+use Rattle.idl_check.proofs.PragmaLaws.PragmaLaws.{least-is}
 use Rattle.idl_check.proofs.Faults.SectionLaws.{sections-told}
 use Rattle.idl_check.proofs.Visits.VerdictLaws.{tree-spelled}
 use Rattle.idl_check.proofs.Faults.VisitFaults.{visit_faults, visit_further_faults, visit_name_faults, visit_unit_faults}
 use Rattle.idl_check.proofs.Visits.WalkLaws.{none-append}
 use Rattle.idl_check.proofs.Visits.WholeLaws.{none-whole}
-
--- faults with the same least one, and none where the others are none
-abbrev pub TellsAlike : List Fault → List Fault → Type 0
-TellsAlike fs gs = (least_fault fs ≡ least_fault gs) × (fs ≡ [] → gs ≡ [])
-
-text-led : (b : Bool) (n : ℕ) (f : Fault) → f.index < n → All (Leads f) (faults_by n ((b, BadIdText) ∷ []))
-text-led true n f lt = All-cons (Leads f) (fault_at n BadIdText) [] (leads-later f (fault_at n BadIdText) lt) (All-nil (Leads f))
-text-led false n f lt = All-nil (Leads f)
-
--- a fault at the name counts before that of the text
-text-behind : (at : ℕ) (text : List ℕ) (f : Fault) → f.index ≤ at → TellsAlike (f ∷ []) (f ∷ text_faults at text)
-text-behind at text f le =
-    (sym (alike-led f (text_faults at text) (text-led (not (is_id text)) (at + 1) f (omega (arith, le))) None), λ none. cc)
 
 module _ (turns : ℕ) (answers : Key → Option Answer) where
   -- ---- units of tokens
@@ -115,57 +83,19 @@ module _ (turns : ℕ) (answers : Key → Option Answer) where
   else-none [] gs hs h none = h none
   else-none (f ∷ fs) gs hs h none = cc
 
-  -- ---- pragmas
-
-  module _ (name : ScopedName) (text : List ℕ) where
-    abbrev at : ℕ
-    at = last_at 2 name
-
-    entity-tells : (e : Entity) (b : Bool)
-        → TellsAlike (outcome (about_by turns answers [] 0 at (id_faults at text) (given text) e b) answers).faults
-        (cond b (outcome (about_by turns answers [] 0 at (id_faults at text) (given text) e b) answers).faults (fault_at at NoRepositoryId ∷ text_faults at text))
-    entity-tells e true = (refl, λ none. none)
-    entity-tells e false = text-behind at text (fault_at at NoRepositoryId) (omega arith)
-
-    given-tell : (r : Result Found NameFault) → IsUpTo (length name.rest) r
-        → TellsAlike (outcome (by_result r (λ found. about at (id_faults at text) (given text) found.entity) (λ fault. Done (refused_for (unnamed_faults name fault)))) answers).faults
-        (given_faults turns answers name text r)
-    given-tell (Ok found) up = entity-tells found.entity (has_id found.entity.kind)
-    given-tell (Err (At why part)) up = text-behind at text (fault_at (part_at 2 name part) (name_code why)) (omega (arith, up))
-    given-tell (Err Memory) up = absurd up
-
-    id-tells : (scopes : List Scope) → TellsAlike (outcome (said turns scopes (pragma.Id name text)) answers).faults (said_faults turns answers scopes (Some (pragma.Id name text)))
-    id-tells scopes =
-        let query = denoted turns scopes name in
-        let r = outcome query answers in
-        subst (λ fs. TellsAlike fs (given_faults turns answers name text r))
-        (ap (λ (s : Said). s.faults)
-        (sym (outcome-and_then query (λ r. by_result r (λ found. about at (id_faults at text) (given text) found.entity) (λ fault. Done (refused_for (unnamed_faults name fault)))) answers)))
-        (given-tell r (denoted-IsUpTo turns answers scopes name))
-
-  said-tell : (scopes : List Scope) (p : Option Pragma) → TellsAlike (outcome (said_by turns scopes p) answers).faults (said_faults turns answers scopes p)
-  said-tell scopes None = (refl, λ none. none)
-  said-tell scopes (Some (pragma.Prefix text)) = (refl, λ none. none)
-  said-tell scopes (Some (pragma.Id name text)) = id-tells name text scopes
-  said-tell scopes (Some (pragma.Version name major minor)) = (refl, λ none. none)
-
   -- ---- any unit
 
   unit-least : (text : UnitText) → FitsMemory text → least_fault (visit_unit_faults turns answers text) ≡ least_fault (unit_faults turns answers text)
   unit-least (unit.Tokens tokens) fits =
       let scopes = scopes_in (answers Cursor) in
       else-least (first_faults tokens scopes) (visit_further_faults turns answers tokens scopes) (further_faults turns answers tokens scopes) (further-least tokens fits scopes (tree_of tokens) refl)
-  unit-least (unit.Pragma tokens inside) fits =
-      let scopes = scopes_in (answers Cursor) in
-      else-least (pragma_faults tokens inside) (outcome (said_by turns scopes (pragma_of tokens)) answers).faults (said_faults turns answers scopes (pragma_of tokens)) (said-tell scopes (pragma_of tokens)).0
+  unit-least (unit.Pragma tokens inside) fits = refl
 
   unit-none : (text : UnitText) → visit_unit_faults turns answers text ≡ [] → unit_faults turns answers text ≡ []
   unit-none (unit.Tokens tokens) =
       let scopes = scopes_in (answers Cursor) in
       else-none (first_faults tokens scopes) (visit_further_faults turns answers tokens scopes) (further_faults turns answers tokens scopes) (further-none scopes (tree_of tokens))
-  unit-none (unit.Pragma tokens inside) =
-      let scopes = scopes_in (answers Cursor) in
-      else-none (pragma_faults tokens inside) (outcome (said_by turns scopes (pragma_of tokens)) answers).faults (said_faults turns answers scopes (pragma_of tokens)) (said-tell scopes (pragma_of tokens)).1
+  unit-none (unit.Pragma tokens inside) none = none
 
 pub least-whole : (turns : ℕ) (text : UnitText) (answers : Key → Option Answer) → FitsMemory text → (outcome (verdict turns text) answers).fault ≡ least_fault (unit_faults turns answers text)
 least-whole turns text answers fits = least-is turns text answers ∙ unit-least turns answers text fits

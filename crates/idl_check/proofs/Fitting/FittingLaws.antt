@@ -1,14 +1,15 @@
 -- What a unit's verdict adds fits the facts before it.
-use Rattle.std.proofs.Common.{◌≡◌, ℕ, Bool, true, false, cond, List, [], ◌∷◌, Option, Some, None, Result, Ok, Err, refl, sym, subst, inl, inr}
+use Rattle.std.proofs.Common.{◌≡◌, ℕ, ◌+◌, Bool, true, false, cond, List, [], ◌∷◌, Option, Some, None, Result, Ok, Err, refl, sym, subst, inl, inr}
 use Rattle.idl_check.proofs.Fitting.ClosingLaws.{IsFitting, IsSettled, StepFits}
 use Rattle.idl_check.proofs.PragmaLaws.PragmaLaws.{faulty-pragma, spoken-pragma}
 use Rattle.idl_check.proofs.Visits.VerdictLaws.{faulty-is, sound-is}
 use Rattle.idl_check.proofs.Fitting.SettledLaws.{Once}
-use Rattle.idl_check.specs.ids.Identifying.{given, versioned}
+use Rattle.idl_check.specs.ids.Identifying.{changed}
 use Rattle.idl_check.specs.walk.Judging.{IsSound}
 use Rattle.idl_tree.specs.NameParts.{last_at}
 use Rattle.idl_check.specs.walk.Placing.{faulty_step, is_closing_by, opened_kind}
-use Rattle.idl_check.specs.ids.Pragmas.{Said, about, about_name, id_faults, refused_for, said, unnamed_faults, version_faults}
+use Rattle.idl_check.specs.ids.About.{Said, about, about_entity, refused_for, said_at, unnamed_faults, with_faults}
+use Rattle.idl_check.specs.ids.Pragmas.{said, text_faults}
 use Rattle.idl_check.specs.tables.Rules.{has_id}
 use Rattle.idl_fault.specs.declared.code.Code.TheVariants.{NoRepositoryId}
 use Rattle.idl_unit.specs.TokenRules.{fault_at}
@@ -19,7 +20,7 @@ use Rattle.idl_memo.proofs.QueryLaws.{outcome-and_then}
 use Rattle.idl_memo.specs.Query.{Ask, Done, outcome}
 use Rattle.idl_env.proofs.Membership.{IsIn}
 use Rattle.idl_scope.proofs.Worlds.{addition_at-Some}
-use Rattle.idl_env.specs.Facts.{UnitFacts, World, answers, entity_key, identity_at, scopes_in, world, with_additions}
+use Rattle.idl_env.specs.Facts.{UnitFacts, World, answers, entity_key, identity_in, scopes_in, world, with_additions}
 use Rattle.idl_scope.specs.Lookup.{Lookup, by_result, denoted}
 use Rattle.idl_env.specs.Turns.{turns_for}
 use Rattle.idl_env.specs.declared.additions.addition.Addition.TheVariants.{Declares, Identifies}
@@ -30,7 +31,8 @@ use Rattle.idl_env.specs.declared.answering.answer.Scope.{Scope}
 use Rattle.idl_entity.specs.declared.entity.Entity.{Entity}
 use Rattle.idl_scope.specs.declared.fault.NameFault.{NameFault}
 use Rattle.idl_scope.specs.declared.found.Found.{Found}
-use Rattle.idl_entity.specs.declared.identity.FixedIdentity.{FixedIdentity}
+use Rattle.idl_entity.specs.declared.identity.Fixed.{Fixed}
+use Rattle.idl_entity.specs.declared.identity.Fixed.TheVariants.{Version, Id}
 use Rattle.idl_entity.specs.declared.identity.Identity.{Identity}
 use Rattle.idl_env.specs.declared.keys.key.Key.{Key}
 use Rattle.idl_env.specs.declared.keys.key.Key.TheVariants.{Cursor, IdOf}
@@ -73,40 +75,40 @@ refused-calm : (faults : List Fault) → CalmSaid (refused_for faults)
 refused-calm faults = record { once = tt; nothing = λ x i. i; step = λ w. tt }
 
 module _ (turns : ℕ) (bank : Key → Option Answer) where
-  identified-calm : (faults : Identity → List Fault) (change : Identity → FixedIdentity) (e : Entity) (o : Option Identity)
-      → CalmSaid (elim o as (λ _. Said) [ None ↦ refused_for [] | Some d ↦ record { faults = faults d; additions = Identifies e.path (change d) ∷ []; step = Stays } ])
-  identified-calm faults change e None = refused-calm []
-  identified-calm faults change e (Some d) = record { once = (refl, tt); nothing = nothing; step = λ w. tt }
+  identified-calm : (at : ℕ) (change : Fixed) (e : Entity) (o : Option Identity)
+      → CalmSaid (elim o as (λ _. Said) [ None ↦ refused_for [] | Some d ↦ said_at at change e.path d ])
+  identified-calm at change e None = refused-calm []
+  identified-calm at change e (Some d) = record { once = (refl, tt); nothing = nothing; step = λ w. tt }
     where
-      nothing : (x : Entity) → IsIn (Declares x) (Identifies e.path (change d) ∷ []) → ⊥
+      nothing : (x : Entity) → IsIn (Declares x) (Identifies e.path (changed change d) ∷ []) → ⊥
       nothing x (inl h) = cc
       nothing x (inr h) = h
 
-  abbrev about_by : ℕ → (Identity → List Fault) → (Identity → FixedIdentity) → Entity → Bool → Lookup Said
-  about_by at faults change e b =
-      cond b (Ask (IdOf e.path) (λ answer. Done (elim (identity_at e.path answer) as (λ _. Said) [
-        | None ↦ refused_for []
-        | Some d ↦ record { faults = faults d; additions = Identifies e.path (change d) ∷ []; step = Stays }
-      ]))) (Done (refused_for (fault_at at NoRepositoryId ∷ [])))
+  abbrev about_by : ℕ → Fixed → Entity → Bool → Lookup Said
+  about_by at change e b =
+      cond b (Ask (IdOf e.path) (λ answer. Done (elim (identity_in answer) as (λ _. Said) [ None ↦ refused_for [] | Some d ↦ said_at at change e.path d ])))
+      (Done (refused_for (fault_at at NoRepositoryId ∷ [])))
 
-  about-by : (at : ℕ) (faults : Identity → List Fault) (change : Identity → FixedIdentity) (e : Entity) (b : Bool) → CalmSaid (outcome (about_by at faults change e b) bank)
-  about-by at faults change e true = identified-calm faults change e (identity_at e.path (bank (IdOf e.path)))
-  about-by at faults change e false = refused-calm (fault_at at NoRepositoryId ∷ [])
+  about-by : (at : ℕ) (change : Fixed) (e : Entity) (b : Bool) → CalmSaid (outcome (about_by at change e b) bank)
+  about-by at change e true = identified-calm at change e (identity_in (bank (IdOf e.path)))
+  about-by at change e false = refused-calm (fault_at at NoRepositoryId ∷ [])
 
-  named-by : (name : ScopedName) (faults : Identity → List Fault) (change : Identity → FixedIdentity) (r : Result Found NameFault)
-      → CalmSaid (outcome (by_result r (λ found. about (last_at 2 name) faults change found.entity) (λ fault. Done (refused_for (unnamed_faults name fault)))) bank)
-  named-by name faults change (Ok found) = about-by (last_at 2 name) faults change found.entity (has_id found.entity.kind)
-  named-by name faults change (Err fault) = refused-calm (unnamed_faults name fault)
+  named-by : (name : ScopedName) (change : Fixed) (r : Result Found NameFault)
+      → CalmSaid (outcome (by_result r (λ found. about_entity (last_at 2 name) change found.entity) (λ fault. Done (refused_for (unnamed_faults 2 name fault)))) bank)
+  named-by name change (Ok found) = about-by (last_at 2 name) change found.entity (has_id found.entity.kind)
+  named-by name change (Err fault) = refused-calm (unnamed_faults 2 name fault)
 
-  about-calm : (scopes : List Scope) (name : ScopedName) (faults : Identity → List Fault) (change : Identity → FixedIdentity) → CalmSaid (outcome (about_name turns scopes name faults change) bank)
-  about-calm scopes name faults change =
-      let next : Result Found NameFault → Lookup Said = λ r. by_result r (λ found. about (last_at 2 name) faults change found.entity) (λ fault. Done (refused_for (unnamed_faults name fault))) in
-      subst CalmSaid (sym (outcome-and_then (denoted turns scopes name) next bank)) (named-by name faults change (outcome (denoted turns scopes name) bank))
+  about-calm : (scopes : List Scope) (name : ScopedName) (change : Fixed) → CalmSaid (outcome (about 2 turns scopes name change) bank)
+  about-calm scopes name change =
+      let next : Result Found NameFault → Lookup Said = λ r. by_result r (λ found. about_entity (last_at 2 name) change found.entity) (λ fault. Done (refused_for (unnamed_faults 2 name fault))) in
+      subst CalmSaid (sym (outcome-and_then (denoted turns scopes name) next bank)) (named-by name change (outcome (denoted turns scopes name) bank))
 
   said-calm : (scopes : List Scope) (p : Pragma) → CalmSaid (outcome (said turns scopes p) bank)
   said-calm scopes (pragma.Prefix text) = record { once = tt; nothing = λ x i. i; step = λ w. tt }
-  said-calm scopes (pragma.Id name text) = about-calm scopes name (id_faults (last_at 2 name) text) (given text)
-  said-calm scopes (pragma.Version name major minor) = about-calm scopes name (version_faults (last_at 2 name)) (versioned major minor)
+  said-calm scopes (pragma.Id name text) =
+      let query = about 2 turns scopes name (Id text) in
+      subst CalmSaid (sym (outcome-and_then query (λ s. Done (with_faults (text_faults (last_at 2 name + 1) text) s)) bank)) (about-calm scopes name (Id text))
+  said-calm scopes (pragma.Version name major minor) = about-calm scopes name (Version major minor)
 
   pub pragma-calm : (tokens : List Token) (inside : Bool) → IsCalm (outcome (verdict turns (unit.Pragma tokens inside)) bank).writes
   pragma-calm tokens inside = by_fault (outcome (verdict turns (unit.Pragma tokens inside)) bank).fault refl

@@ -7,7 +7,8 @@ use Rattle.idl_check.specs.tables.Codes.{faults_by}
 use Rattle.idl_tree.specs.NameParts.{last_at, part_at}
 use Rattle.idl_check.specs.tables.Rules.{has_id, is_fixed, is_given, is_id, is_visible}
 use Rattle.idl_check.specs.walk.Judging.{IsSpoken}
-use Rattle.idl_check.specs.ids.Pragmas.{Said, about, about_name, id_faults, refused_for, said, said_by, unnamed_faults, version_faults}
+use Rattle.idl_check.specs.ids.About.{Said, about, about_entity, refused_for, repeated, said_at, unnamed_faults, with_faults}
+use Rattle.idl_check.specs.ids.Pragmas.{said, said_by, text_faults}
 use Rattle.idl_check.specs.tables.Using.{name_code}
 use Rattle.idl_check.specs.walk.Verdict.{faulty, pragma_verdict, verdict}
 use Rattle.idl_check.specs.declared.walk.verdict.Verdict.{Verdict}
@@ -16,9 +17,8 @@ use Rattle.idl_fault.specs.declared.code.Code.TheVariants.{BadIdText, MalformedP
 use Rattle.idl_lex.specs.tokens.Tokens.{Token}
 use Rattle.idl_memo.specs.Query.{Ask, Done, and_then, asked, outcome}
 use Rattle.idl_memo.proofs.QueryLaws.{outcome-and_then}
-use Rattle.idl_env.specs.Facts.{identity_at, scopes_in}
+use Rattle.idl_env.specs.Facts.{identity_in, scopes_in}
 use Rattle.idl_scope.specs.Lookup.{Lookup, by_result, denoted}
-use Rattle.idl_env.specs.declared.additions.addition.Addition.TheVariants.{Identifies}
 use Rattle.idl_env.specs.declared.additions.addition.Step.TheVariants.{Stays}
 use Rattle.idl_env.specs.declared.answering.answer.Answer.{Answer}
 use Rattle.idl_env.specs.declared.answering.answer.Scope.{Scope}
@@ -26,7 +26,8 @@ use Rattle.idl_entity.specs.declared.entity.Entity.{Entity}
 use Rattle.idl_scope.specs.declared.fault.NameFault.{NameFault}
 use Rattle.idl_scope.specs.declared.fault.NameFault.TheVariants.{At, Memory}
 use Rattle.idl_scope.specs.declared.found.Found.{Found}
-use Rattle.idl_entity.specs.declared.identity.FixedIdentity.{FixedIdentity}
+use Rattle.idl_entity.specs.declared.identity.Fixed.{Fixed}
+use Rattle.idl_entity.specs.declared.identity.Fixed.TheVariants.{Version, Id}
 use Rattle.idl_entity.specs.declared.identity.Identity.{Identity}
 use Rattle.idl_env.specs.declared.keys.key.Key.{Key}
 use Rattle.idl_env.specs.declared.keys.key.Key.TheVariants.{Cursor, IdOf}
@@ -162,37 +163,35 @@ test-before n at true c lt = one-before n at c lt
 test-before n at false c lt = All-nil (Before n)
 
 module _ (turns : ℕ) (answers : Key → Option Answer) (scopes : List Scope) (n : ℕ) where
-  abbrev said_at : (Identity → List Fault) → (Identity → FixedIdentity) → List (List ℕ) → Option Identity → Said
-  said_at faults change path o =
-      elim o [
-        | None ↦ refused_for []
-        | Some d ↦ record { faults = faults d; additions = Identifies path (change d) ∷ []; step = Stays }
-      ]
+  repeated-before : (at : ℕ) (change : Fixed) (path : List (List ℕ)) (d : Identity) → at < n → All (Before n) (repeated at change path d)
+  repeated-before at (Id text) path d lt = test-before n at (is_given text path d) RepeatedId lt
+  repeated-before at (Version major minor) path d lt = test-before n at (is_fixed d) RepeatedVersion lt
 
-  said-at-before : (faults : Identity → List Fault) (change : Identity → FixedIdentity) (path : List (List ℕ)) (o : Option Identity) → ((d : Identity) → All (Before n) (faults d))
-      → All (Before n) (said_at faults change path o).faults
-  said-at-before faults change path None each = All-nil (Before n)
-  said-at-before faults change path (Some d) each = each d
+  abbrev said_if : ℕ → Fixed → List (List ℕ) → Option Identity → Said
+  said_if at change path o = elim o [ None ↦ refused_for [] | Some d ↦ said_at at change path d ]
 
-  abbrev pub about_by : ℕ → (Identity → List Fault) → (Identity → FixedIdentity) → Entity → Bool → Lookup Said
-  about_by at faults change e b =
-      cond b (Ask (IdOf e.path) (λ answer. Done (said_at faults change e.path (identity_at e.path answer)))) (Done (refused_for (fault_at at NoRepositoryId ∷ [])))
+  said-if-before : (at : ℕ) (change : Fixed) (path : List (List ℕ)) (o : Option Identity) → at < n → All (Before n) (said_if at change path o).faults
+  said-if-before at change path None lt = All-nil (Before n)
+  said-if-before at change path (Some d) lt = repeated-before at change path d lt
 
-  about-if : (at : ℕ) (faults : Identity → List Fault) (change : Identity → FixedIdentity) (e : Entity) (b : Bool) → at < n → ((d : Identity) → All (Before n) (faults d))
-      → All (Before n) (outcome (about_by at faults change e b) answers).faults
-  about-if at faults change e true lt each = said-at-before faults change e.path (identity_at e.path (answers (IdOf e.path))) each
-  about-if at faults change e false lt each = one-before n at NoRepositoryId lt
+  abbrev pub about_by : ℕ → Fixed → Entity → Bool → Lookup Said
+  about_by at change e b =
+      cond b (Ask (IdOf e.path) (λ answer. Done (said_if at change e.path (identity_in answer)))) (Done (refused_for (fault_at at NoRepositoryId ∷ [])))
 
-  module _ (name : ScopedName) (faults : Identity → List Fault) (change : Identity → FixedIdentity) (within : last_at 2 name < n) (each : (d : Identity) → All (Before n) (faults d)) where
+  about-if : (at : ℕ) (change : Fixed) (e : Entity) (b : Bool) → at < n → All (Before n) (outcome (about_by at change e b) answers).faults
+  about-if at change e true lt = said-if-before at change e.path (identity_in (answers (IdOf e.path))) lt
+  about-if at change e false lt = one-before n at NoRepositoryId lt
+
+  module _ (name : ScopedName) (change : Fixed) (within : last_at 2 name < n) where
     abbrev by_found : Result Found NameFault → Lookup Said
-    by_found r = by_result r (λ found. about (last_at 2 name) faults change found.entity) (λ fault. Done (refused_for (unnamed_faults name fault)))
+    by_found r = by_result r (λ found. about_entity (last_at 2 name) change found.entity) (λ fault. Done (refused_for (unnamed_faults 2 name fault)))
 
     found-before : (r : Result Found NameFault) → IsUpTo (length name.rest) r → All (Before n) (outcome (by_found r) answers).faults
-    found-before (Ok found) up = about-if (last_at 2 name) faults change found.entity (has_id found.entity.kind) within each
+    found-before (Ok found) up = about-if (last_at 2 name) change found.entity (has_id found.entity.kind) within
     found-before (Err (At why part)) up = one-before n (part_at 2 name part) (name_code why) (omega (arith, up, within))
     found-before (Err Memory) up = absurd up
 
-    name-before : All (Before n) (outcome (about_name turns scopes name faults change) answers).faults
+    name-before : All (Before n) (outcome (about 2 turns scopes name change) answers).faults
     name-before =
         let query = denoted turns scopes name in
         subst (λ (s : Said). All (Before n) s.faults) (sym (outcome-and_then query by_found answers)) (found-before (outcome query answers) (denoted-IsUpTo turns answers scopes name))
@@ -200,13 +199,12 @@ module _ (turns : ℕ) (answers : Key → Option Answer) (scopes : List Scope) (
   said-before : (p : Pragma) → n ≡ suc (end_of p) → All (Before n) (outcome (said turns scopes p) answers).faults
   said-before (pragma.Prefix text) h = test-before n 2 (not (is_visible text)) BadIdText (omega (arith, h))
   said-before (pragma.Id name text) h =
-      let at = last_at 2 name in
-      name-before name (id_faults at text) _ (omega (arith, h))
-      (λ d. All-append (Before n) (faults_by at ((is_given text d, RepeatedId) ∷ [])) (faults_by (at + 1) ((not (is_id text), BadIdText) ∷ [])) (test-before n at (is_given text d) RepeatedId (omega (arith, h)))
-      (test-before n (at + 1) (not (is_id text)) BadIdText (omega (arith, h))))
-  said-before (pragma.Version name major minor) h =
-      let at = last_at 2 name in
-      name-before name (version_faults at) _ (omega (arith, h)) (λ d. test-before n at (is_fixed d) RepeatedVersion (omega (arith, h)))
+      let query = about 2 turns scopes name (Id text) in
+      let at = last_at 2 name + 1 in
+      let more = text_faults at text in
+      subst (λ (s : Said). All (Before n) s.faults) (sym (outcome-and_then query (λ s. Done (with_faults more s)) answers))
+      (All-append (Before n) (outcome query answers).faults more (name-before name (Id text) (omega (arith, h))) (test-before n at (not (is_id text)) BadIdText (omega (arith, h))))
+  said-before (pragma.Version name major minor) h = name-before name (Version major minor) (omega (arith, h))
 
   by-before : (o : Option Pragma) → ((p : Pragma) → o ≡ Some p → n ≡ suc (end_of p)) → All (Before n) (outcome (said_by turns scopes o) answers).faults
   by-before None each = All-nil (Before n)

@@ -1,35 +1,27 @@
 -- Repository ids: which names have one, and what pragmas make of it.
 use Rattle.idl_check.specs.tables.Rules.{has_id, may_be_ahead}
-use Rattle.std.specs.Prelude.{ℕ, ◌-◌, List, ◌∷◌, ◌++◌, decimal, length, take, Option, None, Some, if◌then◌else◌}
+use Rattle.std.specs.Prelude.{List, Option, None, Some, if◌then◌else◌}
 use Rattle.idl_check.specs.declared.ids.identifying.Ids.{Ids}
 use Rattle.idl_memo.specs.Query.{Done, Ask, and_then}
-use Rattle.idl_env.specs.Facts.{identity_at, prefix_in, with_addition}
+use Rattle.idl_env.specs.Facts.{identity_in, prefix_in, with_addition}
 use Rattle.idl_scope.specs.Lookup.{Lookup}
 use Rattle.idl_env.specs.declared.additions.addition.Addition.{Addition}
 use Rattle.idl_env.specs.declared.additions.addition.Addition.TheVariants.{Appears}
 use Rattle.idl_entity.specs.declared.entity.Entity.{Entity}
-use Rattle.idl_entity.specs.declared.identity.Fixed.TheVariants.{Version, Id}
+use Rattle.idl_entity.specs.declared.identity.Fixed.{Fixed}
 use Rattle.idl_entity.specs.declared.identity.FixedIdentity.{FixedIdentity}
 use Rattle.idl_entity.specs.declared.identity.Identity.{Identity}
 use Rattle.idl_env.specs.declared.keys.key.Key.TheVariants.{Prefix as PrefixKey, IdOf}
 
--- with another version in place of `1.0`
-abbrev pub versioned : ℕ → ℕ → Identity → FixedIdentity
-versioned major minor d = record {
-  id = take (length d.id - 3) d.id ++ decimal major ++ 46 ∷ decimal minor;
-  prefix = d.prefix;
-  by = Version;
-}
-
--- with this id
-abbrev pub given : List ℕ → Identity → FixedIdentity
-given text d = record { id = text; prefix = d.prefix; by = Id }
+-- what identifies a name once this of its id is fixed
+abbrev pub changed : Fixed → Identity → FixedIdentity
+changed change d = record { prefix = d.prefix; by = change }
 
 -- the id of a name that was declared before as this, which may have been ahead
 abbrev pub id_before : Option Entity → Entity → Lookup (Option Identity)
 id_before None e = Done None
 id_before (Some old) e =
-    if may_be_ahead old.kind then Ask (IdOf e.path) (λ answer. Done (identity_at e.path answer))
+    if may_be_ahead old.kind then Ask (IdOf e.path) (λ answer. Done (identity_in answer))
     else Done None
 
 -- what a declared name that has an id is told of ids: the prefix in force, and its own id

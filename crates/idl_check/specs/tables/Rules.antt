@@ -11,12 +11,13 @@ use Rattle.idl_check.specs.told.Types.{may_switch}
 use Rattle.idl_check.specs.declared.ids.identifying.Ids.{Ids}
 use Rattle.idl_check.specs.declared.tables.standing.Standing.{Standing}
 use Rattle.idl_lex.specs.kinds.Keywords.{folded}
-use Rattle.idl_entity.specs.Identity.{fixed_eq}
+use Rattle.idl_entity.specs.Identity.{told}
 use Rattle.idl_entity.specs.Kind.{kind_eq, stage_eq, is_scope}
 use Rattle.idl_entity.specs.Path.{name_of, path_eq}
 use Rattle.idl_env.specs.declared.answering.answer.Scope.{Scope}
 use Rattle.idl_entity.specs.declared.entity.Entity.{Entity}
-use Rattle.idl_entity.specs.declared.identity.Fixed.TheVariants.{Id}
+use Rattle.idl_entity.specs.declared.identity.Fixed.{Fixed}
+use Rattle.idl_entity.specs.declared.identity.Fixed.TheVariants.{Version, Id}
 use Rattle.idl_entity.specs.declared.identity.Identity.{Identity}
 use Rattle.idl_entity.specs.declared.kind.Kind.{Kind}
 use Rattle.idl_entity.specs.declared.kind.Kind.TheVariants.{Module, Interface, Structure, Union, Exception, Enumeration, Enumerator, Alias, Native, Parameter, Member}
@@ -183,12 +184,16 @@ is_useless_default unions = list_any is_idle (take 1 unions)
 abbrev pub has_other_prefix : Option Ids → Bool
 has_other_prefix None = false
 has_other_prefix (Some ids) =
-    elim ids.before [ None ↦ false | Some d ↦ not (bytes_eq d.prefix ids.prefix.text) ]
+    elim ids.before [ None ↦ false | Some d ↦ not (bytes_eq d.prefix.text ids.prefix.text) ]
 
 -- E71: An id is given once, and behind a version only the id that it told.
-abbrev pub is_given : List ℕ → Identity → Bool
-is_given text d =
-    elim d.fixed [ None ↦ false | Some by ↦ fixed_eq by Id || not (bytes_eq text d.id) ]
+abbrev pub is_other : List ℕ → List ℕ → Option Fixed → Bool
+is_other text id None = false
+is_other text id (Some (Version major minor)) = not (bytes_eq text id)
+is_other text id (Some (Id given)) = true
+
+abbrev pub is_given : List ℕ → List (List ℕ) → Identity → Bool
+is_given text path d = is_other text (told path d) d.fixed
 
 -- E72: A version is told once, and not behind an id.
 abbrev pub is_fixed : Identity → Bool

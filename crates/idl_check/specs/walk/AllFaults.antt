@@ -1,23 +1,17 @@
--- All faults of a unit, as if none ended the search for others: each of an expression, those of the
--- whole name that a oneway operation gives back, and that of an id's text whatever its name is. The
--- one that is told is the least.
-use Rattle.std.specs.Prelude.{ℕ, ◌+◌, List, [], ◌∷◌, ◌++◌, map, Option, None, Some, Result, Ok, Err, if◌then◌else◌}
-use Rattle.idl_check.specs.ids.Identifying.{given}
-use Rattle.idl_tree.specs.NameParts.{last_at}
-use Rattle.idl_check.specs.tables.Rules.{has_id, is_misplaced}
-use Rattle.idl_check.specs.ids.Pragmas.{about, id_faults, said, text_faults, unnamed_faults}
+-- All faults of a unit, as if none ended the search for others: each of an expression, and those of
+-- the whole name that a oneway operation gives back. The one that is told is the least.
+use Rattle.std.specs.Prelude.{ℕ, ◌+◌, List, [], ◌∷◌, ◌++◌, map, Option, None, Some, Ok, Err, if◌then◌else◌}
+use Rattle.idl_check.specs.tables.Rules.{is_misplaced}
+use Rattle.idl_check.specs.ids.Pragmas.{said_by}
 use Rattle.idl_check.specs.told.Values.{code_of}
 use Rattle.idl_check.specs.walk.Verdict.{first_faults, tree_of}
 use Rattle.idl_check.specs.walk.Walk.{Visit, Walk, evaluation_at, first_walk, is_repeated, used, visit, with_oneway}
-use Rattle.idl_fault.specs.declared.code.Code.TheVariants.{MisplacedUnit, NoRepositoryId, NoTree, RepeatedLabel}
+use Rattle.idl_fault.specs.declared.code.Code.TheVariants.{MisplacedUnit, NoTree, RepeatedLabel}
 use Rattle.idl_lex.specs.tokens.Tokens.{Token}
 use Rattle.idl_memo.specs.Query.{outcome}
 use Rattle.idl_env.specs.Facts.{scopes_in}
-use Rattle.idl_scope.specs.Lookup.{denoted}
 use Rattle.idl_env.specs.declared.answering.answer.Answer.{Answer}
 use Rattle.idl_env.specs.declared.answering.answer.Scope.{Scope}
-use Rattle.idl_scope.specs.declared.fault.NameFault.{NameFault}
-use Rattle.idl_scope.specs.declared.found.Found.{Found}
 use Rattle.idl_env.specs.declared.keys.key.Key.{Key}
 use Rattle.idl_env.specs.declared.keys.key.Key.TheVariants.{Cursor}
 use Rattle.idl_parts.specs.Item.{Item, items}
@@ -28,8 +22,6 @@ use Rattle.idl_parts.specs.declared.part.Use.{Use}
 use Rattle.idl_syntax.specs.Parse.{pragma_faults}
 use Rattle.idl_tree.specs.Pragma.{pragma_of}
 use Rattle.idl_tree.specs.declared.name.ScopedName.{ScopedName}
-use Rattle.idl_tree.specs.declared.pragma.Pragma.{Pragma}
-use Rattle.idl_tree.specs.declared.pragma.Pragma.TheVariants as pragma
 use Rattle.idl_tree.specs.declared.unit.Tree.{Tree}
 use Rattle.idl_unit.specs.TokenRules.{fault_at}
 use Rattle.idl_unit.specs.declared.fault.Fault.{Fault}
@@ -90,27 +82,10 @@ module _ (turns : ℕ) (answers : Key → Option Answer) where
       elim (tree_of tokens)
       [ Err place ↦ fault_at place NoTree ∷ [] | Ok tree ↦ name_faults scopes tree ]
 
-  -- those of an id that is given to what a name denotes
-  abbrev pub given_faults : ScopedName → List ℕ → Result Found NameFault → List Fault
-  given_faults name text (Err fault) =
-      unnamed_faults name fault ++ text_faults (last_at 2 name) text
-  given_faults name text (Ok found) =
-      let at = last_at 2 name in
-      if has_id found.entity.kind
-      then (outcome (about at (id_faults at text) (given text) found.entity) answers).faults
-      else fault_at at NoRepositoryId ∷ text_faults at text
-
-  -- those of a pragma in these scopes
-  abbrev pub said_faults : List Scope → Option Pragma → List Fault
-  said_faults scopes None = []
-  said_faults scopes (Some (pragma.Id name text)) =
-      given_faults name text (outcome (denoted turns scopes name) answers)
-  said_faults scopes (Some other) = (outcome (said turns scopes other) answers).faults
-
   abbrev pub unit_faults : UnitText → List Fault
   unit_faults (unit.Tokens tokens) =
       let scopes = scopes_in (answers Cursor) in
       or_else (first_faults tokens scopes) (further_faults tokens scopes)
   unit_faults (unit.Pragma tokens inside) =
       or_else (pragma_faults tokens inside)
-      (said_faults (scopes_in (answers Cursor)) (pragma_of tokens))
+      (outcome (said_by turns (scopes_in (answers Cursor)) (pragma_of tokens)) answers).faults

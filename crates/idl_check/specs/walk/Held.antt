@@ -1,23 +1,21 @@
 -- How a walk is kept, and one site of it; and what a pragma says.
 use Rattle.std.specs.Prelude.{ℕ, ◌+◌, ◌≤◌, List, [], ◌∷◌, Option, None, Some, Result, Ok, Err, if◌then◌else◌}
 use Rattle.idl_check.specs.tables.Declaring.{Written}
-use Rattle.idl_check.specs.ids.Pragmas.{Said, refused_for, said}
+use Rattle.idl_check.specs.ids.About.{Said, refused_for, said_at}
+use Rattle.idl_check.specs.ids.Pragmas.{said}
 use Rattle.idl_check.specs.Apart.{boxed_or}
 use Rattle.idl_check.specs.told.Values.{Values, nothing_kept}
 use Rattle.idl_check.specs.walk.Walk.{turns_at, Walk, past_name, head_of, head_visit, noted_in, used, visit}
 use Rattle.idl_check.specs.declared.tables.declaring.Written.{Written as LastWritten}
 use Rattle.idl_check.specs.walk.Verdict.{pragma_verdict}
-use Rattle.idl_check.specs.declared.ids.pragmas.Named.{Named}
+use Rattle.idl_check.specs.declared.ids.about.Named.{Named}
 use Rattle.idl_check.specs.declared.told.values.Values.{Values as ToldValues}
 use Rattle.idl_check.specs.declared.walk.verdict.Verdict.{Verdict}
 use Rattle.idl_check.specs.declared.walk.walker.Walker.{Walker}
 use Rattle.idl_memo.specs.Query.{Done, and_then}
 use Rattle.idl_scope.specs.Lookup.{Lookup, denoted, under}
-use Rattle.idl_env.specs.declared.additions.addition.Addition.TheVariants.{Identifies}
-use Rattle.idl_env.specs.declared.additions.addition.Step.TheVariants.{Stays}
 use Rattle.idl_env.specs.declared.answering.answer.Scope.{Scope}
-use Rattle.idl_entity.specs.declared.identity.FixedIdentity.{FixedIdentity}
-use Rattle.idl_entity.specs.declared.identity.Identity.{Identity}
+use Rattle.idl_entity.specs.declared.identity.Fixed.{Fixed}
 use Rattle.idl_parts.specs.Item.{Item, items_length}
 use Rattle.idl_parts.specs.declared.part.Use.{Use}
 use Rattle.idl_tree.specs.declared.name.ScopedName.{ScopedName}
@@ -88,13 +86,8 @@ HasRoomFor w sites = w.at + items_length sites ≤ 18446744073709551615
 abbrev pub spoken : ℕ → List Scope → Pragma → Lookup Verdict
 spoken turns scopes p = and_then (said turns scopes p) (λ s. Done (pragma_verdict s))
 
--- what a pragma says of what its name denotes, or of the name's fault
-abbrev pub said_of : (Identity → List Fault) → (Identity → FixedIdentity)
-    → Result (Option Named) Fault → Said
-said_of faults change (Ok None) = refused_for []
-said_of faults change (Ok (Some n)) = record {
-  faults = faults n.identity;
-  additions = Identifies n.path (change n.identity) ∷ [];
-  step = Stays;
-}
-said_of faults change (Err fault) = refused_for (fault ∷ [])
+-- this said of what a name denotes that ends at this token, or the name's fault
+abbrev pub said_of : ℕ → Fixed → Result (Option Named) Fault → Said
+said_of at change (Ok None) = refused_for []
+said_of at change (Ok (Some n)) = said_at at change n.path n.identity
+said_of at change (Err fault) = refused_for (fault ∷ [])

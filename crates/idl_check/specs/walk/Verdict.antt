@@ -5,7 +5,8 @@ use Rattle.idl_check.specs.told.Bodies.{raising}
 use Rattle.idl_check.specs.tables.Declaring.{finished, with_finished}
 use Rattle.idl_check.specs.walk.Placing.{faulty_step, opened_kind, opening_faults, step_of}
 use Rattle.idl_check.specs.tables.Rules.{depth, is_misplaced}
-use Rattle.idl_check.specs.ids.Pragmas.{Said, said_by}
+use Rattle.idl_check.specs.ids.About.{Said}
+use Rattle.idl_check.specs.ids.Pragmas.{said_by}
 use Rattle.idl_dump.specs.Row.{Rest, row_of}
 use Rattle.idl_check.specs.walk.Walk.{Walk, first_walk, walk}
 use Rattle.idl_check.specs.declared.walk.verdict.Verdict.{Verdict}

@@ -1,8 +1,8 @@
 //! Repository ids: which names have one, and what pragmas make of it.
 
-ghost use Rattle.std.specs.Prelude.{◌≡◌, ◌++◌, IfOk, None, OnOk, Some, decimal, if◌then◌else◌};
+ghost use Rattle.std.specs.Prelude.{◌≡◌, IfOk, None, Some, if◌then◌else◌};
 ghost use Rattle.std.specs.Str.{bytes_eq};
-ghost use Rattle.idl_check.specs.ids.Identifying.{given, id_before, ids_of, versioned};
+ghost use Rattle.idl_check.specs.ids.Identifying.{changed, id_before, ids_of};
 ghost use Rattle.idl_check.specs.tables.Rules.{has_id, has_other_prefix, is_fixed, is_given, is_id, is_visible, may_be_ahead};
 ghost use Rattle.idl_memo.specs.Query.{run};
 ghost use Rattle.idl_env.specs.Facts.{answers};
@@ -11,11 +11,10 @@ ghost use Rattle.idl_scope.specs.Lookup.{under};
 
 use idl_base::{Bytes, Shared};
 use idl_entity::paths::shared_name;
-use idl_entity::{Entity, Fixed, FixedIdentity, Identity, Kind, Prefix};
+use idl_entity::{Entity, Fixed, FixedIdentity, Identity, Kind, Path, Prefix};
 use idl_env::Env;
 use idl_memo::Journal;
 use idl_scope::View;
-use itoa::Buffer;
 use std::alloc::{AllocError, Global};
 
 /// What a declared name that has an id is told of ids.
@@ -23,7 +22,7 @@ pub struct Ids {
     /// The prefix in force.
     pub prefix: Shared<Prefix>,
     /// Its own id, if it was declared before and may have been declared ahead.
-    pub before: Option<Shared<Identity>>,
+    pub before: Option<Identity>,
 }
 
 impl Drop for Ids {
@@ -43,7 +42,7 @@ pub fn is_of_other_prefix(ids: &Option<Ids>) -> bool
         return false;
     };
     match &ids.before {
-        Some(identity) => identity.get().prefix != ids.prefix.get().text,
+        Some(identity) => identity.prefix.get().text != ids.prefix.get().text,
         None => false,
     }
 }
@@ -91,7 +90,7 @@ fn id_before(
     log: &mut Journal<Env>,
     there: &Option<Shared<Entity>>,
     new: &Entity,
-) -> Result<Option<Shared<Identity>>, AllocError>
+) -> Result<Option<Identity>, AllocError>
     ensures { IfOk result (λ d.
         (d, log.new)
         ≡ run key_eq (under view.entry.own.now.additions (id_before there.now new.now))
@@ -103,65 +102,35 @@ fn id_before(
     }
 }
 
-/// It with another version in place of `1.0`.
-pub fn versioned(
+/// What identifies the name once this of its id is fixed.
+pub fn changed(
     alloc: Global,
     before: &Identity,
-    version: (u16, u16),
+    by: Fixed,
 ) -> Result<Shared<FixedIdentity>, AllocError>
-    ensures { IfOk result (λ d. d ≡ versioned version.0 version.1 before.now) }
-{
-    let stem = before.id.as_bytes();
-    let mut id = Vec::from_slice(alloc, &stem[..stem.len().saturating_sub(3)])?;
-    push_number(&mut id, version.0)?;
-    id.push(b'.')?;
-    push_number(&mut id, version.1)?;
-    Shared::new(
-        alloc,
-        FixedIdentity {
-            id: Bytes::from_slice(alloc, id.as_slice())?,
-            prefix: before.prefix.clone()?,
-            by: Fixed::Version,
-        },
-    )
-}
-
-// A number in decimal.
-fn push_number(id: &mut Vec<u8>, number: u16) -> Result<(), AllocError>
-    ensures { OnOk result (id.new.items ≡ id.old.items ++ decimal number) }
-{
-    let mut buffer = Buffer::new();
-    id.extend_from_slice(buffer.format(number).as_bytes())?;
-    Ok(())
-}
-
-/// It with this id.
-pub fn given(
-    alloc: Global,
-    before: &Identity,
-    id: Bytes,
-) -> Result<Shared<FixedIdentity>, AllocError>
-    ensures { IfOk result (λ d. d ≡ given id before.now) }
+    ensures { IfOk result (λ d. d ≡ changed by before.now) }
 {
     let prefix = before.prefix.clone()?;
-    Shared::new(
-        alloc,
-        FixedIdentity {
-            id: Bytes::from_slice(alloc, id.as_bytes())?,
-            prefix,
-            by: Fixed::Id,
-        },
-    )
+    Shared::new(alloc, FixedIdentity { prefix, by })
 }
 
-/// Whether an id was given, or another one than this told with its version.
-pub fn is_given(text: &[u16], before: &Identity) -> bool
-    ensures { result ≡ is_given text.now before.now }
+/// Whether an id was given of the name at a path, or another one than this told with its version.
+pub fn is_given(
+    alloc: Global,
+    text: &[u16],
+    path: &Path,
+    before: &Identity,
+) -> Result<bool, AllocError>
+    ensures { IfOk result (λ b. b ≡ is_given text.now path.now before.now) }
 {
-    match before.fixed {
-        None => false,
-        Some(Fixed::Version) => !is_spelled(text, before.id.as_bytes()),
-        Some(Fixed::Id) => true,
+    match &before.fixed {
+        None => Ok(false),
+        Some(Fixed::Id(_given)) => Ok(true),
+        Some(Fixed::Version(_, _)) => {
+            let mut id = Vec::new(alloc);
+            before.push_id(&mut id, path)?;
+            Ok(!is_spelled(text, id.as_slice()))
+        }
     }
 }
 

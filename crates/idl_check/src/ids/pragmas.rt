@@ -1,40 +1,37 @@
 //! Pragmas: what they say of prefixes and ids.
 
-ghost use Rattle.std.specs.Prelude.{◌≡◌, ◌≤◌, ◌+◌, ◌∷◌, [], ℕ, IfOk, List, None, OnOk};
-ghost use Rattle.std.specs.Option.{option_map};
+ghost use Rattle.std.specs.Prelude.{◌≡◌, ◌≤◌, ◌+◌, ◌∷◌, [], ℕ, IfErr, IfOk, None};
 ghost use Rattle.idl_check.specs.walk.Held.{said_of, spoken};
 ghost use Rattle.idl_tree.specs.NameParts.{last_at};
-ghost use Rattle.idl_check.specs.ids.Pragmas.{about_name, prefix_faults};
+ghost use Rattle.idl_check.specs.ids.About.{about, refused_for, said_at, with_faults};
+ghost use Rattle.idl_check.specs.ids.Pragmas.{prefix_faults, text_faults};
 ghost use Rattle.idl_check.specs.walk.Verdict.{faulty, pragma_judged, pragma_verdict};
-ghost use Rattle.idl_memo.specs.Query.{noted, run};
-ghost use Rattle.idl_env.specs.Facts.{answers, identity_at};
+ghost use Rattle.idl_memo.specs.Query.{run};
+ghost use Rattle.idl_env.specs.Facts.{answers};
 ghost use Rattle.idl_env.specs.keys.Key.{key_eq};
 ghost use Rattle.idl_env.specs.declared.additions.addition.Addition.TheVariants.{Identifies};
 ghost use Rattle.idl_env.specs.declared.additions.addition.Step.TheVariants.{Prefixes, Stays};
-ghost use Rattle.idl_entity.specs.declared.identity.FixedIdentity.{FixedIdentity as UnitFixed};
-ghost use Rattle.idl_entity.specs.declared.identity.Identity.{Identity as UnitIdentity};
-ghost use Rattle.idl_env.specs.declared.keys.key.Key.TheVariants.{IdOf};
+ghost use Rattle.idl_entity.specs.declared.identity.Fixed.{Fixed as UnitFixed};
+ghost use Rattle.idl_entity.specs.declared.identity.Fixed.TheVariants.{Id};
 ghost use Rattle.idl_env.specs.Turns.{turns_for};
 ghost use Rattle.idl_syntax.specs.Parse.{IsTreeOf, pragma_faults};
 ghost use Rattle.idl_tree.specs.Pragma.{pragma_of};
 ghost use Rattle.idl_tree.specs.declared.pragma.Pragma.TheVariants as pragma;
 ghost use Rattle.idl_unit.specs.Faults.{least_fault};
 ghost use Rattle.idl_unit.specs.TokenRules.{fault_at};
-ghost use Rattle.idl_unit.specs.declared.fault.Fault.{Fault as UnitFault};
 ghost use Rattle.idl_unit.specs.declared.unit.UnitText.TheVariants as unit;
 
-use crate::ids::identifying::{given, has_id, id_text, is_fixed, is_given, versioned, visible};
-use crate::tables::using::name_code;
+use crate::ids::about::{Named, Subject};
+use crate::ids::identifying::{changed, id_text, is_fixed, is_given, visible};
 use crate::walk::verdict::{Verdict, adding};
 use idl_base::Shared;
-use idl_entity::{FixedIdentity, Identity, Path};
+use idl_entity::{Fixed, FixedIdentity, Path};
 use idl_env::{Addition, Env, Facts, OpenScopes, Step, Writes};
 use idl_fault::Code;
 use idl_memo::Journal;
-use idl_scope::{NameFault, Standpoint, View, resolve};
 use idl_syntax::{SyntaxFault, UnitTree, parse};
 use idl_text::TokenRange;
-use idl_tree::{Pragma, ScopedName, last_at, part_at};
+use idl_tree::{Pragma, ScopedName, last_at};
 use idl_unit::{Fault, UnitText};
 use std::alloc::{AllocError, Global};
 
@@ -45,21 +42,6 @@ pub struct Speaker<'a> {
     pub tokens: &'a TokenRange,
     pub inside: bool,
     pub scopes: &'a OpenScopes,
-}
-
-// What a pragma speaks of: a path, and what identifies the name there.
-struct Named {
-    path: Path,
-    identity: Shared<Identity>,
-}
-
-impl Drop for Named {
-    fn drop(self) {
-        let Named {
-            path: _path,
-            identity: _identity,
-        } = self;
-    }
 }
 
 // The number of the token at which what a pragma speaks of begins.
@@ -130,20 +112,13 @@ impl<'a> Speaker<'a> {
     {
         let alloc = self.env.alloc();
         let named = match self.named(log, name)? {
-            Ok(Some(named)) => named,
-            Ok(None) => return adding(alloc, None, Step::Stays),
+            Ok(named) => named,
             Err(fault) => return adding(alloc, Some(fault), Step::Stays),
         };
         let at = last_at(OPERANDS, name);
-        if is_given(text, named.identity.get()) {
-            return refused(alloc, at, Code::RepeatedId);
-        }
-        match id_text(alloc, text)? {
-            Some(id) => {
-                let identity = given(alloc, named.identity.get(), id)?;
-                identifying(alloc, &named.path, identity)
-            }
-            None => refused(alloc, at + 1, Code::BadIdText),
+        match named {
+            Some(named) => given(alloc, &named, at, text),
+            None => unidentified(alloc, at + 1, text),
         }
     }
 
@@ -167,10 +142,10 @@ impl<'a> Speaker<'a> {
             Ok(None) => return adding(alloc, None, Step::Stays),
             Err(fault) => return adding(alloc, Some(fault), Step::Stays),
         };
-        if is_fixed(named.identity.get()) {
+        if is_fixed(&named.identity) {
             return refused(alloc, last_at(OPERANDS, name), Code::RepeatedVersion);
         }
-        let identity = versioned(alloc, named.identity.get(), version)?;
+        let identity = changed(alloc, &named.identity, Fixed::Version(version.0, version.1))?;
         identifying(alloc, &named.path, identity)
     }
 
@@ -181,57 +156,53 @@ impl<'a> Speaker<'a> {
         name: &ScopedName,
     ) -> Result<Result<Option<Named>, Fault>, AllocError>
         requires { last_at 2 name.now ≤ 18446744073709551615 }
-        ensures { IfOk result (λ r. (turns : ℕ) → turns_for self.entry.env.now ≤ turns →
-            (faults : UnitIdentity → List UnitFault) → (change : UnitIdentity → UnitFixed) →
-            (said_of faults change r, log.new)
-            ≡ run key_eq (about_name turns self.entry.scopes.now name.now faults change)
+        ensures said { IfOk result (λ r. (turns : ℕ) → turns_for self.entry.env.now ≤ turns →
+            (change : UnitFixed) →
+            (said_of (last_at 2 name.now) change r, log.new)
+            ≡ run key_eq (about 2 turns self.entry.scopes.now name.now change)
             (answers self.entry.env.now) log.old) }
+        ensures place { IfOk result (λ r. IfErr r (λ fault. fault.index ≤ last_at 2 name.now)) }
     {
         let own = Facts::new(self.env.alloc());
-        let place = Standpoint {
-            own: &own,
-            cursor: self.scopes,
-        };
-        match resolve(self.env, log, place, name) {
-            Ok(found) => {
-                let entity = found.entity.get();
-                if !has_id(entity.kind()) {
-                    return Ok(Err(Fault {
-                        index: last_at(OPERANDS, name),
-                        code: Code::NoRepositoryId,
-                    }));
-                }
-                Ok(Ok(self.identified(log, entity.path())?))
-            }
-            Err(NameFault::Memory) => Err(AllocError),
-            Err(NameFault::At(code, part)) => Ok(Err(Fault {
-                index: part_at(OPERANDS, name, part),
-                code: name_code(code),
-            })),
-        }
-    }
-
-    // What identifies the name at a path, if it has an id.
-    fn identified(self, log: &mut Journal<Env>, path: &Path) -> Result<Option<Named>, AllocError>
-        ensures named { IfOk result (λ named.
-            named
-            ≡ option_map (λ d. record { path = path.now; identity = d })
-            (identity_at path.now (answers self.entry.env.now (IdOf path.now)))) }
-        ensures logged { OnOk result
-            (log.new ≡ noted key_eq (answers self.entry.env.now) log.old (IdOf path.now)) }
-    {
-        let own = Facts::new(self.env.alloc());
-        let view = View {
+        let subject = Subject {
             env: self.env,
             own: &own,
+            scopes: self.scopes,
+            first: OPERANDS,
         };
-        match view.identity(log, path)? {
-            Some(identity) => Ok(Some(Named {
-                path: path.clone()?,
-                identity,
-            })),
-            None => Ok(None),
+        subject.named(log, name)
+    }
+}
+
+// The verdict of an id that is given to what a name denotes that ends at this token.
+fn given(alloc: Global, named: &Named, at: usize, text: &[u16]) -> Result<Verdict, AllocError>
+    requires { at + 1 ≤ 18446744073709551615 }
+    ensures { IfOk result (λ v.
+        v
+        ≡ pragma_verdict (with_faults (text_faults (at + 1) text.now)
+        (said_at at (Id text.now) named.now.path named.now.identity))) }
+{
+    let is_again = is_given(alloc, text, &named.path, &named.identity)?;
+    if is_again {
+        return refused(alloc, at, Code::RepeatedId);
+    }
+    match id_text(alloc, text)? {
+        Some(id) => {
+            let identity = changed(alloc, &named.identity, Fixed::Id(id))?;
+            identifying(alloc, &named.path, identity)
         }
+        None => refused(alloc, at + 1, Code::BadIdText),
+    }
+}
+
+// The verdict of an id that is given, by a text at this token, to what has none.
+fn unidentified(alloc: Global, at: usize, text: &[u16]) -> Result<Verdict, AllocError>
+    ensures { IfOk result (λ v.
+        v ≡ pragma_verdict (with_faults (text_faults at text.now) (refused_for []))) }
+{
+    match id_text(alloc, text)? {
+        Some(_id) => adding(alloc, None, Step::Stays),
+        None => refused(alloc, at, Code::BadIdText),
     }
 }
 

@@ -8,7 +8,7 @@ ghost use Rattle.std.specs.Option.{IsSome};
 ghost use Rattle.idl_check.specs.walk.AllFaults.{site_faults, unit_faults};
 ghost use Rattle.idl_check.specs.walk.Closing.{AreTold, HasOperation};
 ghost use Rattle.idl_check.specs.tables.Declaring.{standing};
-ghost use Rattle.idl_check.specs.ids.Identifying.{versioned};
+ghost use Rattle.idl_check.specs.ids.Identifying.{changed};
 ghost use Rattle.idl_check.specs.walk.Placing.{faulty_step, step_of};
 ghost use Rattle.idl_check.specs.walk.Judging.{FitsMemory, IsNotAfter, IsSound, IsSpoken, refused_keys, spoken_from, spoken_till, used_names, walked, without_name};
 ghost use Rattle.idl_dump.specs.Row.{Rest, unit_text};
@@ -21,8 +21,11 @@ ghost use Rattle.idl_lex.specs.kinds.Keywords.{folded};
 ghost use Rattle.idl_lex.specs.tokens.Tokens.{Token};
 ghost use Rattle.idl_memo.specs.Query.{asked, outcome, run};
 ghost use Rattle.idl_env.specs.Facts.{UnitFacts, answers, entity_key, scopes_in};
-ghost use Rattle.idl_entity.specs.Identity.{first_identity, is_within, prefixed, relative, slashed};
+ghost use Rattle.idl_entity.specs.Identity.{identity_of, is_within, prefixed, relative, slashed, told};
+ghost use Rattle.idl_entity.specs.declared.identity.Fixed.TheVariants.{Version};
 ghost use Rattle.idl_env.specs.keys.Key.{key_eq};
+ghost use Rattle.idl_env.specs.declared.keys.key.Key.{Key};
+ghost use Rattle.idl_env.specs.declared.keys.key.Key.TheVariants.{Cursor};
 ghost use Rattle.idl_scope.specs.Lookup.{denoted, under};
 ghost use Rattle.idl_scope.specs.Meaning.{Denotes, InheritsOperation, Reaches, entity_found, seen};
 ghost use Rattle.idl_entity.specs.Path.{name_of, scope_of};
@@ -39,8 +42,6 @@ ghost use Rattle.idl_env.specs.declared.answering.answer.Answer.TheVariants.{Kno
 ghost use Rattle.idl_env.specs.declared.answering.answer.Scope.{Scope};
 ghost use Rattle.idl_entity.specs.declared.entity.Entity.{Entity};
 ghost use Rattle.idl_entity.specs.declared.identity.Prefix.{Prefix};
-ghost use Rattle.idl_env.specs.declared.keys.key.Key.{Key};
-ghost use Rattle.idl_env.specs.declared.keys.key.Key.TheVariants.{Cursor};
 ghost use Rattle.idl_entity.specs.declared.kind.Kind.TheVariants.{Interface};
 ghost use Rattle.idl_entity.specs.declared.kind.Stage.TheVariants.{Complete};
 ghost use Rattle.idl_parts.specs.Item.{Item, items, items_length};
@@ -228,9 +229,10 @@ pub fn questions()
 /// told whole.
 pub fn identification()
     ensures version { (p : Prefix) (path : List (List ℕ)) (major : ℕ) (minor : ℕ)
-        → (versioned major minor (first_identity p path)).id
+        → let first = record { prefix = p; fixed = None } in
+        told path (identity_of (changed (Version major minor) first))
         ≡ codes "IDL:" ++ prefixed p.text ++ slashed (relative path p.scope)
-        ++ codes ":" ++ decimal major ++ codes "." ++ decimal minor }
+        ++ 58 ∷ (decimal major ++ 46 ∷ decimal minor) }
     ensures inside { (path : List (List ℕ)) (scope : List (List ℕ))
         → is_within (scope_of path) scope ≡ true
         → relative path scope ++ scope ≡ path }

@@ -23,7 +23,7 @@ pub enum Addition {
     Uses(OwnName, Path, usize),
     /// What has an id is declared first, at a path and under this prefix: the two tell its id.
     Appears(Path, Shared<Prefix>),
-    /// What is declared at a path has this id from now on.
+    /// What is declared at a path is identified so from now on.
     Identifies(Path, Shared<FixedIdentity>),
 }
 
@@ -107,6 +107,7 @@ impl Addition {
                 (HeldKey::id_of(alloc, path)?, Answer::Appeared(prefix))
             }
             Addition::Identifies(path, identity) => {
+                let identity = identity.get().told_at(alloc, &path)?;
                 (HeldKey::id_of(alloc, path)?, Answer::Identified(identity))
             }
         })
@@ -155,7 +156,9 @@ impl Addition {
             Addition::Appears(path, prefix) => {
                 Ok(Answer::Appeared(prefix_for(alloc, path, prefix.clone()?)?))
             }
-            Addition::Identifies(_, identity) => Ok(Answer::Identified(identity.clone()?)),
+            Addition::Identifies(path, identity) => {
+                Ok(Answer::Identified(identity.get().told_at(alloc, path)?))
+            }
         }
     }
 }

@@ -2,14 +2,14 @@
 
 ghost use Rattle.std.specs.Prelude.{◌≡◌, ◌++◌, [], IfOk, IfSome, None, OnOk};
 ghost use Rattle.std.specs.Option.{option_copied};
-ghost use Rattle.idl_env.specs.Facts.{count_in, entity_in, global_scope, id_at, identity_at, prefix_in, scopes_in};
+ghost use Rattle.idl_env.specs.Facts.{count_in, entity_in, global_scope, id_at, identity_in, prefix_in, scopes_in};
 ghost use Rattle.idl_entity.specs.Identity.{no_prefix};
 ghost use Rattle.idl_env.specs.declared.answering.answer.Answer.TheVariants as answers;
 
 use crate::answering::open_scopes::OpenScopes;
 use idl_base::{Datum, Shared};
 use idl_entity::{Entity, FixedIdentity, Identity, Kind, Path, Prefix};
-use std::alloc::{AllocError, Global};
+use std::alloc::AllocError;
 
 /// An open scope: its path, what it is of, and which of its bodies this is. The one body of the global scope has the number 0,
 /// and those of others are counted from 1.
@@ -35,7 +35,7 @@ pub enum Answer {
     InForce(Shared<Prefix>),
     /// The name was declared first under this prefix, which tells its id with the path; it was met in a scope around the name.
     Appeared(Shared<Prefix>),
-    /// A pragma fixed this id of the name.
+    /// A pragma fixed this of the id of the name.
     Identified(Shared<FixedIdentity>),
 }
 
@@ -122,22 +122,21 @@ pub fn prefix_in<'a>(answer: Option<&'a Answer>) -> Option<&'a Shared<Prefix>>
     }
 }
 
-/// What identifies the name at a path, if an answer about its id tells it.
-pub fn identity_at(
-    alloc: Global,
-    path: &Path,
-    answer: Option<&Answer>,
-) -> Result<Option<Shared<Identity>>, AllocError>
-    ensures { IfOk result (λ d. d ≡ identity_at path.now (option_copied answer.entry)) }
+/// What identifies a name, if an answer about its id tells it.
+pub fn identity_in(answer: Option<&Answer>) -> Result<Option<Identity>, AllocError>
+    ensures { IfOk result (λ d. d ≡ identity_in (option_copied answer.entry)) }
 {
     match answer {
-        Some(Answer::Appeared(prefix)) => { Ok(Some(Identity::first(alloc, prefix.get(), path)?)) }
-        Some(Answer::Identified(fixed)) => Ok(Some(fixed.get().identity(alloc)?)),
+        Some(Answer::Appeared(shared)) => {
+            let prefix = shared.clone()?;
+            Ok(Some(Identity { prefix, fixed: None }))
+        }
+        Some(Answer::Identified(fixed)) => Ok(Some(fixed.get().identity()?)),
         _ => Ok(None),
     }
 }
 
-/// Its id, written; no bytes where none is told.
+/// The id of the name at a path, written; no bytes where none is told.
 pub fn push_id_at(
     text: &mut Vec<u8>,
     path: &Path,
@@ -148,7 +147,7 @@ pub fn push_id_at(
 {
     match answer {
         Some(Answer::Appeared(prefix)) => prefix.get().push_id(text, path),
-        Some(Answer::Identified(fixed)) => text.extend_from_slice(fixed.get().id.as_bytes()),
+        Some(Answer::Identified(fixed)) => fixed.get().push_id(text, path),
         _ => Ok(()),
     }
 }

@@ -1,9 +1,9 @@
-use Rattle.idl_check.proofs.PragmaLaws.IdLemmas.{version-told}
+use Rattle.std.proofs.Common.{refl}
 use Rattle.idl_entity.proofs.IdLemmas.{relative-elsewhere, relative-inside}
 use Rattle.idl_check.proofs.walk.laws.identification.Goals as goal
 
 pub returns-clause-version : goal.returns-clause-version
-returns-clause-version c = version-told
+returns-clause-version c = λ p path major minor. refl
 
 pub returns-clause-inside : goal.returns-clause-inside
 returns-clause-inside c = relative-inside

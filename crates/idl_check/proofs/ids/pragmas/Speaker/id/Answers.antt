@@ -1,35 +1,17 @@
 use Rattle.std.proofs.Common.{◌+◌, ◌∷◌, [], Ok, Err, None, Some, ap, sym, ◌∙◌}
-use Rattle.std.proofs.lemmas.Result.{IfOk-weaker}
-use Rattle.idl_check.proofs.PragmaLaws.PragmaLemmas.{id-bad, id-given, id-sound, spoken-by, text-none, text-there, verdict-faulty, verdict-sound}
+use Rattle.std.proofs.lemmas.Result.{IfErr-at_err, IfOk-weaker}
+use Rattle.std.specs.Prelude.{◌≤◌, not}
+use Rattle.idl_check.proofs.PragmaLaws.PragmaLemmas.{id-spoken, name-first, verdict-faulty}
 use Rattle.idl_check.specs.walk.Held.{said_of}
-use Rattle.idl_check.specs.ids.Identifying.{given}
+use Rattle.idl_check.specs.ids.About.{refused_for, with_faults}
+use Rattle.idl_check.specs.ids.Pragmas.{text_faults}
 use Rattle.idl_tree.specs.NameParts.{last_at}
-use Rattle.idl_check.specs.tables.Rules.{is_given, is_id}
-use Rattle.idl_check.specs.ids.Pragmas.{id_faults}
-use Rattle.idl_check.specs.walk.Verdict.{faulty, pragma_verdict}
-use Rattle.idl_fault.specs.declared.code.Code.TheVariants.{BadIdText, RepeatedId}
+use Rattle.idl_check.specs.tables.Rules.{is_id}
+use Rattle.idl_check.specs.walk.Verdict.{pragma_verdict}
 use Rattle.idl_env.specs.Facts.{answers}
-use Rattle.idl_env.specs.declared.additions.addition.Addition.TheVariants.{Identifies}
-use Rattle.idl_env.specs.declared.additions.addition.Step.TheVariants.{Stays}
-use Rattle.idl_tree.specs.declared.pragma.Pragma.TheVariants as pragma
-use Rattle.idl_unit.specs.TokenRules.{fault_at}
+use Rattle.idl_entity.specs.declared.identity.Fixed.TheVariants.{Id}
+use Rattle.idl_unit.specs.declared.fault.Fault.{Fault}
 use Rattle.idl_check.proofs.ids.pragmas.Speaker.id.Goals as goal
-
-pub returns-in-Ok-None : goal.returns-in-Ok-None
-returns-in-Ok-None c =
-    let bank = answers c.args.self.env.now in
-    let scopes = c.args.self.scopes.now in
-    let name = c.args.name.now in
-    let text = c.args.text.now in
-    let after = c.named.new.log in
-    let faults = id_faults (last_at 2 name) text in
-    let is = c.in-Ok-None.is ∙ ap Ok c.in-Ok-None.field-0-is in
-    IfOk-weaker c.adding.result _ _
-    (λ v gives turns more.
-    (λ i. (gives i, after))
-    ∙ (λ i. (pragma_verdict (said_of faults (given text) (sym is i)), after))
-    ∙ sym (spoken-by bank turns scopes (pragma.Id name text) c.args.log.now _ after (c.in_ok-named.ensures turns more faults (given text))))
-    c.adding.ensures
 
 pub returns-in-Err : goal.returns-in-Err
 returns-in-Err c =
@@ -38,36 +20,17 @@ returns-in-Err c =
     let name = c.args.name.now in
     let text = c.args.text.now in
     let after = c.named.new.log in
-    let faults = id_faults (last_at 2 name) text in
-    IfOk-weaker c.adding-in-Err.result _ _
-    (λ v gives turns more.
-    (λ i. (gives i, after))
-    ∙ (λ i. (pragma_verdict (said_of faults (given text) (Err (c.in-Err.fault-is i))), after))
-    ∙ (λ i. (pragma_verdict (said_of faults (given text) (sym c.in-Err.is i)), after))
-    ∙ sym (spoken-by bank turns scopes (pragma.Id name text) c.args.log.now _ after (c.in_ok-named.ensures turns more faults (given text))))
-    c.adding-in-Err.ensures
-
-pub returns-then-is_given : goal.returns-then-is_given
-returns-then-is_given c =
-    let bank = answers c.args.self.env.now in
-    let scopes = c.args.self.scopes.now in
-    let name = c.args.name.now in
-    let text = c.args.text.now in
-    let after = c.named.new.log in
     let at = last_at 2 name in
-    let faults = id_faults at text in
-    let named = c.in-Ok-Some.named in
-    let is = c.in-Ok-Some.is ∙ ap Ok c.in-Ok-Some.field-0-is in
-    let holds = ap (is_given text) (sym (c.get.ensures ∙ ap (λ n. n.identity) c.in-Ok-Some.named-is)) ∙ sym c.is_given.ensures ∙ c.if-is_given.true in
-    let said = said_of faults (given text) (Ok (Some named)) in
-    IfOk-weaker c.refused.result _ _
-    (λ v gives turns more.
+    let more = text_faults (at + 1) text in
+    let fault = c.in-Err.fault in
+    let place = IfErr-at_err (λ (fault : Fault). fault.index ≤ at) c.in-Err.is c.in_ok-named.ensures.place in
+    IfOk-weaker c.adding.result _ _
+    (λ v gives turns enough.
     (λ i. (gives i, after))
-    ∙ (λ i. (faulty (fault_at (c.last_at-at.ensures i) RepeatedId) Stays, after))
-    ∙ (λ i. (sym (verdict-faulty said (fault_at at RepeatedId) (id-given at text named.identity holds)) i, after))
-    ∙ (λ i. (pragma_verdict (said_of faults (given text) (sym is i)), after))
-    ∙ sym (spoken-by bank turns scopes (pragma.Id name text) c.args.log.now _ after (c.in_ok-named.ensures turns more faults (given text))))
-    c.refused.ensures
+    ∙ (λ i. (sym (verdict-faulty (with_faults more (refused_for (fault ∷ []))) fault (name-first fault at (not (is_id text)) place)) i, after))
+    ∙ (λ i. (pragma_verdict (with_faults more (said_of at (Id text) (sym c.in-Err.is i))), after))
+    ∙ sym (id-spoken bank turns scopes name text c.args.log.now _ after (c.in_ok-named.ensures.said turns enough (Id text))))
+    c.adding.ensures
 
 pub returns-in-Some : goal.returns-in-Some
 returns-in-Some c =
@@ -77,29 +40,15 @@ returns-in-Some c =
     let text = c.args.text.now in
     let after = c.named.new.log in
     let at = last_at 2 name in
-    let faults = id_faults at text in
-    let named = c.in-Ok-Some.named in
-    let is = c.in-Ok-Some.is ∙ ap Ok c.in-Ok-Some.field-0-is in
-    let no = ap (is_given text) (sym (c.get.ensures ∙ ap (λ n. n.identity) c.in-Ok-Some.named-is)) ∙ sym c.is_given.ensures ∙ c.if-is_given.false in
-    let there = text-there (is_id text) text c.in-Some.id (sym c.in-Some.is ∙ c.in_ok-id.ensures) in
-    let said = said_of faults (given text) (Ok (Some named)) in
-    let same = c.get-in-Some.ensures ∙ ap (λ n. n.identity) c.in-Ok-Some.named-is in
-    let identity = c.in_ok-identity-in-Some.ensures ∙ (λ i. given (there.1 i) (same i)) in
-    IfOk-weaker c.identifying.result _ _
-    (λ v gives turns more.
+    let more = text_faults (at + 1) text in
+    let is = c.in-Ok.is ∙ ap Ok c.in-Some.is in
+    IfOk-weaker c.given.result _ _
+    (λ v gives turns enough.
     (λ i. (gives i, after))
-    ∙ (λ i. (
-      record {
-        fault = None;
-        writes = record { additions = Identifies (c.in-Ok-Some.named-is i).path (identity i) ∷ []; step = Stays };
-        row = None;
-      },
-      after,
-    ))
-    ∙ (λ i. (sym (verdict-sound said (id-sound at text named.identity no there.0)) i, after))
-    ∙ (λ i. (pragma_verdict (said_of faults (given text) (sym is i)), after))
-    ∙ sym (spoken-by bank turns scopes (pragma.Id name text) c.args.log.now _ after (c.in_ok-named.ensures turns more faults (given text))))
-    c.identifying.ensures
+    ∙ (λ i. (pragma_verdict (with_faults (text_faults (c.last_at-at.ensures i + 1) text) (said_of (c.last_at-at.ensures i) (Id text) (Ok (Some c.in-Some.named)))), after))
+    ∙ (λ i. (pragma_verdict (with_faults more (said_of at (Id text) (sym is i))), after))
+    ∙ sym (id-spoken bank turns scopes name text c.args.log.now _ after (c.in_ok-named.ensures.said turns enough (Id text))))
+    c.given.ensures
 
 pub returns : goal.returns
 returns c =
@@ -109,17 +58,12 @@ returns c =
     let text = c.args.text.now in
     let after = c.named.new.log in
     let at = last_at 2 name in
-    let faults = id_faults at text in
-    let named = c.in-Ok-Some.named in
-    let is = c.in-Ok-Some.is ∙ ap Ok c.in-Ok-Some.field-0-is in
-    let no = ap (is_given text) (sym (c.get.ensures ∙ ap (λ n. n.identity) c.in-Ok-Some.named-is)) ∙ sym c.is_given.ensures ∙ c.if-is_given.false in
-    let bad = text-none (is_id text) text (sym c.in-None.is ∙ c.in_ok-id.ensures) in
-    let said = said_of faults (given text) (Ok (Some named)) in
-    IfOk-weaker c.refused-in-None.result _ _
-    (λ v gives turns more.
+    let more = text_faults (at + 1) text in
+    let is = c.in-Ok.is ∙ ap Ok c.in-None.is in
+    IfOk-weaker c.unidentified.result _ _
+    (λ v gives turns enough.
     (λ i. (gives i, after))
-    ∙ (λ i. (faulty (fault_at (c.last_at-at.ensures i + 1) BadIdText) Stays, after))
-    ∙ (λ i. (sym (verdict-faulty said (fault_at (at + 1) BadIdText) (id-bad at text named.identity no bad)) i, after))
-    ∙ (λ i. (pragma_verdict (said_of faults (given text) (sym is i)), after))
-    ∙ sym (spoken-by bank turns scopes (pragma.Id name text) c.args.log.now _ after (c.in_ok-named.ensures turns more faults (given text))))
-    c.refused-in-None.ensures
+    ∙ (λ i. (pragma_verdict (with_faults (text_faults (c.last_at-at.ensures i + 1) text) (refused_for [])), after))
+    ∙ (λ i. (pragma_verdict (with_faults more (said_of at (Id text) (sym is i))), after))
+    ∙ sym (id-spoken bank turns scopes name text c.args.log.now _ after (c.in_ok-named.ensures.said turns enough (Id text))))
+    c.unidentified.ensures

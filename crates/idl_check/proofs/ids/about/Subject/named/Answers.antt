@@ -1,0 +1,90 @@
+use Rattle.std.proofs.Common.{◌∷◌, [], Ok, Err, sym, ap, ◌∙◌, arith}
+use Rattle.idl_check.proofs.PartLemmas.{part-within}
+use Rattle.idl_check.proofs.PragmaLaws.PragmaLemmas.{about-named, about-none, named-found, named-unfound, named_at}
+use Rattle.idl_check.specs.walk.Held.{said_of}
+use Rattle.idl_tree.specs.NameParts.{last_at, part_at}
+use Rattle.idl_check.specs.tables.Rules.{has_id}
+use Rattle.idl_check.specs.ids.About.{refused_for}
+use Rattle.idl_check.specs.tables.Using.{name_code}
+use Rattle.idl_fault.specs.declared.code.Code.TheVariants.{NoRepositoryId}
+use Rattle.idl_memo.specs.Query.{noted}
+use Rattle.idl_env.specs.Facts.{answers, identity_in, over}
+use Rattle.idl_env.specs.keys.Key.{key_eq}
+use Rattle.idl_env.specs.declared.keys.key.Key.TheVariants.{IdOf}
+use Rattle.idl_entity.specs.declared.entity.Entity.{Entity}
+use Rattle.idl_scope.specs.declared.fault.NameFault.TheVariants.{At}
+use Rattle.idl_env.specs.Turns.{turns_among, turns_for}
+use Rattle.idl_unit.specs.TokenRules.{fault_at}
+use Rattle.idl_check.proofs.ids.about.Subject.named.Goals as goal
+
+pub returns-clause-said-then-not-has_id : goal.returns-clause-said-then-not-has_id
+returns-clause-said-then-not-has_id c = λ turns more change.
+    let own = c.args.self.own.now.additions in
+    let bank = answers c.args.self.env.now in
+    let first = c.args.self.first in
+    let scopes = c.args.self.scopes.now in
+    let name = c.args.name.now in
+    let log = c.args.log.now in
+    let found = c.in-Ok.found in
+    let after = c.resolve.new.log in
+    let gives = c.in-Ok.ensures.asked turns more in
+    let none = ap (λ (e : Entity). has_id e.kind) (sym c.get-entity.ensures) ∙ ap has_id (sym c.kind.ensures) ∙ sym c.has_id.ensures ∙ c.if-not-has_id.true in
+    (λ i. (said_of (last_at first name) change (Err (fault_at (c.last_at.ensures i) NoRepositoryId)), after))
+    ∙ sym (about-none own bank change (last_at first name) found.entity after none)
+    ∙ sym (named-found own bank change first turns scopes name log found after gives)
+
+pub returns-clause-said-in-Ok : goal.returns-clause-said-in-Ok
+returns-clause-said-in-Ok c = λ turns more change.
+    let own = c.args.self.own.now.additions in
+    let bank = answers c.args.self.env.now in
+    let first = c.args.self.first in
+    let scopes = c.args.self.scopes.now in
+    let name = c.args.name.now in
+    let log = c.args.log.now in
+    let found = c.in-Ok.found in
+    let after = c.resolve.new.log in
+    let gives = c.in-Ok.ensures.asked turns more in
+    let lent = c.path.ensures ∙ ap (λ (e : Entity). e.path) c.get-entity.ensures in
+    let some = ap (λ (e : Entity). has_id e.kind) (sym c.get-entity.ensures) ∙ ap has_id (sym c.kind.ensures) ∙ sym c.has_id.ensures ∙ c.if-not-has_id.false in
+    (λ i. (said_of (last_at first name) change (Ok (c.in_ok-identified-in-Ok.ensures.named i)), c.in_ok-identified-in-Ok.ensures.logged i))
+    ∙ (λ i. (
+      said_of (last_at first name) change (Ok (named_at (lent i) (identity_in (over own (IdOf (lent i)) (bank (IdOf (lent i))))))),
+      noted key_eq bank after (IdOf (lent i)),
+    ))
+    ∙ sym (about-named own bank change (last_at first name) found.entity after some)
+    ∙ sym (named-found own bank change first turns scopes name log found after gives)
+
+pub part_at-requires : goal.part_at-requires
+part_at-requires c =
+    let own = c.args.self.own.now.additions in
+    let turns = turns_for c.args.self.env.now + turns_among own in
+    let asked = rw c.in-Err-At.field-0-is at c.in-Err-At.ensures.asked in
+    let within =
+    part-within own (answers c.args.self.env.now) turns c.args.self.scopes.now c.args.name.now c.args.log.now c.resolve.new.log c.in-Err-At.code c.in-Err-At.part
+    (asked turns (omega arith)) in
+    omega (arith, within, c.requires, c.in-Err-At.part-is)
+
+pub returns-clause-said : goal.returns-clause-said
+returns-clause-said c = λ turns more change.
+    let own = c.args.self.own.now.additions in
+    let bank = answers c.args.self.env.now in
+    let first = c.args.self.first in
+    let scopes = c.args.self.scopes.now in
+    let name = c.args.name.now in
+    let log = c.args.log.now in
+    let after = c.resolve.new.log in
+    let asked = rw c.in-Err-At.field-0-is at c.in-Err-At.ensures.asked in
+    let gives = asked turns more in
+    (λ i. (said_of (last_at first name) change (Err (fault_at (c.part_at.ensures i) (c.name_code.ensures i))), after))
+    ∙ (λ i. (refused_for (fault_at (part_at first name (c.in-Err-At.part-is i)) (name_code (c.in-Err-At.code-is i)) ∷ []), after))
+    ∙ sym (named-unfound own bank change first turns scopes name log (At c.in-Err-At.code c.in-Err-At.part) after gives)
+
+pub returns-clause-place : goal.returns-clause-place
+returns-clause-place c =
+    let own = c.args.self.own.now.additions in
+    let turns = turns_for c.args.self.env.now + turns_among own in
+    let asked = rw c.in-Err-At.field-0-is at c.in-Err-At.ensures.asked in
+    let within =
+    part-within own (answers c.args.self.env.now) turns c.args.self.scopes.now c.args.name.now c.args.log.now c.resolve.new.log c.in-Err-At.code c.in-Err-At.part
+    (asked turns (omega arith)) in
+    omega (arith, within, c.part_at.ensures, c.in-Err-At.part-is)
