@@ -1,7 +1,7 @@
 //! What identifies a declared name: the prefix under which it was declared first, and what a pragma fixed of its repository id. The
 //! two tell the id.
 
-ghost use Rattle.std.specs.Prelude.{◌≡◌, ◌++◌, IfOk, None, OnOk, Some, decimal};
+ghost use Rattle.std.specs.Prelude.{◌≡◌, ◌++◌, ◌∷◌, IfOk, None, OnOk, Some, decimal};
 ghost use Rattle.idl_entity.specs.Identity.{fixed_for, identity_of, is_within, no_prefix, prefix_for, prefixed, relative, slashed, stem, told, without_scope};
 ghost use Rattle.idl_entity.specs.Path.{scope_of};
 

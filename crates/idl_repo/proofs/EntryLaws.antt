@@ -1,5 +1,5 @@
 -- What an entry comes to, and what it asks.
-use Rattle.std.proofs.Common.{◌≡◌, ◌∙◌, ℕ, Bool, true, List, [], ◌∷◌, ◌++◌, Option, None, Some, if◌then◌else◌, refl, subst, sym, ap, map}
+use Rattle.std.proofs.Common.{◌≡◌, ◌∙◌, ℕ, Bool, true, List, [], ◌∷◌, ◌++◌, Option, None, Some, if◌then◌else◌, refl, subst, sym, ap, flat_map}
 use Rattle.std.specs.Option.{is_some, unwrap_or}
 use Rattle.std.proofs.lemmas.List.{append-nil}
 use Rattle.idl_memo.specs.Query.{Done, asked, noted_all, outcome, run}
@@ -8,23 +8,23 @@ use Rattle.idl_fault.specs.declared.code.Code.{Code}
 use Rattle.idl_repo.proofs.ReferredLemmas.{ids-row}
 use Rattle.idl_repo.proofs.WriteLemmas.{asked-by-written, written-over}
 use Rattle.idl_repo.specs.Entry.{IsPushed, closing_fault, declared_entry, entry, entry_in, no_entry, pushed_entry, told_entry}
-use Rattle.idl_repo.specs.Pieces.{ids_in, text_over, written}
+use Rattle.idl_repo.specs.Pieces.{asked_of, ids_in, text_over, written}
 use Rattle.idl_repo.specs.Referred.{referred}
 use Rattle.idl_repo.specs.Row.{row_pieces}
 use Rattle.idl_repo.specs.declared.entry.Entry.{Entry}
 use Rattle.idl_repo.specs.declared.entry.Pushed.{Pushed}
 use Rattle.idl_env.specs.Facts.{entity_in, entity_key}
 use Rattle.idl_env.specs.keys.Key.{key_eq}
+use Rattle.idl_env.specs.declared.keys.key.Key.{Key}
 use Rattle.idl_env.specs.declared.answering.answer.Answer.{Answer}
 use Rattle.idl_entity.specs.declared.entity.Entity.{Entity as ScopeEntity}
-use Rattle.idl_env.specs.declared.keys.key.Key.{Key}
 use Rattle.idl_env.specs.declared.keys.key.Key.TheVariants as key
 
 -- of what is declared so
 pub declared-outcome : (e : ScopeEntity) (bank : Key → Option Answer) → outcome (declared_entry e) bank ≡ told_entry e (text_over bank (row_pieces e))
 declared-outcome e bank = outcome-and_then (written [] (row_pieces e)) (λ text. Done (told_entry e text)) bank ∙ ap (told_entry e) (written-over bank [] (row_pieces e))
 
-pub declared-asked : (e : ScopeEntity) (bank : Key → Option Answer) → asked (declared_entry e) bank ≡ ids_in (row_pieces e)
+pub declared-asked : (e : ScopeEntity) (bank : Key → Option Answer) → asked (declared_entry e) bank ≡ ids_in bank (row_pieces e)
 declared-asked e bank = asked-and_then (written [] (row_pieces e)) (λ text. Done (told_entry e text)) bank ∙ append-nil (asked (written [] (row_pieces e)) bank) ∙ asked-by-written bank [] (row_pieces e)
 
 -- of the name at a path
@@ -36,9 +36,9 @@ pub entry-unknown : (path : List (List ℕ)) (bank : Key → Option Answer) → 
 unfolding entry
 entry-unknown path bank is = ap (λ there. outcome (entry_in there) bank) is
 
-pub entry-asked : (path : List (List ℕ)) (bank : Key → Option Answer) (e : ScopeEntity) → entity_in (bank (entity_key path)) ≡ Some e → asked (entry path) bank ≡ entity_key path ∷ map key.IdOf (e.path ∷ referred e)
+pub entry-asked : (path : List (List ℕ)) (bank : Key → Option Answer) (e : ScopeEntity) → entity_in (bank (entity_key path)) ≡ Some e → asked (entry path) bank ≡ entity_key path ∷ flat_map (asked_of bank) (e.path ∷ referred e)
 unfolding entry
-entry-asked path bank e is = ap (λ keys. entity_key path ∷ keys) (ap (λ there. asked (entry_in there) bank) is ∙ declared-asked e bank ∙ ids-row e)
+entry-asked path bank e is = ap (λ keys. entity_key path ∷ keys) (ap (λ there. asked (entry_in there) bank) is ∙ declared-asked e bank ∙ ids-row e bank)
 
 abbrev pub told_row : Option Code → Pushed
 told_row fault = record { has_row = true; fault = fault }
@@ -50,10 +50,10 @@ entry-pushed {start} {text} answered bank e there fault is same h fault_is =
     let row : text ≡ start ++ text_over bank (row_pieces e) = h ∙ ap (λ (x : ScopeEntity). start ++ text_over bank (row_pieces x)) same in
     subst (λ x. IsPushed x (told_row fault) start text) told (record { row = row; has_row = refl; fault = fault_is })
 
-pub entry-noted : {after : List (Key × Option Answer)} (before : List (Key × Option Answer)) (answered : Option ScopeEntity) (bank : Key → Option Answer) (e there : ScopeEntity) → answered ≡ Some e → there ≡ e → after ≡ noted_all key_eq bank before (ids_in (row_pieces there)) → after ≡ (run key_eq (entry_in answered) bank before).1
+pub entry-noted : {after : List (Key × Option Answer)} (before : List (Key × Option Answer)) (answered : Option ScopeEntity) (bank : Key → Option Answer) (e there : ScopeEntity) → answered ≡ Some e → there ≡ e → after ≡ noted_all key_eq bank before (ids_in bank (row_pieces there)) → after ≡ (run key_eq (entry_in answered) bank before).1
 entry-noted before answered bank e there is same h =
     h
-    ∙ ap (λ (x : ScopeEntity). noted_all key_eq bank before (ids_in (row_pieces x))) same
+    ∙ ap (λ (x : ScopeEntity). noted_all key_eq bank before (ids_in bank (row_pieces x))) same
     ∙ ap (noted_all key_eq bank before) (sym (declared-asked e bank))
     ∙ sym (ap (λ a. noted_all key_eq bank before (asked (entry_in a) bank)) is)
 

@@ -1,8 +1,9 @@
 -- The ids that are told in rows and TypeCodes.
-use Rattle.std.proofs.Common.{◌≡◌, ◌∙◌, ℕ, List, [], ◌∷◌, ◌++◌, Bool, true, false, Option, None, Some, codes, if◌then◌else◌, refl, sym, ap, map, flat_map}
-use Rattle.std.proofs.lemmas.List.{append-nil, map-append}
+use Rattle.std.proofs.Common.{◌≡◌, ◌∙◌, ℕ, List, [], ◌∷◌, ◌++◌, Bool, true, false, Option, None, Some, codes, if◌then◌else◌, refl, sym, ap, flat_map}
+use Rattle.std.proofs.lemmas.Grind.{flat_map-append}
+use Rattle.std.proofs.lemmas.List.{append-nil}
 use Rattle.idl_repo.proofs.WriteLemmas.{ids_in-append}
-use Rattle.idl_repo.specs.Pieces.{IdOf, Pieces, Says, commas, ids_in, says}
+use Rattle.idl_repo.specs.Pieces.{IdOf, Pieces, Says, asked_of, commas, ids_in, says}
 use Rattle.idl_repo.specs.Referred.{Paths, listed_bases, named_by, named_by_labels, named_by_member, named_in, referred, referred_by_attribute, referred_by_coded, referred_by_operation, referred_in}
 use Rattle.idl_repo.specs.Row.{attribute_pieces, bases_pieces, coded_pieces, constant_pieces, operation_pieces, parameter_pieces, raised_by_set_of, raised_of, references, row_pieces, contexts_of, contexts_word}
 use Rattle.idl_repo.specs.TypeCode.{code_pieces, element_pieces, entries_of, entry_pieces, kind_in, labelled_pieces, listed_value, member_pieces, members_of, part_pieces, reference, type_behind, type_pieces, typed_pieces}
@@ -13,18 +14,19 @@ use Rattle.idl_entity.specs.declared.data_type.DataType.{DataType}
 use Rattle.idl_entity.specs.declared.data_type.Element.{Element}
 use Rattle.idl_entity.specs.declared.data_type.Element.TheVariants as element
 use Rattle.idl_entity.specs.declared.entity.Entity.{Entity}
-use Rattle.idl_env.specs.declared.keys.key.Key.TheVariants as key
+use Rattle.idl_env.specs.declared.keys.key.Key.{Key}
+use Rattle.idl_env.specs.declared.answering.answer.Answer.{Answer}
 use Rattle.idl_entity.specs.declared.kind.Kind.TheVariants as kind
 use Rattle.idl_entity.specs.declared.signature.Member.{Member}
 use Rattle.idl_value.specs.declared.value.Value.{Value}
 
 -- pieces tell the ids of these paths, in order
 record Tell (p : Pieces) (paths : Paths) : Type 0 where
-  pub ids : ids_in p ≡ map key.IdOf paths
+  pub ids : (bank : Key → Option Answer) → ids_in bank p ≡ flat_map (asked_of bank) paths
 
 tell-nothing : Tell [] []
 unfolding ids_in
-tell-nothing = record { ids = refl }
+tell-nothing = record { ids = λ bank. refl }
 
 tell-text : {p : Pieces} {paths : Paths} (text : List ℕ) → Tell p paths → Tell (Says text ∷ p) paths
 unfolding ids_in
@@ -32,11 +34,11 @@ tell-text {p} {paths} text h = record { ids = h.ids }
 
 tell-id : {p : Pieces} {paths : Paths} (path : List (List ℕ)) → Tell p paths → Tell (IdOf path ∷ p) (path ∷ paths)
 unfolding ids_in
-tell-id {p} {paths} path h = record { ids = ap (λ keys. key.IdOf path ∷ keys) h.ids }
+tell-id {p} {paths} path h = record { ids = λ bank. ap (λ keys. asked_of bank path ++ keys) (h.ids bank) }
 
 tell-then : {p q : Pieces} {a b : Paths} → Tell p a → Tell q b → Tell (p ++ q) (a ++ b)
 tell-then {p} {q} {a} {b} h g = record {
-  ids = ids_in-append p q ∙ ap (λ keys. keys ++ ids_in q) h.ids ∙ ap (λ keys. map key.IdOf a ++ keys) g.ids ∙ sym (map-append key.IdOf a b);
+  ids = λ bank. ids_in-append bank p q ∙ ap (λ keys. keys ++ ids_in bank q) (h.ids bank) ∙ ap (λ keys. flat_map (asked_of bank) a ++ keys) (g.ids bank) ∙ sym (flat_map-append (asked_of bank) a b);
 }
 
 -- a text at the end
@@ -142,12 +144,12 @@ by_kind_of false false true e = tell-operation e
 by_kind_of false false false e = tell-coded e
 
 -- a row tells its own id and those of what it refers to
-pub ids-row : (e : Entity) → ids_in (row_pieces e) ≡ map key.IdOf (e.path ∷ referred e)
-ids-row e =
+pub ids-row : (e : Entity) (bank : Key → Option Answer) → ids_in bank (row_pieces e) ≡ flat_map (asked_of bank) (e.path ∷ referred e)
+ids-row e bank =
     let behind = by_kind_of (kind_eq e.kind kind.Constant) (kind_eq e.kind kind.Attribute) (kind_eq e.kind kind.Operation) e in
     let row : Tell (row_pieces e) (e.path ∷ referred e) = tell-text _ (tell-text _ (tell-text _ (tell-text _ (tell-id e.path behind)))) in
-    row.ids
+    row.ids bank
 
 -- a TypeCode its own and those of the types that it names
-pub ids-code : (k : TypeCodeKind) (e : Entity) → ids_in (code_pieces k e) ≡ map key.IdOf (e.path ∷ referred_in k e)
-ids-code k e = let told = tell-code k e in told.ids
+pub ids-code : (k : TypeCodeKind) (e : Entity) (bank : Key → Option Answer) → ids_in bank (code_pieces k e) ≡ flat_map (asked_of bank) (e.path ∷ referred_in k e)
+ids-code k e bank = let told = tell-code k e in told.ids bank

@@ -4,9 +4,10 @@ use Rattle.std.specs.Prelude.{OnOk, is_ok, if◌then◌else◌}
 use Rattle.std.proofs.lemmas.List.Folds.{list_any-append}
 use Rattle.std.proofs.lemmas.List.{append-nil, flat_map_more, take_all, take_more}
 use Rattle.idl_memo.specs.Query.{asked, is_logged, noted, noted_all, outcome}
-use Rattle.idl_memo.proofs.QueryLaws.{noted_all-append}
-use Rattle.idl_repo.specs.Pieces.{Grows, IdOf, Pieces, Says, State, commas, ids_in, says, text_over, written}
-use Rattle.idl_env.specs.keys.Digested.{key_equiv}
+use Rattle.idl_memo.proofs.QueryLaws.{asked-and_then, noted_all-append, outcome-and_then}
+use Rattle.idl_repo.specs.Pieces.{Grows, IdOf, Pieces, Says, State, asked_of, commas, ids_in, says, text_over, written}
+use Rattle.idl_scope.specs.Known.{id_of}
+use Rattle.idl_env.specs.keys.KeyLaws.{key_equiv}
 use Rattle.idl_env.specs.Facts.{UnitFacts, answers, id_at}
 use Rattle.idl_env.specs.keys.Key.{key_eq}
 use Rattle.idl_env.specs.declared.answering.answer.Answer.{Answer}
@@ -18,14 +19,14 @@ pub text_over-append : (bank : Key → Option Answer) (p q : Pieces) → text_ov
 unfolding text_over
 text_over-append bank [] q = refl
 text_over-append bank (Says text ∷ p) q = ap (λ x. text ++ x) (text_over-append bank p q) ∙ sym (append_assoc text (text_over bank p) (text_over bank q))
-text_over-append bank (IdOf path ∷ p) q = let id = id_at path (bank (key.IdOf path)) in ap (λ x. id ++ x) (text_over-append bank p q) ∙ sym (append_assoc id (text_over bank p) (text_over bank q))
+text_over-append bank (IdOf path ∷ p) q = let id = outcome (id_of path) bank in ap (λ x. id ++ x) (text_over-append bank p q) ∙ sym (append_assoc id (text_over bank p) (text_over bank q))
 
 -- and their ids
-pub ids_in-append : (p q : Pieces) → ids_in (p ++ q) ≡ ids_in p ++ ids_in q
+pub ids_in-append : (bank : Key → Option Answer) (p q : Pieces) → ids_in bank (p ++ q) ≡ ids_in bank p ++ ids_in bank q
 unfolding ids_in
-ids_in-append [] q = refl
-ids_in-append (Says text ∷ p) q = ids_in-append p q
-ids_in-append (IdOf path ∷ p) q = ap (λ x. key.IdOf path ∷ x) (ids_in-append p q)
+ids_in-append bank [] q = refl
+ids_in-append bank (Says text ∷ p) q = ids_in-append bank p q
+ids_in-append bank (IdOf path ∷ p) q = ap (λ x. asked_of bank path ++ x) (ids_in-append bank p q) ∙ sym (append_assoc (asked_of bank path) (ids_in bank p) (ids_in bank q))
 
 -- nothing
 pub grows-nothing : {s : State} → Grows [] s s
@@ -44,7 +45,7 @@ grows-then {p} {q} {s} {t} {u} h g =
     record {
       facts = g.facts ∙ h.facts;
       text = g.text ∙ ap (λ f. t.1.0 ++ text_over (answers f) q) h.facts ∙ ap (λ x. x ++ text_over bank q) h.text ∙ append_assoc s.1.0 (text_over bank p) (text_over bank q) ∙ ap (λ x. s.1.0 ++ x) (sym (text_over-append bank p q));
-      log = g.log ∙ ap (λ f. noted_all key_eq (answers f) t.1.1 (ids_in q)) h.facts ∙ ap (λ x. noted_all key_eq bank x (ids_in q)) h.log ∙ sym (noted_all-append key_eq bank s.1.1 (ids_in p) (ids_in q)) ∙ ap (noted_all key_eq bank s.1.1) (sym (ids_in-append p q));
+      log = g.log ∙ ap (λ f. noted_all key_eq (answers f) t.1.1 (ids_in (answers f) q)) h.facts ∙ ap (λ x. noted_all key_eq bank x (ids_in bank q)) h.log ∙ sym (noted_all-append key_eq bank s.1.1 (ids_in bank p) (ids_in bank q)) ∙ ap (noted_all key_eq bank s.1.1) (sym (ids_in-append bank p q));
     }
 
 -- a text, and then pieces
@@ -131,14 +132,17 @@ pub written-over : (bank : Key → Option Answer) (text : List ℕ) (p : Pieces)
 unfolding written text_over
 written-over bank text [] = sym (append-nil text)
 written-over bank text (Says more ∷ p) = written-over bank (text ++ more) p ∙ append_assoc text more (text_over bank p)
-written-over bank text (IdOf path ∷ p) = let id = id_at path (bank (key.IdOf path)) in written-over bank (text ++ id) p ∙ append_assoc text id (text_over bank p)
+written-over bank text (IdOf path ∷ p) =
+    let id = outcome (id_of path) bank in
+    outcome-and_then (id_of path) (λ id. written (text ++ id) p) bank ∙ written-over bank (text ++ id) p ∙ append_assoc text id (text_over bank p)
 
 -- and what it asks
-pub asked-by-written : (bank : Key → Option Answer) (text : List ℕ) (p : Pieces) → asked (written text p) bank ≡ ids_in p
+pub asked-by-written : (bank : Key → Option Answer) (text : List ℕ) (p : Pieces) → asked (written text p) bank ≡ ids_in bank p
 unfolding written ids_in
 asked-by-written bank text [] = refl
 asked-by-written bank text (Says more ∷ p) = asked-by-written bank (text ++ more) p
-asked-by-written bank text (IdOf path ∷ p) = ap (λ x. key.IdOf path ∷ x) (asked-by-written bank (text ++ id_at path (bank (key.IdOf path))) p)
+asked-by-written bank text (IdOf path ∷ p) =
+    asked-and_then (id_of path) (λ id. written (text ++ id) p) bank ∙ ap (λ x. asked_of bank path ++ x) (asked-by-written bank (text ++ outcome (id_of path) bank) p)
 
 -- the id of an answer at a path that is told by another name
 pub id-told : {asked told path : List (List ℕ)} {answer : Option Answer} (bank : Key → Option Answer) → answer ≡ bank (key.IdOf asked) → asked ≡ path → told ≡ path → id_at told answer ≡ id_at path (bank (key.IdOf path))
@@ -146,10 +150,10 @@ id-told {asked} {told} {path} {answer} bank is a t = ap (λ p. id_at p answer) t
 
 -- pieces that are written between what was taken and what is given back
 pub grows-between : {facts : List UnitFacts} {p : Pieces} {old new : List ℕ} {log after : List (Key × Option Answer)} (s t : State) → s.0 ≡ facts → s.1.0 ≡ old → s.1.1 ≡ log → new ≡ t.1.0 → after ≡ t.1.1 → Grows p s t
-    → (new ≡ old ++ text_over (answers facts) p) × (after ≡ noted_all key_eq (answers facts) log (ids_in p))
+    → (new ≡ old ++ text_over (answers facts) p) × (after ≡ noted_all key_eq (answers facts) log (ids_in (answers facts) p))
 grows-between {p} s t facts_are text_is log_is new_is after_is h = (
   new_is ∙ h.text ∙ (λ i. text_is i ++ text_over (answers (facts_are i)) p),
-  after_is ∙ h.log ∙ (λ i. noted_all key_eq (answers (facts_are i)) (log_is i) (ids_in p)),
+  after_is ∙ h.log ∙ (λ i. noted_all key_eq (answers (facts_are i)) (log_is i) (ids_in (answers (facts_are i)) p)),
 )
 
 -- what grows where there is memory

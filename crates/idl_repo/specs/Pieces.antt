@@ -1,12 +1,13 @@
 -- Texts in which ids stand: each id is asked where it is told.
 use Rattle.std.specs.Prelude.{◌≡◌, ℕ, List, [], ◌∷◌, ◌++◌, codes, flat_map, Option}
-use Rattle.idl_memo.specs.Query.{Done, Ask, noted_all}
+use Rattle.idl_memo.specs.Query.{Done, and_then, asked, noted_all, outcome}
 use Rattle.idl_repo.specs.declared.row_writer.RowWriter.{RowWriter}
-use Rattle.idl_env.specs.Facts.{UnitFacts, answers, id_at}
+use Rattle.idl_env.specs.Facts.{UnitFacts, answers}
 use Rattle.idl_env.specs.keys.Key.{key_eq}
+use Rattle.idl_env.specs.declared.keys.key.Key.{Key}
+use Rattle.idl_scope.specs.Known.{id_of}
 use Rattle.idl_scope.specs.Lookup.{Lookup}
 use Rattle.idl_env.specs.declared.answering.answer.Answer.{Answer}
-use Rattle.idl_env.specs.declared.keys.key.Key.{Key}
 use Rattle.idl_env.specs.declared.keys.key.Key.TheVariants as key
 
 -- characters, or the id of what is declared at a path
@@ -25,19 +26,23 @@ unfoldable pub written : List ℕ → Pieces → Lookup (List ℕ)
 written text [] = Done text
 written text (Says more ∷ pieces) = written (text ++ more) pieces
 written text (IdOf path ∷ pieces) =
-    Ask (key.IdOf path) (λ answer. written (text ++ id_at path answer) pieces)
+    and_then (id_of path) (λ id. written (text ++ id) pieces)
 
 -- what pieces come to over a bank
 unfoldable pub text_over : (Key → Option Answer) → Pieces → List ℕ
 text_over bank [] = []
 text_over bank (Says text ∷ pieces) = text ++ text_over bank pieces
-text_over bank (IdOf path ∷ pieces) = id_at path (bank (key.IdOf path)) ++ text_over bank pieces
+text_over bank (IdOf path ∷ pieces) = outcome (id_of path) bank ++ text_over bank pieces
 
--- the ids that they tell, in order
-unfoldable pub ids_in : Pieces → List Key
-ids_in [] = []
-ids_in (Says text ∷ pieces) = ids_in pieces
-ids_in (IdOf path ∷ pieces) = key.IdOf path ∷ ids_in pieces
+-- what is asked for the id of what is declared at a path
+abbrev pub asked_of : (Key → Option Answer) → List (List ℕ) → List Key
+asked_of bank path = asked (id_of path) bank
+
+-- what they ask for the ids that they tell, in order
+unfoldable pub ids_in : (Key → Option Answer) → Pieces → List Key
+ids_in bank [] = []
+ids_in bank (Says text ∷ pieces) = ids_in bank pieces
+ids_in bank (IdOf path ∷ pieces) = asked_of bank path ++ ids_in bank pieces
 
 -- facts, a text, and what was asked of the facts
 abbrev pub State : Type 0
@@ -47,7 +52,7 @@ State = List UnitFacts × (List ℕ × List (Key × Option Answer))
 pub record Grows (pieces : Pieces) (old new : State) : Type 0 where
   pub facts : new.0 ≡ old.0
   pub text : new.1.0 ≡ old.1.0 ++ text_over (answers old.0) pieces
-  pub log : new.1.1 ≡ noted_all key_eq (answers old.0) old.1.1 (ids_in pieces)
+  pub log : new.1.1 ≡ noted_all key_eq (answers old.0) old.1.1 (ids_in (answers old.0) pieces)
 
 abbrev pub state : RowWriter → State
 state row = (row.env.now, (row.text.items, row.log))

@@ -2,10 +2,10 @@
 //!
 //! Each function does nothing: it carries its laws as clauses. They hold over any answers.
 
-ghost use Rattle.std.specs.Prelude.{◌≡◌, ◌∷◌, ◌++◌, ℕ, List, None, Option, Some, codes, decimal, map};
+ghost use Rattle.std.specs.Prelude.{◌≡◌, ◌∷◌, ◌++◌, ℕ, List, None, Option, Some, codes, decimal, flat_map};
 ghost use Rattle.idl_memo.specs.Query.{asked, outcome};
 ghost use Rattle.idl_repo.specs.Entry.{closing_fault, entry, no_entry};
-ghost use Rattle.idl_repo.specs.Pieces.{ids_in, text_over};
+ghost use Rattle.idl_repo.specs.Pieces.{asked_of, ids_in, text_over};
 ghost use Rattle.idl_repo.specs.Referred.{referred, referred_in};
 ghost use Rattle.idl_repo.specs.Row.{row_pieces};
 ghost use Rattle.idl_repo.specs.TypeCode.{code_pieces, element_pieces, written_type};
@@ -18,7 +18,6 @@ ghost use Rattle.idl_entity.specs.declared.data_type.Element.{Element};
 ghost use Rattle.idl_entity.specs.declared.data_type.Layer.TheVariants.{Array, Sequence};
 ghost use Rattle.idl_entity.specs.declared.entity.Entity.{Entity};
 ghost use Rattle.idl_env.specs.declared.keys.key.Key.{Key};
-ghost use Rattle.idl_env.specs.declared.keys.key.Key.TheVariants as key;
 
 /// The entry of a declared name is its row with each id put in; where nothing is declared, there is
 /// none.
@@ -31,18 +30,19 @@ pub fn listed_row()
         → entity_in (bank (entity_key path)) ≡ None → outcome (entry path) bank ≡ no_entry }
 {}
 
-/// The entry of a declared name asks what is declared there, and then its own id and those of the
+/// The entry of a declared name asks what is declared there, and then for its own id and those of the
 /// paths that its row refers to, and nothing of what stands behind these.
 pub fn asked_ids()
     ensures { (path : List (List ℕ)) (bank : Key → Option Answer) (e : Entity)
         → entity_in (bank (entity_key path)) ≡ Some e
-        → asked (entry path) bank ≡ entity_key path ∷ map key.IdOf (e.path ∷ referred e) }
+        → asked (entry path) bank ≡ entity_key path ∷ flat_map (asked_of bank) (e.path ∷ referred e) }
 {}
 
 /// A TypeCode expands no named type: it tells its own id and those of the types that are named in it.
 pub fn references()
-    ensures { (kind : TypeCodeKind) (e : Entity)
-        → ids_in (code_pieces kind e) ≡ map key.IdOf (e.path ∷ referred_in kind e) }
+    ensures { (kind : TypeCodeKind) (e : Entity) (bank : Key → Option Answer)
+        → ids_in bank (code_pieces kind e)
+        ≡ flat_map (asked_of bank) (e.path ∷ referred_in kind e) }
 {}
 
 /// A type is written as it nests: a sequence or an array stands around what it is of, and of the lengths of an array the first

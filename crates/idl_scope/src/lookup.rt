@@ -3,12 +3,13 @@
 ghost use Rattle.std.specs.Prelude.{◌≡◌, ◌<◌, ◌≤◌, ◌+◌, ◌++◌, ℕ, IfOk, OnOk, Some, length, map, option_to_list};
 ghost use Rattle.std.specs.Option.{option_copied};
 ghost use Rattle.idl_memo.specs.Query.{noted, run};
-ghost use Rattle.idl_env.specs.Facts.{answer_of, answers, entity_in, entity_key, identity_in, over, prefix_in};
+ghost use Rattle.idl_env.specs.Facts.{answer_of, answers, entity_in, entity_key, over, prefix_in};
 ghost use Rattle.idl_scope.specs.Finds.{those};
 ghost use Rattle.idl_env.specs.keys.Key.{key_eq};
+ghost use Rattle.idl_env.specs.declared.keys.key.Key.TheVariants.{Declared, Prefix as PrefixKey, IdOf};
+ghost use Rattle.idl_scope.specs.Known.{known};
 ghost use Rattle.idl_scope.specs.Lookup.{bases_of, entered, has, outward, reached, under};
 ghost use Rattle.idl_env.specs.Turns.{HasTurnsFor, declared_among, declared_named};
-ghost use Rattle.idl_env.specs.declared.keys.key.Key.TheVariants.{Declared, IdOf, Prefix as PrefixKey};
 
 use crate::finds::Finds;
 use idl_base::{Bytes, Shared};
@@ -73,18 +74,15 @@ impl<'a> View<'a> {
     }
 
     /// What identifies what is declared at a path.
-    pub fn identity(
+    pub fn known(
         self,
         log: &mut Journal<Env>,
         path: &Path,
     ) -> Result<Option<Identity>, AllocError>
-        ensures identity { IfOk result (λ d.
-            d
-            ≡ identity_in
-            (over self.entry.own.now.additions (IdOf path.now)
-            (answers self.entry.env.now (IdOf path.now)))) }
-        ensures logged { OnOk result
-            (log.new ≡ noted key_eq (answers self.entry.env.now) log.old (IdOf path.now)) }
+        ensures { IfOk result (λ d.
+            (d, log.new)
+            ≡ run key_eq (under self.entry.own.now.additions (known path.now))
+            (answers self.entry.env.now) log.old) }
     {
         let alloc = self.env.alloc();
         let key = LentKey::id_of(alloc, path);

@@ -17,10 +17,11 @@ use Rattle.idl_check.specs.walk.Verdict.{verdict}
 use Rattle.idl_check.specs.declared.walk.verdict.Verdict.{Verdict}
 use Rattle.idl_lex.specs.tokens.Tokens.{Token}
 use Rattle.idl_memo.proofs.QueryLaws.{outcome-and_then}
-use Rattle.idl_memo.specs.Query.{Ask, Done, outcome}
+use Rattle.idl_memo.specs.Query.{Done, and_then, outcome}
 use Rattle.idl_env.proofs.Membership.{IsIn}
 use Rattle.idl_scope.proofs.Worlds.{addition_at-Some}
-use Rattle.idl_env.specs.Facts.{UnitFacts, World, answers, entity_key, identity_in, scopes_in, world, with_additions}
+use Rattle.idl_env.specs.Facts.{UnitFacts, World, answers, entity_key, scopes_in, world, with_additions}
+use Rattle.idl_scope.specs.Known.{known}
 use Rattle.idl_scope.specs.Lookup.{Lookup, by_result, denoted}
 use Rattle.idl_env.specs.Turns.{turns_for}
 use Rattle.idl_env.specs.declared.additions.addition.Addition.TheVariants.{Declares, Identifies}
@@ -35,7 +36,7 @@ use Rattle.idl_entity.specs.declared.identity.Fixed.{Fixed}
 use Rattle.idl_entity.specs.declared.identity.Fixed.TheVariants.{Version, Id}
 use Rattle.idl_entity.specs.declared.identity.Identity.{Identity}
 use Rattle.idl_env.specs.declared.keys.key.Key.{Key}
-use Rattle.idl_env.specs.declared.keys.key.Key.TheVariants.{Cursor, IdOf}
+use Rattle.idl_env.specs.declared.keys.key.Key.TheVariants.{Cursor}
 use Rattle.idl_entity.specs.declared.kind.Kind.{Kind}
 use Rattle.idl_tree.specs.declared.name.ScopedName.{ScopedName}
 use Rattle.idl_tree.specs.declared.pragma.Pragma.{Pragma}
@@ -86,11 +87,13 @@ module _ (turns : ℕ) (bank : Key → Option Answer) where
 
   abbrev about_by : ℕ → Fixed → Entity → Bool → Lookup Said
   about_by at change e b =
-      cond b (Ask (IdOf e.path) (λ answer. Done (elim (identity_in answer) as (λ _. Said) [ None ↦ refused_for [] | Some d ↦ said_at at change e.path d ])))
+      cond b (and_then (known e.path) (λ d. Done (elim d as (λ _. Said) [ None ↦ refused_for [] | Some d ↦ said_at at change e.path d ])))
       (Done (refused_for (fault_at at NoRepositoryId ∷ [])))
 
   about-by : (at : ℕ) (change : Fixed) (e : Entity) (b : Bool) → CalmSaid (outcome (about_by at change e b) bank)
-  about-by at change e true = identified-calm at change e (identity_in (bank (IdOf e.path)))
+  about-by at change e true =
+      let next : Option Identity → Lookup Said = λ d. Done (elim d as (λ _. Said) [ None ↦ refused_for [] | Some d ↦ said_at at change e.path d ]) in
+      subst CalmSaid (sym (outcome-and_then (known e.path) next bank)) (identified-calm at change e (outcome (known e.path) bank))
   about-by at change e false = refused-calm (fault_at at NoRepositoryId ∷ [])
 
   named-by : (name : ScopedName) (change : Fixed) (r : Result Found NameFault)

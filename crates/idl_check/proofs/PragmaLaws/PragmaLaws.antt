@@ -15,9 +15,10 @@ use Rattle.idl_check.specs.declared.walk.verdict.Verdict.{Verdict}
 use Rattle.idl_fault.specs.declared.code.Code.{Code}
 use Rattle.idl_fault.specs.declared.code.Code.TheVariants.{BadIdText, MalformedPragma, NoRepositoryId, PragmaInside, RepeatedId, RepeatedVersion}
 use Rattle.idl_lex.specs.tokens.Tokens.{Token}
-use Rattle.idl_memo.specs.Query.{Ask, Done, and_then, asked, outcome}
+use Rattle.idl_memo.specs.Query.{Done, and_then, asked, outcome}
 use Rattle.idl_memo.proofs.QueryLaws.{outcome-and_then}
-use Rattle.idl_env.specs.Facts.{identity_in, scopes_in}
+use Rattle.idl_env.specs.Facts.{scopes_in}
+use Rattle.idl_scope.specs.Known.{known}
 use Rattle.idl_scope.specs.Lookup.{Lookup, by_result, denoted}
 use Rattle.idl_env.specs.declared.additions.addition.Step.TheVariants.{Stays}
 use Rattle.idl_env.specs.declared.answering.answer.Answer.{Answer}
@@ -30,7 +31,7 @@ use Rattle.idl_entity.specs.declared.identity.Fixed.{Fixed}
 use Rattle.idl_entity.specs.declared.identity.Fixed.TheVariants.{Version, Id}
 use Rattle.idl_entity.specs.declared.identity.Identity.{Identity}
 use Rattle.idl_env.specs.declared.keys.key.Key.{Key}
-use Rattle.idl_env.specs.declared.keys.key.Key.TheVariants.{Cursor, IdOf}
+use Rattle.idl_env.specs.declared.keys.key.Key.TheVariants.{Cursor}
 use Rattle.idl_syntax.specs.Parse.{pragma_faults}
 use Rattle.idl_tree.specs.Pragma.{pragma_of}
 use Rattle.idl_tree.specs.declared.name.ScopedName.{ScopedName}
@@ -176,10 +177,12 @@ module _ (turns : ℕ) (answers : Key → Option Answer) (scopes : List Scope) (
 
   abbrev pub about_by : ℕ → Fixed → Entity → Bool → Lookup Said
   about_by at change e b =
-      cond b (Ask (IdOf e.path) (λ answer. Done (said_if at change e.path (identity_in answer)))) (Done (refused_for (fault_at at NoRepositoryId ∷ [])))
+      cond b (and_then (known e.path) (λ d. Done (said_if at change e.path d))) (Done (refused_for (fault_at at NoRepositoryId ∷ [])))
 
   about-if : (at : ℕ) (change : Fixed) (e : Entity) (b : Bool) → at < n → All (Before n) (outcome (about_by at change e b) answers).faults
-  about-if at change e true lt = said-if-before at change e.path (identity_in (answers (IdOf e.path))) lt
+  about-if at change e true lt =
+      let next : Option Identity → Lookup Said = λ d. Done (said_if at change e.path d) in
+      subst (λ (s : Said). All (Before n) s.faults) (sym (outcome-and_then (known e.path) next answers)) (said-if-before at change e.path (outcome (known e.path) answers) lt)
   about-if at change e false lt = one-before n at NoRepositoryId lt
 
   module _ (name : ScopedName) (change : Fixed) (within : last_at 2 name < n) where

@@ -1,10 +1,9 @@
 -- What a pragma says, run, and its fault.
 use Rattle.std.proofs.Common.{◌≡◌, ◌∙◌, ℕ, ◌+◌, ◌≤◌, Bool, true, false, cond, List, [], ◌∷◌, ◌++◌, Option, None, Some, Result, Ok, Err, refl, sym, ap, arith}
 use Rattle.std.proofs.lemmas.Option.{same_Some}
-use Rattle.std.specs.Option.{option_map}
 use Rattle.std.specs.Prelude.{not}
 use Rattle.idl_check.specs.tables.Codes.{faults_by}
-use Rattle.idl_check.specs.walk.Held.{said_of, spoken}
+use Rattle.idl_check.specs.walk.Held.{named_at, named_by, said_of, spoken}
 use Rattle.idl_tree.specs.NameParts.{last_at}
 use Rattle.idl_check.specs.tables.Rules.{has_id, is_fixed, is_given, is_id}
 use Rattle.idl_check.specs.ids.About.{Said, about, about_entity, refused_for, repeated, said_at, unnamed_faults, with_faults}
@@ -14,13 +13,12 @@ use Rattle.idl_check.specs.declared.ids.about.Named.{Named}
 use Rattle.idl_check.specs.declared.walk.verdict.Verdict.{Verdict}
 use Rattle.idl_fault.specs.declared.code.Code.TheVariants.{BadIdText, NoRepositoryId, RepeatedId, RepeatedVersion}
 use Rattle.idl_lex.specs.tokens.Tokens.{Token}
-use Rattle.idl_memo.specs.Query.{Ask, Done, and_then, noted}
+use Rattle.idl_memo.specs.Query.{Done, and_then}
 use Rattle.idl_memo.proofs.QueryLaws.{run-and_then_at}
-use Rattle.idl_env.specs.Facts.{identity_in, over}
+use Rattle.idl_scope.specs.Known.{known}
 use Rattle.idl_scope.proofs.LookupLaws.RunLemmas.{runs, runs-and_then}
 use Rattle.idl_env.specs.keys.Key.{key_eq}
 use Rattle.idl_env.specs.declared.keys.key.Key.{Key}
-use Rattle.idl_env.specs.declared.keys.key.Key.TheVariants.{IdOf}
 use Rattle.idl_scope.specs.Lookup.{Lookup, by_result, denoted}
 use Rattle.idl_env.specs.declared.additions.addition.Addition.{Addition}
 use Rattle.idl_env.specs.declared.additions.addition.Step.TheVariants.{Stays}
@@ -108,10 +106,6 @@ verdict-sound s h = ap (verdict_by s) h
 
 -- ---- runs
 
--- what identifies the name at a path, or nothing
-abbrev pub named_at : List (List ℕ) → Option Identity → Option Named
-named_at path o = option_map (λ d. record { path = path; identity = d }) o
-
 module _ (own : List Addition) (bank : Key → Option Answer) (change : Fixed) where
   abbrev said_if : ℕ → List (List ℕ) → Option Identity → Said
   said_if at path o = elim o [ None ↦ refused_for [] | Some d ↦ said_at at change path d ]
@@ -121,14 +115,17 @@ module _ (own : List Addition) (bank : Key → Option Answer) (change : Fixed) w
   said-named at path (Some d) = refl
 
   abbrev about_by : ℕ → Entity → Bool → Lookup Said
-  about_by at e b = cond b (Ask (IdOf e.path) (λ answer. Done (said_if at e.path (identity_in answer)))) (Done (refused_for (fault_at at NoRepositoryId ∷ [])))
+  about_by at e b = cond b (and_then (known e.path) (λ d. Done (said_if at e.path d))) (Done (refused_for (fault_at at NoRepositoryId ∷ [])))
 
   -- of an entity that may have an id
-  pub about-named : (at : ℕ) (e : Entity) (log : List (Key × Option Answer)) → has_id e.kind ≡ true
-      → runs own bank (about_entity at change e) log ≡ (said_of at change (Ok (named_at e.path (identity_in (over own (IdOf e.path) (bank (IdOf e.path)))))), noted key_eq bank log (IdOf e.path))
-  about-named at e log h =
+  pub about-named : (at : ℕ) (e : Entity) (log : List (Key × Option Answer)) (named : Option Named) (after : List (Key × Option Answer)) → has_id e.kind ≡ true
+      → (named, after) ≡ runs own bank (named_by e.path) log → runs own bank (about_entity at change e) log ≡ (said_of at change (Ok named), after)
+  about-named at e log named after h gives =
+      let found = runs own bank (known e.path) log in
       ap (λ b. runs own bank (about_by at e b) log) h
-      ∙ ap (λ s. (s, noted key_eq bank log (IdOf e.path))) (said-named at e.path (identity_in (over own (IdOf e.path) (bank (IdOf e.path)))))
+      ∙ runs-and_then own bank (known e.path) (λ d. Done (said_if at e.path d)) log found.0 found.1 refl
+      ∙ ap (λ s. (s, found.1)) (said-named at e.path found.0)
+      ∙ sym (ap (λ (r : Option Named × List (Key × Option Answer)). (said_of at change (Ok r.0), r.1)) (gives ∙ runs-and_then own bank (known e.path) (λ d. Done (named_at e.path d)) log found.0 found.1 refl))
 
   -- and of one that has none
   pub about-none : (at : ℕ) (e : Entity) (log : List (Key × Option Answer)) → has_id e.kind ≡ false

@@ -6,8 +6,8 @@ use Rattle.idl_check.specs.tables.Codes.{faults_by}
 use Rattle.idl_check.specs.tables.Rules.{has_id, is_fixed, is_given}
 use Rattle.idl_check.specs.tables.Using.{name_code}
 use Rattle.idl_fault.specs.declared.code.Code.TheVariants.{NoRepositoryId, RepeatedId, RepeatedVersion}
-use Rattle.idl_memo.specs.Query.{Done, Ask, and_then}
-use Rattle.idl_env.specs.Facts.{identity_in}
+use Rattle.idl_memo.specs.Query.{Done, and_then}
+use Rattle.idl_scope.specs.Known.{known}
 use Rattle.idl_scope.specs.Lookup.{Lookup, by_result, denoted}
 use Rattle.idl_env.specs.declared.additions.addition.Addition.{Addition}
 use Rattle.idl_env.specs.declared.additions.addition.Addition.TheVariants.{Identifies}
@@ -20,7 +20,6 @@ use Rattle.idl_scope.specs.declared.fault.NameFault.TheVariants.{At, Memory}
 use Rattle.idl_entity.specs.declared.identity.Fixed.{Fixed}
 use Rattle.idl_entity.specs.declared.identity.Fixed.TheVariants.{Version, Id}
 use Rattle.idl_entity.specs.declared.identity.Identity.{Identity}
-use Rattle.idl_env.specs.declared.keys.key.Key.TheVariants.{IdOf}
 use Rattle.idl_tree.specs.NameParts.{last_at, part_at}
 use Rattle.idl_tree.specs.declared.name.ScopedName.{ScopedName}
 use Rattle.idl_unit.specs.TokenRules.{fault_at}
@@ -56,7 +55,7 @@ said_at at change path d = record {
 abbrev pub about_entity : ℕ → Fixed → Entity → Lookup Said
 about_entity at change e =
     if has_id e.kind
-    then Ask (IdOf e.path) (λ answer. Done (elim (identity_in answer)
+    then and_then (known e.path) (λ d. Done (elim d
     [ None ↦ refused_for [] | Some d ↦ said_at at change e.path d ]))
     else Done (refused_for (fault_at at NoRepositoryId ∷ []))
 

@@ -3,7 +3,8 @@ use Rattle.idl_check.specs.tables.Rules.{has_id, may_be_ahead}
 use Rattle.std.specs.Prelude.{List, Option, None, Some, if◌then◌else◌}
 use Rattle.idl_check.specs.declared.ids.identifying.Ids.{Ids}
 use Rattle.idl_memo.specs.Query.{Done, Ask, and_then}
-use Rattle.idl_env.specs.Facts.{identity_in, prefix_in, with_addition}
+use Rattle.idl_env.specs.Facts.{prefix_in, with_addition}
+use Rattle.idl_scope.specs.Known.{known}
 use Rattle.idl_scope.specs.Lookup.{Lookup}
 use Rattle.idl_env.specs.declared.additions.addition.Addition.{Addition}
 use Rattle.idl_env.specs.declared.additions.addition.Addition.TheVariants.{Appears}
@@ -11,7 +12,7 @@ use Rattle.idl_entity.specs.declared.entity.Entity.{Entity}
 use Rattle.idl_entity.specs.declared.identity.Fixed.{Fixed}
 use Rattle.idl_entity.specs.declared.identity.FixedIdentity.{FixedIdentity}
 use Rattle.idl_entity.specs.declared.identity.Identity.{Identity}
-use Rattle.idl_env.specs.declared.keys.key.Key.TheVariants.{Prefix as PrefixKey, IdOf}
+use Rattle.idl_env.specs.declared.keys.key.Key.TheVariants.{Prefix as PrefixKey}
 
 -- what identifies a name once this of its id is fixed
 abbrev pub changed : Fixed → Identity → FixedIdentity
@@ -21,8 +22,7 @@ changed change d = record { prefix = d.prefix; by = change }
 abbrev pub id_before : Option Entity → Entity → Lookup (Option Identity)
 id_before None e = Done None
 id_before (Some old) e =
-    if may_be_ahead old.kind then Ask (IdOf e.path) (λ answer. Done (identity_in answer))
-    else Done None
+    if may_be_ahead old.kind then known e.path else Done None
 
 -- what a declared name that has an id is told of ids: the prefix in force, and its own id
 abbrev pub ids_of : Option Entity → Entity → Lookup (Option Ids)

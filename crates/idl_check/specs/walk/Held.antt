@@ -13,9 +13,12 @@ use Rattle.idl_check.specs.declared.told.values.Values.{Values as ToldValues}
 use Rattle.idl_check.specs.declared.walk.verdict.Verdict.{Verdict}
 use Rattle.idl_check.specs.declared.walk.walker.Walker.{Walker}
 use Rattle.idl_memo.specs.Query.{Done, and_then}
+use Rattle.std.specs.Option.{option_map}
+use Rattle.idl_scope.specs.Known.{known}
 use Rattle.idl_scope.specs.Lookup.{Lookup, denoted, under}
 use Rattle.idl_env.specs.declared.answering.answer.Scope.{Scope}
 use Rattle.idl_entity.specs.declared.identity.Fixed.{Fixed}
+use Rattle.idl_entity.specs.declared.identity.Identity.{Identity}
 use Rattle.idl_parts.specs.Item.{Item, items_length}
 use Rattle.idl_parts.specs.declared.part.Use.{Use}
 use Rattle.idl_tree.specs.declared.name.ScopedName.{ScopedName}
@@ -85,6 +88,13 @@ HasRoomFor w sites = w.at + items_length sites ≤ 18446744073709551615
 -- a pragma, by what it says
 abbrev pub spoken : ℕ → List Scope → Pragma → Lookup Verdict
 spoken turns scopes p = and_then (said turns scopes p) (λ s. Done (pragma_verdict s))
+
+-- what identifies what is declared at a path, with the path
+abbrev pub named_at : List (List ℕ) → Option Identity → Option Named
+named_at path d = option_map (λ d. record { path = path; identity = d }) d
+
+abbrev pub named_by : List (List ℕ) → Lookup (Option Named)
+named_by path = and_then (known path) (λ d. Done (named_at path d))
 
 -- this said of what a name denotes that ends at this token, or the name's fault
 abbrev pub said_of : ℕ → Fixed → Result (Option Named) Fault → Said

@@ -1,14 +1,12 @@
 //! What is said of the id of what a name denotes.
 
-ghost use Rattle.std.specs.Prelude.{◌≡◌, ◌≤◌, ℕ, IfErr, IfOk, OnOk};
-ghost use Rattle.std.specs.Option.{option_map};
+ghost use Rattle.std.specs.Prelude.{◌≡◌, ◌≤◌, ℕ, IfErr, IfOk};
 ghost use Rattle.idl_check.specs.ids.About.{about};
-ghost use Rattle.idl_check.specs.walk.Held.{said_of};
+ghost use Rattle.idl_check.specs.walk.Held.{named_by, said_of};
 ghost use Rattle.idl_tree.specs.NameParts.{last_at};
-ghost use Rattle.idl_memo.specs.Query.{noted, run};
-ghost use Rattle.idl_env.specs.Facts.{answers, identity_in, over};
+ghost use Rattle.idl_memo.specs.Query.{run};
+ghost use Rattle.idl_env.specs.Facts.{answers};
 ghost use Rattle.idl_env.specs.keys.Key.{key_eq};
-ghost use Rattle.idl_env.specs.declared.keys.key.Key.TheVariants.{IdOf};
 ghost use Rattle.idl_env.specs.Turns.{HasTurnsFor};
 ghost use Rattle.idl_entity.specs.declared.identity.Fixed.{Fixed};
 ghost use Rattle.idl_scope.specs.Lookup.{under};
@@ -93,20 +91,16 @@ impl<'a> Subject<'a> {
 
     // What identifies the name at a path, if it has an id.
     fn identified(self, log: &mut Journal<Env>, path: &Path) -> Result<Option<Named>, AllocError>
-        ensures named { IfOk result (λ named.
-            named
-            ≡ option_map (λ d. record { path = path.now; identity = d })
-            (identity_in
-            (over self.entry.own.now.additions (IdOf path.now)
-            (answers self.entry.env.now (IdOf path.now))))) }
-        ensures logged { OnOk result
-            (log.new ≡ noted key_eq (answers self.entry.env.now) log.old (IdOf path.now)) }
+        ensures { IfOk result (λ named.
+            (named, log.new)
+            ≡ run key_eq (under self.entry.own.now.additions (named_by path.now))
+            (answers self.entry.env.now) log.old) }
     {
         let view = View {
             env: self.env,
             own: self.own,
         };
-        match view.identity(log, path)? {
+        match view.known(log, path)? {
             Some(identity) => Ok(Some(Named {
                 path: path.clone()?,
                 identity,

@@ -97,7 +97,7 @@ fn id_before(
         (answers view.entry.env.now) log.old) }
 {
     match there {
-        Some(old) if may_be_ahead(old.get().kind()) => { view.identity(log, new.path()) }
+        Some(old) if may_be_ahead(old.get().kind()) => { view.known(log, new.path()) }
         _ => Ok(None),
     }
 }

@@ -1,16 +1,14 @@
 use Rattle.std.proofs.Common.{◌∷◌, [], Ok, Err, sym, ap, ◌∙◌, arith}
 use Rattle.idl_check.proofs.PartLemmas.{part-within}
-use Rattle.idl_check.proofs.PragmaLaws.PragmaLemmas.{about-named, about-none, named-found, named-unfound, named_at}
-use Rattle.idl_check.specs.walk.Held.{said_of}
+use Rattle.idl_check.proofs.PragmaLaws.PragmaLemmas.{about-named, about-none, named-found, named-unfound}
+use Rattle.idl_check.specs.walk.Held.{named_by, said_of}
 use Rattle.idl_tree.specs.NameParts.{last_at, part_at}
 use Rattle.idl_check.specs.tables.Rules.{has_id}
 use Rattle.idl_check.specs.ids.About.{refused_for}
 use Rattle.idl_check.specs.tables.Using.{name_code}
 use Rattle.idl_fault.specs.declared.code.Code.TheVariants.{NoRepositoryId}
-use Rattle.idl_memo.specs.Query.{noted}
-use Rattle.idl_env.specs.Facts.{answers, identity_in, over}
-use Rattle.idl_env.specs.keys.Key.{key_eq}
-use Rattle.idl_env.specs.declared.keys.key.Key.TheVariants.{IdOf}
+use Rattle.idl_env.specs.Facts.{answers}
+use Rattle.idl_scope.proofs.LookupLaws.RunLemmas.{runs}
 use Rattle.idl_entity.specs.declared.entity.Entity.{Entity}
 use Rattle.idl_scope.specs.declared.fault.NameFault.TheVariants.{At}
 use Rattle.idl_env.specs.Turns.{turns_among, turns_for}
@@ -46,12 +44,8 @@ returns-clause-said-in-Ok c = λ turns more change.
     let gives = c.in-Ok.ensures.asked turns more in
     let lent = c.path.ensures ∙ ap (λ (e : Entity). e.path) c.get-entity.ensures in
     let some = ap (λ (e : Entity). has_id e.kind) (sym c.get-entity.ensures) ∙ ap has_id (sym c.kind.ensures) ∙ sym c.has_id.ensures ∙ c.if-not-has_id.false in
-    (λ i. (said_of (last_at first name) change (Ok (c.in_ok-identified-in-Ok.ensures.named i)), c.in_ok-identified-in-Ok.ensures.logged i))
-    ∙ (λ i. (
-      said_of (last_at first name) change (Ok (named_at (lent i) (identity_in (over own (IdOf (lent i)) (bank (IdOf (lent i))))))),
-      noted key_eq bank after (IdOf (lent i)),
-    ))
-    ∙ sym (about-named own bank change (last_at first name) found.entity after some)
+    let named = c.in_ok-identified-in-Ok.ensures ∙ ap (λ path. runs own bank (named_by path) after) lent in
+    sym (about-named own bank change (last_at first name) found.entity after _ _ some named)
     ∙ sym (named-found own bank change first turns scopes name log found after gives)
 
 pub part_at-requires : goal.part_at-requires
