@@ -2,7 +2,7 @@
 use Rattle.std.proofs.Common.{◌≡◌, ℕ, Bool, true, cond, List, [], Option, is_some, refl, sym, ap, ◌∙◌}
 use Rattle.std.specs.List.{list_any}
 use Rattle.idl_memo.specs.Query.{Ask, Done, and_then, noted}
-use Rattle.idl_check.specs.tables.Declaring.{inherited, standing}
+use Rattle.idl_check.specs.tables.Declaring.{inherited, is_any, standing}
 use Rattle.idl_check.specs.ids.Identifying.{ids_of}
 use Rattle.idl_check.specs.declared.ids.identifying.Ids.{Ids}
 use Rattle.idl_check.specs.declared.tables.standing.Standing.{Standing}
@@ -21,9 +21,12 @@ use Rattle.idl_entity.specs.declared.entity.Entity.{Entity}
 use Rattle.idl_env.specs.declared.keys.key.Key.{Key}
 use Rattle.idl_env.specs.declared.keys.key.Key.TheVariants.{Declared, Introduced}
 
--- whether an operation or attribute is inherited
-abbrev pub counted : List Entity → Lookup Bool
-counted found = Done (list_any is_operation found)
+-- whether an operation or attribute is reached, and whether anything is
+abbrev pub brought_in : List Entity → Bool × Bool
+brought_in found = (list_any is_operation found, is_any found)
+
+abbrev pub counted : List Entity → Lookup (Bool × Bool)
+counted found = Done (brought_in found)
 
 module _ (own : List Addition) (bank : Key → Option Answer) where
   -- what follows on an outcome, by what is made of it first
@@ -38,13 +41,13 @@ module _ (own : List Addition) (bank : Key → Option Answer) where
   -- and one that has what its bases have
   pub inherited_some : (turns : ℕ) (s : Scope) (n : List ℕ) (log : List (Key × Option Answer)) (found : List Entity) (after : List (Key × Option Answer)) → inherits s.kind ≡ true
       → (found, after) ≡ runs own bank (reached turns n (bases_of (entity_in (seen_at own bank (entity_key s.path))))) (noted key_eq bank log (entity_key s.path))
-      → runs own bank (and_then (inherited turns s n) counted) log ≡ (list_any is_operation found, after)
+      → runs own bank (and_then (inherited turns s n) counted) log ≡ (brought_in found, after)
   inherited_some turns s n log found after h gives =
       ap (λ b. runs own bank (and_then (cond b (Ask (entity_key s.path) (λ scope. reached turns n (bases_of (entity_in scope)))) (Done [])) counted) log) h
       ∙ runs-and_then own bank (reached turns n (bases_of (entity_in (seen_at own bank (entity_key s.path))))) counted (noted key_eq bank log (entity_key s.path)) found after gives
 
   -- all that stands under the name of an entity
-  pub standing_by : (turns : ℕ) (s : Scope) (e : Entity) (log : List (Key × Option Answer)) (b : Bool) (middle : List (Key × Option Answer)) (ids : Option Ids) (after : List (Key × Option Answer))
+  pub standing_by : (turns : ℕ) (s : Scope) (e : Entity) (log : List (Key × Option Answer)) (b : Bool × Bool) (middle : List (Key × Option Answer)) (ids : Option Ids) (after : List (Key × Option Answer))
       → (b, middle) ≡ runs own bank (and_then (inherited turns s (folded (name_of e.path))) counted) (noted key_eq bank (noted key_eq bank log (Declared (folded (name_of e.path)) s.path)) (Introduced (folded (name_of e.path)) s.path s.body))
       → (ids, after) ≡ runs own bank (ids_of (entity_in (seen_at own bank (Declared (folded (name_of e.path)) s.path))) e) middle
       → runs own bank (standing turns s e) log
@@ -52,7 +55,8 @@ module _ (own : List Addition) (bank : Key → Option Answer) where
         record {
           there = entity_in (seen_at own bank (Declared (folded (name_of e.path)) s.path));
           is_used = is_some (seen_at own bank (Introduced (folded (name_of e.path)) s.path s.body));
-          is_inherited = b;
+          brings_operation = b.0;
+          is_reached = b.1;
           ids = ids;
         },
         after,
@@ -60,12 +64,13 @@ module _ (own : List Addition) (bank : Key → Option Answer) where
   standing_by turns s e log b middle ids after h told =
       let n = folded (name_of e.path) in
       let there = entity_in (seen_at own bank (Declared n s.path)) in
-      let found : Bool → Option Ids → Standing = λ is_inherited ids. record {
+      let found : Bool × Bool → Option Ids → Standing = λ brought ids. record {
         there = there;
         is_used = is_some (seen_at own bank (Introduced n s.path s.body));
-        is_inherited = is_inherited;
+        brings_operation = brought.0;
+        is_reached = brought.1;
         ids = ids;
       } in
-      made_of (inherited turns s n) (list_any is_operation) (λ is_inherited. and_then (ids_of there e) (λ ids. Done (found is_inherited ids)))
+      made_of (inherited turns s n) brought_in (λ brought. and_then (ids_of there e) (λ ids. Done (found brought ids)))
       (noted key_eq bank (noted key_eq bank log (Declared n s.path)) (Introduced n s.path s.body)) b middle h
       ∙ runs-and_then own bank (ids_of there e) (λ ids. Done (found b ids)) middle ids after told

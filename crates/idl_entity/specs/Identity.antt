@@ -1,5 +1,5 @@
 -- What identifies a declared name, and how its id is told.
-use Rattle.std.specs.Prelude.{ℕ, ◌-◌, Bool, List, [], ◌∷◌, ◌++◌, Option, Some, None, codes, decimal, drop, if◌then◌else◌, length, take}
+use Rattle.std.specs.Prelude.{ℕ, ◌-◌, Bool, List, [], ◌∷◌, ◌++◌, Option, Some, codes, decimal, drop, if◌then◌else◌, length, take}
 use Rattle.idl_entity.specs.Path.{path_eq, scope_of}
 use Rattle.idl_entity.specs.declared.identity.Fixed.{Fixed}
 use Rattle.idl_entity.specs.declared.identity.Fixed.TheVariants.{Version, Id}

@@ -1,6 +1,6 @@
 -- Why `==` holds of one prefix and of one identity alone, and why a clone is its source.
 -- Nothing to believe here: all of it is proved.
-use Rattle.std.specs.Prelude.{◌≡◌, ◌&&◌, ℕ, Bool, true}
+use Rattle.std.specs.Prelude.{◌≡◌, ◌&&◌, Bool, true}
 use Rattle.std.proofs.Common.{ap}
 use Rattle.std.specs.Cmp.Lexicographic.{bytes_decides}
 use Rattle.std.specs.Str.{bytes_eq}

@@ -18,7 +18,6 @@ use Rattle.idl_env.specs.keys.Key.{key_eq}
 use Rattle.idl_env.specs.declared.keys.key.Key.{Key}
 use Rattle.idl_env.specs.declared.answering.answer.Answer.{Answer}
 use Rattle.idl_entity.specs.declared.entity.Entity.{Entity as ScopeEntity}
-use Rattle.idl_env.specs.declared.keys.key.Key.TheVariants as key
 
 -- of what is declared so
 pub declared-outcome : (e : ScopeEntity) (bank : Key → Option Answer) → outcome (declared_entry e) bank ≡ told_entry e (text_over bank (row_pieces e))

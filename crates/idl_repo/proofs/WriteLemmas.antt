@@ -7,7 +7,7 @@ use Rattle.idl_memo.specs.Query.{asked, is_logged, noted, noted_all, outcome}
 use Rattle.idl_memo.proofs.QueryLaws.{asked-and_then, noted_all-append, outcome-and_then}
 use Rattle.idl_repo.specs.Pieces.{Grows, IdOf, Pieces, Says, State, asked_of, commas, ids_in, says, text_over, written}
 use Rattle.idl_scope.specs.Known.{id_of}
-use Rattle.idl_env.specs.keys.KeyLaws.{key_equiv}
+use Rattle.idl_env.specs.keys.Digested.{key_equiv}
 use Rattle.idl_env.specs.Facts.{UnitFacts, answers, id_at}
 use Rattle.idl_env.specs.keys.Key.{key_eq}
 use Rattle.idl_env.specs.declared.answering.answer.Answer.{Answer}

@@ -8,7 +8,6 @@ use Rattle.idl_env.specs.declared.keys.key.Key.{Key}
 use Rattle.idl_scope.specs.Known.{id_of}
 use Rattle.idl_scope.specs.Lookup.{Lookup}
 use Rattle.idl_env.specs.declared.answering.answer.Answer.{Answer}
-use Rattle.idl_env.specs.declared.keys.key.Key.TheVariants as key
 
 -- characters, or the id of what is declared at a path
 pub data Piece : Type 0 where

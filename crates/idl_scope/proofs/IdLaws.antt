@@ -36,7 +36,7 @@ prefix-around path p = by (is_within (scope_of path) p.scope) refl
     by false w = within_global (scope_of path) [] refl
 
 -- where a prefix may have been met where this was fixed
-abbrev IsMetFor : List (List ℕ) → Fixed → List (List ℕ) → Type 0
+abbrev pub IsMetFor : List (List ℕ) → Fixed → List (List ℕ) → Type 0
 IsMetFor path (Version major minor) scope = is_within (scope_of path) scope ≡ true
 IsMetFor path (Id text) scope = scope ≡ []
 

@@ -9,7 +9,7 @@ use Rattle.idl_entity.specs.Identity.{fixed_for, no_prefix, prefix_for}
 use Rattle.idl_env.specs.keys.Key.{key_eq}
 use Rattle.idl_env.specs.declared.keys.key.Key.{Key}
 use Rattle.idl_env.specs.declared.keys.key.Key.TheVariants.{Cursor, Declared, Introduced, Opened, Nameless, Prefix as PrefixKey, IdOf}
-use Rattle.idl_env.specs.keys.KeyLaws.{same_key}
+use Rattle.idl_env.specs.SameKey.{same_key}
 use Rattle.idl_entity.specs.Kind.{kind_eq, has_bases}
 use Rattle.idl_scope.specs.Lookup.{bases_of}
 use Rattle.idl_scope.specs.Meaning.{own_at, bases_at}

@@ -6,7 +6,7 @@ ghost use Rattle.idl_memo.specs.Query.{noted, run};
 ghost use Rattle.idl_env.specs.Facts.{answer_of, answers, entity_in, entity_key, over, prefix_in};
 ghost use Rattle.idl_scope.specs.Finds.{those};
 ghost use Rattle.idl_env.specs.keys.Key.{key_eq};
-ghost use Rattle.idl_env.specs.declared.keys.key.Key.TheVariants.{Declared, Prefix as PrefixKey, IdOf};
+ghost use Rattle.idl_env.specs.declared.keys.key.Key.TheVariants.{Declared, Prefix as PrefixKey};
 ghost use Rattle.idl_scope.specs.Known.{known};
 ghost use Rattle.idl_scope.specs.Lookup.{bases_of, entered, has, outward, reached, under};
 ghost use Rattle.idl_env.specs.Turns.{HasTurnsFor, declared_among, declared_named};
@@ -74,11 +74,7 @@ impl<'a> View<'a> {
     }
 
     /// What identifies what is declared at a path.
-    pub fn known(
-        self,
-        log: &mut Journal<Env>,
-        path: &Path,
-    ) -> Result<Option<Identity>, AllocError>
+    pub fn known(self, log: &mut Journal<Env>, path: &Path) -> Result<Option<Identity>, AllocError>
         ensures { IfOk result (λ d.
             (d, log.new)
             ≡ run key_eq (under self.entry.own.now.additions (known path.now))

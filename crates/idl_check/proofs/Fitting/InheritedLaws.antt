@@ -7,7 +7,7 @@ use Rattle.std.proofs.lemmas.List.Folds.{Any-from_list_any, list_any-from_Any}
 use Rattle.idl_memo.proofs.QueryLaws.{outcome-and_then}
 use Rattle.idl_memo.specs.Query.{Ask, Done, and_then, outcome}
 use Rattle.idl_check.proofs.Visits.VisitLemmas.{turns-here}
-use Rattle.idl_check.specs.tables.Declaring.{inherited, standing}
+use Rattle.idl_check.specs.tables.Declaring.{inherited, is_any, standing}
 use Rattle.idl_check.specs.ids.Identifying.{ids_of}
 use Rattle.idl_check.specs.walk.Walk.{Walk, turns_at}
 use Rattle.idl_check.specs.declared.ids.identifying.Ids.{Ids}
@@ -30,18 +30,19 @@ use Rattle.idl_env.specs.declared.keys.key.Key.TheVariants.{Declared, Introduced
 
 module _ (bank : Key → Option Answer) (turns : ℕ) (s : Scope) where
   -- what is told of inheriting is whether an operation or attribute is among what is inherited
-  told-inherited : (e : Entity) → (outcome (standing turns s e) bank).is_inherited ≡ list_any is_operation (outcome (inherited turns s (folded (name_of e.path))) bank)
+  told-inherited : (e : Entity) → (outcome (standing turns s e) bank).brings_operation ≡ list_any is_operation (outcome (inherited turns s (folded (name_of e.path))) bank)
   told-inherited e =
       let n = folded (name_of e.path) in
       let there = entity_in (bank (Declared n s.path)) in
       let told : List Entity → Option Ids → Standing = λ found ids. record {
         there = there;
         is_used = is_some (bank (Introduced n s.path s.body));
-        is_inherited = list_any is_operation found;
+        brings_operation = list_any is_operation found;
+        is_reached = is_any found;
         ids = ids;
       } in
-      ap (λ (x : Standing). x.is_inherited) (outcome-and_then (inherited turns s n) (λ found. and_then (ids_of there e) (λ ids. Done (told found ids))) bank)
-      ∙ ap (λ (x : Standing). x.is_inherited) (outcome-and_then (ids_of there e) (λ ids. Done (told (outcome (inherited turns s n) bank) ids)) bank)
+      ap (λ (x : Standing). x.brings_operation) (outcome-and_then (inherited turns s n) (λ found. and_then (ids_of there e) (λ ids. Done (told found ids))) bank)
+      ∙ ap (λ (x : Standing). x.brings_operation) (outcome-and_then (ids_of there e) (λ ids. Done (told (outcome (inherited turns s n) bank) ids)) bank)
 
   -- and that is one that is reached through the bases of an interface
   any-inherited : (n : List ℕ) → ((f : Entity) → Contains (outcome (reached turns n (bases_at bank s.path)) bank) f ↔ Through bank n (bases_at bank s.path) f)
@@ -61,12 +62,12 @@ module _ (bank : Key → Option Answer) (turns : ℕ) (s : Scope) where
 
 -- over the facts before a unit and what its earlier tokens add
 pub standing-inherited : (facts : List UnitFacts) (turns : ℕ) (w : Walk) (s : Scope) (e : Entity) → turns_for facts ≤ turns
-    → ((outcome (under w.own (standing (turns_at turns w) s e)) (answers facts)).is_inherited ≡ true)
+    → ((outcome (under w.own (standing (turns_at turns w) s e)) (answers facts)).brings_operation ≡ true)
     ↔ ((f : Entity) × InheritsOperation (seen w.own facts) s (folded (name_of e.path)) f)
 standing-inherited facts turns w s e enough =
     let n = folded (name_of e.path) in
     let more = turns_at turns w in
-    let is : (outcome (under w.own (standing more s e)) (answers facts)).is_inherited ≡ list_any is_operation (outcome (inherited more s n) (seen w.own facts)) =
-    ap (λ (x : Standing). x.is_inherited) (outcome-under w.own (answers facts) (standing more s e)) ∙ told-inherited (seen w.own facts) more s e in
+    let is : (outcome (under w.own (standing more s e)) (answers facts)).brings_operation ≡ list_any is_operation (outcome (inherited more s n) (seen w.own facts)) =
+    ap (λ (x : Standing). x.brings_operation) (outcome-under w.own (answers facts) (standing more s e)) ∙ told-inherited (seen w.own facts) more s e in
     let all = any-inherited (seen w.own facts) more s n (through-all facts w.own more (turns-here facts w.own turns enough) s.path n) in
     (λ h. all.0 (sym is ∙ h), λ p. is ∙ all.1 p)

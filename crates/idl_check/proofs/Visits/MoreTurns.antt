@@ -6,7 +6,7 @@ use Rattle.idl_memo.proofs.QueryLaws.{run-and_then_at}
 use Rattle.idl_check.proofs.Visits.JudgeLemmas.{under-none}
 use Rattle.idl_check.proofs.TypeLemmas.{behind-same}
 use Rattle.idl_check.proofs.Visits.VisitLemmas.{turns-here}
-use Rattle.idl_check.specs.tables.Declaring.{entity_of, inherited, standing}
+use Rattle.idl_check.specs.tables.Declaring.{entity_of, inherited, is_any, standing}
 use Rattle.idl_check.specs.ids.Identifying.{ids_of}
 use Rattle.idl_check.specs.ids.Pragmas.{said_by}
 use Rattle.idl_check.specs.told.Types.{behind_typedefs, is_looked_through, looked_through}
@@ -99,7 +99,8 @@ module _ (facts : List UnitFacts) (turns : ℕ) (enough : turns_for facts ≤ tu
         let told : List Entity → Lookup Standing = λ found. and_then (ids_of there e) (λ ids. Done (record {
           there = there;
           is_used = is_some (seen (Introduced n s.path s.body));
-          is_inherited = list_any is_operation found;
+          brings_operation = list_any is_operation found;
+          is_reached = is_any found;
           ids = ids;
         })) in
         under-same w.own (answers facts) (inherited (turns_at (turns + extra) w) s n) (inherited (turns_at turns w) s n) told told

@@ -1,6 +1,6 @@
 -- What is said of the id of what a name denotes, and what is wrong with that: the name's own faults,
 -- E74, and E71 or E72. What is wrong with the text of an id stands at that.
-use Rattle.std.specs.Prelude.{ℕ, List, [], ◌∷◌, ◌++◌, Option, None, Some, if◌then◌else◌}
+use Rattle.std.specs.Prelude.{ℕ, List, [], ◌∷◌, ◌++◌, None, Some, if◌then◌else◌}
 use Rattle.idl_check.specs.ids.Identifying.{changed}
 use Rattle.idl_check.specs.tables.Codes.{faults_by}
 use Rattle.idl_check.specs.tables.Rules.{has_id, is_fixed, is_given}

@@ -1,10 +1,10 @@
 -- Declared names: what they are declared as, and what is wrong with that.
-use Rattle.std.specs.Prelude.{ℕ, Bool, false, ◌&&◌, ◌||◌, List, [], ◌∷◌, fold, is_some, map, Option, None, Some, if◌then◌else◌}
+use Rattle.std.specs.Prelude.{ℕ, Bool, true, false, ◌&&◌, ◌||◌, List, [], ◌∷◌, fold, is_some, map, Option, None, Some, if◌then◌else◌}
 use Rattle.std.specs.List.{list_any}
 use Rattle.idl_check.specs.told.Bodies.{Clauses, signature_of}
 use Rattle.idl_check.specs.tables.Codes.{Table}
 use Rattle.idl_check.specs.ids.Identifying.{ids_of, with_identity}
-use Rattle.idl_check.specs.tables.Rules.{has_other_prefix, is_ahead, is_declared, is_inherited, is_introduced, is_name_of_scope, is_other_ahead, is_there, may_follow}
+use Rattle.idl_check.specs.tables.Rules.{has_other_prefix, is_ahead, is_declared, brings_operation, is_introduced, is_name_of_scope, is_other_ahead, is_there, may_follow}
 use Rattle.idl_check.specs.declared.tables.standing.Standing.{Standing}
 use Rattle.idl_fault.specs.declared.code.Code.TheVariants.{AlreadyDeclared, NameOfScope, DeclaredAfterUse, OtherForward, DeclaredAgain, OtherPrefix}
 use Rattle.idl_lex.specs.kinds.Keywords.{folded}
@@ -151,6 +151,11 @@ inherited turns s n =
     then Ask (entity_key s.path) (λ scope. reached turns n (bases_of (entity_in scope)))
     else Done []
 
+-- whether anything is among these
+abbrev pub is_any : List Entity → Bool
+is_any [] = false
+is_any (e ∷ found) = true
+
 -- what stands under the name of an entity in the scope in which it is declared
 abbrev pub standing : ℕ → Scope → Entity → Lookup Standing
 standing turns s e =
@@ -162,7 +167,8 @@ standing turns s e =
     Done (record {
       there = entity_in there;
       is_used = is_some used;
-      is_inherited = list_any is_operation found;
+      brings_operation = list_any is_operation found;
+      is_reached = is_any found;
       ids = ids;
     })))))
 
@@ -173,7 +179,7 @@ declared_table s standing e =
     ∷ (is_name_of_scope s e, NameOfScope)
     ∷ (is_introduced standing, DeclaredAfterUse)
     ∷ (is_other_ahead standing.there e, OtherForward)
-    ∷ (is_inherited standing, DeclaredAgain)
+    ∷ (brings_operation standing, DeclaredAgain)
     ∷ (has_other_prefix standing.ids, OtherPrefix) ∷ []
 
 -- what is there already stays as it is where a module is opened again, or where it is declared

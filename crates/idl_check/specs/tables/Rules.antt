@@ -144,8 +144,8 @@ is_another operations p =
 abbrev pub brings_another : List (List ℕ × List (List ℕ)) → Entity → Bool
 brings_another operations e = list_any (is_another operations) e.operations
 
-abbrev pub is_inherited : Standing → Bool
-is_inherited standing = standing.is_inherited
+abbrev pub brings_operation : Standing → Bool
+brings_operation standing = standing.brings_operation
 
 -- E43: A base is not `local` unless the interface is.
 abbrev pub is_local_base : Bool → Entity → Bool

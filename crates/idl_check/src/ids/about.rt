@@ -54,7 +54,7 @@ impl<'a> Subject<'a> {
         log: &mut Journal<Env>,
         name: &ScopedName,
     ) -> Result<Result<Option<Named>, Fault>, AllocError>
-        requires { last_at self.entry.first name.now ≤ 18446744073709551615 }
+        requires { last_at self.first name.now ≤ 18446744073709551615 }
         ensures said { IfOk result (λ r. (turns : ℕ)
             → HasTurnsFor self.entry.env.now self.entry.own.now.additions turns
             → (change : Fixed)

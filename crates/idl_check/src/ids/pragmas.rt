@@ -111,14 +111,12 @@ impl<'a> Speaker<'a> {
             (answers self.entry.env.now) log.old) }
     {
         let alloc = self.env.alloc();
-        let named = match self.named(log, name)? {
-            Ok(named) => named,
-            Err(fault) => return adding(alloc, Some(fault), Step::Stays),
-        };
         let at = last_at(OPERANDS, name);
-        match named {
-            Some(named) => given(alloc, &named, at, text),
-            None => unidentified(alloc, at + 1, text),
+        let found = self.named(log, name)?;
+        match found {
+            Ok(Some(named)) => given(alloc, &named, at, text),
+            Ok(None) => unidentified(alloc, at + 1, text),
+            Err(fault) => adding(alloc, Some(fault), Step::Stays),
         }
     }
 
@@ -186,7 +184,8 @@ fn given(alloc: Global, named: &Named, at: usize, text: &[u16]) -> Result<Verdic
     if is_again {
         return refused(alloc, at, Code::RepeatedId);
     }
-    match id_text(alloc, text)? {
+    let spelled = id_text(alloc, text)?;
+    match spelled {
         Some(id) => {
             let identity = changed(alloc, &named.identity, Fixed::Id(id))?;
             identifying(alloc, &named.path, identity)
@@ -200,7 +199,8 @@ fn unidentified(alloc: Global, at: usize, text: &[u16]) -> Result<Verdict, Alloc
     ensures { IfOk result (λ v.
         v ≡ pragma_verdict (with_faults (text_faults at text.now) (refused_for []))) }
 {
-    match id_text(alloc, text)? {
+    let spelled = id_text(alloc, text)?;
+    match spelled {
         Some(_id) => adding(alloc, None, Step::Stays),
         None => refused(alloc, at, Code::BadIdText),
     }

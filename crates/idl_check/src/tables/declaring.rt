@@ -396,7 +396,7 @@ pub fn declared_code(scope: &Scope, standing: &Standing, new: &Entity) -> Option
         (is_own, Code::NameOfScope),
         (standing.is_used, Code::DeclaredAfterUse),
         (is_other, Code::OtherForward),
-        (standing.is_inherited, Code::DeclaredAgain),
+        (standing.brings_operation, Code::DeclaredAgain),
         (is_of_other_prefix(&standing.ids), Code::OtherPrefix),
     ])
 }

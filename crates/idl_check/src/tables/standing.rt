@@ -3,7 +3,7 @@
 ghost use Rattle.std.specs.Prelude.{◌≡◌, ℕ, IfOk, OnOk, is_some, map};
 ghost use Rattle.std.specs.Option.{option_copied};
 ghost use Rattle.std.specs.List.{list_any};
-ghost use Rattle.idl_check.specs.tables.Declaring.{inherited, standing};
+ghost use Rattle.idl_check.specs.tables.Declaring.{inherited, is_any, standing};
 ghost use Rattle.idl_memo.specs.Query.{Done, and_then, noted, run};
 ghost use Rattle.idl_lex.specs.kinds.Keywords.{folded};
 ghost use Rattle.idl_entity.specs.Entity.{is_operation};
@@ -29,8 +29,10 @@ pub struct Standing {
     pub there: Option<Shared<Entity>>,
     /// Whether a use has introduced it there.
     pub is_used: bool,
-    /// Whether an operation or attribute is inherited under it.
-    pub is_inherited: bool,
+    /// Whether an operation or attribute is reached under it through bases.
+    pub brings_operation: bool,
+    /// Whether anything is.
+    pub is_reached: bool,
     /// What is told of its id, if it has one.
     pub ids: Option<Ids>,
 }
@@ -51,12 +53,13 @@ pub fn standing_of(
 {
     let there = there(view, log, new.path())?;
     let is_used = is_used(view, log, scope, new.path())?;
-    let is_inherited = is_inherited(view, log, scope, new.path())?;
+    let brought = brought(view, log, scope, new.path())?;
     let ids = ids_of(view, log, &there, new)?;
     Ok(Standing {
         there,
         is_used,
-        is_inherited,
+        brings_operation: brought.0,
+        is_reached: brought.1,
         ids,
     })
 }
@@ -110,29 +113,29 @@ fn is_used(
     }
 }
 
-// Whether an operation or attribute is inherited under the name at a path.
-fn is_inherited(
+// Whether an operation or attribute is reached under the name at a path through the scope's bases, and whether anything is.
+fn brought(
     view: View<'_>,
     log: &mut Journal<Env>,
     scope: &Scope,
     path: &Path,
-) -> Result<bool, AllocError>
+) -> Result<(bool, bool), AllocError>
     ensures { IfOk result (λ b. (turns : ℕ)
         → HasTurnsFor view.entry.env.now view.entry.own.now.additions turns
         → (b, log.new)
         ≡ run key_eq
         (under view.entry.own.now.additions
         (and_then (inherited turns scope.now (folded (name_of path.now)))
-        (λ found. Done (list_any is_operation found))))
+        (λ found. Done (list_any is_operation found, is_any found))))
         (answers view.entry.env.now) log.old) }
 {
     if !scope.kind.inherits() {
-        return Ok(false);
+        return Ok((false, false));
     }
     let entity = view.standing_at(log, &scope.path)?;
     let name = path.folded(view.env.alloc())?;
     let found = view.reached(log, &name, bases_of(entity))?;
-    Ok(has_operation(found.as_slice()))
+    Ok((has_operation(found.as_slice()), is_any(found.as_slice())))
 }
 
 // The bases of an entity that count.
@@ -155,4 +158,14 @@ fn has_operation(entities: &[&Shared<Entity>]) -> bool
         }
     }
     false
+}
+
+// Whether there is any.
+fn is_any(entities: &[&Shared<Entity>]) -> bool
+    ensures { result ≡ is_any (map (λ e. e.now) entities.now) }
+{
+    let [_first, ..] = entities else {
+        return false;
+    };
+    true
 }

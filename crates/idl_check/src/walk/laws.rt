@@ -281,7 +281,7 @@ pub fn denoting()
     ensures inherited { (facts : List UnitFacts) (turns : ℕ) (w : Walk) (s : Scope) (e : Entity)
         → turns_for facts ≤ turns
         → let query = under w.own (standing (turns_at turns w) s e) in
-        ((outcome query (answers facts)).is_inherited ≡ true)
+        ((outcome query (answers facts)).brings_operation ≡ true)
         ↔ ((f : Entity)
         × InheritsOperation (seen w.own facts) s (folded (name_of e.path)) f) }
 {}

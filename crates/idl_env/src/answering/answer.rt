@@ -129,7 +129,10 @@ pub fn identity_in(answer: Option<&Answer>) -> Result<Option<Identity>, AllocErr
     match answer {
         Some(Answer::Appeared(shared)) => {
             let prefix = shared.clone()?;
-            Ok(Some(Identity { prefix, fixed: None }))
+            Ok(Some(Identity {
+                prefix,
+                fixed: None,
+            }))
         }
         Some(Answer::Identified(fixed)) => Ok(Some(fixed.get().identity()?)),
         _ => Ok(None),

@@ -1,8 +1,7 @@
-use Rattle.std.proofs.Common.{◌+◌, sym, ◌∙◌, ap}
+use Rattle.std.proofs.Common.{◌+◌, sym, ◌∙◌}
 use Rattle.std.proofs.lemmas.Result.{IfOk-weaker}
 use Rattle.idl_check.proofs.PragmaLaws.PragmaLemmas.{given_id, id-bad, id-given, id-sound, text-none, text-there, verdict-faulty, verdict-sound}
 use Rattle.idl_check.specs.tables.Rules.{is_id}
-use Rattle.idl_check.specs.walk.Verdict.{pragma_verdict}
 use Rattle.idl_fault.specs.declared.code.Code.TheVariants.{BadIdText, RepeatedId}
 use Rattle.idl_env.specs.declared.additions.addition.Step.TheVariants.{Stays}
 use Rattle.idl_entity.specs.declared.identity.Fixed.TheVariants.{Id}
@@ -30,7 +29,7 @@ returns-in-Some c =
     let text = c.args.text.now in
     let at = c.args.at in
     let no = sym c.in_ok-is_again.ensures ∙ c.if-is_again.false in
-    let there = text-there (is_id text) text c.in-Some.id (sym c.in-Some.is ∙ c.in_ok-id_text.ensures) in
+    let there = text-there (is_id text) text c.in-Some.id (sym c.in-Some.is ∙ c.in_ok-spelled.ensures) in
     let identity = c.in_ok-identity.ensures ∙ (λ i. changed (Id (there.1 i)) d) in
     IfOk-weaker c.identifying.result _ _
     (λ v gives.
@@ -50,7 +49,7 @@ returns c =
     let text = c.args.text.now in
     let at = c.args.at in
     let no = sym c.in_ok-is_again.ensures ∙ c.if-is_again.false in
-    let bad = text-none (is_id text) text (sym c.in-None.is ∙ c.in_ok-id_text.ensures) in
+    let bad = text-none (is_id text) text (sym c.in-None.is ∙ c.in_ok-spelled.ensures) in
     IfOk-weaker c.refused-in-None.result _ _
     (λ v gives. gives ∙ sym (verdict-faulty (given_id at text path d) (fault_at (at + 1) BadIdText) (id-bad at text path d no bad)))
     c.refused-in-None.ensures

@@ -12,7 +12,7 @@ pub returns-in-Some : goal.returns-in-Some
 returns-in-Some c =
     let text = c.args.text.now in
     let at = c.args.at in
-    let there = text-there (is_id text) text c.in-Some._id (sym c.in-Some.is ∙ c.in_ok-id_text.ensures) in
+    let there = text-there (is_id text) text c.in-Some._id (sym c.in-Some.is ∙ c.in_ok-spelled.ensures) in
     IfOk-weaker c.adding.result _ _
     (λ v gives. gives ∙ sym (verdict-sound (with_faults (text_faults at text) (refused_for [])) (text-sound at text there.0)))
     c.adding.ensures
@@ -21,7 +21,7 @@ pub returns : goal.returns
 returns c =
     let text = c.args.text.now in
     let at = c.args.at in
-    let bad = text-none (is_id text) text (sym c.in-None.is ∙ c.in_ok-id_text.ensures) in
+    let bad = text-none (is_id text) text (sym c.in-None.is ∙ c.in_ok-spelled.ensures) in
     IfOk-weaker c.refused.result _ _
     (λ v gives. gives ∙ sym (verdict-faulty (with_faults (text_faults at text) (refused_for [])) (fault_at at BadIdText) (text-bad at text bad)))
     c.refused.ensures

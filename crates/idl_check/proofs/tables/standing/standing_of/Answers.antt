@@ -26,15 +26,16 @@ returns c = λ turns h.
     let is_used = c.in_ok-is_used.ensures.used ∙ (λ i. is_some (seen_at own bank (Introduced (folded (name_of (c.path-2.ensures i))) s.path s.body))) in
     let logged = c.in_ok-there.ensures.logged ∙ (λ i. noted key_eq bank log (entity_key (c.path.ensures i))) ∙ ap (λ p. noted key_eq bank log (Declared n p)) c.requires in
     let logs = c.in_ok-is_used.ensures.logged ∙ (λ i. noted key_eq bank (logged i) (Introduced (folded (name_of (c.path-2.ensures i))) s.path s.body)) in
-    let last = c.in_ok-is_inherited.ensures turns h ∙ (λ i. runs own bank (and_then (inherited turns s (folded (name_of (c.path-3.ensures i)))) counted) (logs i)) in
-    let told = c.in_ok-ids.ensures ∙ ap (λ t. runs own bank (ids_of t e) c.is_inherited.new.log) there in
+    let last = c.in_ok-brought.ensures turns h ∙ (λ i. runs own bank (and_then (inherited turns s (folded (name_of (c.path-3.ensures i)))) counted) (logs i)) in
+    let told = c.in_ok-ids.ensures ∙ ap (λ t. runs own bank (ids_of t e) c.brought.new.log) there in
     (λ i. (
       record {
         there = there i;
         is_used = is_used i;
-        is_inherited = c.in_ok-is_inherited.is_inherited;
+        brings_operation = c.in_ok-brought.brought.0;
+        is_reached = c.in_ok-brought.brought.1;
         ids = c.in_ok-ids.ids;
       },
       c.ids_of.new.log,
     ))
-    ∙ sym (standing_by own bank turns s e log c.in_ok-is_inherited.is_inherited c.is_inherited.new.log c.in_ok-ids.ids c.ids_of.new.log last told)
+    ∙ sym (standing_by own bank turns s e log c.in_ok-brought.brought c.brought.new.log c.in_ok-ids.ids c.ids_of.new.log last told)

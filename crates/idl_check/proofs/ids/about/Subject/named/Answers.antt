@@ -1,4 +1,4 @@
-use Rattle.std.proofs.Common.{◌∷◌, [], Ok, Err, sym, ap, ◌∙◌, arith}
+use Rattle.std.proofs.Common.{◌+◌, ◌∷◌, [], Err, sym, ap, ◌∙◌, arith}
 use Rattle.idl_check.proofs.PartLemmas.{part-within}
 use Rattle.idl_check.proofs.PragmaLaws.PragmaLemmas.{about-named, about-none, named-found, named-unfound}
 use Rattle.idl_check.specs.walk.Held.{named_by, said_of}
@@ -15,8 +15,8 @@ use Rattle.idl_env.specs.Turns.{turns_among, turns_for}
 use Rattle.idl_unit.specs.TokenRules.{fault_at}
 use Rattle.idl_check.proofs.ids.about.Subject.named.Goals as goal
 
-pub returns-clause-said-then-not-has_id : goal.returns-clause-said-then-not-has_id
-returns-clause-said-then-not-has_id c = λ turns more change.
+pub returns-then-not-has_id-clause-said : goal.returns-then-not-has_id-clause-said
+returns-then-not-has_id-clause-said c = λ turns more change.
     let own = c.args.self.own.now.additions in
     let bank = answers c.args.self.env.now in
     let first = c.args.self.first in
@@ -31,8 +31,11 @@ returns-clause-said-then-not-has_id c = λ turns more change.
     ∙ sym (about-none own bank change (last_at first name) found.entity after none)
     ∙ sym (named-found own bank change first turns scopes name log found after gives)
 
-pub returns-clause-said-in-Ok : goal.returns-clause-said-in-Ok
-returns-clause-said-in-Ok c = λ turns more change.
+pub returns-then-not-has_id-clause-place : goal.returns-then-not-has_id-clause-place
+returns-then-not-has_id-clause-place c = omega (arith, c.last_at.ensures)
+
+pub returns-in-Ok-clause-said : goal.returns-in-Ok-clause-said
+returns-in-Ok-clause-said c = λ turns more change.
     let own = c.args.self.own.now.additions in
     let bank = answers c.args.self.env.now in
     let first = c.args.self.first in

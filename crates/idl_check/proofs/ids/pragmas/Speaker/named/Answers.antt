@@ -1,4 +1,4 @@
-use Rattle.std.proofs.Common.{sym, ap, ◌∙◌}
+use Rattle.std.proofs.Common.{◌∙◌}
 use Rattle.std.proofs.lemmas.Result.{IfOk-weaker}
 use Rattle.idl_check.proofs.Visits.JudgeLemmas.{turns-none, under-none}
 use Rattle.idl_check.proofs.Visits.VisitLemmas.{runs_over}

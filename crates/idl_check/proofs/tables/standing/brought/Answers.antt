@@ -1,6 +1,7 @@
 use Rattle.std.proofs.Common.{◌+◌, arith, sym, ap, ◌∙◌, map}
 use Rattle.std.specs.List.{list_any}
 use Rattle.idl_check.proofs.StandingLemmas.{inherited_some}
+use Rattle.idl_check.specs.tables.Declaring.{is_any}
 use Rattle.idl_lex.specs.kinds.Keywords.{folded}
 use Rattle.idl_memo.specs.Query.{noted}
 use Rattle.idl_scope.proofs.LookupLaws.LookupLaws.{reached-more}
@@ -10,7 +11,7 @@ use Rattle.idl_env.specs.Facts.{answers, entity_key}
 use Rattle.idl_env.specs.keys.Key.{key_eq}
 use Rattle.idl_scope.specs.Lookup.{bases_of, reached}
 use Rattle.idl_entity.specs.Path.{name_of}
-use Rattle.idl_check.proofs.tables.standing.is_inherited.Goals as goal
+use Rattle.idl_check.proofs.tables.standing.brought.Goals as goal
 
 pub returns : goal.returns
 returns c = λ turns h.
@@ -25,5 +26,6 @@ returns c = λ turns h.
     ∙ reached-more c.args.view.env.now own turns h 18446744073709551615 n s.path (noted key_eq bank log (entity_key s.path)) in
     let is = sym c.inherits.ensures ∙ c.if-not-inherits.false in
     let counts = c.has_operation.ensures ∙ ap (λ es. list_any is_operation (map (λ e. e.now) es)) c.as_slice.ensures.value in
-    (λ i. (counts i, c.reached.new.log))
+    let some = c.is_any.ensures ∙ ap (λ es. is_any (map (λ e. e.now) es)) c.as_slice-2.ensures.value in
+    (λ i. ((counts i, some i), c.reached.new.log))
     ∙ sym (inherited_some own bank turns s n log _ _ is gives)
