@@ -1,5 +1,5 @@
 -- When two kinds of entities, or two stages, are one.
-use Rattle.std.specs.Prelude.{◌≡◌, ℕ, Bool, true, ◌==◌, if◌then◌else◌, nat_eq, refl, false}
+use Rattle.std.specs.Prelude.{◌≡◌, ℕ, Bool, true, ◌==◌, ◌||◌, if◌then◌else◌, nat_eq, refl, false}
 use Rattle.std.proofs.Common.{ap, sym, ◌∙◌}
 use Rattle.idl_base.specs.Exact.{same_number}
 use Rattle.idl_entity.specs.declared.kind.Kind.{Kind}
@@ -84,7 +84,7 @@ has_bases Complete = true
 
 -- whether a scope of this kind has what its bases have
 abbrev pub inherits : Kind → Bool
-inherits kind = kind_eq kind Interface
+inherits kind = kind_eq kind Interface || kind_eq kind Structure
 
 -- whether further parts of a name are looked for in an entity of this kind
 abbrev pub is_scope : Kind → Bool

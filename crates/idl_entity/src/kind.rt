@@ -2,6 +2,7 @@
 
 ghost use Rattle.std.specs.Prelude.{◌≡◌};
 ghost use Rattle.std.specs.Cmp.{on_equiv, on_per, partial_equiv_from_equiv, nat_eq_equiv};
+ghost use Rattle.idl_entity.specs.declared.kind.Kind.TheVariants.{Interface};
 ghost use Rattle.idl_entity.specs.Kind.{kind_number, kind_eq, same_kind, stage_number, stage_eq, same_stage, has_bases, inherits, is_scope};
 
 use idl_base::Datum;
@@ -66,6 +67,13 @@ impl Kind {
     /// Whether a scope of this kind has what its bases have.
     pub fn inherits(self) -> bool
         ensures { result ≡ inherits self }
+    {
+        self == Kind::Interface || self == Kind::Structure
+    }
+
+    /// Whether it is that of an interface.
+    pub fn is_interface(self) -> bool
+        ensures { result ≡ kind_eq self Interface }
     {
         self == Kind::Interface
     }

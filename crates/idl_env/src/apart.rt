@@ -75,7 +75,7 @@ impl Env {
         let Some((innermost, _outer)) = closable(scopes) else {
             return Ok(());
         };
-        if !innermost.kind.inherits() {
+        if !innermost.kind.is_interface() {
             return Ok(());
         }
         let key = Key::of_entity(self.alloc(), &innermost.path)?;

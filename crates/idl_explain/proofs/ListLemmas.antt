@@ -23,7 +23,8 @@ all_codes =
     topic.Code code.NameOfScope ∷ topic.Code code.DeclaredAfterUse ∷ topic.Code code.LikeKeyword ∷
     topic.Code code.WrongKind ∷ topic.Code code.NoScope ∷ topic.Code code.OtherForward ∷
     topic.Code code.IncompleteBase ∷ topic.Code code.RepeatedBase ∷ topic.Code code.DeclaredAgain ∷
-    topic.Code code.LocalBase ∷ topic.Code code.OtherType ∷ topic.Code code.OutOfRange ∷
+    topic.Code code.LocalBase ∷ topic.Code code.ReachedThroughBase ∷ topic.Code code.OtherType ∷
+    topic.Code code.OutOfRange ∷
     topic.Code code.DivisionByZero ∷ topic.Code code.BadShift ∷ topic.Code code.BoundNotPositive ∷
     topic.Code code.NoConstantType ∷ topic.Code code.IncompleteType ∷ topic.Code code.BadDiscriminator ∷
     topic.Code code.RepeatedLabel ∷ topic.Code code.UselessDefault ∷ topic.Code code.BadOneway ∷
@@ -79,24 +80,25 @@ code-listed code.IncompleteBase = (36, omega arith, refl)
 code-listed code.RepeatedBase = (37, omega arith, refl)
 code-listed code.DeclaredAgain = (38, omega arith, refl)
 code-listed code.LocalBase = (39, omega arith, refl)
-code-listed code.OtherType = (40, omega arith, refl)
-code-listed code.OutOfRange = (41, omega arith, refl)
-code-listed code.DivisionByZero = (42, omega arith, refl)
-code-listed code.BadShift = (43, omega arith, refl)
-code-listed code.BoundNotPositive = (44, omega arith, refl)
-code-listed code.NoConstantType = (45, omega arith, refl)
-code-listed code.IncompleteType = (46, omega arith, refl)
-code-listed code.BadDiscriminator = (47, omega arith, refl)
-code-listed code.RepeatedLabel = (48, omega arith, refl)
-code-listed code.UselessDefault = (49, omega arith, refl)
-code-listed code.BadOneway = (50, omega arith, refl)
-code-listed code.OtherPrefix = (51, omega arith, refl)
-code-listed code.RepeatedId = (52, omega arith, refl)
-code-listed code.RepeatedVersion = (53, omega arith, refl)
-code-listed code.BadIdText = (54, omega arith, refl)
-code-listed code.NoRepositoryId = (55, omega arith, refl)
-code-listed code.NeverDefined = (56, omega arith, refl)
-code-listed code.InterfaceNeverDefined = (57, omega arith, refl)
+code-listed code.ReachedThroughBase = (40, omega arith, refl)
+code-listed code.OtherType = (41, omega arith, refl)
+code-listed code.OutOfRange = (42, omega arith, refl)
+code-listed code.DivisionByZero = (43, omega arith, refl)
+code-listed code.BadShift = (44, omega arith, refl)
+code-listed code.BoundNotPositive = (45, omega arith, refl)
+code-listed code.NoConstantType = (46, omega arith, refl)
+code-listed code.IncompleteType = (47, omega arith, refl)
+code-listed code.BadDiscriminator = (48, omega arith, refl)
+code-listed code.RepeatedLabel = (49, omega arith, refl)
+code-listed code.UselessDefault = (50, omega arith, refl)
+code-listed code.BadOneway = (51, omega arith, refl)
+code-listed code.OtherPrefix = (52, omega arith, refl)
+code-listed code.RepeatedId = (53, omega arith, refl)
+code-listed code.RepeatedVersion = (54, omega arith, refl)
+code-listed code.BadIdText = (55, omega arith, refl)
+code-listed code.NoRepositoryId = (56, omega arith, refl)
+code-listed code.NeverDefined = (57, omega arith, refl)
+code-listed code.InterfaceNeverDefined = (58, omega arith, refl)
 
 pub refusal-listed : (r : Refusal) → Contains all_refusals (topic.Refusal r)
 refusal-listed refusal.Malformed = (0, omega arith, refl)

@@ -11,7 +11,7 @@ use crate::{meaning, spelling};
 use idl_fault::Code;
 
 /// All codes, in the order of their numbers.
-pub const CODES: [Topic; 58] = [
+pub const CODES: [Topic; 59] = [
     Topic::Code(Code::BadToken),
     Topic::Code(Code::UnclosedLiteral),
     Topic::Code(Code::NotOneCharacter),
@@ -52,6 +52,7 @@ pub const CODES: [Topic; 58] = [
     Topic::Code(Code::RepeatedBase),
     Topic::Code(Code::DeclaredAgain),
     Topic::Code(Code::LocalBase),
+    Topic::Code(Code::ReachedThroughBase),
     Topic::Code(Code::OtherType),
     Topic::Code(Code::OutOfRange),
     Topic::Code(Code::DivisionByZero),
@@ -117,6 +118,7 @@ pub fn of_code(code: Code) -> &'static Explanation
         Code::RepeatedBase => &meaning::REPEATED_BASE,
         Code::DeclaredAgain => &meaning::DECLARED_AGAIN,
         Code::LocalBase => &meaning::LOCAL_BASE,
+        Code::ReachedThroughBase => &meaning::REACHED_THROUGH_BASE,
         Code::OtherType => &meaning::OTHER_TYPE,
         Code::OutOfRange => &meaning::OUT_OF_RANGE,
         Code::DivisionByZero => &meaning::DIVISION_BY_ZERO,

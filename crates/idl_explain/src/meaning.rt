@@ -129,6 +129,14 @@ pub static LOCAL_BASE: Explanation = Explanation {
     hint: "Make the interface local, or the base not.",
 };
 
+pub static REACHED_THROUGH_BASE: Explanation = Explanation {
+    told: Told::Row(2, Code::ReachedThroughBase, "A"),
+    words: Words::Around("`", "` is reached through the base of the struct already"),
+    example: "struct B { long a; };\nstruct D : B { short A; };",
+    mended: "struct B { long a; };\nstruct D : B { short b; };",
+    hint: "What a struct declares needs a name of its own among all that its base has: members, types, enumerators; upper and lower case make no difference.",
+};
+
 pub static OTHER_TYPE: Explanation = Explanation {
     told: Told::Row(1, Code::OtherType, "1"),
     words: Words::Around("`", "` doesn't fit the type that is wanted"),

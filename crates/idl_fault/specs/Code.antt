@@ -1,7 +1,7 @@
 -- The codes of diagnostics.
 use Rattle.std.specs.Prelude.{ℕ, ◌+◌, ◌/◌, ◌%◌, Bool, true, false, List, [], ◌∷◌, if◌then◌else◌}
 use Rattle.idl_fault.specs.declared.code.Code.{Code}
-use Rattle.idl_fault.specs.declared.code.Code.TheVariants.{BadToken, UnclosedLiteral, NotOneCharacter, BadEscape, MalformedInteger, FloatingLiteral, IntegerTooLarge, MixedWidths, UnclosedComment, NotFound, MalformedInclude, OutOfPlace, NotClosed, MalformedMacro, UnknownDirective, Error, OtherDefinition, BadCondition, PastLimit, NoTree, LeftOut, MisplacedUnit, OpenScope, NestedTooDeep, PragmaInside, MalformedPragma, NameNotFound, AmbiguousName, OtherCase, AlreadyDeclared, NameOfScope, DeclaredAfterUse, LikeKeyword, WrongKind, NoScope, OtherForward, IncompleteBase, RepeatedBase, DeclaredAgain, LocalBase, OtherType, OutOfRange, DivisionByZero, BadShift, BoundNotPositive, NoConstantType, IncompleteType, BadDiscriminator, RepeatedLabel, UselessDefault, BadOneway, OtherPrefix, RepeatedId, RepeatedVersion, BadIdText, NoRepositoryId, NeverDefined, InterfaceNeverDefined}
+use Rattle.idl_fault.specs.declared.code.Code.TheVariants.{BadToken, UnclosedLiteral, NotOneCharacter, BadEscape, MalformedInteger, FloatingLiteral, IntegerTooLarge, MixedWidths, UnclosedComment, NotFound, MalformedInclude, OutOfPlace, NotClosed, MalformedMacro, UnknownDirective, Error, OtherDefinition, BadCondition, PastLimit, NoTree, LeftOut, MisplacedUnit, OpenScope, NestedTooDeep, PragmaInside, MalformedPragma, NameNotFound, AmbiguousName, OtherCase, AlreadyDeclared, NameOfScope, DeclaredAfterUse, LikeKeyword, WrongKind, NoScope, OtherForward, IncompleteBase, RepeatedBase, DeclaredAgain, LocalBase, ReachedThroughBase, OtherType, OutOfRange, DivisionByZero, BadShift, BoundNotPositive, NoConstantType, IncompleteType, BadDiscriminator, RepeatedLabel, UselessDefault, BadOneway, OtherPrefix, RepeatedId, RepeatedVersion, BadIdText, NoRepositoryId, NeverDefined, InterfaceNeverDefined}
 
 abbrev pub number_of : Code → ℕ
 number_of BadToken = 1
@@ -44,6 +44,7 @@ number_of IncompleteBase = 40
 number_of RepeatedBase = 41
 number_of DeclaredAgain = 42
 number_of LocalBase = 43
+number_of ReachedThroughBase = 44
 number_of OtherType = 50
 number_of OutOfRange = 51
 number_of DivisionByZero = 52

@@ -86,6 +86,8 @@ pub enum Code {
     DeclaredAgain,
     /// A local base of an unconstrained interface. (E43)
     LocalBase,
+    /// A name declared in a struct that is reached through its base. (E44)
+    ReachedThroughBase,
     /// An operand or a value of another kind than the target. (E50)
     OtherType,
     /// A value out of range. (E51)
@@ -171,6 +173,7 @@ impl Code {
             Code::RepeatedBase => 41,
             Code::DeclaredAgain => 42,
             Code::LocalBase => 43,
+            Code::ReachedThroughBase => 44,
             Code::OtherType => 50,
             Code::OutOfRange => 51,
             Code::DivisionByZero => 52,

@@ -14,11 +14,11 @@ use Rattle.idl_check.specs.told.Bodies.{Body}
 use Rattle.idl_check.specs.tables.Codes.{codes_in, faults_by}
 use Rattle.idl_check.specs.tables.Declaring.{declared_table, entity_of, inherited, is_any, standing, stays, with_declared}
 use Rattle.idl_check.specs.ids.Identifying.{ids_of, with_identity}
-use Rattle.idl_check.specs.tables.Rules.{has_other_prefix, is_ahead, is_declared, brings_operation, is_introduced, is_name_of_scope, is_other_ahead, may_be_ahead, may_follow}
+use Rattle.idl_check.specs.tables.Rules.{has_other_prefix, is_ahead, is_declared, brings_operation, is_introduced, is_name_of_scope, is_other_ahead, is_reached, may_be_ahead, may_follow}
 use Rattle.idl_check.specs.walk.Walk.{Walk, turns_at}
 use Rattle.idl_check.specs.declared.ids.identifying.Ids.{Ids}
 use Rattle.idl_check.specs.declared.tables.standing.Standing.{Standing}
-use Rattle.idl_fault.specs.declared.code.Code.TheVariants.{AlreadyDeclared, NameOfScope, DeclaredAfterUse, OtherForward, DeclaredAgain, OtherPrefix}
+use Rattle.idl_fault.specs.declared.code.Code.TheVariants.{AlreadyDeclared, NameOfScope, DeclaredAfterUse, OtherForward, DeclaredAgain, ReachedThroughBase, OtherPrefix}
 use Rattle.idl_lex.specs.kinds.Keywords.{folded}
 use Rattle.idl_memo.proofs.QueryLaws.{outcome-and_then}
 use Rattle.idl_memo.specs.Query.{Done, and_then, outcome}
@@ -65,20 +65,21 @@ AreSited (site ∷ sites) s = IsSited site s × AreSited sites (scene_after site
 -- none of its rows holds
 pub record IsAllowed (s : Scope) (st : Standing) (e : Entity) : Type 0 where
   pub declared : is_declared st.there e ≡ false
-  pub inherited : brings_operation st ≡ false
+  pub inherited : brings_operation s st ≡ false
 
 pub allowed : (n : ℕ) (s : Scope) (st : Standing) (e : Entity) → faults_by n (declared_table s st e) ≡ [] → IsAllowed s st e
 allowed n s st e h =
     let r5 = codes_in ((has_other_prefix st.ids, OtherPrefix) ∷ []) in
-    let r4 = cond (brings_operation st) (DeclaredAgain ∷ r5) r5 in
-    let r3 = cond (is_other_ahead st.there e) (OtherForward ∷ r4) r4 in
+    let r4 = cond (is_reached s st) (ReachedThroughBase ∷ r5) r5 in
+    let r0 = cond (brings_operation s st) (DeclaredAgain ∷ r4) r4 in
+    let r3 = cond (is_other_ahead st.there e) (OtherForward ∷ r0) r0 in
     let r2 = cond (is_introduced st) (DeclaredAfterUse ∷ r3) r3 in
     let r1 = cond (is_name_of_scope s e) (NameOfScope ∷ r2) r2 in
     let a = no-row (is_declared st.there e) AlreadyDeclared r1 (no-codes n (codes_in (declared_table s st e)) h) in
     let b = no-row (is_name_of_scope s e) NameOfScope r2 a.1 in
     let c = no-row (is_introduced st) DeclaredAfterUse r3 b.1 in
-    let d = no-row (is_other_ahead st.there e) OtherForward r4 c.1 in
-    let g = no-row (brings_operation st) DeclaredAgain r5 d.1 in
+    let d = no-row (is_other_ahead st.there e) OtherForward r0 c.1 in
+    let g = no-row (brings_operation s st) DeclaredAgain r4 d.1 in
     record { declared = a.0; inherited = g.0 }
 
 or-second : (a b : Bool) → a ≡ false → (a || b) ≡ true → b ≡ true
@@ -227,7 +228,7 @@ module _ (facts : List UnitFacts) (k : IsSettled (world facts)) (turns : ℕ) (e
     inner-here (Around level path paths o) = let same = ap length path in omega (arith, same)
     inner-here (Begun-in place longer level) = omega (arith, longer)
 
-    pub apart-here : brings_operation st ≡ false → Stands w.own scene.level s → s.path ≡ path_around scopes → (f y : Entity) → there D (path_around scopes) ≡ Some f → f.path ≡ path_around scopes → f.kind ≡ kind.Interface
+    pub apart-here : brings_operation s st ≡ false → Stands w.own scene.level s → s.path ≡ path_around scopes → (f y : Entity) → there D (path_around scopes) ≡ Some f → f.path ≡ path_around scopes → f.kind ≡ kind.Interface
         → Through (only D) (folded name) (bases_of (Some f)) y → is_operation y ≡ true → ⊥
     apart-here inherited_no (Begun-in place longer level) path f y at at_path interface t operation = let same = ap length path in let none : ⊥ = omega (arith, longer, same) in none
     apart-here inherited_no (Around level path paths o) same f y at at_path interface t operation =
@@ -240,7 +241,7 @@ module _ (facts : List UnitFacts) (k : IsSettled (world facts)) (turns : ℕ) (e
         let on : Through (only B) (folded name) f.bases y = through-on D B keeps k.whole (folded name) held.base (subst (λ bs. Through (only D) (folded name) bs y) bases t) in
         let told : Through (only B) (folded name) (bases_of (there B s.path)) y = subst (λ bs. Through (only B) (folded name) bs y) (sym (ap bases_of stays_f ∙ bases)) on in
         let all : InheritsOperation (seen w.own facts) s (folded name) y = (ap inherits scope_kind, (through-only (seen w.own facts) (folded name) told, operation)) in
-        let yes : brings_operation st ≡ true = (standing-inherited facts turns w s e enough).1 (y, all) in
+        let yes : brings_operation s st ≡ true = ap (λ k. kind_eq k kind.Interface && st.brings_operation) scope_kind ∙ (standing-inherited facts turns w s e enough).1 (y, all) in
         let z : true ≡ false = sym yes ∙ inherited_no in cc
 
     module _ (sited : IsSited (item.Declares way name) scene) (ok : IsAllowed s st e) where

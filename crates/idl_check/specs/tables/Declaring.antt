@@ -4,9 +4,9 @@ use Rattle.std.specs.List.{list_any}
 use Rattle.idl_check.specs.told.Bodies.{Clauses, signature_of}
 use Rattle.idl_check.specs.tables.Codes.{Table}
 use Rattle.idl_check.specs.ids.Identifying.{ids_of, with_identity}
-use Rattle.idl_check.specs.tables.Rules.{has_other_prefix, is_ahead, is_declared, brings_operation, is_introduced, is_name_of_scope, is_other_ahead, is_there, may_follow}
+use Rattle.idl_check.specs.tables.Rules.{has_other_prefix, is_ahead, is_declared, brings_operation, is_introduced, is_name_of_scope, is_other_ahead, is_reached, is_there, may_follow}
 use Rattle.idl_check.specs.declared.tables.standing.Standing.{Standing}
-use Rattle.idl_fault.specs.declared.code.Code.TheVariants.{AlreadyDeclared, NameOfScope, DeclaredAfterUse, OtherForward, DeclaredAgain, OtherPrefix}
+use Rattle.idl_fault.specs.declared.code.Code.TheVariants.{AlreadyDeclared, NameOfScope, DeclaredAfterUse, OtherForward, DeclaredAgain, ReachedThroughBase, OtherPrefix}
 use Rattle.idl_lex.specs.kinds.Keywords.{folded}
 use Rattle.idl_memo.specs.Query.{Done, Ask, and_then}
 use Rattle.idl_entity.specs.DataType.{plain_type}
@@ -179,7 +179,8 @@ declared_table s standing e =
     ∷ (is_name_of_scope s e, NameOfScope)
     ∷ (is_introduced standing, DeclaredAfterUse)
     ∷ (is_other_ahead standing.there e, OtherForward)
-    ∷ (brings_operation standing, DeclaredAgain)
+    ∷ (brings_operation s standing, DeclaredAgain)
+    ∷ (is_reached s standing, ReachedThroughBase)
     ∷ (has_other_prefix standing.ids, OtherPrefix) ∷ []
 
 -- what is there already stays as it is where a module is opened again, or where it is declared

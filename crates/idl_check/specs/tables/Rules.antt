@@ -144,12 +144,16 @@ is_another operations p =
 abbrev pub brings_another : List (List ℕ × List (List ℕ)) → Entity → Bool
 brings_another operations e = list_any (is_another operations) e.operations
 
-abbrev pub brings_operation : Standing → Bool
-brings_operation standing = standing.brings_operation
+abbrev pub brings_operation : Scope → Standing → Bool
+brings_operation s standing = kind_eq s.kind Interface && standing.brings_operation
 
 -- E43: A base is not `local` unless the interface is.
 abbrev pub is_local_base : Bool → Entity → Bool
 is_local_base is_local e = e.is_local && not is_local
+
+-- E44: Nothing is declared in a struct under a name that is reached through its base.
+abbrev pub is_reached : Scope → Standing → Bool
+is_reached s standing = kind_eq s.kind Structure && standing.is_reached
 
 -- E56: A constant is of a type of which constants are, written out or behind typedefs.
 abbrev pub has_no_constants : Option ConstantType → Bool

@@ -396,7 +396,14 @@ pub fn declared_code(scope: &Scope, standing: &Standing, new: &Entity) -> Option
         (is_own, Code::NameOfScope),
         (standing.is_used, Code::DeclaredAfterUse),
         (is_other, Code::OtherForward),
-        (standing.brings_operation, Code::DeclaredAgain),
+        (
+            scope.kind == Kind::Interface && standing.brings_operation,
+            Code::DeclaredAgain,
+        ),
+        (
+            scope.kind == Kind::Structure && standing.is_reached,
+            Code::ReachedThroughBase,
+        ),
         (is_of_other_prefix(&standing.ids), Code::OtherPrefix),
     ])
 }

@@ -9,7 +9,8 @@ use Rattle.idl_env.specs.Facts.{World, addition_at, after_closing, after_opening
 use Rattle.idl_env.specs.Held.{closable, held}
 use Rattle.idl_entity.specs.Identity.{no_prefix}
 use Rattle.idl_env.specs.keys.Key.{key_eq}
-use Rattle.idl_entity.specs.Kind.{inherits}
+use Rattle.idl_entity.specs.Kind.{kind_eq}
+use Rattle.idl_entity.specs.declared.kind.Kind.TheVariants.{Interface}
 use Rattle.idl_env.specs.declared.additions.addition.Addition.{Addition}
 use Rattle.idl_env.specs.declared.additions.addition.Addition.TheVariants.{Declares, Uses, Appears, Identifies}
 use Rattle.idl_env.specs.declared.answering.answer.Answer.{Answer}
@@ -87,7 +88,7 @@ first-answers Cursor = refl
 first-answers other = refl
 
 -- an interface that closes
-pub closing_is : (w : World) (s : Scope) (e : Entity) → inherits s.kind ≡ true → entity_in (w.answers (entity_key s.path)) ≡ Some e → closing w s ≡ Declares (closed w e) ∷ []
+pub closing_is : (w : World) (s : Scope) (e : Entity) → kind_eq s.kind Interface ≡ true → entity_in (w.answers (entity_key s.path)) ≡ Some e → closing w s ≡ Declares (closed w e) ∷ []
 closing_is w s e h is =
     ap (λ b. cond b (elim (entity_in (w.answers (entity_key s.path))) [ None ↦ [] | Some e ↦ Declares (closed w e) ∷ [] ]) []) h
     ∙ ap (λ o. elim o [ None ↦ [] | Some e ↦ Declares (closed w e) ∷ [] ]) is

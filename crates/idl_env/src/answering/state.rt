@@ -241,7 +241,7 @@ impl State {
             closing (held self.now) scope.now
             ≡ map Declares (option_to_list entity)) }
     {
-        if !scope.kind.inherits() {
+        if !scope.kind.is_interface() {
             return Ok(None);
         }
         let key = LentKey::of_entity(alloc, &scope.path);

@@ -13,7 +13,7 @@ returns c =
     let entries = c.args.self.now.answers in
     let inside = c.args.self.now.inside.items in
     let e = c.in-Some.entity.now in
-    let one = sym c.inherits.ensures ∙ c.if-not-inherits.false in
+    let one = sym c.is_interface.ensures ∙ c.if-not-is_interface.false in
     let there = ap (λ q. entity_in (lookup (key_eq q) entries)) (sym c.of_entity-key.ensures) ∙ ap entity_in (sym c.in_ok-get_lent.ensures) ∙ sym c.in-Some.ensures in
     let operations = c.in_ok-operations.ensures ∙ ap (λ x. inherited (kept entries) x.bases ++ innermost (reverse inside)) c.get-interface.ensures in
     let new = c.in_ok-new.ensures ∙ c.in_ok-closed.ensures ∙ (λ i. record (c.get-interface.ensures i) { stage = Complete; operations = operations i }) in
