@@ -5,7 +5,7 @@ use Rattle.std.proofs.lemmas.List.{append-nil}
 use Rattle.idl_repo.proofs.WriteLemmas.{ids_in-append}
 use Rattle.idl_repo.specs.Pieces.{IdOf, Pieces, Says, asked_of, commas, ids_in, says}
 use Rattle.idl_repo.specs.Referred.{Paths, listed_bases, named_by, named_by_labels, named_by_member, named_in, referred, referred_by_attribute, referred_by_coded, referred_by_operation, referred_in}
-use Rattle.idl_repo.specs.Row.{attribute_pieces, bases_pieces, coded_pieces, constant_pieces, operation_pieces, parameter_pieces, raised_by_set_of, raised_of, references, row_pieces, contexts_of, contexts_word}
+use Rattle.idl_repo.specs.Row.{attribute_pieces, base_pieces, bases_pieces, coded_pieces, constant_pieces, operation_pieces, parameter_pieces, raised_by_set_of, raised_of, references, row_pieces, contexts_of, contexts_word}
 use Rattle.idl_repo.specs.TypeCode.{code_pieces, element_pieces, entries_of, entry_pieces, kind_in, labelled_pieces, listed_value, member_pieces, members_of, part_pieces, reference, type_behind, type_pieces, typed_pieces}
 use Rattle.idl_repo.specs.declared.type_code.TypeCodeKind.{TypeCodeKind}
 use Rattle.idl_repo.specs.declared.type_code.TypeCodeKind.TheVariants as code
@@ -105,13 +105,19 @@ tell-parts other e = tell-nothing
 tell-code : (k : TypeCodeKind) (e : Entity) → Tell (code_pieces k e) (e.path ∷ referred_in k e)
 tell-code k e = tell-text _ (tell-text _ (tell-id e.path (tell-text _ (tell-text _ (tell-end _ (tell-parts k e))))))
 
-bases-by : (is_interface : Bool) (paths : Paths) → Tell (if is_interface then Says (codes " bases(") ∷ (references paths ++ says (codes ")")) else []) (if is_interface then paths else [])
-bases-by true paths = tell-text _ (tell-end _ (tell-references paths))
-bases-by false paths = tell-nothing
+tell-base : (paths : Paths) → Tell (base_pieces paths) paths
+tell-base [] = tell-nothing
+tell-base (path ∷ paths) = tell-text _ (tell-end _ (tell-references (path ∷ paths)))
+
+bases-by : (is_interface is_structure : Bool) (paths : Paths)
+    → Tell (if is_interface then Says (codes " bases(") ∷ (references paths ++ says (codes ")")) else if is_structure then base_pieces paths else []) (if is_interface then paths else if is_structure then paths else [])
+bases-by true b paths = tell-text _ (tell-end _ (tell-references paths))
+bases-by false true paths = tell-base paths
+bases-by false false paths = tell-nothing
 
 coded-by : (k : Option TypeCodeKind) (e : Entity) → Tell (elim k [ None ↦ [] | Some code ↦ Says (codes " ") ∷ (code_pieces code e ++ bases_pieces e) ]) (elim k [ None ↦ [] | Some code ↦ e.path ∷ (referred_in code e ++ listed_bases e) ])
 coded-by None e = tell-nothing
-coded-by (Some k) e = tell-text _ (tell-then (tell-code k e) (bases-by (kind_eq e.kind kind.Interface) e.bases))
+coded-by (Some k) e = tell-text _ (tell-then (tell-code k e) (bases-by (kind_eq e.kind kind.Interface) (kind_eq e.kind kind.Structure) e.bases))
 
 tell-coded : (e : Entity) → Tell (coded_pieces e) (referred_by_coded e)
 tell-coded e = coded-by (kind_in e) e

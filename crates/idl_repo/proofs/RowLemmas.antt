@@ -1,10 +1,10 @@
 -- The row of a name that has a TypeCode.
-use Rattle.std.proofs.Common.{◌≡◌, ◌≢◌, ◌∙◌, ℕ, Bool, List, [], ◌∷◌, ◌++◌, Option, Some, None, refl, sym, ap, append_assoc, codes}
+use Rattle.std.proofs.Common.{◌≡◌, ◌≢◌, ◌∙◌, ℕ, ◌<◌, ◌≤◌, Bool, List, [], ◌∷◌, ◌++◌, Option, Some, None, refl, sym, ap, append_assoc, arith, codes, length}
 use Rattle.std.specs.Prelude.{if◌then◌else◌}
 use Rattle.idl_memo.specs.Query.{noted}
-use Rattle.idl_repo.proofs.WriteLemmas.{grows-as, grows-known, id-then, says-then}
-use Rattle.idl_repo.specs.Pieces.{Grows, Pieces, Says, State}
-use Rattle.idl_repo.specs.Row.{attribute_pieces, bases_pieces, behind_id, coded_pieces, constant_pieces, operation_pieces}
+use Rattle.idl_repo.proofs.WriteLemmas.{grows-as, grows-known, grows-nothing, id-then, says-then}
+use Rattle.idl_repo.specs.Pieces.{Grows, Pieces, Says, State, says}
+use Rattle.idl_repo.specs.Row.{attribute_pieces, base_pieces, bases_pieces, behind_id, coded_pieces, constant_pieces, operation_pieces, references}
 use Rattle.idl_repo.specs.TypeCode.{code_head, code_kind, code_pieces, code_word, kind_in, rest_pieces}
 use Rattle.idl_repo.specs.declared.type_code.TypeCodeKind.{TypeCodeKind}
 use Rattle.idl_env.specs.Facts.{UnitFacts, answers, id_at}
@@ -50,3 +50,12 @@ pub behind-nothing : (e : Entity) → kind_in e ≡ None → e.kind ≢ kind.Con
 behind-nothing e none x y z =
     let coded : coded_pieces e ≡ [] = ap (λ (k : Option TypeCodeKind). elim k [ None ↦ [] | Some c ↦ Says (codes " ") ∷ (code_pieces c e ++ bases_pieces e) ]) none in
     sym (by-other e.kind (constant_pieces e) (attribute_pieces e) (operation_pieces e) (coded_pieces e) x y z ∙ coded)
+
+-- a struct has no base, or tells it as it is referred to
+pub no-base : {s : State} (paths : List (List (List ℕ))) → length paths < 1 → Grows (base_pieces paths) s s
+no-base [] h = grows-nothing
+no-base (path ∷ paths) h = absurd (omega arith)
+
+pub some-base : (paths : List (List (List ℕ))) → 1 ≤ length paths → Says (codes " base(") ∷ (references paths ++ says (codes ")")) ≡ base_pieces paths
+some-base [] h = absurd (omega arith)
+some-base (path ∷ paths) h = refl

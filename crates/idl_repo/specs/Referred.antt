@@ -42,7 +42,9 @@ referred_in other e = []
 
 -- those of an interface's bases
 abbrev pub listed_bases : Entity → Paths
-listed_bases e = if kind_eq e.kind kind.Interface then e.bases else []
+listed_bases e =
+    if kind_eq e.kind kind.Interface then e.bases
+    else if kind_eq e.kind kind.Structure then e.bases else []
 
 -- of a row with a TypeCode: its own path is told again there
 abbrev pub referred_by_coded : Entity → Paths

@@ -44,12 +44,18 @@ raised_by_set_of e = elim e.signature [ None ↦ [] | Some s ↦ s.raised_by_set
 abbrev pub contexts_of : Entity → List (List ℕ)
 contexts_of e = elim e.signature [ None ↦ [] | Some s ↦ s.contexts ]
 
--- ID TC, and of an interface ID TC bases(REF,..)
+-- the base of a struct, if it has one
+abbrev pub base_pieces : List (List (List ℕ)) → Pieces
+base_pieces [] = []
+base_pieces (path ∷ paths) =
+    Says (codes " base(") ∷ (references (path ∷ paths) ++ says (codes ")"))
+
+-- ID TC, of an interface ID TC bases(REF,..), and of a struct with a base ID TC base(REF)
 abbrev pub bases_pieces : Entity → Pieces
 bases_pieces e =
     if kind_eq e.kind kind.Interface
     then Says (codes " bases(") ∷ (references e.bases ++ says (codes ")"))
-    else []
+    else if kind_eq e.kind kind.Structure then base_pieces e.bases else []
 
 abbrev pub coded_pieces : Entity → Pieces
 coded_pieces e =

@@ -2,7 +2,7 @@
 
 ghost use Rattle.std.specs.Prelude.{◌≡◌, ◌++◌, None, OnOk, codes};
 ghost use Rattle.idl_repo.specs.Pieces.{Writes, commas};
-ghost use Rattle.idl_repo.specs.Row.{attribute_pieces, bases_pieces, behind_id, constant_pieces, context_word, contexts_of, contexts_word, direction_word, flag, kind_word, operation_pieces, parameter_pieces, path_text, raised_by_set_of, raised_of, references, row_pieces};
+ghost use Rattle.idl_repo.specs.Row.{attribute_pieces, base_pieces, bases_pieces, behind_id, constant_pieces, context_word, contexts_of, contexts_word, direction_word, flag, kind_word, operation_pieces, parameter_pieces, path_text, raised_by_set_of, raised_of, references, row_pieces};
 ghost use Rattle.idl_repo.specs.TypeCode.{kind_in};
 
 use crate::piece::{id_of, push_listed};
@@ -49,7 +49,7 @@ impl<'a> RowWriter<'a> {
         }
     }
 
-    // Behind the TypeCode of an interface its bases.
+    // Behind the TypeCode of an interface its bases, and of a struct the base that it has.
     fn push_bases(&mut self, entity: &Entity) -> Result<(), AllocError>
         ensures { OnOk result (Writes (bases_pieces entity.now) self.old self.new) }
     {
@@ -57,7 +57,22 @@ impl<'a> RowWriter<'a> {
             self.text.extend_from_slice(b" bases(")?;
             self.push_references(entity.bases())?;
             self.text.extend_from_slice(b")")?;
+        } else if entity.kind() == Kind::Structure {
+            self.push_base(entity.bases())?;
         }
+        Ok(())
+    }
+
+    // The base of a struct, if it has one.
+    fn push_base(&mut self, paths: &[Path]) -> Result<(), AllocError>
+        ensures { OnOk result (Writes (base_pieces paths.now) self.old self.new) }
+    {
+        let [_base, ..] = paths else {
+            return Ok(());
+        };
+        self.text.extend_from_slice(b" base(")?;
+        self.push_references(paths)?;
+        self.text.extend_from_slice(b")")?;
         Ok(())
     }
 

@@ -65,7 +65,7 @@ all-by n table P at up =
 -- ---- the tables of names
 
 pub declared-up : (s : Scope) (standing : Standing) (e : Entity) → Ascends 22 (declared_table s standing e)
-declared-up s standing e = (omega arith, (omega arith, (omega arith, (omega arith, (omega arith, (omega arith, tt))))))
+declared-up s standing e = (omega arith, (omega arith, (omega arith, (omega arith, (omega arith, (omega arith, (omega arith, tt)))))))
 
 suited-up : (way : Use) (bases : Bases) (e behind : Entity) → Ascends 22 (suited_table way bases e behind)
 suited-up (AsBase is_local) bases e behind = (omega arith, (omega arith, (omega arith, (omega arith, tt))))

@@ -49,36 +49,24 @@ use Rattle.idl_entity.specs.declared.kind.Stage.TheVariants.{Open}
 use Rattle.idl_parts.specs.Item.{Item}
 use Rattle.idl_parts.specs.Part.{Part as item}
 use Rattle.idl_parts.specs.declared.part.Declaration.TheVariants as declaration
-use Rattle.idl_parts.specs.declared.part.Use.{Use}
+use Rattle.idl_parts.specs.declared.part.Use.TheVariants.{AsBase}
 use Rattle.idl_tree.specs.declared.name.ScopedName.{ScopedName}
 use Rattle.idl_unit.specs.TokenRules.{first}
 
 -- ---- sites that declare nothing
 
--- tokens and used names
+-- tokens and bases of an interface
 abbrev pub AreRest : List Item → Type 0
 AreRest [] = Unit {0}
 AreRest (item.Plain n ∷ sites) = AreRest sites
-AreRest (item.Uses way name ∷ sites) = AreRest sites
+AreRest (item.Uses (AsBase is_local) name ∷ sites) = AreRest sites
 AreRest (other ∷ sites) = ⊥
 
 rest-sited : (sites : List Item) (s : Scene) → AreRest sites → AreSited sites s
 rest-sited [] s h = tt
 rest-sited (item.Plain n ∷ sites) s h = (tt, rest-sited sites s h)
-rest-sited (item.Uses way name ∷ sites) s h = (tt, rest-sited sites s h)
-rest-sited (item.Declares way name ∷ sites) s h = absurd h
-rest-sited (item.Says purpose text ∷ sites) s h = absurd h
-rest-sited (item.ValueBegins ∷ sites) s h = absurd h
-rest-sited (item.ValueEnds way e ∷ sites) s h = absurd h
-rest-sited (item.ScopeBegins way name ∷ sites) s h = absurd h
-rest-sited (item.ScopeEnds ∷ sites) s h = absurd h
-rest-sited (item.TypeEnds shape ∷ sites) s h = absurd h
-rest-sited (item.ArrayEnds ∷ sites) s h = absurd h
-rest-sited (item.Enumerates names ∷ sites) s h = absurd h
-rest-sited (item.Identifies text ∷ sites) s h = absurd h
-rest-sited (item.Switches discrete ∷ sites) s h = absurd h
-rest-sited (item.Default ∷ sites) s h = absurd h
-rest-sited (item.GivesBack ∷ sites) s h = absurd h
+rest-sited (item.Uses (AsBase is_local) name ∷ sites) s h = (tt, rest-sited sites s h)
+rest-sited (other ∷ sites) s h = absurd h
 
 -- nothing more is declared behind them
 pub record IsRest (w v : Walk) : Type 0 where
@@ -98,28 +86,28 @@ module _ (facts : List UnitFacts) (k : IsSettled (world facts)) (turns : ℕ) (e
   abbrev around : List Scope
   around = scopes facts k turns enough
 
-  used-by-rest : (way : Use) (name : ScopedName) (w : Walk) (r : Result Found NameFault) → IsUpTo {A = Found} (length name.rest) r
-      → (outcome (used_by turns (answers facts) way name w r) (answers facts)).faults ≡ [] → IsRest w (outcome (used_by turns (answers facts) way name w r) (answers facts)).after
-  used-by-rest way name w (Ok found) up none =
-      let query = under w.own (looked_through (turns_at turns w) way found.entity) in
-      let same = outcome-and_then query (λ behind. Done (used_visit w way name found behind)) (answers facts) in
+  used-by-rest : (is_local : Bool) (name : ScopedName) (w : Walk) (r : Result Found NameFault) → IsUpTo {A = Found} (length name.rest) r
+      → (outcome (used_by turns (answers facts) (AsBase is_local) name w r) (answers facts)).faults ≡ [] → IsRest w (outcome (used_by turns (answers facts) (AsBase is_local) name w r) (answers facts)).after
+  used-by-rest is_local name w (Ok found) up none =
+      let query = under w.own (looked_through (turns_at turns w) (AsBase is_local) found.entity) in
+      let same = outcome-and_then query (λ behind. Done (used_visit w (AsBase is_local) name found behind)) (answers facts) in
       subst (λ (v : Visit). IsRest w v.after) (sym same) (record { begun = refl; last = refl; found = λ x h. uses-found (folded name.first) (take found.reach w.cursor) w.own x h })
-  used-by-rest way name w (Err (Faulty why part)) up none = cc
-  used-by-rest way name w (Err Memory) up none = absurd up
+  used-by-rest is_local name w (Err (Faulty why part)) up none = cc
+  used-by-rest is_local name w (Err Memory) up none = absurd up
 
-  used-rest : (way : Use) (name : ScopedName) (w : Walk) → (outcome (used turns way name w) (answers facts)).faults ≡ [] → IsRest w (outcome (used turns way name w) (answers facts)).after
+  used-rest : (is_local : Bool) (name : ScopedName) (w : Walk) → (outcome (used turns (AsBase is_local) name w) (answers facts)).faults ≡ [] → IsRest w (outcome (used turns (AsBase is_local) name w) (answers facts)).after
   unfolding used
-  used-rest way name w none =
+  used-rest is_local name w none =
       let query = under w.own (denoted (turns_at turns w) w.cursor name) in
-      let same = outcome-and_then query (used_by turns (answers facts) way name w) (answers facts) in
+      let same = outcome-and_then query (used_by turns (answers facts) (AsBase is_local) name w) (answers facts) in
       subst (λ (v : Visit). IsRest w v.after) (sym same)
-      (used-by-rest way name w (outcome query (answers facts)) (denoted-up turns (answers facts) name w) (ap (λ (v : Visit). v.faults) (sym same) ∙ none))
+      (used-by-rest is_local name w (outcome query (answers facts)) (denoted-up turns (answers facts) name w) (ap (λ (v : Visit). v.faults) (sym same) ∙ none))
 
-  named-rest : (way : Use) (name : ScopedName) (w : Walk) (b : Bool) → (outcome (named_by turns (answers facts) way name w b) (answers facts)).faults ≡ []
-      → IsRest w (outcome (named_by turns (answers facts) way name w b) (answers facts)).after
+  named-rest : (is_local : Bool) (name : ScopedName) (w : Walk) (b : Bool) → (outcome (named_by turns (answers facts) (AsBase is_local) name w b) (answers facts)).faults ≡ []
+      → IsRest w (outcome (named_by turns (answers facts) (AsBase is_local) name w b) (answers facts)).after
   unfolding given_back
-  named-rest way name w true none = absurd (given-some turns (answers facts) way name w name.is_global name.rest none)
-  named-rest way name w false none = used-rest way name w none
+  named-rest is_local name w true none = absurd (given-some turns (answers facts) (AsBase is_local) name w name.is_global name.rest none)
+  named-rest is_local name w false none = used-rest is_local name w none
 
   rest-on : (w v u : Walk) → IsRest w v → IsRest v u → IsRest w u
   rest-on w v u g h = record { begun = h.begun ∙ g.begun; last = h.last ∙ g.last; found = λ x f. g.found x (h.found x f) }
@@ -131,23 +119,11 @@ module _ (facts : List UnitFacts) (k : IsSettled (world facts)) (turns : ℕ) (e
       let v = visited turns (answers facts) (item.Plain n) w in
       let parts = none-append v.faults (visit_faults turns (answers facts) sites v.after) none in
       rest-on w (passed n w) (walked turns (answers facts) sites (passed n w)) (record { begun = refl; last = refl; found = λ x f. f }) (sites-rest sites (passed n w) h parts.1)
-  sites-rest (item.Uses way name ∷ sites) w h none =
-      let v = visited turns (answers facts) (item.Uses way name) w in
+  sites-rest (item.Uses (AsBase is_local) name ∷ sites) w h none =
+      let v = visited turns (answers facts) (item.Uses (AsBase is_local) name) w in
       let parts = none-append v.faults (visit_faults turns (answers facts) sites v.after) none in
-      rest-on w v.after (walked turns (answers facts) sites v.after) (named-rest way name w w.gives_back parts.0) (sites-rest sites v.after h parts.1)
-  sites-rest (item.Declares way name ∷ sites) w h none = absurd h
-  sites-rest (item.Says purpose text ∷ sites) w h none = absurd h
-  sites-rest (item.ValueBegins ∷ sites) w h none = absurd h
-  sites-rest (item.ValueEnds way e ∷ sites) w h none = absurd h
-  sites-rest (item.ScopeBegins way name ∷ sites) w h none = absurd h
-  sites-rest (item.ScopeEnds ∷ sites) w h none = absurd h
-  sites-rest (item.TypeEnds shape ∷ sites) w h none = absurd h
-  sites-rest (item.ArrayEnds ∷ sites) w h none = absurd h
-  sites-rest (item.Enumerates enumerators ∷ sites) w h none = absurd h
-  sites-rest (item.Identifies text ∷ sites) w h none = absurd h
-  sites-rest (item.Switches discrete ∷ sites) w h none = absurd h
-  sites-rest (item.Default ∷ sites) w h none = absurd h
-  sites-rest (item.GivesBack ∷ sites) w h none = absurd h
+      rest-on w v.after (walked turns (answers facts) sites v.after) (named-rest is_local name w w.gives_back parts.0) (sites-rest sites v.after h parts.1)
+  sites-rest (other ∷ sites) w h none = absurd h
 
   -- ---- the name of the interface
 

@@ -28,10 +28,10 @@ use Rattle.idl_check.specs.walk.Placing.{step_of}
 use Rattle.idl_check.specs.told.Types.{looked_through}
 use Rattle.idl_check.specs.tables.Codes.{codes_in}
 use Rattle.idl_check.specs.tables.Rules.{is_open_base, suits}
-use Rattle.idl_check.specs.tables.Using.{Bases, base_table, bases_after, with_uses}
+use Rattle.idl_check.specs.tables.Using.{Bases, base_table, bases_after, last_after, own_after, with_uses}
 use Rattle.idl_fault.specs.declared.code.Code.TheVariants as code
 use Rattle.idl_check.specs.walk.Verdict.{sound}
-use Rattle.idl_check.specs.walk.Walk.{Visit, Walk, declared_visit, ended_array, ended_scope, first_walk, given_back, is_begun, outcome_at, passed, turns_at, used, used_visit, value_visit, visit, with_array, with_scope}
+use Rattle.idl_check.specs.walk.Walk.{Visit, Walk, declared_visit, ended_array, ended_scope, first_walk, given_back, is_begun, outcome_at, passed, turns_at, used, used_after, used_visit, value_visit, visit, with_array, with_scope}
 use Rattle.idl_lex.specs.kinds.Keywords.{folded}
 use Rattle.idl_lex.specs.tokens.Tokens.{Token}
 use Rattle.idl_memo.proofs.QueryLaws.{outcome-and_then}
@@ -65,7 +65,7 @@ use Rattle.idl_parts.specs.declared.part.Declaration.{Declaration}
 use Rattle.idl_parts.specs.declared.part.Purpose.{Purpose}
 use Rattle.idl_parts.specs.declared.part.Purpose.TheVariants as purpose
 use Rattle.idl_parts.specs.declared.part.Use.{Use}
-use Rattle.idl_parts.specs.declared.part.Use.TheVariants.{AsBase, AsType}
+use Rattle.idl_parts.specs.declared.part.Use.TheVariants.{AsBase, AsStructBase, AsType}
 use Rattle.idl_tree.specs.declared.name.ScopedName.{ScopedName}
 use Rattle.idl_tree.specs.declared.unit.Tree.{Tree}
 use Rattle.idl_value.specs.declared.outcome.Outcome.{Outcome}
@@ -244,14 +244,41 @@ module _ (facts : List UnitFacts) (k : IsSettled (world facts)) (turns : ℕ) (e
   bases-used AsType name w s found behind stands none h b i = h.bases b i
   bases-used other name w s found behind stands none h b i = h.bases b i
 
+  -- a struct takes its own place over its base
+  over-base : (way : Use) (path : Place) (o : Option Entity) (w : Walk) (s : Scene) → w.last ≡ o → At w s
+      → At (record w { own = own_after way (last_after way path o) w.own; last = last_after way path o }) s
+  over-base AsStructBase path (Some e) w s is h =
+      let z : Entity = record e { stage = Open; bases = path ∷ [] } in
+      let other : IsOpen z = (λ t. cc, λ interface t. cc) in
+      let g = renews w.own e z h.grown (h.last e is) refl refl other in
+      record {
+        grown = g.grown;
+        begun = λ x i. g.mine x (h.begun x i);
+        last = λ x at. subst (Mine (with_addition w.own (Declares z))) (some_same at) (other, (g.mine e (h.last e is)).1);
+        named = λ name t rest last at. let r = h.named name t rest last at in let same : e ≡ r.0 = some_same (sym is ∙ r.1) in (
+          z,
+          refl,
+          ap (λ (x : Entity). x.path) same ∙ r.2,
+          subst (λ (x : Entity). x.kind ≢ kind.Interface) (sym same) r.3,
+        );
+        bodies = λ b i x at. let m = h.bodies b i x at in (g.mine x m.0, m.1);
+        cursor = cursor-on facts k turns enough w.own (with_addition w.own (Declares z)) g s.level w.cursor h.cursor;
+        bases = h.bases;
+      }
+  over-base other path o w s is h = subst (λ o. At (record w { last = o }) s) is h
+
   used-by-walks : (way : Use) (name : ScopedName) (w : Walk) (s : Scene) (r : Result Found NameFault) → IsUpTo {A = Found} (length name.rest) r → Denotes (seen w.own facts) w.cursor name (entity_found r)
       → (outcome (used_by turns (answers facts) way name w r) (answers facts)).faults ≡ [] → At w s → At (outcome (used_by turns (answers facts) way name w r) (answers facts)).after s
   used-by-walks way name w s (Ok found) up denotes_it none h =
       let query = under w.own (looked_through (turns_at turns w) way found.entity) in
       let same = outcome-and_then query (λ behind. Done (used_visit w way name found behind)) (answers facts) in
       let stands = denoted-declared (seen w.own facts) w.cursor name found.entity denotes_it in
+      let behind = outcome query (answers facts) in
+      let used_now : Walk = record (used_after w way name found behind) { own = with_uses (folded name.first) (take found.reach w.cursor) w.own; last = w.last } in
       subst (λ (v : Visit). At v.after s) (sym same)
-      (walks-on w (used_visit w way name found (outcome query (answers facts))).after s h (uses-grow (folded name.first) (take found.reach w.cursor) w.own h.grown) refl refl refl (same-bodies w.bodies) (bases-used way name w s found (outcome query (answers facts)) stands (ap (λ (v : Visit). v.faults) (sym same) ∙ none) h))
+      (over-base way found.entity.path w.last used_now s refl
+      (walks-on w used_now s h (uses-grow (folded name.first) (take found.reach w.cursor) w.own h.grown) refl refl refl (same-bodies w.bodies)
+      (bases-used way name w s found behind stands (ap (λ (v : Visit). v.faults) (sym same) ∙ none) h)))
   used-by-walks way name w s (Err (Faulty why part)) up denotes_it none h = cc
   used-by-walks way name w s (Err Memory) up denotes_it none h = absurd up
 

@@ -14,11 +14,12 @@ use Rattle.idl_entity.specs.DataType.{plain_type}
 use Rattle.idl_env.specs.Facts.{joined, with_addition}
 use Rattle.idl_entity.specs.Path.{name_of}
 use Rattle.idl_env.specs.declared.additions.addition.Addition.{Addition}
-use Rattle.idl_env.specs.declared.additions.addition.Addition.TheVariants.{Uses}
+use Rattle.idl_env.specs.declared.additions.addition.Addition.TheVariants.{Declares, Uses}
 use Rattle.idl_env.specs.declared.answering.answer.Scope.{Scope}
 use Rattle.idl_entity.specs.declared.data_type.DataType.{DataType}
 use Rattle.idl_entity.specs.declared.data_type.Element.TheVariants.{Named}
 use Rattle.idl_entity.specs.declared.entity.Entity.{Entity}
+use Rattle.idl_entity.specs.declared.kind.Stage.TheVariants.{Open}
 use Rattle.idl_scope.specs.declared.fault.NameCode.{NameCode}
 use Rattle.idl_scope.specs.declared.fault.NameCode.TheVariants.{Undeclared, Ambiguous, OtherSpelling, NoScope}
 use Rattle.idl_parts.specs.declared.part.Use.{Use}
@@ -118,3 +119,13 @@ unions_after other behind unions = unions
 -- the use of a folded name introduces it into these scopes
 abbrev pub with_uses : List ℕ → List Scope → List Addition → List Addition
 with_uses n scopes own = fold with_addition own (map (λ s. Uses n s.path s.body) scopes)
+
+-- the struct that was declared last is open over what is used as its base
+abbrev pub last_after : Use → List (List ℕ) → Option Entity → Option Entity
+last_after AsStructBase path (Some e) = Some (record e { stage = Open; bases = path ∷ [] })
+last_after other path last = last
+
+-- what it then adds
+abbrev pub own_after : Use → Option Entity → List Addition → List Addition
+own_after AsStructBase (Some e) own = with_addition own (Declares e)
+own_after other last own = own

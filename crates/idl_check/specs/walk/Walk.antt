@@ -8,7 +8,7 @@ use Rattle.idl_check.specs.told.Labels.{Labels, no_labels, with_default, with_la
 use Rattle.idl_tree.specs.NameParts.{last_at, part_at}
 use Rattle.idl_check.specs.tables.Rules.{is_default_again, is_label_again, is_useless_default}
 use Rattle.idl_check.specs.told.Types.{looked_through, target_in, written_as}
-use Rattle.idl_check.specs.tables.Using.{Bases, bases_after, constants_after, name_code, type_after, unions_after, used_table, values_after, with_uses}
+use Rattle.idl_check.specs.tables.Using.{Bases, bases_after, constants_after, last_after, name_code, own_after, type_after, unions_after, used_table, values_after, with_uses}
 use Rattle.idl_check.specs.told.Values.{Values, begun_at, code_of, evaluation_for, no_values, with_value}
 use Rattle.idl_check.specs.declared.tables.standing.Standing.{Standing}
 use Rattle.idl_fault.specs.declared.code.Code.{Code}
@@ -138,7 +138,9 @@ declared_visit w way s e standing = record {
 abbrev pub used_after : Walk → Use → ScopedName → Found → Entity → Walk
 used_after w way name found behind = record w {
   at = last_at w.at name + 1;
-  own = with_uses (folded name.first) (take found.reach w.cursor) w.own;
+  own = own_after way (last_after way found.entity.path w.last)
+      (with_uses (folded name.first) (take found.reach w.cursor) w.own);
+  last = last_after way found.entity.path w.last;
   bases = bases_after way found.entity w.bases;
   written = record w.written {
     data_type = type_after way found.entity w.written.data_type;

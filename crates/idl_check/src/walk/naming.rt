@@ -1,6 +1,6 @@
 //! The walk over declared and used names.
 
-ghost use Rattle.std.specs.Prelude.{◌≡◌, ◌≤◌, ◌+◌, ◌∷◌, ◌++◌, [], ℕ, None, OnOk, Some, false, length, if◌then◌else◌};
+ghost use Rattle.std.specs.Prelude.{◌≡◌, ◌≤◌, ◌+◌, ◌∷◌, ◌++◌, [], ℕ, IfOk, None, OnOk, Some, false, length, if◌then◌else◌};
 ghost use Rattle.idl_check.specs.tables.Codes.{codes_in};
 ghost use Rattle.idl_check.specs.tables.Declaring.{declared_table, stays};
 ghost use Rattle.idl_check.specs.ids.Identifying.{with_identity};
@@ -9,13 +9,14 @@ ghost use Rattle.idl_env.specs.declared.additions.addition.Addition.TheVariants.
 ghost use Rattle.idl_env.specs.declared.answering.answer.Scope.{Scope as ScopeAround};
 ghost use Rattle.idl_check.specs.walk.Held.{HasRoomFor, given_noted, head_noted, held, held_values, held_written, used_noted, visited};
 ghost use Rattle.idl_check.specs.told.Types.{constants_of};
-ghost use Rattle.idl_check.specs.tables.Using.{bases_after, constants_after, name_code, type_after, unions_after, values_after};
+ghost use Rattle.idl_check.specs.tables.Using.{bases_after, constants_after, last_after, name_code, own_after, type_after, unions_after, values_after};
 ghost use Rattle.idl_check.specs.walk.Walk.{declared_visit, is_begun, noted, noted_in, unions_without, used_visit};
 ghost use Rattle.idl_memo.specs.Query.{run};
 ghost use Rattle.idl_env.specs.Facts.{answers, with_addition};
 ghost use Rattle.idl_env.specs.keys.Key.{key_eq};
 ghost use Rattle.idl_entity.specs.DataType.{plain_type};
 ghost use Rattle.idl_entity.specs.declared.data_type.Element.TheVariants.{Named};
+ghost use Rattle.idl_entity.specs.declared.kind.Stage.TheVariants.{Open};
 ghost use Rattle.idl_env.specs.Turns.{turns_for};
 ghost use Rattle.idl_parts.specs.Item.{item_length};
 ghost use Rattle.idl_parts.specs.Part.{Part as item};
@@ -37,7 +38,7 @@ use idl_parts::{Declaration, Use};
 use idl_scope::{Found, NameCode, NameFault, Standpoint, View, resolve};
 use idl_tree::{ScopedName, last_at, part_at};
 use idl_value::ConstantType;
-use std::alloc::AllocError;
+use std::alloc::{AllocError, Global};
 
 impl<'a> Walker<'a> {
     /// A declared name.
@@ -302,10 +303,32 @@ impl<'a> Walker<'a> {
             reach: found.reach,
         };
         introduce(alloc, &mut self.own, used, self.cursor.scopes())?;
+        self.take_base(way, path)?;
         self.found.push(path.clone()?)?;
         self.clauses.add_raised(way, path)?;
         self.follow(way, entity, behind, constants)?;
         Ok(())
+    }
+
+    // The struct that was declared last has what is at this path as its base, if that is used so.
+    fn take_base(&mut self, way: Use, base: &Path) -> Result<(), AllocError>
+        ensures walk { OnOk result
+            (held self.new
+            ≡ record (held self.old) {
+              own = own_after way (last_after way base.now self.old.last) self.old.own.additions;
+              last = last_after way base.now self.old.last;
+            }) }
+        ensures env { OnOk result (self.new.env.now ≡ self.old.env.now) }
+    {
+        match (way, &self.last) {
+            (Use::AsStructBase, Some(last)) => {
+                let structure = over_base(self.env.alloc(), last.get(), base)?;
+                self.own.add(Addition::Declares(structure.clone()?))?;
+                self.last = Some(structure);
+                Ok(())
+            }
+            _ => Ok(()),
+        }
     }
 
     // What is declared at a path is the type that was written last.
@@ -364,6 +387,19 @@ impl<'a> Walker<'a> {
             Use::AsStructBase | Use::AsIdentified | Use::AsPrefixed => Ok(()),
         }
     }
+}
+
+// A struct, open over what is at this path.
+fn over_base(alloc: Global, structure: &Entity, base: &Path) -> Result<Shared<Entity>, AllocError>
+    ensures { IfOk result (λ entity.
+        entity ≡ record structure.now { stage = Open; bases = base.now ∷ [] }) }
+{
+    let mut bases = Seq::new(alloc);
+    bases.push(base.clone()?)?;
+    let mut over = structure.clone()?;
+    over.set_stage(Stage::Open);
+    over.set_bases(alloc, bases)?;
+    Shared::new(alloc, over)
 }
 
 // What was declared last.

@@ -86,6 +86,36 @@ static DECLARATIONS: [&str; 12] = [
      =a:204: E30 T",
 ];
 
+// Structs over a base.
+static STRUCTURES: [&str; 6] = [
+    // Nothing is declared that is reached, be it a member, a type or an enumerator, of whatever base.
+    "struct B { long a; };\nstruct D : B { };\n=struct B { long a; };\n=struct D : ::B { }; ¶ struct B { long a; };\n\
+     struct D : B { };\nstruct E : D { short A; };\n=a:3: E44 A ¶ struct B { enum E { P, Q } f; };\n\
+     struct D : B { long p; };\nstruct G : B { struct e { long x; } y; };\n=a:2: E44 p\n=a:3: E44 e",
+    // A base is a struct, named itself, that is complete where it is named.
+    "struct S : S { };\n=a:1: E57 S ¶ struct S;\nstruct S : S { };\n=a:2: E57 S\n=a:1: E75 S ¶ struct B { long a; };\n\
+     typedef B C;\nstruct D : C { };\ninterface I { void f(); };\nstruct E : I { };\nexception X { };\nstruct F : X { };\n\
+     struct X1 { struct Y { long a; } p; struct Z : Y { } q; };\nunion U;\nstruct G : U { };\nstruct H : Nope { };\n\
+     =a:3: E37 C\n=a:5: E37 I\n=a:7: E37 X\n=a:8: E57 Y\n=a:10: E37 U\n=a:11: E30 Nope\n=a:9: E75 U",
+    // Its name is introduced into the scope around, and not into the struct.
+    "struct B { };\nstruct D : ::B { B x; };\nstruct E : B { long B; };\n=struct B { };\n=struct D : ::B { ::B x; };\n\
+     =struct E : ::B { long B; }; ¶ struct B { };\nmodule M {\nstruct D : B { };\nstruct B { };\n};\n=a:4: E35 B",
+    // What is found through it is introduced into the struct, from each scope in which it is used.
+    "struct B { struct T { long q; } m; };\nstruct D : B { T y; long T; };\n\
+     struct E : B { struct N { T y; } n1; long T; };\n=a:2: E35 T\n=a:3: E35 T ¶ typedef long T;\nstruct B { long t; };\n\
+     struct D : B { T y; };\n=a:3: E32 T",
+    // Further parts of names go through it too.
+    "struct B { struct T { long q; } m; };\nstruct X { struct Y : B { } p; Y::T z; };\n\
+     =struct B { struct T { long q; } m; };\n=struct X { struct Y : ::B { } p; ::B::T z; }; ¶ \
+     struct B { enum E { P, Q } f; };\nstruct D : B { E g; };\nconst D::E K = D::P;\n=struct B { enum E { P, Q } f; };\n\
+     =struct D : ::B { ::B::E g; };\n=const ::B::E K = ::B::P; ¶ interface I { struct B { long a; }; };\n\
+     interface J : I {\nstruct D : B { long c; };\nstruct E : D { long A; };\n};\n=a:4: E44 A",
+    // Each of a unit has its own.
+    "struct B { long x; };\nstruct C { long z; };\n\
+     struct X { struct Y : B { long z; } p; struct Q : C { long x; } q1; };\n=struct B { long x; };\n=struct C { long z; };\n\
+     =struct X { struct Y : ::B { long z; } p; struct Q : ::C { long x; } q1; };",
+];
+
 // Where a unit that no tree spells stops being the beginning of one: the first token through which it is none.
 static PLACES: [&str; 5] = [
     "typedef long X Y;\n=a:1: E20 Y ¶ struct S { long a short b; };\n=a:1: E20 short ¶ const long K = 1 + ;\n=a:1: E20 ; ¶ \
@@ -107,5 +137,6 @@ static PLACES: [&str; 5] = [
 fn files_have_these_rows(rt: HostRuntime) -> Result<(), Fail> {
     have_rows(&rt, &ROWS)?;
     have_rows(&rt, &DECLARATIONS)?;
+    have_rows(&rt, &STRUCTURES)?;
     have_rows(&rt, &PLACES)
 }

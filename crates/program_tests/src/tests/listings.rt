@@ -3,7 +3,7 @@
 use super::scripts::have_replies;
 use std::test::Fail;
 
-static LISTINGS: [&str; 9] = [
+static LISTINGS: [&str; 10] = [
     // Prefixes, versions and ids.
     "put m.idl 14\nmodule M1 {\ntypedef long T1;\ntypedef long T2;\n\
      #pragma ID T2 \"DCE:d62207a2-011e-11ce-88b4-0800090b5d3e:3\"\n};\n#pragma prefix \"P1\"\nmodule M2 {\n\
@@ -65,6 +65,22 @@ static LISTINGS: [&str; 9] = [
      a:tk_short,b:tk_long,c:tk_longlong,d:tk_ulong,e:tk_ulonglong,f:tk_int8,g:tk_uint8)\n\
      =interface I IDL:I:1.0 tk_objref(IDL:I:1.0,I) bases()\n=attribute I::a IDL:I/a:1.0 tk_int8 get() set()\n\
      =operation I::f IDL:I/f:1.0 tk_uint8 (in x:tk_longlong) raises() context()\n=const K IDL:K:1.0 @IDL:A:1.0 3",
+    // A struct shows its own members, and its base behind them; an edit may bring another one into reach.
+    "put d.idl 3\ntypedef long T;\nstruct B { long m; };\nstruct D : B { T y; };\n=ok\nroot d.idl\n=ok\nlisting d.idl\n\
+     =rows 3\n=alias T IDL:T:1.0 tk_alias(IDL:T:1.0,T,tk_long)\n\
+     =struct B IDL:B:1.0 tk_struct(IDL:B:1.0,B,m:tk_long)\n\
+     =struct D IDL:D:1.0 tk_struct(IDL:D:1.0,D,y:@IDL:T:1.0) base(@IDL:B:1.0)\nsplice d.idl 2 1 1\n\
+     struct B { struct T { long q; } m; };\n=ok\nlisting d.idl\n=rows 4\n\
+     =alias T IDL:T:1.0 tk_alias(IDL:T:1.0,T,tk_long)\n\
+     =struct B IDL:B:1.0 tk_struct(IDL:B:1.0,B,m:@IDL:B/T:1.0)\n\
+     =struct B::T IDL:B/T:1.0 tk_struct(IDL:B/T:1.0,T,q:tk_long)\n\
+     =struct D IDL:D:1.0 tk_struct(IDL:D:1.0,D,y:@IDL:B/T:1.0) base(@IDL:B:1.0)\nput d.idl 3\nstruct A { long x; };\n\
+     struct B : A { };\nstruct C : B { struct E : A { } f; };\n=ok\nlisting d.idl\n=rows 4\n\
+     =struct A IDL:A:1.0 tk_struct(IDL:A:1.0,A,x:tk_long)\n=struct B IDL:B:1.0 tk_struct(IDL:B:1.0,B) base(@IDL:A:1.0)\n\
+     =struct C IDL:C:1.0 tk_struct(IDL:C:1.0,C,f:@IDL:C/E:1.0) base(@IDL:B:1.0)\n\
+     =struct C::E IDL:C/E:1.0 tk_struct(IDL:C/E:1.0,E) base(@IDL:A:1.0)\nput d.idl 3\nstruct A { long x; };\n\
+     struct B : A { };\nstruct C : B { long y; };\n=ok\ndiagnostics d.idl\n=rows 0\nsplice d.idl 1 1 1\n\
+     struct A { long y; };\n=ok\ndiagnostics d.idl\n=rows 1\n=d.idl:3: E44 y",
     // Names without a root, and a name that is none.
     "listing y.idl\n=refused 7\nlisting a//b\n=refused 2\nlisting\n=refused 1",
 ];
