@@ -30,7 +30,7 @@ all_codes =
     topic.Code code.RepeatedLabel ∷ topic.Code code.UselessDefault ∷ topic.Code code.BadOneway ∷
     topic.Code code.OtherPrefix ∷ topic.Code code.RepeatedId ∷ topic.Code code.RepeatedVersion ∷
     topic.Code code.BadIdText ∷ topic.Code code.NoRepositoryId ∷ topic.Code code.NeverDefined ∷
-    topic.Code code.InterfaceNeverDefined ∷ []
+    topic.Code code.RepeatedTypeprefix ∷ topic.Code code.InterfaceNeverDefined ∷ []
 
 abbrev pub all_refusals : List Topic
 all_refusals =
@@ -98,7 +98,8 @@ code-listed code.RepeatedVersion = (54, omega arith, refl)
 code-listed code.BadIdText = (55, omega arith, refl)
 code-listed code.NoRepositoryId = (56, omega arith, refl)
 code-listed code.NeverDefined = (57, omega arith, refl)
-code-listed code.InterfaceNeverDefined = (58, omega arith, refl)
+code-listed code.RepeatedTypeprefix = (58, omega arith, refl)
+code-listed code.InterfaceNeverDefined = (59, omega arith, refl)
 
 pub refusal-listed : (r : Refusal) → Contains all_refusals (topic.Refusal r)
 refusal-listed refusal.Malformed = (0, omega arith, refl)

@@ -11,7 +11,7 @@ use crate::{meaning, spelling};
 use idl_fault::Code;
 
 /// All codes, in the order of their numbers.
-pub const CODES: [Topic; 59] = [
+pub const CODES: [Topic; 60] = [
     Topic::Code(Code::BadToken),
     Topic::Code(Code::UnclosedLiteral),
     Topic::Code(Code::NotOneCharacter),
@@ -70,6 +70,7 @@ pub const CODES: [Topic; 59] = [
     Topic::Code(Code::BadIdText),
     Topic::Code(Code::NoRepositoryId),
     Topic::Code(Code::NeverDefined),
+    Topic::Code(Code::RepeatedTypeprefix),
     Topic::Code(Code::InterfaceNeverDefined),
 ];
 
@@ -136,6 +137,7 @@ pub fn of_code(code: Code) -> &'static Explanation
         Code::BadIdText => &meaning::BAD_ID_TEXT,
         Code::NoRepositoryId => &meaning::NO_REPOSITORY_ID,
         Code::NeverDefined => &meaning::NEVER_DEFINED,
+        Code::RepeatedTypeprefix => &meaning::REPEATED_TYPEPREFIX,
         Code::InterfaceNeverDefined => &meaning::INTERFACE_NEVER_DEFINED,
     }
 }

@@ -77,10 +77,10 @@ pub static WRONG_KIND: Explanation = Explanation {
 
 pub static NO_SCOPE: Explanation = Explanation {
     told: Told::Row(2, Code::NoScope, "T"),
-    words: Words::Around("`", "` holds no names, so `::` can't follow it"),
+    words: Words::Around("`", "` is no scope, so it holds no names"),
     example: "typedef long T;\ntypedef T::X Y;",
     mended: "module T { typedef long X; };\ntypedef T::X Y;",
-    hint: "Only modules, interfaces, structs, unions and exceptions hold names; a typedef of one doesn't.",
+    hint: "Only a module, interface, struct, union or exception can stand before `::` or have a typeprefix; a typedef of one can't.",
 };
 
 pub static OTHER_FORWARD: Explanation = Explanation {
@@ -246,7 +246,7 @@ pub static REPEATED_ID: Explanation = Explanation {
     words: Words::Around("`", "` has its repository id already"),
     example: "typedef long T;\n#pragma ID T \"IDL:a/T:1.0\"\n#pragma ID T \"IDL:b/T:1.0\"",
     mended: "typedef long T;\n#pragma ID T \"IDL:a/T:1.0\"",
-    hint: "Give the id once, even if it is the same text.",
+    hint: "Give the id once, by typeid or #pragma ID, even if it is the same text; behind a version it can only be the id that this makes.",
 };
 
 pub static REPEATED_VERSION: Explanation = Explanation {
@@ -254,7 +254,7 @@ pub static REPEATED_VERSION: Explanation = Explanation {
     words: Words::Around("`", "` has its version or id already"),
     example: "typedef long T;\n#pragma version T 2.0\n#pragma version T 2.1",
     mended: "typedef long T;\n#pragma version T 2.1",
-    hint: "Give the version once; behind #pragma ID there is none.",
+    hint: "Give the version once; behind typeid or #pragma ID there is none.",
 };
 
 pub static BAD_ID_TEXT: Explanation = Explanation {
@@ -279,6 +279,14 @@ pub static NEVER_DEFINED: Explanation = Explanation {
     example: "struct N;\ntypedef sequence<N> NS;",
     mended: "struct N;\ntypedef sequence<N> NS;\nstruct N { long a; };",
     hint: "Define it in this file or in one that it includes; only an interface may stay undefined.",
+};
+
+pub static REPEATED_TYPEPREFIX: Explanation = Explanation {
+    told: Told::Row(3, Code::RepeatedTypeprefix, "M"),
+    words: Words::Around("`", "` has its typeprefix already"),
+    example: "module M { typedef long T; };\ntypeprefix M \"A\";\ntypeprefix M \"B\";",
+    mended: "module M { typedef long T; };\ntypeprefix M \"A\";",
+    hint: "Give the typeprefix of a scope once, even if it is the same text; a scope in it may have its own.",
 };
 
 pub static INTERFACE_NEVER_DEFINED: Explanation = Explanation {

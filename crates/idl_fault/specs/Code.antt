@@ -1,7 +1,7 @@
 -- The codes of diagnostics.
 use Rattle.std.specs.Prelude.{ℕ, ◌+◌, ◌/◌, ◌%◌, Bool, true, false, List, [], ◌∷◌, if◌then◌else◌}
 use Rattle.idl_fault.specs.declared.code.Code.{Code}
-use Rattle.idl_fault.specs.declared.code.Code.TheVariants.{BadToken, UnclosedLiteral, NotOneCharacter, BadEscape, MalformedInteger, FloatingLiteral, IntegerTooLarge, MixedWidths, UnclosedComment, NotFound, MalformedInclude, OutOfPlace, NotClosed, MalformedMacro, UnknownDirective, Error, OtherDefinition, BadCondition, PastLimit, NoTree, LeftOut, MisplacedUnit, OpenScope, NestedTooDeep, PragmaInside, MalformedPragma, NameNotFound, AmbiguousName, OtherCase, AlreadyDeclared, NameOfScope, DeclaredAfterUse, LikeKeyword, WrongKind, NoScope, OtherForward, IncompleteBase, RepeatedBase, DeclaredAgain, LocalBase, ReachedThroughBase, OtherType, OutOfRange, DivisionByZero, BadShift, BoundNotPositive, NoConstantType, IncompleteType, BadDiscriminator, RepeatedLabel, UselessDefault, BadOneway, OtherPrefix, RepeatedId, RepeatedVersion, BadIdText, NoRepositoryId, NeverDefined, InterfaceNeverDefined}
+use Rattle.idl_fault.specs.declared.code.Code.TheVariants.{BadToken, UnclosedLiteral, NotOneCharacter, BadEscape, MalformedInteger, FloatingLiteral, IntegerTooLarge, MixedWidths, UnclosedComment, NotFound, MalformedInclude, OutOfPlace, NotClosed, MalformedMacro, UnknownDirective, Error, OtherDefinition, BadCondition, PastLimit, NoTree, LeftOut, MisplacedUnit, OpenScope, NestedTooDeep, PragmaInside, MalformedPragma, NameNotFound, AmbiguousName, OtherCase, AlreadyDeclared, NameOfScope, DeclaredAfterUse, LikeKeyword, WrongKind, NoScope, OtherForward, IncompleteBase, RepeatedBase, DeclaredAgain, LocalBase, ReachedThroughBase, OtherType, OutOfRange, DivisionByZero, BadShift, BoundNotPositive, NoConstantType, IncompleteType, BadDiscriminator, RepeatedLabel, UselessDefault, BadOneway, OtherPrefix, RepeatedId, RepeatedVersion, BadIdText, NoRepositoryId, NeverDefined, RepeatedTypeprefix, InterfaceNeverDefined}
 
 abbrev pub number_of : Code → ℕ
 number_of BadToken = 1
@@ -62,6 +62,7 @@ number_of RepeatedVersion = 72
 number_of BadIdText = 73
 number_of NoRepositoryId = 74
 number_of NeverDefined = 75
+number_of RepeatedTypeprefix = 76
 number_of InterfaceNeverDefined = 80
 
 -- all but one are codes of errors

@@ -122,6 +122,8 @@ pub enum Code {
     NoRepositoryId,
     /// A struct or union that is never defined. (E75)
     NeverDefined,
+    /// A typeprefix that is given a second time. (E76)
+    RepeatedTypeprefix,
     /// An interface that is never defined: the one warning, of the number 80.
     InterfaceNeverDefined,
 }
@@ -191,6 +193,7 @@ impl Code {
             Code::BadIdText => 73,
             Code::NoRepositoryId => 74,
             Code::NeverDefined => 75,
+            Code::RepeatedTypeprefix => 76,
             Code::InterfaceNeverDefined => 80,
         }
     }
