@@ -2,7 +2,7 @@
 use Rattle.std.proofs.Common.{◌≡◌, ℕ, zero, suc, ◌-◌, Bool, true, false, List, [], ◌∷◌, ◌++◌, length, take, drop, cond, refl, sym, ap, ◌∙◌, arith}
 use Rattle.std.proofs.Math.Seq.{drop-length}
 use Rattle.std.proofs.lemmas.Bool.{cond-true, cond-false}
-use Rattle.std.proofs.lemmas.List.{length-drop, take-append-drop}
+use Rattle.std.proofs.lemmas.List.{append-nil, length-drop, take-append-drop}
 use Rattle.idl_entity.specs.Identity.{is_within, relative, slashed}
 use Rattle.idl_entity.specs.Path.{path_eq, same_path, scope_of}
 
@@ -110,3 +110,7 @@ relative-inside (n ∷ t) p h =
 -- and one elsewhere is told whole
 pub relative-elsewhere : (path p : List (List ℕ)) → is_within (scope_of path) p ≡ false → relative path p ≡ path
 relative-elsewhere path p h = cond-false (is_within (scope_of path) p) (take (length path - length p) path) path h
+
+-- of the global scope no name is left out
+pub relative-global : (path : List (List ℕ)) → relative path [] ≡ path
+relative-global path = sym (append-nil (relative path [])) ∙ relative-inside path [] (within_global (scope_of path) [] refl)

@@ -1,5 +1,5 @@
 -- What identifies a declared name, and how its id is told.
-use Rattle.std.specs.Prelude.{ℕ, ◌-◌, Bool, List, [], ◌∷◌, ◌++◌, Option, Some, codes, decimal, drop, if◌then◌else◌, length, take}
+use Rattle.std.specs.Prelude.{ℕ, ◌-◌, Bool, List, [], ◌∷◌, ◌++◌, Option, None, Some, codes, decimal, drop, if◌then◌else◌, length, take}
 use Rattle.idl_entity.specs.Path.{path_eq, scope_of}
 use Rattle.idl_entity.specs.declared.identity.Fixed.{Fixed}
 use Rattle.idl_entity.specs.declared.identity.Fixed.TheVariants.{Version, Id}
@@ -40,10 +40,16 @@ abbrev pub told_by : List (List ℕ) → Prefix → Option Fixed → List ℕ
 told_by path p (Some (Id text)) = text
 told_by path p fixed = stem path p ++ 58 ∷ version_text fixed
 
+-- the prefix that tells an id: a typeprefix, if there is one, before the whole path, and else the one
+-- that was in force
+abbrev pub prefix_told : Option (List ℕ) → Prefix → Prefix
+prefix_told None p = p
+prefix_told (Some typeprefix) p = record { text = typeprefix; scope = [] }
+
 -- the id of the name at a path that is identified by this: the one that was given, or prefix, name
 -- and version
 abbrev pub told : List (List ℕ) → Identity → List ℕ
-told path d = told_by path d.prefix d.fixed
+told path d = told_by path (prefix_told d.typeprefix d.prefix) d.fixed
 
 -- a prefix with its text alone
 abbrev pub without_scope : Prefix → Prefix
@@ -63,9 +69,13 @@ prefix_by path p (Id text) = without_scope p
 abbrev pub fixed_for : List (List ℕ) → FixedIdentity → FixedIdentity
 fixed_for path d = record d { prefix = prefix_by path d.prefix d.by }
 
--- what a name is identified by of whose id a pragma fixed this
-abbrev pub identity_of : FixedIdentity → Identity
-identity_of d = record { prefix = d.prefix; fixed = Some d.by }
+-- what a name is identified by that was declared first under a prefix, and of whose id this was fixed,
+-- under a typeprefix, if there is one
+abbrev pub first_identity : Option (List ℕ) → Prefix → Identity
+first_identity typeprefix p = record { prefix = p; typeprefix = typeprefix; fixed = None }
+
+abbrev pub identity_of : Option (List ℕ) → FixedIdentity → Identity
+identity_of typeprefix d = record { prefix = d.prefix; typeprefix = typeprefix; fixed = Some d.by }
 
 -- the empty prefix, met in the global scope: that of a file that is entered
 abbrev pub no_prefix : Prefix

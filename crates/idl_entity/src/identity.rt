@@ -1,8 +1,9 @@
-//! What identifies a declared name: the prefix under which it was declared first, and what a pragma fixed of its repository id. The
-//! two tell the id.
+//! What identifies a declared name: the prefix under which it was declared first, the typeprefix of a scope around it, and what was
+//! fixed of its repository id. The three tell the id.
 
 ghost use Rattle.std.specs.Prelude.{◌≡◌, ◌++◌, ◌∷◌, IfOk, None, OnOk, Some, decimal};
-ghost use Rattle.idl_entity.specs.Identity.{fixed_for, identity_of, is_within, no_prefix, prefix_for, prefixed, relative, slashed, stem, told, without_scope};
+ghost use Rattle.std.specs.Option.{option_copied};
+ghost use Rattle.idl_entity.specs.Identity.{first_identity, fixed_for, identity_of, is_within, no_prefix, prefix_for, prefix_told, prefixed, relative, slashed, stem, told, told_by, without_scope};
 ghost use Rattle.idl_entity.specs.Path.{scope_of};
 
 use crate::paths::name::shared_name;
@@ -19,7 +20,7 @@ pub struct Prefix {
     pub scope: Path,
 }
 
-/// What a pragma fixed of an id.
+/// What is fixed of an id, by a pragma or a typeid.
 #[derive(Clone, PartialEq, Eq)]
 pub enum Fixed {
     /// Its version.
@@ -32,16 +33,18 @@ pub enum Fixed {
 pub struct Identity {
     /// The prefix that was in force where the name was declared first.
     pub prefix: Shared<Prefix>,
-    /// What a pragma fixed, if one did so far.
+    /// The typeprefix that takes its place: that of the innermost scope which has one, of the name itself and those around it.
+    pub typeprefix: Option<Shared<Bytes>>,
+    /// What was fixed so far, if anything was.
     pub fixed: Option<Fixed>,
 }
 
-/// What identifies a name by a pragma.
+/// What identifies a name of whose id something was fixed.
 #[derive(Clone, PartialEq, Eq)]
 pub struct FixedIdentity {
     /// The prefix that was in force where the name was declared first.
     pub prefix: Shared<Prefix>,
-    /// What the pragma fixed.
+    /// What was fixed.
     pub by: Fixed,
 }
 
@@ -67,6 +70,7 @@ impl Drop for Identity {
     fn drop(self) {
         let Identity {
             prefix: _prefix,
+            typeprefix: _typeprefix,
             fixed: _fixed,
         } = self;
     }
@@ -89,6 +93,16 @@ impl Prefix {
         let text = shared_name(alloc, b"")?;
         let scope = Path::global();
         Shared::new(alloc, Prefix { text, scope })
+    }
+
+    // A typeprefix as a prefix: it stands before the whole path.
+    fn of_scope(typeprefix: &Bytes) -> Result<Prefix, AllocError>
+        ensures { IfOk result (λ prefix. (p : Prefix) → prefix ≡ prefix_told (Some typeprefix.now) p) }
+    {
+        Ok(Prefix {
+            text: typeprefix.clone()?,
+            scope: Path::global(),
+        })
     }
 
     // Whether the name at a path stands in the scope in which it was met.
@@ -119,15 +133,33 @@ impl Prefix {
         Ok(())
     }
 
-    /// Writes the id of the name at a path that this prefix identifies, of which nothing is fixed.
-    pub fn push_id(&self, text: &mut Vec<u8>, path: &Path) -> Result<(), AllocError>
+    // Writes the id of the name at a path that has this prefix, of which nothing is fixed.
+    fn push_first(&self, text: &mut Vec<u8>, path: &Path) -> Result<(), AllocError>
         ensures { OnOk result
-            (text.new.items
-            ≡ text.old.items ++ told path.now (record { prefix = self.now; fixed = None })) }
+            (text.new.items ≡ text.old.items ++ told_by path.now self.now None) }
     {
         self.push_stem(text, path)?;
         text.extend_from_slice(b":1.0")?;
         Ok(())
+    }
+
+    /// Writes the id of the name at a path that was declared first under this prefix, of which nothing is fixed, under a typeprefix,
+    /// if there is one.
+    pub fn push_id(
+        &self,
+        text: &mut Vec<u8>,
+        path: &Path,
+        typeprefix: Option<&Shared<Bytes>>,
+    ) -> Result<(), AllocError>
+        ensures { OnOk result
+            (text.new.items
+            ≡ text.old.items
+            ++ told path.now (first_identity (option_copied typeprefix.entry) self.now)) }
+    {
+        match typeprefix {
+            Some(over) => Prefix::of_scope(over.get())?.push_first(text, path),
+            None => self.push_first(text, path),
+        }
     }
 }
 
@@ -200,28 +232,42 @@ impl Identity {
     pub fn push_id(&self, text: &mut Vec<u8>, path: &Path) -> Result<(), AllocError>
         ensures { OnOk result (text.new.items ≡ text.old.items ++ told path.now self.now) }
     {
-        match &self.fixed {
-            Some(by) => push_fixed(text, path, self.prefix.get(), by),
-            None => self.prefix.get().push_id(text, path),
+        match &self.typeprefix {
+            Some(over) => push_told(text, path, &Prefix::of_scope(over.get())?, &self.fixed),
+            None => push_told(text, path, self.prefix.get(), &self.fixed),
         }
     }
 }
 
 impl FixedIdentity {
-    /// Writes the id of the name at a path that this identifies.
-    pub fn push_id(&self, text: &mut Vec<u8>, path: &Path) -> Result<(), AllocError>
-        ensures { OnOk result (text.new.items ≡ text.old.items ++ told path.now (identity_of self.now)) }
+    /// Writes the id of the name at a path that this identifies, under a typeprefix, if there is one.
+    pub fn push_id(
+        &self,
+        text: &mut Vec<u8>,
+        path: &Path,
+        typeprefix: Option<&Shared<Bytes>>,
+    ) -> Result<(), AllocError>
+        ensures { OnOk result
+            (text.new.items
+            ≡ text.old.items ++ told path.now (identity_of (option_copied typeprefix.entry) self.now)) }
     {
-        push_fixed(text, path, self.prefix.get(), &self.by)
+        match typeprefix {
+            Some(over) => push_fixed(text, path, &Prefix::of_scope(over.get())?, &self.by),
+            None => push_fixed(text, path, self.prefix.get(), &self.by),
+        }
     }
 
-    /// What a name is identified by that has it.
-    pub fn identity(&self) -> Result<Identity, AllocError>
-        ensures { IfOk result (λ d. d ≡ identity_of self.now) }
+    /// What a name is identified by that has it, under a typeprefix, if there is one.
+    pub fn identity(&self, typeprefix: Option<Shared<Bytes>>) -> Result<Identity, AllocError>
+        ensures { IfOk result (λ d. d ≡ identity_of typeprefix self.now) }
     {
         let prefix = self.prefix.clone()?;
         let fixed = Some(self.by.clone()?);
-        Ok(Identity { prefix, fixed })
+        Ok(Identity {
+            prefix,
+            typeprefix,
+            fixed,
+        })
     }
 
     /// It with no more than tells the id of the name at a path: of an id that was given the prefix has its text alone.
@@ -237,7 +283,23 @@ impl FixedIdentity {
     }
 }
 
-// Writes the id of the name at a path, of which so much is fixed.
+// Writes the id of the name at a path that has a prefix, of which so much is fixed.
+fn push_told(
+    text: &mut Vec<u8>,
+    path: &Path,
+    prefix: &Prefix,
+    fixed: &Option<Fixed>,
+) -> Result<(), AllocError>
+    ensures { OnOk result
+        (text.new.items ≡ text.old.items ++ told_by path.now prefix.now fixed.now) }
+{
+    match fixed {
+        Some(by) => push_fixed(text, path, prefix, by),
+        None => prefix.push_first(text, path),
+    }
+}
+
+// The same, where this is fixed.
 fn push_fixed(
     text: &mut Vec<u8>,
     path: &Path,
@@ -245,8 +307,7 @@ fn push_fixed(
     by: &Fixed,
 ) -> Result<(), AllocError>
     ensures { OnOk result
-        (text.new.items
-        ≡ text.old.items ++ told path.now (record { prefix = prefix.now; fixed = Some by.now })) }
+        (text.new.items ≡ text.old.items ++ told_by path.now prefix.now (Some by.now)) }
 {
     match by {
         Fixed::Version(major, minor) => {

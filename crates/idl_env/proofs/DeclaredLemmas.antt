@@ -3,7 +3,7 @@ use Rattle.std.proofs.Common.{◌≡◌, ℕ, ◌+◌, ◌≤◌, List, [], ◌�
 use Rattle.idl_env.specs.Facts.{UnitFacts}
 use Rattle.idl_env.specs.Turns.{declared_among, declared_named}
 use Rattle.idl_env.specs.declared.additions.addition.Addition.{Addition}
-use Rattle.idl_env.specs.declared.additions.addition.Addition.TheVariants.{Declares, Uses, Appears, Identifies}
+use Rattle.idl_env.specs.declared.additions.addition.Addition.TheVariants.{Declares, Uses, Appears, Identifies, TypePrefixes}
 
 -- an addition declares one entity at most
 pub declared-few : (additions : List Addition) → length (declared_among additions) ≤ length additions
@@ -12,6 +12,7 @@ declared-few (Declares e ∷ additions) = let l = declared-few additions in omeg
 declared-few (Uses n path body ∷ additions) = let l = declared-few additions in omega (arith, l)
 declared-few (Appears path prefix ∷ additions) = let l = declared-few additions in omega (arith, l)
 declared-few (Identifies path identity ∷ additions) = let l = declared-few additions in omega (arith, l)
+declared-few (TypePrefixes path text ∷ additions) = let l = declared-few additions in omega (arith, l)
 
 plus_zero : (n : ℕ) → n ≡ 0 + n
 plus_zero n = omega arith

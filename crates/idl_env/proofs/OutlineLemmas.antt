@@ -7,7 +7,7 @@ use Rattle.std.specs.declared.cmp.Ordering.TheVariants.{Less, Equal}
 use Rattle.idl_env.specs.keys.Outline.{outline, outline_cmp}
 use Rattle.idl_env.specs.contracts.keys.key.KeyOrd.TheImpl.{ghosts as own_order}
 use Rattle.idl_env.specs.declared.keys.key.Key.{Key}
-use Rattle.idl_env.specs.declared.keys.key.Key.TheVariants.{Cursor, Declared, Introduced, Opened, Nameless, Prefix, IdOf}
+use Rattle.idl_env.specs.declared.keys.key.Key.TheVariants.{Cursor, Declared, Introduced, Opened, Nameless, Prefix, IdOf, Typeprefix}
 
 then-equal : (o : Ordering) → ordering_then o Equal ≡ o
 then-equal Less = refl
@@ -25,6 +25,7 @@ cmp-outlines Cursor (Opened q) = refl
 cmp-outlines Cursor Nameless = refl
 cmp-outlines Cursor Prefix = refl
 cmp-outlines Cursor (IdOf q) = refl
+cmp-outlines Cursor (Typeprefix q) = refl
 cmp-outlines (Declared n p) Cursor = refl
 cmp-outlines (Declared n p) (Declared m q) = sym (then-equal (slice_cmp (slice_cmp nat_cmp) (n ∷ p) (m ∷ q)))
 cmp-outlines (Declared n p) (Introduced m q b) = refl
@@ -32,6 +33,7 @@ cmp-outlines (Declared n p) (Opened q) = refl
 cmp-outlines (Declared n p) Nameless = refl
 cmp-outlines (Declared n p) Prefix = refl
 cmp-outlines (Declared n p) (IdOf q) = refl
+cmp-outlines (Declared n p) (Typeprefix q) = refl
 cmp-outlines (Introduced n p a) Cursor = refl
 cmp-outlines (Introduced n p a) (Declared m q) = refl
 cmp-outlines (Introduced n p a) (Introduced m q b) = then-then (slice_cmp nat_cmp n m) (slice_cmp (slice_cmp nat_cmp) p q) (nat_cmp a b)
@@ -39,6 +41,7 @@ cmp-outlines (Introduced n p a) (Opened q) = refl
 cmp-outlines (Introduced n p a) Nameless = refl
 cmp-outlines (Introduced n p a) Prefix = refl
 cmp-outlines (Introduced n p a) (IdOf q) = refl
+cmp-outlines (Introduced n p a) (Typeprefix q) = refl
 cmp-outlines (Opened p) Cursor = refl
 cmp-outlines (Opened p) (Declared m q) = refl
 cmp-outlines (Opened p) (Introduced m q b) = refl
@@ -46,6 +49,7 @@ cmp-outlines (Opened p) (Opened q) = sym (then-equal (slice_cmp (slice_cmp nat_c
 cmp-outlines (Opened p) Nameless = refl
 cmp-outlines (Opened p) Prefix = refl
 cmp-outlines (Opened p) (IdOf q) = refl
+cmp-outlines (Opened p) (Typeprefix q) = refl
 cmp-outlines Nameless Cursor = refl
 cmp-outlines Nameless (Declared m q) = refl
 cmp-outlines Nameless (Introduced m q b) = refl
@@ -53,6 +57,7 @@ cmp-outlines Nameless (Opened q) = refl
 cmp-outlines Nameless Nameless = refl
 cmp-outlines Nameless Prefix = refl
 cmp-outlines Nameless (IdOf q) = refl
+cmp-outlines Nameless (Typeprefix q) = refl
 cmp-outlines Prefix Cursor = refl
 cmp-outlines Prefix (Declared m q) = refl
 cmp-outlines Prefix (Introduced m q b) = refl
@@ -60,6 +65,7 @@ cmp-outlines Prefix (Opened q) = refl
 cmp-outlines Prefix Nameless = refl
 cmp-outlines Prefix Prefix = refl
 cmp-outlines Prefix (IdOf q) = refl
+cmp-outlines Prefix (Typeprefix q) = refl
 cmp-outlines (IdOf p) Cursor = refl
 cmp-outlines (IdOf p) (Declared m q) = refl
 cmp-outlines (IdOf p) (Introduced m q b) = refl
@@ -67,3 +73,12 @@ cmp-outlines (IdOf p) (Opened q) = refl
 cmp-outlines (IdOf p) Nameless = refl
 cmp-outlines (IdOf p) Prefix = refl
 cmp-outlines (IdOf p) (IdOf q) = sym (then-equal (slice_cmp (slice_cmp nat_cmp) p q))
+cmp-outlines (IdOf p) (Typeprefix q) = refl
+cmp-outlines (Typeprefix p) Cursor = refl
+cmp-outlines (Typeprefix p) (Declared m q) = refl
+cmp-outlines (Typeprefix p) (Introduced m q b) = refl
+cmp-outlines (Typeprefix p) (Opened q) = refl
+cmp-outlines (Typeprefix p) Nameless = refl
+cmp-outlines (Typeprefix p) Prefix = refl
+cmp-outlines (Typeprefix p) (IdOf q) = refl
+cmp-outlines (Typeprefix p) (Typeprefix q) = sym (then-equal (slice_cmp (slice_cmp nat_cmp) p q))

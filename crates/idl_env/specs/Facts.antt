@@ -3,18 +3,18 @@ use Rattle.std.specs.Prelude.{ℕ, ◌+◌, List, [], ◌∷◌, ◌++◌, Optio
 use Rattle.std.specs.List.{list_any}
 use Rattle.idl_lex.specs.kinds.Keywords.{folded}
 use Rattle.idl_entity.specs.Entity.{is_operation}
-use Rattle.idl_entity.specs.Identity.{fixed_for, identity_of, no_prefix, prefix_for, told}
+use Rattle.idl_entity.specs.Identity.{first_identity, fixed_for, identity_of, no_prefix, prefix_for, told}
 use Rattle.idl_env.specs.keys.Key.{key_eq}
 use Rattle.idl_env.specs.declared.keys.key.Key.{Key}
-use Rattle.idl_env.specs.declared.keys.key.Key.TheVariants.{Cursor, Declared, Introduced, Opened, Nameless, Prefix as PrefixKey, IdOf}
+use Rattle.idl_env.specs.declared.keys.key.Key.TheVariants.{Cursor, Declared, Introduced, Opened, Nameless, Prefix as PrefixKey, IdOf, Typeprefix}
 use Rattle.idl_entity.specs.Kind.{kind_eq}
 use Rattle.idl_entity.specs.Path.{name_of, path_eq, scope_of}
 use Rattle.idl_env.specs.declared.additions.addition.Addition.{Addition}
-use Rattle.idl_env.specs.declared.additions.addition.Addition.TheVariants.{Declares, Uses, Appears, Identifies}
+use Rattle.idl_env.specs.declared.additions.addition.Addition.TheVariants.{Declares, Uses, Appears, Identifies, TypePrefixes}
 use Rattle.idl_env.specs.declared.additions.addition.Step.{Step}
 use Rattle.idl_env.specs.declared.additions.addition.Step.TheVariants.{Stays, Opens, OpensNameless, Closes, Prefixes, Enters, Leaves}
 use Rattle.idl_env.specs.declared.answering.answer.Answer.{Answer}
-use Rattle.idl_env.specs.declared.answering.answer.Answer.TheVariants.{Open, Known, Used, Count, InForce, Appeared, Identified}
+use Rattle.idl_env.specs.declared.answering.answer.Answer.TheVariants.{Open, Known, Used, Count, InForce, Appeared, Identified, Prefixed}
 use Rattle.idl_env.specs.declared.answering.answer.Scope.{Scope}
 use Rattle.idl_entity.specs.declared.entity.Entity.{Entity}
 use Rattle.idl_entity.specs.declared.identity.Identity.{Identity}
@@ -22,8 +22,8 @@ use Rattle.idl_entity.specs.declared.identity.Prefix.{Prefix}
 use Rattle.idl_entity.specs.declared.kind.Kind.TheVariants.{Module, Interface}
 use Rattle.idl_entity.specs.declared.kind.Stage.TheVariants.{Complete}
 
--- what a unit adds, or its earlier tokens: names that are declared and introduced, and ids, no two
--- at one key, and then how the open scopes, the files entered and the prefix change
+-- what a unit adds, or its earlier tokens: names that are declared and introduced, ids and
+-- typeprefixes, no two at one key, and then how the open scopes, the files entered and the prefix change
 pub record UnitFacts : Type 0 where
   pub additions : List Addition
   pub step : Step
@@ -38,6 +38,7 @@ key_of (Declares e) = entity_key e.path
 key_of (Uses n path body) = Introduced n path body
 key_of (Appears path prefix) = IdOf path
 key_of (Identifies path identity) = IdOf path
+key_of (TypePrefixes path text) = Typeprefix path
 
 -- the answer that it leaves there
 abbrev pub answer_of : Addition → Answer
@@ -45,6 +46,7 @@ answer_of (Declares e) = Known e
 answer_of (Uses n path body) = Used
 answer_of (Appears path prefix) = Appeared (prefix_for path prefix)
 answer_of (Identifies path fixed) = Identified (fixed_for path fixed)
+answer_of (TypePrefixes path text) = Prefixed text
 
 -- the addition at a key, or nothing
 abbrev pub addition_at : List Addition → Key → Option Addition
@@ -114,15 +116,21 @@ abbrev pub prefix_in : Option Answer → Prefix
 prefix_in (Some (InForce prefix)) = prefix
 prefix_in other = no_prefix
 
--- what identifies a name, by what is answered of its id
-abbrev pub identity_in : Option Answer → Option Identity
-identity_in (Some (Appeared prefix)) = Some (record { prefix = prefix; fixed = None })
-identity_in (Some (Identified fixed)) = Some (identity_of fixed)
-identity_in other = None
+-- the typeprefix of a scope, by what is answered of it
+abbrev pub typeprefix_in : Option Answer → Option (List ℕ)
+typeprefix_in (Some (Prefixed text)) = Some text
+typeprefix_in other = None
+
+-- what identifies a name under a typeprefix, if there is one, by what is answered of its id
+abbrev pub identity_in : Option (List ℕ) → Option Answer → Option Identity
+identity_in typeprefix (Some (Appeared prefix)) = Some (first_identity typeprefix prefix)
+identity_in typeprefix (Some (Identified fixed)) = Some (identity_of typeprefix fixed)
+identity_in typeprefix other = None
 
 -- the id of the name at a path, and nothing where none is told
-abbrev pub id_at : List (List ℕ) → Option Answer → List ℕ
-id_at path answer = elim (identity_in answer) [ None ↦ [] | Some d ↦ told path d ]
+abbrev pub id_at : List (List ℕ) → Option (List ℕ) → Option Answer → List ℕ
+id_at path typeprefix answer =
+    elim (identity_in typeprefix answer) [ None ↦ [] | Some d ↦ told path d ]
 
 -- the paths of operations and attributes among what is declared
 abbrev pub operations_among : List Addition → List (List (List ℕ))
@@ -132,6 +140,7 @@ operations_among (Declares e ∷ additions) =
 operations_among (Uses n path body ∷ additions) = operations_among additions
 operations_among (Appears path prefix ∷ additions) = operations_among additions
 operations_among (Identifies path identity ∷ additions) = operations_among additions
+operations_among (TypePrefixes path text ∷ additions) = operations_among additions
 
 -- those of the innermost scope, with more
 abbrev pub more_inside : List (List (List (List ℕ))) → List (List (List ℕ))

@@ -7,7 +7,7 @@ use Rattle.idl_base.specs.Exact.{both, same_number}
 use Rattle.idl_env.specs.keys.Key.{key_eq}
 use Rattle.idl_entity.specs.Path.{same_path}
 use Rattle.idl_env.specs.declared.keys.key.Key.{Key}
-use Rattle.idl_env.specs.declared.keys.key.Key.TheVariants.{Cursor, Declared, Introduced, Opened, Nameless, Prefix, IdOf}
+use Rattle.idl_env.specs.declared.keys.key.Key.TheVariants.{Cursor, Declared, Introduced, Opened, Nameless, Prefix, IdOf, Typeprefix}
 
 pub same_key : (key other : Key) → key_eq key other ≡ true → key ≡ other
 same_key Cursor Cursor h = refl
@@ -22,6 +22,7 @@ same_key (Opened p) (Opened q) h = ap Opened (same_path p q h)
 same_key Nameless Nameless h = refl
 same_key Prefix Prefix h = refl
 same_key (IdOf p) (IdOf q) h = ap IdOf (same_path p q h)
+same_key (Typeprefix p) (Typeprefix q) h = ap Typeprefix (same_path p q h)
 same_key key other h = cc
 
 -- a copied key is its source, by the copies of its parts
@@ -33,6 +34,7 @@ IsKeyCopy (Opened p) (Opened q) = q ≡ p
 IsKeyCopy Nameless Nameless = Unit {0}
 IsKeyCopy Prefix Prefix = Unit {0}
 IsKeyCopy (IdOf p) (IdOf q) = q ≡ p
+IsKeyCopy (Typeprefix p) (Typeprefix q) = q ≡ p
 IsKeyCopy key copy = ⊥
 
 pub copied_key : (key copy : Key) → IsKeyCopy key copy → copy ≡ key
@@ -43,4 +45,5 @@ copied_key (Opened p) (Opened q) h = ap Opened h
 copied_key Nameless Nameless h = refl
 copied_key Prefix Prefix h = refl
 copied_key (IdOf p) (IdOf q) h = ap IdOf h
+copied_key (Typeprefix p) (Typeprefix q) h = ap Typeprefix h
 copied_key key copy h = absurd h

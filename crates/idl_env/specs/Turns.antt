@@ -3,7 +3,7 @@
 use Rattle.std.specs.Prelude.{ℕ, ◌+◌, ◌≤◌, List, [], ◌∷◌, flat_map, length}
 use Rattle.idl_env.specs.Facts.{UnitFacts}
 use Rattle.idl_env.specs.declared.additions.addition.Addition.{Addition}
-use Rattle.idl_env.specs.declared.additions.addition.Addition.TheVariants.{Declares, Uses, Appears, Identifies}
+use Rattle.idl_env.specs.declared.additions.addition.Addition.TheVariants.{Declares, Uses, Appears, Identifies, TypePrefixes}
 
 -- the paths of the bases that an addition names
 abbrev pub bases_in : Addition → List (List (List ℕ))
@@ -11,6 +11,7 @@ bases_in (Declares e) = e.bases
 bases_in (Uses n path body) = []
 bases_in (Appears path prefix) = []
 bases_in (Identifies path identity) = []
+bases_in (TypePrefixes path text) = []
 
 -- those that what a unit adds names
 abbrev pub bases_among : List Addition → List (List (List ℕ))
@@ -26,6 +27,7 @@ declared_in (Declares e) = e.path ∷ []
 declared_in (Uses n path body) = []
 declared_in (Appears path prefix) = []
 declared_in (Identifies path identity) = []
+declared_in (TypePrefixes path text) = []
 
 -- those of what a unit declares
 abbrev pub declared_among : List Addition → List (List (List ℕ))

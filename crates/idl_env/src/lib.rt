@@ -15,6 +15,7 @@ pub use additions::facts::Facts;
 pub use additions::room::{Room, Writes};
 pub use answering::answer::{
     Answer, Scope, count_in, entity_in, identity_in, prefix_in, push_id_at, scopes_in,
+    typeprefix_in,
 };
 pub use answering::open_scopes::OpenScopes;
 pub use answering::queue::BaseQueue;

@@ -1,14 +1,14 @@
 -- Pieces that are written, one after another.
-use Rattle.std.proofs.Common.{◌≡◌, ◌∙◌, ℕ, ◌+◌, ◌-◌, ◌<◌, ◌≤◌, List, [], ◌∷◌, ◌++◌, Bool, true, false, cond, ◌||◌, Option, Result, Ok, Err, refl, sym, ap, append_assoc, arith, codes, drop, flat_map, get_or, length, take}
+use Rattle.std.proofs.Common.{◌≡◌, ◌∙◌, ℕ, ◌+◌, ◌-◌, ◌<◌, ◌≤◌, List, [], ◌∷◌, ◌++◌, Bool, true, false, cond, ◌||◌, Option, Result, Ok, Err, All, refl, subst, sym, ap, append_assoc, arith, codes, drop, flat_map, get_or, length, take}
 use Rattle.std.specs.Prelude.{OnOk, is_ok, if◌then◌else◌}
 use Rattle.std.proofs.lemmas.List.Folds.{list_any-append}
 use Rattle.std.proofs.lemmas.List.{append-nil, flat_map_more, take_all, take_more}
-use Rattle.idl_memo.specs.Query.{asked, is_logged, noted, noted_all, outcome}
-use Rattle.idl_memo.proofs.QueryLaws.{asked-and_then, noted_all-append, outcome-and_then}
+use Rattle.idl_memo.specs.Query.{Done, asked, is_logged, noted, noted_all, outcome, run}
+use Rattle.idl_memo.proofs.QueryLaws.{asked-and_then, noted_all-append, outcome-and_then, run-and_then_at}
 use Rattle.idl_repo.specs.Pieces.{Grows, IdOf, Pieces, Says, State, asked_of, commas, ids_in, says, text_over, written}
-use Rattle.idl_scope.specs.Known.{id_of}
+use Rattle.idl_scope.specs.Known.{id_of, known, told_of, typeprefix_around}
 use Rattle.idl_env.specs.keys.Digested.{key_equiv}
-use Rattle.idl_env.specs.Facts.{UnitFacts, answers, id_at}
+use Rattle.idl_env.specs.Facts.{UnitFacts, answers, id_at, identity_in}
 use Rattle.idl_env.specs.keys.Key.{key_eq}
 use Rattle.idl_env.specs.declared.answering.answer.Answer.{Answer}
 use Rattle.idl_env.specs.declared.keys.key.Key.{Key}
@@ -68,31 +68,71 @@ pub id-then : {path : List (List ℕ)} {p : Pieces} {s t u : State} → Grows (I
 id-then h g = grows-then h g
 
 -- an id, as it is answered
-pub grows-id : {facts : List UnitFacts} {path : List (List ℕ)} {old new : List ℕ} {log after : List (Key × Option Answer)} → new ≡ old ++ id_at path (answers facts (key.IdOf path)) → after ≡ noted key_eq (answers facts) log (key.IdOf path) → Grows (IdOf path ∷ []) (facts, (old, log)) (facts, (new, after))
+pub grows-id : {facts : List UnitFacts} {path : List (List ℕ)} {told old new : List ℕ} {log after : List (Key × Option Answer)} → new ≡ old ++ told → (told, after) ≡ run key_eq (id_of path) (answers facts) log → Grows (IdOf path ∷ []) (facts, (old, log)) (facts, (new, after))
 unfolding text_over ids_in
-grows-id {facts} {path} {old} {new} {log} {after} e l = record { facts = refl; text = e ∙ ap (λ x. old ++ x) (sym (append-nil (id_at path (answers facts (key.IdOf path))))); log = l }
+grows-id {facts} {path} {told} {old} {new} {log} {after} e is =
+    let bank = answers facts in
+    record {
+      facts = refl;
+      text = e ∙ ap (λ (r : List ℕ × List (Key × Option Answer)). old ++ r.0) is ∙ ap (λ x. old ++ x) (sym (append-nil (outcome (id_of path) bank)));
+      log = ap (λ (r : List ℕ × List (Key × Option Answer)). r.1) is ∙ ap (noted_all key_eq bank log) (sym (append-nil (asked_of bank path)));
+    }
 
--- and a text that is that id
-pub grows-id-as : {facts : List UnitFacts} {path : List (List ℕ)} {told old new : List ℕ} {log after : List (Key × Option Answer)} → new ≡ old ++ told → told ≡ id_at path (answers facts (key.IdOf path)) → after ≡ noted key_eq (answers facts) log (key.IdOf path) → Grows (IdOf path ∷ []) (facts, (old, log)) (facts, (new, after))
-grows-id-as {told} {old} e is l = grows-id (e ∙ ap (λ w. old ++ w) is) l
+-- the id of what this is answered of, where these typeprefixes are asked behind it
+pub id-run : (bank : Key → Option Answer) (path : List (List ℕ)) (log after : List (Key × Option Answer)) (typeprefix : Option (List ℕ))
+    → (typeprefix, after) ≡ run key_eq (typeprefix_around path) bank (noted key_eq bank log (key.IdOf path))
+    → (id_at path typeprefix (bank (key.IdOf path)), after) ≡ run key_eq (id_of path) bank log
+id-run bank path log after typeprefix h =
+    let answer = bank (key.IdOf path) in
+    let identity = identity_in typeprefix answer in
+    let known_is : run key_eq (known path) bank log ≡ (identity, after) =
+    run-and_then_at key_eq (typeprefix_around path) (λ p. Done (identity_in p answer)) bank (noted key_eq bank log (key.IdOf path)) typeprefix after h in
+    sym (run-and_then_at key_eq (known path) (λ d. Done (told_of path d)) bank log identity after (sym known_is))
 
--- a key that is noted is not noted again
-noted-by : (bank : Key → Option Answer) (log : List (Key × Option Answer)) (k : Key) (b : Bool) → is_logged key_eq log k ≡ b → noted key_eq bank (cond b log (log ++ (k, bank k) ∷ [])) k ≡ cond b log (log ++ (k, bank k) ∷ [])
-noted-by bank log k true h = ap (λ b. cond b log (log ++ (k, bank k) ∷ [])) h
-noted-by bank log k false h =
-    let more = log ++ (k, bank k) ∷ [] in
-    let last : is_logged key_eq ((k, bank k) ∷ []) k ≡ true = ap (λ b. b || false) (key_equiv.refl k) in
-    let there : is_logged key_eq more k ≡ true = list_any-append (λ (e : Key × Option Answer). key_eq k e.0) log ((k, bank k) ∷ []) ∙ ap (λ b. b || is_logged key_eq ((k, bank k) ∷ []) k) h ∙ last in
-    ap (λ b. cond b more (more ++ (k, bank k) ∷ [])) there
+-- a key that is logged stays so, and is not noted again
+logged-one : (bank : Key → Option Answer) (log : List (Key × Option Answer)) (k j : Key) → is_logged key_eq log k ≡ true → is_logged key_eq (noted key_eq bank log j) k ≡ true
+logged-one bank log k j h = by (is_logged key_eq log j)
+  where
+    by : (b : Bool) → is_logged key_eq (cond b log (log ++ (j, bank j) ∷ [])) k ≡ true
+    by true = h
+    by false =
+        list_any-append (λ (e : Key × Option Answer). key_eq k e.0) log ((j, bank j) ∷ [])
+        ∙ ap (λ b. b || is_logged key_eq ((j, bank j) ∷ []) k) h
 
-noted-again : (bank : Key → Option Answer) (log : List (Key × Option Answer)) (k : Key) → noted key_eq bank (noted key_eq bank log k) k ≡ noted key_eq bank log k
-noted-again bank log k = noted-by bank log k (is_logged key_eq log k) refl
+logged-all : (bank : Key → Option Answer) (log : List (Key × Option Answer)) (k : Key) (ks : List Key) → is_logged key_eq log k ≡ true → is_logged key_eq (noted_all key_eq bank log ks) k ≡ true
+logged-all bank log k [] h = h
+logged-all bank log k (j ∷ ks) h = logged-all bank (noted key_eq bank log j) k ks (logged-one bank log k j h)
+
+logged-here : (bank : Key → Option Answer) (log : List (Key × Option Answer)) (k : Key) → is_logged key_eq (noted key_eq bank log k) k ≡ true
+logged-here bank log k = by (is_logged key_eq log k) refl
+  where
+    by : (b : Bool) → is_logged key_eq log k ≡ b → is_logged key_eq (cond b log (log ++ (k, bank k) ∷ [])) k ≡ true
+    by true h = h
+    by false h =
+        let last : is_logged key_eq ((k, bank k) ∷ []) k ≡ true = ap (λ b. b || false) (key_equiv.refl k) in
+        list_any-append (λ (e : Key × Option Answer). key_eq k e.0) log ((k, bank k) ∷ [])
+        ∙ ap (λ b. b || is_logged key_eq ((k, bank k) ∷ []) k) h ∙ last
+
+AreLogged : List (Key × Option Answer) → List Key → Type 0
+AreLogged log ks = All (λ k. is_logged key_eq log k ≡ true) ks
+
+are-logged : (bank : Key → Option Answer) (log : List (Key × Option Answer)) (ks : List Key) → AreLogged (noted_all key_eq bank log ks) ks
+are-logged bank log [] = tt
+are-logged bank log (k ∷ ks) = let more = noted key_eq bank log k in (logged-all bank more k ks (logged-here bank log k), are-logged bank more ks)
+
+noted-there : (bank : Key → Option Answer) (log : List (Key × Option Answer)) (ks : List Key) → AreLogged log ks → noted_all key_eq bank log ks ≡ log
+noted-there bank log [] h = refl
+noted-there bank log (k ∷ ks) h =
+    ap (λ b. noted_all key_eq bank (cond b log (log ++ (k, bank k) ∷ [])) ks) h.0 ∙ noted-there bank log ks h.1
 
 -- an id that was asked already
-pub grows-known : {facts : List UnitFacts} {path : List (List ℕ)} {id old new : List ℕ} {after : List (Key × Option Answer)} (log : List (Key × Option Answer)) → new ≡ old ++ id → id ≡ id_at path (answers facts (key.IdOf path)) → after ≡ noted key_eq (answers facts) log (key.IdOf path) → Grows (IdOf path ∷ []) (facts, (old, after)) (facts, (new, after))
-grows-known {facts} {path} {id} {old} {new} {after} log e is l =
+pub grows-known : {facts : List UnitFacts} {path : List (List ℕ)} {told old new : List ℕ} {after : List (Key × Option Answer)} (log : List (Key × Option Answer)) → new ≡ old ++ told → (told, after) ≡ run key_eq (id_of path) (answers facts) log → Grows (IdOf path ∷ []) (facts, (old, after)) (facts, (new, after))
+grows-known {facts} {path} {told} {old} {new} {after} log e is =
     let bank = answers facts in
-    grows-id-as e is (l ∙ sym (noted-again bank log (key.IdOf path)) ∙ ap (λ a. noted key_eq bank a (key.IdOf path)) (sym l))
+    let ks = asked_of bank path in
+    let logged : after ≡ noted_all key_eq bank log ks = ap (λ (r : List ℕ × List (Key × Option Answer)). r.1) is in
+    let again : noted_all key_eq bank after ks ≡ after = noted-there bank after ks (subst (λ l. AreLogged l ks) (sym logged) (are-logged bank log ks)) in
+    grows-id e (λ i. ((ap (λ (r : List ℕ × List (Key × Option Answer)). r.0) is) i, sym again i))
 
 -- the same pieces
 pub grows-as : {p q : Pieces} {s t : State} → p ≡ q → Grows p s t → Grows q s t
@@ -143,10 +183,6 @@ asked-by-written bank text [] = refl
 asked-by-written bank text (Says more ∷ p) = asked-by-written bank (text ++ more) p
 asked-by-written bank text (IdOf path ∷ p) =
     asked-and_then (id_of path) (λ id. written (text ++ id) p) bank ∙ ap (λ x. asked_of bank path ++ x) (asked-by-written bank (text ++ outcome (id_of path) bank) p)
-
--- the id of an answer at a path that is told by another name
-pub id-told : {asked told path : List (List ℕ)} {answer : Option Answer} (bank : Key → Option Answer) → answer ≡ bank (key.IdOf asked) → asked ≡ path → told ≡ path → id_at told answer ≡ id_at path (bank (key.IdOf path))
-id-told {asked} {told} {path} {answer} bank is a t = ap (λ p. id_at p answer) t ∙ ap (id_at path) (is ∙ ap (λ p. bank (key.IdOf p)) a)
 
 -- pieces that are written between what was taken and what is given back
 pub grows-between : {facts : List UnitFacts} {p : Pieces} {old new : List ℕ} {log after : List (Key × Option Answer)} (s t : State) → s.0 ≡ facts → s.1.0 ≡ old → s.1.1 ≡ log → new ≡ t.1.0 → after ≡ t.1.1 → Grows p s t

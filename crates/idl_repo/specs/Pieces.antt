@@ -1,8 +1,10 @@
 -- Texts in which ids stand: each id is asked where it is told.
 use Rattle.std.specs.Prelude.{◌≡◌, ℕ, List, [], ◌∷◌, ◌++◌, codes, flat_map, Option}
 use Rattle.idl_memo.specs.Query.{Done, and_then, asked, noted_all, outcome}
+use Rattle.idl_repo.specs.declared.piece.AnsweredId.{AnsweredId}
 use Rattle.idl_repo.specs.declared.row_writer.RowWriter.{RowWriter}
-use Rattle.idl_env.specs.Facts.{UnitFacts, answers}
+use Rattle.std.specs.Option.{option_copied}
+use Rattle.idl_env.specs.Facts.{UnitFacts, answers, id_at}
 use Rattle.idl_env.specs.keys.Key.{key_eq}
 use Rattle.idl_env.specs.declared.keys.key.Key.{Key}
 use Rattle.idl_scope.specs.Known.{id_of}
@@ -64,3 +66,7 @@ Writes pieces old new = Grows pieces (state old) (state new)
 abbrev pub commas : {X : Type 0} → (X → Pieces) → List X → Pieces
 commas pieces [] = []
 commas pieces (x ∷ xs) = pieces x ++ flat_map (λ y. Says (codes ",") ∷ pieces y) xs
+
+-- the id of a name, by what is answered of it
+abbrev pub told_id : AnsweredId → List ℕ
+told_id id = id_at id.path.now (option_copied id.typeprefix) (option_copied id.answer)

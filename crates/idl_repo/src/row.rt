@@ -11,7 +11,6 @@ use crate::type_code::{TypeCode, members_of, signature_of};
 use idl_base::Seq;
 use idl_entity::paths::Names;
 use idl_entity::{Entity, Kind, Member, Path};
-use idl_env::push_id_at;
 use idl_value::Value;
 use std::alloc::AllocError;
 
@@ -21,13 +20,14 @@ impl<'a> RowWriter<'a> {
         ensures { OnOk result (Writes (row_pieces entity.now) self.old self.new) }
     {
         self.text.extend_from_slice(kind_head(entity.kind()))?;
-        push_path(&mut self.text, entity.path().lent())?;
+        let path = entity.path();
+        push_path(&mut self.text, path.lent())?;
         self.text.extend_from_slice(b" ")?;
-        let answer = id_of(self.env, &mut self.log, entity.path())?;
-        push_id_at(&mut self.text, entity.path(), answer)?;
+        let id = id_of(self.env, &mut self.log, path)?;
+        id.write(&mut self.text)?;
         match TypeCode::of(entity) {
             Some(code) => {
-                code.push_head(&mut self.text, answer)?;
+                code.push_head(&mut self.text, id)?;
                 self.push_rest(code)?;
                 self.push_bases(entity)?;
             }

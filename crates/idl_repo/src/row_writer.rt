@@ -5,7 +5,7 @@ ghost use Rattle.idl_repo.specs.Pieces.{IdOf, Writes};
 
 use crate::piece::id_of;
 use idl_entity::Path;
-use idl_env::{Env, push_id_at};
+use idl_env::Env;
 use idl_memo::Journal;
 use std::alloc::AllocError;
 use std::mem::replace;
@@ -61,8 +61,7 @@ impl<'a> RowWriter<'a> {
     pub fn push_id(&mut self, path: &Path) -> Result<(), AllocError>
         ensures { OnOk result (Writes (IdOf path.now ∷ []) self.old self.new) }
     {
-        let answer = id_of(self.env, &mut self.log, path)?;
-        push_id_at(&mut self.text, path, answer)?;
-        Ok(())
+        let id = id_of(self.env, &mut self.log, path)?;
+        id.write(&mut self.text)
     }
 }

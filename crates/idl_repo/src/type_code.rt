@@ -2,15 +2,13 @@
 
 ghost use Rattle.std.specs.Prelude.{◌≡◌, ◌++◌, IfOk, IfSome, OnOk, codes, flat_map};
 ghost use Rattle.std.specs.Option.{option_copied, option_map};
-ghost use Rattle.idl_repo.specs.Pieces.{Writes};
+ghost use Rattle.idl_repo.specs.Pieces.{Writes, told_id};
 ghost use Rattle.idl_repo.specs.TypeCode.{code_head, code_word, default_at, default_word, element_pieces, entries_of, enumerator_word, integer_word, kind_in, label_word, labelled_pieces, layer_end, layer_word, layers_begin, member_pieces, members_of, part_pieces, reference, rest_pieces, size_of, string_word, target_word, type_behind, type_pieces, typed_pieces, unvalued_word};
-ghost use Rattle.idl_env.specs.Facts.{id_at};
 
-use crate::piece::{push_listed, push_number};
+use crate::piece::{AnsweredId, push_listed, push_number};
 use crate::row_writer::RowWriter;
 use idl_base::{Bytes, Shared};
 use idl_entity::{DataType, Element, Entity, Kind, Layer, Member, Path, Signature, Unvalued};
-use idl_env::{Answer, push_id_at};
 use idl_value::{ConstantType, IntegerKind, Value};
 use std::alloc::AllocError;
 
@@ -72,17 +70,13 @@ impl<'a> TypeCode<'a> {
         Some(TypeCode { kind, entity })
     }
 
-    /// Writes its beginning, behind a blank: its word, and in parentheses its id, of which this is answered.
-    pub fn push_head(self, text: &mut Vec<u8>, answer: Option<&Answer>) -> Result<(), AllocError>
+    // Writes its beginning, behind a blank: its word, and behind a parenthesis its id.
+    pub(crate) fn push_head(self, text: &mut Vec<u8>, id: AnsweredId<'_>) -> Result<(), AllocError>
         ensures { OnOk result
-            (text.new.items
-            ≡ text.old.items
-            ++ code_head self.entry.kind
-            (id_at self.entry.entity.now.path (option_copied answer.entry))) }
+            (text.new.items ≡ text.old.items ++ code_head self.entry.kind (told_id id.entry)) }
     {
         text.extend_from_slice(self.kind.head())?;
-        push_id_at(text, self.entity.path(), answer)?;
-        Ok(())
+        id.write(text)
     }
 }
 

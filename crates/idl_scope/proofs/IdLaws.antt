@@ -13,11 +13,11 @@ use Rattle.idl_env.specs.declared.keys.key.Key.TheVariants.{Cursor, IdOf}
 use Rattle.idl_entity.specs.Kind.{kind_eq}
 use Rattle.idl_entity.specs.Path.{path_eq, same_path, scope_of}
 use Rattle.idl_env.specs.declared.additions.addition.Addition.{Addition}
-use Rattle.idl_env.specs.declared.additions.addition.Addition.TheVariants.{Declares, Uses, Appears, Identifies}
+use Rattle.idl_env.specs.declared.additions.addition.Addition.TheVariants.{Declares, Uses, Appears, Identifies, TypePrefixes}
 use Rattle.idl_env.specs.declared.additions.addition.Step.{Step}
 use Rattle.idl_env.specs.declared.additions.addition.Step.TheVariants.{Stays, Opens, OpensNameless, Closes, Prefixes}
 use Rattle.idl_env.specs.declared.answering.answer.Answer.{Answer}
-use Rattle.idl_env.specs.declared.answering.answer.Answer.TheVariants.{Open, Known, Used, Count, InForce, Appeared, Identified}
+use Rattle.idl_env.specs.declared.answering.answer.Answer.TheVariants.{Open, Known, Used, Count, InForce, Appeared, Identified, Prefixed}
 use Rattle.idl_env.specs.declared.answering.answer.Scope.{Scope}
 use Rattle.idl_entity.specs.declared.entity.Entity.{Entity}
 use Rattle.idl_entity.specs.declared.identity.Fixed.{Fixed}
@@ -65,6 +65,7 @@ additions-of-id path (a ∷ additions) before h =
     by (Uses n p body) there = there
     by (Appears q p) there = at q (Some (Appeared (prefix_for q p))) (over additions (IdOf path) before) (prefix-around q p) there (path_eq path q) refl
     by (Identifies q d) there = at q (Some (Identified (fixed_for q d))) (over additions (IdOf path) before) (met-for q d.prefix d.by) there (path_eq path q) refl
+    by (TypePrefixes q t) there = there
 
 -- no change of the open scopes, of the files entered or of the prefix changes an id
 closing-keeps : (w : World) (s : Scope) (path : List (List ℕ)) (before : Option Answer) → over (closing w s) (IdOf path) before ≡ before
@@ -195,6 +196,7 @@ answers-same path None (Some (Known f)) h g e = absurd g
 answers-same path None (Some Used) h g e = absurd g
 answers-same path None (Some (Count n)) h g e = absurd g
 answers-same path None (Some (InForce p)) h g e = absurd g
+answers-same path None (Some (Prefixed t)) h g e = absurd g
 answers-same path (Some (Appeared p)) None h g e = absurd (some_none e)
 answers-same path (Some (Appeared p)) (Some (Appeared q)) h g e = ap (λ r. Some (Appeared r)) (first-same path p q h g e)
 answers-same path (Some (Appeared p)) (Some (Identified d)) h g e = absurd (none_some (ap (λ (t : Told). t.1.1) (some_same e)))
@@ -203,6 +205,7 @@ answers-same path (Some (Appeared p)) (Some (Known f)) h g e = absurd g
 answers-same path (Some (Appeared p)) (Some Used) h g e = absurd g
 answers-same path (Some (Appeared p)) (Some (Count n)) h g e = absurd g
 answers-same path (Some (Appeared p)) (Some (InForce q)) h g e = absurd g
+answers-same path (Some (Appeared p)) (Some (Prefixed t)) h g e = absurd g
 answers-same path (Some (Identified d)) None h g e = absurd (some_none e)
 answers-same path (Some (Identified d)) (Some (Appeared q)) h g e = absurd (some_none (ap (λ (t : Told). t.1.1) (some_same e)))
 answers-same path (Some (Identified d)) (Some (Identified f)) h g e = ap (λ r. Some (Identified r)) (fixed-same path d f h g e)
@@ -211,11 +214,13 @@ answers-same path (Some (Identified d)) (Some (Known f)) h g e = absurd g
 answers-same path (Some (Identified d)) (Some Used) h g e = absurd g
 answers-same path (Some (Identified d)) (Some (Count n)) h g e = absurd g
 answers-same path (Some (Identified d)) (Some (InForce p)) h g e = absurd g
+answers-same path (Some (Identified d)) (Some (Prefixed t)) h g e = absurd g
 answers-same path (Some (Open s)) b h g e = absurd h
 answers-same path (Some (Known f)) b h g e = absurd h
 answers-same path (Some Used) b h g e = absurd h
 answers-same path (Some (Count n)) b h g e = absurd h
 answers-same path (Some (InForce p)) b h g e = absurd h
+answers-same path (Some (Prefixed t)) b h g e = absurd h
 
 pub identities-same : (facts others : List UnitFacts) (path : List (List ℕ))
     → told_at path (answers facts (IdOf path)) ≡ told_at path (answers others (IdOf path))

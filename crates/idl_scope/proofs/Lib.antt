@@ -3,6 +3,7 @@ pub mod Constructors
 pub mod ExchangeLaws
 pub mod FactsLaws
 pub mod IdLaws
+pub mod KnownLemmas
 pub mod LookupLaws
 pub mod PrefixLaws
 pub mod Worlds

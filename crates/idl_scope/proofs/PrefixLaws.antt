@@ -7,7 +7,7 @@ use Rattle.idl_env.specs.Facts.{UnitFacts, World, after, after_all, after_closin
 use Rattle.idl_entity.specs.Identity.{no_prefix}
 use Rattle.idl_scope.specs.Stretch.{IsBalanced, closes, depth, depth_behind, enters, leaves, opens}
 use Rattle.idl_env.specs.declared.additions.addition.Addition.{Addition}
-use Rattle.idl_env.specs.declared.additions.addition.Addition.TheVariants.{Declares, Uses, Appears, Identifies}
+use Rattle.idl_env.specs.declared.additions.addition.Addition.TheVariants.{Declares, Uses, Appears, Identifies, TypePrefixes}
 use Rattle.idl_env.specs.declared.additions.addition.Step.{Step}
 use Rattle.idl_env.specs.declared.additions.addition.Step.TheVariants.{Stays, Opens, OpensNameless, Closes, Prefixes, Enters, Leaves}
 use Rattle.idl_env.specs.declared.answering.answer.Answer.{Answer}
@@ -36,6 +36,7 @@ over_cursor (Declares e ∷ additions) before = over_cursor additions before
 over_cursor (Uses n path body ∷ additions) before = over_cursor additions before
 over_cursor (Appears path prefix ∷ additions) before = over_cursor additions before
 over_cursor (Identifies path identity ∷ additions) before = over_cursor additions before
+over_cursor (TypePrefixes path text ∷ additions) before = over_cursor additions before
 
 -- inside of so many scopes more than these
 module _ (t : Scope) (outer : List Scope) (opened : List Prefix) where

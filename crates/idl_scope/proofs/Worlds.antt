@@ -8,18 +8,18 @@ use Rattle.idl_env.specs.Facts.{UnitFacts, World, entity_key, entity_in, scopes_
 use Rattle.idl_entity.specs.Identity.{fixed_for, no_prefix, prefix_for}
 use Rattle.idl_env.specs.keys.Key.{key_eq}
 use Rattle.idl_env.specs.declared.keys.key.Key.{Key}
-use Rattle.idl_env.specs.declared.keys.key.Key.TheVariants.{Cursor, Declared, Introduced, Opened, Nameless, Prefix as PrefixKey, IdOf}
+use Rattle.idl_env.specs.declared.keys.key.Key.TheVariants.{Cursor, Declared, Introduced, Opened, Nameless, Prefix as PrefixKey, IdOf, Typeprefix}
 use Rattle.idl_env.specs.SameKey.{same_key}
 use Rattle.idl_entity.specs.Kind.{kind_eq, has_bases}
 use Rattle.idl_scope.specs.Lookup.{bases_of}
 use Rattle.idl_scope.specs.Meaning.{own_at, bases_at}
 use Rattle.idl_entity.specs.Path.{name_of, scope_of}
 use Rattle.idl_env.specs.declared.additions.addition.Addition.{Addition}
-use Rattle.idl_env.specs.declared.additions.addition.Addition.TheVariants.{Declares, Uses, Appears, Identifies}
+use Rattle.idl_env.specs.declared.additions.addition.Addition.TheVariants.{Declares, Uses, Appears, Identifies, TypePrefixes}
 use Rattle.idl_env.specs.declared.additions.addition.Step.{Step}
 use Rattle.idl_env.specs.declared.additions.addition.Step.TheVariants.{Stays, Opens, OpensNameless, Closes, Prefixes, Enters, Leaves}
 use Rattle.idl_env.specs.declared.answering.answer.Answer.{Answer}
-use Rattle.idl_env.specs.declared.answering.answer.Answer.TheVariants.{Open, Known, Used, Count, InForce, Appeared, Identified}
+use Rattle.idl_env.specs.declared.answering.answer.Answer.TheVariants.{Open, Known, Used, Count, InForce, Appeared, Identified, Prefixed}
 use Rattle.idl_env.specs.declared.answering.answer.Scope.{Scope}
 use Rattle.idl_entity.specs.declared.entity.Entity.{Entity}
 use Rattle.idl_entity.specs.declared.identity.FixedIdentity.{FixedIdentity}
@@ -40,6 +40,7 @@ entity_in-Some (Some (Count n)) e h = absurd (none_some h)
 entity_in-Some (Some (InForce prefix)) e h = absurd (none_some h)
 entity_in-Some (Some (Appeared prefix)) e h = absurd (none_some h)
 entity_in-Some (Some (Identified identity)) e h = absurd (none_some h)
+entity_in-Some (Some (Prefixed text)) e h = absurd (none_some h)
 
 -- ---- answers over additions
 
@@ -112,6 +113,9 @@ module _ (parts : Entity → List (List (List ℕ))) (places : List (List (List 
   no_entity_identity : (k : Key) (fixed : FixedIdentity) → IsGroundedBy parts places k (Identified fixed)
   no_entity_identity k fixed e h = absurd (let z : Identified fixed ≡ Known e = h in cc)
 
+  no_entity_typeprefix : (k : Key) (text : List ℕ) → IsGroundedBy parts places k (Prefixed text)
+  no_entity_typeprefix k text e h = absurd (let z : Prefixed text ≡ Known e = h in cc)
+
   -- an addition whose parts are among these leaves such an answer
   pub addition-grounded : (a : Addition) → HasPartsIn parts places a → IsGroundedBy parts places (key_of a) (answer_of a)
   addition-grounded (Declares d) within e h =
@@ -120,6 +124,7 @@ module _ (parts : Entity → List (List (List ℕ))) (places : List (List (List 
   addition-grounded (Uses n path body) within e h = no_entity_used (Introduced n path body) e h
   addition-grounded (Appears path prefix) within e h = no_entity_first (IdOf path) (prefix_for path prefix) e h
   addition-grounded (Identifies path identity) within e h = no_entity_identity (IdOf path) (fixed_for path identity) e h
+  addition-grounded (TypePrefixes path text) within e h = no_entity_typeprefix (Typeprefix path) text e h
 
   pub over-grounded : (additions : List Addition) (answers : Key → Option Answer) → AreGroundedBy parts places answers → ((a : Addition) → IsIn a additions → IsGroundedBy parts places (key_of a) (answer_of a)) → AreGroundedBy parts places (λ k. over additions k (answers k))
   over-grounded additions answers before new k x h = elim (over-Some additions k (answers k) x h) as (λ _. IsGroundedBy parts places k x) [

@@ -7,16 +7,14 @@ ghost use Rattle.idl_env.specs.Facts.{answer_of, answers, entity_in, entity_key,
 ghost use Rattle.idl_scope.specs.Finds.{those};
 ghost use Rattle.idl_env.specs.keys.Key.{key_eq};
 ghost use Rattle.idl_env.specs.declared.keys.key.Key.TheVariants.{Declared, Prefix as PrefixKey};
-ghost use Rattle.idl_scope.specs.Known.{known};
 ghost use Rattle.idl_scope.specs.Lookup.{bases_of, entered, has, outward, reached, under};
 ghost use Rattle.idl_env.specs.Turns.{HasTurnsFor, declared_among, declared_named};
 
 use crate::finds::Finds;
 use idl_base::{Bytes, Shared};
-use idl_entity::{Entity, Identity, Kind, Path, Prefix};
+use idl_entity::{Entity, Kind, Path, Prefix};
 use idl_env::{
-    Addition, Answer, BaseQueue, DigestedKey, Env, Facts, LentKey, OpenScopes, entity_in,
-    identity_in, prefix_in,
+    Addition, BaseQueue, DigestedKey, Env, Facts, LentKey, OpenScopes, entity_in, prefix_in,
 };
 use idl_memo::Journal;
 use std::alloc::AllocError;
@@ -70,25 +68,6 @@ impl<'a> View<'a> {
         match prefix_in(log.ask(&DigestedKey::prefix(), self.env)?) {
             Some(prefix) => prefix.clone(),
             None => Prefix::none(self.env.alloc()),
-        }
-    }
-
-    /// What identifies what is declared at a path.
-    pub fn known(self, log: &mut Journal<Env>, path: &Path) -> Result<Option<Identity>, AllocError>
-        ensures { IfOk result (λ d.
-            (d, log.new)
-            ≡ run key_eq (under self.entry.own.now.additions (known path.now))
-            (answers self.entry.env.now) log.old) }
-    {
-        let alloc = self.env.alloc();
-        let key = LentKey::id_of(alloc, path);
-        let before = log.ask_lent(&key, self.env)?;
-        match self.own.get(&key)? {
-            Some(addition) => {
-                let answer = addition.answer(alloc)?;
-                identity_in(Some(&answer))
-            }
-            None => identity_in(before),
         }
     }
 
@@ -286,7 +265,7 @@ fn declared_by(addition: &Addition) -> Option<&Shared<Entity>>
 {
     match addition {
         Addition::Declares(entity) => Some(entity),
-        Addition::Uses(_, _, _) | Addition::Appears(_, _) | Addition::Identifies(_, _) => None,
+        _ => None,
     }
 }
 

@@ -1,6 +1,6 @@
 -- Over bracketed sites the least of all faults is the least of those to which the walk comes.
-use Rattle.std.proofs.Common.{◌≡◌, ◌∙◌, ℕ, ◌+◌, ◌^◌, ◌<◌, Bool, true, false, cond, List, [], ◌∷◌, ◌++◌, length, Option, None, Some, refl, sym, ap, subst, arith}
-use Rattle.std.proofs.lemmas.List.Elements.{All-head, All-tail, All-weaker}
+use Rattle.std.proofs.Common.{◌≡◌, ◌∙◌, ℕ, ◌+◌, ◌^◌, ◌<◌, true, List, [], ◌∷◌, ◌++◌, length, Option, None, Some, refl, sym, ap, subst, arith}
+use Rattle.std.proofs.lemmas.List.Elements.{All-head, All-tail}
 use Rattle.std.specs.Prelude.{All, flat_map}
 use Rattle.idl_check.specs.walk.AllFaults.{evaluation_faults, site_faults, whole_visit}
 use Rattle.idl_check.specs.walk.Sections.{IsFormed, Section, Single, Returned, Whole, is_tokens, section_sites}

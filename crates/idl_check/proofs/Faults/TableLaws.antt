@@ -17,7 +17,6 @@ use Rattle.idl_scope.specs.declared.fault.NameCode.TheVariants.{Undeclared}
 use Rattle.idl_parts.specs.declared.part.Use.{Use}
 use Rattle.idl_parts.specs.declared.part.Use.TheVariants.{AsBase, AsStructBase, AsType, AsConstantType, AsDiscriminator}
 use Rattle.idl_unit.specs.TokenRules.{fault_at}
-use Rattle.idl_unit.specs.declared.fault.Fault.{Fault}
 use Rattle.idl_check.proofs.Faults.FaultOrder.{AreLed, IsLed, led-codes}
 
 -- the codes ascend, from this number on

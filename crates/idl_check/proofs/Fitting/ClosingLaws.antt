@@ -19,7 +19,7 @@ use Rattle.idl_entity.specs.Kind.{kind_eq, same_kind}
 use Rattle.idl_entity.specs.Path.{name_of, scope_of}
 use Rattle.idl_env.specs.Turns.{turns_for}
 use Rattle.idl_env.specs.declared.additions.addition.Addition.{Addition}
-use Rattle.idl_env.specs.declared.additions.addition.Addition.TheVariants.{Declares, Uses, Appears, Identifies}
+use Rattle.idl_env.specs.declared.additions.addition.Addition.TheVariants.{Declares, Uses, Appears, Identifies, TypePrefixes}
 use Rattle.idl_env.specs.declared.additions.addition.Step.{Step}
 use Rattle.idl_env.specs.declared.additions.addition.Step.TheVariants.{Stays, Opens, OpensNameless, Closes, Enters, Leaves}
 use Rattle.idl_env.specs.declared.answering.answer.Answer.{Answer}
@@ -143,6 +143,7 @@ cursor-kept (Declares e ∷ additions) = cursor-kept additions
 cursor-kept (Uses n path body ∷ additions) = cursor-kept additions
 cursor-kept (Appears path prefix ∷ additions) = cursor-kept additions
 cursor-kept (Identifies path identity ∷ additions) = cursor-kept additions
+cursor-kept (TypePrefixes path text ∷ additions) = cursor-kept additions
 
 -- so it is kept by a unit that adds this
 pub record IsFitting (w : World) (f : UnitFacts) : Type 0 where

@@ -15,7 +15,7 @@ use Rattle.idl_env.specs.SameKey.{same_key}
 use Rattle.idl_scope.specs.Meaning.{Through, bases_of}
 use Rattle.idl_entity.specs.Path.{name_of, scope_of}
 use Rattle.idl_env.specs.declared.additions.addition.Addition.{Addition}
-use Rattle.idl_env.specs.declared.additions.addition.Addition.TheVariants.{Declares, Uses, Appears, Identifies}
+use Rattle.idl_env.specs.declared.additions.addition.Addition.TheVariants.{Declares, Uses, Appears, Identifies, TypePrefixes}
 use Rattle.idl_env.specs.declared.answering.answer.Answer.{Answer}
 use Rattle.idl_env.specs.declared.answering.answer.Scope.{Scope}
 use Rattle.idl_entity.specs.declared.entity.Entity.{Entity}
@@ -165,6 +165,7 @@ stood D additions n path = by_found (addition_at additions (Declared n path)) re
     by_found (Some (Uses m q b)) e = let r : Declared n path ≡ key_of (Uses m q b) = (addition_at-Some additions (Declared n path) (Uses m q b) e).1 in cc
     by_found (Some (Appears q prefix)) e = let r : Declared n path ≡ key_of (Appears q prefix) = (addition_at-Some additions (Declared n path) (Appears q prefix) e).1 in cc
     by_found (Some (Identifies q identity)) e = let r : Declared n path ≡ key_of (Identifies q identity) = (addition_at-Some additions (Declared n path) (Identifies q identity) e).1 in cc
+    by_found (Some (TypePrefixes q text)) e = let r : Declared n path ≡ key_of (TypePrefixes q text) = (addition_at-Some additions (Declared n path) (TypePrefixes q text) e).1 in cc
 
 pub name_same : (n m : List ℕ) (p q : Place) → Declared n p ≡ Declared m q → n ≡ m
 name_same n m p q h = cc
@@ -189,6 +190,8 @@ operations-in (Appears q prefix ∷ additions) x (inl e) h = cc
 operations-in (Appears q prefix ∷ additions) x (inr i) h = operations-in additions x i h
 operations-in (Identifies q identity ∷ additions) x (inl e) h = cc
 operations-in (Identifies q identity ∷ additions) x (inr i) h = operations-in additions x i h
+operations-in (TypePrefixes q text ∷ additions) x (inl e) h = cc
+operations-in (TypePrefixes q text ∷ additions) x (inr i) h = operations-in additions x i h
 
 operations-out : (additions : List Addition) (p : Place) → IsIn p (operations_among additions) → (x : Entity) × IsIn (Declares x) additions × (is_operation x ≡ true) × (x.path ≡ p)
 operations-out [] p i = absurd i
@@ -203,6 +206,7 @@ operations-out (Declares y ∷ additions) p i = by_kind (operations-out addition
 operations-out (Uses m q b ∷ additions) p i = let r = operations-out additions p i in (r.0, inr r.1, r.2, r.3)
 operations-out (Appears q prefix ∷ additions) p i = let r = operations-out additions p i in (r.0, inr r.1, r.2, r.3)
 operations-out (Identifies q identity ∷ additions) p i = let r = operations-out additions p i in (r.0, inr r.1, r.2, r.3)
+operations-out (TypePrefixes q text ∷ additions) p i = let r = operations-out additions p i in (r.0, inr r.1, r.2, r.3)
 
 module _ (D : Names) (scopes : List Scope) (inside : List (List Place)) (additions : List Addition) (k : IsKept D scopes inside) (new : AreAdded D scopes additions) (once : Once additions) where
   abbrev after : Names

@@ -1,6 +1,5 @@
 -- What comes of a unit: its least fault and what a faulty unit does, or what all its sites come to.
-use Rattle.std.proofs.Common.{◌≡◌, ◌∙◌, ℕ, suc, ◌-◌, ◌<◌, Bool, true, false, cond, List, [], ◌∷◌, ◌++◌, length, Option, Some, None, Result, Ok, Err, refl, sym, ap, subst, arith, inl, inr}
-use Rattle.std.proofs.lemmas.List.Elements.{All-weaker}
+use Rattle.std.proofs.Common.{◌≡◌, ◌∙◌, ℕ, suc, ◌-◌, ◌<◌, List, [], ◌∷◌, length, Option, Some, None, Result, Ok, Err, refl, sym, ap, subst, arith, inl, inr}
 use Rattle.std.specs.Prelude.{◌≢◌, ◌⊎◌, fold, max}
 use Rattle.std.proofs.lemmas.List.{length-map}
 use Rattle.idl_check.specs.walk.AllFaults.{or_else}
@@ -13,7 +12,7 @@ use Rattle.idl_check.specs.declared.walk.verdict.Verdict.{Verdict}
 use Rattle.idl_fault.specs.declared.code.Code.TheVariants.{NoTree, MisplacedUnit}
 use Rattle.idl_lex.specs.kinds.Keywords.{folded}
 use Rattle.idl_lex.specs.tokens.Tokens.{Token}
-use Rattle.idl_memo.specs.Query.{Done, Ask, and_then, asked, outcome}
+use Rattle.idl_memo.specs.Query.{Done, Ask, asked, outcome}
 use Rattle.idl_memo.proofs.QueryLaws.{outcome-and_then}
 use Rattle.idl_env.specs.Facts.{path_around, scopes_in}
 use Rattle.idl_scope.specs.Lookup.{Lookup, outward}

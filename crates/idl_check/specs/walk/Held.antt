@@ -1,5 +1,5 @@
 -- How a walk is kept, and one site of it; and what a pragma says.
-use Rattle.std.specs.Prelude.{ℕ, ◌+◌, ◌≤◌, List, [], ◌∷◌, Option, None, Some, Result, Ok, Err, if◌then◌else◌}
+use Rattle.std.specs.Prelude.{ℕ, ◌+◌, ◌≤◌, List, [], ◌∷◌, Option, None, Some, Result, Ok, Err}
 use Rattle.idl_check.specs.tables.Declaring.{Written}
 use Rattle.idl_check.specs.ids.About.{Said, refused_for, said_at}
 use Rattle.idl_check.specs.ids.Pragmas.{said}

@@ -1,6 +1,6 @@
 -- The verdict of a unit: its fault, what it adds, and its row in the dump. A fault is found in
 -- three steps: the rules of tokens, the tree, and the rules over tree and names.
-use Rattle.std.specs.Prelude.{ℕ, Bool, suc, ◌-◌, List, [], ◌∷◌, ◌++◌, length, max, false, Option, None, Some, Result, Ok, Err, if◌then◌else◌}
+use Rattle.std.specs.Prelude.{ℕ, Bool, suc, ◌-◌, List, [], ◌∷◌, ◌++◌, length, max, false, None, Some, Result, Ok, Err}
 use Rattle.idl_check.specs.told.Bodies.{raising}
 use Rattle.idl_check.specs.tables.Declaring.{finished, with_finished}
 use Rattle.idl_check.specs.walk.Placing.{faulty_step, opened_kind, opening_faults, step_of}

@@ -21,8 +21,8 @@ ghost use Rattle.idl_lex.specs.kinds.Keywords.{folded};
 ghost use Rattle.idl_lex.specs.tokens.Tokens.{Token};
 ghost use Rattle.idl_memo.specs.Query.{asked, outcome, run};
 ghost use Rattle.idl_env.specs.Facts.{UnitFacts, answers, entity_key, scopes_in};
-ghost use Rattle.idl_entity.specs.Identity.{identity_of, is_within, prefixed, relative, slashed, told};
-ghost use Rattle.idl_entity.specs.declared.identity.Fixed.TheVariants.{Version};
+ghost use Rattle.idl_entity.specs.Identity.{first_identity, identity_of, is_within, prefixed, relative, slashed, told};
+ghost use Rattle.idl_entity.specs.declared.identity.Fixed.TheVariants.{Version, Id};
 ghost use Rattle.idl_env.specs.keys.Key.{key_eq};
 ghost use Rattle.idl_env.specs.declared.keys.key.Key.{Key};
 ghost use Rattle.idl_env.specs.declared.keys.key.Key.TheVariants.{Cursor};
@@ -226,13 +226,23 @@ pub fn questions()
 
 /// A version that is told stands in the place of `1.0`, and nothing else of the id changes. A path in
 /// the scope of a prefix is told up to that scope, which is what is left out of it, and any other is
-/// told whole.
+/// told whole. A typeprefix stands in the place of any prefix, before the whole path, and changes no
+/// id that is given.
 pub fn identification()
     ensures version { (p : Prefix) (path : List (List ℕ)) (major : ℕ) (minor : ℕ)
-        → let first = record { prefix = p; fixed = None } in
-        told path (identity_of (changed (Version major minor) first))
+        → let first = first_identity None p in
+        told path (identity_of None (changed (Version major minor) first))
         ≡ codes "IDL:" ++ prefixed p.text ++ slashed (relative path p.scope)
         ++ 58 ∷ (decimal major ++ 46 ∷ decimal minor) }
+    ensures typeprefix { (text : List ℕ) (p : Prefix) (path : List (List ℕ)) (major : ℕ) (minor : ℕ)
+        → let first = first_identity (Some text) p in
+        told path (identity_of (Some text) (changed (Version major minor) first))
+        ≡ codes "IDL:" ++ prefixed text ++ slashed path
+        ++ 58 ∷ (decimal major ++ 46 ∷ decimal minor) }
+    ensures given { (typeprefix : Option (List ℕ)) (p : Prefix) (path : List (List ℕ))
+        (id : List ℕ)
+        → let first = first_identity typeprefix p in
+        told path (identity_of typeprefix (changed (Id id) first)) ≡ id }
     ensures inside { (path : List (List ℕ)) (scope : List (List ℕ))
         → is_within (scope_of path) scope ≡ true
         → relative path scope ++ scope ≡ path }

@@ -1,6 +1,6 @@
 //! The walk over the sites of a unit.
 
-ghost use Rattle.std.specs.Prelude.{◌≡◌, ◌≤◌, ◌+◌, ◌∷◌, ◌++◌, [], ℕ, OnOk, Some, drop, map, option_to_list, take, true};
+ghost use Rattle.std.specs.Prelude.{◌≡◌, ◌≤◌, ◌+◌, ◌∷◌, ◌++◌, [], ℕ, OnOk, Some, drop, map, option_to_list, take};
 ghost use Rattle.idl_check.specs.told.Bodies.{begun_body, raising, with_text};
 ghost use Rattle.idl_check.specs.tables.Declaring.{finished, with_finished};
 ghost use Rattle.idl_check.specs.walk.Held.{HasRoomFor, held, visited};

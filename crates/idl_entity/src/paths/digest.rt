@@ -34,6 +34,13 @@ pub fn identified(path: u64) -> u64
     behind(path, mixed(path, 263))
 }
 
+/// The digest of the typeprefix of the scope at a path with this digest.
+pub fn typeprefixed(path: u64) -> u64
+    ensures { result ≡ behind path (mixed path 264) }
+{
+    behind(path, mixed(path, 264))
+}
+
 /// The digest of how many bodies of the scope at a path with this digest were opened.
 pub fn opened(path: u64) -> u64
     ensures { result ≡ behind path (mixed path 260) }

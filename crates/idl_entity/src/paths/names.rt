@@ -1,31 +1,33 @@
 //! Names of paths, lent.
 
-ghost use Rattle.std.specs.Prelude.{◌≡◌, ◌&&◌, ◌↔◌, ◌∷◌, [], IfSome, IsTrue, None};
+ghost use Rattle.std.specs.Prelude.{◌≡◌, ◌&&◌, ◌↔◌, ◌∷◌, [], IfOk, IfSome, IsTrue, None};
 ghost use Rattle.std.specs.Option.{option_copied};
 ghost use Rattle.std.specs.Str.{bytes_eq};
+ghost use Rattle.idl_entity.specs.Digest.{path_digest};
 ghost use Rattle.idl_entity.specs.Identity.{is_within};
-ghost use Rattle.idl_entity.specs.Path.{name_of, names_of, path_eq, path_of, scope_of};
+ghost use Rattle.idl_entity.specs.Path.{name_of, path_eq, path_of, scope_of};
 ghost use Rattle.idl_lex.specs.kinds.Keywords.{folded};
 
 use crate::paths::path::{Path, PathPart, are_alike};
 use idl_base::Bytes;
+use std::alloc::AllocError;
 use std::marker::Model;
 use std::rc::Rc;
 
 /// Names of a path that are lent: to every contract the list of them, from one of them on, the innermost first.
 #[derive(Drop)]
 pub struct Names<'a> {
-    innermost: Option<&'a PathPart>,
+    innermost: Option<&'a Rc<PathPart>>,
 }
 
 impl<'a> Model for Names<'a> {
     ghost use Rattle.std.specs.Prelude.{List, ℕ};
     ghost use Rattle.std.specs.Option.{option_copied};
-    ghost use Rattle.idl_entity.specs.Path.{names_of};
+    ghost use Rattle.idl_entity.specs.Path.{path_of};
 
     ghost Value = { List (List ℕ) };
 
-    ghost view = { λ names. names_of (option_copied names.innermost) };
+    ghost view = { λ names. path_of (option_copied names.innermost) };
 }
 
 impl<'a> Names<'a> {
@@ -37,8 +39,8 @@ impl<'a> Names<'a> {
     }
 
     /// Those of the path that ends in this part.
-    pub(crate) fn from(part: &'a PathPart) -> Names<'a>
-        ensures { result ≡ part.now.0 ∷ part.now.1 }
+    pub(crate) fn from(part: &'a Rc<PathPart>) -> Names<'a>
+        ensures { result ≡ part.now.value.0 ∷ part.now.value.1 }
     {
         Names {
             innermost: Some(part),
@@ -52,6 +54,36 @@ impl<'a> Names<'a> {
         match link {
             Some(shared) => Names::from(shared),
             None => Names::none(),
+        }
+    }
+
+    /// The same names, lent once more.
+    pub fn again(&self) -> Names<'a>
+        ensures { result ≡ self.now }
+    {
+        Names {
+            innermost: self.innermost,
+        }
+    }
+
+    /// The path of these names.
+    pub fn to_path(&self) -> Result<Path, AllocError>
+        ensures { IfOk result (λ path. path ≡ self.now) }
+    {
+        match self.innermost {
+            Some(part) => Ok(Path::ending(part.clone()?)),
+            None => Ok(Path::global()),
+        }
+    }
+
+    /// The digest of that path.
+    #[tactic(auto, unfolding(crate::specs::Digest::path_digest))]
+    pub fn digest(&self) -> u64
+        ensures { result ≡ path_digest self.now }
+    {
+        match self.innermost {
+            Some(part) => part.digest(),
+            None => 0,
         }
     }
 

@@ -99,6 +99,13 @@ impl PathPart {
         &self.folded_name
     }
 
+    // The digest of the path.
+    pub(crate) fn digest(&self) -> u64
+        ensures { result ≡ path_digest (self.now.0 ∷ self.now.1) }
+    {
+        self.digest
+    }
+
     /// The names of the path around.
     pub fn around(&self) -> Names<'_>
         ensures { result ≡ self.now.1 }
@@ -126,6 +133,15 @@ impl Path {
         ensures { result ≡ [] }
     {
         Path { innermost: None }
+    }
+
+    // The path that ends in this part.
+    pub(crate) fn ending(part: Rc<PathPart>) -> Path
+        ensures { result ≡ part.value.0 ∷ part.value.1 }
+    {
+        Path {
+            innermost: Some(part),
+        }
     }
 
     /// The path of a name in the scope with this path.

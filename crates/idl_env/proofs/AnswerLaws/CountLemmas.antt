@@ -4,7 +4,7 @@ use Rattle.idl_env.specs.Facts.{UnitFacts, World, addition_at, after, after_all,
 use Rattle.idl_entity.specs.Identity.{no_prefix}
 use Rattle.idl_env.specs.keys.Key.{key_eq}
 use Rattle.idl_env.specs.declared.additions.addition.Addition.{Addition}
-use Rattle.idl_env.specs.declared.additions.addition.Addition.TheVariants.{Declares, Uses, Appears, Identifies}
+use Rattle.idl_env.specs.declared.additions.addition.Addition.TheVariants.{Declares, Uses, Appears, Identifies, TypePrefixes}
 use Rattle.idl_env.specs.declared.additions.addition.Step.{Step}
 use Rattle.idl_env.specs.declared.additions.addition.Step.TheVariants.{Stays, Opens, OpensNameless, Closes, Prefixes, Enters, Leaves}
 use Rattle.idl_env.specs.declared.answering.answer.Answer.{Answer}
@@ -21,6 +21,7 @@ over_counts before n h (Some (Declares e)) = omega arith
 over_counts before n h (Some (Uses m path body)) = omega arith
 over_counts before n h (Some (Appears path prefix)) = omega arith
 over_counts before n h (Some (Identifies path identity)) = omega arith
+over_counts before n h (Some (TypePrefixes path text)) = omega arith
 
 -- nor does more than that of one answer
 with_counts : (a : Answer) (o : Option Answer) (n : ℕ) → count_in (Some a) ≤ n → count_in o ≤ n → (b : Bool) → count_in (cond b (Some a) o) ≤ n

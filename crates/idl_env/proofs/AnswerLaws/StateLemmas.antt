@@ -12,7 +12,7 @@ use Rattle.idl_env.specs.keys.Key.{key_eq}
 use Rattle.idl_entity.specs.Kind.{kind_eq}
 use Rattle.idl_entity.specs.declared.kind.Kind.TheVariants.{Interface}
 use Rattle.idl_env.specs.declared.additions.addition.Addition.{Addition}
-use Rattle.idl_env.specs.declared.additions.addition.Addition.TheVariants.{Declares, Uses, Appears, Identifies}
+use Rattle.idl_env.specs.declared.additions.addition.Addition.TheVariants.{Declares, Uses, Appears, Identifies, TypePrefixes}
 use Rattle.idl_env.specs.declared.answering.answer.Answer.{Answer}
 use Rattle.idl_env.specs.declared.answering.answer.Answer.TheVariants.{Open, Count, InForce}
 use Rattle.idl_env.specs.declared.answering.answer.Scope.{Scope}
@@ -81,6 +81,7 @@ count-over additions k before n h = by (addition_at additions k)
     by (Some (Uses m path body)) = none
     by (Some (Appears path prefix)) = none
     by (Some (Identifies path identity)) = none
+    by (Some (TypePrefixes path text)) = none
 
 -- at first
 pub first-answers : (k : Key) → kept ((Cursor, Open (global_scope ∷ [])) ∷ (PrefixKey, InForce no_prefix) ∷ []) k ≡ first_answer k

@@ -1,7 +1,7 @@
 -- Keys as they are held.
 use Rattle.idl_env.specs.Facts.{entity_key}
 use Rattle.idl_env.specs.declared.keys.held_key.HeldKey.{HeldKey}
-use Rattle.idl_env.specs.declared.keys.held_key.HeldKey.TheVariants.{Cursor, Entity, Introduced, Opened, Nameless, Prefix, IdOf, Whole}
+use Rattle.idl_env.specs.declared.keys.held_key.HeldKey.TheVariants.{Cursor, Entity, Introduced, Opened, Nameless, Prefix, IdOf, Typeprefix, Whole}
 use Rattle.idl_env.specs.declared.keys.key.Key.{Key}
 use Rattle.idl_env.specs.declared.keys.key.Key.TheVariants as key
 
@@ -14,4 +14,5 @@ key_in (Opened path) = key.Opened path
 key_in Nameless = key.Nameless
 key_in Prefix = key.Prefix
 key_in (IdOf path) = key.IdOf path
+key_in (Typeprefix path) = key.Typeprefix path
 key_in (Whole whole) = whole.value

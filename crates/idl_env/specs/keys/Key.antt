@@ -4,7 +4,7 @@ use Rattle.idl_base.specs.Digest.{mixed, with_bytes}
 use Rattle.idl_entity.specs.Digest.{behind, path_digest, under}
 use Rattle.idl_env.specs.contracts.keys.key.KeyPartialEq.TheImpl.{ghosts}
 use Rattle.idl_env.specs.declared.keys.key.Key.{Key}
-use Rattle.idl_env.specs.declared.keys.key.Key.TheVariants.{Cursor, Declared, Introduced, Opened, Nameless, Prefix, IdOf}
+use Rattle.idl_env.specs.declared.keys.key.Key.TheVariants.{Cursor, Declared, Introduced, Opened, Nameless, Prefix, IdOf, Typeprefix}
 
 -- whether two keys are one
 abbrev pub key_eq : Key → Key → Bool
@@ -20,3 +20,4 @@ key_digest (Opened path) = behind (path_digest path) (mixed (path_digest path) 2
 key_digest Nameless = 261
 key_digest Prefix = 262
 key_digest (IdOf path) = behind (path_digest path) (mixed (path_digest path) 263)
+key_digest (Typeprefix path) = behind (path_digest path) (mixed (path_digest path) 264)

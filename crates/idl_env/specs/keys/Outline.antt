@@ -4,7 +4,7 @@ use Rattle.std.specs.Cmp.Lexicographic.{slice_cmp}
 use Rattle.std.specs.Ordering.{nat_cmp, ordering_then}
 use Rattle.std.specs.declared.cmp.Ordering.{Ordering}
 use Rattle.idl_env.specs.declared.keys.key.Key.{Key}
-use Rattle.idl_env.specs.declared.keys.key.Key.TheVariants.{Cursor, Declared, Introduced, Opened, Nameless, Prefix, IdOf}
+use Rattle.idl_env.specs.declared.keys.key.Key.TheVariants.{Cursor, Declared, Introduced, Opened, Nameless, Prefix, IdOf, Typeprefix}
 
 -- the place of what is asked among all that may be, the names, the innermost first, and the number of
 -- a body
@@ -25,6 +25,7 @@ outline (Opened path) = bare 3 path
 outline Nameless = bare 4 []
 outline Prefix = bare 5 []
 outline (IdOf path) = bare 6 path
+outline (Typeprefix path) = bare 7 path
 
 -- in which order outlines come: by the ranks, then by the names, then by the bodies
 abbrev pub outline_cmp : Outline → Outline → Ordering

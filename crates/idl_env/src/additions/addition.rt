@@ -9,12 +9,12 @@ use crate::answering::answer::Answer;
 use crate::keys::digested::DigestedKey;
 use crate::keys::held_key::HeldKey;
 use idl_base::{Bytes, Shared};
-use idl_entity::paths::{OwnName, identified, introduced};
+use idl_entity::paths::{OwnName, identified, introduced, typeprefixed};
 use idl_entity::{Entity, FixedIdentity, Kind, Path, Prefix, prefix_for};
 use idl_map::Digest;
 use std::alloc::{AllocError, Global};
 
-/// What a declared name adds, the use of one, or a pragma about one.
+/// What a declared name adds, the use of one, or what is said of the id of one.
 #[derive(Clone, Drop)]
 pub enum Addition {
     /// A name is declared as this entity, or is this from now on.
@@ -25,6 +25,8 @@ pub enum Addition {
     Appears(Path, Shared<Prefix>),
     /// What is declared at a path is identified so from now on.
     Identifies(Path, Shared<FixedIdentity>),
+    /// The scope at a path has this typeprefix from now on.
+    TypePrefixes(Path, Shared<Bytes>),
 }
 
 /// How the open scopes, the files entered and the prefix of ids change.
@@ -69,6 +71,7 @@ impl Addition {
             Addition::Appears(path, _) | Addition::Identifies(path, _) => {
                 identified(path.digest())
             }
+            Addition::TypePrefixes(path, _) => typeprefixed(path.digest()),
         }
     }
 
@@ -85,6 +88,7 @@ impl Addition {
             Addition::Appears(path, _) | Addition::Identifies(path, _) => {
                 HeldKey::id_of(alloc, path.clone()?)?
             }
+            Addition::TypePrefixes(path, _) => HeldKey::typeprefix(alloc, path.clone()?)?,
         };
         Ok(DigestedKey::known(digest, key))
     }
@@ -110,6 +114,9 @@ impl Addition {
                 let identity = identity.get().told_at(alloc, &path)?;
                 (HeldKey::id_of(alloc, path)?, Answer::Identified(identity))
             }
+            Addition::TypePrefixes(path, text) => {
+                (HeldKey::typeprefix(alloc, path)?, Answer::Prefixed(text))
+            }
         })
     }
 
@@ -128,6 +135,7 @@ impl Addition {
                 Addition::Appears(path, _) | Addition::Identifies(path, _),
                 Addition::Appears(same, _) | Addition::Identifies(same, _),
             ) => *path == *same,
+            (Addition::TypePrefixes(path, _), Addition::TypePrefixes(same, _)) => *path == *same,
             _ => false,
         }
     }
@@ -159,6 +167,7 @@ impl Addition {
             Addition::Identifies(path, identity) => {
                 Ok(Answer::Identified(identity.get().told_at(alloc, path)?))
             }
+            Addition::TypePrefixes(_, text) => Ok(Answer::Prefixed(text.clone()?)),
         }
     }
 }

@@ -2,12 +2,12 @@
 
 ghost use Rattle.std.specs.Prelude.{◌≡◌, ◌++◌, [], IfOk, IfSome, None, OnOk};
 ghost use Rattle.std.specs.Option.{option_copied};
-ghost use Rattle.idl_env.specs.Facts.{count_in, entity_in, global_scope, id_at, identity_in, prefix_in, scopes_in};
+ghost use Rattle.idl_env.specs.Facts.{count_in, entity_in, global_scope, id_at, identity_in, prefix_in, scopes_in, typeprefix_in};
 ghost use Rattle.idl_entity.specs.Identity.{no_prefix};
 ghost use Rattle.idl_env.specs.declared.answering.answer.Answer.TheVariants as answers;
 
 use crate::answering::open_scopes::OpenScopes;
-use idl_base::{Datum, Shared};
+use idl_base::{Bytes, Datum, Shared};
 use idl_entity::{Entity, FixedIdentity, Identity, Kind, Path, Prefix};
 use std::alloc::AllocError;
 
@@ -35,8 +35,10 @@ pub enum Answer {
     InForce(Shared<Prefix>),
     /// The name was declared first under this prefix, which tells its id with the path; it was met in a scope around the name.
     Appeared(Shared<Prefix>),
-    /// A pragma fixed this of the id of the name.
+    /// This was fixed of the id of the name.
     Identified(Shared<FixedIdentity>),
+    /// The scope has this typeprefix.
+    Prefixed(Shared<Bytes>),
 }
 
 impl Scope {
@@ -61,6 +63,7 @@ impl Drop for Answer {
             Answer::InForce(_prefix) => {}
             Answer::Appeared(_prefix) => {}
             Answer::Identified(_fixed) => {}
+            Answer::Prefixed(_text) => {}
         }
     }
 }
@@ -122,35 +125,57 @@ pub fn prefix_in<'a>(answer: Option<&'a Answer>) -> Option<&'a Shared<Prefix>>
     }
 }
 
-/// What identifies a name, if an answer about its id tells it.
-pub fn identity_in(answer: Option<&Answer>) -> Result<Option<Identity>, AllocError>
-    ensures { IfOk result (λ d. d ≡ identity_in (option_copied answer.entry)) }
+/// The typeprefix that an answer tells, if it does.
+pub fn typeprefix_in<'a>(answer: Option<&'a Answer>) -> Option<&'a Shared<Bytes>>
+    ensures { option_copied result ≡ typeprefix_in (option_copied answer.entry) }
 {
+    match answer {
+        Some(Answer::Prefixed(text)) => Some(text),
+        _ => None,
+    }
+}
+
+/// What identifies a name under a typeprefix, if there is one, if an answer about its id tells it.
+pub fn identity_in(
+    typeprefix: Option<&Shared<Bytes>>,
+    answer: Option<&Answer>,
+) -> Result<Option<Identity>, AllocError>
+    ensures { IfOk result (λ d.
+        d ≡ identity_in (option_copied typeprefix.entry) (option_copied answer.entry)) }
+{
+    let typeprefix = match typeprefix {
+        Some(text) => Some(text.clone()?),
+        None => None,
+    };
     match answer {
         Some(Answer::Appeared(shared)) => {
             let prefix = shared.clone()?;
             Ok(Some(Identity {
                 prefix,
+                typeprefix,
                 fixed: None,
             }))
         }
-        Some(Answer::Identified(fixed)) => Ok(Some(fixed.get().identity()?)),
+        Some(Answer::Identified(fixed)) => Ok(Some(fixed.get().identity(typeprefix)?)),
         _ => Ok(None),
     }
 }
 
-/// The id of the name at a path, written; no bytes where none is told.
+/// The id of the name at a path under a typeprefix, if there is one, written; no bytes where no id is told.
 pub fn push_id_at(
     text: &mut Vec<u8>,
     path: &Path,
+    typeprefix: Option<&Shared<Bytes>>,
     answer: Option<&Answer>,
 ) -> Result<(), AllocError>
     ensures { OnOk result
-        (text.new.items ≡ text.old.items ++ id_at path.now (option_copied answer.entry)) }
+        (text.new.items
+        ≡ text.old.items
+        ++ id_at path.now (option_copied typeprefix.entry) (option_copied answer.entry)) }
 {
     match answer {
-        Some(Answer::Appeared(prefix)) => prefix.get().push_id(text, path),
-        Some(Answer::Identified(fixed)) => fixed.get().push_id(text, path),
+        Some(Answer::Appeared(prefix)) => prefix.get().push_id(text, path, typeprefix),
+        Some(Answer::Identified(fixed)) => fixed.get().push_id(text, path, typeprefix),
         _ => Ok(()),
     }
 }

@@ -31,6 +31,8 @@ pub(crate) enum HeldKey {
     Prefix,
     /// The id of what is declared at a path.
     IdOf(NamedPath),
+    /// The typeprefix of the scope at a path.
+    Typeprefix(NamedPath),
     /// Any other key.
     Whole(Box<Key>),
 }
@@ -39,7 +41,8 @@ impl Drop for HeldKey {
     fn drop(self) {
         match self {
             HeldKey::Cursor | HeldKey::Nameless | HeldKey::Prefix => {}
-            HeldKey::Entity(_path) | HeldKey::Opened(_path) | HeldKey::IdOf(_path) => {}
+            HeldKey::Entity(_path) | HeldKey::Opened(_path) => {}
+            HeldKey::IdOf(_path) | HeldKey::Typeprefix(_path) => {}
             HeldKey::Introduced(_name, _path) => {}
             HeldKey::Whole(_key) => {}
         }
@@ -74,6 +77,16 @@ impl HeldKey {
         match path.into_named() {
             Some(named) => Ok(HeldKey::IdOf(named)),
             None => HeldKey::whole(alloc, Key::IdOf(Path::global())),
+        }
+    }
+
+    /// The typeprefix of the scope at a path.
+    pub(crate) fn typeprefix(alloc: Global, path: Path) -> Result<HeldKey, AllocError>
+        ensures { IfOk result (λ held. key_in held ≡ keys.Typeprefix path) }
+    {
+        match path.into_named() {
+            Some(named) => Ok(HeldKey::Typeprefix(named)),
+            None => HeldKey::whole(alloc, Key::Typeprefix(Path::global())),
         }
     }
 
@@ -144,6 +157,7 @@ impl HeldKey {
             }
             (Key::Opened(path), HeldKey::Opened(named)) => named.is_of(path),
             (Key::IdOf(path), HeldKey::IdOf(named)) => named.is_of(path),
+            (Key::Typeprefix(path), HeldKey::Typeprefix(named)) => named.is_of(path),
             (key, HeldKey::Whole(own)) => *key == **own,
             _ => false,
         }
@@ -170,6 +184,7 @@ impl HeldKey {
             }
             (HeldKey::Opened(path), HeldKey::Opened(same)) => path.is(same),
             (HeldKey::IdOf(path), HeldKey::IdOf(same)) => path.is(same),
+            (HeldKey::Typeprefix(path), HeldKey::Typeprefix(same)) => path.is(same),
             (HeldKey::Whole(key), held) => held.is(key),
             (held, HeldKey::Whole(key)) => held.is_that(key),
             _ => false,
@@ -201,6 +216,7 @@ impl HeldKey {
             HeldKey::Nameless => Outline::bare(4),
             HeldKey::Prefix => Outline::bare(5),
             HeldKey::IdOf(path) => Outline::at(6, path.lent()),
+            HeldKey::Typeprefix(path) => Outline::at(7, path.lent()),
             HeldKey::Whole(key) => Outline::of(key),
         }
     }
@@ -221,6 +237,7 @@ impl Clone for HeldKey {
             HeldKey::Nameless => HeldKey::Nameless,
             HeldKey::Prefix => HeldKey::Prefix,
             HeldKey::IdOf(path) => HeldKey::IdOf(path.clone()?),
+            HeldKey::Typeprefix(path) => HeldKey::Typeprefix(path.clone()?),
             HeldKey::Whole(key) => HeldKey::Whole(key.clone()?),
         })
     }

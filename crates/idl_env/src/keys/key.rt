@@ -7,7 +7,7 @@ use crate::keys::digested::DigestedKey;
 use crate::keys::held_key::HeldKey;
 use idl_base::{Bytes, Datum};
 use idl_entity::Path;
-use idl_entity::paths::{identified, introduced, opened, under};
+use idl_entity::paths::{identified, introduced, opened, typeprefixed, under};
 use idl_map::Digest;
 use std::alloc::{AllocError, Global};
 
@@ -28,6 +28,8 @@ pub enum Key {
     Prefix,
     /// The id of what is declared at a path.
     IdOf(Path),
+    /// The typeprefix of the scope at a path.
+    Typeprefix(Path),
 }
 
 impl Drop for Key {
@@ -37,7 +39,7 @@ impl Drop for Key {
             Key::Declared(_name, _path) => {}
             Key::Introduced(_name, _path, _body) => {}
             Key::Opened(_path) => {}
-            Key::IdOf(_path) => {}
+            Key::IdOf(_path) | Key::Typeprefix(_path) => {}
         }
     }
 }
@@ -76,6 +78,7 @@ impl Digest for Key {
             Key::Nameless => 261,
             Key::Prefix => 262,
             Key::IdOf(path) => identified(path.digest()),
+            Key::Typeprefix(path) => typeprefixed(path.digest()),
         }
     }
 }

@@ -14,7 +14,7 @@ use crate::keys::held_key::HeldKey;
 use crate::keys::key::Key;
 use idl_base::Bytes;
 use idl_entity::Path;
-use idl_entity::paths::{OwnName, identified, introduced, under};
+use idl_entity::paths::{Names, OwnName, identified, introduced, typeprefixed, under};
 use idl_map::{Digest, Lent};
 use std::alloc::{AllocError, Global};
 use std::marker::Model;
@@ -36,6 +36,8 @@ enum Parts<'a> {
     Introduced(&'a Path, &'a Path, usize),
     // The id of what is declared at a path.
     IdOf(&'a Path),
+    // The typeprefix of the scope with a path of these names.
+    Typeprefix(Names<'a>),
 }
 
 impl<'a> Drop for Parts<'a> {
@@ -45,6 +47,7 @@ impl<'a> Drop for Parts<'a> {
             Parts::Entity(_path) => {}
             Parts::Introduced(_path, _scope, _body) => {}
             Parts::IdOf(_path) => {}
+            Parts::Typeprefix(_names) => {}
         }
     }
 }
@@ -129,6 +132,21 @@ impl<'a> LentKey<'a> {
         }
     }
 
+    /// The typeprefix of the scope with a path of these names.
+    #[inline(always)]
+    #[tactic(auto, unfolding(crate::specs::keys::Key::key_digest))]
+    pub fn typeprefix(alloc: Global, names: Names<'a>) -> LentKey<'a>
+        ensures { result ≡ keys.Typeprefix names.entry }
+    {
+        let digest = typeprefixed(names.digest());
+        let parts = Parts::Typeprefix(names);
+        LentKey {
+            alloc,
+            digest,
+            parts,
+        }
+    }
+
     /// Its digest.
     #[inline]
     pub fn digest(&self) -> u64
@@ -155,6 +173,9 @@ impl<'a> LentKey<'a> {
             (Parts::IdOf(path), Addition::Appears(other, _) | Addition::Identifies(other, _)) => {
                 **path == *other
             }
+            (Parts::Typeprefix(names), Addition::TypePrefixes(path, _)) => {
+                names.are_those(&path.lent())
+            }
             _ => false,
         }
     }
@@ -174,6 +195,7 @@ impl<'a> LentKey<'a> {
                 path.has_folded(name) && **scope == *other && *body == *number
             }
             (Parts::IdOf(path), Key::IdOf(other)) => **path == *other,
+            (Parts::Typeprefix(names), Key::Typeprefix(path)) => names.are_those(&path.lent()),
             _ => false,
         }
     }
@@ -188,6 +210,9 @@ impl<'a> LentKey<'a> {
             }
             (Parts::Entity(path), HeldKey::Entity(named)) => named.is_found_as(path),
             (Parts::IdOf(path), HeldKey::IdOf(named)) => named.is_of(path),
+            (Parts::Typeprefix(names), HeldKey::Typeprefix(path)) => {
+                names.are_those(&path.lent())
+            }
             (Parts::Introduced(path, scope, body), HeldKey::Introduced(name, named)) => {
                 path.has_folded(name.spelling()) && named.is_of(scope) && *body == 1
             }
@@ -211,6 +236,7 @@ impl<'a> LentKey<'a> {
                 HeldKey::introduced(alloc, OwnName::of(alloc, path)?, (**scope).clone()?, *body)
             }
             Parts::IdOf(path) => HeldKey::id_of(alloc, (**path).clone()?),
+            Parts::Typeprefix(names) => HeldKey::typeprefix(alloc, names.to_path()?),
         }
     }
 }

@@ -60,6 +60,7 @@ impl<'a> Outline<'a> {
             Key::Nameless => Outline::bare(4),
             Key::Prefix => Outline::bare(5),
             Key::IdOf(path) => Outline::at(6, path.lent()),
+            Key::Typeprefix(path) => Outline::at(7, path.lent()),
         }
     }
 

@@ -25,6 +25,12 @@ under-and_then own (Done a) f = refl
 under-and_then own (Ask k next) f = λ i. Ask k (λ v. under-and_then own (next (over own k v)) f i)
 under-and_then own (Tell x q) f = ap (Tell x) (under-and_then own q f)
 
+-- and under none
+pub under-nothing : {A : Type 0} (q : Lookup A) → under [] q ≡ q
+under-nothing (Done a) = refl
+under-nothing (Ask k next) = λ i. Ask k (λ v. under-nothing (next v) i)
+under-nothing (Tell x q) = ap (Tell x) (under-nothing q)
+
 module _ (own : List Addition) (bank : Key → Option Answer) where
   -- a lookup, run
   abbrev pub runs : {A : Type 0} → Lookup A → List (Key × Option Answer) → A × List (Key × Option Answer)

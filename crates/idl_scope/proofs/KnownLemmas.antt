@@ -1,0 +1,27 @@
+-- What is asked for typeprefixes, scope after scope.
+use Rattle.std.proofs.Common.{◌≡◌, ℕ, List, ◌∷◌, Option, Some, None, ap}
+use Rattle.idl_memo.specs.Query.{Done, noted}
+use Rattle.idl_env.specs.Facts.{typeprefix_in}
+use Rattle.idl_env.specs.keys.Key.{key_eq}
+use Rattle.idl_env.specs.declared.additions.addition.Addition.{Addition}
+use Rattle.idl_env.specs.declared.answering.answer.Answer.{Answer}
+use Rattle.idl_env.specs.declared.keys.key.Key.{Key}
+use Rattle.idl_env.specs.declared.keys.key.Key.TheVariants.{Typeprefix}
+use Rattle.idl_scope.specs.Known.{typeprefix_around}
+use Rattle.idl_scope.specs.Lookup.{Lookup}
+use Rattle.idl_scope.proofs.LookupLaws.RunLemmas.{runs, seen_at}
+
+module _ (own : List Addition) (bank : Key → Option Answer) (name : List ℕ) (scope : List (List ℕ)) (log : List (Key × Option Answer)) where
+  abbrev here : Key
+  here = Typeprefix (name ∷ scope)
+
+  abbrev by : Option (List ℕ) → Option (List ℕ) × List (Key × Option Answer)
+  by o = runs own bank (elim o as (λ _. Lookup (Option (List ℕ))) [ None ↦ typeprefix_around scope | Some text ↦ Done (Some text) ]) (noted key_eq bank log here)
+
+  -- the innermost scope has one
+  pub typeprefix_found : (text : List ℕ) → typeprefix_in (seen_at own bank here) ≡ Some text → runs own bank (typeprefix_around (name ∷ scope)) log ≡ (Some text, noted key_eq bank log here)
+  typeprefix_found text h = ap by h
+
+  -- and has none
+  pub typeprefix_on : typeprefix_in (seen_at own bank here) ≡ None → runs own bank (typeprefix_around (name ∷ scope)) log ≡ runs own bank (typeprefix_around scope) (noted key_eq bank log here)
+  typeprefix_on h = ap by h

@@ -1,0 +1,131 @@
+//! What is known of the ids of declared names: the typeprefix of the scopes around them, and what identifies them.
+
+ghost use Rattle.std.specs.Prelude.{◌≡◌, IfOk, OnOk, Some};
+ghost use Rattle.std.specs.Option.{option_copied};
+ghost use Rattle.idl_memo.specs.Query.{noted, run};
+ghost use Rattle.idl_env.specs.Facts.{answer_of, answers, identity_in, over, typeprefix_in};
+ghost use Rattle.idl_env.specs.keys.Key.{key_eq};
+ghost use Rattle.idl_env.specs.declared.keys.key.Key.TheVariants.{Typeprefix};
+ghost use Rattle.idl_scope.specs.Known.{added_by, known, typeprefix_around};
+ghost use Rattle.idl_scope.specs.Lookup.{under};
+
+use crate::lookup::View;
+use idl_base::{Bytes, Shared};
+use idl_entity::paths::Names;
+use idl_entity::{Identity, Path};
+use idl_env::{Addition, Answer, Env, Facts, LentKey, identity_in, typeprefix_in};
+use idl_memo::Journal;
+use std::alloc::AllocError;
+
+impl<'a> View<'a> {
+    /// The typeprefix of the scope at a path.
+    pub fn typeprefix(
+        self,
+        log: &mut Journal<Env>,
+        path: &Path,
+    ) -> Result<Option<&'a Shared<Bytes>>, AllocError>
+        ensures typeprefix { IfOk result (λ text.
+            option_copied text
+            ≡ typeprefix_in
+            (over self.entry.own.now.additions (Typeprefix path.now)
+            (answers self.entry.env.now (Typeprefix path.now)))) }
+        ensures logged { OnOk result
+            (log.new ≡ noted key_eq (answers self.entry.env.now) log.old (Typeprefix path.now)) }
+    {
+        typeprefix_at(self.env, Some(self.own), log, path.lent())
+    }
+
+    /// What identifies what is declared at a path.
+    pub fn known(self, log: &mut Journal<Env>, path: &Path) -> Result<Option<Identity>, AllocError>
+        ensures { IfOk result (λ d.
+            (d, log.new)
+            ≡ run key_eq (under self.entry.own.now.additions (known path.now))
+            (answers self.entry.env.now) log.old) }
+    {
+        let key = LentKey::id_of(self.env.alloc(), path);
+        let before = log.ask_lent(&key, self.env)?;
+        let typeprefix = typeprefix_around(self.env, Some(self.own), log, path)?;
+        self.identified(&key, typeprefix, before)
+    }
+
+    // What identifies a name under a typeprefix, where before the unit this was answered of its id.
+    fn identified(
+        self,
+        key: &LentKey<'_>,
+        typeprefix: Option<&Shared<Bytes>>,
+        before: Option<&Answer>,
+    ) -> Result<Option<Identity>, AllocError>
+        ensures { IfOk result (λ d.
+            d
+            ≡ identity_in (option_copied typeprefix.entry)
+            (over self.entry.own.now.additions key.now (option_copied before.entry))) }
+    {
+        match self.own.get(key)? {
+            Some(addition) => {
+                let answer = addition.answer(self.env.alloc())?;
+                identity_in(typeprefix, Some(&answer))
+            }
+            None => identity_in(typeprefix, before),
+        }
+    }
+}
+
+/// The typeprefix of the innermost scope that has one, of what is declared at a path and the scopes around it, over an environment
+/// and what the earlier tokens of a unit add, where any are looked at.
+pub fn typeprefix_around<'a>(
+    env: &'a Env,
+    own: Option<&'a Facts>,
+    log: &mut Journal<Env>,
+    path: &Path,
+) -> Result<Option<&'a Shared<Bytes>>, AllocError>
+    ensures { IfOk result (λ text.
+        (option_copied text, log.new)
+        ≡ run key_eq (under (added_by (option_copied own.entry)) (typeprefix_around path.now))
+        (answers env.now) log.old) }
+{
+    let mut names = path.lent();
+    'scopes: while let Some((_name, around)) = names.again().split_first() {
+        if let Some(text) = typeprefix_at(env, own, log, names)? {
+            return Ok(Some(text));
+        }
+        names = around;
+    }
+    Ok(None)
+}
+
+// That of the scope with a path of these names.
+#[inline(always)]
+fn typeprefix_at<'a>(
+    env: &'a Env,
+    own: Option<&'a Facts>,
+    log: &mut Journal<Env>,
+    scope: Names<'_>,
+) -> Result<Option<&'a Shared<Bytes>>, AllocError>
+    ensures typeprefix { IfOk result (λ text.
+        option_copied text
+        ≡ typeprefix_in
+        (over (added_by (option_copied own.entry)) (Typeprefix scope.entry)
+        (answers env.now (Typeprefix scope.entry)))) }
+    ensures logged { OnOk result
+        (log.new ≡ noted key_eq (answers env.now) log.old (Typeprefix scope.entry)) }
+{
+    let key = LentKey::typeprefix(env.alloc(), scope);
+    let before = log.ask_lent(&key, env)?;
+    let Some(own) = own else {
+        return Ok(typeprefix_in(before));
+    };
+    match own.get(&key)? {
+        Some(addition) => Ok(typeprefix_by(addition)),
+        None => Ok(typeprefix_in(before)),
+    }
+}
+
+// The typeprefix that an addition gives a scope, if it does.
+fn typeprefix_by(addition: &Addition) -> Option<&Shared<Bytes>>
+    ensures { option_copied result ≡ typeprefix_in (Some (answer_of addition.now)) }
+{
+    match addition {
+        Addition::TypePrefixes(_, text) => Some(text),
+        _ => None,
+    }
+}
