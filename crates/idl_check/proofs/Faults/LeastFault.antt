@@ -39,7 +39,7 @@ lesser-no f g h =
     let both = or_parts (nat_lt g.index f.index) (nat_eq g.index f.index && nat_lt (number_of g.code) (number_of f.code)) h in
     lesser-beside f g (ltb-false g.index f.index both.0) (and_cases (nat_eq g.index f.index) (nat_lt (number_of g.code) (number_of f.code)) both.1) (cases_lt f.index g.index)
 
-lesser-first : (f g : Fault) → IsNotAfter (lesser_fault f g) f
+pub lesser-first : (f g : Fault) → IsNotAfter (lesser_fault f g) f
 lesser-first f g =
     cond_both (is_lesser f g) g f (λ x. IsNotAfter x f)
     (λ h. lesser-yes f g (or_cases (nat_lt g.index f.index) (nat_eq g.index f.index && nat_lt (number_of g.code) (number_of f.code)) h)) (λ h. after-itself f)

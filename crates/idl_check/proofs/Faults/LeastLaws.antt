@@ -1,14 +1,14 @@
 -- The fault that is told of a unit is the least of all.
-use Rattle.std.proofs.Common.{◌≡◌, ◌∙◌, ℕ, ◌+◌, ◌^◌, ◌<◌, cond, List, [], ◌∷◌, ◌++◌, length, Option, None, Result, Ok, Err, refl, sym, ap, subst, arith}
+use Rattle.std.proofs.Common.{◌≡◌, ◌∙◌, ℕ, ◌+◌, ◌^◌, ◌<◌, List, [], ◌∷◌, ◌++◌, length, Option, None, Result, Ok, Err, refl, sym, ap, subst, arith}
 use Rattle.std.proofs.lemmas.List.{length-map}
 use Rattle.std.specs.Prelude.{flat_map}
 use Rattle.idl_check.specs.walk.AllFaults.{further_faults, name_faults, or_else, site_faults, unit_faults}
 use Rattle.idl_check.specs.walk.Judging.{FitsMemory}
-use Rattle.idl_check.specs.tables.Rules.{is_misplaced}
+use Rattle.idl_check.specs.walk.Placing.{place_faults}
 use Rattle.idl_check.specs.walk.Sections.{section_sites}
 use Rattle.idl_check.specs.walk.Verdict.{first_faults, tree_of, verdict}
 use Rattle.idl_check.specs.walk.Walk.{first_walk}
-use Rattle.idl_fault.specs.declared.code.Code.TheVariants.{MisplacedUnit, NoTree}
+use Rattle.idl_fault.specs.declared.code.Code.TheVariants.{NoTree}
 use Rattle.idl_lex.specs.tokens.Tokens.{Token}
 use Rattle.idl_memo.specs.Query.{outcome}
 use Rattle.idl_env.specs.Facts.{scopes_in}
@@ -48,12 +48,11 @@ module _ (turns : ℕ) (answers : Key → Option Answer) where
       let count : items_length (items (unit_parts tree)) ≡ length tokens = counted (unit_parts tree) ∙ ap length (unit_spells tree) ∙ sym (ap length spelled) ∙ length-map tokens lexeme_of in
       let same : items_length (flat_map section_sites b.sections) ≡ items_length (items (unit_parts tree)) = ap items_length (sym b.are) in
       subst (λ xs. AreAlike (visit_faults turns answers xs w) (site_faults turns answers xs w)) (sym b.are)
-      (sections-told turns answers b.sections b.formed w refl refl (omega (arith, same, count, fits)))
+      (sections-told turns answers b.sections b.formed w refl (omega (arith, same, count, fits)))
 
   names-none : (scopes : List Scope) (tree : Tree) → visit_name_faults turns answers scopes tree ≡ [] → name_faults turns answers scopes tree ≡ []
   names-none scopes tree h =
-      let m = cond (is_misplaced tree scopes) (fault_at 0 MisplacedUnit ∷ []) [] in
-      let parts = none-append m (visit_faults turns answers (items (unit_parts tree)) (first_walk scopes)) h in
+      let parts = none-append (place_faults tree scopes) (visit_faults turns answers (items (unit_parts tree)) (first_walk scopes)) h in
       ap (λ fs. fs ++ site_faults turns answers (items (unit_parts tree)) (first_walk scopes)) parts.0
       ∙ none-whole turns answers (items (unit_parts tree)) (first_walk scopes) parts.1
 
@@ -67,8 +66,7 @@ module _ (turns : ℕ) (answers : Key → Option Answer) where
   further-least : (tokens : List Token) → length tokens < 2 ^ 64 → (scopes : List Scope) (r : Result Tree ℕ) → tree_of tokens ≡ r → least_fault (told_by scopes r) ≡ least_fault (all_by scopes r)
   further-least tokens fits scopes (Err place) h = refl
   further-least tokens fits scopes (Ok tree) h =
-      let m = cond (is_misplaced tree scopes) (fault_at 0 MisplacedUnit ∷ []) [] in
-      alike-append m m (visit_faults turns answers (items (unit_parts tree)) (first_walk scopes)) (site_faults turns answers (items (unit_parts tree)) (first_walk scopes))
+      alike-append (place_faults tree scopes) (place_faults tree scopes) (visit_faults turns answers (items (unit_parts tree)) (first_walk scopes)) (site_faults turns answers (items (unit_parts tree)) (first_walk scopes))
       (λ o. refl) (sites-tell tokens tree (tree-spelled tokens tree h) fits scopes) None
 
   further-none : (scopes : List Scope) (r : Result Tree ℕ) → told_by scopes r ≡ [] → all_by scopes r ≡ []

@@ -5,7 +5,7 @@ use Rattle.std.proofs.lemmas.List.Elements.{All-append, All-cons, All-nil, All-w
 use Rattle.std.specs.Prelude.{◌≢◌, All, nat_le}
 use Rattle.idl_check.specs.walk.AllFaults.{or_else}
 use Rattle.idl_check.specs.tables.Codes.{codes_in, faults_by}
-use Rattle.idl_check.specs.walk.Placing.{brace_by, brace_from, opening_brace, opening_faults}
+use Rattle.idl_check.specs.walk.Placing.{brace_by, brace_from, opening_brace, opening_faults, place_faults}
 use Rattle.idl_check.specs.tables.Rules.{depth, is_misplaced}
 use Rattle.idl_check.specs.walk.Verdict.{first_faults, tree_of, verdict}
 use Rattle.idl_check.specs.walk.Walk.{first_walk}
@@ -41,7 +41,6 @@ use Rattle.idl_unit.specs.declared.role.Rule.TheVariants.{Closing, Heading, Decl
 use Rattle.idl_unit.specs.declared.unit.UnitText.TheVariants as unit
 use Rattle.idl_check.proofs.Faults.FaultOrder.{all-at, least-in}
 use Rattle.idl_check.proofs.Visits.SiteLaws.{EndsInTokens, faults-till}
-use Rattle.idl_check.proofs.Faults.TableLaws.{all-if}
 use Rattle.idl_check.proofs.Visits.VerdictLaws.{least-tokens, tree-spelled, tree-stops}
 use Rattle.idl_syntax.proofs.Stops.{stops-within}
 use Rattle.idl_check.proofs.Faults.VisitFaults.{visit_faults, visit_further_faults, visit_name_faults, visit_unit_faults}
@@ -128,8 +127,8 @@ module _ (turns : ℕ) (answers : Key → Option Answer) (tokens : List Token) (
   further-by : (scopes : List Scope) (r : Result Tree ℕ) → tree_of tokens ≡ r → All Inside (elim r [ Err place ↦ fault_at place NoTree ∷ [] | Ok tree ↦ visit_name_faults turns answers scopes tree ])
   further-by scopes (Err place) h = All-cons Inside (fault_at place NoTree) [] (stops-within tokens place some (tree-stops tokens place h)) (All-nil Inside)
   further-by scopes (Ok tree) h =
-      All-append Inside (cond (is_misplaced tree scopes) (fault_at 0 MisplacedUnit ∷ []) []) (visit_faults turns answers (items (unit_parts tree)) (first_walk scopes))
-      (all-if Inside (is_misplaced tree scopes) (fault_at 0 MisplacedUnit) [] some (All-nil Inside)) (sites-inside scopes tree (tree-spelled tokens tree h))
+      All-append Inside (place_faults tree scopes) (visit_faults turns answers (items (unit_parts tree)) (first_walk scopes))
+      (all-at Inside 0 (λ c. some) (codes_in ((is_misplaced tree scopes, MisplacedUnit) ∷ []))) (sites-inside scopes tree (tree-spelled tokens tree h))
 
   else-inside : (fs more : List Fault) → All Inside fs → All Inside more → All Inside (or_else turns answers fs more)
   else-inside [] more here there = there

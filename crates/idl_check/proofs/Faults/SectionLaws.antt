@@ -1,13 +1,11 @@
 -- Over bracketed sites the least of all faults is the least of those to which the walk comes.
-use Rattle.std.proofs.Common.{◌≡◌, ◌∙◌, ℕ, ◌+◌, ◌^◌, ◌<◌, true, List, [], ◌∷◌, ◌++◌, length, Option, None, Some, refl, sym, ap, subst, arith}
+use Rattle.std.proofs.Common.{◌≡◌, ◌∙◌, ℕ, ◌+◌, ◌^◌, ◌<◌, Bool, true, false, cond, List, [], ◌∷◌, ◌++◌, length, Option, None, Some, refl, sym, ap, subst, arith}
 use Rattle.std.proofs.lemmas.List.Elements.{All-head, All-tail}
 use Rattle.std.specs.Prelude.{All, flat_map}
 use Rattle.idl_check.specs.walk.AllFaults.{evaluation_faults, site_faults, whole_visit}
-use Rattle.idl_check.specs.walk.Sections.{IsFormed, Section, Single, Returned, Whole, is_tokens, section_sites}
+use Rattle.idl_check.specs.walk.Sections.{IsFormed, Section, Single, Whole, is_single, section_sites}
 use Rattle.idl_check.specs.told.Values.{begun_at}
-use Rattle.idl_check.specs.walk.Walk.{Visit, Walk, begin_of, evaluation_at, given_back, label_target, noted, passed, used, value_visit, visit, with_oneway}
-use Rattle.idl_fault.specs.declared.code.Code.TheVariants.{BadOneway}
-use Rattle.idl_memo.specs.Query.{outcome}
+use Rattle.idl_check.specs.walk.Walk.{Visit, Walk, evaluation_at, label_target, value_visit, visit}
 use Rattle.idl_env.specs.declared.answering.answer.Answer.{Answer}
 use Rattle.idl_env.specs.declared.keys.key.Key.{Key}
 use Rattle.idl_parts.specs.ExpressionParts.{expression_parts, value_parts}
@@ -15,42 +13,30 @@ use Rattle.idl_parts.specs.Item.{Item, items, items_length}
 use Rattle.idl_parts.specs.Part.{Part as item}
 use Rattle.idl_parts.specs.declared.part.Purpose.{Purpose}
 use Rattle.idl_parts.specs.declared.part.Purpose.TheVariants as purpose
-use Rattle.idl_parts.specs.declared.part.Use.{Use}
 use Rattle.idl_tree.specs.Expression.{spell_expression}
 use Rattle.idl_tree.specs.declared.expression.Expression.{Expression}
-use Rattle.idl_tree.specs.declared.name.ScopedName.{ScopedName}
-use Rattle.idl_unit.specs.TokenRules.{fault_at}
-use Rattle.idl_unit.specs.declared.fault.Fault.{Fault}
 use Rattle.idl_value.specs.Evaluation.{Evaluation, Faulty, Valued, first_of}
-use Rattle.idl_check.proofs.Faults.AlikeLemmas.{AreAlike, alike-append, alike-behind}
-use Rattle.idl_check.proofs.Nests.BracketLemmas.{tokens-case, tokens-single, value-sites}
+use Rattle.idl_check.proofs.Faults.AlikeLemmas.{AreAlike, alike-append}
+use Rattle.idl_check.proofs.Nests.BracketLemmas.{value-sites}
 use Rattle.idl_check.proofs.Faults.ExpressionFaults.{alike-expression, expression-count, for-ordered}
-use Rattle.idl_check.proofs.Faults.FaultOrder.{Leads, leads-later}
-use Rattle.idl_tree.proofs.NameLemmas.{behind_name}
-use Rattle.idl_check.proofs.Faults.OnewayLaws.{given-alike}
-use Rattle.idl_check.proofs.Nests.Operands.{expression-items}
-use Rattle.idl_check.proofs.Visits.SiteLaws.{IsFrom, IsPlaced, begin_before, faults-from, named_by, named-placed, plain-placed, visit-placed, visited}
+use Rattle.idl_check.proofs.Nests.Operands.{expression-singles}
+use Rattle.idl_check.proofs.Visits.SiteLaws.{IsPlaced, visit-placed, visited}
 use Rattle.idl_check.proofs.Faults.VisitFaults.{visit_faults}
-use Rattle.idl_check.proofs.Visits.WholeLaws.{IsCalm, given-begin, given-ends, single-calm, single-same, used-calm, whole-from}
+use Rattle.idl_check.proofs.Visits.WholeLaws.{single-begins, single-same}
 
 -- ---- the end of an expression
 
-value-calm : (w : Walk) (way : Purpose) (x : Evaluation) → ((value_visit w way (first_of x)).after.values.begin ≡ None) × ((value_visit w way (first_of x)).after.gives_back ≡ w.gives_back)
-value-calm w purpose.Bound (Valued v) = (refl, refl)
-value-calm w purpose.Constant (Valued v) = (refl, refl)
-value-calm w purpose.Length (Valued v) = (refl, refl)
-value-calm w purpose.Label (Valued v) = (refl, refl)
-value-calm w way (Faulty []) = (refl, refl)
-value-calm w way (Faulty (f ∷ fs)) = (refl, refl)
+value-ends : (w : Walk) (way : Purpose) (x : Evaluation) → (value_visit w way (first_of x)).after.values.begin ≡ None
+value-ends w purpose.Bound (Valued v) = refl
+value-ends w purpose.Constant (Valued v) = refl
+value-ends w purpose.Length (Valued v) = refl
+value-ends w purpose.Label (Valued v) = refl
+value-ends w way (Faulty []) = refl
+value-ends w way (Faulty (f ∷ fs)) = refl
 
 count-append : (xs ys : List Item) → items_length (xs ++ ys) ≡ items_length xs + items_length ys
 count-append [] ys = omega arith
 count-append (x ∷ xs) ys = omega (arith, count-append xs ys)
-
--- no expression is open, so what comes stands from the next token on
-begin-none : (o : Option ℕ) (at : ℕ) → o ≡ None → begin_before o at ≡ at
-begin-none None at h = refl
-begin-none (Some b) at h = cc
 
 module _ (turns : ℕ) (answers : Key → Option Answer) where
   -- over sites the same is told whole
@@ -65,77 +51,18 @@ module _ (turns : ℕ) (answers : Key → Option Answer) where
       (alike-append v.faults v.faults (visit_faults turns answers sites v.after) (site_faults turns answers sites v.after) (λ o. refl) more)
 
   -- over the names of an expression and the tokens around them
-  tokens-told : (front sites : List Item) → All (λ x. is_tokens x ≡ true) front → (w : Walk) → w.gives_back ≡ false
-      → ((u : Walk) → u.gives_back ≡ false → u.values.begin ≡ w.values.begin → u.at ≡ w.at + items_length front → IsTold sites u)
+  singles-told : (front sites : List Item) → All (λ x. is_single x ≡ true) front → (w : Walk)
+      → ((u : Walk) → u.values.begin ≡ w.values.begin → u.at ≡ w.at + items_length front → IsTold sites u)
       → IsTold (front ++ sites) w
-  tokens-told [] sites all w given more = more w given refl (omega arith)
-  tokens-told (x ∷ front) sites all w given more =
-      let single = tokens-single x (All-head (λ x. is_tokens x ≡ true) x front all) in
+  singles-told [] sites all w more = more w refl (omega arith)
+  singles-told (x ∷ front) sites all w more =
+      let single = All-head (λ x. is_single x ≡ true) x front all in
       let v = visited turns answers x w in
-      let calm : IsCalm w v = single-calm turns answers x w single given in
+      let begins = single-begins turns answers x w single in
       let p : IsPlaced x w v = visit-placed turns answers x w in
-      one-told x (front ++ sites) w (single-same turns answers x w single given)
-      (tokens-told front sites (All-tail (λ x. is_tokens x ≡ true) x front all) v.after calm.given
-      (λ u g b at. more u g (b ∙ calm.begin) (omega (arith, at, p.passes))))
-
-  -- ---- what is given back
-
-  -- all behind the name stands behind its first token
-  behind-led : (w u : Walk) (fs : List Fault) → w.at < u.at → u.values.begin ≡ None → All (IsFrom (begin_of u)) fs → All (Leads (fault_at w.at BadOneway)) fs
-  behind-led w u fs lt none from =
-      let at : begin_of u ≡ u.at = begin-none u.values.begin u.at none in
-      All-weaker (IsFrom (begin_of u)) (Leads (fault_at w.at BadOneway)) (λ g h. leads-later (fault_at w.at BadOneway) g (omega (arith, h.0, at, lt))) fs from
-
-  module _ (way : Use) (name : ScopedName) (w : Walk) where
-    -- what comes of it in the walk, and whole
-    abbrev short : Bool → Visit
-    short b = outcome (named_by turns answers way name w b) answers
-
-    abbrev named : Visit
-    named = outcome (used turns way name w) answers
-
-    abbrev full : Bool → Visit
-    full b = cond b (with_oneway w.at named) named
-
-    past : (v : Visit) → IsPlaced (item.Uses way name) w v → w.at < v.after.at
-    past v p = omega (arith, p.passes, behind_name w.at name)
-
-    short-begin : (short true).after.values.begin ≡ w.values.begin
-    unfolding given_back
-    short-begin = given-begin turns answers way name w name.is_global name.rest
-
-    short-ends : (fs : List Fault) × ((short true).faults ≡ fs ++ fault_at w.at BadOneway ∷ [])
-    unfolding given_back
-    short-ends = given-ends turns answers way name w name.is_global name.rest
-
-    short-full : AreAlike (short true).faults (full true).faults
-    unfolding given_back
-    short-full = given-alike turns answers way name w name.is_global name.rest refl refl
-
-    given-told : (sites : List Item) → w.values.begin ≡ None → (b : Bool) → b ≡ true
-        → AreAlike ((short b).faults ++ visit_faults turns answers sites (short b).after) ((full b).faults ++ site_faults turns answers sites (full b).after)
-    given-told sites none true is o =
-        let e = fault_at w.at BadOneway in
-        let v = short true in
-        let more = visit_faults turns answers sites v.after in
-        let rest = site_faults turns answers sites named.after in
-        let led = behind-led w v.after more (past v (named-placed turns answers way name w true)) (short-begin ∙ none) (faults-from turns answers sites v.after) in
-        let led_whole = behind-led w named.after rest (past named (plain-placed turns answers way name w)) ((used-calm turns answers way name w).begin ∙ none) (whole-from turns answers sites named.after) in
-        subst (λ fs. noted o (fs ++ more) ≡ noted o fs) (sym short-ends.1) (alike-behind short-ends.0 e more led o)
-        ∙ short-full o
-        ∙ sym (alike-behind named.faults e rest led_whole o)
-    given-told sites none false is o = cc
-
-  returned-told : (site : Item) → is_tokens site ≡ true → (sites : List Item) (w : Walk) → w.gives_back ≡ true → w.values.begin ≡ None
-      → ((u : Walk) → u.gives_back ≡ false → u.values.begin ≡ None → IsTold sites u) → IsTold (site ∷ sites) w
-  unfolding visit
-  returned-told site tokens sites w given none more =
-      tokens-case (λ x. IsTold (x ∷ sites) w) (λ n. one-told (item.Plain n) sites w refl (more (passed n w) refl none))
-      (λ way name. given-told way name w sites none w.gives_back given) site tokens
-
-  gives-told : (sites : List Item) (w : Walk) → IsTold sites (record w { gives_back = true }) → IsTold (item.GivesBack ∷ sites) w
-  unfolding visit
-  gives-told sites w more = one-told item.GivesBack sites w refl more
+      one-told x (front ++ sites) w (single-same turns answers x w single)
+      (singles-told front sites (All-tail (λ x. is_single x ≡ true) x front all) v.after
+      (λ u b at. more u (b ∙ begins) (omega (arith, at, p.passes))))
 
   -- ---- an expression
 
@@ -144,20 +71,19 @@ module _ (turns : ℕ) (answers : Key → Option Answer) where
   begins-told sites w more = one-told item.ValueBegins sites w refl more
 
   ends-told : (way : Purpose) (e : Expression) (sites : List Item) (w : Walk) (begin : ℕ) → w.values.begin ≡ Some begin → w.at ≡ begin + length (spell_expression e) → length (spell_expression e) < 2 ^ 64
-      → w.gives_back ≡ false → ((u : Walk) → u.gives_back ≡ false → u.values.begin ≡ None → IsTold sites u) → IsTold (item.ValueEnds way e ∷ sites) w
+      → ((u : Walk) → u.values.begin ≡ None → IsTold sites u) → IsTold (item.ValueEnds way e ∷ sites) w
   unfolding visit
-  ends-told way e sites w begin has at fits given more =
+  ends-told way e sites w begin has at fits more =
       let x = evaluation_at w way e in
       let v = value_visit w way (first_of x) in
-      let calm = value-calm w way x in
       let up = for-ordered w.values.operands e fits way w.written.constants (label_target w.unions) in
       alike-append v.faults (evaluation_faults w way x) (visit_faults turns answers sites v.after) (site_faults turns answers sites v.after)
       (alike-expression w way begin (length (spell_expression e)) has at x up)
-      (more v.after (calm.1 ∙ given) calm.0)
+      (more v.after (value-ends w way x))
 
-  whole-told : (way : Purpose) (e : Expression) (sites : List Item) (w : Walk) → w.gives_back ≡ false → items_length (items (value_parts way e) ++ sites) < 2 ^ 64
-      → ((u : Walk) → u.gives_back ≡ false → u.values.begin ≡ None → IsTold sites u) → IsTold (items (value_parts way e) ++ sites) w
-  whole-told way e sites w given fits more =
+  whole-told : (way : Purpose) (e : Expression) (sites : List Item) (w : Walk) → items_length (items (value_parts way e) ++ sites) < 2 ^ 64
+      → ((u : Walk) → u.values.begin ≡ None → IsTold sites u) → IsTold (items (value_parts way e) ++ sites) w
+  whole-told way e sites w fits more =
       let front = items (expression_parts e) in
       let count = expression-count e in
       let whole = ap items_length (value-sites way e sites) in
@@ -165,26 +91,20 @@ module _ (turns : ℕ) (answers : Key → Option Answer) where
       let few : length (spell_expression e) < 2 ^ 64 = omega (arith, whole, parts, count, fits) in
       subst (λ xs. IsTold xs w) (sym (value-sites way e sites))
       (begins-told (front ++ item.ValueEnds way e ∷ sites) w
-      (tokens-told front (item.ValueEnds way e ∷ sites) (expression-items e) (record w { values = begun_at w.at w.values }) given
-      (λ u g b at. ends-told way e sites u w.at b (omega (arith, at, count)) few g more)))
+      (singles-told front (item.ValueEnds way e ∷ sites) (expression-singles e) (record w { values = begun_at w.at w.values })
+      (λ u b at. ends-told way e sites u w.at b (omega (arith, at, count)) few more)))
 
   -- ---- all sections
 
-  pub sections-told : (sections : List Section) → All IsFormed sections → (w : Walk) → w.gives_back ≡ false → w.values.begin ≡ None → items_length (flat_map section_sites sections) < 2 ^ 64
+  pub sections-told : (sections : List Section) → All IsFormed sections → (w : Walk) → w.values.begin ≡ None → items_length (flat_map section_sites sections) < 2 ^ 64
       → IsTold (flat_map section_sites sections) w
-  sections-told [] formed w given none fits = λ o. refl
-  sections-told (Single site ∷ sections) formed w given none fits =
+  sections-told [] formed w none fits = λ o. refl
+  sections-told (Single site ∷ sections) formed w none fits =
       let rest = flat_map section_sites sections in
       let single = All-head IsFormed (Single site) sections formed in
-      let calm = single-calm turns answers site w single given in
-      one-told site rest w (single-same turns answers site w single given)
-      (sections-told sections (All-tail IsFormed (Single site) sections formed) (visited turns answers site w).after calm.given (calm.begin ∙ none) (omega (arith, fits)))
-  sections-told (Returned site ∷ sections) formed w given none fits =
-      let rest = flat_map section_sites sections in
-      gives-told (site ∷ rest) w
-      (returned-told site (All-head IsFormed (Returned site) sections formed) rest (record w { gives_back = true }) refl none
-      (λ u g b. sections-told sections (All-tail IsFormed (Returned site) sections formed) u g b (omega (arith, fits))))
-  sections-told (Whole way e ∷ sections) formed w given none fits =
+      one-told site rest w (single-same turns answers site w single)
+      (sections-told sections (All-tail IsFormed (Single site) sections formed) (visited turns answers site w).after (single-begins turns answers site w single ∙ none) (omega (arith, fits)))
+  sections-told (Whole way e ∷ sections) formed w none fits =
       let rest = flat_map section_sites sections in
       let few : items_length rest < 2 ^ 64 = omega (arith, fits, count-append (items (value_parts way e)) rest) in
-      whole-told way e rest w given fits (λ u g b. sections-told sections (All-tail IsFormed (Whole way e) sections formed) u g b few)
+      whole-told way e rest w fits (λ u b. sections-told sections (All-tail IsFormed (Whole way e) sections formed) u b few)

@@ -1,10 +1,10 @@
 -- Tables whose codes ascend, and tables that bring no fault.
 use Rattle.std.proofs.Common.{◌≡◌, ℕ, ◌≤◌, Bool, true, false, cond, List, [], ◌∷◌, arith, map, refl}
-use Rattle.std.proofs.lemmas.List.Elements.{All-cons, All-map, All-nil, All-weaker}
+use Rattle.std.proofs.lemmas.List.Elements.{All-cons, All-nil}
 use Rattle.std.specs.Prelude.{All, ⊤}
 use Rattle.idl_check.specs.tables.Codes.{Table, codes_in, faults_by}
 use Rattle.idl_check.specs.tables.Declaring.{declared_table}
-use Rattle.idl_check.specs.tables.Using.{Bases, name_code, suited_table, used_table}
+use Rattle.idl_check.specs.tables.Using.{Bases, suited_table, used_table}
 use Rattle.idl_check.specs.tables.Rules.{suits}
 use Rattle.idl_check.specs.declared.tables.standing.Standing.{Standing}
 use Rattle.idl_fault.specs.Code.{number_of}
@@ -12,8 +12,6 @@ use Rattle.idl_fault.specs.declared.code.Code.{Code}
 use Rattle.idl_fault.specs.declared.code.Code.TheVariants as code
 use Rattle.idl_env.specs.declared.answering.answer.Scope.{Scope}
 use Rattle.idl_entity.specs.declared.entity.Entity.{Entity}
-use Rattle.idl_scope.specs.declared.fault.NameCode.{NameCode}
-use Rattle.idl_scope.specs.declared.fault.NameCode.TheVariants.{Undeclared}
 use Rattle.idl_parts.specs.declared.part.Use.{Use}
 use Rattle.idl_parts.specs.declared.part.Use.TheVariants.{AsBase, AsStructBase, AsType, AsConstantType, AsDiscriminator}
 use Rattle.idl_unit.specs.TokenRules.{fault_at}
@@ -56,11 +54,6 @@ led-table n (row ∷ rows) up =
 pub led-by : (n : ℕ) (table : Table) → Ascends 22 table → IsLed (faults_by n table)
 led-by n table up = led-codes n (codes_in table) (led-table 22 table up)
 
-pub all-by : (n : ℕ) (table : Table) (P : Fault → Type 0) → ((c : Code) → 22 ≤ number_of c → P (fault_at n c)) → Ascends 22 table → All P (faults_by n table)
-all-by n table P at up =
-    All-map P (fault_at n) (codes_in table)
-    (All-weaker (λ c. 22 ≤ number_of c) (λ c. P (fault_at n c)) at (codes_in table) (codes-from 22 22 table (omega arith) up))
-
 -- ---- the tables of names
 
 pub declared-up : (s : Scope) (standing : Standing) (e : Entity) → Ascends 22 (declared_table s standing e)
@@ -80,7 +73,3 @@ up-if false table up = (omega arith, tt)
 
 pub used-up : (way : Use) (bases : Bases) (e behind : Entity) → Ascends 22 (used_table way bases e behind)
 used-up way bases e behind = up-if (suits way e) (suited_table way bases e behind) (suited-up way bases e behind)
-
-pub name-number : (why : NameCode) → 22 ≤ number_of (name_code why)
-name-number Undeclared = omega arith
-name-number other = omega arith

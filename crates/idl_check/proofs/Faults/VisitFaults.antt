@@ -1,12 +1,11 @@
--- The faults to which the walk and the verdict come by themselves: of an expression the first one, and
--- of a name that a oneway operation gives back those of its first token.
-use Rattle.std.proofs.Common.{ℕ, List, [], ◌∷◌, ◌++◌, Option, Ok, Err, if◌then◌else◌}
+-- The faults to which the walk and the verdict come by themselves: of an expression the first one.
+use Rattle.std.proofs.Common.{ℕ, List, [], ◌∷◌, ◌++◌, Option, Ok, Err}
 use Rattle.idl_check.specs.walk.AllFaults.{or_else}
-use Rattle.idl_check.specs.tables.Rules.{is_misplaced}
 use Rattle.idl_check.specs.ids.Pragmas.{said_by}
+use Rattle.idl_check.specs.walk.Placing.{place_faults}
 use Rattle.idl_check.specs.walk.Verdict.{first_faults, tree_of}
 use Rattle.idl_check.specs.walk.Walk.{Walk, first_walk, visit}
-use Rattle.idl_fault.specs.declared.code.Code.TheVariants.{NoTree, MisplacedUnit}
+use Rattle.idl_fault.specs.declared.code.Code.TheVariants.{NoTree}
 use Rattle.idl_lex.specs.tokens.Tokens.{Token}
 use Rattle.idl_memo.specs.Query.{outcome}
 use Rattle.idl_env.specs.Facts.{scopes_in}
@@ -32,7 +31,7 @@ module _ (turns : ℕ) (answers : Key → Option Answer) where
 
   abbrev pub visit_name_faults : List Scope → Tree → List Fault
   visit_name_faults scopes tree =
-      (if is_misplaced tree scopes then fault_at 0 MisplacedUnit ∷ [] else [])
+      place_faults tree scopes
       ++ visit_faults (items (unit_parts tree)) (first_walk scopes)
 
   abbrev pub visit_further_faults : List Token → List Scope → List Fault

@@ -6,10 +6,9 @@ use Rattle.idl_check.proofs.Fitting.GrowingLaws.{IsGrown, declares-one}
 use Rattle.idl_check.proofs.PartLemmas.{IsUpTo}
 use Rattle.idl_check.proofs.Fitting.ReachedLaws.{Names, kept-at, own, there}
 use Rattle.idl_check.proofs.Fitting.SettledLaws.{Added, IsFound, IsHeld, IsOpened, IsScope, IsDefined, IsUnder, Stood, Was, closed-keeps, is_nameless, over, path_same, stood}
-use Rattle.idl_check.proofs.Visits.SiteLaws.{declared_by, denoted-up, named_by, used_by, visited}
+use Rattle.idl_check.proofs.Visits.SiteLaws.{declared_by, denoted-up, used_by, visited}
 use Rattle.idl_check.proofs.Faults.VisitFaults.{visit_faults}
 use Rattle.idl_check.proofs.Visits.WalkLaws.{none-append}
-use Rattle.idl_check.proofs.Visits.WholeLaws.{given-some}
 use Rattle.idl_check.proofs.Fitting.WalkedLaws.{additions_of, ends-grown, first-walks, sites-walk}
 use Rattle.idl_check.proofs.Fitting.WalkingLaws.{AreSited, D, Walks, scopes}
 use Rattle.idl_check.proofs.Nests.Scenes.{Scene}
@@ -19,7 +18,7 @@ use Rattle.idl_check.specs.told.Bodies.{raising}
 use Rattle.idl_check.specs.walk.Judging.{walked}
 use Rattle.idl_check.specs.told.Types.{looked_through}
 use Rattle.idl_check.specs.tables.Using.{with_uses}
-use Rattle.idl_check.specs.walk.Walk.{Visit, Walk, declared_visit, first_walk, given_back, passed, turns_at, used, used_visit, visit}
+use Rattle.idl_check.specs.walk.Walk.{Visit, Walk, declared_visit, first_walk, passed, turns_at, used, used_visit, visit}
 use Rattle.idl_check.specs.declared.ids.identifying.Ids.{Ids}
 use Rattle.idl_check.specs.declared.tables.standing.Standing.{Standing}
 use Rattle.idl_lex.specs.kinds.Keywords.{folded}
@@ -103,12 +102,6 @@ module _ (facts : List UnitFacts) (k : IsSettled (world facts)) (turns : ℕ) (e
       subst (λ (v : Visit). IsRest w v.after) (sym same)
       (used-by-rest is_local name w (outcome query (answers facts)) (denoted-up turns (answers facts) name w) (ap (λ (v : Visit). v.faults) (sym same) ∙ none))
 
-  named-rest : (is_local : Bool) (name : ScopedName) (w : Walk) (b : Bool) → (outcome (named_by turns (answers facts) (AsBase is_local) name w b) (answers facts)).faults ≡ []
-      → IsRest w (outcome (named_by turns (answers facts) (AsBase is_local) name w b) (answers facts)).after
-  unfolding given_back
-  named-rest is_local name w true none = absurd (given-some turns (answers facts) (AsBase is_local) name w name.is_global name.rest none)
-  named-rest is_local name w false none = used-rest is_local name w none
-
   rest-on : (w v u : Walk) → IsRest w v → IsRest v u → IsRest w u
   rest-on w v u g h = record { begun = h.begun ∙ g.begun; last = h.last ∙ g.last; found = λ x f. g.found x (h.found x f) }
 
@@ -122,8 +115,20 @@ module _ (facts : List UnitFacts) (k : IsSettled (world facts)) (turns : ℕ) (e
   sites-rest (item.Uses (AsBase is_local) name ∷ sites) w h none =
       let v = visited turns (answers facts) (item.Uses (AsBase is_local) name) w in
       let parts = none-append v.faults (visit_faults turns (answers facts) sites v.after) none in
-      rest-on w v.after (walked turns (answers facts) sites v.after) (named-rest is_local name w w.gives_back parts.0) (sites-rest sites v.after h parts.1)
-  sites-rest (other ∷ sites) w h none = absurd h
+      rest-on w v.after (walked turns (answers facts) sites v.after) (used-rest way name w parts.0) (sites-rest sites v.after h parts.1)
+  sites-rest (item.Declares way name ∷ sites) w h none = absurd h
+  sites-rest (item.Says purpose text ∷ sites) w h none = absurd h
+  sites-rest (item.ValueBegins ∷ sites) w h none = absurd h
+  sites-rest (item.ValueEnds way e ∷ sites) w h none = absurd h
+  sites-rest (item.ScopeBegins way name ∷ sites) w h none = absurd h
+  sites-rest (item.ScopeEnds ∷ sites) w h none = absurd h
+  sites-rest (item.TypeEnds shape ∷ sites) w h none = absurd h
+  sites-rest (item.ArrayEnds ∷ sites) w h none = absurd h
+  sites-rest (item.Enumerates enumerators ∷ sites) w h none = absurd h
+  sites-rest (item.Identifies text ∷ sites) w h none = absurd h
+  sites-rest (item.Switches discrete ∷ sites) w h none = absurd h
+  sites-rest (item.Default ∷ sites) w h none = absurd h
+  sites-rest (item.GivesBack ∷ sites) w h none = absurd h
 
   -- ---- the name of the interface
 

@@ -11,10 +11,10 @@ use Rattle.idl_check.proofs.Visits.VisitLemmas.{turns-here}
 use Rattle.idl_check.proofs.Fitting.ReachedLaws.{IsClosed, IsClosedAt, Names, Place, only, own, there}
 use Rattle.idl_check.proofs.Fitting.SettledLaws.{IsNamed, IsOpen, IsPlace, added-kept, closed-before, over}
 use Rattle.idl_check.proofs.PartLemmas.{IsUpTo}
-use Rattle.idl_check.proofs.Visits.SiteLaws.{declared_by, denoted-up, end_visit, named_by, union_visit, used_by, visited}
+use Rattle.idl_check.proofs.Visits.SiteLaws.{declared_by, denoted-up, end_visit, union_visit, used_by, visited}
 use Rattle.idl_check.proofs.Faults.VisitFaults.{visit_faults}
 use Rattle.idl_check.proofs.Visits.WalkLaws.{none-append}
-use Rattle.idl_check.proofs.Visits.WholeLaws.{given-some, whole-none}
+use Rattle.idl_check.proofs.Visits.WholeLaws.{whole-none}
 use Rattle.idl_check.proofs.Fitting.WalkingLaws.{AreSited, D, IsCursor, IsSited, Walks, allowed, cursor-on, declared-grows, fresh-way, scopes}
 use Rattle.idl_check.proofs.Nests.Scenes.{Scene, scene_after}
 use Rattle.idl_check.proofs.Faults.TableLaws.{no-row}
@@ -31,7 +31,7 @@ use Rattle.idl_check.specs.tables.Rules.{is_open_base, suits}
 use Rattle.idl_check.specs.tables.Using.{Bases, base_table, bases_after, last_after, own_after, with_uses}
 use Rattle.idl_fault.specs.declared.code.Code.TheVariants as code
 use Rattle.idl_check.specs.walk.Verdict.{sound}
-use Rattle.idl_check.specs.walk.Walk.{Visit, Walk, declared_visit, ended_array, ended_scope, first_walk, given_back, is_begun, outcome_at, passed, turns_at, used, used_after, used_visit, value_visit, visit, with_array, with_scope}
+use Rattle.idl_check.specs.walk.Walk.{Visit, Walk, declared_visit, ended_array, ended_scope, first_walk, is_begun, outcome_at, passed, turns_at, used, used_visit, value_visit, visit, with_array, with_scope}
 use Rattle.idl_lex.specs.kinds.Keywords.{folded}
 use Rattle.idl_lex.specs.tokens.Tokens.{Token}
 use Rattle.idl_memo.proofs.QueryLaws.{outcome-and_then}
@@ -294,12 +294,6 @@ module _ (facts : List UnitFacts) (k : IsSettled (world facts)) (turns : ℕ) (e
       (denotes facts w.own (turns_at turns w) (turns-here facts w.own turns enough) w.cursor name))
       (ap (λ (v : Visit). v.faults) (sym same) ∙ none) h)
 
-  named-walks : (way : Use) (name : ScopedName) (w : Walk) (s : Scene) (b : Bool) → (outcome (named_by turns (answers facts) way name w b) (answers facts)).faults ≡ [] → At w s
-      → At (outcome (named_by turns (answers facts) way name w b) (answers facts)).after s
-  unfolding given_back
-  named-walks way name w s true none h = absurd (given-some turns (answers facts) way name w name.is_global name.rest none)
-  named-walks way name w s false none h = used-walks way name w s none h
-
   -- ---- scopes that begin and end
 
   cursor-least : (added : List Addition) (n : ℕ) (t : Scope) (rest : List Scope) → IsCursor facts k turns enough added n (t ∷ rest) → length (path_around around) ≤ length t.path
@@ -419,7 +413,7 @@ module _ (facts : List UnitFacts) (k : IsSettled (world facts)) (turns : ℕ) (e
   unfolding visit
   site-walks (item.Plain n) w s h sited none = calm w (passed n w) s h refl refl refl refl refl refl
   site-walks (item.Declares way name) w s h sited none = walks-declared way name w s h sited w.cursor refl none
-  site-walks (item.Uses way name) w s h sited none = named-walks way name w s w.gives_back none h
+  site-walks (item.Uses way name) w s h sited none = used-walks way name w s none h
   site-walks (item.Says purpose text) w s h sited none = calm w (visited turns (answers facts) (item.Says purpose text) w).after s h refl refl refl refl refl refl
   site-walks item.ValueBegins w s h sited none = calm w (visited turns (answers facts) item.ValueBegins w).after s h refl refl refl refl refl refl
   site-walks (item.ValueEnds way e) w s h sited none = valued-walks w s way (outcome_at w way e) h

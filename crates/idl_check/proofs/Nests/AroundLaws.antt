@@ -47,7 +47,7 @@ use Rattle.idl_value.specs.declared.constant_type.ConstantType.{ConstantType}
 use Rattle.idl_value.specs.declared.value.Value.{Value}
 use Rattle.idl_check.proofs.Nests.LevelSites.{Around, around_after, has_constants, is_inside, opens_union, popped, used_around}
 use Rattle.idl_check.proofs.PartLemmas.{IsUpTo}
-use Rattle.idl_check.proofs.Visits.SiteLaws.{declared_by, denoted-up, end_visit, named_by, union_visit, used_by, visited}
+use Rattle.idl_check.proofs.Visits.SiteLaws.{declared_by, denoted-up, end_visit, union_visit, used_by, visited}
 use Rattle.idl_check.proofs.Faults.TableLaws.{no-codes, no-row}
 
 abbrev pub IsTyped : Labels → Type 0
@@ -148,11 +148,6 @@ module _ (turns : ℕ) (answers : Key → Option Answer) where
       let same = outcome-and_then query (used_by turns answers way name w) answers in
       subst (λ (v : Visit). IsKept w v.after (used_around way a)) (sym same)
       (used-by-kept way name w a (outcome query answers) (denoted-up turns answers name w) (ap (λ (v : Visit). v.faults) (sym same) ∙ none) k)
-
-  named-kept : (way : Use) (name : ScopedName) (w : Walk) (a : Around) (b : Bool) → b ≡ false → (outcome (named_by turns answers way name w b) answers).faults ≡ [] → StandsIn w a
-      → IsKept w (outcome (named_by turns answers way name w b) answers).after (used_around way a)
-  named-kept way name w a true given none k = cc
-  named-kept way name w a false given none k = used-kept way name w a none k
 
   -- ---- declared names
 
@@ -276,22 +271,22 @@ valued-stands other v w a k = k
 -- ---- sites
 
 module _ (turns : ℕ) (answers : Key → Option Answer) where
-  pub single-kept : (site : Item) (w : Walk) (a : Around) → is_single site ≡ true → w.gives_back ≡ false → (site ≡ item.ScopeEnds → is_inside a.scopes ≡ true)
+  pub single-kept : (site : Item) (w : Walk) (a : Around) → is_single site ≡ true → (site ≡ item.ScopeEnds → is_inside a.scopes ≡ true)
       → (visited turns answers site w).faults ≡ [] → StandsIn w a → IsKept w (visited turns answers site w).after (around_after site a)
   unfolding visit
-  single-kept (item.Plain n) w a single given inside none k = record { stands = k; told = refl; constant = refl }
-  single-kept (item.Declares way name) w a single given inside none k = declared-kept turns answers way name w a (first w.cursor) k
-  single-kept (item.Uses way name) w a single given inside none k = named-kept turns answers way name w a w.gives_back given none k
-  single-kept (item.Says purpose text) w a single given inside none k = record { stands = k; told = refl; constant = refl }
-  single-kept item.ValueBegins w a single given inside none k = cc
-  single-kept (item.ValueEnds way e) w a single given inside none k = cc
-  single-kept (item.ScopeBegins way name) w a single given inside none k = record {
+  single-kept (item.Plain n) w a single inside none k = record { stands = k; told = refl; constant = refl }
+  single-kept (item.Declares way name) w a single inside none k = declared-kept turns answers way name w a (first w.cursor) k
+  single-kept (item.Uses way name) w a single inside none k = used-kept turns answers way name w a none k
+  single-kept (item.Says purpose text) w a single inside none k = record { stands = k; told = refl; constant = refl }
+  single-kept item.ValueBegins w a single inside none k = cc
+  single-kept (item.ValueEnds way e) w a single inside none k = cc
+  single-kept (item.ScopeBegins way name) w a single inside none k = record {
     stands = record { count = k.count; typed = k.typed; scopes = begin-unions way name w.cursor a.scopes k.scopes; constant = k.constant };
     told = refl;
     constant = refl;
   }
-  single-kept item.ScopeEnds w a single given inside none k = ends-kept w a w.cursor a.scopes refl (inside refl) k.scopes k
-  single-kept (item.TypeEnds shape) w a single given inside none k = record {
+  single-kept item.ScopeEnds w a single inside none k = ends-kept w a w.cursor a.scopes refl (inside refl) k.scopes k
+  single-kept (item.TypeEnds shape) w a single inside none k = record {
     stands = record {
       count = k.count;
       typed = k.typed;
@@ -301,10 +296,10 @@ module _ (turns : ℕ) (answers : Key → Option Answer) where
     told = refl;
     constant = refl;
   }
-  single-kept item.ArrayEnds w a single given inside none k = record { stands = k; told = refl; constant = refl }
-  single-kept (item.Enumerates names) w a single given inside none k = record { stands = k; told = refl; constant = refl }
-  single-kept (item.Identifies text) w a single given inside none k = record { stands = k; told = refl; constant = refl }
-  single-kept (item.Switches discrete) w a single given inside none k = record {
+  single-kept item.ArrayEnds w a single inside none k = record { stands = k; told = refl; constant = refl }
+  single-kept (item.Enumerates names) w a single inside none k = record { stands = k; told = refl; constant = refl }
+  single-kept (item.Identifies text) w a single inside none k = record { stands = k; told = refl; constant = refl }
+  single-kept (item.Switches discrete) w a single inside none k = record {
     stands = record {
       count = let c = k.count in omega (arith, c);
       typed = All-cons IsTyped _ w.unions refl k.typed;
@@ -314,5 +309,5 @@ module _ (turns : ℕ) (answers : Key → Option Answer) where
     told = refl;
     constant = refl;
   }
-  single-kept item.Default w a single given inside none k = record { stands = labelled with_default (λ l. refl) w a k; told = refl; constant = refl }
-  single-kept item.GivesBack w a single given inside none k = cc
+  single-kept item.Default w a single inside none k = record { stands = labelled with_default (λ l. refl) w a k; told = refl; constant = refl }
+  single-kept item.GivesBack w a single inside none k = record { stands = k; told = refl; constant = refl }

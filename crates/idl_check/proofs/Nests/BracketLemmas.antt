@@ -3,15 +3,13 @@ use Rattle.std.proofs.Common.{◌≡◌, ◌∙◌, true, List, [], ◌∷◌, �
 use Rattle.std.proofs.lemmas.Grind.{flat_map-append}
 use Rattle.std.proofs.lemmas.List.{append-nil, map-append}
 use Rattle.std.proofs.lemmas.List.Elements.{All-append, All-cons, All-nil}
-use Rattle.idl_check.specs.walk.Sections.{AreBracketed, IsFormed, Single, Returned, Whole, is_single, is_tokens, section_sites}
+use Rattle.idl_check.specs.walk.Sections.{AreBracketed, IsFormed, Single, Whole, is_single, section_sites}
 use Rattle.idl_parts.specs.ExpressionParts.{expression_parts, value_parts}
 use Rattle.idl_parts.specs.Item.{Item, item_of, items}
-use Rattle.idl_parts.specs.Part.{Part, Parts, GivesBack, ValueEnds, Part as item}
+use Rattle.idl_parts.specs.Part.{Part, Parts, ValueEnds, Part as item}
 use Rattle.idl_parts.specs.declared.part.Purpose.{Purpose}
-use Rattle.idl_parts.specs.declared.part.Use.{Use}
 use Rattle.idl_tree.specs.Lexeme.{Lexemes}
 use Rattle.idl_tree.specs.declared.expression.Expression.{Expression}
-use Rattle.idl_tree.specs.declared.name.ScopedName.{ScopedName}
 
 pub bracketed-none : AreBracketed []
 bracketed-none = record { sections = []; formed = All-nil IsFormed; are = refl }
@@ -35,42 +33,12 @@ bracketed-before x p h b = record {
   are = ap (λ (xs : List Item). item_of x ∷ xs) b.are;
 }
 
-pub bracketed-back : (x : Part Lexemes) (p : Parts) → is_tokens (item_of x) ≡ true → AreBracketed (items p) → AreBracketed (items (GivesBack ∷ x ∷ p))
-bracketed-back x p h b = record {
-  sections = Returned (item_of x) ∷ b.sections;
-  formed = All-cons IsFormed (Returned (item_of x)) b.sections h b.formed;
-  are = ap (λ (xs : List Item). item_of GivesBack ∷ item_of x ∷ xs) b.are;
-}
-
 pub bracketed-value : (way : Purpose) (e : Expression) → AreBracketed (items (value_parts way e))
 bracketed-value way e = record {
   sections = Whole way e ∷ [];
   formed = All-cons IsFormed (Whole way e) [] tt (All-nil IsFormed);
   are = sym (append-nil (items (value_parts way e)));
 }
-
--- ---- sites of tokens
-
--- a claim on each of the two sites that are such
-pub tokens-case : (P : Item → Type 0) → ((n : ℕ) → P (item.Plain n)) → ((way : Use) (name : ScopedName) → P (item.Uses way name)) → (x : Item) → is_tokens x ≡ true → P x
-tokens-case P tokens used (item.Plain n) h = tokens n
-tokens-case P tokens used (item.Declares way name) h = cc
-tokens-case P tokens used (item.Uses way name) h = used way name
-tokens-case P tokens used (item.Says purpose text) h = cc
-tokens-case P tokens used item.ValueBegins h = cc
-tokens-case P tokens used (item.ValueEnds way e) h = cc
-tokens-case P tokens used (item.ScopeBegins way name) h = cc
-tokens-case P tokens used item.ScopeEnds h = cc
-tokens-case P tokens used (item.TypeEnds shape) h = cc
-tokens-case P tokens used item.ArrayEnds h = cc
-tokens-case P tokens used (item.Enumerates names) h = cc
-tokens-case P tokens used (item.Identifies text) h = cc
-tokens-case P tokens used (item.Switches discrete) h = cc
-tokens-case P tokens used item.Default h = cc
-tokens-case P tokens used item.GivesBack h = cc
-
-pub tokens-single : (x : Item) → is_tokens x ≡ true → is_single x ≡ true
-tokens-single = tokens-case (λ x. is_single x ≡ true) (λ n. refl) (λ way name. refl)
 
 -- ---- the sites of an expression
 

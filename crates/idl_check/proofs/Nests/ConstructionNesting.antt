@@ -49,7 +49,7 @@ use Rattle.idl_tree.specs.declared.name.ScopedName.{ScopedName}
 use Rattle.idl_tree.specs.declared.several.Several.{Several}
 use Rattle.idl_tree.specs.declared.unit.ConstantTypeTree.{ConstantTypeTree}
 use Rattle.idl_tree.specs.declared.unit.ConstantTypeTree.TheVariants as constant
-use Rattle.idl_check.proofs.Nests.Nesting.{Gives, Nests, NestsAt, NestsIn, at_least, based, before, before_in, carry, declares, discriminated, each, ends, expression, follow, follow_in, gives, label_value, lifted, many, none, one, scope, several, union_scope}
+use Rattle.idl_check.proofs.Nests.Nesting.{Nests, NestsAt, NestsIn, at_least, based, before, before_in, carry, declares, discriminated, each, ends, expression, follow, follow_in, label_value, lifted, many, none, one, scope, several, union_scope}
 use Rattle.idl_check.proofs.Nests.LevelSites.{is_declared_at, is_level_use}
 
 -- ---- types
@@ -62,15 +62,15 @@ limit : (e : Option Expression) → Nests (limit_parts e)
 limit None = none
 limit (Some e) = before (punctuation mark.Comma) (value_parts Bound e) refl (expression Bound e refl)
 
-string : (s : StringType) → Gives (string_parts s)
+string : (s : StringType) → Nests (string_parts s)
 string s =
     let last : Part Lexemes = TypeEnds (Text s.is_wide (is_some s.bound)) in
-    gives (Plain (spell_string_word s.is_wide)) (bound_parts s.bound ++ last ∷ []) refl refl (ends (bound_parts s.bound) last refl (bound s.bound))
+    before (Plain (spell_string_word s.is_wide)) (bound_parts s.bound ++ last ∷ []) refl (ends (bound_parts s.bound) last refl (bound s.bound))
 
-plain_type : (p : PlainType) (way : Use) → is_level_use way ≡ true → Gives (plain_parts p way)
-plain_type (plain.Basic b) way level = gives (Plain (spell_basic b)) (TypeEnds (Basic b) ∷ []) refl refl (one (TypeEnds (Basic b)) refl)
+plain_type : (p : PlainType) (way : Use) → is_level_use way ≡ true → Nests (plain_parts p way)
+plain_type (plain.Basic b) way level = before (Plain (spell_basic b)) (TypeEnds (Basic b) ∷ []) refl (one (TypeEnds (Basic b)) refl)
 plain_type (plain.String s) way level = string s
-plain_type (plain.Name n) way level = gives (Uses way n) [] refl level none
+plain_type (plain.Name n) way level = one (Uses way n) level
 
 type_parts-plain : (p : PlainType) (way : Use) → type_parts_as (data_type.Plain p) way ≡ plain_parts p way
 unfolding type_parts_as
@@ -94,7 +94,7 @@ type_parts-sequence t b way =
 
 -- the claims by which the induction goes
 abbrev Types : TypeTree → Type 0
-Types t = (way : Use) → is_level_use way ≡ true → Gives (type_parts_as t way)
+Types t = (way : Use) → is_level_use way ≡ true → Nests (type_parts_as t way)
 
 abbrev Sequences : Sequence → Type 0
 Sequences s = Types (data_type.Sequence s)
@@ -102,29 +102,26 @@ Sequences s = Types (data_type.Sequence s)
 sequence : (t : TypeTree) (b : Option Expression) → Types t → Types (made_sequence t b)
 sequence t b h way level =
     let last : Parts = punctuation mark.Greater ∷ TypeEnds (Elements (is_some b)) ∷ [] in
-    subst Gives (sym (type_parts-sequence t b way))
-    (gives (Plain (Word word.Sequence ∷ Punctuation mark.Less ∷ [])) (sequence_rest t b) refl refl
-    (follow (type_parts_as t AsElement) (limit_parts b ++ last) (h AsElement refl).plain
+    subst Nests (sym (type_parts-sequence t b way))
+    (before (Plain (Word word.Sequence ∷ Punctuation mark.Less ∷ [])) (sequence_rest t b) refl
+    (follow (type_parts_as t AsElement) (limit_parts b ++ last) (h AsElement refl)
     (follow (limit_parts b) last (limit b) (before (punctuation mark.Greater) (TypeEnds (Elements (is_some b)) ∷ []) refl (one (TypeEnds (Elements (is_some b))) refl)))))
 
 by_type : (y : TypeTree-F (Such Types) (Such Sequences)) → Types (roll-TypeTree (map-TypeTree (Such Types) (Such Sequences) TypeTree Sequence (λ e. e.0) (λ e. e.0) y))
-by_type (TypeTree-F.Plain p) = subst Types (sym (rolls-Plain p)) (λ way level. subst Gives (sym (type_parts-plain p way)) (plain_type p way level))
+by_type (TypeTree-F.Plain p) = subst Types (sym (rolls-Plain p)) (λ way level. subst Nests (sym (type_parts-plain p way)) (plain_type p way level))
 by_type (TypeTree-F.Sequence s) = subst Types (sym (rolls-Sequence s.0)) s.1
 
-type_gives : (t : TypeTree) → Types t
-type_gives = ind-TypeTree Types Sequences
+type_nests : (t : TypeTree) → Types t
+type_nests = ind-TypeTree Types Sequences
     (λ x y is. subst (λ z. Types (roll-TypeTree z)) is (by_type y))
     (λ x y is. subst (λ z. Sequences (roll-Sequence z)) is (sequence y.element.0 y.bound y.element.1))
 
-pub a_result : (t : TypeTree) → Gives (type_parts t)
-a_result t = type_gives t AsType refl
-
 pub a_type : (t : TypeTree) → Nests (type_parts t)
-a_type t = (a_result t).plain
+a_type t = type_nests t AsType refl
 
 pub constant_type : (t : ConstantTypeTree) → Nests (constant_type_parts t)
 constant_type (constant.Discrete d) = before (Plain (spell_discrete d)) (TypeEnds (Basic (Discrete d)) ∷ []) refl (one (TypeEnds (Basic (Discrete d))) refl)
-constant_type (constant.String s) = (string s).plain
+constant_type (constant.String s) = string s
 constant_type (constant.Name n) = one (Uses AsConstantType n) refl
 
 a_length : (e : Expression) → Nests (length_parts e)

@@ -114,7 +114,6 @@ is_level_at top (item.ValueEnds way e) = false
 is_level_at top (item.ScopeBegins way name) = false
 is_level_at top item.ScopeEnds = false
 is_level_at top (item.Switches discrete) = false
-is_level_at top item.GivesBack = false
 is_level_at top other = true
 
 -- the same unions and scopes
@@ -175,4 +174,4 @@ level-site top (item.Enumerates names) h = record { single = refl; fit = λ a. t
 level-site top (item.Identifies text) h = record { single = refl; fit = λ a. tt; same = same-here; placed = λ s at. tt; level = λ s. refl }
 level-site top (item.Switches discrete) h = cc
 level-site top item.Default h = record { single = refl; fit = λ a. tt; same = same-here; placed = λ s at. tt; level = λ s. refl }
-level-site top item.GivesBack h = cc
+level-site top item.GivesBack h = record { single = refl; fit = λ a. tt; same = same-here; placed = λ s at. tt; level = λ s. refl }

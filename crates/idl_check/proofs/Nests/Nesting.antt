@@ -1,7 +1,7 @@
 -- How expressions, unions and scopes nest in a unit: parts that are bracketed, and leave what stands around them as it is.
 use Rattle.idl_tree.specs.DataType.{spell_discrete}
-use Rattle.idl_check.proofs.Nests.BracketLemmas.{bracketed-back, bracketed-before, bracketed-follow, bracketed-none, bracketed-value, value-sites}
-use Rattle.idl_check.specs.walk.Sections.{AreBracketed, is_tokens}
+use Rattle.idl_check.proofs.Nests.BracketLemmas.{bracketed-before, bracketed-follow, bracketed-none, bracketed-value, value-sites}
+use Rattle.idl_check.specs.walk.Sections.{AreBracketed}
 use Rattle.std.proofs.Common.{◌≡◌, ◌∙◌, ℕ, suc, ◌+◌, ◌-◌, ◌≤◌, Bool, true, false, List, [], ◌∷◌, ◌++◌, Option, None, Some, flat_map, map, refl, sym, ap, subst, arith}
 use Rattle.std.proofs.lemmas.List.{map-append}
 use Rattle.std.proofs.lemmas.List.Elements.{All-head, All-tail}
@@ -13,7 +13,7 @@ use Rattle.idl_lex.specs.declared.kinds.mark.Mark.TheVariants as mark
 use Rattle.idl_parts.specs.ConstructionParts.{base_parts, discriminator_parts}
 use Rattle.idl_parts.specs.ExpressionParts.{expression_parts, value_parts}
 use Rattle.idl_parts.specs.Item.{Item, item_of, items}
-use Rattle.idl_parts.specs.Part.{Part, Parts, Declares, Plain, ScopeBegins, ScopeEnds, ValueEnds, all_parts, if_some, listed, punctuation, GivesBack, Switches, Uses, Part as item}
+use Rattle.idl_parts.specs.Part.{Part, Parts, Declares, Plain, ScopeBegins, ScopeEnds, ValueEnds, all_parts, if_some, listed, punctuation, Switches, Uses, Part as item}
 use Rattle.idl_parts.proofs.ConstructionEquations.{union_brace}
 use Rattle.idl_parts.specs.declared.part.Declaration.{Declaration}
 use Rattle.idl_parts.specs.declared.part.Declaration.TheVariants as declaration
@@ -161,28 +161,6 @@ several f n xs =
 pub maybe : {X : Type 0} (f : X → Parts) → ((x : X) → Nests (f x)) → (x : Option X) → Nests (if_some f x)
 maybe f n None = none
 maybe f n (Some x) = n x
-
--- ---- what may be given back
-
--- parts that nest, and so where they are given back
-pub record Gives (p : Parts) : Type 0 where
-  pub plain : Nests p
-  pub back : Nests (GivesBack ∷ p)
-
--- the first of them is a site of tokens
-pub gives : (x : Part Lexemes) (p : Parts) → is_tokens (item_of x) ≡ true → is_level_at false (item_of x) ≡ true → Nests p → Gives (x ∷ p)
-gives x p tokens at n =
-    let m = before x p at n in
-    record {
-      plain = m;
-      back = record {
-        bracketed = bracketed-back x p tokens n.bracketed;
-        fit = λ a h. (tt, m.fit a h);
-        same = λ a. m.same a;
-        placed = λ s from t. (tt, m.placed s from t);
-        level = λ s. m.level s;
-      };
-    }
 
 -- ---- expressions
 

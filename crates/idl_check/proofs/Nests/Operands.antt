@@ -5,7 +5,7 @@ use Rattle.std.proofs.lemmas.List.{length-append, map-append}
 use Rattle.std.proofs.lemmas.List.Elements.{All-append, All-cons, All-map, All-nil, All-weaker}
 use Rattle.std.specs.Prelude.{All, flat_map}
 use Rattle.idl_check.specs.walk.Judging.{used_name, used_names}
-use Rattle.idl_check.specs.walk.Sections.{is_tokens}
+use Rattle.idl_check.specs.walk.Sections.{is_single}
 use Rattle.idl_lex.specs.declared.kinds.mark.Mark.{Mark}
 use Rattle.idl_lex.specs.declared.kinds.mark.Mark.TheVariants as mark
 use Rattle.idl_parts.proofs.ExpressionEquations.{and_parts-made, exclusive_or_parts-made, expression_parts-made, primary_parts-literal, primary_parts-name, primary_parts-parentheses, product_parts-made, shift_parts-made, sum_parts-made, unary_parts-made}
@@ -260,10 +260,10 @@ expression-holds = ind-Expression Primaries Ands ExclusiveOrs Expressions Produc
 pub expression-operands : (e : Expression) → All (λ x. is_operand x ≡ true) (items (expression_parts e))
 expression-operands e = All-map (λ x. is_operand x ≡ true) item_of (expression_parts e) (expression-holds e).operands
 
--- and so each is a site of tokens, or a name
-pub expression-items : (e : Expression) → All (λ x. is_tokens x ≡ true) (items (expression_parts e))
-expression-items e =
-    All-weaker (λ x. is_operand x ≡ true) (λ x. is_tokens x ≡ true) (operand-case (λ x. is_tokens x ≡ true) (λ n. refl) (λ name. refl)) (items (expression_parts e))
+-- and so none is a mark of an expression
+pub expression-singles : (e : Expression) → All (λ x. is_single x ≡ true) (items (expression_parts e))
+expression-singles e =
+    All-weaker (λ x. is_operand x ≡ true) (λ x. is_single x ≡ true) (operand-case (λ x. is_single x ≡ true) (λ n. refl) (λ name. refl)) (items (expression_parts e))
     (expression-operands e)
 
 -- as many names as it has

@@ -8,7 +8,7 @@ use Rattle.idl_lex.specs.declared.kinds.mark.Mark.TheVariants as mark
 use Rattle.idl_parts.specs.ConstructionParts.{construction_parts, member_parts, member_type_parts}
 use Rattle.idl_parts.specs.ExpressionParts.{value_parts}
 use Rattle.idl_parts.specs.Item.{item_of, items}
-use Rattle.idl_parts.specs.Part.{Part, Parts, Declares, Identifies, Plain, Says, ScopeBegins, ScopeEnds, TypeEnds, Uses, declared, if_some, keyword_part, listed, punctuation, raised, used}
+use Rattle.idl_parts.specs.Part.{Part, Parts, Declares, GivesBack, Identifies, Plain, Says, ScopeBegins, ScopeEnds, TypeEnds, Uses, declared, if_some, keyword_part, listed, punctuation, raised, used}
 use Rattle.idl_parts.specs.TypeParts.{bound_parts, constant_type_parts, declarator_parts, type_parts}
 use Rattle.idl_parts.specs.UnitParts.{attribute_names, attribute_names_parts, attribute_parts, bases_parts, constant_parts, context_parts, direction_parts, ended, equals_parts, exception_parts, exceptions_parts, given_back, interface_parts, native_parts, oneway_parts, operation_parts, parameter_parts, raises_parts, readonly_attribute_parts, readonly_names_parts, result_parts, typedef_parts, typeid_parts, typeprefix_parts, unit_parts}
 use Rattle.idl_parts.specs.declared.part.Declaration.TheVariants as declaration
@@ -47,8 +47,8 @@ use Rattle.idl_tree.specs.declared.unit.Typeid.{Typeid}
 use Rattle.idl_tree.specs.declared.unit.Typeprefix.{Typeprefix}
 use Rattle.idl_check.specs.walk.Sections.{AreBracketed}
 use Rattle.idl_check.proofs.Nests.BracketLemmas.{bracketed-before, bracketed-follow, bracketed-none, bracketed-value}
-use Rattle.idl_check.proofs.Nests.ConstructionNesting.{a_result, a_type, constant_type, construction, declarator, member, member_type}
-use Rattle.idl_check.proofs.Nests.Nesting.{Gives, Nests, NestsAt, before, carry, declares, each, ends, follow, gives, maybe, none, one, scope, several, topped, value-fits, value-placed}
+use Rattle.idl_check.proofs.Nests.ConstructionNesting.{a_type, constant_type, construction, declarator, member, member_type}
+use Rattle.idl_check.proofs.Nests.Nesting.{Nests, NestsAt, before, carry, declares, each, ends, follow, maybe, none, one, scope, several, topped, value-fits, value-placed}
 use Rattle.idl_check.proofs.Nests.LevelSites.{Around, AreFit, arounds, arounds-append, fit-append, is_level_use}
 use Rattle.idl_check.proofs.Nests.Scenes.{ArePlaced, Scene, placed-append, scenes}
 
@@ -58,11 +58,10 @@ uses : (way : Use) → is_level_use way ≡ true → (ns : Several ScopedName) �
 uses way level ns = several (λ name. Uses way name ∷ []) (λ name. one (Uses way name) level) ns
 
 -- the names of exceptions, behind a keyword
-raising_rest : (way : Use) → is_level_use way ≡ true → (ns : Several ScopedName) → Nests (punctuation mark.OpenParenthesis ∷ (used way ns ++ punctuation mark.CloseParenthesis ∷ []))
-raising_rest way level ns = before (punctuation mark.OpenParenthesis) _ refl (ends (used way ns) (punctuation mark.CloseParenthesis) refl (uses way level ns))
-
 raising : (way : Use) → is_level_use way ≡ true → (keyword : Keyword) (ns : Several ScopedName) → Nests (raised way keyword ns)
-raising way level keyword ns = before (keyword_part keyword) _ refl (raising_rest way level ns)
+raising way level keyword ns =
+    before (keyword_part keyword) _ refl
+    (before (punctuation mark.OpenParenthesis) _ refl (ends (used way ns) (punctuation mark.CloseParenthesis) refl (uses way level ns)))
 
 bases : (is_local : Bool) (ns : Several ScopedName) → Nests (bases_parts is_local ns)
 bases is_local ns = before (punctuation mark.Colon) (used (AsBase is_local) ns) refl (uses (AsBase is_local) refl ns)
@@ -105,18 +104,18 @@ oneway true = one (keyword_part word.Oneway) refl
 oneway false = none
 
 -- what may be given back
-maybe_given : (is_oneway : Bool) (p : Parts) → Gives p → Nests (given_back is_oneway ++ p)
-maybe_given true p g = g.back
-maybe_given false p g = g.plain
+maybe_given : (is_oneway : Bool) (p : Parts) → Nests p → Nests (given_back is_oneway ++ p)
+maybe_given true p n = before GivesBack p refl n
+maybe_given false p n = n
 
 result : (is_oneway : Bool) (t : Option TypeTree) → Nests (result_parts is_oneway t)
 result is_oneway None = one (keyword_part word.Void) refl
-result is_oneway (Some t) = maybe_given is_oneway (type_parts t) (a_result t)
+result is_oneway (Some t) = maybe_given is_oneway (type_parts t) (a_type t)
 
 direction : (is_oneway : Bool) (d : Direction) → Nests (direction_parts is_oneway d)
 direction is_oneway In = one (Plain (spell_direction In)) refl
-direction is_oneway Out = maybe_given is_oneway (Plain (spell_direction Out) ∷ []) (gives (Plain (spell_direction Out)) [] refl refl none)
-direction is_oneway InOut = maybe_given is_oneway (Plain (spell_direction InOut) ∷ []) (gives (Plain (spell_direction InOut)) [] refl refl none)
+direction is_oneway Out = maybe_given is_oneway (Plain (spell_direction Out) ∷ []) (one (Plain (spell_direction Out)) refl)
+direction is_oneway InOut = maybe_given is_oneway (Plain (spell_direction InOut) ∷ []) (one (Plain (spell_direction InOut)) refl)
 
 parameter : (is_oneway : Bool) (p : Parameter) → Nests (parameter_parts is_oneway p)
 parameter is_oneway p =
@@ -124,9 +123,7 @@ parameter is_oneway p =
     follow (direction_parts is_oneway p.direction) (type_parts p.kind ++ name ∷ []) (direction is_oneway p.direction) (ends (type_parts p.kind) name refl (a_type p.kind))
 
 raises : (is_oneway : Bool) (ns : Several ScopedName) → Nests (raises_parts is_oneway ns)
-raises is_oneway ns =
-    maybe_given is_oneway (raised Raised word.Raises ns)
-    (gives (keyword_part word.Raises) (punctuation mark.OpenParenthesis ∷ (used Raised ns ++ punctuation mark.CloseParenthesis ∷ [])) refl refl (raising_rest Raised refl ns))
+raises is_oneway ns = maybe_given is_oneway (raised Raised word.Raises ns) (raising Raised refl word.Raises ns)
 
 context : (texts : Several (Several (List ℕ))) → Nests (context_parts texts)
 context texts =

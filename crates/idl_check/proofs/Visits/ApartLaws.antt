@@ -2,7 +2,7 @@
 use Rattle.std.proofs.Common.{◌≡◌, ◌∙◌, ℕ, Bool, true, false, List, [], ◌∷◌, ◌++◌, Option, Some, None, Result, Ok, Err, refl, sym, ap}
 use Rattle.idl_check.specs.tables.Declaring.{entity_of, standing}
 use Rattle.idl_check.specs.told.Types.{looked_through}
-use Rattle.idl_check.specs.walk.Walk.{turns_at, Visit, Walk, declared_visit, given_back, head_of, head_visit, outcome_at, unfound_visit, used, used_visit, value_visit, visit, with_oneway}
+use Rattle.idl_check.specs.walk.Walk.{turns_at, Visit, Walk, declared_visit, outcome_at, unfound_visit, used, used_visit, value_visit, visit}
 use Rattle.idl_memo.specs.Query.{Done, outcome}
 use Rattle.idl_memo.proofs.QueryLaws.{outcome-and_then}
 use Rattle.idl_entity.specs.Kind.{kind_eq}
@@ -25,7 +25,7 @@ use Rattle.idl_unit.specs.TokenRules.{first}
 use Rattle.idl_unit.specs.declared.fault.Fault.{Fault}
 use Rattle.idl_value.specs.declared.outcome.Outcome.{Outcome}
 use Rattle.idl_value.specs.declared.outcome.Outcome.TheVariants as comes
-use Rattle.idl_check.proofs.Visits.SiteLaws.{declared_by, end_visit, given_by, named_by, union_visit, used_by, visited}
+use Rattle.idl_check.proofs.Visits.SiteLaws.{declared_by, end_visit, union_visit, used_by, visited}
 use Rattle.idl_check.proofs.Faults.VisitFaults.{visit_faults}
 
 -- ---- the same walk but for the fault
@@ -80,27 +80,10 @@ module _ (turns : ℕ) (answers : Key → Option Answer) where
       ∙ used-by-apart f way name w (outcome query answers)
       ∙ sym (ap (with_fault_after f) (outcome-and_then query (used_by turns answers way name w) answers))
 
-  given-apart : (f : Option Fault) (way : Use) (name : ScopedName) (w : Walk) (is_global : Bool) (parts : List (List ℕ))
-      → outcome (given_by turns answers way name (with_fault f w) is_global parts) answers ≡ with_fault_after f (outcome (given_by turns answers way name w is_global parts) answers)
-  given-apart f way name w true parts = refl
-  given-apart f way name w false [] =
-      outcome-and_then (used turns way name (with_fault f w)) (λ v. Done (with_oneway w.at v)) answers
-      ∙ ap (with_oneway w.at) (plain-apart f way name w)
-      ∙ sym (ap (with_fault_after f) (outcome-and_then (used turns way name w) (λ v. Done (with_oneway w.at v)) answers))
-  given-apart f way name w false (part ∷ parts) =
-      let query = under w.own (denoted (turns_at turns w) w.cursor (head_of name)) in
-      outcome-and_then query (λ r. Done (with_oneway w.at (head_visit name (with_fault f w) r))) answers
-      ∙ sym (ap (with_fault_after f) (outcome-and_then query (λ r. Done (with_oneway w.at (head_visit name w r))) answers))
-
-  named-apart : (f : Option Fault) (way : Use) (name : ScopedName) (w : Walk) (b : Bool) → outcome (named_by turns answers way name (with_fault f w) b) answers ≡ with_fault_after f (outcome (named_by turns answers way name w b) answers)
-  unfolding given_back
-  named-apart f way name w true = given-apart f way name w name.is_global name.rest
-  named-apart f way name w false = plain-apart f way name w
-
   pub visit-apart : (f : Option Fault) (site : Item) (w : Walk) → visited turns answers site (with_fault f w) ≡ with_fault_after f (visited turns answers site w)
   unfolding visit
   visit-apart f (item.Declares way name) w = declared-apart f way name w (first w.cursor)
-  visit-apart f (item.Uses way name) w = named-apart f way name w w.gives_back
+  visit-apart f (item.Uses way name) w = plain-apart f way name w
   visit-apart f (item.ValueEnds way e) w = value-apart f w way (outcome_at w way e)
   visit-apart f item.ScopeEnds w = end-apart f w (first w.cursor)
   visit-apart f other w = refl

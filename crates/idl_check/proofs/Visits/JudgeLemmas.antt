@@ -8,19 +8,16 @@ use Rattle.idl_memo.specs.Query.{Ask, Done, Tell, and_then}
 use Rattle.idl_memo.proofs.QueryLaws.{run-and_then_at}
 use Rattle.idl_check.proofs.Visits.VisitLemmas.{runs_over}
 use Rattle.idl_check.specs.walk.Placing.{faulty_step, opening_faults, step_of}
-use Rattle.idl_check.specs.tables.Rules.{is_misplaced}
-use Rattle.idl_check.specs.walk.Verdict.{asking, by_names, by_tree, faulty, first_faults, first_part, judged, misplaced, refused, sound, token_verdict, tree_of}
-use Rattle.idl_check.specs.walk.Walk.{Walk, first_walk, walk}
+use Rattle.idl_check.specs.walk.Verdict.{asking, by_names, by_tree, faulty, first_faults, judged, refused, sound, token_verdict, tree_of}
+use Rattle.idl_check.specs.walk.Walk.{Walk, walk}
 use Rattle.idl_check.specs.declared.walk.verdict.Verdict.{Verdict}
-use Rattle.idl_fault.specs.declared.code.Code.TheVariants.{NoTree, MisplacedUnit}
-use Rattle.idl_lex.specs.kinds.Keywords.{folded}
+use Rattle.idl_fault.specs.declared.code.Code.TheVariants.{NoTree}
 use Rattle.idl_lex.specs.tokens.Tokens.{Token}
 use Rattle.idl_env.specs.Facts.{path_around, UnitFacts}
 use Rattle.idl_env.specs.keys.Key.{key_eq}
-use Rattle.idl_scope.specs.Lookup.{Lookup, outward, under}
+use Rattle.idl_scope.specs.Lookup.{Lookup, under}
 use Rattle.idl_env.specs.declared.answering.answer.Answer.{Answer}
 use Rattle.idl_env.specs.declared.answering.answer.Scope.{Scope}
-use Rattle.idl_entity.specs.declared.entity.Entity.{Entity}
 use Rattle.idl_env.specs.declared.keys.key.Key.{Key}
 use Rattle.idl_env.specs.declared.keys.key.Key.TheVariants.{Nameless}
 use Rattle.idl_entity.specs.declared.kind.Kind.{Kind}
@@ -94,31 +91,7 @@ third_step turns tokens scopes tree h some =
     ap (λ o. elim o [ Some fault ↦ refused tokens fault | None ↦ by_tree turns tokens scopes ]) h
     ∙ ap (λ r. elim r [ Err at ↦ refused tokens (fault_at at NoTree) | Ok tree ↦ by_names turns tokens scopes tree ]) some
 
--- a unit that stands where it may not
-pub is_misplaced_by : (turns : ℕ) (tokens : List Token) (scopes : List Scope) (tree : Tree) → is_misplaced tree scopes ≡ true
-    → by_names turns tokens scopes tree ≡ misplaced turns tokens scopes tree
-is_misplaced_by turns tokens scopes tree h =
-    ap (λ b. cond b (misplaced turns tokens scopes tree) (and_then (walk turns (items (unit_parts tree)) (first_walk scopes)) (λ w. judged tokens scopes tree w))) h
-
--- and one that doesn't
-pub is_placed_by : (turns : ℕ) (tokens : List Token) (scopes : List Scope) (tree : Tree) → is_misplaced tree scopes ≡ false
-    → by_names turns tokens scopes tree ≡ and_then (walk turns (items (unit_parts tree)) (first_walk scopes)) (λ w. judged tokens scopes tree w)
-is_placed_by turns tokens scopes tree h =
-    ap (λ b. cond b (misplaced turns tokens scopes tree) (and_then (walk turns (items (unit_parts tree)) (first_walk scopes)) (λ w. judged tokens scopes tree w))) h
-
 module _ (bank : Key → Option Answer) (turns : ℕ) (tokens : List Token) (scopes : List Scope) (tree : Tree) where
-  -- what its first token asks
-  abbrev first_asks : Option (List ℕ) → Lookup (List Entity)
-  first_asks o = elim o [ None ↦ Done [] | Some name ↦ outward turns scopes (folded name) ]
-
-  pub misplaced_asking : (log : List (Key × Option Answer)) (name : List ℕ) (after : List (Key × Option Answer)) → first_part (items (unit_parts tree)) ≡ Some name
-      → after ≡ (runs_over bank (outward turns scopes (folded name)) log).1
-      → runs_over bank (misplaced turns tokens scopes tree) log ≡ runs_over bank (refused tokens (fault_at 0 MisplacedUnit)) after
-  misplaced_asking log name after h asks =
-      ap (λ o. runs_over bank (and_then (first_asks o) (λ found. refused tokens (fault_at 0 MisplacedUnit))) log) h
-      ∙ run-and_then_at key_eq (outward turns scopes (folded name)) (λ found. refused tokens (fault_at 0 MisplacedUnit)) bank log
-      (runs_over bank (outward turns scopes (folded name)) log).0 after (λ i. ((runs_over bank (outward turns scopes (folded name)) log).0, asks i))
-
   -- a walk that comes to this, from here on
   pub judged_from : (log : List (Key × Option Answer)) (from w : Walk) (after : List (Key × Option Answer))
       → (w, after) ≡ runs_over bank (walk turns (items (unit_parts tree)) from) log

@@ -5,27 +5,26 @@ use Rattle.idl_memo.specs.Query.{Ask, Done, and_then, noted, run}
 use Rattle.idl_memo.proofs.QueryLaws.{run-and_then_at}
 use Rattle.idl_check.proofs.Visits.JudgeLemmas.{under-none}
 use Rattle.idl_check.proofs.TypeLemmas.{behind-same}
-use Rattle.idl_check.proofs.Visits.VisitLemmas.{turns-here}
+use Rattle.idl_check.proofs.Visits.VisitLemmas.{cut_by, turns-here}
 use Rattle.idl_check.specs.tables.Declaring.{entity_of, inherited, is_any, standing}
 use Rattle.idl_check.specs.ids.Identifying.{ids_of}
 use Rattle.idl_check.specs.ids.Pragmas.{said_by}
 use Rattle.idl_check.specs.told.Types.{behind_typedefs, is_looked_through, looked_through}
-use Rattle.idl_check.specs.walk.Verdict.{by_names, by_tree, faulty, first_faults, first_part, judged, misplaced, pragma_judged, pragma_verdict, refused, token_verdict, tree_of, verdict}
-use Rattle.idl_check.specs.walk.Walk.{Visit, Walk, declared_visit, first_walk, given_back, head_of, head_visit, is_over, noted_in, passed, past_name, quiet, turns_at, unfound_visit, used, used_visit, visit, walk, with_oneway}
-use Rattle.idl_check.specs.tables.Rules.{is_misplaced}
+use Rattle.idl_check.specs.walk.Verdict.{by_names, by_tree, faulty, first_faults, judged, placed_walk, pragma_judged, pragma_verdict, refused, token_verdict, tree_of, verdict}
+use Rattle.idl_check.specs.walk.Walk.{Visit, Walk, cut_name, declared_visit, head_of, head_visit, is_known, is_over, looked_at, noted_in, passed, quiet, turns_at, unfound_visit, used, used_visit, visit, walk}
 use Rattle.idl_check.specs.declared.tables.standing.Standing.{Standing}
 use Rattle.idl_check.specs.declared.walk.verdict.Verdict.{Verdict}
-use Rattle.idl_fault.specs.declared.code.Code.TheVariants.{NoTree, MisplacedUnit}
+use Rattle.idl_fault.specs.declared.code.Code.TheVariants.{NoTree}
 use Rattle.idl_lex.specs.kinds.Keywords.{folded}
 use Rattle.idl_lex.specs.tokens.Tokens.{Token}
-use Rattle.idl_scope.proofs.LookupLaws.LookupLaws.{denoted-more, outward-more, reached-more, seen-declared}
+use Rattle.idl_scope.proofs.LookupLaws.LookupLaws.{denoted-more, reached-more, seen-declared}
 use Rattle.idl_scope.proofs.LookupLaws.RunLemmas.{runs, seen_at}
 use Rattle.idl_scope.proofs.LookupLaws.TurnsLaws.{AreSame, and_then-same as under-same}
 use Rattle.idl_entity.specs.Entity.{is_operation}
 use Rattle.idl_env.specs.Facts.{UnitFacts, answers, entity_in, entity_key, scopes_in}
 use Rattle.idl_env.specs.keys.Key.{key_eq}
 use Rattle.idl_entity.specs.Kind.{inherits}
-use Rattle.idl_scope.specs.Lookup.{Lookup, bases_of, by_result, denoted, outward, reached, under}
+use Rattle.idl_scope.specs.Lookup.{Lookup, bases_of, by_result, denoted, reached, under}
 use Rattle.idl_entity.specs.Path.{name_of}
 use Rattle.idl_env.specs.Turns.{HasTurnsFor, declared_among, declared_named, turns_for}
 use Rattle.idl_env.specs.declared.additions.addition.Step.TheVariants.{Stays}
@@ -107,9 +106,9 @@ module _ (facts : List UnitFacts) (turns : ℕ) (enough : turns_for facts ≤ tu
         (inherited_at s n) (λ found log. refl)
         (noted key_eq (answers facts) (noted key_eq (answers facts) log (Declared n s.path)) (Introduced n s.path s.body))
 
-    looked_at : (way : Use) (e : Entity) → Same (under w.own (looked_through (turns_at (turns + extra) w) way e)) (under w.own (looked_through (turns_at turns w) way e))
+    through_at : (way : Use) (e : Entity) → Same (under w.own (looked_through (turns_at (turns + extra) w) way e)) (under w.own (looked_through (turns_at turns w) way e))
     unfolding looked_through
-    looked_at way e log = by_way (is_looked_through way)
+    through_at way e log = by_way (is_looked_through way)
       where
         places : List (List (List ℕ))
         places = declared_named facts ++ declared_among w.own
@@ -137,31 +136,19 @@ module _ (facts : List UnitFacts) (turns : ℕ) (enough : turns_for facts ≤ tu
         goes (Ok found) =
             and_then-same (under w.own (looked_through (turns_at (turns + extra) w) way found.entity)) (under w.own (looked_through (turns_at turns w) way found.entity))
             (λ behind. Done (used_visit w way name found behind)) (λ behind. Done (used_visit w way name found behind))
-            (looked_at way found.entity) (λ behind log. refl)
+            (through_at way found.entity) (λ behind log. refl)
         goes (Err fault) = λ log. refl
 
-    given_at : (way : Use) (name : ScopedName) → Same (given_back (turns + extra) way name w) (given_back turns way name w)
-    unfolding given_back
-    given_at way name log = by_global name.is_global
+    cut_at : (way : Use) (name : ScopedName) → Same (cut_name (turns + extra) way name w) (cut_name turns way name w)
+    unfolding cut_name
+    cut_at way name = by_global name.is_global name.rest
       where
-        parts : ℕ → List (List ℕ) → Lookup Visit
-        parts t rest = elim rest as (λ _. Lookup Visit) [
-          | [] ↦ and_then (used t way name w) (λ v. Done (with_oneway w.at v))
-          | part ∷ more ↦ and_then (under w.own (denoted (turns_at t w) w.cursor (head_of name))) (λ r. Done (with_oneway w.at (head_visit name w r)))
-        ]
-
-        by_parts : (rest : List (List ℕ)) → Same (parts (turns + extra) rest) (parts turns rest)
-        by_parts [] =
-            and_then-same (used (turns + extra) way name w) (used turns way name w) (λ v. Done (with_oneway w.at v)) (λ v. Done (with_oneway w.at v)) (used_at way name) (λ v log. refl)
-        by_parts (part ∷ more) =
+        by_global : (b : Bool) (parts : List (List ℕ)) → Same (cut_by (turns + extra) way name w b parts) (cut_by turns way name w b parts)
+        by_global true parts = λ log. refl
+        by_global false [] = used_at way name
+        by_global false (part ∷ parts) =
             and_then-same (under w.own (denoted (turns_at (turns + extra) w) w.cursor (head_of name))) (under w.own (denoted (turns_at turns w) w.cursor (head_of name)))
-            (λ r. Done (with_oneway w.at (head_visit name w r))) (λ r. Done (with_oneway w.at (head_visit name w r)))
-            (denoted_at w.cursor (head_of name)) (λ r log. refl)
-
-        by_global : (b : Bool) → run key_eq (cond b (Done (with_oneway w.at (quiet (past_name name w)))) (parts (turns + extra) name.rest)) (answers facts) log
-            ≡ run key_eq (cond b (Done (with_oneway w.at (quiet (past_name name w)))) (parts turns name.rest)) (answers facts) log
-        by_global true = refl
-        by_global false = by_parts name.rest log
+            (λ r. Done (head_visit name w r)) (λ r. Done (head_visit name w r)) (denoted_at w.cursor (head_of name)) (λ r log. refl)
 
     declared_at : (way : Declaration) (name : List ℕ) → Same (visit (turns + extra) (item.Declares way name) w) (visit turns (item.Declares way name) w)
     unfolding visit
@@ -182,20 +169,15 @@ module _ (facts : List UnitFacts) (turns : ℕ) (enough : turns_for facts ≤ tu
             (λ there. Done (declared_visit w way s e there)) (λ there. Done (declared_visit w way s e there))
             (standing_at s e) (λ there log. refl) log
 
-    used_name_at : (way : Use) (name : ScopedName) → Same (visit (turns + extra) (item.Uses way name) w) (visit turns (item.Uses way name) w)
-    unfolding visit
-    used_name_at way name log = by_given w.gives_back
-      where
-        by_given : (b : Bool) → run key_eq (cond b (given_back (turns + extra) way name w) (used (turns + extra) way name w)) (answers facts) log
-            ≡ run key_eq (cond b (given_back turns way name w) (used turns way name w)) (answers facts) log
-        by_given true = given_at way name log
-        by_given false = used_at way name log
+    known_at : (way : Use) (name : ScopedName) (b : Bool) → Same (cond b (cut_name (turns + extra) way name w) (used (turns + extra) way name w)) (cond b (cut_name turns way name w) (used turns way name w))
+    known_at way name true = cut_at way name
+    known_at way name false = used_at way name
 
-    pub visit-same : (site : Item) → Same (visit (turns + extra) site w) (visit turns site w)
+    looked-same : (site : Item) → Same (looked_at (turns + extra) site w) (looked_at turns site w)
     unfolding visit
-    visit-same (item.Declares way name) = declared_at way name
-    visit-same (item.Uses way name) = used_name_at way name
-    visit-same other = λ log. refl
+    looked-same (item.Declares way name) = declared_at way name
+    looked-same (item.Uses way name) = known_at way name (is_known (w.at + 1) w)
+    looked-same other = λ log. refl
 
   -- ---- a unit
 
@@ -205,21 +187,15 @@ module _ (facts : List UnitFacts) (turns : ℕ) (enough : turns_for facts ≤ tu
   walk-same (site ∷ sites) w log = by_over (is_over w) (λ v. walk-same sites (noted_in v w.fault))
     where
       by_over : (b : Bool) → ((v : Visit) → Same (walk (turns + extra) sites (noted_in v w.fault)) (walk turns sites (noted_in v w.fault)))
-          → run key_eq (cond b (Done w) (and_then (visit (turns + extra) site w) (λ v. walk (turns + extra) sites (noted_in v w.fault)))) (answers facts) log
-          ≡ run key_eq (cond b (Done w) (and_then (visit turns site w) (λ v. walk turns sites (noted_in v w.fault)))) (answers facts) log
+          → run key_eq (cond b (Done w) (and_then (looked_at (turns + extra) site w) (λ v. walk (turns + extra) sites (noted_in v w.fault)))) (answers facts) log
+          ≡ run key_eq (cond b (Done w) (and_then (looked_at turns site w) (λ v. walk turns sites (noted_in v w.fault)))) (answers facts) log
       by_over true on = refl
       by_over false on =
-          and_then-same (visit (turns + extra) site w) (visit turns site w) (λ v. walk (turns + extra) sites (noted_in v w.fault)) (λ v. walk turns sites (noted_in v w.fault))
-          (visit-same w site) on log
+          and_then-same (looked_at (turns + extra) site w) (looked_at turns site w) (λ v. walk (turns + extra) sites (noted_in v w.fault)) (λ v. walk turns sites (noted_in v w.fault))
+          (looked-same w site) on log
 
   bare : HasTurnsFor facts [] turns
   bare = omega (arith, enough)
-
-  outward-plain : (scopes : List Scope) (n : List ℕ) → Same (outward (turns + extra) scopes n) (outward turns scopes n)
-  outward-plain scopes n log =
-      ap (λ q. run key_eq q (answers facts) log) (sym (under-none (outward (turns + extra) scopes n)))
-      ∙ outward-more facts [] turns bare extra scopes n log
-      ∙ ap (λ q. run key_eq q (answers facts) log) (under-none (outward turns scopes n))
 
   denoted-plain : (scopes : List Scope) (name : ScopedName) → Same (denoted (turns + extra) scopes name) (denoted turns scopes name)
   denoted-plain scopes name log =
@@ -227,31 +203,10 @@ module _ (facts : List UnitFacts) (turns : ℕ) (enough : turns_for facts ≤ tu
       ∙ denoted-more facts [] turns bare extra scopes name log
       ∙ ap (λ q. run key_eq q (answers facts) log) (under-none (denoted turns scopes name))
 
-  misplaced-same : (tokens : List Token) (scopes : List Scope) (tree : Tree) → Same (misplaced (turns + extra) tokens scopes tree) (misplaced turns tokens scopes tree)
-  misplaced-same tokens scopes tree =
-      and_then-same (there (turns + extra) (first_part (items (unit_parts tree)))) (there turns (first_part (items (unit_parts tree))))
-      (λ found. refused tokens (fault_at 0 MisplacedUnit)) (λ found. refused tokens (fault_at 0 MisplacedUnit))
-      (by_part (first_part (items (unit_parts tree)))) (λ found log. refl)
-    where
-      there : ℕ → Option (List ℕ) → Lookup (List Entity)
-      there t o = elim o as (λ _. Lookup (List Entity)) [ None ↦ Done [] | Some name ↦ outward t scopes (folded name) ]
-
-      by_part : (o : Option (List ℕ)) → Same (there (turns + extra) o) (there turns o)
-      by_part None = λ log. refl
-      by_part (Some name) = outward-plain scopes (folded name)
-
   by_names-same : (tokens : List Token) (scopes : List Scope) (tree : Tree) → Same (by_names (turns + extra) tokens scopes tree) (by_names turns tokens scopes tree)
-  by_names-same tokens scopes tree log = by_place (is_misplaced tree scopes)
-    where
-      walked : ℕ → Lookup Verdict
-      walked t = and_then (walk t (items (unit_parts tree)) (first_walk scopes)) (λ w. judged tokens scopes tree w)
-
-      by_place : (b : Bool) → run key_eq (cond b (misplaced (turns + extra) tokens scopes tree) (walked (turns + extra))) (answers facts) log
-          ≡ run key_eq (cond b (misplaced turns tokens scopes tree) (walked turns)) (answers facts) log
-      by_place true = misplaced-same tokens scopes tree log
-      by_place false =
-          and_then-same (walk (turns + extra) (items (unit_parts tree)) (first_walk scopes)) (walk turns (items (unit_parts tree)) (first_walk scopes))
-          (λ w. judged tokens scopes tree w) (λ w. judged tokens scopes tree w) (walk-same (items (unit_parts tree)) (first_walk scopes)) (λ w log. refl) log
+  by_names-same tokens scopes tree =
+      and_then-same (walk (turns + extra) (items (unit_parts tree)) (placed_walk scopes tree)) (walk turns (items (unit_parts tree)) (placed_walk scopes tree))
+      (λ w. judged tokens scopes tree w) (λ w. judged tokens scopes tree w) (walk-same (items (unit_parts tree)) (placed_walk scopes tree)) (λ w log. refl)
 
   by_tree-same : (tokens : List Token) (scopes : List Scope) → Same (by_tree (turns + extra) tokens scopes) (by_tree turns tokens scopes)
   by_tree-same tokens scopes log = by_spelling (tree_of tokens)

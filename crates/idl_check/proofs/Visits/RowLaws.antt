@@ -9,8 +9,7 @@ use Rattle.idl_check.specs.tables.Declaring.{entity_of, standing}
 use Rattle.idl_check.specs.walk.Judging.{used_name, used_names, walked}
 use Rattle.idl_dump.specs.Row.{Rest, spaced, token_text, unit_text}
 use Rattle.idl_check.specs.told.Types.{looked_through}
-use Rattle.idl_check.specs.walk.Walk.{turns_at, Visit, Walk, declared_visit, given_back, head_of, head_visit, outcome_at, unfound_visit, used, used_visit, value_visit, visit, with_oneway}
-use Rattle.idl_fault.specs.declared.code.Code.TheVariants.{BadOneway}
+use Rattle.idl_check.specs.walk.Walk.{turns_at, Visit, Walk, declared_visit, outcome_at, unfound_visit, used, used_visit, value_visit, visit}
 use Rattle.idl_lex.specs.kinds.Kind.{kind_of}
 use Rattle.idl_lex.specs.kinds.Marks.{marks}
 use Rattle.idl_lex.specs.tokens.Tokens.{Token}
@@ -75,12 +74,12 @@ use Rattle.idl_tree.specs.declared.unit.Tree.{Tree}
 use Rattle.idl_tree.specs.declared.unit.Tree.TheVariants as tree
 use Rattle.idl_tree.proofs.ReadAgain.ConstructionAgain.{construction_is_again}
 use Rattle.idl_tree.proofs.ReadAgain.TypeAgain.{is_type_start, type_is_again}
-use Rattle.idl_unit.specs.TokenRules.{fault_at, first as first_of}
+use Rattle.idl_unit.specs.TokenRules.{first as first_of}
 use Rattle.idl_value.specs.declared.outcome.Outcome.{Outcome}
 use Rattle.idl_value.specs.declared.outcome.Outcome.TheVariants as comes
 use Rattle.idl_value.specs.declared.value.Value.{Value}
 use Rattle.idl_check.proofs.PartLemmas.{IsUpTo}
-use Rattle.idl_check.proofs.Visits.SiteLaws.{declared_by, denoted-up, end_visit, given_by, named_by, union_visit, used_by, visited}
+use Rattle.idl_check.proofs.Visits.SiteLaws.{declared_by, denoted-up, end_visit, union_visit, used_by, visited}
 use Rattle.idl_check.proofs.Visits.WalkLaws.{none-append}
 use Rattle.idl_check.proofs.Faults.VisitFaults.{visit_faults}
 
@@ -88,10 +87,6 @@ use Rattle.idl_check.proofs.Faults.VisitFaults.{visit_faults}
 
 none-more : (n : ℕ) → n ≡ n + 0
 none-more n = omega arith
-
-pub no-end : {A : Type 0} (fs : List A) (f : A) → fs ++ f ∷ [] ≡ [] → ⊥
-no-end [] f h = cc
-no-end (g ∷ fs) f h = cc
 
 unfound-faulty : (n : ℕ) (w : Walk) (way : Use) (name : ScopedName) (fault : NameFault) → IsUpTo {A = Found} n (Err fault) → (unfound_visit w way name fault).faults ≡ [] → ⊥
 unfound-faulty n w way name (At why part) up h = cc
@@ -138,44 +133,20 @@ module _ (turns : ℕ) (answers : Key → Option Answer) where
       subst (FindsOne w) (sym (outcome-and_then query (used_by turns answers way name w) answers))
       (used-by-found way name w (outcome query answers) (denoted-up turns answers name w))
 
-  -- what is given back is never without fault
-  given-found : (way : Use) (name : ScopedName) (w : Walk) (is_global : Bool) (parts : List (List ℕ)) → FindsOne w (outcome (given_by turns answers way name w is_global parts) answers)
-  given-found way name w true parts = λ h. absurd (no-end [] (fault_at w.at BadOneway) h)
-  given-found way name w false [] =
-      let query = used turns way name w in
-      subst (FindsOne w) (sym (outcome-and_then query (λ v. Done (with_oneway w.at v)) answers))
-      (λ h. absurd (no-end (outcome query answers).faults (fault_at w.at BadOneway) h))
-  given-found way name w false (part ∷ parts) =
-      let query = under w.own (denoted (turns_at turns w) w.cursor (head_of name)) in
-      subst (FindsOne w) (sym (outcome-and_then query (λ r. Done (with_oneway w.at (head_visit name w r))) answers))
-      (λ h. absurd (no-end (head_visit name w (outcome query answers)).faults (fault_at w.at BadOneway) h))
-
-  named-found : (way : Use) (name : ScopedName) (w : Walk) (b : Bool) → FindsOne w (outcome (named_by turns answers way name w b) answers)
-  unfolding given_back
-  named-found way name w true = given-found way name w name.is_global name.rest
-  named-found way name w false = plain-found way name w
-
-  -- the path that is found at a used name that isn't given back, where that denotes something
-  plain-path : (way : Use) (name : ScopedName) (w : Walk) (found : Found) → outcome (under w.own (denoted (turns_at turns w) w.cursor name)) answers ≡ Ok found
-      → (outcome (used turns way name w) answers).after.found ≡ w.found ++ found.entity.path ∷ []
-  unfolding used
-  plain-path way name w found is =
+  -- the path that is found at a used name, where that denotes something
+  pub used-path : (way : Use) (name : ScopedName) (w : Walk) (found : Found) → outcome (under w.own (denoted (turns_at turns w) w.cursor name)) answers ≡ Ok found
+      → (visited turns answers (item.Uses way name) w).after.found ≡ w.found ++ found.entity.path ∷ []
+  unfolding visit used
+  used-path way name w found is =
       ap (λ (v : Visit). v.after.found) (outcome-and_then (under w.own (denoted (turns_at turns w) w.cursor name)) (used_by turns answers way name w) answers)
       ∙ ap (λ r. (outcome (used_by turns answers way name w r) answers).after.found) is
       ∙ ap (λ (v : Visit). v.after.found) (outcome-and_then (under w.own (looked_through (turns_at turns w) way found.entity)) (λ behind. Done (used_visit w way name found behind)) answers)
-
-  pub used-path : (way : Use) (name : ScopedName) (w : Walk) (found : Found) → w.gives_back ≡ false → outcome (under w.own (denoted (turns_at turns w) w.cursor name)) answers ≡ Ok found
-      → (visited turns answers (item.Uses way name) w).after.found ≡ w.found ++ found.entity.path ∷ []
-  unfolding visit
-  used-path way name w found given is =
-      ap (λ b. (outcome (named_by turns answers way name w b) answers).after.found) given
-      ∙ plain-path way name w found is
 
   visit-found : (site : Item) (w : Walk) → (visited turns answers site w).faults ≡ []
       → length (visited turns answers site w).after.found ≡ length w.found + length (used_name site)
   unfolding visit
   visit-found (item.Declares way name) w h = ap length (declared-found way name w (first_of w.cursor)) ∙ none-more (length w.found)
-  visit-found (item.Uses way name) w h = named-found way name w w.gives_back h
+  visit-found (item.Uses way name) w h = plain-found way name w h
   visit-found (item.ValueEnds way e) w h = ap length (valued-found w way (outcome_at w way e)) ∙ none-more (length w.found)
   visit-found item.ScopeEnds w h = ap length (end-found w (first_of w.cursor)) ∙ none-more (length w.found)
   visit-found other w h = none-more (length w.found)

@@ -1,9 +1,9 @@
 -- What comes of a site: its faults stand where it speaks, and no expression begins behind the next token.
-use Rattle.std.proofs.Common.{◌≡◌, ℕ, ◌+◌, ◌<◌, ◌≤◌, min, Bool, true, false, cond, List, [], ◌∷◌, length, Option, Some, None, Result, Ok, Err, refl, sym, subst, arith}
+use Rattle.std.proofs.Common.{◌≡◌, ◌∙◌, ℕ, ◌+◌, ◌<◌, ◌≤◌, min, Bool, true, false, cond, List, [], ◌∷◌, length, Option, Some, None, Result, Ok, Err, refl, sym, ap, subst, arith}
 use Rattle.std.proofs.lemmas.List.Elements.{All-append, All-cons, All-nil, All-weaker}
 use Rattle.std.specs.List.{list_any}
 use Rattle.std.specs.Prelude.{All, drop, take}
-use Rattle.idl_check.specs.tables.Codes.{Table, faults_by}
+use Rattle.idl_check.specs.tables.Codes.{Table, codes_in, faults_by}
 use Rattle.idl_check.specs.tables.Declaring.{declared_table, entity_of, standing}
 use Rattle.idl_check.specs.walk.Judging.{spoken_from, spoken_till, walked}
 use Rattle.idl_check.specs.told.Labels.{is_idle, no_labels, with_default}
@@ -12,17 +12,16 @@ use Rattle.idl_tree.specs.NameParts.{last_at, part_at}
 use Rattle.idl_check.specs.told.Types.{looked_through, target_in, written_as}
 use Rattle.idl_check.specs.tables.Using.{name_code, used_table, values_after}
 use Rattle.idl_check.specs.told.Values.{Values, begun_at, code_of, with_value}
-use Rattle.idl_check.specs.walk.Walk.{turns_at, Visit, Walk, begin_of, declared_visit, ended_array, ended_scope, faulty_if, given_back, head_faults, head_of, head_visit, is_repeated, outcome_at, passed, past_name, quiet, token_of, unfound_visit, used, used_after, used_visit, value_visit, valued_after, visit, with_labels, with_oneway, with_scope}
+use Rattle.idl_check.specs.walk.Walk.{turns_at, Visit, Walk, begin_of, declared_visit, ended_array, ended_scope, faulty_if, is_repeated, outcome_at, passed, quiet, token_of, unfound_visit, used, used_after, used_visit, value_visit, valued_after, visit, with_labels, with_scope}
 use Rattle.idl_check.specs.declared.tables.standing.Standing.{Standing}
-use Rattle.idl_fault.specs.Code.{number_of}
 use Rattle.idl_fault.specs.declared.code.Code.{Code}
-use Rattle.idl_fault.specs.declared.code.Code.TheVariants.{BadOneway, NoScope, RepeatedLabel, UselessDefault}
+use Rattle.idl_fault.specs.declared.code.Code.TheVariants.{BadOneway, RepeatedLabel, UselessDefault}
 use Rattle.idl_memo.specs.Query.{Done, and_then, outcome}
 use Rattle.idl_memo.proofs.QueryLaws.{outcome-and_then}
 use Rattle.idl_entity.specs.DataType.{plain_type}
 use Rattle.idl_entity.specs.declared.data_type.Element.TheVariants.{Constants}
 use Rattle.idl_env.specs.Facts.{over}
-use Rattle.idl_entity.specs.Kind.{kind_eq, is_scope}
+use Rattle.idl_entity.specs.Kind.{kind_eq}
 use Rattle.idl_scope.specs.Lookup.{Lookup, by_result, denoted, under}
 use Rattle.idl_scope.proofs.FactsLaws.{outcome-under}
 use Rattle.idl_env.specs.declared.answering.answer.Answer.{Answer}
@@ -45,14 +44,13 @@ use Rattle.idl_tree.specs.declared.name.ScopedName.{ScopedName}
 use Rattle.idl_unit.specs.TokenRules.{fault_at, first}
 use Rattle.idl_unit.specs.declared.fault.Fault.{Fault}
 use Rattle.idl_value.specs.ConstantType.{target_of}
-use Rattle.idl_value.specs.declared.outcome.ValueCode.{ValueCode}
-use Rattle.idl_value.specs.declared.outcome.ValueCode.TheVariants as value_code
 use Rattle.idl_value.specs.declared.outcome.Outcome.{Outcome}
 use Rattle.idl_value.specs.declared.outcome.Outcome.TheVariants as comes
 use Rattle.idl_value.specs.declared.value.Value.{Value}
 use Rattle.idl_tree.proofs.NameLemmas.{behind_name}
 use Rattle.idl_check.proofs.PartLemmas.{IsUpTo, denoted-IsUpTo}
-use Rattle.idl_check.proofs.Faults.TableLaws.{Ascends, all-by, all-if, declared-up, name-number, used-up}
+use Rattle.idl_check.proofs.Faults.TableLaws.{all-if}
+use Rattle.idl_check.proofs.Faults.FaultOrder.{all-at}
 use Rattle.idl_check.proofs.Faults.VisitFaults.{visit_faults}
 
 -- ---- where an expression begins
@@ -84,13 +82,13 @@ begin-over w u none le =
 
 -- ---- what holds of the faults of a site
 
--- a fault of the rules over tree and names, at one of these tokens
+-- a fault at one of these tokens
 abbrev pub Within : ℕ → ℕ → Fault → Type 0
-Within from till f = (from ≤ f.index) × (f.index < till) × (22 ≤ number_of f.code)
+Within from till f = (from ≤ f.index) × (f.index < till)
 
--- such a fault at this token or a later one
+-- at this token or a later one
 abbrev pub IsFrom : ℕ → Fault → Type 0
-IsFrom from f = (from ≤ f.index) × (22 ≤ number_of f.code)
+IsFrom from f = from ≤ f.index
 
 -- what comes of a site after this walk: it passes the site's tokens, and its faults stand where the site speaks
 pub record IsPlaced (site : Item) (w : Walk) (v : Visit) : Type 0 where
@@ -123,14 +121,14 @@ till-ends site sites w some = omega arith
 none-within : (site : Item) (w : Walk) → All (Within (spoken_from site w) (spoken_till site w)) []
 none-within site w = All-nil (Within (spoken_from site w) (spoken_till site w))
 
-one-within : (from till n : ℕ) (c : Code) → 22 ≤ number_of c → from ≤ n → n < till → All (Within from till) (fault_at n c ∷ [])
-one-within from till n c number le lt = All-cons (Within from till) (fault_at n c) [] (le, lt, number) (All-nil (Within from till))
+one-within : (from till n : ℕ) (c : Code) → from ≤ n → n < till → All (Within from till) (fault_at n c ∷ [])
+one-within from till n c le lt = All-cons (Within from till) (fault_at n c) [] (le, lt) (All-nil (Within from till))
 
-if-within : (b : Bool) (from till n : ℕ) (c : Code) → 22 ≤ number_of c → from ≤ n → n < till → All (Within from till) (cond b (fault_at n c ∷ []) [])
-if-within b from till n c number le lt = all-if (Within from till) b (fault_at n c) [] (le, lt, number) (All-nil (Within from till))
+if-within : (b : Bool) (from till n : ℕ) (c : Code) → from ≤ n → n < till → All (Within from till) (cond b (fault_at n c ∷ []) [])
+if-within b from till n c le lt = all-if (Within from till) b (fault_at n c) [] (le, lt) (All-nil (Within from till))
 
-table-within : (from till n : ℕ) (table : Table) → Ascends 22 table → from ≤ n → n < till → All (Within from till) (faults_by n table)
-table-within from till n table up le lt = all-by n table (Within from till) (λ c number. (le, lt, number)) up
+table-within : (from till n : ℕ) (table : Table) → from ≤ n → n < till → All (Within from till) (faults_by n table)
+table-within from till n table le lt = all-at (Within from till) n (λ c. (le, lt)) (codes_in table)
 
 -- ---- used names
 
@@ -145,7 +143,7 @@ used-placed w way name found behind =
       passes = past;
       begins = begin-kept w (used_after w way name found behind) (begin-values way found.entity.value w.values) (omega arith);
       within =
-          table-within w.at (spoken_till (item.Uses way name) w) (last_at w.at name) (used_table way w.bases found.entity behind) (used-up way w.bases found.entity behind) (omega arith)
+          table-within w.at (spoken_till (item.Uses way name) w) (last_at w.at name) (used_table way w.bases found.entity behind) (omega arith)
           (till-own (item.Uses way name) w (last_at w.at name) (omega (arith, past)));
       keeps = refl;
     }
@@ -156,39 +154,10 @@ unfound-placed w way name (At why part) up =
     record {
       passes = past;
       begins = begin-kept w (unfound_visit w way name (At why part)).after (begin-values way None w.values) (omega arith);
-      within = one-within w.at (spoken_till (item.Uses way name) w) (part_at w.at name part) (name_code why) (name-number why) (omega arith) (till-own (item.Uses way name) w (part_at w.at name part) (omega (arith, up, past)));
+      within = one-within w.at (spoken_till (item.Uses way name) w) (part_at w.at name part) (name_code why) (omega arith) (till-own (item.Uses way name) w (part_at w.at name part) (omega (arith, up, past)));
       keeps = refl;
     }
 unfound-placed w way name Memory up = absurd up
-
--- what is given back by a oneway operation
-pub oneway-placed : (site : Item) (w : Walk) (v : Visit) → spoken_from site w ≤ w.at → IsPlaced site w v → IsPlaced site w (with_oneway w.at v)
-oneway-placed site w v from p = record {
-  passes = p.passes;
-  begins = p.begins;
-  within =
-      All-append (Within (spoken_from site w) (spoken_till site w)) v.faults (fault_at w.at BadOneway ∷ []) p.within
-      (one-within (spoken_from site w) (spoken_till site w) w.at BadOneway (omega arith) from (till-next site w));
-  keeps = p.keeps;
-}
-
-past-placed : (w : Walk) (way : Use) (name : ScopedName) (faults : List Fault) → All (Within w.at (spoken_till (item.Uses way name) w)) faults
-    → IsPlaced (item.Uses way name) w (record { faults = faults; after = past_name name w })
-past-placed w way name faults within =
-    let past : last_at w.at name + 1 ≡ w.at + item_length (item.Uses way name) = behind_name w.at name in
-    record { passes = past; begins = begin-kept w (past_name name w) refl (omega arith); within = within; keeps = refl }
-
-all-no : (b : Bool) (P : Fault → Type 0) (f : Fault) → P f → All P (cond b [] (f ∷ []))
-all-no true P f here = All-nil P
-all-no false P f here = All-cons P f [] here (All-nil P)
-
-head-placed : (w : Walk) (way : Use) (name : ScopedName) (r : Result Found NameFault) → IsUpTo 0 r → IsPlaced (item.Uses way name) w (head_visit name w r)
-head-placed w way name (Ok found) up =
-    past-placed w way name (head_faults w.at (Ok found))
-    (all-no (is_scope found.entity.kind) (Within w.at (spoken_till (item.Uses way name) w)) (fault_at w.at NoScope) (omega arith, till-next (item.Uses way name) w, omega arith))
-head-placed w way name (Err (At why part)) up =
-    past-placed w way name (head_faults w.at (Err (At why part))) (one-within w.at (spoken_till (item.Uses way name) w) w.at (name_code why) (name-number why) (omega arith) (till-next (item.Uses way name) w))
-head-placed w way name (Err Memory) up = absurd up
 
 -- ---- other sites
 
@@ -197,12 +166,12 @@ quiet-placed site w u passes same keeps =
     record { passes = passes; begins = begin-kept w u same (omega (arith, passes)); within = none-within site w; keeps = keeps }
 
 -- with a fault at the next token by a test
-faulty-placed : (site : Item) (w u : Walk) (b : Bool) (c : Code) → 22 ≤ number_of c → spoken_from site w ≤ w.at → u.at ≡ w.at + item_length site → u.values.begin ≡ w.values.begin → u.fault ≡ w.fault
+faulty-placed : (site : Item) (w u : Walk) (b : Bool) (c : Code) → spoken_from site w ≤ w.at → u.at ≡ w.at + item_length site → u.values.begin ≡ w.values.begin → u.fault ≡ w.fault
     → IsPlaced site w (faulty_if b c w u)
-faulty-placed site w u b c number from passes same keeps = record {
+faulty-placed site w u b c from passes same keeps = record {
   passes = passes;
   begins = begin-kept w u same (omega (arith, passes));
-  within = if-within b (spoken_from site w) (spoken_till site w) w.at c number from (till-next site w);
+  within = if-within b (spoken_from site w) (spoken_till site w) w.at c from (till-next site w);
   keeps = keeps;
 }
 
@@ -212,7 +181,7 @@ declared-placed way name w s e there =
     record {
       passes = refl;
       begins = begin-kept w u refl (omega arith);
-      within = table-within w.at (spoken_till (item.Declares way name) w) w.at (declared_table s there e) (declared-up s there e) (omega arith) (till-next (item.Declares way name) w);
+      within = table-within w.at (spoken_till (item.Declares way name) w) w.at (declared_table s there e) (omega arith) (till-next (item.Declares way name) w);
       keeps = refl;
     }
 
@@ -228,7 +197,7 @@ end_visit w o = elim o [ None ↦ quiet w | Some s ↦ union_visit w (kind_eq s.
 
 union-placed : (w : Walk) (b : Bool) → IsPlaced item.ScopeEnds w (union_visit w b)
 union-placed w true =
-    faulty-placed item.ScopeEnds w (record (ended_scope w) { unions = drop 1 w.unions }) (list_any is_idle (take 1 w.unions)) UselessDefault (omega arith) (omega arith) (omega arith) refl refl
+    faulty-placed item.ScopeEnds w (record (ended_scope w) { unions = drop 1 w.unions }) (list_any is_idle (take 1 w.unions)) UselessDefault (omega arith) (omega arith) refl refl
 union-placed w false = quiet-placed item.ScopeEnds w (ended_scope w) (omega arith) refl refl
 
 end-placed : (w : Walk) (o : Option Scope) → IsPlaced item.ScopeEnds w (end_visit w o)
@@ -236,10 +205,6 @@ end-placed w None = quiet-placed item.ScopeEnds w w (omega arith) refl refl
 end-placed w (Some s) = union-placed w (kind_eq s.kind Union)
 
 -- ---- the ends of expressions
-
-pub value-number : (why : ValueCode) → 22 ≤ number_of (code_of why)
-value-number value_code.WrongKind = omega arith
-value-number other = omega arith
 
 begin-told : (way : Purpose) (v : Value) (values : Values) → (with_value way v values).begin ≡ None
 begin-told purpose.Bound v values = refl
@@ -263,7 +228,7 @@ value-placed w way e (comes.Value v) =
     record {
       passes = omega (arith, valued-at w way v);
       begins = begin-over w u (begin-told way v w.values) (omega (arith, valued-at w way v));
-      within = if-within (is_repeated w way v) (begin_of w) (spoken_till (item.ValueEnds way e) w) (begin_of w) RepeatedLabel (omega arith) (omega arith) (omega (arith, begin-at w));
+      within = if-within (is_repeated w way v) (begin_of w) (spoken_till (item.ValueEnds way e) w) (begin_of w) RepeatedLabel (omega arith) (omega (arith, begin-at w));
       keeps = valued-keeps w way v;
     }
 value-placed w way e (comes.Fault f) =
@@ -272,7 +237,7 @@ value-placed w way e (comes.Fault f) =
       passes = omega arith;
       begins = begin-over w u refl (omega arith);
       within =
-          one-within (begin_of w) (spoken_till (item.ValueEnds way e) w) (token_of w f.token) (code_of f.code) (value-number f.code) (token-from w f.token)
+          one-within (begin_of w) (spoken_till (item.ValueEnds way e) w) (token_of w f.token) (code_of f.code) (token-from w f.token)
           (omega arith);
       keeps = refl;
     }
@@ -303,17 +268,6 @@ module _ (turns : ℕ) (answers : Key → Option Answer) where
       (λ found. and_then (under w.own (looked_through (turns_at turns w) way found.entity)) (λ behind. Done (used_visit w way name found behind)))
       (λ fault. Done (unfound_visit w way name fault))
 
-  -- what is given back by a oneway operation, by whether its name begins with `::`, and by the parts behind its first
-  abbrev pub given_by : Use → ScopedName → Walk → Bool → List (List ℕ) → Lookup Visit
-  given_by way name w is_global parts =
-      cond is_global (Done (with_oneway w.at (quiet (past_name name w)))) (elim parts [
-        | [] ↦ and_then (used turns way name w) (λ v. Done (with_oneway w.at v))
-        | part ∷ parts ↦ and_then (under w.own (denoted (turns_at turns w) w.cursor (head_of name))) (λ r. Done (with_oneway w.at (head_visit name w r)))
-      ])
-
-  abbrev pub named_by : Use → ScopedName → Walk → Bool → Lookup Visit
-  named_by way name w gives_back = cond gives_back (given_back turns way name w) (used turns way name w)
-
   -- a name denotes what it does, or has a fault at one of its parts
   pub denoted-up : (name : ScopedName) (w : Walk) → IsUpTo (length name.rest) (outcome (under w.own (denoted (turns_at turns w) w.cursor name)) answers)
   denoted-up name w =
@@ -340,29 +294,27 @@ module _ (turns : ℕ) (answers : Key → Option Answer) where
       let query = under w.own (denoted (turns_at turns w) w.cursor name) in
       subst (IsPlaced (item.Uses way name) w) (sym (outcome-and_then query (used_by way name w) answers)) (used-by-placed way name w (outcome query answers) (denoted-up name w))
 
-  given-by-placed : (way : Use) (name : ScopedName) (w : Walk) (is_global : Bool) (parts : List (List ℕ)) → IsPlaced (item.Uses way name) w (outcome (given_by way name w is_global parts) answers)
-  given-by-placed way name w true parts =
-      oneway-placed (item.Uses way name) w (quiet (past_name name w)) (omega arith) (past-placed w way name [] (none-within (item.Uses way name) w))
-  given-by-placed way name w false [] =
-      subst (IsPlaced (item.Uses way name) w) (sym (outcome-and_then (used turns way name w) (λ v. Done (with_oneway w.at v)) answers))
-      (oneway-placed (item.Uses way name) w (outcome (used turns way name w) answers) (omega arith) (plain-placed way name w))
-  given-by-placed way name w false (part ∷ parts) =
-      let query = under w.own (denoted (turns_at turns w) w.cursor (head_of name)) in
-      subst (IsPlaced (item.Uses way name) w) (sym (outcome-and_then query (λ r. Done (with_oneway w.at (head_visit name w r))) answers))
-      (oneway-placed (item.Uses way name) w (head_visit name w (outcome query answers)) (omega arith) (head-placed w way name (outcome query answers) (denoted-up (head_of name) w)))
+  -- no expression begins or ends there
+  used-by-begins : (way : Use) (name : ScopedName) (w : Walk) (r : Result Found NameFault) → IsUpTo (length name.rest) r → (outcome (used_by way name w r) answers).after.values.begin ≡ w.values.begin
+  used-by-begins way name w (Ok found) up =
+      ap (λ (v : Visit). v.after.values.begin) (outcome-and_then (under w.own (looked_through (turns_at turns w) way found.entity)) (λ behind. Done (used_visit w way name found behind)) answers)
+      ∙ begin-values way found.entity.value w.values
+  used-by-begins way name w (Err (At why part)) up = begin-values way None w.values
+  used-by-begins way name w (Err Memory) up = absurd up
 
-  pub named-placed : (way : Use) (name : ScopedName) (w : Walk) (b : Bool) → IsPlaced (item.Uses way name) w (outcome (named_by way name w b) answers)
-  unfolding given_back
-  named-placed way name w true = given-by-placed way name w name.is_global name.rest
-  named-placed way name w false = plain-placed way name w
+  pub used-begins : (way : Use) (name : ScopedName) (w : Walk) → (outcome (used turns way name w) answers).after.values.begin ≡ w.values.begin
+  unfolding used
+  used-begins way name w =
+      let query = under w.own (denoted (turns_at turns w) w.cursor name) in
+      ap (λ (v : Visit). v.after.values.begin) (outcome-and_then query (used_by way name w) answers) ∙ used-by-begins way name w (outcome query answers) (denoted-up name w)
 
   pub visit-placed : (site : Item) (w : Walk) → IsPlaced site w (visited site w)
   unfolding visit
-  visit-placed (item.Plain n) w = faulty-placed (item.Plain n) w (passed n w) w.gives_back BadOneway (omega arith) (omega arith) refl refl refl
+  visit-placed (item.Plain n) w = quiet-placed (item.Plain n) w (passed n w) refl refl refl
   visit-placed (item.Declares way name) w = declared-by-placed way name w (first w.cursor)
-  visit-placed (item.Uses way name) w = named-placed way name w w.gives_back
+  visit-placed (item.Uses way name) w = plain-placed way name w
   visit-placed (item.Says purpose text) w =
-      faulty-placed (item.Says purpose text) w (record (passed (item_length (item.Says purpose text)) w) { clauses = with_text purpose text w.clauses }) w.gives_back BadOneway (omega arith) (omega arith) refl refl refl
+      quiet-placed (item.Says purpose text) w (record (passed (item_length (item.Says purpose text)) w) { clauses = with_text purpose text w.clauses }) refl refl refl
   visit-placed item.ValueBegins w =
       let u : Walk = record w { values = begun_at w.at w.values } in
       record { passes = omega arith; begins = omega (arith, begin-at w); within = none-within item.ValueBegins w; keeps = refl }
@@ -379,15 +331,18 @@ module _ (turns : ℕ) (answers : Key → Option Answer) where
   visit-placed (item.Switches discrete) w =
       quiet-placed (item.Switches discrete) w (record w { written = record w.written { data_type = Some (plain_type (Constants (target_of discrete))) }; unions = no_labels (Some (target_of discrete)) 0 ∷ w.unions }) (omega arith) refl refl
   visit-placed item.Default w =
-      faulty-placed item.Default w (record w { unions = with_labels with_default w.unions; bodies = with_body_label None w.bodies }) (list_any (λ l. l.has_default) (take 1 w.unions)) RepeatedLabel (omega arith) (omega arith) (omega arith) refl
+      faulty-placed item.Default w (record w { unions = with_labels with_default w.unions; bodies = with_body_label None w.bodies }) (list_any (λ l. l.has_default) (take 1 w.unions)) RepeatedLabel (omega arith) (omega arith) refl
       refl
-  visit-placed item.GivesBack w = quiet-placed item.GivesBack w (record w { gives_back = true }) (omega arith) refl refl
+  visit-placed item.GivesBack w = record {
+    passes = omega arith;
+    begins = omega arith;
+    within = one-within w.at (spoken_till item.GivesBack w) w.at BadOneway (omega arith) (till-next item.GivesBack w);
+    keeps = refl;
+  }
 
   -- its faults stand where it speaks
   pub faults-within : (site : Item) (w : Walk) → All (λ f. (spoken_from site w ≤ f.index) × (f.index < spoken_till site w)) (visited site w).faults
-  faults-within site w =
-      let p : IsPlaced site w (visited site w) = visit-placed site w in
-      All-weaker (Within (spoken_from site w) (spoken_till site w)) (λ f. (spoken_from site w ≤ f.index) × (f.index < spoken_till site w)) (λ f h. (h.0, h.1)) (visited site w).faults p.within
+  faults-within site w = (visit-placed site w).within
 
   -- a walk over sites counts their tokens
   pub walked-at : (sites : List Item) (w : Walk) → (walked turns answers sites w).at ≡ w.at + items_length sites
@@ -405,8 +360,8 @@ module _ (turns : ℕ) (answers : Key → Option Answer) where
       let v = visited site w in
       let p : IsPlaced site w v = visit-placed site w in
       All-append (IsFrom (begin_of w)) v.faults (visit_faults turns answers sites v.after)
-      (All-weaker (Within (spoken_from site w) (spoken_till site w)) (IsFrom (begin_of w)) (λ f h. (omega (arith, h.0, spoken-begin site w), h.2)) v.faults p.within)
-      (All-weaker (IsFrom (begin_of v.after)) (IsFrom (begin_of w)) (λ f h. (omega (arith, h.0, p.begins), h.1)) (visit_faults turns answers sites v.after) (faults-from sites v.after))
+      (All-weaker (Within (spoken_from site w) (spoken_till site w)) (IsFrom (begin_of w)) (λ f h. omega (arith, h.0, spoken-begin site w)) v.faults p.within)
+      (All-weaker (IsFrom (begin_of v.after)) (IsFrom (begin_of w)) (λ f h. omega (arith, h, p.begins)) (visit_faults turns answers sites v.after) (faults-from sites v.after))
 
   -- where the last of them has a token, each fault stands at a token of theirs
   pub faults-till : (sites : List Item) (w : Walk) → EndsInTokens sites → All (λ f. f.index < w.at + items_length sites) (visit_faults turns answers sites w)

@@ -10,12 +10,11 @@ use Rattle.idl_check.specs.walk.AllFaults.{site_faults}
 use Rattle.idl_check.specs.walk.Judging.{used_name, used_names, walked}
 use Rattle.idl_check.specs.told.Labels.{Labels}
 use Rattle.idl_tree.specs.NameParts.{last_at}
-use Rattle.idl_check.specs.walk.Sections.{IsFormed, Section, Single, Returned, Whole, is_single, is_tokens, section_sites}
+use Rattle.idl_check.specs.walk.Sections.{IsFormed, Section, Single, Whole, is_single, section_sites}
 use Rattle.idl_check.specs.told.Types.{looked_through}
 use Rattle.idl_check.specs.walk.Valued.{AreValues, IsValue, expression_at, expressions}
 use Rattle.idl_check.specs.told.Values.{begun_at, evaluation_for}
-use Rattle.idl_check.specs.walk.Walk.{Visit, Walk, evaluation_at, first_walk, given_back, label_target, turns_at, used, used_visit, value_visit, visit}
-use Rattle.idl_fault.specs.declared.code.Code.TheVariants.{BadOneway}
+use Rattle.idl_check.specs.walk.Walk.{Visit, Walk, evaluation_at, first_walk, label_target, turns_at, used, used_visit, value_visit, visit}
 use Rattle.idl_lex.specs.declared.kinds.mark.Mark.TheVariants as mark
 use Rattle.idl_memo.proofs.QueryLaws.{outcome-and_then}
 use Rattle.idl_memo.specs.Query.{Done, outcome}
@@ -40,32 +39,28 @@ use Rattle.idl_tree.specs.declared.name.ScopedName.{ScopedName}
 use Rattle.idl_tree.specs.declared.unit.Constant.{Constant}
 use Rattle.idl_tree.specs.declared.unit.Tree.{Tree}
 use Rattle.idl_tree.specs.declared.unit.Tree.TheVariants as tree
-use Rattle.idl_unit.specs.TokenRules.{fault_at}
-use Rattle.idl_unit.specs.declared.fault.Fault.{Fault}
 use Rattle.idl_value.proofs.DecisionLemmas.{bound-open, value-open}
 use Rattle.idl_value.specs.Evaluation.{Evaluation, Faulty, Operands, Valued, first_of}
 use Rattle.idl_value.specs.Names.{AreGiven}
 use Rattle.idl_value.specs.declared.constant_type.ConstantType.{ConstantType}
 use Rattle.idl_value.specs.declared.value.Value.{Value}
 use Rattle.idl_check.proofs.Nests.AroundLaws.{IsKept, IsTyped, StandsIn, single-kept, used-kept, used-none, valued-stands}
-use Rattle.idl_check.proofs.Nests.BracketLemmas.{tokens-case, tokens-single, value-sites}
+use Rattle.idl_check.proofs.Nests.BracketLemmas.{value-sites}
 use Rattle.idl_check.proofs.Nests.Nesting.{arounds-operands}
 use Rattle.idl_check.proofs.Nests.LevelSites.{AreFit, Around, IsFit, IsKnown, around_after, arounds}
-use Rattle.idl_check.proofs.Nests.Operands.{expression-items, expression-names, expression-operands, is_operand, names_in, operand-case}
+use Rattle.idl_check.proofs.Nests.Operands.{expression-singles, expression-names, expression-operands, is_operand, names_in, operand-case}
 use Rattle.idl_check.proofs.PartLemmas.{IsUpTo}
-use Rattle.idl_check.proofs.Visits.RowLaws.{no-end}
-use Rattle.idl_check.proofs.Visits.SiteLaws.{denoted-up, named_by, used_by, visited}
+use Rattle.idl_check.proofs.Visits.SiteLaws.{denoted-up, used_by, visited}
 use Rattle.idl_check.proofs.Nests.UnitNesting.{unit-whole}
 use Rattle.idl_check.proofs.Faults.VisitFaults.{visit_faults}
 use Rattle.idl_check.proofs.Visits.WalkLaws.{none-append}
-use Rattle.idl_check.proofs.Visits.WholeLaws.{given-ends, single-calm, used-calm, whole-none}
+use Rattle.idl_check.proofs.Visits.WholeLaws.{whole-none}
 
 -- ---- operands
 
 -- a walk behind operands, so many of which are names
 record Grows (w u : Walk) (a : Around) (n : ℕ) : Type 0 where
   kept : IsKept w u a
-  given : u.gives_back ≡ false
   count : length u.values.operands ≡ length w.values.operands + n
   some : All IsSome w.values.operands → All IsSome u.values.operands
 
@@ -75,10 +70,9 @@ record HasOne (w u : Walk) : Type 0 where
   some : IsSome operand
   are : u.values.operands ≡ w.values.operands ++ operand ∷ []
 
-one-grows : (w u : Walk) (a : Around) → IsKept w u a → u.gives_back ≡ false → HasOne w u → Grows w u a 1
-one-grows w u a kept given h = record {
+one-grows : (w u : Walk) (a : Around) → IsKept w u a → HasOne w u → Grows w u a 1
+one-grows w u a kept h = record {
   kept = kept;
-  given = given;
   count = ap length h.are ∙ length-append w.values.operands (h.operand ∷ []);
   some =
       λ all. subst (All IsSome) (sym h.are)
@@ -107,31 +101,24 @@ module _ (turns : ℕ) (answers : Key → Option Answer) where
       let same = outcome-and_then query (used_by turns answers AsOperand name w) answers in
       subst (λ (v : Visit). HasOne w v.after) (sym same) (operand-by name w (outcome query answers) (denoted-up turns answers name w) (ap (λ (v : Visit). v.faults) (sym same) ∙ none))
 
-  named-grows : (name : ScopedName) (w : Walk) (a : Around) (b : Bool) → b ≡ false → (outcome (named_by turns answers AsOperand name w b) answers).faults ≡ [] → StandsIn w a
-      → Grows w (outcome (named_by turns answers AsOperand name w b) answers).after a 1
-  named-grows name w a true given none k = cc
-  named-grows name w a false given none k =
-      one-grows w (outcome (used turns AsOperand name w) answers).after a (used-kept turns answers AsOperand name w a none k) (used-calm turns answers AsOperand name w).given (operand-one name w none)
-
-  operand-grows : (x : Item) (w : Walk) (a : Around) → is_operand x ≡ true → w.gives_back ≡ false → (visited turns answers x w).faults ≡ [] → StandsIn w a
+  operand-grows : (x : Item) (w : Walk) (a : Around) → is_operand x ≡ true → (visited turns answers x w).faults ≡ [] → StandsIn w a
       → Grows w (visited turns answers x w).after a (length (used_name x))
   unfolding visit
-  operand-grows x w a operand given none k =
+  operand-grows x w a operand none k =
       operand-case (λ y. (visited turns answers y w).faults ≡ [] → Grows w (visited turns answers y w).after a (length (used_name y)))
-      (λ n h. record { kept = record { stands = k; told = refl; constant = refl }; given = refl; count = omega arith; some = λ all. all })
-      (λ name h. named-grows name w a w.gives_back given h k) x operand none
+      (λ n h. record { kept = record { stands = k; told = refl; constant = refl }; count = omega arith; some = λ all. all })
+      (λ name h. one-grows w (outcome (used turns AsOperand name w) answers).after a (used-kept turns answers AsOperand name w a h k) (operand-one name w h)) x operand none
 
-  front-grows : (front : List Item) → All (λ x. is_operand x ≡ true) front → (w : Walk) (a : Around) → w.gives_back ≡ false → visit_faults turns answers front w ≡ [] → StandsIn w a
+  front-grows : (front : List Item) → All (λ x. is_operand x ≡ true) front → (w : Walk) (a : Around) → visit_faults turns answers front w ≡ [] → StandsIn w a
       → Grows w (walked turns answers front w) a (names_in front)
-  front-grows [] all w a given none k = record { kept = record { stands = k; told = refl; constant = refl }; given = given; count = omega arith; some = λ all. all }
-  front-grows (x ∷ front) all w a given none k =
+  front-grows [] all w a none k = record { kept = record { stands = k; told = refl; constant = refl }; count = omega arith; some = λ all. all }
+  front-grows (x ∷ front) all w a none k =
       let v = visited turns answers x w in
       let parts = none-append v.faults (visit_faults turns answers front v.after) none in
-      let g = operand-grows x w a (All-head (λ x. is_operand x ≡ true) x front all) given parts.0 k in
-      let m = front-grows front (All-tail (λ x. is_operand x ≡ true) x front all) v.after a g.given parts.1 g.kept.stands in
+      let g = operand-grows x w a (All-head (λ x. is_operand x ≡ true) x front all) parts.0 k in
+      let m = front-grows front (All-tail (λ x. is_operand x ≡ true) x front all) v.after a parts.1 g.kept.stands in
       record {
         kept = record { stands = m.kept.stands; told = m.kept.told ∙ g.kept.told; constant = m.kept.constant ∙ g.kept.constant };
-        given = m.given;
         count = let b = g.count in let c = m.count in let n = length-append (used_name x) (used_names front) in omega (arith, b, c, n);
         some = λ all. m.some (g.some all);
       }
@@ -181,16 +168,15 @@ value-there (Faulty (f ∷ fs)) decided u way none = cc
 -- a walk behind an expression with a value
 record Ends (u t : Walk) (a : Around) (way : Purpose) (v : Value) : Type 0 where
   stands : StandsIn t a
-  given : t.gives_back ≡ u.gives_back
   told : t.values.told ≡ u.values.told ++ v ∷ []
   kept : IsSome u.values.constant → IsSome t.values.constant
   constant : is_constant way ≡ true → IsSome t.values.constant
 
 value-ends : (way : Purpose) (v : Value) (u : Walk) (a : Around) → StandsIn u a → Ends u (value_visit u way (first_of (Valued v))).after a way v
-value-ends purpose.Bound v u a k = record { stands = k; given = refl; told = refl; kept = λ h. h; constant = λ h. cc }
-value-ends purpose.Constant v u a k = record { stands = k; given = refl; told = refl; kept = λ h. refl; constant = λ h. refl }
-value-ends purpose.Length v u a k = record { stands = k; given = refl; told = refl; kept = λ h. h; constant = λ h. cc }
-value-ends purpose.Label v u a k = record { stands = valued-stands purpose.Label v u a k; given = refl; told = refl; kept = λ h. h; constant = λ h. cc }
+value-ends purpose.Bound v u a k = record { stands = k; told = refl; kept = λ h. h; constant = λ h. cc }
+value-ends purpose.Constant v u a k = record { stands = k; told = refl; kept = λ h. refl; constant = λ h. refl }
+value-ends purpose.Length v u a k = record { stands = k; told = refl; kept = λ h. h; constant = λ h. cc }
+value-ends purpose.Label v u a k = record { stands = valued-stands purpose.Label v u a k; told = refl; kept = λ h. h; constant = λ h. cc }
 
 -- ---- sections
 
@@ -200,7 +186,6 @@ of_constant e = is_constant e.0
 -- the expressions of a section
 abbrev section_expressions : Section → List (Purpose × Expression)
 section_expressions (Single site) = []
-section_expressions (Returned site) = []
 section_expressions (Whole way e) = (way, e) ∷ []
 
 -- what a walk has told behind these expressions
@@ -224,51 +209,26 @@ first-told way e es v a w u t z told constant is ends more = record {
       [ true ↦ λ c g. more.kept (ends.constant c) | false ↦ λ c g. more.constant g ]) refl h;
 }
 
-one-faulty : (b : Bool) (f : Fault) → b ≡ true → cond b (f ∷ []) [] ≡ [] → ⊥
-one-faulty true f h none = cc
-one-faulty false f h none = cc
-
 fit-behind : (xs ys : List Item) (a : Around) → AreFit (xs ++ ys) a → AreFit ys (arounds xs a)
 fit-behind [] ys a h = h
 fit-behind (x ∷ xs) ys a h = fit-behind xs ys (around_after x a) h.1
 
 module _ (turns : ℕ) (answers : Key → Option Answer) where
-  -- what is given back has a fault
-  named-faulty : (way : Use) (name : ScopedName) (w : Walk) (b : Bool) → b ≡ true → (outcome (named_by turns answers way name w b) answers).faults ≡ [] → ⊥
-  unfolding given_back
-  named-faulty way name w true h none =
-      let end = given-ends turns answers way name w name.is_global name.rest in
-      no-end end.0 (fault_at w.at BadOneway) (sym end.1 ∙ none)
-  named-faulty way name w false h none = cc
-
-  back-faulty : (site : Item) (w : Walk) → is_tokens site ≡ true → w.gives_back ≡ true → (visited turns answers site w).faults ≡ [] → ⊥
-  unfolding visit
-  back-faulty site w tokens given none =
-      tokens-case (λ x. (visited turns answers x w).faults ≡ [] → ⊥) (λ n h. one-faulty w.gives_back (fault_at w.at BadOneway) given h)
-      (λ way name h. named-faulty way name w w.gives_back given h) site tokens none
-
-  returned-faulty : (site : Item) (sections : List Section) (w : Walk) → is_tokens site ≡ true → visit_faults turns answers (flat_map section_sites (Returned site ∷ sections)) w ≡ [] → ⊥
-  unfolding visit
-  returned-faulty site sections w tokens none =
-      let u : Walk = record w { gives_back = true } in
-      let v = visited turns answers site u in
-      back-faulty site u tokens refl (none-append v.faults (visit_faults turns answers (flat_map section_sites sections) v.after) none).0
-
   -- a whole expression, and sites behind it
-  whole-told : (way : Purpose) (e : Expression) (sites : List Item) (es : List (Purpose × Expression)) (w : Walk) (a : Around) → w.gives_back ≡ false → StandsIn w a
+  whole-told : (way : Purpose) (e : Expression) (sites : List Item) (es : List (Purpose × Expression)) (w : Walk) (a : Around) → StandsIn w a
       → AreFit (item.ValueBegins ∷ (items (expression_parts e) ++ item.ValueEnds way e ∷ sites)) a
       → visit_faults turns answers (item.ValueBegins ∷ (items (expression_parts e) ++ item.ValueEnds way e ∷ sites)) w ≡ []
-      → ((u : Walk) → u.gives_back ≡ false → StandsIn u a → AreFit sites a → visit_faults turns answers sites u ≡ [] → IsTold es u (walked turns answers sites u))
+      → ((u : Walk) → StandsIn u a → AreFit sites a → visit_faults turns answers sites u ≡ [] → IsTold es u (walked turns answers sites u))
       → IsTold ((way, e) ∷ es) w (walked turns answers (item.ValueBegins ∷ (items (expression_parts e) ++ item.ValueEnds way e ∷ sites)) w)
   unfolding visit
-  whole-told way e sites es w a given k fit none more =
+  whole-told way e sites es w a k fit none more =
       let front = items (expression_parts e) in
       let last = item.ValueEnds way e ∷ sites in
       let operands = expression-operands e in
       let w0 : Walk = record w { values = begun_at w.at w.values } in
       let u = walked turns answers front w0 in
       let parts = none-append (visit_faults turns answers front w0) (visit_faults turns answers last u) (subst (λ fs. fs ≡ []) (faults-follow turns answers front last w0) none) in
-      let g : Grows w0 u a (names_in front) = front-grows turns answers front operands w0 a given parts.0 k in
+      let g : Grows w0 u a (names_in front) = front-grows turns answers front operands w0 a parts.0 k in
       let count = g.count in
       let names = expression-names e in
       let full : AreGiven u.values.operands e = record { enough = omega (arith, count, names); values = g.some (All-nil IsSome) } in
@@ -287,20 +247,20 @@ module _ (turns : ℕ) (answers : Key → Option Answer) where
       } in
       subst (λ z. IsTold ((way, e) ∷ es) w z) (walked-on turns answers front last w0)
       (first-told way e es there.0 a w u v.after (walked turns answers sites v.after) g.kept.told g.kept.constant is ends
-      (more v.after (ends.given ∙ g.given) ends.stands behind.1 end.1))
+      (more v.after ends.stands behind.1 end.1))
 
   -- over sections without fault
-  sections-told : (sections : List Section) → All IsFormed sections → (w : Walk) (a : Around) → w.gives_back ≡ false → StandsIn w a → AreFit (flat_map section_sites sections) a
+  sections-told : (sections : List Section) → All IsFormed sections → (w : Walk) (a : Around) → StandsIn w a → AreFit (flat_map section_sites sections) a
       → visit_faults turns answers (flat_map section_sites sections) w ≡ []
       → IsTold (flat_map section_expressions sections) w (walked turns answers (flat_map section_sites sections) w)
-  sections-told [] formed w a given k fit none = record { values = []; told = sym (append-nil w.values.told); are = tt; kept = λ h. h; constant = λ h. cc }
-  sections-told (Single site ∷ sections) formed w a given k fit none =
+  sections-told [] formed w a k fit none = record { values = []; told = sym (append-nil w.values.told); are = tt; kept = λ h. h; constant = λ h. cc }
+  sections-told (Single site ∷ sections) formed w a k fit none =
       let rest = flat_map section_sites sections in
       let v = visited turns answers site w in
       let single = All-head IsFormed (Single site) sections formed in
       let parts = none-append v.faults (visit_faults turns answers rest v.after) none in
-      let kept = single-kept turns answers site w a single given (λ is. subst (λ x. IsFit x a) is fit.0) parts.0 k in
-      let more = sections-told sections (All-tail IsFormed (Single site) sections formed) v.after (around_after site a) (single-calm turns answers site w single given).given kept.stands fit.1 parts.1 in
+      let kept = single-kept turns answers site w a single (λ is. subst (λ x. IsFit x a) is fit.0) parts.0 k in
+      let more = sections-told sections (All-tail IsFormed (Single site) sections formed) v.after (around_after site a) kept.stands fit.1 parts.1 in
       record {
         values = more.values;
         told = more.told ∙ ap (λ xs. xs ++ more.values) kept.told;
@@ -308,14 +268,12 @@ module _ (turns : ℕ) (answers : Key → Option Answer) where
         kept = λ h. more.kept (subst IsSome (sym kept.constant) h);
         constant = more.constant;
       }
-  sections-told (Returned site ∷ sections) formed w a given k fit none =
-      absurd (returned-faulty site sections w (All-head IsFormed (Returned site) sections formed) none)
-  sections-told (Whole way e ∷ sections) formed w a given k fit none =
+  sections-told (Whole way e ∷ sections) formed w a k fit none =
       let rest = flat_map section_sites sections in
       let es = flat_map section_expressions sections in
       let P : List Item → Type 0 = λ xs. AreFit xs a → visit_faults turns answers xs w ≡ [] → IsTold ((way, e) ∷ es) w (walked turns answers xs w) in
       subst P (sym (value-sites way e rest))
-      (λ f n. whole-told way e rest es w a given k f n (λ u g s h no. sections-told sections (All-tail IsFormed (Whole way e) sections formed) u a g s h no))
+      (λ f n. whole-told way e rest es w a k f n (λ u s h no. sections-told sections (All-tail IsFormed (Whole way e) sections formed) u a s h no))
       fit none
 
 -- ---- units
@@ -337,19 +295,18 @@ single-none (item.Switches discrete) h = refl
 single-none item.Default h = refl
 single-none item.GivesBack h = refl
 
-operands-none : (xs : List Item) → All (λ x. is_tokens x ≡ true) xs → expressions xs ≡ []
-operands-none [] all = refl
-operands-none (x ∷ xs) all =
-    ap (λ es. es ++ expressions xs) (single-none x (tokens-single x (All-head (λ x. is_tokens x ≡ true) x xs all))) ∙ operands-none xs (All-tail (λ x. is_tokens x ≡ true) x xs all)
+singles-none : (xs : List Item) → All (λ x. is_single x ≡ true) xs → expressions xs ≡ []
+singles-none [] all = refl
+singles-none (x ∷ xs) all =
+    ap (λ es. es ++ expressions xs) (single-none x (All-head (λ x. is_single x ≡ true) x xs all)) ∙ singles-none xs (All-tail (λ x. is_single x ≡ true) x xs all)
 
 section-has : (s : Section) → IsFormed s → expressions (section_sites s) ≡ section_expressions s
 section-has (Single site) formed = ap (λ es. es ++ []) (single-none site formed)
-section-has (Returned site) formed = ap (λ es. es ++ []) (single-none site (tokens-single site formed))
 section-has (Whole way e) formed =
     let front = items (expression_parts e) in
     ap expressions (sym (append-nil (items (value_parts way e))) ∙ value-sites way e [])
     ∙ flat_map-append expression_at front (item.ValueEnds way e ∷ [])
-    ∙ ap (λ es. es ++ (way, e) ∷ []) (operands-none front (expression-items e))
+    ∙ ap (λ es. es ++ (way, e) ∷ []) (singles-none front (expression-singles e))
 
 sections-have : (sections : List Section) → All IsFormed sections → expressions (flat_map section_sites sections) ≡ flat_map section_expressions sections
 sections-have [] formed = refl
@@ -376,7 +333,7 @@ module _ (turns : ℕ) (answers : Key → Option Answer) (unit : Tree) (scopes :
       let P : List Item → Type 0 = λ xs. AreFit xs bare → visit_faults turns answers xs w ≡ [] → IsTold (expressions xs) w (walked turns answers xs w) in
       subst P (sym b.are)
       (λ fit no. subst (λ es. IsTold es w (walked turns answers (flat_map section_sites b.sections) w)) (sym (sections-have b.sections b.formed))
-      (sections-told turns answers b.sections b.formed w bare refl (stands-first scopes) fit no))
+      (sections-told turns answers b.sections b.formed w bare (stands-first scopes) fit no))
       (whole.fit bare) (whole-none turns answers sites w none)
 
   pub unit-values : AreValues (expressions (items (unit_parts unit))) (walked turns answers (items (unit_parts unit)) (first_walk scopes)).values.told

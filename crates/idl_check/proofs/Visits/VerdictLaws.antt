@@ -1,26 +1,24 @@
 -- What comes of a unit: its least fault and what a faulty unit does, or what all its sites come to.
-use Rattle.std.proofs.Common.{◌≡◌, ◌∙◌, ℕ, suc, ◌-◌, ◌<◌, List, [], ◌∷◌, length, Option, Some, None, Result, Ok, Err, refl, sym, ap, subst, arith, inl, inr}
+use Rattle.std.proofs.Common.{◌≡◌, ◌∙◌, ℕ, suc, ◌-◌, ◌<◌, Bool, true, false, cond, List, [], ◌∷◌, ◌++◌, length, Option, Some, None, Result, Ok, Err, refl, sym, ap, subst, arith, inl, inr}
 use Rattle.std.specs.Prelude.{◌≢◌, ◌⊎◌, fold, max}
 use Rattle.std.proofs.lemmas.List.{length-map}
 use Rattle.idl_check.specs.walk.AllFaults.{or_else}
-use Rattle.idl_check.specs.walk.Placing.{faulty_step, opened_kind, opening_faults, step_of}
+use Rattle.idl_check.specs.walk.Placing.{faulty_step, opened_kind, opening_faults, place_faults, step_of}
 use Rattle.idl_check.specs.tables.Rules.{is_misplaced}
 use Rattle.idl_check.specs.walk.Judging.{IsSound, refused_keys}
-use Rattle.idl_check.specs.walk.Verdict.{asking, by_names, by_tree, faulty, first_faults, first_part, judged, misplaced, refused, sound, tree_of, verdict, whole}
-use Rattle.idl_check.specs.walk.Walk.{Walk, first_walk, walk}
+use Rattle.idl_check.specs.walk.Verdict.{asking, by_names, by_tree, faulty, first_faults, judged, placed_walk, refused, sound, tree_of, verdict, whole}
+use Rattle.idl_check.specs.walk.Walk.{Walk, first_walk, noted, walk}
 use Rattle.idl_check.specs.declared.walk.verdict.Verdict.{Verdict}
 use Rattle.idl_fault.specs.declared.code.Code.TheVariants.{NoTree, MisplacedUnit}
-use Rattle.idl_lex.specs.kinds.Keywords.{folded}
 use Rattle.idl_lex.specs.tokens.Tokens.{Token}
 use Rattle.idl_memo.specs.Query.{Done, Ask, asked, outcome}
 use Rattle.idl_memo.proofs.QueryLaws.{outcome-and_then}
 use Rattle.idl_env.specs.Facts.{path_around, scopes_in}
-use Rattle.idl_scope.specs.Lookup.{Lookup, outward}
+use Rattle.idl_scope.specs.Lookup.{Lookup}
 use Rattle.idl_env.specs.declared.additions.addition.Step.{Step}
 use Rattle.idl_env.specs.declared.additions.addition.Step.TheVariants.{Stays}
 use Rattle.idl_env.specs.declared.answering.answer.Answer.{Answer}
 use Rattle.idl_env.specs.declared.answering.answer.Scope.{Scope}
-use Rattle.idl_entity.specs.declared.entity.Entity.{Entity}
 use Rattle.idl_env.specs.declared.keys.key.Key.{Key}
 use Rattle.idl_env.specs.declared.keys.key.Key.TheVariants.{Cursor, Nameless}
 use Rattle.idl_entity.specs.declared.kind.Kind.{Kind}
@@ -38,8 +36,10 @@ use Rattle.idl_unit.specs.Faults.{least_fault, lesser_fault}
 use Rattle.idl_unit.specs.TokenRules.{fault_at, token_faults}
 use Rattle.idl_unit.specs.declared.fault.Fault.{Fault}
 use Rattle.idl_unit.specs.declared.unit.UnitText.TheVariants as unit
-use Rattle.idl_check.proofs.Faults.FaultOrder.{Leads, fold-led, leads-beside}
-use Rattle.idl_check.proofs.Visits.SiteLaws.{IsFrom, faults-from}
+use Rattle.idl_check.specs.tables.Codes.{codes_in}
+use Rattle.idl_check.proofs.Faults.NotedLemmas.{noted-append}
+use Rattle.idl_check.proofs.Faults.TableLaws.{no-codes, no-row}
+use Rattle.idl_check.proofs.Visits.ApartLaws.{faults-apart, with_fault}
 use Rattle.idl_check.proofs.Visits.WalkLaws.{none-append, none-noted, walk-noted, walk-sound}
 use Rattle.idl_check.proofs.Visits.WholeLaws.{none-whole}
 use Rattle.idl_check.proofs.Faults.VisitFaults.{visit_faults, visit_further_faults, visit_name_faults, visit_unit_faults}
@@ -146,55 +146,54 @@ module _ (turns : ℕ) (answers : Key → Option Answer) (tokens : List Token) w
 
   module _ (scopes : List Scope) (rules : token_faults tokens ≡ []) (opening : opening_faults tokens scopes ≡ []) where
     module _ (tree : Tree) (spelled : lexemes tokens ≡ spell tree) where
-      walked-comes : is_misplaced tree scopes ≡ false → (w : Walk) → w ≡ outcome (walk turns (items (unit_parts tree)) (first_walk scopes)) answers → (o : Option Fault) → w.fault ≡ o
-          → Comes (visit_faults turns answers (items (unit_parts tree)) (first_walk scopes)) scopes (outcome (judged tokens scopes tree w) answers)
-      walked-comes stands w is (Some f) h =
-          let fs = visit_faults turns answers (items (unit_parts tree)) (first_walk scopes) in
-          let at_least : w.fault ≡ least_fault fs = ap (λ (u : Walk). u.fault) is ∙ walk-noted turns answers (items (unit_parts tree)) (first_walk scopes) in
-          inl (f, judged-some scopes tree w f w.fault h, sym at_least ∙ h)
-      walked-comes stands w is None h =
-          let fs = visit_faults turns answers (items (unit_parts tree)) (first_walk scopes) in
-          let at_least : w.fault ≡ least_fault fs = ap (λ (u : Walk). u.fault) is ∙ walk-noted turns answers (items (unit_parts tree)) (first_walk scopes) in
-          let empty : fs ≡ [] = none-noted fs (sym at_least ∙ h) in
+      -- its fault is the least, that of its place among them
+      walked-least : (w : Walk) → w ≡ outcome (walk turns (items (unit_parts tree)) (placed_walk scopes tree)) answers → w.fault ≡ least_fault (visit_name_faults turns answers scopes tree)
+      walked-least w is =
+          let sites = items (unit_parts tree) in
+          let known = least_fault (place_faults tree scopes) in
+          ap (λ (u : Walk). u.fault) is
+          ∙ walk-noted turns answers sites (placed_walk scopes tree)
+          ∙ ap (noted known) (faults-apart turns answers known sites (first_walk scopes))
+          ∙ noted-append None (place_faults tree scopes) (visit_faults turns answers sites (first_walk scopes))
+
+      walked-comes : (w : Walk) → w ≡ outcome (walk turns (items (unit_parts tree)) (placed_walk scopes tree)) answers → (o : Option Fault) → w.fault ≡ o
+          → Comes (visit_name_faults turns answers scopes tree) scopes (outcome (judged tokens scopes tree w) answers)
+      walked-comes w is (Some f) h = inl (f, judged-some scopes tree w f w.fault h, sym (walked-least w is) ∙ h)
+      walked-comes w is None h =
+          let sites = items (unit_parts tree) in
+          let fs = visit_faults turns answers sites (first_walk scopes) in
+          let empty = none-noted (visit_name_faults turns answers scopes tree) (sym (walked-least w is) ∙ h) in
+          let parts = none-append (place_faults tree scopes) fs empty in
+          let first : placed_walk scopes tree ≡ first_walk scopes = ap (λ fs. with_fault (least_fault fs) (first_walk scopes)) parts.0 in
           inr (
             record {
               tree = tree;
               rules = rules;
               opening = opening;
               spelled = spelled;
-              placed = stands;
-              named = none-whole turns answers (items (unit_parts tree)) (first_walk scopes) empty;
-              is = judged-none scopes tree w w.fault h ∙ ap (sound tokens scopes tree) (is ∙ walk-sound turns answers (items (unit_parts tree)) (first_walk scopes) refl empty);
+              placed = (no-row (is_misplaced tree scopes) MisplacedUnit [] (no-codes 0 (codes_in ((is_misplaced tree scopes, MisplacedUnit) ∷ [])) parts.0)).0;
+              named = none-whole turns answers sites (first_walk scopes) parts.1;
+              is =
+                  judged-none scopes tree w w.fault h
+                  ∙ ap (sound tokens scopes tree) (is ∙ ap (λ u. outcome (walk turns sites u) answers) first ∙ walk-sound turns answers sites (first_walk scopes) refl parts.1);
             },
             empty,
           )
 
-      -- by whether it is misplaced
-      named-comes : (b : Bool) → is_misplaced tree scopes ≡ b
-          → Comes (cond b (fault_at 0 MisplacedUnit ∷ []) [] ++ visit_faults turns answers (items (unit_parts tree)) (first_walk scopes)) scopes
-          (outcome (cond b (misplaced turns tokens scopes tree) (and_then (walk turns (items (unit_parts tree)) (first_walk scopes)) (λ w. judged tokens scopes tree w))) answers)
-      named-comes true stands =
-          let f = fault_at 0 MisplacedUnit in
-          let fs = visit_faults turns answers (items (unit_parts tree)) (first_walk scopes) in
-          let before : Lookup (List Entity) = elim (first_part (items (unit_parts tree))) [ None ↦ Done [] | Some name ↦ outward turns scopes (folded name) ] in
-          inl (
-            f,
-            outcome-and_then before (λ found. refused tokens f) answers ∙ refused-is f,
-            ap Some (fold-led f fs (All-weaker (IsFrom 0) (Leads f) (λ g h. leads-beside f g h.0 h.1) fs (faults-from turns answers (items (unit_parts tree)) (first_walk scopes)))),
-          )
-      named-comes false stands =
-          let query = walk turns (items (unit_parts tree)) (first_walk scopes) in
+      named-comes : Comes (visit_name_faults turns answers scopes tree) scopes (outcome (by_names turns tokens scopes tree) answers)
+      named-comes =
+          let query = walk turns (items (unit_parts tree)) (placed_walk scopes tree) in
           let w = outcome query answers in
-          subst (Comes (visit_faults turns answers (items (unit_parts tree)) (first_walk scopes)) scopes)
+          subst (Comes (visit_name_faults turns answers scopes tree) scopes)
           (sym (outcome-and_then query (λ w. judged tokens scopes tree w) answers))
-          (walked-comes stands w refl w.fault refl)
+          (walked-comes w refl w.fault refl)
 
     -- by its tree
     tree-comes : (r : Result Tree ℕ) → tree_of tokens ≡ r
         → Comes (elim r [ Err place ↦ fault_at place NoTree ∷ [] | Ok tree ↦ visit_name_faults turns answers scopes tree ]) scopes
         (outcome (elim r [ Err place ↦ refused tokens (fault_at place NoTree) | Ok tree ↦ by_names turns tokens scopes tree ]) answers)
     tree-comes (Err place) h = inl (fault_at place NoTree, refused-is (fault_at place NoTree), refl)
-    tree-comes (Ok tree) h = named-comes tree (tree-spelled tokens tree h) (is_misplaced tree scopes) refl
+    tree-comes (Ok tree) h = named-comes tree (tree-spelled tokens tree h)
 
   -- by the faults of the first step
   first-comes : (scopes : List Scope) (fs : List Fault) → first_faults tokens scopes ≡ fs

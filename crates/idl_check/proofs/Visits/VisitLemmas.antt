@@ -3,10 +3,10 @@ use Rattle.std.proofs.Common.{◌≡◌, ◌∙◌, ℕ, true, false, cond, List
 use Rattle.std.specs.Prelude.{Bool, OnOk, slice_get}
 use Rattle.idl_memo.specs.Query.{Done, and_then, run}
 use Rattle.idl_memo.proofs.QueryLaws.{run-and_then, run-and_then_at}
-use Rattle.idl_check.specs.walk.Held.{given_noted, head_noted, used_noted, visited}
+use Rattle.idl_check.specs.walk.Held.{cut_noted, head_noted, used_noted, visited}
 use Rattle.idl_check.specs.tables.Declaring.{entity_of, standing}
 use Rattle.idl_check.specs.told.Types.{looked_through}
-use Rattle.idl_check.specs.walk.Walk.{turns_at, Visit, Walk, past_name, declared_visit, given_back, head_of, head_visit, is_over, noted_in, passed, quiet, unfound_visit, used, used_visit, visit, walk, with_oneway}
+use Rattle.idl_check.specs.walk.Walk.{turns_at, Visit, Walk, cut_name, past_name, declared_visit, head_of, head_visit, is_known, is_over, looked_at, noted_in, passed, quiet, unfound_visit, used, used_visit, visit, walk}
 use Rattle.idl_check.specs.declared.tables.standing.Standing.{Standing}
 use Rattle.idl_env.specs.keys.Key.{key_eq}
 use Rattle.idl_scope.specs.Lookup.{Lookup, by_result, denoted, under}
@@ -26,7 +26,7 @@ use Rattle.idl_unit.specs.declared.fault.Fault.{Fault}
 use Rattle.idl_env.specs.Facts.{UnitFacts}
 use Rattle.idl_env.specs.Turns.{HasTurnsFor, turns_among, turns_for}
 use Rattle.idl_env.specs.declared.additions.addition.Addition.{Addition}
-use Rattle.idl_check.proofs.Faults.NotedLemmas.{noted_in-one_way, one_way}
+use Rattle.idl_check.proofs.Faults.NotedLemmas.{noted_in-quiet}
 
 -- turns for the facts before a unit are, with those for its tokens so far, turns for both
 pub turns-here : (facts : List UnitFacts) (own : List Addition) (turns : ℕ) → turns_for facts ≤ turns → HasTurnsFor facts own (turns + turns_among own)
@@ -41,6 +41,20 @@ first-at (x ∷ xs) = refl
 pub OnOk-always : {T E P : Type 0} (r : Result T E) → P → OnOk r P
 OnOk-always (Ok x) p = p
 OnOk-always (Err e) p = tt
+
+-- a name that is cut, by whether it begins with `::`, and by the parts behind its first
+abbrev pub cut_by : ℕ → Use → ScopedName → Walk → Bool → List (List ℕ) → Lookup Visit
+cut_by turns way name w is_global parts =
+    cond is_global (Done (quiet (past_name name w))) (elim parts [
+      | [] ↦ used turns way name w
+      | part ∷ parts ↦ and_then (under w.own (denoted (turns_at turns w) w.cursor (head_of name)))
+          (λ r. Done (head_visit name w r))
+    ])
+
+cut-is : (turns : ℕ) (way : Use) (name : ScopedName) (w : Walk) (is_global : Bool) (parts : List (List ℕ)) → name.is_global ≡ is_global → name.rest ≡ parts
+    → cut_noted turns way name w ≡ and_then (cut_by turns way name w is_global parts) (λ v. Done (noted_in v w.fault))
+unfolding cut_name
+cut-is turns way name w is_global parts global rest = λ i. and_then (cut_by turns way name w (global i) (rest i)) (λ v. Done (noted_in v w.fault))
 
 module _ (bank : Key → Option Answer) where
   -- a run over a bank
@@ -97,51 +111,37 @@ module _ (bank : Key → Option Answer) where
       run-and_then_at key_eq (and_then found_by (by_found turns way name w)) (λ v. Done (noted_in v w.fault)) bank log (unfound_visit w way name fault) after
       (sym (run-and_then_at key_eq found_by (by_found turns way name w) bank log (Err fault) after gives))
 
-  -- one that isn't given back by a oneway operation
-  pub named_plain : (turns : ℕ) (way : Use) (name : ScopedName) (w : Walk) (log : List (Key × Option Answer)) → w.gives_back ≡ false
+  -- a name that is looked at whole, and one that is cut
+  pub named-whole : (turns : ℕ) (way : Use) (name : ScopedName) (w : Walk) (log : List (Key × Option Answer)) → is_known (w.at + 1) w ≡ false
       → runs_over (visited turns (item.Uses way name) w) log ≡ runs_over (used_noted turns way name w) log
-  unfolding visit
-  named_plain turns way name w log h = ap (λ b. runs_over (and_then (cond b (given_back turns way name w) (used turns way name w)) (λ v. Done (noted_in v w.fault))) log) h
+  named-whole turns way name w log h = ap (λ b. runs_over (and_then (cond b (cut_name turns way name w) (used turns way name w)) (λ v. Done (noted_in v w.fault))) log) h
 
-  -- what is given back, by the same without that
-  one_way_by : {X : Type 0} (q : Lookup X) (g : X → Visit) (at : ℕ) (fault : Option Fault) (log : List (Key × Option Answer)) (next : Walk) (after : List (Key × Option Answer))
-      → (next, after) ≡ runs_over (and_then q (λ x. Done (noted_in (g x) fault))) log
-      → runs_over (and_then (and_then q (λ x. Done (with_oneway at (g x)))) (λ v. Done (noted_in v fault))) log ≡ (one_way at next, after)
-  one_way_by q g at fault log next after h =
-      let r = runs_over q log in
-      visited_by q (λ x. with_oneway at (g x)) fault log r.0 r.1 refl
-      ∙ (λ i. (noted_in-one_way at (g r.0) fault i, r.1))
-      ∙ ap (λ (p : Walk × List (Key × Option Answer)). (one_way at p.0, p.1)) (sym (h ∙ run-and_then key_eq q (λ x. Done (noted_in (g x) fault)) bank log))
+  pub named-cut : (turns : ℕ) (way : Use) (name : ScopedName) (w : Walk) (log : List (Key × Option Answer)) → is_known (w.at + 1) w ≡ true
+      → runs_over (visited turns (item.Uses way name) w) log ≡ runs_over (cut_noted turns way name w) log
+  named-cut turns way name w log h = ap (λ b. runs_over (and_then (cond b (cut_name turns way name w) (used turns way name w)) (λ v. Done (noted_in v w.fault))) log) h
 
-  abbrev given_visit : ℕ → Use → ScopedName → Walk → Bool → List (List ℕ) → Lookup Visit
-  given_visit turns way name w is_global parts =
-      cond is_global (Done (with_oneway w.at (quiet (past_name name w)))) (elim parts [
-        | [] ↦ and_then (used turns way name w) (λ v. Done (with_oneway w.at v))
-        | part ∷ parts ↦ and_then (under w.own (denoted (turns_at turns w) w.cursor (head_of name)))
-            (λ r. Done (with_oneway w.at (head_visit name w r)))
-      ])
+  -- of one that is cut, nothing, all, or the first part
+  pub cut-global : (turns : ℕ) (way : Use) (name : ScopedName) (w : Walk) (log : List (Key × Option Answer)) → name.is_global ≡ true
+      → runs_over (cut_noted turns way name w) log ≡ (past_name name w, log)
+  cut-global turns way name w log global = ap (λ q. runs_over q log) (cut-is turns way name w true name.rest global refl) ∙ (λ i. (noted_in-quiet (past_name name w) w.fault i, log))
 
-  abbrev given_walk : ℕ → Use → ScopedName → Walk → Bool → List (List ℕ) → Lookup Walk
-  given_walk turns way name w is_global parts =
-      cond is_global (Done (past_name name w)) (elim parts
-      [ [] ↦ used_noted turns way name w | part ∷ parts ↦ head_noted turns name w ])
+  pub cut-whole : (turns : ℕ) (way : Use) (name : ScopedName) (w : Walk) (log : List (Key × Option Answer)) → name.is_global ≡ false → name.rest ≡ []
+      → runs_over (cut_noted turns way name w) log ≡ runs_over (used_noted turns way name w) log
+  cut-whole turns way name w log local none = ap (λ q. runs_over q log) (cut-is turns way name w false [] local none)
 
-  given_same : (turns : ℕ) (way : Use) (name : ScopedName) (w : Walk) (is_global : Bool) (parts : List (List ℕ)) (log : List (Key × Option Answer)) (next : Walk) (after : List (Key × Option Answer))
-      → (next, after) ≡ runs_over (given_walk turns way name w is_global parts) log
-      → runs_over (and_then (given_visit turns way name w is_global parts) (λ v. Done (noted_in v w.fault))) log ≡ (one_way w.at next, after)
-  given_same turns way name w true parts log next after h = ap (λ (p : Walk × List (Key × Option Answer)). (one_way w.at p.0, p.1)) (sym h)
-  given_same turns way name w false [] log next after h = one_way_by (used turns way name w) (λ v. v) w.at w.fault log next after h
-  given_same turns way name w false (part ∷ parts) log next after h =
-      one_way_by (under w.own (denoted (turns_at turns w) w.cursor (head_of name))) (head_visit name w) w.at w.fault log next after h
+  pub cut-head : (turns : ℕ) (way : Use) (name : ScopedName) (w : Walk) (log : List (Key × Option Answer)) → name.is_global ≡ false → (name.rest ≡ [] → ⊥)
+      → runs_over (cut_noted turns way name w) log ≡ runs_over (head_noted turns name w) log
+  cut-head turns way name w log local some = by_rest name.rest refl
+    where
+      head : Lookup (Result Found NameFault)
+      head = under w.own (denoted (turns_at turns w) w.cursor (head_of name))
 
-  -- a name that is given back
-  pub given_by : (turns : ℕ) (way : Use) (name : ScopedName) (w : Walk) (log : List (Key × Option Answer)) (next : Walk) (after : List (Key × Option Answer))
-      → w.gives_back ≡ true → (next, after) ≡ runs_over (given_noted turns way name w) log
-      → runs_over (visited turns (item.Uses way name) w) log ≡ (one_way w.at next, after)
-  unfolding visit given_back
-  given_by turns way name w log next after gives h =
-      ap (λ b. runs_over (and_then (cond b (given_back turns way name w) (used turns way name w)) (λ v. Done (noted_in v w.fault))) log) gives
-      ∙ given_same turns way name w name.is_global name.rest log next after h
+      by_rest : (rest : List (List ℕ)) → name.rest ≡ rest → runs_over (cut_noted turns way name w) log ≡ runs_over (head_noted turns name w) log
+      by_rest [] none = absurd (some none)
+      by_rest (part ∷ parts) is =
+          ap (λ q. runs_over q log) (cut-is turns way name w false (part ∷ parts) local is)
+          ∙ visited_by head (head_visit name w) w.fault log (runs_over head log).0 (runs_over head log).1 refl
+          ∙ sym (run-and_then key_eq head (λ r. Done (noted_in (head_visit name w r) w.fault)) bank log)
 
   -- of the first part of a name, by what it denotes
   pub head_by : (turns : ℕ) (name : ScopedName) (w : Walk) (log : List (Key × Option Answer)) (r : Result Found NameFault) (after : List (Key × Option Answer))
@@ -154,7 +154,7 @@ module _ (bank : Key → Option Answer) where
   pub walk_over : (turns : ℕ) (sites : List Item) (w : Walk) (log : List (Key × Option Answer)) → is_over w ≡ true → runs_over (walk turns sites w) log ≡ (w, log)
   unfolding walk
   walk_over turns [] w log h = refl
-  walk_over turns (site ∷ sites) w log h = ap (λ b. runs_over (cond b (Done w) (and_then (visit turns site w) (λ v. walk turns sites (noted_in v w.fault)))) log) h
+  walk_over turns (site ∷ sites) w log h = ap (λ b. runs_over (cond b (Done w) (and_then (looked_at turns site w) (λ v. walk turns sites (noted_in v w.fault)))) log) h
 
   -- a walk with no site left
   pub walk_end : (turns : ℕ) (w : Walk) (log : List (Key × Option Answer)) → runs_over (walk turns [] w) log ≡ (w, log)
@@ -167,19 +167,7 @@ module _ (bank : Key → Option Answer) where
       → runs_over (walk turns (site ∷ sites) w) log ≡ runs_over (walk turns sites next) after
   unfolding walk
   walk_on turns site sites w log next after h gives =
-      ap (λ b. runs_over (cond b (Done w) (and_then (visit turns site w) (λ v. walk turns sites (noted_in v w.fault)))) log) h
-      ∙ run-and_then key_eq (visit turns site w) (λ v. walk turns sites (noted_in v w.fault)) bank log
+      ap (λ b. runs_over (cond b (Done w) (and_then (looked_at turns site w) (λ v. walk turns sites (noted_in v w.fault)))) log) h
+      ∙ run-and_then key_eq (looked_at turns site w) (λ v. walk turns sites (noted_in v w.fault)) bank log
       ∙ ap (λ (p : Walk × List (Key × Option Answer)). runs_over (walk turns sites p.0) p.1)
-      (sym (gives ∙ run-and_then key_eq (visit turns site w) (λ v. Done (noted_in v w.fault)) bank log))
-
--- of a name of several parts that is given back, its first part alone is looked at
-given-by : (turns : ℕ) (way : Use) (name : ScopedName) (w : Walk) (rest : List (List ℕ)) → (rest ≡ [] → ⊥)
-    → elim rest as (λ _. Lookup Walk) [ [] ↦ used_noted turns way name w | part ∷ parts ↦ head_noted turns name w ] ≡ head_noted turns name w
-given-by turns way name w [] some = absurd (some refl)
-given-by turns way name w (part ∷ parts) some = refl
-
-pub given-head : (bank : Key → Option Answer) (turns : ℕ) (way : Use) (name : ScopedName) (w : Walk) (log : List (Key × Option Answer)) → name.is_global ≡ false → (name.rest ≡ [] → ⊥)
-    → run key_eq (given_noted turns way name w) bank log ≡ run key_eq (head_noted turns name w) bank log
-given-head bank turns way name w log local some =
-    ap (λ b. run key_eq (cond b (Done (past_name name w)) (elim name.rest as (λ _. Lookup Walk) [ [] ↦ used_noted turns way name w | part ∷ parts ↦ head_noted turns name w ])) bank log) local
-    ∙ ap (λ q. run key_eq q bank log) (given-by turns way name w name.rest some)
+      (sym (gives ∙ run-and_then key_eq (looked_at turns site w) (λ v. Done (noted_in v w.fault)) bank log))

@@ -1,123 +1,67 @@
 -- What comes of a site whole, and of the walk's visit of it.
-use Rattle.std.proofs.Common.{◌≡◌, ◌∙◌, ℕ, length, ◌≤◌, Bool, true, false, cond, List, [], ◌∷◌, ◌++◌, map, Option, None, Some, Result, Ok, Err, refl, sym, ap, subst, arith}
+use Rattle.std.proofs.Common.{◌≡◌, ◌∙◌, ℕ, ◌≤◌, Bool, true, false, cond, List, [], ◌∷◌, ◌++◌, map, Option, None, Some, refl, sym, ap, arith}
 use Rattle.std.proofs.lemmas.List.Elements.{All-append, All-cons, All-nil, All-weaker}
 use Rattle.std.specs.Prelude.{All}
 use Rattle.idl_check.specs.walk.AllFaults.{evaluation_faults, first_token, placed_at, site_faults, whole_visit}
 use Rattle.idl_check.specs.tables.Declaring.{entity_of, standing}
 use Rattle.idl_check.specs.walk.Judging.{spoken_from, spoken_till}
 use Rattle.idl_check.specs.walk.Sections.{is_single}
-use Rattle.idl_check.specs.told.Types.{looked_through}
-use Rattle.idl_check.specs.walk.Walk.{Visit, Walk, begin_of, declared_visit, evaluation_at, given_back, head_of, head_visit, is_repeated, unfound_visit, used, used_visit, value_visit, visit, with_oneway, turns_at}
-use Rattle.idl_fault.specs.declared.code.Code.TheVariants.{BadOneway, RepeatedLabel}
+use Rattle.idl_check.specs.walk.Walk.{Visit, Walk, begin_of, declared_visit, evaluation_at, is_repeated, value_visit, visit, turns_at}
+use Rattle.idl_fault.specs.declared.code.Code.TheVariants.{RepeatedLabel}
 use Rattle.idl_memo.proofs.QueryLaws.{outcome-and_then}
 use Rattle.idl_memo.specs.Query.{Done, outcome}
 use Rattle.idl_entity.specs.Kind.{kind_eq}
-use Rattle.idl_scope.specs.Lookup.{denoted, under}
+use Rattle.idl_scope.specs.Lookup.{under}
 use Rattle.idl_env.specs.declared.answering.answer.Answer.{Answer}
 use Rattle.idl_env.specs.declared.answering.answer.Scope.{Scope}
-use Rattle.idl_scope.specs.declared.fault.NameFault.{NameFault}
-use Rattle.idl_scope.specs.declared.fault.NameFault.TheVariants.{At, Memory}
-use Rattle.idl_scope.specs.declared.found.Found.{Found}
 use Rattle.idl_env.specs.declared.keys.key.Key.{Key}
 use Rattle.idl_entity.specs.declared.kind.Kind.TheVariants.{Union}
 use Rattle.idl_parts.specs.Item.{Item}
 use Rattle.idl_parts.specs.Part.{Part as item}
 use Rattle.idl_parts.specs.declared.part.Declaration.{Declaration}
 use Rattle.idl_parts.specs.declared.part.Purpose.{Purpose}
-use Rattle.idl_parts.specs.declared.part.Use.{Use}
-use Rattle.idl_tree.specs.declared.name.ScopedName.{ScopedName}
 use Rattle.idl_unit.specs.TokenRules.{fault_at, first}
 use Rattle.idl_unit.specs.declared.fault.Fault.{Fault}
 use Rattle.idl_value.specs.Evaluation.{Evaluation, Faulty, Valued, first_of}
 use Rattle.idl_value.specs.declared.outcome.Outcome.TheVariants as comes
-use Rattle.idl_check.proofs.PartLemmas.{IsUpTo}
-use Rattle.idl_check.proofs.Visits.RowLaws.{no-end}
-use Rattle.idl_check.proofs.Visits.SiteLaws.{IsFrom, IsPlaced, Within, begin-values, begin_before, declared_by, denoted-up, end_visit, given_by, named_by, oneway-placed, plain-placed, spoken-begin, union_visit, used_by, value-number, visit-placed, visited}
+use Rattle.idl_check.proofs.Visits.SiteLaws.{IsFrom, IsPlaced, Within, begin_before, declared_by, end_visit, spoken-begin, union_visit, used-begins, visit-placed, visited}
 use Rattle.idl_check.proofs.Faults.VisitFaults.{visit_faults}
 use Rattle.idl_check.proofs.Visits.WalkLaws.{none-append}
 
 -- ---- what a site leaves as it is
 
--- no expression begins or ends, and nothing is given back behind it
-pub record IsCalm (w : Walk) (v : Visit) : Type 0 where
-  pub begin : v.after.values.begin ≡ w.values.begin
-  pub given : v.after.gives_back ≡ false
+union-begins : (w : Walk) (b : Bool) → (union_visit w b).after.values.begin ≡ w.values.begin
+union-begins w true = refl
+union-begins w false = refl
 
-union-calm : (w : Walk) (b : Bool) → w.gives_back ≡ false → IsCalm w (union_visit w b)
-union-calm w true h = record { begin = refl; given = h }
-union-calm w false h = record { begin = refl; given = h }
-
-end-calm : (w : Walk) (o : Option Scope) → w.gives_back ≡ false → IsCalm w (end_visit w o)
-end-calm w None h = record { begin = refl; given = h }
-end-calm w (Some s) h = union-calm w (kind_eq s.kind Union) h
-
-unfound-calm : (n : ℕ) (w : Walk) (way : Use) (name : ScopedName) (fault : NameFault) → IsUpTo {A = Found} n (Err fault) → IsCalm w (unfound_visit w way name fault)
-unfound-calm n w way name (At why part) up = record { begin = begin-values way None w.values; given = refl }
-unfound-calm n w way name Memory up = absurd up
+end-begins : (w : Walk) (o : Option Scope) → (end_visit w o).after.values.begin ≡ w.values.begin
+end-begins w None = refl
+end-begins w (Some s) = union-begins w (kind_eq s.kind Union)
 
 module _ (turns : ℕ) (answers : Key → Option Answer) where
-  declared-calm : (way : Declaration) (name : List ℕ) (w : Walk) (o : Option Scope) → w.gives_back ≡ false → IsCalm w (outcome (declared_by turns answers way name w o) answers)
-  declared-calm way name w None h = record { begin = refl; given = refl }
-  declared-calm way name w (Some s) h =
+  declared-begins : (way : Declaration) (name : List ℕ) (w : Walk) (o : Option Scope) → (outcome (declared_by turns answers way name w o) answers).after.values.begin ≡ w.values.begin
+  declared-begins way name w None = refl
+  declared-begins way name w (Some s) =
       let e = entity_of w.written way name s.path in
       let query = under w.own (standing (turns_at turns w) s e) in
-      subst (IsCalm w) (sym (outcome-and_then query (λ there. Done (declared_visit w way s e there)) answers)) (record { begin = refl; given = h })
+      ap (λ (v : Visit). v.after.values.begin) (outcome-and_then query (λ there. Done (declared_visit w way s e there)) answers)
 
-  used-by-calm : (way : Use) (name : ScopedName) (w : Walk) (r : Result Found NameFault) → IsUpTo {A = Found} (length name.rest) r → IsCalm w (outcome (used_by turns answers way name w r) answers)
-  used-by-calm way name w (Ok found) up =
-      let query = under w.own (looked_through (turns_at turns w) way found.entity) in
-      subst (IsCalm w) (sym (outcome-and_then query (λ behind. Done (used_visit w way name found behind)) answers)) (record { begin = begin-values way found.entity.value w.values; given = refl })
-  used-by-calm way name w (Err fault) up = unfound-calm (length name.rest) w way name fault up
-
-  pub used-calm : (way : Use) (name : ScopedName) (w : Walk) → IsCalm w (outcome (used turns way name w) answers)
-  unfolding used
-  used-calm way name w =
-      let query = under w.own (denoted (turns_at turns w) w.cursor name) in
-      subst (IsCalm w) (sym (outcome-and_then query (used_by turns answers way name w) answers)) (used-by-calm way name w (outcome query answers) (denoted-up turns answers name w))
-
-  named-calm : (way : Use) (name : ScopedName) (w : Walk) (b : Bool) → b ≡ false → IsCalm w (outcome (named_by turns answers way name w b) answers)
-  named-calm way name w true h = cc
-  named-calm way name w false h = used-calm way name w
-
-  -- what is given back
-  pub given-begin : (way : Use) (name : ScopedName) (w : Walk) (is_global : Bool) (parts : List (List ℕ)) → (outcome (given_by turns answers way name w is_global parts) answers).after.values.begin ≡ w.values.begin
-  given-begin way name w true parts = refl
-  given-begin way name w false [] =
-      ap (λ (v : Visit). v.after.values.begin) (outcome-and_then (used turns way name w) (λ v. Done (with_oneway w.at v)) answers) ∙ (used-calm way name w).begin
-  given-begin way name w false (part ∷ parts) =
-      ap (λ (v : Visit). v.after.values.begin) (outcome-and_then (under w.own (denoted (turns_at turns w) w.cursor (head_of name))) (λ r. Done (with_oneway w.at (head_visit name w r))) answers)
-
-  pub given-ends : (way : Use) (name : ScopedName) (w : Walk) (is_global : Bool) (parts : List (List ℕ)) → (fs : List Fault) × ((outcome (given_by turns answers way name w is_global parts) answers).faults ≡ fs ++ fault_at w.at BadOneway ∷ [])
-  given-ends way name w true parts = ([], refl)
-  given-ends way name w false [] = ((outcome (used turns way name w) answers).faults, ap (λ (v : Visit). v.faults) (outcome-and_then (used turns way name w) (λ v. Done (with_oneway w.at v)) answers))
-  given-ends way name w false (part ∷ parts) =
-      let query = under w.own (denoted (turns_at turns w) w.cursor (head_of name)) in
-      ((head_visit name w (outcome query answers)).faults, ap (λ (v : Visit). v.faults) (outcome-and_then query (λ r. Done (with_oneway w.at (head_visit name w r))) answers))
-
-  pub single-calm : (site : Item) (w : Walk) → is_single site ≡ true → w.gives_back ≡ false → IsCalm w (visited turns answers site w)
+  -- no expression begins or ends
+  pub single-begins : (site : Item) (w : Walk) → is_single site ≡ true → (visited turns answers site w).after.values.begin ≡ w.values.begin
   unfolding visit
-  single-calm (item.Plain n) w single h = record { begin = refl; given = refl }
-  single-calm (item.Declares way name) w single h = declared-calm way name w (first w.cursor) h
-  single-calm (item.Uses way name) w single h = named-calm way name w w.gives_back h
-  single-calm (item.Says purpose text) w single h = record { begin = refl; given = refl }
-  single-calm item.ValueBegins w single h = cc
-  single-calm (item.ValueEnds way e) w single h = cc
-  single-calm item.ScopeEnds w single h = end-calm w (first w.cursor) h
-  single-calm item.GivesBack w single h = cc
-  single-calm other w single h = record { begin = refl; given = h }
+  single-begins (item.Declares way name) w single = declared-begins way name w (first w.cursor)
+  single-begins (item.Uses way name) w single = used-begins turns answers way name w
+  single-begins item.ValueBegins w single = cc
+  single-begins (item.ValueEnds way e) w single = cc
+  single-begins item.ScopeEnds w single = end-begins w (first w.cursor)
+  single-begins other w single = refl
 
-  -- ---- it comes to the same whole, but for an expression and for what is given back
+  -- ---- it comes to the same whole, but for an expression
 
-  named-same : (way : Use) (name : ScopedName) (w : Walk) (b : Bool) → b ≡ false
-      → cond b (with_oneway w.at (outcome (used turns way name w) answers)) (outcome (used turns way name w) answers) ≡ outcome (named_by turns answers way name w b) answers
-  named-same way name w true h = cc
-  named-same way name w false h = refl
-
-  pub single-same : (site : Item) (w : Walk) → is_single site ≡ true → w.gives_back ≡ false → whole_visit turns answers site w ≡ visited turns answers site w
+  pub single-same : (site : Item) (w : Walk) → is_single site ≡ true → whole_visit turns answers site w ≡ visited turns answers site w
   unfolding visit
-  single-same (item.Uses way name) w single h = named-same way name w w.gives_back h
-  single-same (item.ValueEnds way e) w single h = cc
-  single-same other w single h = refl
+  single-same (item.ValueEnds way e) w single = cc
+  single-same other w single = refl
 
 -- ---- none stands before the expression in which a walk is
 
@@ -129,7 +73,7 @@ record IsBehind (w : Walk) (v : Visit) : Type 0 where
 placed-behind : (site : Item) (w : Walk) (v : Visit) → IsPlaced site w v → IsBehind w v
 placed-behind site w v p = record {
   begins = p.begins;
-  from = All-weaker (Within (spoken_from site w) (spoken_till site w)) (IsFrom (begin_of w)) (λ f h. (omega (arith, h.0, spoken-begin site w), h.2)) v.faults p.within;
+  from = All-weaker (Within (spoken_from site w) (spoken_till site w)) (IsFrom (begin_of w)) (λ f h. omega (arith, h.0, spoken-begin site w)) v.faults p.within;
 }
 
 first-behind : (o : Option ℕ) (at : ℕ) → begin_before o at ≤ elim o [ None ↦ at | Some b ↦ b ]
@@ -137,7 +81,7 @@ first-behind None at = omega arith
 first-behind (Some b) at = omega arith
 
 repeated-from : (w : Walk) (b : Bool) → All (IsFrom (begin_of w)) (cond b (fault_at (first_token w) RepeatedLabel ∷ []) [])
-repeated-from w true = All-cons (IsFrom (begin_of w)) (fault_at (first_token w) RepeatedLabel) [] (first-behind w.values.begin w.at, omega arith) (All-nil (IsFrom (begin_of w)))
+repeated-from w true = All-cons (IsFrom (begin_of w)) (fault_at (first_token w) RepeatedLabel) [] (first-behind w.values.begin w.at) (All-nil (IsFrom (begin_of w)))
 repeated-from w false = All-nil (IsFrom (begin_of w))
 
 evaluation-from : (w : Walk) (way : Purpose) (x : Evaluation) → All (IsFrom (begin_of w)) (evaluation_faults w way x)
@@ -145,22 +89,16 @@ evaluation-from w way (Valued v) = repeated-from w (is_repeated w way v)
 evaluation-from w way (Faulty []) = All-nil (IsFrom (begin_of w))
 evaluation-from w way (Faulty (f ∷ fs)) =
     let le = first-behind w.values.begin w.at in
-    All-cons (IsFrom (begin_of w)) (placed_at (first_token w) f) (map (placed_at (first_token w)) fs) (omega (arith, le), value-number f.code) (evaluation-from w way (Faulty fs))
+    All-cons (IsFrom (begin_of w)) (placed_at (first_token w) f) (map (placed_at (first_token w)) fs) (omega (arith, le)) (evaluation-from w way (Faulty fs))
 
 module _ (turns : ℕ) (answers : Key → Option Answer) where
-  name-behind : (way : Use) (name : ScopedName) (w : Walk) (b : Bool) → IsBehind w (cond b (with_oneway w.at (outcome (used turns way name w) answers)) (outcome (used turns way name w) answers))
-  name-behind way name w true =
-      let v = outcome (used turns way name w) answers in
-      placed-behind (item.Uses way name) w (with_oneway w.at v) (oneway-placed (item.Uses way name) w v (omega arith) (plain-placed turns answers way name w))
-  name-behind way name w false = placed-behind (item.Uses way name) w (outcome (used turns way name w) answers) (plain-placed turns answers way name w)
-
   by-visit : (site : Item) (w : Walk) → IsBehind w (visited turns answers site w)
   by-visit site w = placed-behind site w (visited turns answers site w) (visit-placed turns answers site w)
 
   whole-behind : (site : Item) (w : Walk) → IsBehind w (whole_visit turns answers site w)
   whole-behind (item.Plain n) w = by-visit (item.Plain n) w
   whole-behind (item.Declares way name) w = by-visit (item.Declares way name) w
-  whole-behind (item.Uses way name) w = name-behind way name w w.gives_back
+  whole-behind (item.Uses way name) w = by-visit (item.Uses way name) w
   whole-behind (item.Says purpose text) w = by-visit (item.Says purpose text) w
   whole-behind item.ValueBegins w = by-visit item.ValueBegins w
   whole-behind (item.ValueEnds way e) w =
@@ -181,7 +119,7 @@ module _ (turns : ℕ) (answers : Key → Option Answer) where
       let v = whole_visit turns answers site w in
       let p = whole-behind site w in
       All-append (IsFrom (begin_of w)) v.faults (site_faults turns answers sites v.after) p.from
-      (All-weaker (IsFrom (begin_of v.after)) (IsFrom (begin_of w)) (λ f h. (omega (arith, h.0, p.begins), h.1)) (site_faults turns answers sites v.after) (whole-from sites v.after))
+      (All-weaker (IsFrom (begin_of v.after)) (IsFrom (begin_of w)) (λ f h. omega (arith, h, p.begins)) (site_faults turns answers sites v.after) (whole-from sites v.after))
 
 -- ---- without fault it is the same whole
 
@@ -191,9 +129,6 @@ IsEven v u = ((v.faults ≡ [] → (u.faults ≡ []) × (u.after ≡ v.after)) �
 
 even-same : (v u : Visit) → u ≡ v → IsEven v u
 even-same v u h = (λ none. (ap (λ (x : Visit). x.faults) h ∙ none, ap (λ (x : Visit). x.after) h), λ none. (ap (λ (x : Visit). x.faults) (sym h) ∙ none, ap (λ (x : Visit). x.after) h))
-
-even-faulty : (v u : Visit) → (v.faults ≡ [] → ⊥) → (u.faults ≡ [] → ⊥) → IsEven v u
-even-faulty v u a b = (λ none. absurd (a none), λ none. absurd (b none))
 
 repeated-even : (w : Walk) (b : Bool) (n m : ℕ) (after : Walk)
     → IsEven (record { faults = cond b (fault_at n RepeatedLabel ∷ []) []; after = after }) (record { faults = cond b (fault_at m RepeatedLabel ∷ []) []; after = after })
@@ -206,28 +141,11 @@ value-even w way (Faulty []) = (λ none. (refl, refl), λ none. (refl, refl))
 value-even w way (Faulty (f ∷ fs)) = (λ none. (cc, cc), λ none. (cc, cc))
 
 module _ (turns : ℕ) (answers : Key → Option Answer) where
-  pub given-some : (way : Use) (name : ScopedName) (w : Walk) (is_global : Bool) (parts : List (List ℕ)) → (outcome (given_by turns answers way name w is_global parts) answers).faults ≡ [] → ⊥
-  given-some way name w true parts h = no-end [] (fault_at w.at BadOneway) h
-  given-some way name w false [] h =
-      let query = used turns way name w in
-      no-end (outcome query answers).faults (fault_at w.at BadOneway) (ap (λ (v : Visit). v.faults) (sym (outcome-and_then query (λ v. Done (with_oneway w.at v)) answers)) ∙ h)
-  given-some way name w false (part ∷ parts) h =
-      let query = under w.own (denoted (turns_at turns w) w.cursor (head_of name)) in
-      no-end (head_visit name w (outcome query answers)).faults (fault_at w.at BadOneway) (ap (λ (v : Visit). v.faults) (sym (outcome-and_then query (λ r. Done (with_oneway w.at (head_visit name w r))) answers)) ∙ h)
-
-  named-even : (way : Use) (name : ScopedName) (w : Walk) (b : Bool)
-      → IsEven (outcome (named_by turns answers way name w b) answers) (cond b (with_oneway w.at (outcome (used turns way name w) answers)) (outcome (used turns way name w) answers))
-  unfolding given_back
-  named-even way name w true =
-      even-faulty (outcome (named_by turns answers way name w true) answers) (with_oneway w.at (outcome (used turns way name w) answers)) (given-some way name w name.is_global name.rest)
-      (no-end (outcome (used turns way name w) answers).faults (fault_at w.at BadOneway))
-  named-even way name w false = even-same (outcome (used turns way name w) answers) (outcome (used turns way name w) answers) refl
-
   site-even : (site : Item) (w : Walk) → IsEven (visited turns answers site w) (whole_visit turns answers site w)
   unfolding visit
   site-even (item.Plain n) w = even-same (visited turns answers (item.Plain n) w) (visited turns answers (item.Plain n) w) refl
   site-even (item.Declares way name) w = even-same (visited turns answers (item.Declares way name) w) (visited turns answers (item.Declares way name) w) refl
-  site-even (item.Uses way name) w = named-even way name w w.gives_back
+  site-even (item.Uses way name) w = even-same (visited turns answers (item.Uses way name) w) (visited turns answers (item.Uses way name) w) refl
   site-even (item.Says purpose text) w = even-same (visited turns answers (item.Says purpose text) w) (visited turns answers (item.Says purpose text) w) refl
   site-even item.ValueBegins w = even-same (visited turns answers item.ValueBegins w) (visited turns answers item.ValueBegins w) refl
   site-even (item.ValueEnds way e) w = value-even w way (evaluation_at w way e)

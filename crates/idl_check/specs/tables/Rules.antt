@@ -181,7 +181,7 @@ abbrev pub is_useless_default : List Labels → Bool
 is_useless_default unions = list_any is_idle (take 1 unions)
 
 -- E64: A `oneway` operation gives nothing back: neither a result, nor a parameter that is `out` or
--- `inout`, nor by `raises`. Where one of these begins, the walk has passed the mark `GivesBack`.
+-- `inout`, nor by `raises`. The mark `GivesBack` stands before the first token of each.
 
 -- E70: An interface, a struct or a union is declared again under the prefix of its first
 -- declaration.

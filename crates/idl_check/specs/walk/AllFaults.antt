@@ -1,12 +1,12 @@
 -- All faults of a unit, as if none ended the search for others: each of an expression, and those of
--- the whole name that a oneway operation gives back. The one that is told is the least.
+-- whole names. The one that is told is the least.
 use Rattle.std.specs.Prelude.{ℕ, ◌+◌, List, [], ◌∷◌, ◌++◌, map, Option, None, Some, Ok, Err, if◌then◌else◌}
-use Rattle.idl_check.specs.tables.Rules.{is_misplaced}
 use Rattle.idl_check.specs.ids.Pragmas.{said_by}
 use Rattle.idl_check.specs.told.Values.{code_of}
+use Rattle.idl_check.specs.walk.Placing.{place_faults}
 use Rattle.idl_check.specs.walk.Verdict.{first_faults, tree_of}
-use Rattle.idl_check.specs.walk.Walk.{Visit, Walk, evaluation_at, first_walk, is_repeated, used, visit, with_oneway}
-use Rattle.idl_fault.specs.declared.code.Code.TheVariants.{MisplacedUnit, NoTree, RepeatedLabel}
+use Rattle.idl_check.specs.walk.Walk.{Visit, Walk, evaluation_at, first_walk, is_repeated, visit}
+use Rattle.idl_fault.specs.declared.code.Code.TheVariants.{NoTree, RepeatedLabel}
 use Rattle.idl_lex.specs.tokens.Tokens.{Token}
 use Rattle.idl_memo.specs.Query.{outcome}
 use Rattle.idl_env.specs.Facts.{scopes_in}
@@ -18,10 +18,8 @@ use Rattle.idl_parts.specs.Item.{Item, items}
 use Rattle.idl_parts.specs.Part.{Part as item}
 use Rattle.idl_parts.specs.UnitParts.{unit_parts}
 use Rattle.idl_parts.specs.declared.part.Purpose.{Purpose}
-use Rattle.idl_parts.specs.declared.part.Use.{Use}
 use Rattle.idl_syntax.specs.Parse.{pragma_faults}
 use Rattle.idl_tree.specs.Pragma.{pragma_of}
-use Rattle.idl_tree.specs.declared.name.ScopedName.{ScopedName}
 use Rattle.idl_tree.specs.declared.unit.Tree.{Tree}
 use Rattle.idl_unit.specs.TokenRules.{fault_at}
 use Rattle.idl_unit.specs.declared.fault.Fault.{Fault}
@@ -45,15 +43,8 @@ evaluation_faults w way (Valued v) =
 evaluation_faults w way (Faulty faults) = map (placed_at (first_token w)) faults
 
 module _ (turns : ℕ) (answers : Key → Option Answer) where
-  -- a used name, which is looked at whole where a oneway operation gives it back, too
-  abbrev pub name_visit : Use → ScopedName → Walk → Visit
-  name_visit way name w =
-      let v = outcome (used turns way name w) answers in
-      if w.gives_back then with_oneway w.at v else v
-
   -- all that comes of a site
   abbrev pub whole_visit : Item → Walk → Visit
-  whole_visit (item.Uses way name) w = name_visit way name w
   whole_visit (item.ValueEnds way e) w = record {
     faults = evaluation_faults w way (evaluation_at w way e);
     after = (outcome (visit turns (item.ValueEnds way e) w) answers).after;
@@ -66,10 +57,10 @@ module _ (turns : ℕ) (answers : Key → Option Answer) where
   site_faults (site ∷ sites) w =
       let v = whole_visit site w in v.faults ++ site_faults sites v.after
 
-  -- those of the third step: the unit's place is told at its first token
+  -- those of the third step
   abbrev pub name_faults : List Scope → Tree → List Fault
   name_faults scopes tree =
-      (if is_misplaced tree scopes then fault_at 0 MisplacedUnit ∷ [] else [])
+      place_faults tree scopes
       ++ site_faults (items (unit_parts tree)) (first_walk scopes)
 
   -- those of the first step that has any

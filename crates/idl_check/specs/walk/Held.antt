@@ -5,7 +5,7 @@ use Rattle.idl_check.specs.ids.About.{Said, refused_for, said_at}
 use Rattle.idl_check.specs.ids.Pragmas.{said}
 use Rattle.idl_check.specs.Apart.{boxed_or}
 use Rattle.idl_check.specs.told.Values.{Values, nothing_kept}
-use Rattle.idl_check.specs.walk.Walk.{turns_at, Walk, past_name, head_of, head_visit, noted_in, used, visit}
+use Rattle.idl_check.specs.walk.Walk.{turns_at, Walk, cut_name, head_of, head_visit, looked_at, noted_in, used}
 use Rattle.idl_check.specs.declared.tables.declaring.Written.{Written as LastWritten}
 use Rattle.idl_check.specs.walk.Verdict.{pragma_verdict}
 use Rattle.idl_check.specs.declared.ids.about.Named.{Named}
@@ -55,7 +55,6 @@ held w = record {
   bodies = w.bodies;
   clauses = w.clauses;
   unions = w.unions.items;
-  gives_back = w.gives_back;
   found = w.found;
   values = held_values w.values;
   fault = w.fault;
@@ -63,23 +62,19 @@ held w = record {
 
 -- a site, whose first fault is noted
 abbrev pub visited : ℕ → Item → Walk → Lookup Walk
-visited turns site w = and_then (visit turns site w) (λ v. Done (noted_in v w.fault))
+visited turns site w = and_then (looked_at turns site w) (λ v. Done (noted_in v w.fault))
 
--- the same of a used name by itself, of the first token of one that is given back, and of all that
--- is looked at of one
+-- the same of a used name that is looked at whole, of one that is cut, and of its first part there
 abbrev pub used_noted : ℕ → Use → ScopedName → Walk → Lookup Walk
 used_noted turns way name w = and_then (used turns way name w) (λ v. Done (noted_in v w.fault))
+
+abbrev pub cut_noted : ℕ → Use → ScopedName → Walk → Lookup Walk
+cut_noted turns way name w = and_then (cut_name turns way name w) (λ v. Done (noted_in v w.fault))
 
 abbrev pub head_noted : ℕ → ScopedName → Walk → Lookup Walk
 head_noted turns name w =
     and_then (under w.own (denoted (turns_at turns w) w.cursor (head_of name)))
     (λ r. Done (noted_in (head_visit name w r) w.fault))
-
-abbrev pub given_noted : ℕ → Use → ScopedName → Walk → Lookup Walk
-given_noted turns way name w =
-    if name.is_global then Done (past_name name w)
-    else elim name.rest
-    [ [] ↦ used_noted turns way name w | part ∷ parts ↦ head_noted turns name w ]
 
 -- the numbers of the tokens of these sites fit into a word
 abbrev pub HasRoomFor : Walk → List Item → Type 0

@@ -1,8 +1,8 @@
 -- Where a unit may stand, and what it does to the open scopes.
 use Rattle.std.specs.Prelude.{ℕ, ◌+◌, Bool, true, false, List, [], ◌∷◌, Option, None, Some, if◌then◌else◌}
 use Rattle.idl_check.specs.tables.Codes.{faults_by}
-use Rattle.idl_check.specs.tables.Rules.{is_too_deep}
-use Rattle.idl_fault.specs.declared.code.Code.TheVariants.{NestedTooDeep}
+use Rattle.idl_check.specs.tables.Rules.{is_misplaced, is_too_deep}
+use Rattle.idl_fault.specs.declared.code.Code.TheVariants.{MisplacedUnit, NestedTooDeep}
 use Rattle.idl_lex.specs.tokens.Tokens.{Token}
 use Rattle.idl_env.specs.declared.additions.addition.Step.{Step}
 use Rattle.idl_env.specs.declared.additions.addition.Step.TheVariants.{Stays, Opens, OpensNameless, Closes}
@@ -69,3 +69,7 @@ opening_faults tokens scopes =
       | None ↦ []
       | Some n ↦ faults_by n ((is_too_deep scopes, NestedTooDeep) ∷ [])
     ]
+
+-- a unit that its scope doesn't hold, at its first token
+abbrev pub place_faults : Tree → List Scope → List Fault
+place_faults tree scopes = faults_by 0 ((is_misplaced tree scopes, MisplacedUnit) ∷ [])

@@ -9,32 +9,21 @@ use Rattle.idl_tree.specs.declared.expression.Expression.{Expression}
 
 pub data Section : Type 0 where
   Single : Item → Section
-  -- what a oneway operation gives back follows, and this is its first site
-  Returned : Item → Section
   -- an expression, and what it is for
   Whole : Purpose → Expression → Section
 
 abbrev pub section_sites : Section → List Item
 section_sites (Single site) = site ∷ []
-section_sites (Returned site) = item.GivesBack ∷ site ∷ []
 section_sites (Whole way e) = items (value_parts way e)
 
--- a site that is none of the marks of an expression or of what is given back
+-- a site that is none of the marks of an expression
 abbrev pub is_single : Item → Bool
 is_single item.ValueBegins = false
 is_single (item.ValueEnds way e) = false
-is_single item.GivesBack = false
 is_single other = true
-
--- a site of tokens, or a name that is used
-abbrev pub is_tokens : Item → Bool
-is_tokens (item.Plain n) = true
-is_tokens (item.Uses way name) = true
-is_tokens other = false
 
 abbrev pub IsFormed : Section → Type 0
 IsFormed (Single site) = is_single site ≡ true
-IsFormed (Returned site) = is_tokens site ≡ true
 IsFormed (Whole way e) = Unit {0}
 
 -- sites that are sections one after another

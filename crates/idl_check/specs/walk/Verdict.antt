@@ -3,25 +3,23 @@
 use Rattle.std.specs.Prelude.{ℕ, Bool, suc, ◌-◌, List, [], ◌∷◌, ◌++◌, length, max, false, None, Some, Result, Ok, Err}
 use Rattle.idl_check.specs.told.Bodies.{raising}
 use Rattle.idl_check.specs.tables.Declaring.{finished, with_finished}
-use Rattle.idl_check.specs.walk.Placing.{faulty_step, opened_kind, opening_faults, step_of}
-use Rattle.idl_check.specs.tables.Rules.{depth, is_misplaced}
+use Rattle.idl_check.specs.walk.Placing.{faulty_step, opened_kind, opening_faults, place_faults, step_of}
+use Rattle.idl_check.specs.tables.Rules.{depth}
 use Rattle.idl_check.specs.ids.About.{Said}
 use Rattle.idl_check.specs.ids.Pragmas.{said_by}
 use Rattle.idl_dump.specs.Row.{Rest, row_of}
 use Rattle.idl_check.specs.walk.Walk.{Walk, first_walk, walk}
 use Rattle.idl_check.specs.declared.walk.verdict.Verdict.{Verdict}
-use Rattle.idl_fault.specs.declared.code.Code.TheVariants.{NoTree, MisplacedUnit}
-use Rattle.idl_lex.specs.kinds.Keywords.{folded}
+use Rattle.idl_fault.specs.declared.code.Code.TheVariants.{NoTree}
 use Rattle.idl_lex.specs.tokens.Tokens.{Token}
 use Rattle.idl_memo.specs.Query.{Done, Ask, and_then}
 use Rattle.idl_env.specs.Facts.{path_around, scopes_in}
-use Rattle.idl_scope.specs.Lookup.{Lookup, outward}
+use Rattle.idl_scope.specs.Lookup.{Lookup}
 use Rattle.idl_env.specs.declared.additions.addition.Step.{Step}
 use Rattle.idl_env.specs.declared.additions.addition.Step.TheVariants.{Stays, Opens}
 use Rattle.idl_env.specs.declared.answering.answer.Scope.{Scope}
 use Rattle.idl_env.specs.declared.keys.key.Key.TheVariants.{Cursor, Opened, Nameless}
-use Rattle.idl_parts.specs.Item.{Item, items}
-use Rattle.idl_parts.specs.Part.{Part as item}
+use Rattle.idl_parts.specs.Item.{items}
 use Rattle.idl_parts.specs.UnitParts.{unit_parts}
 use Rattle.idl_syntax.specs.Parse.{pragma_faults}
 use Rattle.idl_tree.specs.Lexeme.{Lexeme, lexemes}
@@ -87,24 +85,15 @@ judged tokens scopes tree w =
       | None ↦ asking (step_of tree (path_around scopes)) (sound tokens scopes tree w)
     ]
 
--- the part of a name with which the sites begin, if they do
-abbrev pub first_part : List Item → Option (List ℕ)
-first_part (item.Uses way name ∷ sites) = if name.is_global then None else Some name.first
-first_part others = None
-
--- a unit that its scope doesn't hold: what its first token asks is asked, and no more
-abbrev pub misplaced : ℕ → List Token → List Scope → Tree → Lookup Verdict
-misplaced turns tokens scopes tree =
-    and_then
-    (elim (first_part (items (unit_parts tree)))
-    [ None ↦ Done [] | Some name ↦ outward turns scopes (folded name) ])
-    (λ found. refused tokens (fault_at 0 MisplacedUnit))
+-- before the first site of a unit, of whose place is known what is wrong with it
+abbrev pub placed_walk : List Scope → Tree → Walk
+placed_walk scopes tree =
+    record (first_walk scopes) { fault = least_fault (place_faults tree scopes) }
 
 -- the third step
 abbrev pub by_names : ℕ → List Token → List Scope → Tree → Lookup Verdict
 by_names turns tokens scopes tree =
-    if is_misplaced tree scopes then misplaced turns tokens scopes tree
-    else and_then (walk turns (items (unit_parts tree)) (first_walk scopes))
+    and_then (walk turns (items (unit_parts tree)) (placed_walk scopes tree))
     (λ w. judged tokens scopes tree w)
 
 -- what reading gives over so many tokens: the tree that all of them spell, or else the number of

@@ -67,8 +67,6 @@ pub record Walk : Type 0 where
   pub clauses : Clauses
   -- the labels of the unions around it, the innermost first
   pub unions : List Labels
-  -- what the next token begins is given back by a oneway operation
-  pub gives_back : Bool
   -- the paths of what the used names denote, in order
   pub found : List (List (List ℕ))
   -- the expressions, each of which is read to its end whatever is wrong in it
@@ -89,7 +87,6 @@ first_walk cursor = record {
   bodies = [];
   clauses = no_clauses;
   unions = [];
-  gives_back = false;
   found = [];
   values = no_values;
   fault = None;
@@ -97,7 +94,7 @@ first_walk cursor = record {
 
 -- behind so many tokens more
 abbrev pub passed : ℕ → Walk → Walk
-passed n w = record w { at = w.at + n; gives_back = false }
+passed n w = record w { at = w.at + n }
 
 -- what comes of a site: the faults there, in order, and how the walk goes on where these are passed
 -- over
@@ -148,7 +145,6 @@ used_after w way name found behind = record w {
   };
   clauses = with_raised way found.entity.path w.clauses;
   unions = unions_after way behind w.unions;
-  gives_back = false;
   found = w.found ++ found.entity.path ∷ [];
   values = values_after way found.entity.value w.values;
 }
@@ -170,7 +166,6 @@ unfound_visit w way name (At why part) = record {
   after = record w {
     at = last_at w.at name + 1;
     unions = unions_without way w.unions;
-    gives_back = false;
     values = values_after way None w.values;
   };
 }
@@ -189,11 +184,7 @@ used turns way name w =
     (λ behind. Done (used_visit w way name found behind)))
     (λ fault. Done (unfound_visit w way name fault)))
 
--- The type that a oneway operation gives back: the fault stands at its first token, and of a name
--- that token alone is looked at.
-abbrev pub with_oneway : ℕ → Visit → Visit
-with_oneway at v = record v { faults = v.faults ++ fault_at at code.BadOneway ∷ [] }
-
+-- A used name that is cut behind its first token: nothing further on is looked at.
 abbrev pub head_faults : ℕ → Result Found NameFault → List Fault
 head_faults at (Ok found) =
     if is_scope found.entity.kind then [] else fault_at at code.NoScope ∷ []
@@ -201,7 +192,7 @@ head_faults at (Err (At why part)) = fault_at at (name_code why) ∷ []
 head_faults at (Err Memory) = []
 
 abbrev pub past_name : ScopedName → Walk → Walk
-past_name name w = record w { at = last_at w.at name + 1; gives_back = false }
+past_name name w = record w { at = last_at w.at name + 1 }
 
 abbrev pub head_visit : ScopedName → Walk → Result Found NameFault → Visit
 head_visit name w r = record { faults = head_faults w.at r; after = past_name name w }
@@ -210,13 +201,13 @@ head_visit name w r = record { faults = head_faults w.at r; after = past_name na
 abbrev pub head_of : ScopedName → ScopedName
 head_of name = record name { rest = [] }
 
-unfoldable pub given_back : ℕ → Use → ScopedName → Walk → Lookup Visit
-given_back turns way name w =
-    if name.is_global then Done (with_oneway w.at (quiet (past_name name w)))
+unfoldable pub cut_name : ℕ → Use → ScopedName → Walk → Lookup Visit
+cut_name turns way name w =
+    if name.is_global then Done (quiet (past_name name w))
     else elim name.rest [
-      | [] ↦ and_then (used turns way name w) (λ v. Done (with_oneway w.at v))
+      | [] ↦ used turns way name w
       | part ∷ parts ↦ and_then (under w.own (denoted (turns_at turns w) w.cursor (head_of name)))
-          (λ r. Done (with_oneway w.at (head_visit name w r)))
+          (λ r. Done (head_visit name w r))
     ]
 
 -- the scope of what is declared so begins
@@ -320,8 +311,7 @@ visit turns (item.Declares way name) w =
           and_then (under w.own (standing (turns_at turns w) s e))
           (λ there. Done (declared_visit w way s e there))
     ]
-visit turns (item.Uses way name) w =
-    if w.gives_back then given_back turns way name w else used turns way name w
+visit turns (item.Uses way name) w = used turns way name w
 visit turns (item.ScopeBegins way name) w =
     Done (quiet (record w {
       cursor = with_scope way name w.cursor;
@@ -354,12 +344,11 @@ visit turns item.Default w =
       unions = with_labels with_default w.unions;
       bodies = with_body_label None w.bodies;
     }))
-visit turns item.GivesBack w = Done (quiet (record w { gives_back = true }))
-visit turns (item.Plain n) w =
-    Done (faulty_if w.gives_back code.BadOneway w (passed n w))
+visit turns item.GivesBack w =
+    Done (record { faults = fault_at w.at code.BadOneway ∷ []; after = w })
+visit turns (item.Plain n) w = Done (quiet (passed n w))
 visit turns (item.Says purpose text) w =
-    Done (faulty_if w.gives_back code.BadOneway w
-    (record (passed (item_length (item.Says purpose text)) w) {
+    Done (quiet (record (passed (item_length (item.Says purpose text)) w) {
       clauses = with_text purpose text w.clauses;
     }))
 
@@ -370,15 +359,25 @@ noted before faults = least_fault (option_to_list before ++ faults)
 abbrev pub noted_in : Visit → Option Fault → Walk
 noted_in v fault = record v.after { fault = noted fault v.faults }
 
--- nothing more is asked behind the token of a fault, but to the end of an expression
+-- a fault at a token before this one is known, and no expression is being read to its end
+abbrev pub is_known : ℕ → Walk → Bool
+is_known at w =
+    elim w.fault [ None ↦ false | Some f ↦ nat_lt f.index at && not (is_some w.values.begin) ]
+
+-- nothing more is asked behind the token of a fault
 abbrev pub is_over : Walk → Bool
-is_over w =
-    elim w.fault
-    [ None ↦ false | Some f ↦ nat_lt f.index w.at && not (is_some w.values.begin) ]
+is_over w = is_known w.at w
+
+-- A site to which a walk comes. Where a fault of the next token is known before the token is looked
+-- at, as one of the tree by itself is, a name that begins there is cut.
+abbrev pub looked_at : ℕ → Item → Walk → Lookup Visit
+looked_at turns (item.Uses way name) w =
+    if is_known (w.at + 1) w then cut_name turns way name w else used turns way name w
+looked_at turns site w = visit turns site w
 
 -- the walk over these sites
 unfoldable pub walk : ℕ → List Item → Walk → Lookup Walk
 walk turns [] w = Done w
 walk turns (site ∷ sites) w =
     if is_over w then Done w
-    else and_then (visit turns site w) (λ v. walk turns sites (noted_in v w.fault))
+    else and_then (looked_at turns site w) (λ v. walk turns sites (noted_in v w.fault))

@@ -3,7 +3,7 @@
 ghost use Rattle.std.specs.Prelude.{◌≡◌, ◌≤◌, ◌++◌, ◌-◌, ℕ, IfOk, List, None, OnOk, Some, length, map};
 ghost use Rattle.idl_check.specs.walk.Held.{HasRoomFor, held};
 ghost use Rattle.idl_check.specs.walk.Placing.{opening_faults, step_of};
-ghost use Rattle.idl_check.specs.walk.Verdict.{asking, by_names, first_part, judged, misplaced, refused, row_depth, sound, token_verdict};
+ghost use Rattle.idl_check.specs.walk.Verdict.{asking, by_names, judged, refused, row_depth, sound, token_verdict};
 ghost use Rattle.idl_check.specs.walk.Walk.{walk};
 ghost use Rattle.idl_memo.specs.Query.{and_then, run};
 ghost use Rattle.idl_env.specs.Facts.{answers, path_around};
@@ -14,32 +14,26 @@ ghost use Rattle.idl_parts.specs.UnitParts.{unit_parts};
 ghost use Rattle.idl_syntax.specs.Parse.{IsTreeOf, StopsAt};
 ghost use Rattle.idl_tree.specs.Lexeme.{lexemes};
 ghost use Rattle.idl_tree.specs.Unit.{spell};
-ghost use Rattle.idl_tree.specs.declared.unit.Tree.{Tree as UnitsTree};
 ghost use Rattle.idl_check.specs.declared.walk.verdict.Verdict.{Verdict as UnitVerdict};
-ghost use Rattle.idl_lex.specs.kinds.Keywords.{folded};
-ghost use Rattle.idl_scope.specs.Lookup.{outward};
-ghost use Rattle.std.specs.Option.{option_map};
 ghost use Rattle.idl_unit.specs.Faults.{least_fault};
 ghost use Rattle.idl_unit.specs.TokenRules.{fault_at, token_faults};
 ghost use Rattle.idl_unit.specs.declared.fault.Fault.{Fault as UnitFault};
 ghost use Rattle.idl_unit.specs.declared.unit.UnitText.TheVariants as unit;
-ghost use Rattle.idl_fault.specs.declared.code.Code.TheVariants.{MisplacedUnit, NoTree};
+ghost use Rattle.idl_fault.specs.declared.code.Code.TheVariants.{NoTree};
 
 use crate::tables::codes::lesser;
-use crate::walk::placing::{depth, faulty_step, is_misplaced, opened_kind, opening_fault, step_of};
+use crate::walk::placing::{depth, faulty_step, opened_kind, opening_fault, place_fault, step_of};
 use crate::walk::scratch::Scratch;
 use crate::walk::verdict::{Verdict, adding};
 use crate::walk::walker::Walker;
 use idl_base::Bytes;
 use idl_dump::{Rest, write_row};
 use idl_entity::Path;
-use idl_entity::paths::folded_name;
 use idl_env::{DigestedKey, Env, Facts, OpenScopes, Step};
 use idl_fault::Code;
 use idl_lex::Token;
 use idl_memo::Journal;
 use idl_parts::{UnitPart, sites};
-use idl_scope::View;
 use idl_syntax::{SyntaxFault, UnitTree, parse};
 use idl_tree::Tree;
 use idl_unit::{Fault, UnitText};
@@ -162,52 +156,14 @@ impl<'a> Judge<'a> {
             (answers self.entry.env.now) log.old) }
     {
         let sites = sites(self.env.alloc(), tree)?;
-        if is_misplaced(tree, self.scopes) {
-            return self.misplaced(log, sites.as_slice());
-        }
         let unit = Sited {
             judge: self,
             tree,
             sites: sites.as_slice(),
         };
-        let mut walker = Walker::new(self.env, self.scopes, scratch);
+        let known = place_fault(tree, self.scopes);
+        let mut walker = Walker::new(self.env, self.scopes, scratch, known);
         unit.walked(scratch, log, &mut walker)
-    }
-
-    // The verdict of a unit that its scope doesn't hold.
-    fn misplaced(
-        self,
-        log: &mut Journal<Env>,
-        sites: &[UnitPart<'_>],
-    ) -> Result<Verdict, AllocError>
-        ensures { IfOk result (λ v. (turns : ℕ) → turns_for self.entry.env.now ≤ turns →
-            (tree : UnitsTree) → map item_at sites.now ≡ items (unit_parts tree) →
-            (v, log.new)
-            ≡ run key_eq (misplaced turns self.entry.tokens.now self.entry.scopes.now tree)
-            (answers self.entry.env.now) log.old) }
-    {
-        if let Some(name) = first_part(sites) {
-            self.ask_outward(log, name)?;
-            return self.refused(log, at_first(Code::MisplacedUnit));
-        }
-        self.refused(log, at_first(Code::MisplacedUnit))
-    }
-
-    // Asks what the first part of a name asks.
-    fn ask_outward(self, log: &mut Journal<Env>, name: &[u8]) -> Result<(), AllocError>
-        ensures { OnOk result ((turns : ℕ) → turns_for self.entry.env.now ≤ turns →
-            log.new
-            ≡ (run key_eq (outward turns self.entry.scopes.now (folded name.now))
-            (answers self.entry.env.now) log.old).1) }
-    {
-        let own = Facts::new(self.env.alloc());
-        let view = View {
-            env: self.env,
-            own: &own,
-        };
-        let folded = folded_name(self.env.alloc(), name)?;
-        view.outward(log, self.scopes, &folded)?;
-        Ok(())
     }
 
     // Of a scope that is opened it is asked how often it was before.
@@ -334,22 +290,5 @@ fn no_tree(tokens: &[Token], left: usize) -> Fault
     Fault {
         index: tokens.len().saturating_sub(left),
         code: Code::NoTree,
-    }
-}
-
-// A fault at the first token.
-fn at_first(code: Code) -> Fault
-    ensures { result ≡ fault_at 0 code }
-{
-    Fault { index: 0, code }
-}
-
-// The part of a name with which the sites begin, if they do.
-fn first_part<'a>(sites: &[UnitPart<'a>]) -> Option<&'a [u8]>
-    ensures { option_map (λ name. name.now) result ≡ first_part (map item_at sites.now) }
-{
-    match sites.first()? {
-        UnitPart::Used(_, name) if !name.is_global => Some(name.first.as_bytes()),
-        _ => None,
     }
 }

@@ -166,8 +166,7 @@ pub fn numbering()
 {}
 
 /// The sites of a unit are bracketed: between an expression's beginning and its end stands what it
-/// is made of, and an expression is nowhere else. What a oneway operation gives back begins with a
-/// token.
+/// is made of, and an expression is nowhere else.
 pub fn bracketing()
     ensures { (tree : Tree) → AreBracketed (items (unit_parts tree)) }
 {}
@@ -278,7 +277,6 @@ pub fn denoting()
         → Reaches (seen w.own facts) w.cursor name found.reach }
     ensures path { (facts : List UnitFacts) (turns : ℕ) (w : Walk) (way : Use) (name : ScopedName)
         (found : Found)
-        → w.gives_back ≡ false
         → let query = under w.own (denoted (turns_at turns w) w.cursor name) in
         outcome query (answers facts) ≡ Ok found
         → (outcome (visit turns (item.Uses way name) w) (answers facts)).after.found

@@ -7,7 +7,7 @@ ghost use Rattle.idl_check.specs.ids.Identifying.{with_identity};
 ghost use Rattle.idl_tree.specs.NameParts.{last_at, part_at};
 ghost use Rattle.idl_env.specs.declared.additions.addition.Addition.TheVariants.{Declares};
 ghost use Rattle.idl_env.specs.declared.answering.answer.Scope.{Scope as ScopeAround};
-ghost use Rattle.idl_check.specs.walk.Held.{HasRoomFor, given_noted, head_noted, held, held_values, held_written, used_noted, visited};
+ghost use Rattle.idl_check.specs.walk.Held.{HasRoomFor, cut_noted, head_noted, held, held_values, held_written, used_noted, visited};
 ghost use Rattle.idl_check.specs.told.Types.{constants_of};
 ghost use Rattle.idl_check.specs.tables.Using.{bases_after, constants_after, last_after, name_code, own_after, type_after, unions_after, values_after};
 ghost use Rattle.idl_check.specs.walk.Walk.{declared_visit, is_begun, noted, noted_in, unions_without, used_visit};
@@ -60,7 +60,6 @@ impl<'a> Walker<'a> {
         let alloc = self.env.alloc();
         let Some(scope) = self.cursor.innermost() else {
             self.at += 1;
-            self.gives_back = false;
             return Ok(());
         };
         let entity = self.written.entity(alloc, way, name, &scope.path)?;
@@ -118,19 +117,16 @@ impl<'a> Walker<'a> {
             (self.new.at ≡ self.old.at + item_length (item.Uses way name.now)) }
         ensures env { OnOk result (self.new.env.now ≡ self.old.env.now) }
     {
-        if self.gives_back {
-            let at = self.at;
-            self.use_given(log, way, name)?;
-            self.note(at, Some(Code::BadOneway));
+        if self.is_known(self.at + 1) {
+            self.cut_name(log, way, name)?;
             return Ok(());
         }
         self.use_any(log, way, name)?;
         Ok(())
     }
 
-    // The name of a type that a oneway operation gives back, of which its first token alone is
-    // looked at.
-    fn use_given(
+    // A used name of which nothing counts behind its first token.
+    fn cut_name(
         &mut self,
         log: &mut Journal<Env>,
         way: Use,
@@ -139,14 +135,13 @@ impl<'a> Walker<'a> {
         requires room { last_at self.old.at name.now + 1 ≤ 18446744073709551615 }
         ensures run { OnOk result ((turns : ℕ) → turns_for self.old.env.now ≤ turns →
             (held self.new, log.new)
-            ≡ run key_eq (given_noted turns way name.now (held self.old))
+            ≡ run key_eq (cut_noted turns way name.now (held self.old))
             (answers self.old.env.now) log.old) }
         ensures at { OnOk result (self.new.at ≡ last_at self.old.at name.now + 1) }
         ensures env { OnOk result (self.new.env.now ≡ self.old.env.now) }
     {
         if name.is_global {
             self.at = last_at(self.at, name) + 1;
-            self.gives_back = false;
             return Ok(());
         }
         if name.rest.is_empty() {
@@ -170,7 +165,6 @@ impl<'a> Walker<'a> {
     {
         let at = self.at;
         self.at = last_at(at, name) + 1;
-        self.gives_back = false;
         let head = ScopedName {
             is_global: false,
             first: name.first.clone()?,
@@ -196,7 +190,7 @@ impl<'a> Walker<'a> {
         }
     }
 
-    // A used name that isn't given back by a oneway operation.
+    // A used name, all of which is looked at.
     fn use_any(
         &mut self,
         log: &mut Journal<Env>,
@@ -237,7 +231,6 @@ impl<'a> Walker<'a> {
         ensures { self.new
             ≡ record self.old {
               at = last_at self.old.at name.now + 1;
-              gives_back = false;
               fault =
                   noted self.old.fault
                   (fault_at (part_at self.old.at name.now part) (name_code code) ∷ []);
@@ -245,7 +238,6 @@ impl<'a> Walker<'a> {
     {
         self.note(part_at(self.at, name, part), Some(name_code(code)));
         self.at = last_at(self.at, name) + 1;
-        self.gives_back = false;
     }
 
     // An operand without a value, or a discriminator of no type.
@@ -295,7 +287,6 @@ impl<'a> Walker<'a> {
         let last = last_at(self.at, name);
         self.note(last, code);
         self.at = last + 1;
-        self.gives_back = false;
         let path = entity.path();
         let used = Denoting {
             name,

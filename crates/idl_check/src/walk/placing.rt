@@ -1,10 +1,11 @@
 //! Where a unit may stand, and what it does to the open scopes.
 
 ghost use Rattle.std.specs.Prelude.{◌≡◌, IfOk, if◌then◌else◌, option_to_list};
-ghost use Rattle.idl_check.specs.walk.Placing.{brace_from, faulty_step, heading_kind, is_closing_by, is_module, opened_kind, opening_brace, opening_faults, step_of};
+ghost use Rattle.idl_check.specs.walk.Placing.{brace_from, faulty_step, heading_kind, is_closing_by, is_module, opened_kind, opening_brace, opening_faults, place_faults, step_of};
 ghost use Rattle.idl_check.specs.tables.Rules.{depth, is_interface, is_misplaced};
 ghost use Rattle.idl_env.specs.declared.additions.addition.Step.TheVariants as steps;
 ghost use Rattle.idl_unit.specs.Ending.{begins, opens};
+ghost use Rattle.idl_unit.specs.Faults.{least_fault};
 
 use crate::tables::declaring::path_in;
 use idl_entity::{Kind, Path};
@@ -150,8 +151,21 @@ pub fn opening_fault(tokens: &[Token], scopes: &OpenScopes) -> Option<Fault>
     None
 }
 
-/// Whether the innermost of these scopes doesn't hold the unit.
-pub fn is_misplaced(tree: &Tree, scopes: &OpenScopes) -> bool
+/// The fault of a unit that the innermost of these scopes doesn't hold.
+pub fn place_fault(tree: &Tree, scopes: &OpenScopes) -> Option<Fault>
+    ensures { result ≡ least_fault (place_faults tree.now scopes.now) }
+{
+    if is_misplaced(tree, scopes) {
+        return Some(Fault {
+            index: 0,
+            code: Code::MisplacedUnit,
+        });
+    }
+    None
+}
+
+// Whether the innermost of these scopes doesn't hold the unit.
+fn is_misplaced(tree: &Tree, scopes: &OpenScopes) -> bool
     ensures { result ≡ is_misplaced tree.now scopes.now }
 {
     match tree {

@@ -4,7 +4,7 @@ ghost use Rattle.std.specs.Prelude.{◌≡◌, ◌≤◌, ◌+◌, ◌∷◌, �
 ghost use Rattle.idl_check.specs.told.Bodies.{begun_body, raising, with_text};
 ghost use Rattle.idl_check.specs.tables.Declaring.{finished, with_finished};
 ghost use Rattle.idl_check.specs.walk.Held.{HasRoomFor, held, visited};
-ghost use Rattle.idl_check.specs.walk.Walk.{faulty_if, first_walk, is_over, noted, noted_in, passed, scope_visit, walk, with_scope};
+ghost use Rattle.idl_check.specs.walk.Walk.{faulty_if, first_walk, is_known, is_over, noted, noted_in, passed, scope_visit, walk, with_scope};
 ghost use Rattle.idl_check.specs.told.Labels.{is_idle};
 ghost use Rattle.idl_fault.specs.declared.code.Code.TheVariants.{BadOneway, UselessDefault};
 ghost use Rattle.std.specs.List.{list_any};
@@ -57,8 +57,6 @@ pub struct Walker<'a> {
     pub clauses: Clauses,
     /// The labels of the unions around it, the innermost first.
     pub unions: Vec<Labels>,
-    /// Whether what the next token begins is given back by a oneway operation.
-    pub gives_back: bool,
     /// The paths of what the used names denote, in order.
     pub found: Seq<Path>,
     pub values: Values,
@@ -67,9 +65,15 @@ pub struct Walker<'a> {
 }
 
 impl<'a> Walker<'a> {
-    /// Before the first site of a unit, in these scopes. What is added takes the room that there is.
-    pub fn new(env: &'a Env, scopes: &'a OpenScopes, scratch: &mut Scratch) -> Walker<'a>
-        ensures walk { held result ≡ first_walk scopes.now }
+    /// Before the first site of a unit, in these scopes, where this fault of it is known. What is
+    /// added takes the room that there is.
+    pub fn new(
+        env: &'a Env,
+        scopes: &'a OpenScopes,
+        scratch: &mut Scratch,
+        known: Option<Fault>,
+    ) -> Walker<'a>
+        ensures walk { held result ≡ record (first_walk scopes.now) { fault = known } }
         ensures env { result.env.now ≡ env.now }
     {
         let alloc = env.alloc();
@@ -85,10 +89,9 @@ impl<'a> Walker<'a> {
             bodies: Nest::new(alloc),
             clauses: Clauses::new(alloc),
             unions: Vec::new(alloc),
-            gives_back: false,
             found: Seq::new(alloc),
             values: Values::new(alloc),
-            fault: None,
+            fault: known,
         }
     }
 
@@ -110,12 +113,19 @@ impl<'a> Walker<'a> {
         Ok(())
     }
 
-    // Nothing more is asked behind the token of a fault, but to the end of an expression.
+    // Nothing more is asked behind the token of a fault.
     fn is_over(&self) -> bool
         ensures { result ≡ is_over (held self.now) }
     {
+        self.is_known(self.at)
+    }
+
+    /// Whether a fault at a token before this one is known, and no expression is being read.
+    pub fn is_known(&self, at: usize) -> bool
+        ensures { result ≡ is_known at (held self.now) }
+    {
         match self.fault {
-            Some(fault) => fault.index < self.at && self.values.begin.is_none(),
+            Some(fault) => fault.index < at && self.values.begin.is_none(),
             None => false,
         }
     }
@@ -185,34 +195,20 @@ impl<'a> Walker<'a> {
     // So many tokens.
     fn pass(&mut self, count: usize) -> Result<(), AllocError>
         requires { self.old.at + count ≤ 18446744073709551615 }
-        ensures visit { held self.new
-            ≡ noted_in
-            (faulty_if self.old.gives_back BadOneway (held self.old)
-            (passed count (held self.old))) self.old.fault }
-        ensures at { self.new.at ≡ self.old.at + count }
-        ensures env { self.new.env.now ≡ self.old.env.now }
+        ensures { self.new ≡ record self.old { at = self.old.at + count } }
     {
-        let at = self.at;
-        let is_given_back = self.gives_back;
         self.at += count;
-        self.gives_back = false;
-        if is_given_back {
-            self.note(at, Some(Code::BadOneway));
-            return Ok(());
-        }
         Ok(())
     }
 
     // String literals, which are joined: a text of a context, or what a name is given.
     fn join(&mut self, purpose: TextPurpose, text: &Several<Seq<u16>>) -> Result<(), AllocError>
         requires { HasRoomFor (held self.old) (item.Says purpose text.now ∷ []) }
-        ensures visit { OnOk result
+        ensures walk { OnOk result
             (held self.new
-            ≡ noted_in
-            (faulty_if self.old.gives_back BadOneway (held self.old)
-            (record (passed (item_length (item.Says purpose text.now)) (held self.old)) {
+            ≡ record (passed (item_length (item.Says purpose text.now)) (held self.old)) {
               clauses = with_text purpose text.now self.old.clauses;
-            })) self.old.fault) }
+            }) }
         ensures at { OnOk result
             (self.new.at ≡ self.old.at + item_length (item.Says purpose text.now)) }
         ensures env { OnOk result (self.new.env.now ≡ self.old.env.now) }
@@ -223,9 +219,12 @@ impl<'a> Walker<'a> {
 
     // What the next token begins is given back by a oneway operation.
     fn give_back(&mut self) -> Result<(), AllocError>
-        ensures { self.new ≡ record self.old { gives_back = true } }
+        ensures { self.new
+            ≡ record self.old {
+              fault = noted self.old.fault (fault_at self.old.at BadOneway ∷ []);
+            } }
     {
-        self.gives_back = true;
+        self.note(self.at, Some(Code::BadOneway));
         Ok(())
     }
 

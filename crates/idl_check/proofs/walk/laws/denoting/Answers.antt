@@ -24,7 +24,7 @@ returns-clause-introduced c = λ facts turns w name found enough is.
     (sym (outcome-under w.own (answers facts) (denoted (turns_at turns w) w.cursor name)) ∙ is)
 
 pub returns-clause-path : goal.returns-clause-path
-returns-clause-path c = λ facts turns w way name found given is. used-path turns (answers facts) way name w found given is
+returns-clause-path c = λ facts turns w way name found is. used-path turns (answers facts) way name w found is
 
 pub returns-clause-pragma : goal.returns-clause-pragma
 returns-clause-pragma c = λ facts turns scopes name enough. denotes facts [] turns (omega (arith, enough)) scopes name

@@ -1,4 +1,4 @@
-use Rattle.std.proofs.Common.{ℕ, ◌+◌, ◌∷◌, ◌++◌, [], List, false, map, take, ap, ◌∙◌}
+use Rattle.std.proofs.Common.{ℕ, ◌+◌, ◌∷◌, ◌++◌, [], List, map, take, ap, ◌∙◌}
 use Rattle.std.specs.Prelude.{option_to_list}
 use Rattle.idl_check.proofs.Faults.NotedLemmas.{noted-by}
 use Rattle.idl_check.proofs.Faults.TableLaws.{used-up}
@@ -33,7 +33,7 @@ returns-clause-visit c =
       bases = bases_after way f w.bases;
       written = record w.written { data_type = type_after way f w.written.data_type; constants = constants_after way behind w.written.constants };
       clauses = clauses;
-      unions = unions_after way behind w.unions;
+      unions = unions_after way behind w.unions.items;
       found = found;
       values = values_after way f.value w.values;
     } in

@@ -1,4 +1,4 @@
-use Rattle.std.proofs.Common.{◌+◌, ◌∷◌, [], false, Ok, sym, ap, ◌∙◌}
+use Rattle.std.proofs.Common.{◌+◌, ◌∷◌, [], Ok, sym, ap, ◌∙◌}
 use Rattle.idl_check.proofs.Faults.NotedLemmas.{head-other, head-scope}
 use Rattle.idl_check.proofs.Visits.VisitLemmas.{head_by, runs_over, turns-here}
 use Rattle.idl_check.specs.walk.Held.{held}
@@ -28,7 +28,7 @@ returns-then-is_scope-clause-run c = λ turns more.
       rest = c.new.ensures i;
     }))) log) in
     let scope = ap (λ (e : Entity). is_scope e.kind) (sym c.get.ensures) ∙ ap is_scope (sym c.kind.ensures) ∙ sym c.is_scope.ensures ∙ c.if-is_scope.true in
-    (λ i. (record w { at = c.last_at.ensures i + 1; gives_back = false }, after))
+    (λ i. (record w { at = c.last_at.ensures i + 1 }, after))
     ∙ (λ i. (sym (head-scope name w found w.fault scope) i, after))
     ∙ sym (head_by bank turns name w log (Ok found) after gives)
 
@@ -48,7 +48,7 @@ returns-in-Ok-clause-run c = λ turns more.
     }))) log) in
     let other = ap (λ (e : Entity). is_scope e.kind) (sym c.get.ensures) ∙ ap is_scope (sym c.kind.ensures) ∙ sym c.is_scope.ensures ∙ c.if-is_scope.false in
     (λ i. (held (c.note.ensures i), after))
-    ∙ (λ i. (record w { at = c.last_at.ensures i + 1; gives_back = false; fault = noted w.fault (fault_at w.at NoScope ∷ []) }, after))
+    ∙ (λ i. (record w { at = c.last_at.ensures i + 1; fault = noted w.fault (fault_at w.at NoScope ∷ []) }, after))
     ∙ (λ i. (sym (head-other name w found w.fault other) i, after))
     ∙ sym (head_by bank turns name w log (Ok found) after gives)
 
@@ -67,6 +67,6 @@ returns-clause-run c = λ turns more.
       rest = c.new.ensures i;
     }))) log) in
     (λ i. (held (c.note-in-Err-At.ensures i), after))
-    ∙ (λ i. (record w { at = c.last_at.ensures i + 1; gives_back = false; fault = noted w.fault (fault_at w.at (c.name_code.ensures i) ∷ []) }, after))
-    ∙ (λ i. (record w { at = last_at w.at name + 1; gives_back = false; fault = noted w.fault (fault_at w.at (name_code (c.in-Err-At.code-is i)) ∷ []) }, after))
+    ∙ (λ i. (record w { at = c.last_at.ensures i + 1; fault = noted w.fault (fault_at w.at (c.name_code.ensures i) ∷ []) }, after))
+    ∙ (λ i. (record w { at = last_at w.at name + 1; fault = noted w.fault (fault_at w.at (name_code (c.in-Err-At.code-is i)) ∷ []) }, after))
     ∙ sym (head_by bank turns name w log _ after gives)

@@ -1,12 +1,17 @@
 use Rattle.std.proofs.Common.{sym, ◌∙◌, arith}
 use Rattle.idl_tree.proofs.NameLemmas.{behind_name}
-use Rattle.idl_check.proofs.Visits.VisitLemmas.{given_by, named_plain}
+use Rattle.idl_check.proofs.Visits.VisitLemmas.{named-cut, named-whole}
 use Rattle.idl_check.specs.walk.Held.{held}
 use Rattle.idl_env.specs.Facts.{answers}
 use Rattle.idl_check.proofs.walk.walker.Walker.use_name.Goals as goal
 
-pub use_given-requires : goal.use_given-requires
-use_given-requires c =
+pub overflow_add-self : goal.overflow_add-self
+overflow_add-self c =
+    let behind = behind_name c.args.self.now.at c.args.name.now in
+    omega (arith, behind, c.requires)
+
+pub cut_name-requires : goal.cut_name-requires
+cut_name-requires c =
     let behind = behind_name c.args.self.now.at c.args.name.now in
     record { room = omega (arith, behind, c.requires) }
 
@@ -15,22 +20,20 @@ use_any-requires c =
     let behind = behind_name c.args.self.now.at c.args.name.now in
     record { room = omega (arith, behind, c.requires) }
 
-pub returns-then-self-clause-visited : goal.returns-then-self-clause-visited
-returns-then-self-clause-visited c = λ turns more.
-    let w = held c.args.self.now in
+pub returns-then-is_known-clause-visited : goal.returns-then-is_known-clause-visited
+returns-then-is_known-clause-visited c = λ turns more.
     let bank = answers c.args.self.now.env.now in
-    (λ i. (held (c.note.ensures i), c.use_given.new.log))
-    ∙ sym (given_by bank turns c.args.way c.args.name.now w c.args.log.now (held c.use_given.new.self) c.use_given.new.log c.if-self.true (c.in_ok-use_given.ensures.run turns more))
+    c.in_ok-cut_name.ensures.run turns more
+    ∙ sym (named-cut bank turns c.args.way c.args.name.now (held c.args.self.now) c.args.log.now (sym c.is_known.ensures ∙ c.if-is_known.true))
 
-pub returns-then-self-clause-at : goal.returns-then-self-clause-at
-returns-then-self-clause-at c =
-    (λ i. (c.note.ensures i).at) ∙ c.in_ok-use_given.ensures.at ∙ behind_name c.args.self.now.at c.args.name.now
+pub returns-then-is_known-clause-at : goal.returns-then-is_known-clause-at
+returns-then-is_known-clause-at c = c.in_ok-cut_name.ensures.at ∙ behind_name c.args.self.now.at c.args.name.now
 
 pub returns-clause-visited : goal.returns-clause-visited
 returns-clause-visited c = λ turns more.
     let bank = answers c.args.self.now.env.now in
     c.in_ok-use_any.ensures.run turns more
-    ∙ sym (named_plain bank turns c.args.way c.args.name.now (held c.args.self.now) c.args.log.now c.if-self.false)
+    ∙ sym (named-whole bank turns c.args.way c.args.name.now (held c.args.self.now) c.args.log.now (sym c.is_known.ensures ∙ c.if-is_known.false))
 
 pub returns-clause-at : goal.returns-clause-at
 returns-clause-at c = c.in_ok-use_any.ensures.at ∙ behind_name c.args.self.now.at c.args.name.now

@@ -1,4 +1,4 @@
-use Rattle.std.proofs.Common.{◌≡◌, ◌+◌, ◌∷◌, [], false, ap, ◌∙◌, arith}
+use Rattle.std.proofs.Common.{◌≡◌, ◌+◌, ◌∷◌, [], ap, ◌∙◌, arith}
 use Rattle.idl_tree.specs.NameParts.{last_at}
 use Rattle.idl_check.specs.walk.Walk.{noted}
 use Rattle.idl_unit.specs.TokenRules.{fault_at}
@@ -20,4 +20,4 @@ returns c =
     let before : c.note.new.self.at ≡ old.at = ap (λ w. w.at) c.note.ensures in
     let at : c.last_at.result + 1 ≡ last_at old.at c.args.name.now + 1 = omega (arith, before, c.last_at.ensures) in
     let fault = ap (λ w. w.fault) c.note.ensures ∙ (λ i. noted old.fault (fault_at (c.part_at.ensures i) (c.name_code.ensures i) ∷ [])) in
-    λ i. record (c.note.ensures i) { at = at i; gives_back = false; fault = fault i }
+    λ i. record (c.note.ensures i) { at = at i; fault = fault i }

@@ -1,12 +1,12 @@
--- The name that a oneway operation gives back: what is wrong behind its first token doesn't count.
-use Rattle.std.proofs.Common.{◌≡◌, ◌∙◌, ℕ, ◌<◌, ◌≤◌, Bool, true, false, cond, List, [], ◌∷◌, ◌++◌, length, Option, Result, Ok, Err, refl, sym, ap, subst, arith}
+-- A name that is cut: where a fault is known at its first token, what is wrong behind that doesn't count.
+use Rattle.std.proofs.Common.{◌≡◌, ◌∙◌, ℕ, ◌<◌, ◌≤◌, Bool, true, false, cond, List, [], ◌∷◌, length, Option, Some, Result, Ok, Err, refl, sym, ap, subst, arith}
 use Rattle.std.proofs.lemmas.List.Elements.{All-cons, All-nil}
 use Rattle.idl_check.specs.tables.Codes.{codes_in}
 use Rattle.idl_tree.specs.NameParts.{last_at, part_at}
 use Rattle.idl_check.specs.told.Types.{looked_through}
 use Rattle.idl_check.specs.tables.Using.{name_code, used_table}
-use Rattle.idl_check.specs.walk.Walk.{Visit, Walk, head_faults, head_of, head_visit, noted, used, used_visit, with_oneway, turns_at}
-use Rattle.idl_fault.specs.declared.code.Code.TheVariants.{BadOneway, NoScope}
+use Rattle.idl_check.specs.walk.Walk.{Visit, Walk, head_faults, head_of, head_visit, noted, used, used_visit, turns_at}
+use Rattle.idl_fault.specs.declared.code.Code.TheVariants.{NoScope}
 use Rattle.idl_lex.specs.kinds.Keywords.{folded}
 use Rattle.idl_memo.proofs.QueryLaws.{outcome-and_then}
 use Rattle.idl_memo.specs.Query.{Done, and_then, outcome}
@@ -22,19 +22,19 @@ use Rattle.idl_scope.specs.declared.fault.NameFault.{NameFault}
 use Rattle.idl_scope.specs.declared.fault.NameFault.TheVariants.{At, Memory}
 use Rattle.idl_scope.specs.declared.found.Found.{Found}
 use Rattle.idl_env.specs.declared.keys.key.Key.{Key}
+use Rattle.idl_parts.specs.Part.{Part as item}
 use Rattle.idl_parts.specs.declared.part.Use.{Use}
+use Rattle.idl_tree.proofs.NameLemmas.{behind_name}
 use Rattle.idl_tree.specs.declared.name.ScopedName.{ScopedName}
 use Rattle.idl_unit.specs.TokenRules.{fault_at}
 use Rattle.idl_unit.specs.declared.fault.Fault.{Fault}
-use Rattle.idl_check.proofs.Faults.AlikeLemmas.{AreAlike, alike-earlier}
 use Rattle.idl_check.proofs.Faults.FaultOrder.{all-at}
+use Rattle.idl_check.proofs.Faults.NotedLemmas.{IsLater, noted-later}
 use Rattle.idl_check.proofs.PartLemmas.{IsUpTo, StandsAt, behind, behind-at, found_as-at, from_first, further-at, part_of-at}
-use Rattle.idl_check.proofs.Visits.SiteLaws.{denoted-up, given_by, used_by}
+use Rattle.idl_check.proofs.Visits.SiteLaws.{IsPlaced, denoted-up, plain-placed, used-begins, used_by}
+use Rattle.idl_check.proofs.Visits.VisitLemmas.{cut_by}
 
 -- ---- faults behind a token
-
-abbrev pub IsLater : ℕ → List Fault → Type 0
-IsLater at fs = All (λ f. at < f.index) fs
 
 -- a fault stands at no earlier part than this one
 abbrev pub IsFromPart : {A : Type 0} → ℕ → Result A NameFault → Type 0
@@ -94,9 +94,6 @@ module _ (turns : ℕ) (answers : Key → Option Answer) (way : Use) (name : Sco
   abbrev bank : Key → Option Answer
   bank k = over w.own k (answers k)
 
-  abbrev given_fault : Fault
-  given_fault = fault_at w.at BadOneway
-
   -- by what it denotes
   abbrev faults_of : Result Found NameFault → List Fault
   faults_of r = (outcome (used_by turns answers way name w r) answers).faults
@@ -109,47 +106,71 @@ module _ (turns : ℕ) (answers : Key → Option Answer) (way : Use) (name : Sco
   faults-later from later le (Err (At code part)) h = All-cons (λ f. w.at < f.index) (fault_at (part_at w.at name part) (name_code code)) [] (later part h) (All-nil (λ f. w.at < f.index))
   faults-later from later le (Err Memory) h = absurd h
 
-  scoped-alike : (e : Entity) (part : List ℕ) (parts : List (List ℕ)) → name.is_global ≡ false → name.rest ≡ part ∷ parts → (b : Bool) → is_scope e.kind ≡ b
-      → AreAlike (cond b [] (fault_at w.at NoScope ∷ []) ++ given_fault ∷ []) (faults_of (outcome (from_first (turns_at turns w) bank w.cursor name (Ok e)) bank) ++ given_fault ∷ [])
-  scoped-alike e part parts local rest true scope o =
-      let r = outcome (from_first (turns_at turns w) bank w.cursor name (Ok e)) bank in
-      let inside : IsFromPart 1 (outcome (further (turns_at turns w) 0 e name.rest) bank) = subst (λ names. IsFromPart 1 (outcome (further (turns_at turns w) 0 e names) bank)) (sym rest) (scope-from (turns_at turns w) bank e part parts scope) in
-      let up : IsFromPart 1 r = subst (IsFromPart 1) (sym (first-is (turns_at turns w) bank w.cursor name e)) (found_as-at (λ part. 1 ≤ part) name w.cursor e (outcome (further (turns_at turns w) 0 e name.rest) bank) inside) in
-      let some : 1 ≤ length name.rest = omega (arith, ap length rest) in
-      sym (alike-earlier given_fault (faults_of r) (faults-later 1 (λ p le. part-later name w.at p le) some r up) o)
-  scoped-alike e part parts local rest false scope o =
-      let none : outcome (further (turns_at turns w) 0 e name.rest) bank ≡ Err (At why.NoScope 0) = ap (λ names. outcome (further (turns_at turns w) 0 e names) bank) rest ∙ other-is (turns_at turns w) bank e part parts scope in
-      let is : outcome (from_first (turns_at turns w) bank w.cursor name (Ok e)) bank ≡ Err (At why.NoScope 0) = first-is (turns_at turns w) bank w.cursor name e ∙ ap (found_as name w.cursor e) none in
-      ap (λ n. noted o (fault_at n NoScope ∷ given_fault ∷ [])) (sym (part-zero name w.at 0 local (omega arith)))
-      ∙ ap (λ r. noted o (faults_of r ++ given_fault ∷ [])) (sym is)
-
-  parts-alike : (part : List ℕ) (parts : List (List ℕ)) → name.is_global ≡ false → name.rest ≡ part ∷ parts → (p : Result Entity NameFault) → IsUpTo 0 p
-      → AreAlike (head_faults w.at (outcome (from_first (turns_at turns w) bank w.cursor (head_of name) p) bank) ++ given_fault ∷ []) (faults_of (outcome (from_first (turns_at turns w) bank w.cursor name p) bank) ++ given_fault ∷ [])
-  parts-alike part parts local rest (Ok e) up o = scoped-alike e part parts local rest (is_scope e.kind) refl o
-  parts-alike part parts local rest (Err (At code n)) up o = ap (λ m. noted o (fault_at m (name_code code) ∷ given_fault ∷ [])) (sym (part-zero name w.at n local up))
-  parts-alike part parts local rest (Err Memory) up o = absurd up
-
   -- the whole name
-  abbrev named : Visit
+  abbrev pub named : Visit
   named = outcome (used turns way name w) answers
 
   named-is : named ≡ outcome (used_by turns answers way name w (outcome (under w.own (denoted (turns_at turns w) w.cursor name)) answers)) answers
   unfolding used
   named-is = outcome-and_then (under w.own (denoted (turns_at turns w) w.cursor name)) (used_by turns answers way name w) answers
 
-  -- what counts stands at its first token
-  pub given-alike : (is_global : Bool) (parts : List (List ℕ)) → name.is_global ≡ is_global → name.rest ≡ parts
-      → AreAlike (outcome (given_by turns answers way name w is_global parts) answers).faults (named.faults ++ given_fault ∷ [])
-  given-alike true parts global rest o =
-      let r = outcome (under w.own (denoted (turns_at turns w) w.cursor name)) answers in
-      let later = faults-later 0 (λ p le. part-global name w.at p global) (omega arith) r (from-first (length name.rest) r (denoted-up turns answers name w)) in
-      sym (alike-earlier given_fault named.faults (subst (λ (v : Visit). IsLater w.at v.faults) (sym named-is) later) o)
-  given-alike false [] local rest o = ap (λ (v : Visit). noted o v.faults) (outcome-and_then (used turns way name w) (λ v. Done (with_oneway w.at v)) answers)
-  given-alike false (part ∷ parts) local rest o =
-      let query = under w.own (denoted (turns_at turns w) w.cursor (head_of name)) in
-      let up = part_of-at (turns_at turns w) bank (λ part. part ≤ 0) 0 name.first (outward (turns_at turns w) (searched name.is_global w.cursor) (folded name.first)) (omega arith) in
-      ap (λ (v : Visit). noted o v.faults) (outcome-and_then query (λ r. Done (with_oneway w.at (head_visit name w r))) answers)
-      ∙ ap (λ r. noted o (head_faults w.at r ++ given_fault ∷ [])) (outcome-under w.own answers (denoted (turns_at turns w) w.cursor (head_of name)) ∙ denoted-is (turns_at turns w) bank w.cursor (head_of name))
-      ∙ parts-alike part parts local rest (first_of (turns_at turns w) bank w.cursor name) up o
-      ∙ ap (λ r. noted o (faults_of r ++ given_fault ∷ [])) (sym (outcome-under w.own answers (denoted (turns_at turns w) w.cursor name) ∙ denoted-is (turns_at turns w) bank w.cursor name))
-      ∙ ap (λ (v : Visit). noted o (v.faults ++ given_fault ∷ [])) (sym named-is)
+  -- and what is looked at of it
+  abbrev pub cut : Bool → List (List ℕ) → Visit
+  cut is_global parts = outcome (cut_by turns way name w is_global parts) answers
+
+  abbrev head : Lookup (Result Found NameFault)
+  head = under w.own (denoted (turns_at turns w) w.cursor (head_of name))
+
+  -- a fault that is known by its first token
+  module _ (f : Fault) (known : f.index ≤ w.at) where
+    scoped-same : (e : Entity) (part : List ℕ) (parts : List (List ℕ)) → name.is_global ≡ false → name.rest ≡ part ∷ parts → (b : Bool) → is_scope e.kind ≡ b
+        → noted (Some f) (cond b [] (fault_at w.at NoScope ∷ [])) ≡ noted (Some f) (faults_of (outcome (from_first (turns_at turns w) bank w.cursor name (Ok e)) bank))
+    scoped-same e part parts local rest true scope =
+        let r = outcome (from_first (turns_at turns w) bank w.cursor name (Ok e)) bank in
+        let inside : IsFromPart 1 (outcome (further (turns_at turns w) 0 e name.rest) bank) = subst (λ names. IsFromPart 1 (outcome (further (turns_at turns w) 0 e names) bank)) (sym rest) (scope-from (turns_at turns w) bank e part parts scope) in
+        let up : IsFromPart 1 r = subst (IsFromPart 1) (sym (first-is (turns_at turns w) bank w.cursor name e)) (found_as-at (λ part. 1 ≤ part) name w.cursor e (outcome (further (turns_at turns w) 0 e name.rest) bank) inside) in
+        let some : 1 ≤ length name.rest = omega (arith, ap length rest) in
+        sym (noted-later f w.at (faults_of r) known (faults-later 1 (λ p le. part-later name w.at p le) some r up))
+    scoped-same e part parts local rest false scope =
+        let none : outcome (further (turns_at turns w) 0 e name.rest) bank ≡ Err (At why.NoScope 0) = ap (λ names. outcome (further (turns_at turns w) 0 e names) bank) rest ∙ other-is (turns_at turns w) bank e part parts scope in
+        let is : outcome (from_first (turns_at turns w) bank w.cursor name (Ok e)) bank ≡ Err (At why.NoScope 0) = first-is (turns_at turns w) bank w.cursor name e ∙ ap (found_as name w.cursor e) none in
+        ap (λ n. noted (Some f) (fault_at n NoScope ∷ [])) (sym (part-zero name w.at 0 local (omega arith)))
+        ∙ ap (λ r. noted (Some f) (faults_of r)) (sym is)
+
+    parts-same : (part : List ℕ) (parts : List (List ℕ)) → name.is_global ≡ false → name.rest ≡ part ∷ parts → (p : Result Entity NameFault) → IsUpTo 0 p
+        → noted (Some f) (head_faults w.at (outcome (from_first (turns_at turns w) bank w.cursor (head_of name) p) bank)) ≡ noted (Some f) (faults_of (outcome (from_first (turns_at turns w) bank w.cursor name p) bank))
+    parts-same part parts local rest (Ok e) up = scoped-same e part parts local rest (is_scope e.kind) refl
+    parts-same part parts local rest (Err (At code n)) up = ap (λ m. noted (Some f) (fault_at m (name_code code) ∷ [])) (sym (part-zero name w.at n local up))
+    parts-same part parts local rest (Err Memory) up = absurd up
+
+    -- what counts stands there
+    pub cut-same : (is_global : Bool) (parts : List (List ℕ)) → name.is_global ≡ is_global → name.rest ≡ parts → noted (Some f) (cut is_global parts).faults ≡ noted (Some f) named.faults
+    cut-same true parts global rest =
+        let r = outcome (under w.own (denoted (turns_at turns w) w.cursor name)) answers in
+        let later = faults-later 0 (λ p le. part-global name w.at p global) (omega arith) r (from-first (length name.rest) r (denoted-up turns answers name w)) in
+        sym (noted-later f w.at named.faults known (subst (λ (v : Visit). IsLater w.at v.faults) (sym named-is) later))
+    cut-same false [] local rest = refl
+    cut-same false (part ∷ parts) local rest =
+        let up = part_of-at (turns_at turns w) bank (λ part. part ≤ 0) 0 name.first (outward (turns_at turns w) (searched name.is_global w.cursor) (folded name.first)) (omega arith) in
+        ap (λ (v : Visit). noted (Some f) v.faults) (outcome-and_then head (λ r. Done (head_visit name w r)) answers)
+        ∙ ap (λ r. noted (Some f) (head_faults w.at r)) (outcome-under w.own answers (denoted (turns_at turns w) w.cursor (head_of name)) ∙ denoted-is (turns_at turns w) bank w.cursor (head_of name))
+        ∙ parts-same part parts local rest (first_of (turns_at turns w) bank w.cursor name) up
+        ∙ ap (λ r. noted (Some f) (faults_of r)) (sym (outcome-under w.own answers (denoted (turns_at turns w) w.cursor name) ∙ denoted-is (turns_at turns w) bank w.cursor name))
+        ∙ ap (λ (v : Visit). noted (Some f) v.faults) (sym named-is)
+
+  -- ---- behind the name
+
+  -- a walk is past its first token, and in no other expression than before
+  abbrev pub IsPast : Visit → Type 0
+  IsPast v = (w.at < v.after.at) × (v.after.values.begin ≡ w.values.begin)
+
+  pub named-past : IsPast named
+  named-past =
+      let p : IsPlaced (item.Uses way name) w named = plain-placed turns answers way name w in
+      (omega (arith, p.passes, behind_name w.at name), used-begins turns answers way name w)
+
+  pub cut-past : (is_global : Bool) (parts : List (List ℕ)) → IsPast (cut is_global parts)
+  cut-past true parts = (omega (arith, behind_name w.at name), refl)
+  cut-past false [] = named-past
+  cut-past false (part ∷ parts) =
+      subst IsPast (sym (outcome-and_then head (λ r. Done (head_visit name w r)) answers)) (omega (arith, behind_name w.at name), refl)
