@@ -2,3 +2,4 @@
 pub mod PragmaLaws
 pub mod PragmaLemmas
 pub mod PragmaTokens
+pub mod RemarkLemmas

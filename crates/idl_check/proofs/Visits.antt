@@ -2,6 +2,7 @@
 pub mod ApartLaws
 pub mod JudgeLemmas
 pub mod MoreTurns
+pub mod RemarkLaws
 pub mod RowLaws
 pub mod SiteLaws
 pub mod StepLaws

@@ -1,4 +1,5 @@
--- Repository ids, and the pragmas that touch them.
+-- Repository ids, and what pragmas and declarations say of them.
 pub mod About
 pub mod Identifying
 pub mod Pragmas
+pub mod Remarks

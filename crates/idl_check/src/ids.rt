@@ -1,5 +1,6 @@
-//! Repository ids, and the pragmas that touch them.
+//! Repository ids, and what pragmas and declarations say of them.
 
 pub(crate) mod about;
 pub(crate) mod identifying;
 pub(crate) mod pragmas;
+pub(crate) mod remark;

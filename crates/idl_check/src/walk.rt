@@ -5,6 +5,7 @@ pub mod laws;
 pub(crate) mod naming;
 pub(crate) mod placing;
 pub(crate) mod scratch;
+pub(crate) mod speaking;
 pub(crate) mod task;
 pub(crate) mod valuing;
 pub(crate) mod verdict;

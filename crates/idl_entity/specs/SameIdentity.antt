@@ -61,6 +61,8 @@ same_identity d e h =
     let fixed = same_fixed d.by e.by a.1 in
     λ i. record { prefix = prefix i; by = fixed i }
 
-pub copied_identity : (d copy : FixedIdentity) → (copy.prefix ≡ d.prefix) × (copy.by ≡ d.by)
-    → copy ≡ d
-copied_identity d copy h = λ i. record { prefix = h.0 i; by = h.1 i }
+pub copied_identity : (d copy : FixedIdentity)
+    → (copy.prefix ≡ d.prefix) × IsFixedCopy d.by copy.by → copy ≡ d
+copied_identity d copy h =
+    let fixed = copied_fixed d.by copy.by h.1 in
+    λ i. record { prefix = h.0 i; by = fixed i }

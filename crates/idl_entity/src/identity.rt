@@ -1,9 +1,9 @@
 //! What identifies a declared name: the prefix under which it was declared first, the typeprefix of a scope around it, and what was
 //! fixed of its repository id. The three tell the id.
 
-ghost use Rattle.std.specs.Prelude.{◌≡◌, ◌++◌, ◌∷◌, IfOk, None, OnOk, Some, decimal};
+ghost use Rattle.std.specs.Prelude.{◌≡◌, ◌++◌, ◌∷◌, [], IfOk, None, OnOk, Some, decimal};
 ghost use Rattle.std.specs.Option.{option_copied};
-ghost use Rattle.idl_entity.specs.Identity.{first_identity, fixed_for, identity_of, is_within, no_prefix, prefix_for, prefix_told, prefixed, relative, slashed, stem, told, told_by, without_scope};
+ghost use Rattle.idl_entity.specs.Identity.{first_identity, fixed_for, identity_of, is_within, no_prefix, prefix_for, prefixed, relative, slashed, stem, told, told_by, without_scope};
 ghost use Rattle.idl_entity.specs.Path.{scope_of};
 
 use crate::paths::name::shared_name;
@@ -97,7 +97,7 @@ impl Prefix {
 
     // A typeprefix as a prefix: it stands before the whole path.
     fn of_scope(typeprefix: &Bytes) -> Result<Prefix, AllocError>
-        ensures { IfOk result (λ prefix. (p : Prefix) → prefix ≡ prefix_told (Some typeprefix.now) p) }
+        ensures { IfOk result (λ prefix. prefix ≡ record { text = typeprefix.now; scope = [] }) }
     {
         Ok(Prefix {
             text: typeprefix.clone()?,

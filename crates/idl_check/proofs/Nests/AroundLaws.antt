@@ -5,6 +5,7 @@ use Rattle.std.proofs.lemmas.List.Elements.{All-cons, All-drop, All-head, All-ta
 use Rattle.std.specs.Option.{IsSome}
 use Rattle.std.specs.Prelude.{All}
 use Rattle.idl_check.specs.tables.Codes.{Table, codes_in, faults_by}
+use Rattle.idl_check.specs.ids.Remarks.{is_spoken_of, remark}
 use Rattle.idl_check.specs.tables.Declaring.{Written, entity_of, kind_of, standing}
 use Rattle.idl_check.specs.told.Labels.{Labels, no_labels, with_default, with_label}
 use Rattle.idl_tree.specs.NameParts.{last_at}
@@ -13,7 +14,7 @@ use Rattle.idl_check.specs.walk.Sections.{is_single}
 use Rattle.idl_check.specs.told.Types.{constants_of, looked_through, target_in, written_as}
 use Rattle.idl_check.specs.tables.Using.{constants_after, suited_table, unions_after, used_table, values_after}
 use Rattle.idl_check.specs.told.Values.{Values}
-use Rattle.idl_check.specs.walk.Walk.{Visit, Walk, declared_visit, turns_at, used, used_visit, valued_after, visit, with_labels, with_scope}
+use Rattle.idl_check.specs.walk.Walk.{Visit, Walk, declared_visit, plain_name, spoken_of, spoken_visit, turns_at, used, used_visit, valued_after, visit, with_labels, with_scope}
 use Rattle.idl_fault.specs.declared.code.Code.TheVariants as code
 use Rattle.idl_memo.proofs.QueryLaws.{outcome-and_then}
 use Rattle.idl_memo.specs.Query.{Done, outcome}
@@ -39,7 +40,7 @@ use Rattle.idl_parts.specs.declared.part.Shape.TheVariants as shape
 use Rattle.idl_parts.specs.declared.part.Purpose.{Purpose}
 use Rattle.idl_parts.specs.declared.part.Purpose.TheVariants as purpose
 use Rattle.idl_parts.specs.declared.part.Use.{Use}
-use Rattle.idl_parts.specs.declared.part.Use.TheVariants.{AsBase, AsType, AsElement, AsConstantType, AsDiscriminator, AsOperand}
+use Rattle.idl_parts.specs.declared.part.Use.TheVariants.{AsBase, AsType, AsElement, AsConstantType, AsDiscriminator, AsOperand, AsIdentified, AsPrefixed}
 use Rattle.idl_tree.specs.declared.declarations.data_type.BasicType.TheVariants as basic
 use Rattle.idl_tree.specs.declared.name.ScopedName.{ScopedName}
 use Rattle.idl_unit.specs.TokenRules.{first}
@@ -47,7 +48,7 @@ use Rattle.idl_value.specs.declared.constant_type.ConstantType.{ConstantType}
 use Rattle.idl_value.specs.declared.value.Value.{Value}
 use Rattle.idl_check.proofs.Nests.LevelSites.{Around, around_after, has_constants, is_inside, opens_union, popped, used_around}
 use Rattle.idl_check.proofs.PartLemmas.{IsUpTo}
-use Rattle.idl_check.proofs.Visits.SiteLaws.{declared_by, denoted-up, end_visit, union_visit, used_by, visited}
+use Rattle.idl_check.proofs.Visits.SiteLaws.{declared_by, denoted-up, end_visit, named_by, spoken_by, union_visit, used_by, visited}
 use Rattle.idl_check.proofs.Faults.TableLaws.{no-codes, no-row}
 
 abbrev pub IsTyped : Labels → Type 0
@@ -130,6 +131,13 @@ found-kept w way name found behind a none k = record {
   constant = (values-told way found.entity.value w.values).1;
 }
 
+-- where something is said of it, the same stands around
+spoken-around : (way : Use) (a : Around) → is_spoken_of way ≡ true → a ≡ used_around way a
+spoken-around (AsBase is_local) a h = cc
+spoken-around AsIdentified a h = refl
+spoken-around AsPrefixed a h = refl
+spoken-around other a h = cc
+
 module _ (turns : ℕ) (answers : Key → Option Answer) where
   used-by-kept : (way : Use) (name : ScopedName) (w : Walk) (a : Around) (r : Result Found NameFault) → IsUpTo {A = Found} (length name.rest) r
       → (outcome (used_by turns answers way name w r) answers).faults ≡ [] → StandsIn w a → IsKept w (outcome (used_by turns answers way name w r) answers).after (used_around way a)
@@ -148,6 +156,32 @@ module _ (turns : ℕ) (answers : Key → Option Answer) where
       let same = outcome-and_then query (used_by turns answers way name w) answers in
       subst (λ (v : Visit). IsKept w v.after (used_around way a)) (sym same)
       (used-by-kept way name w a (outcome query answers) (denoted-up turns answers name w) (ap (λ (v : Visit). v.faults) (sym same) ∙ none) k)
+
+  spoken-by-kept : (way : Use) (name : ScopedName) (w : Walk) (a : Around) (r : Result Found NameFault) → StandsIn w a → IsKept w (outcome (spoken_by turns answers way name w r) answers).after a
+  spoken-by-kept way name w a (Ok found) k =
+      let query = under w.own (remark way (last_at w.at name) w.text found.entity) in
+      subst (λ (v : Visit). IsKept w v.after a) (sym (outcome-and_then query (λ s. Done (spoken_visit w name found s)) answers)) (record { stands = k; told = refl; constant = refl })
+  spoken-by-kept way name w a (Err fault) k = record { stands = k; told = refl; constant = refl }
+
+  spoken-kept : (way : Use) (name : ScopedName) (w : Walk) (a : Around) → StandsIn w a → IsKept w (outcome (spoken_of turns way name w) answers).after a
+  unfolding spoken_of
+  spoken-kept way name w a k =
+      let query = under w.own (denoted (turns_at turns w) w.cursor name) in
+      subst (λ (v : Visit). IsKept w v.after a) (sym (outcome-and_then query (spoken_by turns answers way name w) answers)) (spoken-by-kept way name w a (outcome query answers) k)
+
+  any-kept : (way : Use) (name : ScopedName) (w : Walk) (a : Around) → (outcome (plain_name turns way name w) answers).faults ≡ [] → StandsIn w a
+      → IsKept w (outcome (plain_name turns way name w) answers).after (used_around way a)
+  any-kept way name w a none k = by_way (is_spoken_of way) refl none
+    where
+      by_way : (b : Bool) → is_spoken_of way ≡ b → (outcome (cond b (spoken_of turns way name w) (used turns way name w)) answers).faults ≡ []
+          → IsKept w (outcome (cond b (spoken_of turns way name w) (used turns way name w)) answers).after (used_around way a)
+      by_way true is no = subst (IsKept w (outcome (spoken_of turns way name w) answers).after) (spoken-around way a is) (spoken-kept way name w a k)
+      by_way false is no = used-kept way name w a no k
+
+  named-kept : (way : Use) (name : ScopedName) (w : Walk) (a : Around) (b : Bool) → b ≡ false → (outcome (named_by turns answers way name w b) answers).faults ≡ [] → StandsIn w a
+      → IsKept w (outcome (named_by turns answers way name w b) answers).after (used_around way a)
+  named-kept way name w a true given none k = cc
+  named-kept way name w a false given none k = any-kept way name w a none k
 
   -- ---- declared names
 

@@ -9,9 +9,11 @@ use Rattle.idl_check.proofs.Visits.VisitLemmas.{cut_by, turns-here}
 use Rattle.idl_check.specs.tables.Declaring.{entity_of, inherited, is_any, standing}
 use Rattle.idl_check.specs.ids.Identifying.{ids_of}
 use Rattle.idl_check.specs.ids.Pragmas.{said_by}
+use Rattle.idl_check.specs.ids.Remarks.{is_spoken_of}
 use Rattle.idl_check.specs.told.Types.{behind_typedefs, is_looked_through, looked_through}
-use Rattle.idl_check.specs.walk.Verdict.{by_names, by_tree, faulty, first_faults, judged, placed_walk, pragma_judged, pragma_verdict, refused, token_verdict, tree_of, verdict}
-use Rattle.idl_check.specs.walk.Walk.{Visit, Walk, cut_name, declared_visit, head_of, head_visit, is_known, is_over, looked_at, noted_in, passed, quiet, turns_at, unfound_visit, used, used_visit, visit, walk}
+use Rattle.idl_check.specs.walk.Verdict.{by_names, by_tree, faulty, first_faults, first_part, judged, misplaced, pragma_judged, pragma_verdict, refused, token_verdict, tree_of, verdict}
+use Rattle.idl_check.specs.walk.Walk.{Visit, Walk, declared_visit, first_walk, given_back, head_of, head_visit, is_over, noted_in, passed, past_name, plain_name, quiet, spoken_of, turns_at, unfound_visit, used, used_visit, visit, walk, with_oneway}
+use Rattle.idl_check.specs.tables.Rules.{is_misplaced}
 use Rattle.idl_check.specs.declared.tables.standing.Standing.{Standing}
 use Rattle.idl_check.specs.declared.walk.verdict.Verdict.{Verdict}
 use Rattle.idl_fault.specs.declared.code.Code.TheVariants.{NoTree}
@@ -139,9 +141,23 @@ module _ (facts : List UnitFacts) (turns : ℕ) (enough : turns_for facts ≤ tu
             (through_at way found.entity) (λ behind log. refl)
         goes (Err fault) = λ log. refl
 
-    cut_at : (way : Use) (name : ScopedName) → Same (cut_name (turns + extra) way name w) (cut_name turns way name w)
-    unfolding cut_name
-    cut_at way name = by_global name.is_global name.rest
+    spoken_at : (way : Use) (name : ScopedName) → Same (spoken_of (turns + extra) way name w) (spoken_of turns way name w)
+    unfolding spoken_of
+    spoken_at way name =
+        and_then-same (under w.own (denoted (turns_at (turns + extra) w) w.cursor name)) (under w.own (denoted (turns_at turns w) w.cursor name)) _ _
+        (denoted_at w.cursor name) (λ r log. refl)
+
+    plain_at : (way : Use) (name : ScopedName) → Same (plain_name (turns + extra) way name w) (plain_name turns way name w)
+    plain_at way name log = by_way (is_spoken_of way)
+      where
+        by_way : (b : Bool) → run key_eq (cond b (spoken_of (turns + extra) way name w) (used (turns + extra) way name w)) (answers facts) log
+            ≡ run key_eq (cond b (spoken_of turns way name w) (used turns way name w)) (answers facts) log
+        by_way true = spoken_at way name log
+        by_way false = used_at way name log
+
+    given_at : (way : Use) (name : ScopedName) → Same (given_back (turns + extra) way name w) (given_back turns way name w)
+    unfolding given_back
+    given_at way name log = by_global name.is_global
       where
         by_global : (b : Bool) (parts : List (List ℕ)) → Same (cut_by (turns + extra) way name w b parts) (cut_by turns way name w b parts)
         by_global true parts = λ log. refl
@@ -169,9 +185,14 @@ module _ (facts : List UnitFacts) (turns : ℕ) (enough : turns_for facts ≤ tu
             (λ there. Done (declared_visit w way s e there)) (λ there. Done (declared_visit w way s e there))
             (standing_at s e) (λ there log. refl) log
 
-    known_at : (way : Use) (name : ScopedName) (b : Bool) → Same (cond b (cut_name (turns + extra) way name w) (used (turns + extra) way name w)) (cond b (cut_name turns way name w) (used turns way name w))
-    known_at way name true = cut_at way name
-    known_at way name false = used_at way name
+    used_name_at : (way : Use) (name : ScopedName) → Same (visit (turns + extra) (item.Uses way name) w) (visit turns (item.Uses way name) w)
+    unfolding visit
+    used_name_at way name log = by_given w.gives_back
+      where
+        by_given : (b : Bool) → run key_eq (cond b (given_back (turns + extra) way name w) (plain_name (turns + extra) way name w)) (answers facts) log
+            ≡ run key_eq (cond b (given_back turns way name w) (plain_name turns way name w)) (answers facts) log
+        by_given true = given_at way name log
+        by_given false = plain_at way name log
 
     looked-same : (site : Item) → Same (looked_at (turns + extra) site w) (looked_at turns site w)
     unfolding visit

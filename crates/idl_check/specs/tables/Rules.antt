@@ -1,6 +1,7 @@
 -- The rules over tree and names: one test for each code, in the order of codes. The tables and the
 -- walk say at which token a code stands where its test holds. What a name denotes decides on E30 to
--- E32 and on E38 (`idl_scope`), and what an expression comes to on E50 to E54 (`idl_value`).
+-- E32 and on E38 (`idl_scope`), where that of a `typeprefix` is a scope too (`is_scope`), and what an
+-- expression comes to on E50 to E54 (`idl_value`).
 use Rattle.std.specs.Prelude.{ℕ, ◌-◌, Bool, true, false, ◌&&◌, ◌||◌, List, [], ◌∷◌, is_none, is_some, length, nat_eq, nat_le, not, take, Option, None, Some}
 use Rattle.std.specs.Bool.{beq}
 use Rattle.std.specs.List.{list_all, list_any}
@@ -223,3 +224,7 @@ has_id Enumerator = false
 has_id Parameter = false
 has_id Member = false
 has_id other = true
+
+-- E76: A scope is given one typeprefix.
+abbrev pub is_prefixed : Option (List ℕ) → Bool
+is_prefixed typeprefix = is_some typeprefix

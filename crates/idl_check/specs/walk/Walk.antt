@@ -1,6 +1,8 @@
 -- The walk over the sites of a unit, in the order of its tokens: what is asked at each, what is
 -- wrong there, and what it adds.
-use Rattle.std.specs.Prelude.{ℕ, ◌+◌, Bool, false, ◌&&◌, ◌||◌, List, [], ◌∷◌, ◌++◌, drop, is_some, min, nat_lt, not, take, Option, None, Some, Result, Ok, Err, if◌then◌else◌, option_to_list}
+use Rattle.std.specs.Prelude.{ℕ, ◌+◌, Bool, true, false, ◌&&◌, ◌||◌, List, [], ◌∷◌, ◌++◌, drop, fold, is_some, min, nat_lt, not, take, Option, None, Some, Result, Ok, Err, if◌then◌else◌, option_to_list}
+use Rattle.idl_check.specs.ids.About.{Said, unnamed_faults}
+use Rattle.idl_check.specs.ids.Remarks.{is_bad_text, is_spoken_of, remark}
 use Rattle.idl_check.specs.told.Bodies.{Body, Clauses, array_of, begun_body, no_clauses, told_innermost, with_array_member, with_body_label, with_text, with_member, with_raised}
 use Rattle.idl_check.specs.tables.Codes.{faults_by}
 use Rattle.idl_check.specs.tables.Declaring.{Written, declared_table, entity_of, kind_of, standing, with_declared, written_after}
@@ -35,6 +37,7 @@ use Rattle.idl_parts.specs.Part.{Part as item}
 use Rattle.idl_parts.specs.declared.part.Declaration.{Declaration}
 use Rattle.idl_parts.specs.declared.part.Purpose.{Purpose}
 use Rattle.idl_parts.specs.declared.part.Purpose.TheVariants as purpose
+use Rattle.idl_parts.specs.declared.part.TextPurpose.{TextPurpose}
 use Rattle.idl_parts.specs.declared.part.Use.{Use}
 use Rattle.idl_parts.specs.declared.part.Use.TheVariants.{AsDiscriminator}
 use Rattle.idl_tree.specs.declared.expression.Expression.{Expression}
@@ -42,7 +45,7 @@ use Rattle.idl_tree.specs.declared.name.ScopedName.{ScopedName}
 use Rattle.idl_unit.specs.Faults.{least_fault}
 use Rattle.idl_unit.specs.TokenRules.{fault_at, first}
 use Rattle.idl_unit.specs.declared.fault.Fault.{Fault}
-use Rattle.idl_value.specs.Evaluation.{Evaluation, first_of}
+use Rattle.idl_value.specs.Evaluation.{Evaluation, first_of, joined}
 use Rattle.idl_value.specs.ConstantType.{target_of}
 use Rattle.idl_value.specs.declared.outcome.Outcome.{Outcome}
 use Rattle.idl_value.specs.declared.outcome.Outcome.TheVariants as outcome
@@ -67,6 +70,10 @@ pub record Walk : Type 0 where
   pub clauses : Clauses
   -- the labels of the unions around it, the innermost first
   pub unions : List Labels
+  -- what the next token begins is given back by a oneway operation
+  pub gives_back : Bool
+  -- the text that stands behind the next name, if something is said by it of what that denotes
+  pub text : List ℕ
   -- the paths of what the used names denote, in order
   pub found : List (List (List ℕ))
   -- the expressions, each of which is read to its end whatever is wrong in it
@@ -87,6 +94,8 @@ first_walk cursor = record {
   bodies = [];
   clauses = no_clauses;
   unions = [];
+  gives_back = false;
+  text = [];
   found = [];
   values = no_values;
   fault = None;
@@ -184,7 +193,43 @@ used turns way name w =
     (λ behind. Done (used_visit w way name found behind)))
     (λ fault. Done (unfound_visit w way name fault)))
 
--- A used name that is cut behind its first token: nothing further on is looked at.
+-- a name of which something is said: it introduces nothing
+abbrev pub spoken_visit : Walk → ScopedName → Found → Said → Visit
+spoken_visit w name found s = record {
+  faults = s.faults;
+  after = record w {
+    at = last_at w.at name + 1;
+    own = fold with_addition w.own s.additions;
+    gives_back = false;
+    found = w.found ++ found.entity.path ∷ [];
+  };
+}
+
+-- and one that denotes nothing
+abbrev pub unspoken_visit : Walk → ScopedName → NameFault → Visit
+unspoken_visit w name fault = record {
+  faults = unnamed_faults w.at name fault;
+  after = record w { at = last_at w.at name + 1; gives_back = false };
+}
+
+unfoldable pub spoken_of : ℕ → Use → ScopedName → Walk → Lookup Visit
+spoken_of turns way name w =
+    and_then (under w.own (denoted (turns_at turns w) w.cursor name))
+    (λ r. by_result r
+    (λ found. and_then (under w.own (remark way (last_at w.at name) w.text found.entity))
+    (λ s. Done (spoken_visit w name found s)))
+    (λ fault. Done (unspoken_visit w name fault)))
+
+-- a name that isn't given back by a oneway operation
+abbrev pub plain_name : ℕ → Use → ScopedName → Walk → Lookup Visit
+plain_name turns way name w =
+    if is_spoken_of way then spoken_of turns way name w else used turns way name w
+
+-- The type that a oneway operation gives back: the fault stands at its first token, and of a name
+-- that token alone is looked at.
+abbrev pub with_oneway : ℕ → Visit → Visit
+with_oneway at v = record v { faults = v.faults ++ fault_at at code.BadOneway ∷ [] }
+
 abbrev pub head_faults : ℕ → Result Found NameFault → List Fault
 head_faults at (Ok found) =
     if is_scope found.entity.kind then [] else fault_at at code.NoScope ∷ []
@@ -302,6 +347,12 @@ evaluation_at w way e =
 abbrev pub outcome_at : Walk → Purpose → Expression → Outcome
 outcome_at w way e = first_of (evaluation_at w way e)
 
+-- with the fault of a text that begins at this token where a test holds
+abbrev pub with_text_fault : ℕ → Bool → Visit → Visit
+with_text_fault at is_bad v = record v {
+  faults = v.faults ++ (if is_bad then fault_at at code.BadIdText ∷ [] else []);
+}
+
 -- a site
 unfoldable pub visit : ℕ → Item → Walk → Lookup Visit
 visit turns (item.Declares way name) w =
@@ -311,7 +362,8 @@ visit turns (item.Declares way name) w =
           and_then (under w.own (standing (turns_at turns w) s e))
           (λ there. Done (declared_visit w way s e there))
     ]
-visit turns (item.Uses way name) w = used turns way name w
+visit turns (item.Uses way name) w =
+    if w.gives_back then given_back turns way name w else plain_name turns way name w
 visit turns (item.ScopeBegins way name) w =
     Done (quiet (record w {
       cursor = with_scope way name w.cursor;
@@ -331,7 +383,7 @@ visit turns (item.Enumerates names) w =
     Done (quiet (record w {
       written = record w.written { enumerators = names.first ∷ names.rest };
     }))
-visit turns (item.Identifies text) w = Done (quiet w)
+visit turns (item.Identifies text) w = Done (quiet (record w { text = joined text }))
 visit turns (item.Switches discrete) w =
     let t = target_of discrete in
     Done (quiet (record w {
@@ -348,9 +400,11 @@ visit turns item.GivesBack w =
     Done (record { faults = fault_at w.at code.BadOneway ∷ []; after = w })
 visit turns (item.Plain n) w = Done (quiet (passed n w))
 visit turns (item.Says purpose text) w =
-    Done (quiet (record (passed (item_length (item.Says purpose text)) w) {
+    Done (with_text_fault w.at (is_bad_text purpose (joined text))
+    (faulty_if w.gives_back code.BadOneway w
+    (record (passed (item_length (item.Says purpose text)) w) {
       clauses = with_text purpose text w.clauses;
-    }))
+    })))
 
 -- after a site: the least of its faults and of the one before
 abbrev pub noted : Option Fault → List Fault → Option Fault

@@ -89,8 +89,12 @@ impl<'a> Subject<'a> {
         }
     }
 
-    // What identifies the name at a path, if it has an id.
-    fn identified(self, log: &mut Journal<Env>, path: &Path) -> Result<Option<Named>, AllocError>
+    /// What identifies the name at a path, if it has an id.
+    pub fn identified(
+        self,
+        log: &mut Journal<Env>,
+        path: &Path,
+    ) -> Result<Option<Named>, AllocError>
         ensures { IfOk result (λ named.
             (named, log.new)
             ≡ run key_eq (under self.entry.own.now.additions (named_by path.now))

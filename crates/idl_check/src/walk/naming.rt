@@ -121,8 +121,10 @@ impl<'a> Walker<'a> {
             self.cut_name(log, way, name)?;
             return Ok(());
         }
-        self.use_any(log, way, name)?;
-        Ok(())
+        match way {
+            Use::AsIdentified | Use::AsPrefixed => self.speak_of(log, way, name),
+            _ => self.use_any(log, way, name),
+        }
     }
 
     // A used name of which nothing counts behind its first token.
@@ -224,8 +226,8 @@ impl<'a> Walker<'a> {
         }
     }
 
-    // A used name that denotes nothing.
-    fn use_nothing(&mut self, name: &ScopedName, code: NameCode, part: usize)
+    /// A name that denotes nothing.
+    pub fn use_nothing(&mut self, name: &ScopedName, code: NameCode, part: usize)
         requires room { last_at self.old.at name.now + 1 ≤ 18446744073709551615 }
         requires part { part ≤ length name.now.rest }
         ensures { self.new

@@ -1,7 +1,7 @@
 //! The walk over the sites of a unit.
 
-ghost use Rattle.std.specs.Prelude.{◌≡◌, ◌≤◌, ◌+◌, ◌∷◌, ◌++◌, [], ℕ, OnOk, Some, drop, map, option_to_list, take};
-ghost use Rattle.idl_check.specs.told.Bodies.{begun_body, raising, with_text};
+ghost use Rattle.std.specs.Prelude.{◌≡◌, ◌≤◌, ◌+◌, ◌∷◌, ◌++◌, [], ℕ, OnOk, Some, drop, map, option_to_list, take, true};
+ghost use Rattle.idl_check.specs.told.Bodies.{begun_body, raising};
 ghost use Rattle.idl_check.specs.tables.Declaring.{finished, with_finished};
 ghost use Rattle.idl_check.specs.walk.Held.{HasRoomFor, held, visited};
 ghost use Rattle.idl_check.specs.walk.Walk.{faulty_if, first_walk, is_known, is_over, noted, noted_in, passed, scope_visit, walk, with_scope};
@@ -13,7 +13,6 @@ ghost use Rattle.idl_env.specs.Facts.{answers};
 ghost use Rattle.idl_env.specs.keys.Key.{key_eq};
 ghost use Rattle.idl_env.specs.Turns.{turns_for};
 ghost use Rattle.idl_parts.specs.Item.{item_at, item_length};
-ghost use Rattle.idl_parts.specs.Part.{Part as item};
 ghost use Rattle.idl_unit.specs.TokenRules.{fault_at};
 
 use crate::tables::bases::Bases;
@@ -29,9 +28,8 @@ use idl_entity::{Entity, Kind, Path};
 use idl_env::{Addition, Env, Facts, OpenScopes, Scope, Step};
 use idl_fault::Code;
 use idl_memo::Journal;
-use idl_parts::{Declaration, TextPurpose, UnitPart};
+use idl_parts::{Declaration, UnitPart};
 use idl_scope::{Cursor, View};
-use idl_tree::Several;
 use idl_unit::Fault;
 use std::alloc::{AllocError, Global};
 
@@ -57,6 +55,10 @@ pub struct Walker<'a> {
     pub clauses: Clauses,
     /// The labels of the unions around it, the innermost first.
     pub unions: Vec<Labels>,
+    /// Whether what the next token begins is given back by a oneway operation.
+    pub gives_back: bool,
+    /// The text that stands behind the next name, if something is said by it of what that denotes.
+    pub text: Seq<u16>,
     /// The paths of what the used names denote, in order.
     pub found: Seq<Path>,
     pub values: Values,
@@ -89,6 +91,8 @@ impl<'a> Walker<'a> {
             bodies: Nest::new(alloc),
             clauses: Clauses::new(alloc),
             unions: Vec::new(alloc),
+            gives_back: false,
+            text: Seq::new(alloc),
             found: Seq::new(alloc),
             values: Values::new(alloc),
             fault: known,
@@ -185,36 +189,20 @@ impl<'a> Walker<'a> {
             UnitPart::TypeEnds(shape) => self.end_type(shape),
             UnitPart::ArrayEnds => self.end_array(),
             UnitPart::Enumerates(names) => self.enumerate(names),
-            UnitPart::Identifies(_) => Ok(()),
+            UnitPart::Identifies(text) => self.keep_text(text),
             UnitPart::Switches(discrete) => self.switch(discrete),
             UnitPart::Default => self.label_default(),
             UnitPart::GivesBack => self.give_back(),
         }
     }
 
-    // So many tokens.
-    fn pass(&mut self, count: usize) -> Result<(), AllocError>
+    /// So many tokens.
+    pub fn pass(&mut self, count: usize) -> Result<(), AllocError>
         requires { self.old.at + count ≤ 18446744073709551615 }
         ensures { self.new ≡ record self.old { at = self.old.at + count } }
     {
         self.at += count;
         Ok(())
-    }
-
-    // String literals, which are joined: a text of a context, or what a name is given.
-    fn join(&mut self, purpose: TextPurpose, text: &Several<Seq<u16>>) -> Result<(), AllocError>
-        requires { HasRoomFor (held self.old) (item.Says purpose text.now ∷ []) }
-        ensures walk { OnOk result
-            (held self.new
-            ≡ record (passed (item_length (item.Says purpose text.now)) (held self.old)) {
-              clauses = with_text purpose text.now self.old.clauses;
-            }) }
-        ensures at { OnOk result
-            (self.new.at ≡ self.old.at + item_length (item.Says purpose text.now)) }
-        ensures env { OnOk result (self.new.env.now ≡ self.old.env.now) }
-    {
-        self.clauses.add_text(self.env.alloc(), purpose, text)?;
-        self.pass(1 + text.rest.len())
     }
 
     // What the next token begins is given back by a oneway operation.

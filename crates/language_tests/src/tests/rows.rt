@@ -1,6 +1,6 @@
 //! The rows of one file: the faults of its tokens and units, what comes of its directives, and declarations.
 
-use super::support::have_rows;
+use super::support::{have_replies, have_rows};
 use std::test::Fail;
 
 static ROWS: [&str; 13] = [
@@ -116,6 +116,87 @@ static STRUCTURES: [&str; 6] = [
      =struct X { struct Y : ::B { long z; } p; struct Q : ::C { long x; } q1; };",
 ];
 
+// What a `typeid` and a `typeprefix` say of the ids of names.
+static IDS: [&str; 5] = [
+    // A typeid does what a pragma of an id does: a second one is refused, and so is one for another id than a version told.
+    "module M {\ntypedef long T;\ntypedef long U;\n};\ntypeid M::T \"IDL:X\" \"/T:2.0\";\n=module M {\n\
+     =  typedef long T;\n=  typedef long U;\n=};\n=typeid ::M::T \"IDL:X/T:2.0\"; ¶ typedef long T;\n\
+     typeid T \"A:1\";\n#pragma ID T \"A:1\"\ntypeid T \"A:1\";\ntypeid ::T \"B:2\";\n#pragma version T 2.0\n\
+     =a:3: E71 T\n=a:4: E71 T\n=a:5: E71 T\n=a:6: E72 T ¶ typedef long T;\n#pragma version T 2.0\n\
+     typeid T \"IDL:T:1.0\";\ntypeid T \"IDL:T:2.0\";\ntypeid T \"IDL:T:2.0\";\n=a:3: E71 T\n\
+     =a:5: E71 T ¶ typedef long T;\n#pragma ID T \"A:1\"\ntypeid T \"A:1\";\ntypedef long U;\ntypeid U \"no\";\n\
+     typeid U \"A:1\";\n#pragma version U 1.1\n=a:3: E71 T\n=a:5: E73 \"no\"\n=a:7: E72 U",
+    // What is wrong with the text stands at its first literal, whatever is wrong with the name before it.
+    "typedef long T;\ntypeid T L\"A:1\";\ntypeid T = \"A:1\";\ntypeid T \"a\" \"b:1\" \" \";\ntypeid T \"a b:1\";\n\
+     typeid T \"\";\ntypeid\nT\n\"a\"\n\"b\";\n=a:2: E20 L\"A:1\"\n=a:3: E20 =\n=a:4: E73 \"a\"\n\
+     =a:5: E73 \"a b:1\"\n=a:6: E73 \"\"\n=a:9: E73 \"a\" ¶ struct S { long m; };\nenum E { f };\n\
+     typeid f \"A:1\";\ntypeid S::m \"A:1\";\ntypeid S::m \"no\";\ntypeid X \"no\";\ntypeid s \"A:1\";\n\
+     typeid S::m::n \"A:1\";\ntypeid f\n\"no\";\n=a:3: E74 f\n=a:4: E74 m\n=a:5: E74 m\n=a:6: E30 X\n=a:7: E32 s\n\
+     =a:8: E38 m\n=a:9: E74 f",
+    // It may stand wherever a declaration may, and its name introduces nothing.
+    "typedef long T;\ninterface I {\ntypeid T \"A:1\";\ntypedef short T;\ntypeid T \"B:1\";\n};\n=typedef long T;\n\
+     =interface I {\n=  typeid ::T \"A:1\";\n=  typedef short T;\n=  typeid ::I::T \"B:1\";\n\
+     =}; ¶ struct B { struct T { long q; } m; };\nstruct D : B { };\ntypeid D::T \"A:1\";\n\
+     struct S { typeid S \"A:1\"; };\n=a:4: E20 typeid ¶ struct B { struct T { long q; } m; };\nstruct D : B { };\n\
+     typeid D::T \"A:1\";\n=struct B { struct T { long q; } m; };\n=struct D : ::B { };\n=typeid ::B::T \"A:1\";",
+    // A typeprefix is of a scope, and a second one is refused, whatever its text.
+    "module M {\ntypedef long T;\n};\ntypeprefix M \"P\";\ntypeid M::T \"IDL:X/T:2.0\";\ntypeprefix M \"Q\";\n\
+     =a:6: E76 M ¶ module M { };\ntypeprefix M \"\";\ntypeprefix M = \"\";\nmodule N { };\ntypeprefix N \"a b\";\n\
+     typeprefix N = \"P\";\ntypeprefix N \"a b\";\n=a:3: E76 M\n=a:5: E73 \"a b\"\n=a:7: E76 N ¶ typedef long T;\n\
+     struct S { T m; };\nunion U switch (long) { case 1: T a; };\nexception E { };\ninterface I { };\n\
+     enum F { f1 };\ntypeprefix T \"P\";\ntypeprefix S \"P\";\ntypeprefix U \"P\";\ntypeprefix E \"P\";\n\
+     typeprefix I \"P\";\ntypeprefix F \"P\";\ntypeprefix S::m \"a b\";\ntypeprefix X \"a b\";\n\
+     typeprefix s \"P\";\ntypeprefix S\n\"P\";\n=a:7: E38 T\n=a:12: E38 F\n=a:13: E38 m\n=a:14: E30 X\n\
+     =a:15: E32 s\n=a:16: E76 S ¶ module M { interface I { }; };\ntypeprefix ::M::I = \"P\" \"/Q\";\n\
+     interface J {\ntypeprefix J \"P\";\n};\n=module M {\n=  interface I {\n=  };\n=};\n\
+     =typeprefix ::M::I = \"P/Q\";\n=interface J {\n=  typeprefix ::J \"P\";\n=};",
+    // Behind a version the id is compared that is told there.
+    "module M { typedef long T; };\n#pragma version M::T 2.0\ntypeprefix M \"P\";\ntypeid M::T \"IDL:P/M/T:2.0\";\n\
+     =module M {\n=  typedef long T;\n=};\n=typeprefix ::M \"P\";\n\
+     =typeid ::M::T \"IDL:P/M/T:2.0\"; ¶ module M { typedef long T; };\n#pragma version M::T 2.0\n\
+     typeprefix M \"P\";\ntypeid M::T \"IDL:M/T:2.0\";\n=a:4: E71 T ¶ module M { typedef long T; };\n\
+     #pragma version M::T 2.0\ntypeid M::T \"IDL:M/T:2.0\";\ntypeprefix M \"P\";\n=module M {\n=  typedef long T;\n\
+     =};\n=typeid ::M::T \"IDL:M/T:2.0\";\n=typeprefix ::M \"P\"; ¶ module M { module N { typedef long T; }; };\n\
+     typeprefix M \"P\";\ntypeprefix M::N \"\";\n#pragma version M::N::T 1.1\ntypeid M::N::T \"IDL:P/M/N/T:1.1\";\n\
+     typeid M::N::T \"IDL:M/N/T:1.1\";\n=a:5: E71 T ¶ #pragma prefix \"A\"\nstruct S;\ntypeprefix S \"B\";\n\
+     struct S { };\n#pragma version S 3.0\ntypeid S \"IDL:A/S:3.0\";\ntypeid S \"IDL:B/S:3.0\";\n=a:6: E71 S",
+];
+
+// What they say, in sessions.
+static SAID: [&str; 2] = [
+    // Listings with the ids that the whole root leaves.
+    "put a 6\nmodule M {\ntypedef long T;\ntypedef long U;\n};\ntypeprefix M \"P\";\ntypeid M::T \"IDL:X/T:2.0\";\n\
+     =ok\nroot a\n=ok\nlisting a\n=rows 3\n=module M IDL:P/M:1.0\n\
+     =alias M::T IDL:X/T:2.0 tk_alias(IDL:X/T:2.0,T,tk_long)\n\
+     =alias M::U IDL:P/M/U:1.0 tk_alias(IDL:P/M/U:1.0,U,tk_long)\ndump a\n=rows 6\n=module M {\n\
+     =  typedef long T;\n=  typedef long U;\n=};\n=typeprefix ::M \"P\";\n\
+     =typeid ::M::T \"IDL:X/T:2.0\"; ¶ put a 3\nmodule M { module N { }; };\ntypeprefix M \"P\";\n\
+     typeprefix M::N \"\";\n=ok\nroot a\n=ok\nlisting a\n=rows 2\n=module M IDL:P/M:1.0\n=module M::N IDL:M/N:1.0\n\
+     splice a 3 1 0\n=ok\nlisting a\n=rows 2\n=module M IDL:P/M:1.0\n=module M::N IDL:P/M/N:1.0\nsplice a 2 0 1\n\
+     typeprefix M::N \"Q\";\n=ok\nlisting a\n=rows 2\n=module M IDL:P/M:1.0\n=module M::N IDL:Q/M/N:1.0 ¶ put a 4\n\
+     module M { typedef long T; };\ntypedef M::T V;\ntypeid M::T \"A:1\";\ntypeprefix M \"P\";\n=ok\nroot a\n=ok\n\
+     listing a\n=rows 3\n=module M IDL:P/M:1.0\n=alias M::T A:1 tk_alias(A:1,T,tk_long)\n\
+     =alias V IDL:V:1.0 tk_alias(IDL:V:1.0,V,@A:1)\nsplice a 4 1 1\ntypeprefix M \"Q\";\n=ok\nlisting a\n=rows 3\n\
+     =module M IDL:Q/M:1.0\n=alias M::T A:1 tk_alias(A:1,T,tk_long)\n\
+     =alias V IDL:V:1.0 tk_alias(IDL:V:1.0,V,@A:1) ¶ put a 7\n#pragma prefix \"A\"\nstruct S;\n\
+     typeprefix S \"B\";\nstruct S { };\n#pragma prefix \"\"\nexception E { S m; };\ntypeprefix E = \"C\";\n=ok\n\
+     root a\n=ok\nlisting a\n=rows 2\n=struct S IDL:B/S:1.0 tk_struct(IDL:B/S:1.0,S)\n\
+     =exception E IDL:C/E:1.0 tk_except(IDL:C/E:1.0,E,m:@IDL:B/S:1.0)",
+    // What is told of ids over included files.
+    "put r 2\nmodule M { typedef long T; };\n#include \"b\"\n=ok\nput b 2\ntypeprefix M \"P\";\n\
+     typeid M::T \"IDL:P/M/T:1.0\";\n=ok\nroot r\n=ok\ndiagnostics r\n=rows 0\nsplice r 2 0 1\n\
+     #pragma version M::T 2.0\n=ok\ndiagnostics r\n=rows 1\n=b:2: E71 T\nsplice r 2 1 1\n#pragma version M::T 1.0\n\
+     =ok\ndiagnostics r\n=rows 0\nlisting r\n=rows 2\n=module M IDL:P/M:1.0\n\
+     =alias M::T IDL:P/M/T:1.0 tk_alias(IDL:P/M/T:1.0,T,tk_long) ¶ put r 3\nmodule M { interface I; };\n\
+     #include \"b\"\nmodule M { interface I { void f(); }; };\n=ok\nput b 1\ntypeprefix M \"P\";\n=ok\nroot r\n\
+     =ok\nlisting r\n=rows 3\n=module M IDL:P/M:1.0\n\
+     =interface M::I IDL:P/M/I:1.0 tk_objref(IDL:P/M/I:1.0,I) bases()\n\
+     =operation M::I::f IDL:P/M/I/f:1.0 tk_void () raises() context()\nput b 2\ntypeprefix M \"Q\";\n\
+     typeprefix M \"P\";\n=ok\ndiagnostics r\n=rows 1\n=b:2: E76 M\nput b 1\ntypeid M::I \"X:1\";\n=ok\nlisting r\n\
+     =rows 3\n=module M IDL:M:1.0\n=interface M::I X:1 tk_objref(X:1,I) bases()\n\
+     =operation M::I::f IDL:M/I/f:1.0 tk_void () raises() context()",
+];
+
 // Where a unit that no tree spells stops being the beginning of one: the first token through which it is none.
 static PLACES: [&str; 5] = [
     "typedef long X Y;\n=a:1: E20 Y ¶ struct S { long a short b; };\n=a:1: E20 short ¶ const long K = 1 + ;\n=a:1: E20 ; ¶ \
@@ -138,5 +219,7 @@ fn files_have_these_rows(rt: HostRuntime) -> Result<(), Fail> {
     have_rows(&rt, &ROWS)?;
     have_rows(&rt, &DECLARATIONS)?;
     have_rows(&rt, &STRUCTURES)?;
+    have_rows(&rt, &IDS)?;
+    have_replies(&rt, &SAID)?;
     have_rows(&rt, &PLACES)
 }

@@ -1,9 +1,15 @@
-use Rattle.std.proofs.Common.{◌+◌, sym, ap, ◌∙◌, arith}
+use Rattle.std.proofs.Common.{◌+◌, ◌∷◌, [], sym, ap, ◌∙◌, arith}
 use Rattle.idl_tree.proofs.NameLemmas.{text-length}
-use Rattle.idl_check.proofs.Visits.VisitLemmas.{OnOk-always}
+use Rattle.idl_check.proofs.Faults.NotedLemmas.{text-bad, text-good}
+use Rattle.idl_check.specs.ids.Remarks.{is_bad_text}
 use Rattle.idl_check.specs.told.Bodies.{with_text}
 use Rattle.idl_check.specs.walk.Held.{held}
-use Rattle.idl_check.specs.walk.Walk.{passed}
+use Rattle.idl_check.specs.walk.Walk.{Walk, faulty_if, noted, noted_in, passed}
+use Rattle.idl_fault.specs.declared.code.Code.TheVariants.{BadIdText, BadOneway}
+use Rattle.idl_parts.specs.Item.{item_length}
+use Rattle.idl_parts.specs.Part.{Part as item}
+use Rattle.idl_unit.specs.TokenRules.{fault_at}
+use Rattle.idl_value.specs.Evaluation.{joined}
 use Rattle.idl_check.proofs.walk.walker.Walker.join.Goals as goal
 
 pub overflow_add-len : goal.overflow_add-len
@@ -16,16 +22,39 @@ pass-requires c =
     let all = text-length c.args.text.now in
     omega (arith, all, c.requires, c.len.ensures)
 
-pub returns-clause-walk : goal.returns-clause-walk
-returns-clause-walk c =
+pub returns-then-is_bad-clause-visit : goal.returns-then-is_bad-clause-visit
+returns-then-is_bad-clause-visit c =
     let w = held c.args.self.now in
     let text = c.args.text.now in
-    OnOk-always c.pass.result
-    (ap held c.pass.ensures
-    ∙ (λ i. record (passed (1 + c.len.ensures i) w) { clauses = c.in_ok-add_text.ensures i })
-    ∙ (λ i. record (passed (sym (text-length text) i) w) { clauses = with_text c.args.purpose text w.clauses }))
+    let purpose = c.args.purpose in
+    let count = text-length text in
+    let whole = (λ i. noted_in (faulty_if w.gives_back BadOneway w (record (passed (1 + c.len.result) w) { clauses = c.in_ok-add_text.ensures i })) w.fault)
+    ∙ (λ i. noted_in (faulty_if w.gives_back BadOneway w (record (passed (1 + c.len.ensures i) w) { clauses = with_text purpose text w.clauses })) w.fault)
+    ∙ (λ i. noted_in (faulty_if w.gives_back BadOneway w (record (passed (sym count i) w) { clauses = with_text purpose text w.clauses })) w.fault) in
+    let fault : Walk → Walk = λ u. record u { fault = noted u.fault (fault_at w.at BadIdText ∷ []) } in
+    (λ i. held (c.note.ensures i))
+    ∙ ap fault (c.pass.ensures.visit ∙ whole)
+    ∙ sym (text-bad w.at (is_bad_text purpose (joined text)) (faulty_if w.gives_back BadOneway w (record (passed (item_length (item.Says purpose text)) w) { clauses = with_text purpose text w.clauses })) w.fault (sym c.in_ok-is_bad.ensures ∙ c.if-is_bad.true))
+
+pub returns-then-is_bad-clause-at : goal.returns-then-is_bad-clause-at
+returns-then-is_bad-clause-at c =
+    let all = text-length c.args.text.now in
+    let same = ap (λ w. w.at) c.note.ensures in
+    omega (arith, all, same, c.pass.ensures.at, c.len.ensures)
+
+pub returns-clause-visit : goal.returns-clause-visit
+returns-clause-visit c =
+    let w = held c.args.self.now in
+    let text = c.args.text.now in
+    let purpose = c.args.purpose in
+    let count = text-length text in
+    c.pass.ensures.visit
+    ∙ (λ i. noted_in (faulty_if w.gives_back BadOneway w (record (passed (1 + c.len.result) w) { clauses = c.in_ok-add_text.ensures i })) w.fault)
+    ∙ (λ i. noted_in (faulty_if w.gives_back BadOneway w (record (passed (1 + c.len.ensures i) w) { clauses = with_text purpose text w.clauses })) w.fault)
+    ∙ (λ i. noted_in (faulty_if w.gives_back BadOneway w (record (passed (sym count i) w) { clauses = with_text purpose text w.clauses })) w.fault)
+    ∙ sym (text-good w.at (is_bad_text purpose (joined text)) (faulty_if w.gives_back BadOneway w (record (passed (item_length (item.Says purpose text)) w) { clauses = with_text purpose text w.clauses })) w.fault (sym c.in_ok-is_bad.ensures ∙ c.if-is_bad.false))
 
 pub returns-clause-at : goal.returns-clause-at
 returns-clause-at c =
     let all = text-length c.args.text.now in
-    OnOk-always c.pass.result (let at = ap (λ w. w.at) c.pass.ensures in omega (arith, all, at, c.len.ensures))
+    omega (arith, all, c.pass.ensures.at, c.len.ensures)

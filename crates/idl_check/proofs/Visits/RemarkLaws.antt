@@ -1,0 +1,113 @@
+-- What is said of an entity: its faults stand at the last token of the name, and it tells of ids alone.
+use Rattle.std.proofs.Common.{◌≡◌, ℕ, ◌≤◌, Bool, true, false, cond, List, [], ◌∷◌, Option, None, Some, refl, sym, subst, arith}
+use Rattle.std.proofs.lemmas.List.Elements.{All-cons, All-nil}
+use Rattle.std.specs.Prelude.{All, ⊤}
+use Rattle.idl_check.specs.ids.About.{Said, about_entity, refused_for, said_at}
+use Rattle.idl_check.specs.ids.Remarks.{about_scope, is_bad_text, prefixed_at, remark, said_by_text, unless}
+use Rattle.idl_check.specs.tables.Rules.{has_id, is_fixed, is_given, is_prefixed}
+use Rattle.idl_fault.specs.Code.{number_of}
+use Rattle.idl_fault.specs.declared.code.Code.TheVariants.{NoRepositoryId, NoScope, RepeatedId, RepeatedTypeprefix, RepeatedVersion}
+use Rattle.idl_memo.proofs.QueryLaws.{outcome-and_then}
+use Rattle.idl_memo.specs.Query.{Ask, Done, and_then, outcome}
+use Rattle.idl_entity.specs.Kind.{is_scope}
+use Rattle.idl_entity.specs.declared.entity.Entity.{Entity}
+use Rattle.idl_entity.specs.declared.identity.Fixed.{Fixed}
+use Rattle.idl_entity.specs.declared.identity.Fixed.TheVariants.{Version, Id}
+use Rattle.idl_entity.specs.declared.identity.Identity.{Identity}
+use Rattle.idl_env.specs.Facts.{key_of, over, typeprefix_in}
+use Rattle.idl_env.specs.declared.additions.addition.Addition.{Addition}
+use Rattle.idl_env.specs.declared.additions.addition.Addition.TheVariants.{Appears, Declares, Identifies, TypePrefixes, Uses}
+use Rattle.idl_env.specs.declared.answering.answer.Answer.{Answer}
+use Rattle.idl_env.specs.declared.keys.key.Key.{Key}
+use Rattle.idl_env.specs.declared.keys.key.Key.TheVariants.{Declared, Typeprefix}
+use Rattle.idl_env.specs.keys.Key.{key_eq}
+use Rattle.idl_parts.specs.declared.part.Use.{Use}
+use Rattle.idl_parts.specs.declared.part.Use.TheVariants.{AsBase, AsPrefixed}
+use Rattle.idl_scope.proofs.FactsLaws.{outcome-under}
+use Rattle.idl_scope.specs.Known.{known}
+use Rattle.idl_scope.specs.Lookup.{under}
+use Rattle.idl_unit.specs.TokenRules.{fault_at}
+use Rattle.idl_unit.specs.declared.fault.Fault.{Fault}
+use Rattle.idl_check.proofs.Faults.TableLaws.{all-by}
+
+-- it tells of ids, and declares and introduces nothing
+abbrev pub IsOfIds : Addition → Type 0
+IsOfIds (Identifies path d) = ⊤
+IsOfIds (TypePrefixes path text) = ⊤
+IsOfIds other = ⊥
+
+-- so it stands at no declared name
+pub of-ids-apart : (a : Addition) (n : List ℕ) (q : List (List ℕ)) → IsOfIds a → key_eq (Declared n q) (key_of a) ≡ false
+of-ids-apart (Identifies path d) n q h = refl
+of-ids-apart (TypePrefixes path text) n q h = refl
+of-ids-apart (Declares e) n q h = absurd h
+of-ids-apart (Uses m path body) n q h = absurd h
+of-ids-apart (Appears path prefix) n q h = absurd h
+
+abbrev pub StandsSo : ℕ → Fault → Type 0
+StandsSo at f = (f.index ≡ at) × (22 ≤ number_of f.code)
+
+pub record IsRemark (at : ℕ) (s : Said) : Type 0 where
+  pub faults : All (StandsSo at) s.faults
+  pub adds : All IsOfIds s.additions
+
+faulty-is : (at : ℕ) (fs : List Fault) → All (StandsSo at) fs → IsRemark at (refused_for fs)
+faulty-is at fs all = record { faults = all; adds = All-nil IsOfIds }
+
+said-is : (at : ℕ) (change : Fixed) (path : List (List ℕ)) (d : Identity) → IsRemark at (said_at at change path d)
+said-is at (Id text) path d = record {
+  faults = all-by at ((is_given text path d, RepeatedId) ∷ []) (StandsSo at) (λ c number. (refl, number)) (omega arith, tt);
+  adds = All-cons IsOfIds _ [] tt (All-nil IsOfIds);
+}
+said-is at (Version major minor) path d = record {
+  faults = all-by at ((is_fixed d, RepeatedVersion) ∷ []) (StandsSo at) (λ c number. (refl, number)) (omega arith, tt);
+  adds = All-cons IsOfIds _ [] tt (All-nil IsOfIds);
+}
+
+unless-is : (at : ℕ) (b : Bool) (s : Said) → IsRemark at s → IsRemark at (unless b s)
+unless-is at true s h = record { faults = h.faults; adds = All-nil IsOfIds }
+unless-is at false s h = h
+
+module _ (bank : Key → Option Answer) (at : ℕ) where
+  identified-is : (change : Fixed) (path : List (List ℕ)) (o : Option Identity) → IsRemark at (elim o as (λ _. Said) [ None ↦ refused_for [] | Some d ↦ said_at at change path d ])
+  identified-is change path None = faulty-is at [] (All-nil (StandsSo at))
+  identified-is change path (Some d) = said-is at change path d
+
+  entity-is : (change : Fixed) (e : Entity) → IsRemark at (outcome (about_entity at change e) bank)
+  entity-is change e = by_kind (has_id e.kind)
+    where
+      by_kind : (b : Bool) → IsRemark at (outcome (cond b
+          (and_then (known e.path) (λ d. Done (elim d as (λ _. Said) [ None ↦ refused_for [] | Some d ↦ said_at at change e.path d ])))
+          (Done (refused_for (fault_at at NoRepositoryId ∷ [])))) bank)
+      by_kind true =
+          subst (IsRemark at) (sym (outcome-and_then (known e.path) (λ d. Done (elim d as (λ _. Said) [ None ↦ refused_for [] | Some d ↦ said_at at change e.path d ])) bank))
+          (identified-is change e.path (outcome (known e.path) bank))
+      by_kind false = faulty-is at (fault_at at NoRepositoryId ∷ []) (All-cons (StandsSo at) (fault_at at NoRepositoryId) [] (refl, omega arith) (All-nil (StandsSo at)))
+
+  scope-is : (text : List ℕ) (e : Entity) → IsRemark at (outcome (about_scope at text e) bank)
+  scope-is text e = by_kind (is_scope e.kind)
+    where
+      by_kind : (b : Bool) → IsRemark at (outcome (cond b
+          (Ask (Typeprefix e.path) (λ answer. Done (prefixed_at at text e.path answer)))
+          (Done (refused_for (fault_at at NoScope ∷ [])))) bank)
+      by_kind true = record {
+        faults = all-by at ((is_prefixed (typeprefix_in (bank (Typeprefix e.path))), RepeatedTypeprefix) ∷ []) (StandsSo at) (λ c number. (refl, number)) (omega arith, tt);
+        adds = All-cons IsOfIds (TypePrefixes e.path text) [] tt (All-nil IsOfIds);
+      }
+      by_kind false = faulty-is at (fault_at at NoScope ∷ []) (All-cons (StandsSo at) (fault_at at NoScope) [] (refl, omega arith) (All-nil (StandsSo at)))
+
+  text-is : (way : Use) (text : List ℕ) (e : Entity) → IsRemark at (outcome (said_by_text way at text e) bank)
+  text-is (AsBase is_local) text e = entity-is (Id text) e
+  text-is AsPrefixed text e = scope-is text e
+  text-is other text e = entity-is (Id text) e
+
+  plain-is : (way : Use) (text : List ℕ) (e : Entity) → IsRemark at (outcome (remark way at text e) bank)
+  plain-is way text e =
+      let bad = is_bad_text (purpose_of way) text in
+      subst (IsRemark at) (sym (outcome-and_then (said_by_text way at text e) (λ s. Done (unless bad s)) bank))
+      (unless-is at bad (outcome (said_by_text way at text e) bank) (text-is way text e))
+
+-- under what the unit's earlier tokens add
+pub remark-is : (own : List Addition) (answers : Key → Option Answer) (way : Use) (at : ℕ) (text : List ℕ) (e : Entity) → IsRemark at (outcome (under own (remark way at text e)) answers)
+remark-is own answers way at text e =
+    subst (IsRemark at) (sym (outcome-under own answers (remark way at text e))) (plain-is (λ k. over own k (answers k)) at way text e)
