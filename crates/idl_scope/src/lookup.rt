@@ -137,6 +137,7 @@ impl<'a> View<'a> {
     }
 
     /// What is reached under a name through bases.
+    #[inline(always)]
     pub fn reached(
         self,
         log: &mut Journal<Env>,
@@ -153,6 +154,24 @@ impl<'a> View<'a> {
         if bases.is_empty() {
             return Ok(Vec::new(self.env.alloc()));
         }
+        self.reached_through(log, name, bases)
+    }
+
+    // The same, where there may be bases. It stands apart, since it takes much stack.
+    #[inline(never)]
+    fn reached_through(
+        self,
+        log: &mut Journal<Env>,
+        name: &Bytes,
+        bases: &[Path],
+    ) -> Result<Vec<&'a Shared<Entity>>, AllocError>
+        ensures { IfOk result (λ es.
+            (turns : ℕ) → usize.MAX ≤ turns →
+            (map (λ e. e.now) es.items, log.new)
+            ≡ run key_eq
+            (under self.entry.own.now.additions (reached turns name.now bases.now))
+            (answers self.entry.env.now) log.old) }
+    {
         let mut queue = BaseQueue::new(self.env.alloc());
         queue.join(bases)?;
         let mut found = Vec::new(self.env.alloc());

@@ -44,7 +44,7 @@ pub fn unit(alloc: Global, depth: usize, tokens: &[Token]) -> Result<(Tree, &[To
     }
 }
 
-/// A declaration and its `;`.
+/// A declaration and its `;`. Trees are large, so this one isn't taken apart.
 #[tactic(auto, unfolding(idl_tree::specs::reading::ReadUnit::ended_with))]
 fn ended_declaration(
     alloc: Global,
@@ -54,13 +54,14 @@ fn ended_declaration(
     ensures reads { Reads (ended_with (nested declaration_with depth)) tokens.now result }
     ensures shorter { Advances tokens.now result }
 {
-    let (tree, rest) = declaration(alloc, depth, tokens)?;
-    closed(tree, rest, Mark::Semicolon)
+    let mut read = declaration(alloc, depth, tokens)?;
+    read.1 = behind(read.1, Mark::Semicolon)?;
+    Ok(read)
 }
 
 /// A declaration, without its `;`.
 #[tactic(auto, unfolding(idl_tree::specs::reading::ReadUnit::declaration_with))]
-#[inline(never)]
+#[inline(always)]
 fn declaration(
     alloc: Global,
     depth: usize,

@@ -36,6 +36,7 @@ impl Model for DigestedAddition {
 
 impl DigestedAddition {
     /// The addition, with the digest of its key.
+    #[inline(always)]
     pub fn of(addition: Addition) -> DigestedAddition
         ensures { result ≡ addition }
     {

@@ -2,7 +2,7 @@ use Rattle.std.proofs.Common.{◌≡◌, ℕ, ◌-◌, ◌≤◌, map}
 use Rattle.idl_env.specs.Facts.{answers}
 use Rattle.idl_scope.specs.Lookup.{reached, walk}
 use Rattle.idl_scope.proofs.LookupLaws.RunLemmas.{runs}
-use Rattle.idl_scope.proofs.lookup.View.reached.Given as goal
+use Rattle.idl_scope.proofs.lookup.View.reached_through.Given as goal
 
 -- the walk from here on, over the log so far, is the whole walk
 abbrev pub invariant-bases : goal.invariant-bases
