@@ -2,9 +2,9 @@
 use Rattle.std.proofs.Common.{◌≡◌, ◌≢◌, ◌∙◌, ℕ, ◌<◌, ◌≤◌, Bool, List, [], ◌∷◌, ◌++◌, Option, Some, None, refl, sym, ap, append_assoc, arith, codes, length}
 use Rattle.std.specs.Prelude.{if◌then◌else◌}
 use Rattle.idl_memo.specs.Query.{run}
-use Rattle.idl_repo.proofs.WriteLemmas.{grows-as, grows-known, id-then, says-then}
-use Rattle.idl_repo.specs.Pieces.{Grows, Pieces, Says, State}
-use Rattle.idl_repo.specs.Row.{attribute_pieces, bases_pieces, behind_id, coded_pieces, constant_pieces, operation_pieces}
+use Rattle.idl_repo.proofs.WriteLemmas.{grows-as, grows-known, grows-nothing, id-then, says-then}
+use Rattle.idl_repo.specs.Pieces.{Grows, Pieces, Says, State, says}
+use Rattle.idl_repo.specs.Row.{attribute_pieces, base_pieces, bases_pieces, behind_id, coded_pieces, constant_pieces, operation_pieces, references}
 use Rattle.idl_repo.specs.TypeCode.{code_head, code_kind, code_pieces, code_word, kind_in, rest_pieces}
 use Rattle.idl_repo.specs.declared.type_code.TypeCodeKind.{TypeCodeKind}
 use Rattle.idl_scope.specs.Known.{id_of}

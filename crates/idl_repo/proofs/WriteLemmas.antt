@@ -1,6 +1,7 @@
 -- Pieces that are written, one after another.
 use Rattle.std.proofs.Common.{◌≡◌, ◌∙◌, ℕ, ◌+◌, ◌-◌, ◌<◌, ◌≤◌, List, [], ◌∷◌, ◌++◌, Bool, true, false, cond, ◌||◌, Option, Result, Ok, Err, All, refl, subst, sym, ap, append_assoc, arith, codes, drop, flat_map, get_or, length, take}
 use Rattle.std.specs.Prelude.{OnOk, is_ok, if◌then◌else◌}
+use Rattle.std.proofs.lemmas.List.Elements.{All-cons, All-head, All-nil, All-tail}
 use Rattle.std.proofs.lemmas.List.Folds.{list_any-append}
 use Rattle.std.proofs.lemmas.List.{append-nil, flat_map_more, take_all, take_more}
 use Rattle.idl_memo.specs.Query.{Done, asked, is_logged, noted, noted_all, outcome, run}
@@ -113,17 +114,20 @@ logged-here bank log k = by (is_logged key_eq log k) refl
         list_any-append (λ (e : Key × Option Answer). key_eq k e.0) log ((k, bank k) ∷ [])
         ∙ ap (λ b. b || is_logged key_eq ((k, bank k) ∷ []) k) h ∙ last
 
-AreLogged : List (Key × Option Answer) → List Key → Type 0
+abbrev AreLogged : List (Key × Option Answer) → List Key → Type 0
 AreLogged log ks = All (λ k. is_logged key_eq log k ≡ true) ks
 
 are-logged : (bank : Key → Option Answer) (log : List (Key × Option Answer)) (ks : List Key) → AreLogged (noted_all key_eq bank log ks) ks
-are-logged bank log [] = tt
-are-logged bank log (k ∷ ks) = let more = noted key_eq bank log k in (logged-all bank more k ks (logged-here bank log k), are-logged bank more ks)
+are-logged bank log [] = All-nil (λ k. is_logged key_eq log k ≡ true)
+are-logged bank log (k ∷ ks) =
+    let more = noted key_eq bank log k in
+    All-cons (λ j. is_logged key_eq (noted_all key_eq bank more ks) j ≡ true) k ks (logged-all bank more k ks (logged-here bank log k)) (are-logged bank more ks)
 
 noted-there : (bank : Key → Option Answer) (log : List (Key × Option Answer)) (ks : List Key) → AreLogged log ks → noted_all key_eq bank log ks ≡ log
 noted-there bank log [] h = refl
 noted-there bank log (k ∷ ks) h =
-    ap (λ b. noted_all key_eq bank (cond b log (log ++ (k, bank k) ∷ [])) ks) h.0 ∙ noted-there bank log ks h.1
+    let Known : Key → Type 0 = λ j. is_logged key_eq log j ≡ true in
+    ap (λ b. noted_all key_eq bank (cond b log (log ++ (k, bank k) ∷ [])) ks) (All-head Known k ks h) ∙ noted-there bank log ks (All-tail Known k ks h)
 
 -- an id that was asked already
 pub grows-known : {facts : List UnitFacts} {path : List (List ℕ)} {told old new : List ℕ} {after : List (Key × Option Answer)} (log : List (Key × Option Answer)) → new ≡ old ++ told → (told, after) ≡ run key_eq (id_of path) (answers facts) log → Grows (IdOf path ∷ []) (facts, (old, after)) (facts, (new, after))

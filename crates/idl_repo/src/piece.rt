@@ -45,6 +45,7 @@ pub struct AnsweredId<'e> {
 
 impl<'e> AnsweredId<'e> {
     /// Writes it; no bytes where none is told.
+    #[inline(always)]
     pub fn write(self, text: &mut Vec<u8>) -> Result<(), AllocError>
         ensures { OnOk result (text.new.items ≡ text.old.items ++ told_id self.entry) }
     {
@@ -53,6 +54,7 @@ impl<'e> AnsweredId<'e> {
 }
 
 /// The id of what is declared at a path, which is asked for.
+#[inline(always)]
 pub fn id_of<'e>(
     env: &'e Env,
     log: &mut Journal<Env>,

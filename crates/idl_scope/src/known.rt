@@ -85,7 +85,8 @@ pub fn typeprefix_around<'a>(
 {
     let mut names = path.lent();
     'scopes: while let Some((_name, around)) = names.again().split_first() {
-        if let Some(text) = typeprefix_at(env, own, log, names)? {
+        let found = typeprefix_at(env, own, log, names)?;
+        if let Some(text) = found {
             return Ok(Some(text));
         }
         names = around;

@@ -90,9 +90,9 @@ module _ (turns : ℕ) (answers : Key → Option Answer) where
   unit-least (unit.Pragma tokens inside) fits = refl
 
   unit-none : (text : UnitText) → visit_unit_faults turns answers text ≡ [] → unit_faults turns answers text ≡ []
-  unit-none (unit.Tokens tokens) =
+  unit-none (unit.Tokens tokens) none =
       let scopes = scopes_in (answers Cursor) in
-      else-none (first_faults tokens scopes) (visit_further_faults turns answers tokens scopes) (further_faults turns answers tokens scopes) (further-none scopes (tree_of tokens))
+      else-none (first_faults tokens scopes) (visit_further_faults turns answers tokens scopes) (further_faults turns answers tokens scopes) (further-none scopes (tree_of tokens)) none
   unit-none (unit.Pragma tokens inside) none = none
 
 pub least-whole : (turns : ℕ) (text : UnitText) (answers : Key → Option Answer) → FitsMemory text → (outcome (verdict turns text) answers).fault ≡ least_fault (unit_faults turns answers text)

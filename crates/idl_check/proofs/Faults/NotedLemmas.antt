@@ -1,14 +1,14 @@
 -- The least fault of a walk, as further ones are noted.
-use Rattle.std.proofs.Common.{◌≡◌, ◌∙◌, ℕ, Bool, true, false, cond, List, [], ◌∷◌, ◌++◌, Option, None, Some, Ok, map, refl, sym, ap, subst, append-nil, arith, inl, inr}
+use Rattle.std.proofs.Common.{◌≡◌, ◌∙◌, ◌<◌, ◌≤◌, ℕ, true, false, cond, List, [], ◌∷◌, ◌++◌, Option, None, Some, Ok, map, refl, sym, ap, subst, arith, inl, inr, Bool}
 use Rattle.std.proofs.lemmas.Bool.{cond_both}
 use Rattle.std.proofs.lemmas.List.Elements.{All-weaker}
 use Rattle.std.proofs.lemmas.List.Sums.{fold-append}
 use Rattle.std.specs.Prelude.{All, option_to_list}
 use Rattle.idl_check.specs.tables.Codes.{Table, codes_in, faults_by}
 use Rattle.idl_check.specs.walk.Judging.{IsNotAfter}
-use Rattle.idl_check.specs.walk.Walk.{Visit, Walk, faulty_if, head_visit, noted, noted_in, past_name, quiet, with_oneway, with_text_fault}
+use Rattle.idl_check.specs.walk.Walk.{Walk, head_visit, noted, noted_in, past_name, quiet, faulty_if}
 use Rattle.idl_fault.specs.declared.code.Code.{Code}
-use Rattle.idl_fault.specs.declared.code.Code.TheVariants.{BadIdText, BadOneway, NoScope}
+use Rattle.idl_fault.specs.declared.code.Code.TheVariants.{NoScope}
 use Rattle.idl_entity.specs.Kind.{is_scope}
 use Rattle.idl_scope.specs.declared.found.Found.{Found}
 use Rattle.idl_tree.specs.declared.name.ScopedName.{ScopedName}
@@ -86,25 +86,6 @@ faulty-yes b why w after fault h = ap (λ b. noted_in (faulty_if b why w after) 
 
 pub faulty-no : (b : Bool) (why : Code) (w after : Walk) (fault : Option Fault) → b ≡ false → noted_in (faulty_if b why w after) fault ≡ record after { fault = fault }
 faulty-no b why w after fault h = ap (λ b. noted_in (faulty_if b why w after) fault) h ∙ noted_in-quiet after fault
-
--- a text that may be what it is for, and one that may not
-pub text-good : (at : ℕ) (b : Bool) (v : Visit) (fault : Option Fault) → b ≡ false → noted_in (with_text_fault at b v) fault ≡ noted_in v fault
-text-good at b v fault h =
-    ap (λ b. noted_in (with_text_fault at b v) fault) h
-    ∙ (λ i. record v.after { fault = noted fault (append-nil v.faults i) })
-
-pub text-bad : (at : ℕ) (b : Bool) (v : Visit) (fault : Option Fault) → b ≡ true
-    → noted_in (with_text_fault at b v) fault ≡ record (noted_in v fault) { fault = noted (noted_in v fault).fault (fault_at at BadIdText ∷ []) }
-text-bad at b v fault h =
-    ap (λ b. noted_in (with_text_fault at b v) fault) h
-    ∙ (λ i. record v.after { fault = sym (noted-append fault v.faults (fault_at at BadIdText ∷ [])) i })
-
--- and one that is given back by a oneway operation
-abbrev pub one_way : ℕ → Walk → Walk
-one_way at w = record w { fault = noted w.fault (fault_at at BadOneway ∷ []) }
-
-pub noted_in-one_way : (at : ℕ) (v : Visit) (fault : Option Fault) → noted_in (with_oneway at v) fault ≡ one_way at (noted_in v fault)
-noted_in-one_way at v fault = λ i. record v.after { fault = sym (noted-append fault v.faults (fault_at at BadOneway ∷ [])) i }
 
 -- the first part of a name denotes a scope, or something else
 pub head-scope : (name : ScopedName) (w : Walk) (found : Found) (fault : Option Fault) → is_scope found.entity.kind ≡ true

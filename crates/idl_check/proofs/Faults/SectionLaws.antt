@@ -1,13 +1,11 @@
 -- Over bracketed sites the least of all faults is the least of those to which the walk comes.
-use Rattle.std.proofs.Common.{◌≡◌, ◌∙◌, ℕ, ◌+◌, ◌^◌, ◌<◌, Bool, true, false, cond, List, [], ◌∷◌, ◌++◌, length, Option, None, Some, refl, sym, ap, subst, arith}
+use Rattle.std.proofs.Common.{◌≡◌, ◌∙◌, ℕ, ◌+◌, ◌^◌, ◌<◌, true, List, [], ◌∷◌, ◌++◌, length, Option, None, Some, refl, sym, ap, subst, arith}
 use Rattle.std.proofs.lemmas.List.Elements.{All-head, All-tail}
 use Rattle.std.specs.Prelude.{All, flat_map}
 use Rattle.idl_check.specs.walk.AllFaults.{evaluation_faults, site_faults, whole_visit}
 use Rattle.idl_check.specs.walk.Sections.{IsFormed, Section, Single, Whole, is_single, section_sites}
 use Rattle.idl_check.specs.told.Values.{begun_at}
-use Rattle.idl_check.specs.walk.Walk.{Visit, Walk, begin_of, evaluation_at, given_back, label_target, noted, passed, plain_name, used, value_visit, visit, with_oneway}
-use Rattle.idl_fault.specs.declared.code.Code.TheVariants.{BadOneway}
-use Rattle.idl_memo.specs.Query.{outcome}
+use Rattle.idl_check.specs.walk.Walk.{Visit, Walk, evaluation_at, label_target, value_visit, visit}
 use Rattle.idl_env.specs.declared.answering.answer.Answer.{Answer}
 use Rattle.idl_env.specs.declared.keys.key.Key.{Key}
 use Rattle.idl_parts.specs.ExpressionParts.{expression_parts, value_parts}
@@ -62,68 +60,9 @@ module _ (turns : ℕ) (answers : Key → Option Answer) where
       let v = visited turns answers x w in
       let begins = single-begins turns answers x w single in
       let p : IsPlaced x w v = visit-placed turns answers x w in
-      one-told x (front ++ sites) w (single-same turns answers x w single given)
-      (tokens-told front sites (All-tail (λ x. is_tokens x ≡ true) x front all) v.after calm.given
-      (λ u g b at. more u g (b ∙ calm.begin) (omega (arith, at, p.passes))))
-
-  -- ---- what is given back
-
-  -- all behind the name stands behind its first token
-  behind-led : (w u : Walk) (fs : List Fault) → w.at < u.at → u.values.begin ≡ None → All (IsFrom (begin_of u)) fs → All (Leads (fault_at w.at BadOneway)) fs
-  behind-led w u fs lt none from =
-      let at : begin_of u ≡ u.at = begin-none u.values.begin u.at none in
-      All-weaker (IsFrom (begin_of u)) (Leads (fault_at w.at BadOneway)) (λ g h. leads-later (fault_at w.at BadOneway) g (omega (arith, h.0, at, lt))) fs from
-
-  module _ (way : Use) (name : ScopedName) (w : Walk) where
-    -- what comes of it in the walk, and whole
-    abbrev short : Bool → Visit
-    short b = outcome (named_by turns answers way name w b) answers
-
-    abbrev named : Visit
-    named = outcome (used turns way name w) answers
-
-    abbrev full : Bool → Visit
-    full b = cond b (with_oneway w.at named) (outcome (plain_name turns way name w) answers)
-
-    past : (v : Visit) → IsPlaced (item.Uses way name) w v → w.at < v.after.at
-    past v p = omega (arith, p.passes, behind_name w.at name)
-
-    short-begin : (short true).after.values.begin ≡ w.values.begin
-    unfolding given_back
-    short-begin = given-begin turns answers way name w name.is_global name.rest
-
-    short-ends : (fs : List Fault) × ((short true).faults ≡ fs ++ fault_at w.at BadOneway ∷ [])
-    unfolding given_back
-    short-ends = given-ends turns answers way name w name.is_global name.rest
-
-    short-full : AreAlike (short true).faults (full true).faults
-    unfolding given_back
-    short-full = given-alike turns answers way name w name.is_global name.rest refl refl
-
-    given-told : (sites : List Item) → w.values.begin ≡ None → (b : Bool) → b ≡ true
-        → AreAlike ((short b).faults ++ visit_faults turns answers sites (short b).after) ((full b).faults ++ site_faults turns answers sites (full b).after)
-    given-told sites none true is o =
-        let e = fault_at w.at BadOneway in
-        let v = short true in
-        let more = visit_faults turns answers sites v.after in
-        let rest = site_faults turns answers sites named.after in
-        let led = behind-led w v.after more (past v (named-placed turns answers way name w true)) (short-begin ∙ none) (faults-from turns answers sites v.after) in
-        let led_whole = behind-led w named.after rest (past named (plain-placed turns answers way name w)) ((used-calm turns answers way name w).begin ∙ none) (whole-from turns answers sites named.after) in
-        subst (λ fs. noted o (fs ++ more) ≡ noted o fs) (sym short-ends.1) (alike-behind short-ends.0 e more led o)
-        ∙ short-full o
-        ∙ sym (alike-behind named.faults e rest led_whole o)
-    given-told sites none false is o = cc
-
-  returned-told : (site : Item) → is_tokens site ≡ true → (sites : List Item) (w : Walk) → w.gives_back ≡ true → w.values.begin ≡ None
-      → ((u : Walk) → u.gives_back ≡ false → u.values.begin ≡ None → IsTold sites u) → IsTold (site ∷ sites) w
-  unfolding visit
-  returned-told site tokens sites w given none more =
-      tokens-case (λ x. IsTold (x ∷ sites) w) (λ n. one-told (item.Plain n) sites w refl (more (passed n w) refl none))
-      (λ way name. given-told way name w sites none w.gives_back given) site tokens
-
-  gives-told : (sites : List Item) (w : Walk) → IsTold sites (record w { gives_back = true }) → IsTold (item.GivesBack ∷ sites) w
-  unfolding visit
-  gives-told sites w more = one-told item.GivesBack sites w refl more
+      one-told x (front ++ sites) w (single-same turns answers x w single)
+      (singles-told front sites (All-tail (λ x. is_single x ≡ true) x front all) v.after
+      (λ u b at. more u (b ∙ begins) (omega (arith, at, p.passes))))
 
   -- ---- an expression
 

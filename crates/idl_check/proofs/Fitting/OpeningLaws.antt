@@ -1,27 +1,24 @@
 -- A unit that opens an interface fits the facts before it: its bases are closed, and nothing is declared in it yet.
 use Rattle.std.proofs.Common.{◌≡◌, ◌∙◌, ℕ, ◌≤◌, Bool, true, false, cond, List, [], ◌∷◌, ◌++◌, length, Option, Some, None, Result, Ok, Err, refl, sym, ap, subst, arith, inl, inr}
-use Rattle.std.proofs.lemmas.List.Elements.{All-head, All-tail}
-use Rattle.std.specs.Prelude.{All, fold, take}
+use Rattle.std.specs.Prelude.{take}
 use Rattle.idl_check.proofs.Fitting.ClosingLaws.{IsFitting, IsSettled, cursor-kept, under-around}
 use Rattle.idl_check.proofs.Fitting.GrowingLaws.{IsGrown, declares-one}
 use Rattle.idl_check.proofs.PartLemmas.{IsUpTo}
 use Rattle.idl_check.proofs.Fitting.ReachedLaws.{Names, kept-at, own, there}
 use Rattle.idl_check.proofs.Fitting.SettledLaws.{Added, IsFound, IsHeld, IsOpened, IsScope, IsDefined, IsUnder, Stood, Was, closed-keeps, is_nameless, over, path_same, stood}
-use Rattle.idl_check.proofs.Visits.SiteLaws.{declared_by, denoted-up, named_by, spoken_by, used_by, visited}
+use Rattle.idl_check.proofs.Visits.SiteLaws.{declared_by, denoted-up, used_by, visited}
 use Rattle.idl_check.proofs.Faults.VisitFaults.{visit_faults}
-use Rattle.idl_check.proofs.Visits.RemarkLaws.{IsOfIds, of-ids-apart, remark-is}
 use Rattle.idl_check.proofs.Visits.WalkLaws.{none-append}
 use Rattle.idl_check.proofs.Fitting.WalkedLaws.{additions_of, ends-grown, first-walks, sites-walk}
 use Rattle.idl_check.proofs.Fitting.WalkingLaws.{AreSited, D, Walks, scopes}
 use Rattle.idl_check.proofs.Nests.Scenes.{Scene}
-use Rattle.idl_check.specs.ids.Remarks.{is_spoken_of, remark}
 use Rattle.idl_check.specs.tables.Declaring.{entity_of, finished, standing, stays, with_declared, with_finished}
 use Rattle.idl_check.specs.ids.Identifying.{with_identity}
 use Rattle.idl_check.specs.told.Bodies.{raising}
 use Rattle.idl_check.specs.walk.Judging.{walked}
 use Rattle.idl_check.specs.told.Types.{looked_through}
 use Rattle.idl_check.specs.tables.Using.{with_uses}
-use Rattle.idl_check.specs.walk.Walk.{Visit, Walk, declared_visit, first_walk, given_back, passed, plain_name, spoken_of, spoken_visit, turns_at, used, used_visit, visit}
+use Rattle.idl_check.specs.walk.Walk.{Visit, Walk, declared_visit, first_walk, passed, turns_at, used, used_visit, visit}
 use Rattle.idl_check.specs.declared.ids.identifying.Ids.{Ids}
 use Rattle.idl_check.specs.declared.tables.standing.Standing.{Standing}
 use Rattle.idl_lex.specs.kinds.Keywords.{folded}
@@ -51,8 +48,7 @@ use Rattle.idl_entity.specs.declared.kind.Stage.TheVariants.{Open}
 use Rattle.idl_parts.specs.Item.{Item}
 use Rattle.idl_parts.specs.Part.{Part as item}
 use Rattle.idl_parts.specs.declared.part.Declaration.TheVariants as declaration
-use Rattle.idl_parts.specs.declared.part.Use.{Use}
-use Rattle.idl_tree.specs.NameParts.{last_at}
+use Rattle.idl_parts.specs.declared.part.Use.TheVariants.{AsBase}
 use Rattle.idl_tree.specs.declared.name.ScopedName.{ScopedName}
 use Rattle.idl_unit.specs.TokenRules.{first}
 
@@ -104,42 +100,7 @@ module _ (facts : List UnitFacts) (k : IsSettled (world facts)) (turns : ℕ) (e
       let query = under w.own (denoted (turns_at turns w) w.cursor name) in
       let same = outcome-and_then query (used_by turns (answers facts) (AsBase is_local) name w) (answers facts) in
       subst (λ (v : Visit). IsRest w v.after) (sym same)
-      (used-by-rest way name w (outcome query (answers facts)) (denoted-up turns (answers facts) name w) (ap (λ (v : Visit). v.faults) (sym same) ∙ none))
-
-  ids-found : (more own : List Addition) (x : Entity) → All IsOfIds more → IsFound (fold with_addition own more) x → IsFound own x
-  ids-found [] own x all h = h
-  ids-found (a ∷ more) own x all h =
-      let apart = of-ids-apart a (folded (name_of x.path)) (scope_of x.path) (All-head IsOfIds a more all) in
-      ap (λ b. cond b (Some a) (addition_at own (entity_key x.path))) (sym apart) ∙ sym (addition_at-with_addition own a (entity_key x.path)) ∙ ids-found more (with_addition own a) x (All-tail IsOfIds a more all) h
-
-  spoken-by-rest : (way : Use) (name : ScopedName) (w : Walk) (r : Result Found NameFault) → IsRest w (outcome (spoken_by turns (answers facts) way name w r) (answers facts)).after
-  spoken-by-rest way name w (Ok found) =
-      let query = under w.own (remark way (last_at w.at name) w.text found.entity) in
-      let is = remark-is w.own (answers facts) way (last_at w.at name) w.text found.entity in
-      subst (λ (v : Visit). IsRest w v.after) (sym (outcome-and_then query (λ s. Done (spoken_visit w name found s)) (answers facts)))
-      (record { begun = refl; last = refl; found = λ x h. ids-found (outcome query (answers facts)).additions w.own x is.adds h })
-  spoken-by-rest way name w (Err fault) = record { begun = refl; last = refl; found = λ x h. h }
-
-  spoken-rest : (way : Use) (name : ScopedName) (w : Walk) → IsRest w (outcome (spoken_of turns way name w) (answers facts)).after
-  unfolding spoken_of
-  spoken-rest way name w =
-      let query = under w.own (denoted (turns_at turns w) w.cursor name) in
-      subst (λ (v : Visit). IsRest w v.after) (sym (outcome-and_then query (spoken_by turns (answers facts) way name w) (answers facts)))
-      (spoken-by-rest way name w (outcome query (answers facts)))
-
-  any-rest : (way : Use) (name : ScopedName) (w : Walk) → (outcome (plain_name turns way name w) (answers facts)).faults ≡ [] → IsRest w (outcome (plain_name turns way name w) (answers facts)).after
-  any-rest way name w none = by_way (is_spoken_of way) none
-    where
-      by_way : (b : Bool) → (outcome (cond b (spoken_of turns way name w) (used turns way name w)) (answers facts)).faults ≡ []
-          → IsRest w (outcome (cond b (spoken_of turns way name w) (used turns way name w)) (answers facts)).after
-      by_way true no = spoken-rest way name w
-      by_way false no = used-rest way name w no
-
-  named-rest : (way : Use) (name : ScopedName) (w : Walk) (b : Bool) → (outcome (named_by turns (answers facts) way name w b) (answers facts)).faults ≡ []
-      → IsRest w (outcome (named_by turns (answers facts) way name w b) (answers facts)).after
-  unfolding given_back
-  named-rest way name w true none = absurd (given-some turns (answers facts) way name w name.is_global name.rest none)
-  named-rest way name w false none = any-rest way name w none
+      (used-by-rest is_local name w (outcome query (answers facts)) (denoted-up turns (answers facts) name w) (ap (λ (v : Visit). v.faults) (sym same) ∙ none))
 
   rest-on : (w v u : Walk) → IsRest w v → IsRest v u → IsRest w u
   rest-on w v u g h = record { begun = h.begun ∙ g.begun; last = h.last ∙ g.last; found = λ x f. g.found x (h.found x f) }
@@ -154,20 +115,8 @@ module _ (facts : List UnitFacts) (k : IsSettled (world facts)) (turns : ℕ) (e
   sites-rest (item.Uses (AsBase is_local) name ∷ sites) w h none =
       let v = visited turns (answers facts) (item.Uses (AsBase is_local) name) w in
       let parts = none-append v.faults (visit_faults turns (answers facts) sites v.after) none in
-      rest-on w v.after (walked turns (answers facts) sites v.after) (used-rest way name w parts.0) (sites-rest sites v.after h parts.1)
-  sites-rest (item.Declares way name ∷ sites) w h none = absurd h
-  sites-rest (item.Says purpose text ∷ sites) w h none = absurd h
-  sites-rest (item.ValueBegins ∷ sites) w h none = absurd h
-  sites-rest (item.ValueEnds way e ∷ sites) w h none = absurd h
-  sites-rest (item.ScopeBegins way name ∷ sites) w h none = absurd h
-  sites-rest (item.ScopeEnds ∷ sites) w h none = absurd h
-  sites-rest (item.TypeEnds shape ∷ sites) w h none = absurd h
-  sites-rest (item.ArrayEnds ∷ sites) w h none = absurd h
-  sites-rest (item.Enumerates enumerators ∷ sites) w h none = absurd h
-  sites-rest (item.Identifies text ∷ sites) w h none = absurd h
-  sites-rest (item.Switches discrete ∷ sites) w h none = absurd h
-  sites-rest (item.Default ∷ sites) w h none = absurd h
-  sites-rest (item.GivesBack ∷ sites) w h none = absurd h
+      rest-on w v.after (walked turns (answers facts) sites v.after) (used-rest is_local name w parts.0) (sites-rest sites v.after h parts.1)
+  sites-rest (other ∷ sites) w h none = absurd h
 
   -- ---- the name of the interface
 

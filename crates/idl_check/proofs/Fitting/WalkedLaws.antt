@@ -1,8 +1,7 @@
 -- What a walk over such a unit comes to fits the facts before it.
 use Rattle.std.proofs.Common.{◌≡◌, ◌⊎◌, ◌∙◌, ℕ, zero, suc, ◌-◌, ◌≤◌, Bool, true, false, cond, List, [], ◌∷◌, ◌++◌, length, Option, Some, None, Result, Ok, Err, refl, sym, ap, subst, arith, inl, inr}
 use Rattle.std.proofs.lemmas.Bool.{not-false}
-use Rattle.std.proofs.lemmas.List.Elements.{All-head, All-tail}
-use Rattle.std.specs.Prelude.{◌≢◌, ◌&&◌, All, drop, fold, take}
+use Rattle.std.specs.Prelude.{◌≢◌, ◌&&◌, drop, take, All, fold}
 use Rattle.idl_check.proofs.Fitting.ClosingLaws.{IsFitting, IsSettled, StepFits}
 use Rattle.idl_check.proofs.Fitting.GrowingLaws.{Grows, IsGrown, IsMine, IsNew, grows-beside, grows-none, grows-on, grows-with}
 use Rattle.idl_check.proofs.Nests.AroundLaws.{used-none}
@@ -12,16 +11,14 @@ use Rattle.idl_check.proofs.Visits.VisitLemmas.{turns-here}
 use Rattle.idl_check.proofs.Fitting.ReachedLaws.{IsClosed, IsClosedAt, Names, Place, only, own, there}
 use Rattle.idl_check.proofs.Fitting.SettledLaws.{IsNamed, IsOpen, IsPlace, added-kept, closed-before, over}
 use Rattle.idl_check.proofs.PartLemmas.{IsUpTo}
-use Rattle.idl_check.proofs.Visits.SiteLaws.{declared_by, denoted-up, end_visit, named_by, spoken_by, union_visit, used_by, visited}
+use Rattle.idl_check.proofs.Visits.SiteLaws.{declared_by, denoted-up, end_visit, union_visit, used_by, visited, spoken_by}
 use Rattle.idl_check.proofs.Faults.VisitFaults.{visit_faults}
-use Rattle.idl_check.proofs.Visits.RemarkLaws.{IsOfIds, of-ids-apart, remark-is}
 use Rattle.idl_check.proofs.Visits.WalkLaws.{none-append}
 use Rattle.idl_check.proofs.Visits.WholeLaws.{whole-none}
 use Rattle.idl_check.proofs.Fitting.WalkingLaws.{AreSited, D, IsCursor, IsSited, Walks, allowed, cursor-on, declared-grows, fresh-way, scopes}
 use Rattle.idl_check.proofs.Nests.Scenes.{Scene, scene_after}
 use Rattle.idl_check.proofs.Faults.TableLaws.{no-row}
 use Rattle.idl_check.specs.told.Bodies.{Body, Clauses, array_of, told_innermost, begun_body, is_member, member_of, raises, raising, signature_of, with_array_member, with_array_type, with_body_label, with_innermost, with_last_type, with_member, with_next_label}
-use Rattle.idl_check.specs.ids.Remarks.{is_spoken_of, remark}
 use Rattle.idl_check.specs.tables.Declaring.{entity_of, finished, kind_of, standing, with_finished}
 use Rattle.idl_check.specs.walk.AllFaults.{site_faults}
 use Rattle.idl_check.specs.walk.Judging.{walked}
@@ -34,7 +31,7 @@ use Rattle.idl_check.specs.tables.Rules.{is_open_base, suits}
 use Rattle.idl_check.specs.tables.Using.{Bases, base_table, bases_after, last_after, own_after, with_uses}
 use Rattle.idl_fault.specs.declared.code.Code.TheVariants as code
 use Rattle.idl_check.specs.walk.Verdict.{sound}
-use Rattle.idl_check.specs.walk.Walk.{Visit, Walk, declared_visit, ended_array, ended_scope, first_walk, given_back, is_begun, outcome_at, passed, plain_name, spoken_of, spoken_visit, turns_at, unspoken_visit, used, used_visit, value_visit, visit, with_array, with_scope}
+use Rattle.idl_check.specs.walk.Walk.{Visit, Walk, declared_visit, ended_array, ended_scope, first_walk, is_begun, outcome_at, passed, turns_at, used, used_after, used_visit, value_visit, visit, with_array, with_scope, plain_name, spoken_of, spoken_visit, unspoken_visit}
 use Rattle.idl_lex.specs.kinds.Keywords.{folded}
 use Rattle.idl_lex.specs.tokens.Tokens.{Token}
 use Rattle.idl_memo.proofs.QueryLaws.{outcome-and_then}
@@ -46,7 +43,7 @@ use Rattle.idl_env.proofs.Membership.{IsIn, IsIn-one, IsIn-split}
 use Rattle.idl_entity.specs.Entity.{is_operation}
 use Rattle.idl_env.specs.Facts.{UnitFacts, World, answer_of, answers, entity_in, path_around, with_addition, with_additions, world}
 use Rattle.idl_entity.specs.Kind.{kind_eq, same_kind, same_stage, stage_eq}
-use Rattle.idl_scope.specs.Lookup.{denoted, under}
+use Rattle.idl_scope.specs.Lookup.{denoted, under, Lookup}
 use Rattle.idl_scope.specs.Meaning.{Denotes, Through, bases_of, entity_found, seen}
 use Rattle.idl_entity.specs.Path.{name_of, scope_of}
 use Rattle.idl_env.specs.Turns.{turns_for}
@@ -75,6 +72,10 @@ use Rattle.idl_value.specs.declared.outcome.Outcome.{Outcome}
 use Rattle.idl_value.specs.declared.outcome.Outcome.TheVariants as result
 use Rattle.idl_value.specs.declared.value.Value.{Value}
 use Rattle.idl_unit.specs.TokenRules.{first}
+use Rattle.idl_parts.specs.declared.part.TextPurpose.{TextPurpose}
+use Rattle.idl_check.specs.ids.Remarks.{purpose_of, remark}
+use Rattle.std.proofs.lemmas.List.Elements.{All-head, All-tail}
+use Rattle.idl_check.proofs.Visits.RemarkLaws.{IsOfIds, of-ids-apart, remark-is}
 
 -- ---- bodies are of the same entities
 
@@ -304,35 +305,29 @@ module _ (facts : List UnitFacts) (k : IsSettled (world facts)) (turns : ℕ) (e
       let one = grows-beside names around own a g (λ m q. of-ids-apart a m q (All-head IsOfIds a more all)) in
       grows-on names around own (with_addition own a) (fold with_addition own (a ∷ more)) one (ids-grow more (with_addition own a) (All-tail IsOfIds a more all) one.grown)
 
-  spoken-by-walks : (way : Use) (name : ScopedName) (w : Walk) (s : Scene) (r : Result Found NameFault) → At w s → At (outcome (spoken_by turns (answers facts) way name w r) (answers facts)).after s
-  spoken-by-walks way name w s (Ok found) h =
-      let query = under w.own (remark way (last_at w.at name) w.text found.entity) in
+  spoken-by-walks : (p : TextPurpose) (name : ScopedName) (w : Walk) (s : Scene) (r : Result Found NameFault) → At w s → At (outcome (spoken_by turns (answers facts) p name w r) (answers facts)).after s
+  spoken-by-walks p name w s (Ok found) h =
+      let query = under w.own (remark p (last_at w.at name) w.text found.entity) in
       let said = outcome query (answers facts) in
-      let is = remark-is w.own (answers facts) way (last_at w.at name) w.text found.entity in
+      let is = remark-is w.own (answers facts) p (last_at w.at name) w.text found.entity in
       subst (λ (v : Visit). At v.after s) (sym (outcome-and_then query (λ s. Done (spoken_visit w name found s)) (answers facts)))
       (walks-on w (spoken_visit w name found said).after s h (ids-grow said.additions w.own is.adds h.grown) refl refl refl (same-bodies w.bodies) h.bases)
-  spoken-by-walks way name w s (Err fault) h = walks-on w (unspoken_visit w name fault).after s h (grows-none names around w.own h.grown) refl refl refl (same-bodies w.bodies) h.bases
+  spoken-by-walks p name w s (Err fault) h = walks-on w (unspoken_visit w name fault).after s h (grows-none names around w.own h.grown) refl refl refl (same-bodies w.bodies) h.bases
 
-  spoken-walks : (way : Use) (name : ScopedName) (w : Walk) (s : Scene) → At w s → At (outcome (spoken_of turns way name w) (answers facts)).after s
+  spoken-walks : (p : TextPurpose) (name : ScopedName) (w : Walk) (s : Scene) → At w s → At (outcome (spoken_of turns p name w) (answers facts)).after s
   unfolding spoken_of
-  spoken-walks way name w s h =
+  spoken-walks p name w s h =
       let query = under w.own (denoted (turns_at turns w) w.cursor name) in
-      subst (λ (v : Visit). At v.after s) (sym (outcome-and_then query (spoken_by turns (answers facts) way name w) (answers facts)))
-      (spoken-by-walks way name w s (outcome query (answers facts)) h)
+      subst (λ (v : Visit). At v.after s) (sym (outcome-and_then query (spoken_by turns (answers facts) p name w) (answers facts)))
+      (spoken-by-walks p name w s (outcome query (answers facts)) h)
 
   any-walks : (way : Use) (name : ScopedName) (w : Walk) (s : Scene) → (outcome (plain_name turns way name w) (answers facts)).faults ≡ [] → At w s → At (outcome (plain_name turns way name w) (answers facts)).after s
-  any-walks way name w s none h = by_way (is_spoken_of way) none
+  any-walks way name w s none h = by_purpose (purpose_of way) none
     where
-      by_way : (b : Bool) → (outcome (cond b (spoken_of turns way name w) (used turns way name w)) (answers facts)).faults ≡ []
-          → At (outcome (cond b (spoken_of turns way name w) (used turns way name w)) (answers facts)).after s
-      by_way true no = spoken-walks way name w s h
-      by_way false no = used-walks way name w s no h
-
-  named-walks : (way : Use) (name : ScopedName) (w : Walk) (s : Scene) (b : Bool) → (outcome (named_by turns (answers facts) way name w b) (answers facts)).faults ≡ [] → At w s
-      → At (outcome (named_by turns (answers facts) way name w b) (answers facts)).after s
-  unfolding given_back
-  named-walks way name w s true none h = absurd (given-some turns (answers facts) way name w name.is_global name.rest none)
-  named-walks way name w s false none h = any-walks way name w s none h
+      by_purpose : (o : Option TextPurpose) → (outcome (elim o as (λ _. Lookup Visit) [ None ↦ used turns way name w | Some p ↦ spoken_of turns p name w ]) (answers facts)).faults ≡ []
+          → At (outcome (elim o as (λ _. Lookup Visit) [ None ↦ used turns way name w | Some p ↦ spoken_of turns p name w ]) (answers facts)).after s
+      by_purpose (Some p) clean = spoken-walks p name w s h
+      by_purpose None clean = used-walks way name w s clean h
 
   -- ---- scopes that begin and end
 
@@ -453,7 +448,7 @@ module _ (facts : List UnitFacts) (k : IsSettled (world facts)) (turns : ℕ) (e
   unfolding visit
   site-walks (item.Plain n) w s h sited none = calm w (passed n w) s h refl refl refl refl refl refl
   site-walks (item.Declares way name) w s h sited none = walks-declared way name w s h sited w.cursor refl none
-  site-walks (item.Uses way name) w s h sited none = used-walks way name w s none h
+  site-walks (item.Uses way name) w s h sited none = any-walks way name w s none h
   site-walks (item.Says purpose text) w s h sited none = calm w (visited turns (answers facts) (item.Says purpose text) w).after s h refl refl refl refl refl refl
   site-walks item.ValueBegins w s h sited none = calm w (visited turns (answers facts) item.ValueBegins w).after s h refl refl refl refl refl refl
   site-walks (item.ValueEnds way e) w s h sited none = valued-walks w s way (outcome_at w way e) h

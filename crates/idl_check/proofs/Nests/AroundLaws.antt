@@ -5,7 +5,6 @@ use Rattle.std.proofs.lemmas.List.Elements.{All-cons, All-drop, All-head, All-ta
 use Rattle.std.specs.Option.{IsSome}
 use Rattle.std.specs.Prelude.{All}
 use Rattle.idl_check.specs.tables.Codes.{Table, codes_in, faults_by}
-use Rattle.idl_check.specs.ids.Remarks.{is_spoken_of, remark}
 use Rattle.idl_check.specs.tables.Declaring.{Written, entity_of, kind_of, standing}
 use Rattle.idl_check.specs.told.Labels.{Labels, no_labels, with_default, with_label}
 use Rattle.idl_tree.specs.NameParts.{last_at}
@@ -14,13 +13,13 @@ use Rattle.idl_check.specs.walk.Sections.{is_single}
 use Rattle.idl_check.specs.told.Types.{constants_of, looked_through, target_in, written_as}
 use Rattle.idl_check.specs.tables.Using.{constants_after, suited_table, unions_after, used_table, values_after}
 use Rattle.idl_check.specs.told.Values.{Values}
-use Rattle.idl_check.specs.walk.Walk.{Visit, Walk, declared_visit, plain_name, spoken_of, spoken_visit, turns_at, used, used_visit, valued_after, visit, with_labels, with_scope}
+use Rattle.idl_check.specs.walk.Walk.{Visit, Walk, declared_visit, turns_at, used, used_visit, valued_after, visit, with_labels, with_scope, plain_name, spoken_of, spoken_visit}
 use Rattle.idl_fault.specs.declared.code.Code.TheVariants as code
 use Rattle.idl_memo.proofs.QueryLaws.{outcome-and_then}
 use Rattle.idl_memo.specs.Query.{Done, outcome}
 use Rattle.idl_entity.specs.DataType.{plain_type}
 use Rattle.idl_entity.specs.Kind.{kind_eq}
-use Rattle.idl_scope.specs.Lookup.{denoted, under}
+use Rattle.idl_scope.specs.Lookup.{denoted, under, Lookup}
 use Rattle.idl_env.specs.declared.answering.answer.Answer.{Answer}
 use Rattle.idl_env.specs.declared.answering.answer.Scope.{Scope}
 use Rattle.idl_entity.specs.declared.data_type.DataType.{DataType}
@@ -48,8 +47,10 @@ use Rattle.idl_value.specs.declared.constant_type.ConstantType.{ConstantType}
 use Rattle.idl_value.specs.declared.value.Value.{Value}
 use Rattle.idl_check.proofs.Nests.LevelSites.{Around, around_after, has_constants, is_inside, opens_union, popped, used_around}
 use Rattle.idl_check.proofs.PartLemmas.{IsUpTo}
-use Rattle.idl_check.proofs.Visits.SiteLaws.{declared_by, denoted-up, end_visit, named_by, spoken_by, union_visit, used_by, visited}
+use Rattle.idl_check.proofs.Visits.SiteLaws.{declared_by, denoted-up, end_visit, union_visit, used_by, visited, spoken_by}
 use Rattle.idl_check.proofs.Faults.TableLaws.{no-codes, no-row}
+use Rattle.idl_parts.specs.declared.part.TextPurpose.{TextPurpose}
+use Rattle.idl_check.specs.ids.Remarks.{purpose_of, remark}
 
 abbrev pub IsTyped : Labels → Type 0
 IsTyped labels = IsSome labels.target
@@ -132,11 +133,11 @@ found-kept w way name found behind a none k = record {
 }
 
 -- where something is said of it, the same stands around
-spoken-around : (way : Use) (a : Around) → is_spoken_of way ≡ true → a ≡ used_around way a
-spoken-around (AsBase is_local) a h = cc
-spoken-around AsIdentified a h = refl
-spoken-around AsPrefixed a h = refl
-spoken-around other a h = cc
+spoken-around : (way : Use) (p : TextPurpose) (a : Around) → purpose_of way ≡ Some p → a ≡ used_around way a
+spoken-around (AsBase is_local) p a h = cc
+spoken-around AsIdentified p a h = refl
+spoken-around AsPrefixed p a h = refl
+spoken-around other p a h = cc
 
 module _ (turns : ℕ) (answers : Key → Option Answer) where
   used-by-kept : (way : Use) (name : ScopedName) (w : Walk) (a : Around) (r : Result Found NameFault) → IsUpTo {A = Found} (length name.rest) r
@@ -157,31 +158,26 @@ module _ (turns : ℕ) (answers : Key → Option Answer) where
       subst (λ (v : Visit). IsKept w v.after (used_around way a)) (sym same)
       (used-by-kept way name w a (outcome query answers) (denoted-up turns answers name w) (ap (λ (v : Visit). v.faults) (sym same) ∙ none) k)
 
-  spoken-by-kept : (way : Use) (name : ScopedName) (w : Walk) (a : Around) (r : Result Found NameFault) → StandsIn w a → IsKept w (outcome (spoken_by turns answers way name w r) answers).after a
-  spoken-by-kept way name w a (Ok found) k =
-      let query = under w.own (remark way (last_at w.at name) w.text found.entity) in
+  spoken-by-kept : (p : TextPurpose) (name : ScopedName) (w : Walk) (a : Around) (r : Result Found NameFault) → StandsIn w a → IsKept w (outcome (spoken_by turns answers p name w r) answers).after a
+  spoken-by-kept p name w a (Ok found) k =
+      let query = under w.own (remark p (last_at w.at name) w.text found.entity) in
       subst (λ (v : Visit). IsKept w v.after a) (sym (outcome-and_then query (λ s. Done (spoken_visit w name found s)) answers)) (record { stands = k; told = refl; constant = refl })
-  spoken-by-kept way name w a (Err fault) k = record { stands = k; told = refl; constant = refl }
+  spoken-by-kept p name w a (Err fault) k = record { stands = k; told = refl; constant = refl }
 
-  spoken-kept : (way : Use) (name : ScopedName) (w : Walk) (a : Around) → StandsIn w a → IsKept w (outcome (spoken_of turns way name w) answers).after a
+  spoken-kept : (p : TextPurpose) (name : ScopedName) (w : Walk) (a : Around) → StandsIn w a → IsKept w (outcome (spoken_of turns p name w) answers).after a
   unfolding spoken_of
-  spoken-kept way name w a k =
+  spoken-kept p name w a k =
       let query = under w.own (denoted (turns_at turns w) w.cursor name) in
-      subst (λ (v : Visit). IsKept w v.after a) (sym (outcome-and_then query (spoken_by turns answers way name w) answers)) (spoken-by-kept way name w a (outcome query answers) k)
+      subst (λ (v : Visit). IsKept w v.after a) (sym (outcome-and_then query (spoken_by turns answers p name w) answers)) (spoken-by-kept p name w a (outcome query answers) k)
 
-  any-kept : (way : Use) (name : ScopedName) (w : Walk) (a : Around) → (outcome (plain_name turns way name w) answers).faults ≡ [] → StandsIn w a
+  pub any-kept : (way : Use) (name : ScopedName) (w : Walk) (a : Around) → (outcome (plain_name turns way name w) answers).faults ≡ [] → StandsIn w a
       → IsKept w (outcome (plain_name turns way name w) answers).after (used_around way a)
-  any-kept way name w a none k = by_way (is_spoken_of way) refl none
+  any-kept way name w a none k = by_purpose (purpose_of way) refl none
     where
-      by_way : (b : Bool) → is_spoken_of way ≡ b → (outcome (cond b (spoken_of turns way name w) (used turns way name w)) answers).faults ≡ []
-          → IsKept w (outcome (cond b (spoken_of turns way name w) (used turns way name w)) answers).after (used_around way a)
-      by_way true is no = subst (IsKept w (outcome (spoken_of turns way name w) answers).after) (spoken-around way a is) (spoken-kept way name w a k)
-      by_way false is no = used-kept way name w a no k
-
-  named-kept : (way : Use) (name : ScopedName) (w : Walk) (a : Around) (b : Bool) → b ≡ false → (outcome (named_by turns answers way name w b) answers).faults ≡ [] → StandsIn w a
-      → IsKept w (outcome (named_by turns answers way name w b) answers).after (used_around way a)
-  named-kept way name w a true given none k = cc
-  named-kept way name w a false given none k = any-kept way name w a none k
+      by_purpose : (o : Option TextPurpose) → purpose_of way ≡ o → (outcome (elim o as (λ _. Lookup Visit) [ None ↦ used turns way name w | Some p ↦ spoken_of turns p name w ]) answers).faults ≡ []
+          → IsKept w (outcome (elim o as (λ _. Lookup Visit) [ None ↦ used turns way name w | Some p ↦ spoken_of turns p name w ]) answers).after (used_around way a)
+      by_purpose (Some p) is clean = subst (IsKept w (outcome (spoken_of turns p name w) answers).after) (spoken-around way p a is) (spoken-kept p name w a k)
+      by_purpose None is clean = used-kept way name w a clean k
 
   -- ---- declared names
 
@@ -310,7 +306,7 @@ module _ (turns : ℕ) (answers : Key → Option Answer) where
   unfolding visit
   single-kept (item.Plain n) w a single inside none k = record { stands = k; told = refl; constant = refl }
   single-kept (item.Declares way name) w a single inside none k = declared-kept turns answers way name w a (first w.cursor) k
-  single-kept (item.Uses way name) w a single inside none k = used-kept turns answers way name w a none k
+  single-kept (item.Uses way name) w a single inside none k = any-kept turns answers way name w a none k
   single-kept (item.Says purpose text) w a single inside none k = record { stands = k; told = refl; constant = refl }
   single-kept item.ValueBegins w a single inside none k = cc
   single-kept (item.ValueEnds way e) w a single inside none k = cc

@@ -1,13 +1,12 @@
 -- What comes of a site does not hang on the fault so far.
 use Rattle.std.proofs.Common.{◌≡◌, ◌∙◌, ℕ, Bool, true, false, List, [], ◌∷◌, ◌++◌, Option, Some, None, Result, Ok, Err, refl, sym, ap}
-use Rattle.idl_check.specs.ids.Remarks.{is_spoken_of, remark}
 use Rattle.idl_check.specs.tables.Declaring.{entity_of, standing}
 use Rattle.idl_check.specs.told.Types.{looked_through}
-use Rattle.idl_check.specs.walk.Walk.{turns_at, Visit, Walk, declared_visit, given_back, head_of, head_visit, outcome_at, plain_name, spoken_of, spoken_visit, unfound_visit, used, used_visit, value_visit, visit, with_oneway}
+use Rattle.idl_check.specs.walk.Walk.{turns_at, Visit, Walk, declared_visit, outcome_at, unfound_visit, used, used_visit, value_visit, visit, plain_name, spoken_of, spoken_visit}
 use Rattle.idl_memo.specs.Query.{Done, outcome}
 use Rattle.idl_memo.proofs.QueryLaws.{outcome-and_then}
 use Rattle.idl_entity.specs.Kind.{kind_eq}
-use Rattle.idl_scope.specs.Lookup.{denoted, under}
+use Rattle.idl_scope.specs.Lookup.{denoted, under, Lookup}
 use Rattle.idl_env.specs.declared.answering.answer.Answer.{Answer}
 use Rattle.idl_env.specs.declared.answering.answer.Scope.{Scope}
 use Rattle.idl_scope.specs.declared.fault.NameFault.{NameFault}
@@ -21,14 +20,16 @@ use Rattle.idl_parts.specs.declared.part.Declaration.{Declaration}
 use Rattle.idl_parts.specs.declared.part.Purpose.{Purpose}
 use Rattle.idl_parts.specs.declared.part.Purpose.TheVariants as purpose
 use Rattle.idl_parts.specs.declared.part.Use.{Use}
-use Rattle.idl_tree.specs.NameParts.{last_at}
 use Rattle.idl_tree.specs.declared.name.ScopedName.{ScopedName}
 use Rattle.idl_unit.specs.TokenRules.{first}
 use Rattle.idl_unit.specs.declared.fault.Fault.{Fault}
 use Rattle.idl_value.specs.declared.outcome.Outcome.{Outcome}
 use Rattle.idl_value.specs.declared.outcome.Outcome.TheVariants as comes
-use Rattle.idl_check.proofs.Visits.SiteLaws.{declared_by, end_visit, given_by, named_by, spoken_by, union_visit, used_by, visited}
+use Rattle.idl_check.proofs.Visits.SiteLaws.{declared_by, end_visit, union_visit, used_by, visited, spoken_by}
 use Rattle.idl_check.proofs.Faults.VisitFaults.{visit_faults}
+use Rattle.idl_parts.specs.declared.part.TextPurpose.{TextPurpose}
+use Rattle.idl_check.specs.ids.Remarks.{purpose_of, remark}
+use Rattle.idl_tree.specs.NameParts.{last_at}
 
 -- ---- the same walk but for the fault
 
@@ -82,50 +83,33 @@ module _ (turns : ℕ) (answers : Key → Option Answer) where
       ∙ used-by-apart f way name w (outcome query answers)
       ∙ sym (ap (with_fault_after f) (outcome-and_then query (used_by turns answers way name w) answers))
 
-  spoken-by-apart : (f : Option Fault) (way : Use) (name : ScopedName) (w : Walk) (r : Result Found NameFault) → outcome (spoken_by turns answers way name (with_fault f w) r) answers ≡ with_fault_after f (outcome (spoken_by turns answers way name w r) answers)
-  spoken-by-apart f way name w (Ok found) =
-      let query = under w.own (remark way (last_at w.at name) w.text found.entity) in
+  spoken-by-apart : (f : Option Fault) (p : TextPurpose) (name : ScopedName) (w : Walk) (r : Result Found NameFault) → outcome (spoken_by turns answers p name (with_fault f w) r) answers ≡ with_fault_after f (outcome (spoken_by turns answers p name w r) answers)
+  spoken-by-apart f p name w (Ok found) =
+      let query = under w.own (remark p (last_at w.at name) w.text found.entity) in
       outcome-and_then query (λ s. Done (spoken_visit (with_fault f w) name found s)) answers
       ∙ sym (ap (with_fault_after f) (outcome-and_then query (λ s. Done (spoken_visit w name found s)) answers))
-  spoken-by-apart f way name w (Err fault) = refl
+  spoken-by-apart f p name w (Err fault) = refl
 
-  spoken-apart : (f : Option Fault) (way : Use) (name : ScopedName) (w : Walk) → outcome (spoken_of turns way name (with_fault f w)) answers ≡ with_fault_after f (outcome (spoken_of turns way name w) answers)
+  spoken-apart : (f : Option Fault) (p : TextPurpose) (name : ScopedName) (w : Walk) → outcome (spoken_of turns p name (with_fault f w)) answers ≡ with_fault_after f (outcome (spoken_of turns p name w) answers)
   unfolding spoken_of
-  spoken-apart f way name w =
+  spoken-apart f p name w =
       let query = under w.own (denoted (turns_at turns w) w.cursor name) in
-      outcome-and_then query (spoken_by turns answers way name (with_fault f w)) answers
-      ∙ spoken-by-apart f way name w (outcome query answers)
-      ∙ sym (ap (with_fault_after f) (outcome-and_then query (spoken_by turns answers way name w) answers))
+      outcome-and_then query (spoken_by turns answers p name (with_fault f w)) answers
+      ∙ spoken-by-apart f p name w (outcome query answers)
+      ∙ sym (ap (with_fault_after f) (outcome-and_then query (spoken_by turns answers p name w) answers))
 
   any-apart : (f : Option Fault) (way : Use) (name : ScopedName) (w : Walk) → outcome (plain_name turns way name (with_fault f w)) answers ≡ with_fault_after f (outcome (plain_name turns way name w) answers)
-  any-apart f way name w = by_way (is_spoken_of way)
+  any-apart f way name w = by_purpose (purpose_of way)
     where
-      by_way : (b : Bool) → outcome (cond b (spoken_of turns way name (with_fault f w)) (used turns way name (with_fault f w))) answers
-          ≡ with_fault_after f (outcome (cond b (spoken_of turns way name w) (used turns way name w)) answers)
-      by_way true = spoken-apart f way name w
-      by_way false = plain-apart f way name w
-
-  given-apart : (f : Option Fault) (way : Use) (name : ScopedName) (w : Walk) (is_global : Bool) (parts : List (List ℕ))
-      → outcome (given_by turns answers way name (with_fault f w) is_global parts) answers ≡ with_fault_after f (outcome (given_by turns answers way name w is_global parts) answers)
-  given-apart f way name w true parts = refl
-  given-apart f way name w false [] =
-      outcome-and_then (used turns way name (with_fault f w)) (λ v. Done (with_oneway w.at v)) answers
-      ∙ ap (with_oneway w.at) (plain-apart f way name w)
-      ∙ sym (ap (with_fault_after f) (outcome-and_then (used turns way name w) (λ v. Done (with_oneway w.at v)) answers))
-  given-apart f way name w false (part ∷ parts) =
-      let query = under w.own (denoted (turns_at turns w) w.cursor (head_of name)) in
-      outcome-and_then query (λ r. Done (with_oneway w.at (head_visit name (with_fault f w) r))) answers
-      ∙ sym (ap (with_fault_after f) (outcome-and_then query (λ r. Done (with_oneway w.at (head_visit name w r))) answers))
-
-  named-apart : (f : Option Fault) (way : Use) (name : ScopedName) (w : Walk) (b : Bool) → outcome (named_by turns answers way name (with_fault f w) b) answers ≡ with_fault_after f (outcome (named_by turns answers way name w b) answers)
-  unfolding given_back
-  named-apart f way name w true = given-apart f way name w name.is_global name.rest
-  named-apart f way name w false = any-apart f way name w
+      by_purpose : (o : Option TextPurpose) → outcome (elim o as (λ _. Lookup Visit) [ None ↦ used turns way name (with_fault f w) | Some p ↦ spoken_of turns p name (with_fault f w) ]) answers
+          ≡ with_fault_after f (outcome (elim o as (λ _. Lookup Visit) [ None ↦ used turns way name w | Some p ↦ spoken_of turns p name w ]) answers)
+      by_purpose (Some p) = spoken-apart f p name w
+      by_purpose None = plain-apart f way name w
 
   pub visit-apart : (f : Option Fault) (site : Item) (w : Walk) → visited turns answers site (with_fault f w) ≡ with_fault_after f (visited turns answers site w)
   unfolding visit
   visit-apart f (item.Declares way name) w = declared-apart f way name w (first w.cursor)
-  visit-apart f (item.Uses way name) w = plain-apart f way name w
+  visit-apart f (item.Uses way name) w = any-apart f way name w
   visit-apart f (item.ValueEnds way e) w = value-apart f w way (outcome_at w way e)
   visit-apart f item.ScopeEnds w = end-apart f w (first w.cursor)
   visit-apart f other w = refl

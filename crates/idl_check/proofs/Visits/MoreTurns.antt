@@ -8,12 +8,14 @@ use Rattle.idl_check.proofs.TypeLemmas.{behind-same}
 use Rattle.idl_check.proofs.Visits.VisitLemmas.{cut_by, turns-here}
 use Rattle.idl_check.specs.tables.Declaring.{entity_of, inherited, is_any, standing}
 use Rattle.idl_check.specs.ids.Identifying.{ids_of}
-use Rattle.idl_check.specs.ids.Pragmas.{said_by}
-use Rattle.idl_check.specs.ids.Remarks.{is_spoken_of}
+use Rattle.idl_check.specs.ids.About.{Said, about, about_entity, refused_for, unnamed_faults, with_faults}
+use Rattle.idl_check.specs.ids.Pragmas.{said_by, text_faults}
+use Rattle.idl_entity.specs.declared.identity.Fixed.{Fixed}
+use Rattle.idl_entity.specs.declared.identity.Fixed.TheVariants.{Id, Version}
+use Rattle.idl_tree.specs.NameParts.{last_at}
 use Rattle.idl_check.specs.told.Types.{behind_typedefs, is_looked_through, looked_through}
-use Rattle.idl_check.specs.walk.Verdict.{by_names, by_tree, faulty, first_faults, first_part, judged, misplaced, pragma_judged, pragma_verdict, refused, token_verdict, tree_of, verdict}
-use Rattle.idl_check.specs.walk.Walk.{Visit, Walk, declared_visit, first_walk, given_back, head_of, head_visit, is_over, noted_in, passed, past_name, plain_name, quiet, spoken_of, turns_at, unfound_visit, used, used_visit, visit, walk, with_oneway}
-use Rattle.idl_check.specs.tables.Rules.{is_misplaced}
+use Rattle.idl_check.specs.walk.Verdict.{by_names, by_tree, faulty, first_faults, judged, placed_walk, pragma_judged, pragma_verdict, refused, token_verdict, tree_of, verdict}
+use Rattle.idl_check.specs.walk.Walk.{Visit, Walk, cut_name, declared_visit, head_of, head_visit, is_known, is_over, looked_at, noted_in, passed, quiet, turns_at, unfound_visit, used, used_visit, visit, walk, spoken_of}
 use Rattle.idl_check.specs.declared.tables.standing.Standing.{Standing}
 use Rattle.idl_check.specs.declared.walk.verdict.Verdict.{Verdict}
 use Rattle.idl_fault.specs.declared.code.Code.TheVariants.{NoTree}
@@ -53,6 +55,8 @@ use Rattle.idl_unit.specs.TokenRules.{fault_at, first}
 use Rattle.idl_unit.specs.declared.fault.Fault.{Fault}
 use Rattle.idl_unit.specs.declared.unit.UnitText.{UnitText}
 use Rattle.idl_unit.specs.declared.unit.UnitText.TheVariants as unit
+use Rattle.idl_parts.specs.declared.part.TextPurpose.{TextPurpose}
+use Rattle.idl_check.specs.ids.Remarks.{purpose_of}
 
 module _ (facts : List UnitFacts) (turns : ℕ) (enough : turns_for facts ≤ turns) (extra : ℕ) where
   -- two queries that give the same and log the same, over any log
@@ -141,23 +145,15 @@ module _ (facts : List UnitFacts) (turns : ℕ) (enough : turns_for facts ≤ tu
             (through_at way found.entity) (λ behind log. refl)
         goes (Err fault) = λ log. refl
 
-    spoken_at : (way : Use) (name : ScopedName) → Same (spoken_of (turns + extra) way name w) (spoken_of turns way name w)
+    spoken_at : (p : TextPurpose) (name : ScopedName) → Same (spoken_of (turns + extra) p name w) (spoken_of turns p name w)
     unfolding spoken_of
-    spoken_at way name =
+    spoken_at p name =
         and_then-same (under w.own (denoted (turns_at (turns + extra) w) w.cursor name)) (under w.own (denoted (turns_at turns w) w.cursor name)) _ _
         (denoted_at w.cursor name) (λ r log. refl)
 
-    plain_at : (way : Use) (name : ScopedName) → Same (plain_name (turns + extra) way name w) (plain_name turns way name w)
-    plain_at way name log = by_way (is_spoken_of way)
-      where
-        by_way : (b : Bool) → run key_eq (cond b (spoken_of (turns + extra) way name w) (used (turns + extra) way name w)) (answers facts) log
-            ≡ run key_eq (cond b (spoken_of turns way name w) (used turns way name w)) (answers facts) log
-        by_way true = spoken_at way name log
-        by_way false = used_at way name log
-
-    given_at : (way : Use) (name : ScopedName) → Same (given_back (turns + extra) way name w) (given_back turns way name w)
-    unfolding given_back
-    given_at way name log = by_global name.is_global
+    cut_at : (way : Use) (name : ScopedName) → Same (cut_name (turns + extra) way name w) (cut_name turns way name w)
+    unfolding cut_name
+    cut_at way name = by_global name.is_global name.rest
       where
         by_global : (b : Bool) (parts : List (List ℕ)) → Same (cut_by (turns + extra) way name w b parts) (cut_by turns way name w b parts)
         by_global true parts = λ log. refl
@@ -185,19 +181,19 @@ module _ (facts : List UnitFacts) (turns : ℕ) (enough : turns_for facts ≤ tu
             (λ there. Done (declared_visit w way s e there)) (λ there. Done (declared_visit w way s e there))
             (standing_at s e) (λ there log. refl) log
 
-    used_name_at : (way : Use) (name : ScopedName) → Same (visit (turns + extra) (item.Uses way name) w) (visit turns (item.Uses way name) w)
-    unfolding visit
-    used_name_at way name log = by_given w.gives_back
-      where
-        by_given : (b : Bool) → run key_eq (cond b (given_back (turns + extra) way name w) (plain_name (turns + extra) way name w)) (answers facts) log
-            ≡ run key_eq (cond b (given_back turns way name w) (plain_name turns way name w)) (answers facts) log
-        by_given true = given_at way name log
-        by_given false = plain_at way name log
+    named_at : ℕ → Use → ScopedName → Option TextPurpose → Bool → Lookup Visit
+    named_at t way name o b = elim o as (λ _. Lookup Visit) [ None ↦ cond b (cut_name t way name w) (used t way name w) | Some p ↦ spoken_of t p name w ]
+
+    known_at : (way : Use) (name : ScopedName) (o : Option TextPurpose) (b : Bool) → Same (named_at (turns + extra) way name o b) (named_at turns way name o b)
+    unfolding named_at used
+    known_at way name (Some p) b = spoken_at p name
+    known_at way name None true = cut_at way name
+    known_at way name None false = used_at way name
 
     looked-same : (site : Item) → Same (looked_at (turns + extra) site w) (looked_at turns site w)
-    unfolding visit
+    unfolding visit named_at
     looked-same (item.Declares way name) = declared_at way name
-    looked-same (item.Uses way name) = known_at way name (is_known (w.at + 1) w)
+    looked-same (item.Uses way name) = known_at way name (purpose_of way) (is_known (w.at + 1) w)
     looked-same other = λ log. refl
 
   -- ---- a unit
@@ -249,13 +245,20 @@ module _ (facts : List UnitFacts) (turns : ℕ) (enough : turns_for facts ≤ tu
       by_fault (Some fault) = refl
       by_fault None = by_tree-same tokens scopes log
 
+  about-same : (scopes : List Scope) (name : ScopedName) (change : Fixed) → Same (about 2 (turns + extra) scopes name change) (about 2 turns scopes name change)
+  about-same scopes name change =
+      and_then-same (denoted (turns + extra) scopes name) (denoted turns scopes name) on on (denoted-plain scopes name) (λ r log. refl)
+    where
+      on : Result Found NameFault → Lookup Said
+      on r = by_result r (λ found. about_entity (last_at 2 name) change found.entity) (λ fault. Done (refused_for (unnamed_faults 2 name fault)))
+
   said_by-same : (scopes : List Scope) (o : Option Pragma) → Same (said_by (turns + extra) scopes o) (said_by turns scopes o)
   said_by-same scopes None = λ log. refl
   said_by-same scopes (Some (pragma.Prefix text)) = λ log. refl
   said_by-same scopes (Some (pragma.Id name text)) =
-      and_then-same (denoted (turns + extra) scopes name) (denoted turns scopes name) _ _ (denoted-plain scopes name) (λ r log. refl)
-  said_by-same scopes (Some (pragma.Version name major minor)) =
-      and_then-same (denoted (turns + extra) scopes name) (denoted turns scopes name) _ _ (denoted-plain scopes name) (λ r log. refl)
+      let told : Said → Lookup Said = λ s. Done (with_faults (text_faults (last_at 2 name + 1) text) s) in
+      and_then-same (about 2 (turns + extra) scopes name (Id text)) (about 2 turns scopes name (Id text)) told told (about-same scopes name (Id text)) (λ s log. refl)
+  said_by-same scopes (Some (pragma.Version name major minor)) = about-same scopes name (Version major minor)
 
   pragma_judged-same : (tokens : List Token) (inside : Bool) (scopes : List Scope) → Same (pragma_judged (turns + extra) tokens inside scopes) (pragma_judged turns tokens inside scopes)
   pragma_judged-same tokens inside scopes log = by_fault (least_fault (pragma_faults tokens inside))

@@ -1,11 +1,11 @@
 -- What is said of an entity: its faults stand at the last token of the name, and it tells of ids alone.
-use Rattle.std.proofs.Common.{◌≡◌, ℕ, ◌≤◌, Bool, true, false, cond, List, [], ◌∷◌, Option, None, Some, refl, sym, subst, arith}
+use Rattle.std.proofs.Common.{◌≡◌, ℕ, Bool, true, false, cond, List, [], ◌∷◌, Option, None, Some, refl, sym, subst}
 use Rattle.std.proofs.lemmas.List.Elements.{All-cons, All-nil}
 use Rattle.std.specs.Prelude.{All, ⊤}
 use Rattle.idl_check.specs.ids.About.{Said, about_entity, refused_for, said_at}
+use Rattle.idl_check.specs.ids.Identifying.{changed}
 use Rattle.idl_check.specs.ids.Remarks.{about_scope, is_bad_text, prefixed_at, remark, said_by_text, unless}
 use Rattle.idl_check.specs.tables.Rules.{has_id, is_fixed, is_given, is_prefixed}
-use Rattle.idl_fault.specs.Code.{number_of}
 use Rattle.idl_fault.specs.declared.code.Code.TheVariants.{NoRepositoryId, NoScope, RepeatedId, RepeatedTypeprefix, RepeatedVersion}
 use Rattle.idl_memo.proofs.QueryLaws.{outcome-and_then}
 use Rattle.idl_memo.specs.Query.{Ask, Done, and_then, outcome}
@@ -21,14 +21,15 @@ use Rattle.idl_env.specs.declared.answering.answer.Answer.{Answer}
 use Rattle.idl_env.specs.declared.keys.key.Key.{Key}
 use Rattle.idl_env.specs.declared.keys.key.Key.TheVariants.{Declared, Typeprefix}
 use Rattle.idl_env.specs.keys.Key.{key_eq}
-use Rattle.idl_parts.specs.declared.part.Use.{Use}
-use Rattle.idl_parts.specs.declared.part.Use.TheVariants.{AsBase, AsPrefixed}
+use Rattle.idl_parts.specs.declared.part.TextPurpose.{TextPurpose}
+use Rattle.idl_parts.specs.declared.part.TextPurpose.TheVariants as purpose
 use Rattle.idl_scope.proofs.FactsLaws.{outcome-under}
 use Rattle.idl_scope.specs.Known.{known}
-use Rattle.idl_scope.specs.Lookup.{under}
+use Rattle.idl_scope.specs.Lookup.{Lookup, under}
 use Rattle.idl_unit.specs.TokenRules.{fault_at}
 use Rattle.idl_unit.specs.declared.fault.Fault.{Fault}
-use Rattle.idl_check.proofs.Faults.TableLaws.{all-by}
+use Rattle.idl_check.proofs.Faults.FaultOrder.{all-at}
+use Rattle.idl_check.specs.tables.Codes.{codes_in}
 
 -- it tells of ids, and declares and introduces nothing
 abbrev pub IsOfIds : Addition → Type 0
@@ -45,7 +46,7 @@ of-ids-apart (Uses m path body) n q h = absurd h
 of-ids-apart (Appears path prefix) n q h = absurd h
 
 abbrev pub StandsSo : ℕ → Fault → Type 0
-StandsSo at f = (f.index ≡ at) × (22 ≤ number_of f.code)
+StandsSo at f = f.index ≡ at
 
 pub record IsRemark (at : ℕ) (s : Said) : Type 0 where
   pub faults : All (StandsSo at) s.faults
@@ -56,12 +57,12 @@ faulty-is at fs all = record { faults = all; adds = All-nil IsOfIds }
 
 said-is : (at : ℕ) (change : Fixed) (path : List (List ℕ)) (d : Identity) → IsRemark at (said_at at change path d)
 said-is at (Id text) path d = record {
-  faults = all-by at ((is_given text path d, RepeatedId) ∷ []) (StandsSo at) (λ c number. (refl, number)) (omega arith, tt);
-  adds = All-cons IsOfIds _ [] tt (All-nil IsOfIds);
+  faults = all-at (StandsSo at) at (λ c. refl) (codes_in ((is_given text path d, RepeatedId) ∷ []));
+  adds = All-cons IsOfIds (Identifies path (changed (Id text) d)) [] tt (All-nil IsOfIds);
 }
 said-is at (Version major minor) path d = record {
-  faults = all-by at ((is_fixed d, RepeatedVersion) ∷ []) (StandsSo at) (λ c number. (refl, number)) (omega arith, tt);
-  adds = All-cons IsOfIds _ [] tt (All-nil IsOfIds);
+  faults = all-at (StandsSo at) at (λ c. refl) (codes_in ((is_fixed d, RepeatedVersion) ∷ []));
+  adds = All-cons IsOfIds (Identifies path (changed (Version major minor) d)) [] tt (All-nil IsOfIds);
 }
 
 unless-is : (at : ℕ) (b : Bool) (s : Said) → IsRemark at s → IsRemark at (unless b s)
@@ -82,32 +83,33 @@ module _ (bank : Key → Option Answer) (at : ℕ) where
       by_kind true =
           subst (IsRemark at) (sym (outcome-and_then (known e.path) (λ d. Done (elim d as (λ _. Said) [ None ↦ refused_for [] | Some d ↦ said_at at change e.path d ])) bank))
           (identified-is change e.path (outcome (known e.path) bank))
-      by_kind false = faulty-is at (fault_at at NoRepositoryId ∷ []) (All-cons (StandsSo at) (fault_at at NoRepositoryId) [] (refl, omega arith) (All-nil (StandsSo at)))
+      by_kind false = faulty-is at (fault_at at NoRepositoryId ∷ []) (All-cons (StandsSo at) (fault_at at NoRepositoryId) [] refl (All-nil (StandsSo at)))
 
   scope-is : (text : List ℕ) (e : Entity) → IsRemark at (outcome (about_scope at text e) bank)
   scope-is text e = by_kind (is_scope e.kind)
     where
-      by_kind : (b : Bool) → IsRemark at (outcome (cond b
-          (Ask (Typeprefix e.path) (λ answer. Done (prefixed_at at text e.path answer)))
-          (Done (refused_for (fault_at at NoScope ∷ [])))) bank)
+      query : Bool → Lookup Said
+      query b = cond b (Ask (Typeprefix e.path) (λ answer. Done (prefixed_at at text e.path answer))) (Done (refused_for (fault_at at NoScope ∷ [])))
+
+      by_kind : (b : Bool) → IsRemark at (outcome (query b) bank)
       by_kind true = record {
-        faults = all-by at ((is_prefixed (typeprefix_in (bank (Typeprefix e.path))), RepeatedTypeprefix) ∷ []) (StandsSo at) (λ c number. (refl, number)) (omega arith, tt);
+        faults = all-at (StandsSo at) at (λ c. refl) (codes_in ((is_prefixed (typeprefix_in (bank (Typeprefix e.path))), RepeatedTypeprefix) ∷ []));
         adds = All-cons IsOfIds (TypePrefixes e.path text) [] tt (All-nil IsOfIds);
       }
-      by_kind false = faulty-is at (fault_at at NoScope ∷ []) (All-cons (StandsSo at) (fault_at at NoScope) [] (refl, omega arith) (All-nil (StandsSo at)))
+      by_kind false = faulty-is at (fault_at at NoScope ∷ []) (All-cons (StandsSo at) (fault_at at NoScope) [] refl (All-nil (StandsSo at)))
 
-  text-is : (way : Use) (text : List ℕ) (e : Entity) → IsRemark at (outcome (said_by_text way at text e) bank)
-  text-is (AsBase is_local) text e = entity-is (Id text) e
-  text-is AsPrefixed text e = scope-is text e
-  text-is other text e = entity-is (Id text) e
+  text-is : (p : TextPurpose) (text : List ℕ) (e : Entity) → IsRemark at (outcome (said_by_text p at text e) bank)
+  text-is purpose.Context text e = faulty-is at [] (All-nil (StandsSo at))
+  text-is purpose.Id text e = entity-is (Id text) e
+  text-is purpose.Prefix text e = scope-is text e
 
-  plain-is : (way : Use) (text : List ℕ) (e : Entity) → IsRemark at (outcome (remark way at text e) bank)
-  plain-is way text e =
-      let bad = is_bad_text (purpose_of way) text in
-      subst (IsRemark at) (sym (outcome-and_then (said_by_text way at text e) (λ s. Done (unless bad s)) bank))
-      (unless-is at bad (outcome (said_by_text way at text e) bank) (text-is way text e))
+  plain-is : (p : TextPurpose) (text : List ℕ) (e : Entity) → IsRemark at (outcome (remark p at text e) bank)
+  plain-is p text e =
+      let bad = is_bad_text p text in
+      subst (IsRemark at) (sym (outcome-and_then (said_by_text p at text e) (λ s. Done (unless bad s)) bank))
+      (unless-is at bad (outcome (said_by_text p at text e) bank) (text-is p text e))
 
 -- under what the unit's earlier tokens add
-pub remark-is : (own : List Addition) (answers : Key → Option Answer) (way : Use) (at : ℕ) (text : List ℕ) (e : Entity) → IsRemark at (outcome (under own (remark way at text e)) answers)
-remark-is own answers way at text e =
-    subst (IsRemark at) (sym (outcome-under own answers (remark way at text e))) (plain-is (λ k. over own k (answers k)) at way text e)
+pub remark-is : (own : List Addition) (answers : Key → Option Answer) (p : TextPurpose) (at : ℕ) (text : List ℕ) (e : Entity) → IsRemark at (outcome (under own (remark p at text e)) answers)
+remark-is own answers p at text e =
+    subst (IsRemark at) (sym (outcome-under own answers (remark p at text e))) (plain-is (λ k. over own k (answers k)) at p text e)

@@ -5,13 +5,11 @@ use Rattle.std.proofs.lemmas.Option.{same_Some}
 use Rattle.std.proofs.lemmas.Slice.Eq.{bytes_eq-Decides}
 use Rattle.std.specs.Prelude.{◌||◌, codes, is_some}
 use Rattle.std.specs.Str.{bytes_eq}
-use Rattle.idl_check.specs.ids.Remarks.{is_spoken_of, remark}
 use Rattle.idl_check.specs.tables.Declaring.{entity_of, standing}
 use Rattle.idl_check.specs.walk.Judging.{used_name, used_names, walked}
 use Rattle.idl_dump.specs.Row.{Rest, spaced, token_text, unit_text}
 use Rattle.idl_check.specs.told.Types.{looked_through}
-use Rattle.idl_check.specs.walk.Walk.{turns_at, Visit, Walk, declared_visit, given_back, head_of, head_visit, outcome_at, plain_name, spoken_of, spoken_visit, unfound_visit, used, used_visit, value_visit, visit, with_oneway}
-use Rattle.idl_fault.specs.declared.code.Code.TheVariants.{BadOneway}
+use Rattle.idl_check.specs.walk.Walk.{turns_at, Visit, Walk, declared_visit, outcome_at, unfound_visit, used, used_visit, value_visit, visit, plain_name, spoken_of, spoken_visit}
 use Rattle.idl_lex.specs.kinds.Kind.{kind_of}
 use Rattle.idl_lex.specs.kinds.Marks.{marks}
 use Rattle.idl_lex.specs.tokens.Tokens.{Token}
@@ -20,7 +18,7 @@ use Rattle.idl_lex.specs.declared.kinds.mark.Mark.TheVariants as mark
 use Rattle.idl_memo.specs.Query.{Done, outcome}
 use Rattle.idl_memo.proofs.QueryLaws.{outcome-and_then}
 use Rattle.idl_entity.specs.Kind.{kind_eq}
-use Rattle.idl_scope.specs.Lookup.{denoted, under}
+use Rattle.idl_scope.specs.Lookup.{denoted, under, Lookup}
 use Rattle.idl_env.specs.declared.answering.answer.Answer.{Answer}
 use Rattle.idl_env.specs.declared.answering.answer.Scope.{Scope}
 use Rattle.idl_scope.specs.declared.fault.NameFault.{NameFault}
@@ -70,7 +68,6 @@ use Rattle.idl_tree.specs.declared.declarations.data_type.PlainType.{PlainType}
 use Rattle.idl_tree.specs.declared.declarations.data_type.PlainType.TheVariants as plain
 use Rattle.idl_tree.specs.declared.declarations.data_type.Sequence.{Sequence}
 use Rattle.idl_tree.specs.declared.declarations.interface.Forward.TheVariants as forward
-use Rattle.idl_tree.specs.NameParts.{last_at}
 use Rattle.idl_tree.specs.declared.name.ScopedName.{ScopedName}
 use Rattle.idl_tree.specs.declared.declarations.operation.Operation.{Operation}
 use Rattle.idl_tree.specs.declared.unit.Tree.{Tree}
@@ -82,9 +79,12 @@ use Rattle.idl_value.specs.declared.outcome.Outcome.{Outcome}
 use Rattle.idl_value.specs.declared.outcome.Outcome.TheVariants as comes
 use Rattle.idl_value.specs.declared.value.Value.{Value}
 use Rattle.idl_check.proofs.PartLemmas.{IsUpTo}
-use Rattle.idl_check.proofs.Visits.SiteLaws.{declared_by, denoted-up, end_visit, given_by, named_by, spoken_by, union_visit, used_by, visited}
+use Rattle.idl_check.proofs.Visits.SiteLaws.{declared_by, denoted-up, end_visit, union_visit, used_by, visited, spoken_by}
 use Rattle.idl_check.proofs.Visits.WalkLaws.{none-append}
 use Rattle.idl_check.proofs.Faults.VisitFaults.{visit_faults}
+use Rattle.idl_parts.specs.declared.part.TextPurpose.{TextPurpose}
+use Rattle.idl_check.specs.ids.Remarks.{purpose_of, remark}
+use Rattle.idl_tree.specs.NameParts.{last_at}
 
 -- ---- a path for each used name
 
@@ -136,46 +136,29 @@ module _ (turns : ℕ) (answers : Key → Option Answer) where
       subst (FindsOne w) (sym (outcome-and_then query (used_by turns answers way name w) answers))
       (used-by-found way name w (outcome query answers) (denoted-up turns answers name w))
 
-  spoken-by-found : (way : Use) (name : ScopedName) (w : Walk) (r : Result Found NameFault) → IsUpTo (length name.rest) r → FindsOne w (outcome (spoken_by turns answers way name w r) answers)
-  spoken-by-found way name w (Ok found) up h =
+  spoken-by-found : (p : TextPurpose) (name : ScopedName) (w : Walk) (r : Result Found NameFault) → IsUpTo (length name.rest) r → FindsOne w (outcome (spoken_by turns answers p name w r) answers)
+  spoken-by-found p name w (Ok found) up h =
       ap (λ (v : Visit). length v.after.found)
-      (outcome-and_then (under w.own (remark way (last_at w.at name) w.text found.entity)) (λ s. Done (spoken_visit w name found s)) answers)
+      (outcome-and_then (under w.own (remark p (last_at w.at name) w.text found.entity)) (λ s. Done (spoken_visit w name found s)) answers)
       ∙ length-append w.found (found.entity.path ∷ [])
-  spoken-by-found way name w (Err (At why part)) up h = cc
-  spoken-by-found way name w (Err Memory) up h = absurd up
+  spoken-by-found p name w (Err (At why part)) up h = cc
+  spoken-by-found p name w (Err Memory) up h = absurd up
 
-  spoken-found : (way : Use) (name : ScopedName) (w : Walk) → FindsOne w (outcome (spoken_of turns way name w) answers)
+  spoken-found : (p : TextPurpose) (name : ScopedName) (w : Walk) → FindsOne w (outcome (spoken_of turns p name w) answers)
   unfolding spoken_of
-  spoken-found way name w =
+  spoken-found p name w =
       let query = under w.own (denoted (turns_at turns w) w.cursor name) in
-      subst (FindsOne w) (sym (outcome-and_then query (spoken_by turns answers way name w) answers))
-      (spoken-by-found way name w (outcome query answers) (denoted-up turns answers name w))
+      subst (FindsOne w) (sym (outcome-and_then query (spoken_by turns answers p name w) answers))
+      (spoken-by-found p name w (outcome query answers) (denoted-up turns answers name w))
 
   any-found : (way : Use) (name : ScopedName) (w : Walk) → FindsOne w (outcome (plain_name turns way name w) answers)
-  any-found way name w = by_way (is_spoken_of way)
+  any-found way name w = by_purpose (purpose_of way)
     where
-      by_way : (b : Bool) → FindsOne w (outcome (cond b (spoken_of turns way name w) (used turns way name w)) answers)
-      by_way true = spoken-found way name w
-      by_way false = plain-found way name w
+      by_purpose : (o : Option TextPurpose) → FindsOne w (outcome (elim o as (λ _. Lookup Visit) [ None ↦ used turns way name w | Some p ↦ spoken_of turns p name w ]) answers)
+      by_purpose (Some p) = spoken-found p name w
+      by_purpose None = plain-found way name w
 
-  -- what is given back is never without fault
-  given-found : (way : Use) (name : ScopedName) (w : Walk) (is_global : Bool) (parts : List (List ℕ)) → FindsOne w (outcome (given_by turns answers way name w is_global parts) answers)
-  given-found way name w true parts = λ h. absurd (no-end [] (fault_at w.at BadOneway) h)
-  given-found way name w false [] =
-      let query = used turns way name w in
-      subst (FindsOne w) (sym (outcome-and_then query (λ v. Done (with_oneway w.at v)) answers))
-      (λ h. absurd (no-end (outcome query answers).faults (fault_at w.at BadOneway) h))
-  given-found way name w false (part ∷ parts) =
-      let query = under w.own (denoted (turns_at turns w) w.cursor (head_of name)) in
-      subst (FindsOne w) (sym (outcome-and_then query (λ r. Done (with_oneway w.at (head_visit name w r))) answers))
-      (λ h. absurd (no-end (head_visit name w (outcome query answers)).faults (fault_at w.at BadOneway) h))
-
-  named-found : (way : Use) (name : ScopedName) (w : Walk) (b : Bool) → FindsOne w (outcome (named_by turns answers way name w b) answers)
-  unfolding given_back
-  named-found way name w true = given-found way name w name.is_global name.rest
-  named-found way name w false = any-found way name w
-
-  -- the path that is found at a used name that isn't given back, where that denotes something
+  -- the path that is found at a used name, where that denotes something
   plain-path : (way : Use) (name : ScopedName) (w : Walk) (found : Found) → outcome (under w.own (denoted (turns_at turns w) w.cursor name)) answers ≡ Ok found
       → (outcome (used turns way name w) answers).after.found ≡ w.found ++ found.entity.path ∷ []
   unfolding used
@@ -184,34 +167,32 @@ module _ (turns : ℕ) (answers : Key → Option Answer) where
       ∙ ap (λ r. (outcome (used_by turns answers way name w r) answers).after.found) is
       ∙ ap (λ (v : Visit). v.after.found) (outcome-and_then (under w.own (looked_through (turns_at turns w) way found.entity)) (λ behind. Done (used_visit w way name found behind)) answers)
 
-  spoken-path : (way : Use) (name : ScopedName) (w : Walk) (found : Found) → outcome (under w.own (denoted (turns_at turns w) w.cursor name)) answers ≡ Ok found
-      → (outcome (spoken_of turns way name w) answers).after.found ≡ w.found ++ found.entity.path ∷ []
+  spoken-path : (p : TextPurpose) (name : ScopedName) (w : Walk) (found : Found) → outcome (under w.own (denoted (turns_at turns w) w.cursor name)) answers ≡ Ok found
+      → (outcome (spoken_of turns p name w) answers).after.found ≡ w.found ++ found.entity.path ∷ []
   unfolding spoken_of
-  spoken-path way name w found is =
-      ap (λ (v : Visit). v.after.found) (outcome-and_then (under w.own (denoted (turns_at turns w) w.cursor name)) (spoken_by turns answers way name w) answers)
-      ∙ ap (λ r. (outcome (spoken_by turns answers way name w r) answers).after.found) is
-      ∙ ap (λ (v : Visit). v.after.found) (outcome-and_then (under w.own (remark way (last_at w.at name) w.text found.entity)) (λ s. Done (spoken_visit w name found s)) answers)
+  spoken-path p name w found is =
+      ap (λ (v : Visit). v.after.found) (outcome-and_then (under w.own (denoted (turns_at turns w) w.cursor name)) (spoken_by turns answers p name w) answers)
+      ∙ ap (λ r. (outcome (spoken_by turns answers p name w r) answers).after.found) is
+      ∙ ap (λ (v : Visit). v.after.found) (outcome-and_then (under w.own (remark p (last_at w.at name) w.text found.entity)) (λ s. Done (spoken_visit w name found s)) answers)
 
   any-path : (way : Use) (name : ScopedName) (w : Walk) (found : Found) → outcome (under w.own (denoted (turns_at turns w) w.cursor name)) answers ≡ Ok found
       → (outcome (plain_name turns way name w) answers).after.found ≡ w.found ++ found.entity.path ∷ []
-  any-path way name w found is = by_way (is_spoken_of way)
+  any-path way name w found is = by_purpose (purpose_of way)
     where
-      by_way : (b : Bool) → (outcome (cond b (spoken_of turns way name w) (used turns way name w)) answers).after.found ≡ w.found ++ found.entity.path ∷ []
-      by_way true = spoken-path way name w found is
-      by_way false = plain-path way name w found is
+      by_purpose : (o : Option TextPurpose) → (outcome (elim o as (λ _. Lookup Visit) [ None ↦ used turns way name w | Some p ↦ spoken_of turns p name w ]) answers).after.found ≡ w.found ++ found.entity.path ∷ []
+      by_purpose (Some p) = spoken-path p name w found is
+      by_purpose None = plain-path way name w found is
 
-  pub used-path : (way : Use) (name : ScopedName) (w : Walk) (found : Found) → w.gives_back ≡ false → outcome (under w.own (denoted (turns_at turns w) w.cursor name)) answers ≡ Ok found
+  pub used-path : (way : Use) (name : ScopedName) (w : Walk) (found : Found) → outcome (under w.own (denoted (turns_at turns w) w.cursor name)) answers ≡ Ok found
       → (visited turns answers (item.Uses way name) w).after.found ≡ w.found ++ found.entity.path ∷ []
   unfolding visit
-  used-path way name w found given is =
-      ap (λ b. (outcome (named_by turns answers way name w b) answers).after.found) given
-      ∙ any-path way name w found is
+  used-path way name w found is = any-path way name w found is
 
   visit-found : (site : Item) (w : Walk) → (visited turns answers site w).faults ≡ []
       → length (visited turns answers site w).after.found ≡ length w.found + length (used_name site)
   unfolding visit
   visit-found (item.Declares way name) w h = ap length (declared-found way name w (first_of w.cursor)) ∙ none-more (length w.found)
-  visit-found (item.Uses way name) w h = plain-found way name w h
+  visit-found (item.Uses way name) w h = any-found way name w h
   visit-found (item.ValueEnds way e) w h = ap length (valued-found w way (outcome_at w way e)) ∙ none-more (length w.found)
   visit-found item.ScopeEnds w h = ap length (end-found w (first_of w.cursor)) ∙ none-more (length w.found)
   visit-found other w h = none-more (length w.found)

@@ -3,9 +3,7 @@ use Rattle.std.proofs.Common.{◌≡◌, ◌∙◌, ℕ, ◌+◌, ◌<◌, ◌�
 use Rattle.std.proofs.lemmas.List.Elements.{All-append, All-cons, All-nil, All-weaker}
 use Rattle.std.specs.List.{list_any}
 use Rattle.std.specs.Prelude.{All, drop, take}
-use Rattle.idl_check.specs.ids.About.{Said}
-use Rattle.idl_check.specs.ids.Remarks.{is_bad_text, is_spoken_of, remark}
-use Rattle.idl_check.specs.tables.Codes.{Table, faults_by}
+use Rattle.idl_check.specs.tables.Codes.{Table, codes_in, faults_by}
 use Rattle.idl_check.specs.tables.Declaring.{declared_table, entity_of, standing}
 use Rattle.idl_check.specs.walk.Judging.{spoken_from, spoken_till, walked}
 use Rattle.idl_check.specs.told.Labels.{is_idle, no_labels, with_default}
@@ -14,10 +12,10 @@ use Rattle.idl_tree.specs.NameParts.{last_at, part_at}
 use Rattle.idl_check.specs.told.Types.{looked_through, target_in, written_as}
 use Rattle.idl_check.specs.tables.Using.{name_code, used_table, values_after}
 use Rattle.idl_check.specs.told.Values.{Values, begun_at, code_of, with_value}
-use Rattle.idl_check.specs.walk.Walk.{turns_at, Visit, Walk, begin_of, declared_visit, ended_array, ended_scope, faulty_if, given_back, head_faults, head_of, head_visit, is_repeated, outcome_at, passed, past_name, plain_name, quiet, spoken_of, spoken_visit, token_of, unfound_visit, unspoken_visit, used, used_after, used_visit, value_visit, valued_after, visit, with_labels, with_oneway, with_scope, with_text_fault}
+use Rattle.idl_check.specs.walk.Walk.{turns_at, Visit, Walk, begin_of, declared_visit, ended_array, ended_scope, faulty_if, is_repeated, outcome_at, passed, quiet, token_of, unfound_visit, used, used_after, used_visit, value_visit, valued_after, visit, with_labels, with_scope, plain_name, spoken_of, spoken_visit, unspoken_visit}
 use Rattle.idl_check.specs.declared.tables.standing.Standing.{Standing}
 use Rattle.idl_fault.specs.declared.code.Code.{Code}
-use Rattle.idl_fault.specs.declared.code.Code.TheVariants.{BadIdText, BadOneway, NoScope, RepeatedLabel, UselessDefault}
+use Rattle.idl_fault.specs.declared.code.Code.TheVariants.{BadOneway, RepeatedLabel, UselessDefault, BadIdText}
 use Rattle.idl_memo.specs.Query.{Done, and_then, outcome}
 use Rattle.idl_memo.proofs.QueryLaws.{outcome-and_then}
 use Rattle.idl_entity.specs.DataType.{plain_type}
@@ -46,9 +44,6 @@ use Rattle.idl_tree.specs.declared.name.ScopedName.{ScopedName}
 use Rattle.idl_unit.specs.TokenRules.{fault_at, first}
 use Rattle.idl_unit.specs.declared.fault.Fault.{Fault}
 use Rattle.idl_value.specs.ConstantType.{target_of}
-use Rattle.idl_value.specs.Evaluation.{joined}
-use Rattle.idl_value.specs.declared.outcome.ValueCode.{ValueCode}
-use Rattle.idl_value.specs.declared.outcome.ValueCode.TheVariants as value_code
 use Rattle.idl_value.specs.declared.outcome.Outcome.{Outcome}
 use Rattle.idl_value.specs.declared.outcome.Outcome.TheVariants as comes
 use Rattle.idl_value.specs.declared.value.Value.{Value}
@@ -57,6 +52,10 @@ use Rattle.idl_check.proofs.PartLemmas.{IsUpTo, denoted-IsUpTo}
 use Rattle.idl_check.proofs.Faults.TableLaws.{all-if}
 use Rattle.idl_check.proofs.Faults.FaultOrder.{all-at}
 use Rattle.idl_check.proofs.Faults.VisitFaults.{visit_faults}
+use Rattle.idl_parts.specs.declared.part.TextPurpose.{TextPurpose}
+use Rattle.idl_check.specs.ids.Remarks.{is_bad_text, purpose_of, remark}
+use Rattle.idl_check.specs.ids.About.{Said}
+use Rattle.idl_value.specs.Evaluation.{joined}
 use Rattle.idl_check.proofs.Visits.RemarkLaws.{IsRemark, StandsSo, remark-is}
 
 -- ---- where an expression begins
@@ -175,7 +174,7 @@ spoken-placed w way name found s said =
       begins = begin-kept w (spoken_visit w name found s).after refl (omega arith);
       within =
           All-weaker (StandsSo (last_at w.at name)) (Within w.at (spoken_till (item.Uses way name) w))
-          (λ f h. (omega (arith, h.0), till-own (item.Uses way name) w f.index (omega (arith, past, h.0)), h.1)) s.faults said.faults;
+          (λ f h. (omega (arith, h), till-own (item.Uses way name) w f.index (omega (arith, past, h)))) s.faults said.faults;
       keeps = refl;
     }
 
@@ -185,49 +184,10 @@ unspoken-placed w way name (At why part) up =
     record {
       passes = past;
       begins = begin-kept w (unspoken_visit w name (At why part)).after refl (omega arith);
-      within = one-within w.at (spoken_till (item.Uses way name) w) (part_at w.at name part) (name_code why) (name-number why) (omega arith) (till-own (item.Uses way name) w (part_at w.at name part) (omega (arith, up, past)));
+      within = one-within w.at (spoken_till (item.Uses way name) w) (part_at w.at name part) (name_code why) (omega arith) (till-own (item.Uses way name) w (part_at w.at name part) (omega (arith, up, past)));
       keeps = refl;
     }
 unspoken-placed w way name Memory up = absurd up
-
--- what is given back by a oneway operation
-pub oneway-placed : (site : Item) (w : Walk) (v : Visit) → spoken_from site w ≤ w.at → IsPlaced site w v → IsPlaced site w (with_oneway w.at v)
-oneway-placed site w v from p = record {
-  passes = p.passes;
-  begins = p.begins;
-  within =
-      All-append (Within (spoken_from site w) (spoken_till site w)) v.faults (fault_at w.at BadOneway ∷ []) p.within
-      (one-within (spoken_from site w) (spoken_till site w) w.at BadOneway (omega arith) from (till-next site w));
-  keeps = p.keeps;
-}
-
-text-placed : (site : Item) (w : Walk) (v : Visit) (b : Bool) → spoken_from site w ≤ w.at → IsPlaced site w v → IsPlaced site w (with_text_fault w.at b v)
-text-placed site w v b from p = record {
-  passes = p.passes;
-  begins = p.begins;
-  within =
-      All-append (Within (spoken_from site w) (spoken_till site w)) v.faults (cond b (fault_at w.at BadIdText ∷ []) []) p.within
-      (if-within b (spoken_from site w) (spoken_till site w) w.at BadIdText (omega arith) from (till-next site w));
-  keeps = p.keeps;
-}
-
-past-placed : (w : Walk) (way : Use) (name : ScopedName) (faults : List Fault) → All (Within w.at (spoken_till (item.Uses way name) w)) faults
-    → IsPlaced (item.Uses way name) w (record { faults = faults; after = past_name name w })
-past-placed w way name faults within =
-    let past : last_at w.at name + 1 ≡ w.at + item_length (item.Uses way name) = behind_name w.at name in
-    record { passes = past; begins = begin-kept w (past_name name w) refl (omega arith); within = within; keeps = refl }
-
-all-no : (b : Bool) (P : Fault → Type 0) (f : Fault) → P f → All P (cond b [] (f ∷ []))
-all-no true P f here = All-nil P
-all-no false P f here = All-cons P f [] here (All-nil P)
-
-head-placed : (w : Walk) (way : Use) (name : ScopedName) (r : Result Found NameFault) → IsUpTo 0 r → IsPlaced (item.Uses way name) w (head_visit name w r)
-head-placed w way name (Ok found) up =
-    past-placed w way name (head_faults w.at (Ok found))
-    (all-no (is_scope found.entity.kind) (Within w.at (spoken_till (item.Uses way name) w)) (fault_at w.at NoScope) (omega arith, till-next (item.Uses way name) w, omega arith))
-head-placed w way name (Err (At why part)) up =
-    past-placed w way name (head_faults w.at (Err (At why part))) (one-within w.at (spoken_till (item.Uses way name) w) w.at (name_code why) (name-number why) (omega arith) (till-next (item.Uses way name) w))
-head-placed w way name (Err Memory) up = absurd up
 
 -- ---- other sites
 
@@ -339,22 +299,11 @@ module _ (turns : ℕ) (answers : Key → Option Answer) where
       (λ fault. Done (unfound_visit w way name fault))
 
   -- the same of what something is said of
-  abbrev pub spoken_by : Use → ScopedName → Walk → Result Found NameFault → Lookup Visit
-  spoken_by way name w r =
+  abbrev pub spoken_by : TextPurpose → ScopedName → Walk → Result Found NameFault → Lookup Visit
+  spoken_by p name w r =
       by_result r
-      (λ found. and_then (under w.own (remark way (last_at w.at name) w.text found.entity)) (λ s. Done (spoken_visit w name found s)))
+      (λ found. and_then (under w.own (remark p (last_at w.at name) w.text found.entity)) (λ s. Done (spoken_visit w name found s)))
       (λ fault. Done (unspoken_visit w name fault))
-
-  -- what is given back by a oneway operation, by whether its name begins with `::`, and by the parts behind its first
-  abbrev pub given_by : Use → ScopedName → Walk → Bool → List (List ℕ) → Lookup Visit
-  given_by way name w is_global parts =
-      cond is_global (Done (with_oneway w.at (quiet (past_name name w)))) (elim parts [
-        | [] ↦ and_then (used turns way name w) (λ v. Done (with_oneway w.at v))
-        | part ∷ parts ↦ and_then (under w.own (denoted (turns_at turns w) w.cursor (head_of name))) (λ r. Done (with_oneway w.at (head_visit name w r)))
-      ])
-
-  abbrev pub named_by : Use → ScopedName → Walk → Bool → Lookup Visit
-  named_by way name w gives_back = cond gives_back (given_back turns way name w) (plain_name turns way name w)
 
   -- a name denotes what it does, or has a fault at one of its parts
   pub denoted-up : (name : ScopedName) (w : Walk) → IsUpTo (length name.rest) (outcome (under w.own (denoted (turns_at turns w) w.cursor name)) answers)
@@ -382,51 +331,65 @@ module _ (turns : ℕ) (answers : Key → Option Answer) where
       let query = under w.own (denoted (turns_at turns w) w.cursor name) in
       subst (IsPlaced (item.Uses way name) w) (sym (outcome-and_then query (used_by way name w) answers)) (used-by-placed way name w (outcome query answers) (denoted-up name w))
 
-  spoken-by-placed : (way : Use) (name : ScopedName) (w : Walk) (r : Result Found NameFault) → IsUpTo (length name.rest) r → IsPlaced (item.Uses way name) w (outcome (spoken_by way name w r) answers)
-  spoken-by-placed way name w (Ok found) up =
-      let query = under w.own (remark way (last_at w.at name) w.text found.entity) in
-      subst (IsPlaced (item.Uses way name) w) (sym (outcome-and_then query (λ s. Done (spoken_visit w name found s)) answers))
-      (spoken-placed w way name found (outcome query answers) (remark-is w.own answers way (last_at w.at name) w.text found.entity))
-  spoken-by-placed way name w (Err fault) up = unspoken-placed w way name fault up
+  -- no expression begins or ends there
+  used-by-begins : (way : Use) (name : ScopedName) (w : Walk) (r : Result Found NameFault) → IsUpTo (length name.rest) r → (outcome (used_by way name w r) answers).after.values.begin ≡ w.values.begin
+  used-by-begins way name w (Ok found) up =
+      ap (λ (v : Visit). v.after.values.begin) (outcome-and_then (under w.own (looked_through (turns_at turns w) way found.entity)) (λ behind. Done (used_visit w way name found behind)) answers)
+      ∙ begin-values way found.entity.value w.values
+  used-by-begins way name w (Err (At why part)) up = begin-values way None w.values
+  used-by-begins way name w (Err Memory) up = absurd up
 
-  spoken-name-placed : (way : Use) (name : ScopedName) (w : Walk) → IsPlaced (item.Uses way name) w (outcome (spoken_of turns way name w) answers)
-  unfolding spoken_of
-  spoken-name-placed way name w =
+  pub used-begins : (way : Use) (name : ScopedName) (w : Walk) → (outcome (used turns way name w) answers).after.values.begin ≡ w.values.begin
+  unfolding used
+  used-begins way name w =
       let query = under w.own (denoted (turns_at turns w) w.cursor name) in
-      subst (IsPlaced (item.Uses way name) w) (sym (outcome-and_then query (spoken_by way name w) answers)) (spoken-by-placed way name w (outcome query answers) (denoted-up name w))
+      ap (λ (v : Visit). v.after.values.begin) (outcome-and_then query (used_by way name w) answers) ∙ used-by-begins way name w (outcome query answers) (denoted-up name w)
+
+  spoken-by-placed : (way : Use) (p : TextPurpose) (name : ScopedName) (w : Walk) (r : Result Found NameFault) → IsUpTo (length name.rest) r → IsPlaced (item.Uses way name) w (outcome (spoken_by p name w r) answers)
+  spoken-by-placed way p name w (Ok found) up =
+      let query = under w.own (remark p (last_at w.at name) w.text found.entity) in
+      subst (IsPlaced (item.Uses way name) w) (sym (outcome-and_then query (λ s. Done (spoken_visit w name found s)) answers))
+      (spoken-placed w way name found (outcome query answers) (remark-is w.own answers p (last_at w.at name) w.text found.entity))
+  spoken-by-placed way p name w (Err fault) up = unspoken-placed w way name fault up
+
+  spoken-name-placed : (way : Use) (p : TextPurpose) (name : ScopedName) (w : Walk) → IsPlaced (item.Uses way name) w (outcome (spoken_of turns p name w) answers)
+  unfolding spoken_of
+  spoken-name-placed way p name w =
+      let query = under w.own (denoted (turns_at turns w) w.cursor name) in
+      subst (IsPlaced (item.Uses way name) w) (sym (outcome-and_then query (spoken_by p name w) answers)) (spoken-by-placed way p name w (outcome query answers) (denoted-up name w))
 
   pub any-placed : (way : Use) (name : ScopedName) (w : Walk) → IsPlaced (item.Uses way name) w (outcome (plain_name turns way name w) answers)
-  any-placed way name w = by_way (is_spoken_of way)
+  any-placed way name w = by_purpose (purpose_of way)
     where
-      by_way : (b : Bool) → IsPlaced (item.Uses way name) w (outcome (cond b (spoken_of turns way name w) (used turns way name w)) answers)
-      by_way true = spoken-name-placed way name w
-      by_way false = plain-placed way name w
+      by_purpose : (o : Option TextPurpose) → IsPlaced (item.Uses way name) w (outcome (elim o as (λ _. Lookup Visit) [ None ↦ used turns way name w | Some p ↦ spoken_of turns p name w ]) answers)
+      by_purpose (Some p) = spoken-name-placed way p name w
+      by_purpose None = plain-placed way name w
 
-  given-by-placed : (way : Use) (name : ScopedName) (w : Walk) (is_global : Bool) (parts : List (List ℕ)) → IsPlaced (item.Uses way name) w (outcome (given_by way name w is_global parts) answers)
-  given-by-placed way name w true parts =
-      oneway-placed (item.Uses way name) w (quiet (past_name name w)) (omega arith) (past-placed w way name [] (none-within (item.Uses way name) w))
-  given-by-placed way name w false [] =
-      subst (IsPlaced (item.Uses way name) w) (sym (outcome-and_then (used turns way name w) (λ v. Done (with_oneway w.at v)) answers))
-      (oneway-placed (item.Uses way name) w (outcome (used turns way name w) answers) (omega arith) (plain-placed way name w))
-  given-by-placed way name w false (part ∷ parts) =
-      let query = under w.own (denoted (turns_at turns w) w.cursor (head_of name)) in
-      subst (IsPlaced (item.Uses way name) w) (sym (outcome-and_then query (λ r. Done (with_oneway w.at (head_visit name w r))) answers))
-      (oneway-placed (item.Uses way name) w (head_visit name w (outcome query answers)) (omega arith) (head-placed w way name (outcome query answers) (denoted-up (head_of name) w)))
+  spoken-begins : (p : TextPurpose) (name : ScopedName) (w : Walk) → (outcome (spoken_of turns p name w) answers).after.values.begin ≡ w.values.begin
+  unfolding spoken_of
+  spoken-begins p name w =
+      let query = under w.own (denoted (turns_at turns w) w.cursor name) in
+      ap (λ (v : Visit). v.after.values.begin) (outcome-and_then query (spoken_by p name w) answers) ∙ by_what (outcome query answers)
+    where
+      by_what : (r : Result Found NameFault) → (outcome (spoken_by p name w r) answers).after.values.begin ≡ w.values.begin
+      by_what (Ok found) =
+          ap (λ (v : Visit). v.after.values.begin) (outcome-and_then (under w.own (remark p (last_at w.at name) w.text found.entity)) (λ s. Done (spoken_visit w name found s)) answers)
+      by_what (Err fault) = refl
 
-  pub named-placed : (way : Use) (name : ScopedName) (w : Walk) (b : Bool) → IsPlaced (item.Uses way name) w (outcome (named_by way name w b) answers)
-  unfolding given_back
-  named-placed way name w true = given-by-placed way name w name.is_global name.rest
-  named-placed way name w false = any-placed way name w
+  pub any-begins : (way : Use) (name : ScopedName) (w : Walk) → (outcome (plain_name turns way name w) answers).after.values.begin ≡ w.values.begin
+  any-begins way name w = by_purpose (purpose_of way)
+    where
+      by_purpose : (o : Option TextPurpose) → (outcome (elim o as (λ _. Lookup Visit) [ None ↦ used turns way name w | Some p ↦ spoken_of turns p name w ]) answers).after.values.begin ≡ w.values.begin
+      by_purpose (Some p) = spoken-begins p name w
+      by_purpose None = used-begins way name w
 
   pub visit-placed : (site : Item) (w : Walk) → IsPlaced site w (visited site w)
   unfolding visit
   visit-placed (item.Plain n) w = quiet-placed (item.Plain n) w (passed n w) refl refl refl
   visit-placed (item.Declares way name) w = declared-by-placed way name w (first w.cursor)
-  visit-placed (item.Uses way name) w = plain-placed way name w
+  visit-placed (item.Uses way name) w = any-placed way name w
   visit-placed (item.Says purpose text) w =
-      let after : Walk = record (passed (item_length (item.Says purpose text)) w) { clauses = with_text purpose text w.clauses } in
-      text-placed (item.Says purpose text) w (faulty_if w.gives_back BadOneway w after) (is_bad_text purpose (joined text)) (omega arith)
-      (faulty-placed (item.Says purpose text) w after w.gives_back BadOneway (omega arith) (omega arith) refl refl refl)
+      faulty-placed (item.Says purpose text) w (record (passed (item_length (item.Says purpose text)) w) { clauses = with_text purpose text w.clauses }) (is_bad_text purpose (joined text)) BadIdText (omega arith) refl refl refl
   visit-placed item.ValueBegins w =
       let u : Walk = record w { values = begun_at w.at w.values } in
       record { passes = omega arith; begins = omega (arith, begin-at w); within = none-within item.ValueBegins w; keeps = refl }

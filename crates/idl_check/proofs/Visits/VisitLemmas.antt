@@ -3,12 +3,10 @@ use Rattle.std.proofs.Common.{◌≡◌, ◌∙◌, ℕ, true, false, cond, List
 use Rattle.std.specs.Prelude.{Bool, OnOk, slice_get}
 use Rattle.idl_memo.specs.Query.{Done, and_then, run}
 use Rattle.idl_memo.proofs.QueryLaws.{run-and_then, run-and_then_at}
-use Rattle.idl_check.specs.ids.About.{Said}
-use Rattle.idl_check.specs.ids.Remarks.{is_spoken_of, remark}
-use Rattle.idl_check.specs.walk.Held.{given_noted, head_noted, spoken_noted, used_noted, visited}
+use Rattle.idl_check.specs.walk.Held.{cut_noted, head_noted, used_noted, visited, spoken_noted}
 use Rattle.idl_check.specs.tables.Declaring.{entity_of, standing}
 use Rattle.idl_check.specs.told.Types.{looked_through}
-use Rattle.idl_check.specs.walk.Walk.{turns_at, Visit, Walk, past_name, declared_visit, given_back, head_of, head_visit, is_over, noted_in, passed, plain_name, quiet, spoken_of, spoken_visit, unfound_visit, unspoken_visit, used, used_visit, visit, walk, with_oneway}
+use Rattle.idl_check.specs.walk.Walk.{turns_at, Visit, Walk, cut_name, past_name, declared_visit, head_of, head_visit, is_known, is_over, looked_at, noted_in, passed, quiet, unfound_visit, used, used_visit, visit, walk, spoken_of, spoken_visit, unspoken_visit}
 use Rattle.idl_check.specs.declared.tables.standing.Standing.{Standing}
 use Rattle.idl_env.specs.keys.Key.{key_eq}
 use Rattle.idl_scope.specs.Lookup.{Lookup, by_result, denoted, under}
@@ -22,7 +20,6 @@ use Rattle.idl_parts.specs.Item.{Item}
 use Rattle.idl_parts.specs.Part.{Part as item}
 use Rattle.idl_parts.specs.declared.part.Declaration.{Declaration}
 use Rattle.idl_parts.specs.declared.part.Use.{Use}
-use Rattle.idl_tree.specs.NameParts.{last_at}
 use Rattle.idl_tree.specs.declared.name.ScopedName.{ScopedName}
 use Rattle.idl_unit.specs.TokenRules.{first}
 use Rattle.idl_unit.specs.declared.fault.Fault.{Fault}
@@ -30,6 +27,10 @@ use Rattle.idl_env.specs.Facts.{UnitFacts}
 use Rattle.idl_env.specs.Turns.{HasTurnsFor, turns_among, turns_for}
 use Rattle.idl_env.specs.declared.additions.addition.Addition.{Addition}
 use Rattle.idl_check.proofs.Faults.NotedLemmas.{noted_in-quiet}
+use Rattle.idl_parts.specs.declared.part.TextPurpose.{TextPurpose}
+use Rattle.idl_check.specs.ids.Remarks.{purpose_of, remark}
+use Rattle.idl_check.specs.ids.About.{Said}
+use Rattle.idl_tree.specs.NameParts.{last_at}
 
 -- turns for the facts before a unit are, with those for its tokens so far, turns for both
 pub turns-here : (facts : List UnitFacts) (own : List Addition) (turns : ℕ) → turns_for facts ≤ turns → HasTurnsFor facts own (turns + turns_among own)
@@ -115,51 +116,49 @@ module _ (bank : Key → Option Answer) where
       (sym (run-and_then_at key_eq found_by (by_found turns way name w) bank log (Err fault) after gives))
 
   -- a name of which something is said, by what it denotes and what that is
-  abbrev by_spoken : ℕ → Use → ScopedName → Walk → Result Found NameFault → Lookup Visit
-  by_spoken turns way name w r =
+  abbrev by_spoken : ℕ → TextPurpose → ScopedName → Walk → Result Found NameFault → Lookup Visit
+  by_spoken turns p name w r =
       by_result r
-      (λ found. and_then (under w.own (remark way (last_at w.at name) w.text found.entity)) (λ s. Done (spoken_visit w name found s)))
+      (λ found. and_then (under w.own (remark p (last_at w.at name) w.text found.entity)) (λ s. Done (spoken_visit w name found s)))
       (λ fault. Done (unspoken_visit w name fault))
 
-  pub spoken_by : (turns : ℕ) (way : Use) (name : ScopedName) (w : Walk) (log : List (Key × Option Answer)) (found : Found) (middle : List (Key × Option Answer)) (s : Said) (after : List (Key × Option Answer))
+  pub spoken_by : (turns : ℕ) (p : TextPurpose) (name : ScopedName) (w : Walk) (log : List (Key × Option Answer)) (found : Found) (middle : List (Key × Option Answer)) (s : Said) (after : List (Key × Option Answer))
       → (Ok found, middle) ≡ runs_over (under w.own (denoted (turns_at turns w) w.cursor name)) log
-      → (s, after) ≡ runs_over (under w.own (remark way (last_at w.at name) w.text found.entity)) middle
-      → runs_over (spoken_noted turns way name w) log ≡ (noted_in (spoken_visit w name found s) w.fault, after)
+      → (s, after) ≡ runs_over (under w.own (remark p (last_at w.at name) w.text found.entity)) middle
+      → runs_over (spoken_noted turns p name w) log ≡ (noted_in (spoken_visit w name found s) w.fault, after)
   unfolding spoken_of
-  spoken_by turns way name w log found middle s after gives said =
+  spoken_by turns p name w log found middle s after gives said =
       let found_by = under w.own (denoted (turns_at turns w) w.cursor name) in
-      let said_by = under w.own (remark way (last_at w.at name) w.text found.entity) in
-      run-and_then_at key_eq (and_then found_by (by_spoken turns way name w)) (λ v. Done (noted_in v w.fault)) bank log (spoken_visit w name found s) after
-      (sym (run-and_then_at key_eq found_by (by_spoken turns way name w) bank log (Ok found) middle gives
+      let said_by = under w.own (remark p (last_at w.at name) w.text found.entity) in
+      run-and_then_at key_eq (and_then found_by (by_spoken turns p name w)) (λ v. Done (noted_in v w.fault)) bank log (spoken_visit w name found s) after
+      (sym (run-and_then_at key_eq found_by (by_spoken turns p name w) bank log (Ok found) middle gives
       ∙ run-and_then_at key_eq said_by (λ s. Done (spoken_visit w name found s)) bank middle s after said))
 
-  pub unspoken_by : (turns : ℕ) (way : Use) (name : ScopedName) (w : Walk) (log : List (Key × Option Answer)) (fault : NameFault) (after : List (Key × Option Answer))
+  pub unspoken_by : (turns : ℕ) (p : TextPurpose) (name : ScopedName) (w : Walk) (log : List (Key × Option Answer)) (fault : NameFault) (after : List (Key × Option Answer))
       → (Err fault, after) ≡ runs_over (under w.own (denoted (turns_at turns w) w.cursor name)) log
-      → runs_over (spoken_noted turns way name w) log ≡ (noted_in (unspoken_visit w name fault) w.fault, after)
+      → runs_over (spoken_noted turns p name w) log ≡ (noted_in (unspoken_visit w name fault) w.fault, after)
   unfolding spoken_of
-  unspoken_by turns way name w log fault after gives =
+  unspoken_by turns p name w log fault after gives =
       let found_by = under w.own (denoted (turns_at turns w) w.cursor name) in
-      run-and_then_at key_eq (and_then found_by (by_spoken turns way name w)) (λ v. Done (noted_in v w.fault)) bank log (unspoken_visit w name fault) after
-      (sym (run-and_then_at key_eq found_by (by_spoken turns way name w) bank log (Err fault) after gives))
+      run-and_then_at key_eq (and_then found_by (by_spoken turns p name w)) (λ v. Done (noted_in v w.fault)) bank log (unspoken_visit w name fault) after
+      (sym (run-and_then_at key_eq found_by (by_spoken turns p name w) bank log (Err fault) after gives))
 
-  -- one that isn't given back by a oneway operation
-  abbrev plain : ℕ → Use → ScopedName → Walk → List (Key × Option Answer) → Bool → Bool → Walk × List (Key × Option Answer)
-  plain turns way name w log back spoken =
-      runs_over (and_then (cond back (given_back turns way name w) (cond spoken (spoken_of turns way name w) (used turns way name w))) (λ v. Done (noted_in v w.fault))) log
+  -- a name of which something is said, and else one that is looked at whole or cut
+  abbrev named : ℕ → Use → ScopedName → Walk → List (Key × Option Answer) → Option TextPurpose → Bool → Walk × List (Key × Option Answer)
+  named turns way name w log o b =
+      runs_over (and_then (elim o as (λ _. Lookup Visit) [ None ↦ cond b (cut_name turns way name w) (used turns way name w) | Some p ↦ spoken_of turns p name w ]) (λ v. Done (noted_in v w.fault))) log
 
-  pub named_plain : (turns : ℕ) (way : Use) (name : ScopedName) (w : Walk) (log : List (Key × Option Answer)) → w.gives_back ≡ false → is_spoken_of way ≡ false
+  pub named-spoken : (turns : ℕ) (way : Use) (p : TextPurpose) (name : ScopedName) (w : Walk) (log : List (Key × Option Answer)) → purpose_of way ≡ Some p
+      → runs_over (visited turns (item.Uses way name) w) log ≡ runs_over (spoken_noted turns p name w) log
+  named-spoken turns way p name w log some = λ i. named turns way name w log (some i) (is_known (w.at + 1) w)
+
+  pub named-whole : (turns : ℕ) (way : Use) (name : ScopedName) (w : Walk) (log : List (Key × Option Answer)) → purpose_of way ≡ None → is_known (w.at + 1) w ≡ false
       → runs_over (visited turns (item.Uses way name) w) log ≡ runs_over (used_noted turns way name w) log
-  unfolding visit
-  named_plain turns way name w log h k = λ i. plain turns way name w log (h i) (k i)
+  named-whole turns way name w log none h = λ i. named turns way name w log (none i) (h i)
 
-  pub named_spoken : (turns : ℕ) (way : Use) (name : ScopedName) (w : Walk) (log : List (Key × Option Answer)) → w.gives_back ≡ false → is_spoken_of way ≡ true
-      → runs_over (visited turns (item.Uses way name) w) log ≡ runs_over (spoken_noted turns way name w) log
-  unfolding visit
-  named_spoken turns way name w log h k = λ i. plain turns way name w log (h i) (k i)
-
-  pub named-cut : (turns : ℕ) (way : Use) (name : ScopedName) (w : Walk) (log : List (Key × Option Answer)) → is_known (w.at + 1) w ≡ true
+  pub named-cut : (turns : ℕ) (way : Use) (name : ScopedName) (w : Walk) (log : List (Key × Option Answer)) → purpose_of way ≡ None → is_known (w.at + 1) w ≡ true
       → runs_over (visited turns (item.Uses way name) w) log ≡ runs_over (cut_noted turns way name w) log
-  named-cut turns way name w log h = ap (λ b. runs_over (and_then (cond b (cut_name turns way name w) (used turns way name w)) (λ v. Done (noted_in v w.fault))) log) h
+  named-cut turns way name w log none h = λ i. named turns way name w log (none i) (h i)
 
   -- of one that is cut, nothing, all, or the first part
   pub cut-global : (turns : ℕ) (way : Use) (name : ScopedName) (w : Walk) (log : List (Key × Option Answer)) → name.is_global ≡ true
@@ -177,14 +176,12 @@ module _ (bank : Key → Option Answer) where
       head : Lookup (Result Found NameFault)
       head = under w.own (denoted (turns_at turns w) w.cursor (head_of name))
 
-  -- a name that is given back
-  pub given_by : (turns : ℕ) (way : Use) (name : ScopedName) (w : Walk) (log : List (Key × Option Answer)) (next : Walk) (after : List (Key × Option Answer))
-      → w.gives_back ≡ true → (next, after) ≡ runs_over (given_noted turns way name w) log
-      → runs_over (visited turns (item.Uses way name) w) log ≡ (one_way w.at next, after)
-  unfolding visit given_back
-  given_by turns way name w log next after gives h =
-      ap (λ b. runs_over (and_then (cond b (given_back turns way name w) (plain_name turns way name w)) (λ v. Done (noted_in v w.fault))) log) gives
-      ∙ given_same turns way name w name.is_global name.rest log next after h
+      by_rest : (rest : List (List ℕ)) → name.rest ≡ rest → runs_over (cut_noted turns way name w) log ≡ runs_over (head_noted turns name w) log
+      by_rest [] none = absurd (some none)
+      by_rest (part ∷ parts) is =
+          ap (λ q. runs_over q log) (cut-is turns way name w false (part ∷ parts) local is)
+          ∙ visited_by head (head_visit name w) w.fault log (runs_over head log).0 (runs_over head log).1 refl
+          ∙ sym (run-and_then key_eq head (λ r. Done (noted_in (head_visit name w r) w.fault)) bank log)
 
   -- of the first part of a name, by what it denotes
   pub head_by : (turns : ℕ) (name : ScopedName) (w : Walk) (log : List (Key × Option Answer)) (r : Result Found NameFault) (after : List (Key × Option Answer))

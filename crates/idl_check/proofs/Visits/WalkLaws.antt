@@ -4,7 +4,7 @@ use Rattle.std.proofs.lemmas.Bool.{and_parts, ltb-true}
 use Rattle.std.proofs.lemmas.List.Elements.{All-weaker}
 use Rattle.std.specs.Prelude.{◌&&◌, All, is_some, nat_lt, not}
 use Rattle.idl_check.specs.walk.Judging.{walked}
-use Rattle.idl_check.specs.walk.Walk.{Visit, Walk, begin_of, cut_name, is_known, is_over, looked_at, noted, noted_in, used, visit, walk}
+use Rattle.idl_check.specs.walk.Walk.{Visit, Walk, begin_of, cut_name, is_known, is_over, looked_at, noted, noted_in, used, visit, walk, spoken_of}
 use Rattle.idl_memo.specs.Query.{Done, and_then, outcome}
 use Rattle.idl_memo.proofs.QueryLaws.{outcome-and_then}
 use Rattle.idl_scope.specs.Lookup.{Lookup}
@@ -21,6 +21,8 @@ use Rattle.idl_check.proofs.Faults.CutLaws.{IsPast, cut, cut-past, cut-same, nam
 use Rattle.idl_check.proofs.Faults.NotedLemmas.{IsLater, noted-append, noted-behind, noted-none}
 use Rattle.idl_check.proofs.Visits.SiteLaws.{IsFrom, IsPlaced, begin_before, faults-from, visit-placed, visited}
 use Rattle.idl_check.proofs.Faults.VisitFaults.{visit_faults}
+use Rattle.idl_parts.specs.declared.part.TextPurpose.{TextPurpose}
+use Rattle.idl_check.specs.ids.Remarks.{purpose_of}
 
 -- the fault of a walk that is over stands before those of all later sites
 abbrev over_by : Option Fault → Option ℕ → ℕ → Bool
@@ -78,11 +80,13 @@ module _ (turns : ℕ) (answers : Key → Option Answer) where
         ∙ cut-same turns answers way name w f le name.is_global name.rest refl refl
         ∙ sym (noted-behind f w.at v.faults (visit_faults turns answers sites v.after) le (rest-later v (named-past turns answers way name w) none)))
 
-    name-alike : (b : Bool) → is_known (w.at + 1) w ≡ b
-        → noted w.fault (all_from (outcome (cond b (cut_name turns way name w) (used turns way name w)) answers)) ≡ noted w.fault (all_from (named turns answers way name w))
+    name-alike : (o : Option TextPurpose) (b : Bool) → is_known (w.at + 1) w ≡ b
+        → noted w.fault (all_from (outcome (elim o as (λ _. Lookup Visit) [ None ↦ cond b (cut_name turns way name w) (used turns way name w) | Some p ↦ spoken_of turns p name w ]) answers))
+        ≡ noted w.fault (all_from (outcome (elim o as (λ _. Lookup Visit) [ None ↦ used turns way name w | Some p ↦ spoken_of turns p name w ]) answers))
     unfolding cut_name
-    name-alike true is = known-alike w.fault w.values.begin refl refl is
-    name-alike false is = refl
+    name-alike (Some p) b is = refl
+    name-alike None true is = known-alike w.fault w.values.begin refl refl is
+    name-alike None false is = refl
 
   -- what is looked at of a site tells as much as the whole
   abbrev looked : Item → Walk → Visit
@@ -91,17 +95,20 @@ module _ (turns : ℕ) (answers : Key → Option Answer) where
   looked-alike : (site : Item) (sites : List Item) (w : Walk)
       → noted w.fault ((looked site w).faults ++ visit_faults turns answers sites (looked site w).after) ≡ noted w.fault ((visited turns answers site w).faults ++ visit_faults turns answers sites (visited turns answers site w).after)
   unfolding visit
-  looked-alike (item.Uses way name) sites w = name-alike way name sites w (is_known (w.at + 1) w) refl
+  looked-alike (item.Uses way name) sites w = name-alike way name sites w (purpose_of way) (is_known (w.at + 1) w) refl
   looked-alike other sites w = refl
 
   -- and comes to the same where nothing is known
-  name-whole : (way : Use) (name : ScopedName) (w : Walk) (b : Bool) → b ≡ false → outcome (cond b (cut_name turns way name w) (used turns way name w)) answers ≡ outcome (used turns way name w) answers
-  name-whole way name w true h = cc
-  name-whole way name w false h = refl
+  name-whole : (way : Use) (name : ScopedName) (w : Walk) (o : Option TextPurpose) (b : Bool) → b ≡ false
+      → outcome (elim o as (λ _. Lookup Visit) [ None ↦ cond b (cut_name turns way name w) (used turns way name w) | Some p ↦ spoken_of turns p name w ]) answers
+      ≡ outcome (elim o as (λ _. Lookup Visit) [ None ↦ used turns way name w | Some p ↦ spoken_of turns p name w ]) answers
+  name-whole way name w (Some p) b h = refl
+  name-whole way name w None true h = cc
+  name-whole way name w None false h = refl
 
   looked-whole : (site : Item) (w : Walk) → w.fault ≡ None → looked site w ≡ visited turns answers site w
   unfolding visit
-  looked-whole (item.Uses way name) w none = name-whole way name w (is_known (w.at + 1) w) (not-over w.fault w.values.begin (w.at + 1) none)
+  looked-whole (item.Uses way name) w none = name-whole way name w (purpose_of way) (is_known (w.at + 1) w) (not-over w.fault w.values.begin (w.at + 1) none)
   looked-whole other w none = refl
 
   -- ---- all sites

@@ -3,13 +3,11 @@ use Rattle.std.proofs.Common.{◌≡◌, ◌∙◌, ℕ, ◌≤◌, Bool, true, 
 use Rattle.std.proofs.lemmas.List.Elements.{All-append, All-cons, All-nil, All-weaker}
 use Rattle.std.specs.Prelude.{All}
 use Rattle.idl_check.specs.walk.AllFaults.{evaluation_faults, first_token, placed_at, site_faults, whole_visit}
-use Rattle.idl_check.specs.ids.Remarks.{is_spoken_of, remark}
 use Rattle.idl_check.specs.tables.Declaring.{entity_of, standing}
 use Rattle.idl_check.specs.walk.Judging.{spoken_from, spoken_till}
 use Rattle.idl_check.specs.walk.Sections.{is_single}
-use Rattle.idl_check.specs.told.Types.{looked_through}
-use Rattle.idl_check.specs.walk.Walk.{Visit, Walk, begin_of, declared_visit, evaluation_at, given_back, head_of, head_visit, is_repeated, plain_name, spoken_of, spoken_visit, unfound_visit, used, used_visit, value_visit, visit, with_oneway, turns_at}
-use Rattle.idl_fault.specs.declared.code.Code.TheVariants.{BadOneway, RepeatedLabel}
+use Rattle.idl_check.specs.walk.Walk.{Visit, Walk, begin_of, declared_visit, evaluation_at, is_repeated, value_visit, visit, turns_at}
+use Rattle.idl_fault.specs.declared.code.Code.TheVariants.{RepeatedLabel}
 use Rattle.idl_memo.proofs.QueryLaws.{outcome-and_then}
 use Rattle.idl_memo.specs.Query.{Done, outcome}
 use Rattle.idl_entity.specs.Kind.{kind_eq}
@@ -22,16 +20,11 @@ use Rattle.idl_parts.specs.Item.{Item}
 use Rattle.idl_parts.specs.Part.{Part as item}
 use Rattle.idl_parts.specs.declared.part.Declaration.{Declaration}
 use Rattle.idl_parts.specs.declared.part.Purpose.{Purpose}
-use Rattle.idl_parts.specs.declared.part.Use.{Use}
-use Rattle.idl_tree.specs.NameParts.{last_at}
-use Rattle.idl_tree.specs.declared.name.ScopedName.{ScopedName}
 use Rattle.idl_unit.specs.TokenRules.{fault_at, first}
 use Rattle.idl_unit.specs.declared.fault.Fault.{Fault}
 use Rattle.idl_value.specs.Evaluation.{Evaluation, Faulty, Valued, first_of}
 use Rattle.idl_value.specs.declared.outcome.Outcome.TheVariants as comes
-use Rattle.idl_check.proofs.PartLemmas.{IsUpTo}
-use Rattle.idl_check.proofs.Visits.RowLaws.{no-end}
-use Rattle.idl_check.proofs.Visits.SiteLaws.{IsFrom, IsPlaced, Within, any-placed, begin-values, begin_before, declared_by, denoted-up, end_visit, given_by, named_by, oneway-placed, plain-placed, spoken-begin, spoken_by, union_visit, used_by, value-number, visit-placed, visited}
+use Rattle.idl_check.proofs.Visits.SiteLaws.{IsFrom, IsPlaced, Within, begin_before, declared_by, end_visit, spoken-begin, union_visit, any-begins, visit-placed, visited}
 use Rattle.idl_check.proofs.Faults.VisitFaults.{visit_faults}
 use Rattle.idl_check.proofs.Visits.WalkLaws.{none-append}
 
@@ -53,60 +46,11 @@ module _ (turns : ℕ) (answers : Key → Option Answer) where
       let query = under w.own (standing (turns_at turns w) s e) in
       ap (λ (v : Visit). v.after.values.begin) (outcome-and_then query (λ there. Done (declared_visit w way s e there)) answers)
 
-  used-by-calm : (way : Use) (name : ScopedName) (w : Walk) (r : Result Found NameFault) → IsUpTo {A = Found} (length name.rest) r → IsCalm w (outcome (used_by turns answers way name w r) answers)
-  used-by-calm way name w (Ok found) up =
-      let query = under w.own (looked_through (turns_at turns w) way found.entity) in
-      subst (IsCalm w) (sym (outcome-and_then query (λ behind. Done (used_visit w way name found behind)) answers)) (record { begin = begin-values way found.entity.value w.values; given = refl })
-  used-by-calm way name w (Err fault) up = unfound-calm (length name.rest) w way name fault up
-
-  pub used-calm : (way : Use) (name : ScopedName) (w : Walk) → IsCalm w (outcome (used turns way name w) answers)
-  unfolding used
-  used-calm way name w =
-      let query = under w.own (denoted (turns_at turns w) w.cursor name) in
-      subst (IsCalm w) (sym (outcome-and_then query (used_by turns answers way name w) answers)) (used-by-calm way name w (outcome query answers) (denoted-up turns answers name w))
-
-  spoken-by-calm : (way : Use) (name : ScopedName) (w : Walk) (r : Result Found NameFault) → IsCalm w (outcome (spoken_by turns answers way name w r) answers)
-  spoken-by-calm way name w (Ok found) =
-      let query = under w.own (remark way (last_at w.at name) w.text found.entity) in
-      subst (IsCalm w) (sym (outcome-and_then query (λ s. Done (spoken_visit w name found s)) answers)) (record { begin = refl; given = refl })
-  spoken-by-calm way name w (Err fault) = record { begin = refl; given = refl }
-
-  spoken-calm : (way : Use) (name : ScopedName) (w : Walk) → IsCalm w (outcome (spoken_of turns way name w) answers)
-  unfolding spoken_of
-  spoken-calm way name w =
-      let query = under w.own (denoted (turns_at turns w) w.cursor name) in
-      subst (IsCalm w) (sym (outcome-and_then query (spoken_by turns answers way name w) answers)) (spoken-by-calm way name w (outcome query answers))
-
-  any-calm : (way : Use) (name : ScopedName) (w : Walk) → IsCalm w (outcome (plain_name turns way name w) answers)
-  any-calm way name w = by_way (is_spoken_of way)
-    where
-      by_way : (b : Bool) → IsCalm w (outcome (cond b (spoken_of turns way name w) (used turns way name w)) answers)
-      by_way true = spoken-calm way name w
-      by_way false = used-calm way name w
-
-  named-calm : (way : Use) (name : ScopedName) (w : Walk) (b : Bool) → b ≡ false → IsCalm w (outcome (named_by turns answers way name w b) answers)
-  named-calm way name w true h = cc
-  named-calm way name w false h = any-calm way name w
-
-  -- what is given back
-  pub given-begin : (way : Use) (name : ScopedName) (w : Walk) (is_global : Bool) (parts : List (List ℕ)) → (outcome (given_by turns answers way name w is_global parts) answers).after.values.begin ≡ w.values.begin
-  given-begin way name w true parts = refl
-  given-begin way name w false [] =
-      ap (λ (v : Visit). v.after.values.begin) (outcome-and_then (used turns way name w) (λ v. Done (with_oneway w.at v)) answers) ∙ (used-calm way name w).begin
-  given-begin way name w false (part ∷ parts) =
-      ap (λ (v : Visit). v.after.values.begin) (outcome-and_then (under w.own (denoted (turns_at turns w) w.cursor (head_of name))) (λ r. Done (with_oneway w.at (head_visit name w r))) answers)
-
-  pub given-ends : (way : Use) (name : ScopedName) (w : Walk) (is_global : Bool) (parts : List (List ℕ)) → (fs : List Fault) × ((outcome (given_by turns answers way name w is_global parts) answers).faults ≡ fs ++ fault_at w.at BadOneway ∷ [])
-  given-ends way name w true parts = ([], refl)
-  given-ends way name w false [] = ((outcome (used turns way name w) answers).faults, ap (λ (v : Visit). v.faults) (outcome-and_then (used turns way name w) (λ v. Done (with_oneway w.at v)) answers))
-  given-ends way name w false (part ∷ parts) =
-      let query = under w.own (denoted (turns_at turns w) w.cursor (head_of name)) in
-      ((head_visit name w (outcome query answers)).faults, ap (λ (v : Visit). v.faults) (outcome-and_then query (λ r. Done (with_oneway w.at (head_visit name w r))) answers))
-
-  pub single-calm : (site : Item) (w : Walk) → is_single site ≡ true → w.gives_back ≡ false → IsCalm w (visited turns answers site w)
+  -- no expression begins or ends
+  pub single-begins : (site : Item) (w : Walk) → is_single site ≡ true → (visited turns answers site w).after.values.begin ≡ w.values.begin
   unfolding visit
   single-begins (item.Declares way name) w single = declared-begins way name w (first w.cursor)
-  single-begins (item.Uses way name) w single = used-begins turns answers way name w
+  single-begins (item.Uses way name) w single = any-begins turns answers way name w
   single-begins item.ValueBegins w single = cc
   single-begins (item.ValueEnds way e) w single = cc
   single-begins item.ScopeEnds w single = end-begins w (first w.cursor)
@@ -114,12 +58,7 @@ module _ (turns : ℕ) (answers : Key → Option Answer) where
 
   -- ---- it comes to the same whole, but for an expression
 
-  named-same : (way : Use) (name : ScopedName) (w : Walk) (b : Bool) → b ≡ false
-      → cond b (with_oneway w.at (outcome (used turns way name w) answers)) (outcome (plain_name turns way name w) answers) ≡ outcome (named_by turns answers way name w b) answers
-  named-same way name w true h = cc
-  named-same way name w false h = refl
-
-  pub single-same : (site : Item) (w : Walk) → is_single site ≡ true → w.gives_back ≡ false → whole_visit turns answers site w ≡ visited turns answers site w
+  pub single-same : (site : Item) (w : Walk) → is_single site ≡ true → whole_visit turns answers site w ≡ visited turns answers site w
   unfolding visit
   single-same (item.ValueEnds way e) w single = cc
   single-same other w single = refl
@@ -153,12 +92,6 @@ evaluation-from w way (Faulty (f ∷ fs)) =
     All-cons (IsFrom (begin_of w)) (placed_at (first_token w) f) (map (placed_at (first_token w)) fs) (omega (arith, le)) (evaluation-from w way (Faulty fs))
 
 module _ (turns : ℕ) (answers : Key → Option Answer) where
-  name-behind : (way : Use) (name : ScopedName) (w : Walk) (b : Bool) → IsBehind w (cond b (with_oneway w.at (outcome (used turns way name w) answers)) (outcome (plain_name turns way name w) answers))
-  name-behind way name w true =
-      let v = outcome (used turns way name w) answers in
-      placed-behind (item.Uses way name) w (with_oneway w.at v) (oneway-placed (item.Uses way name) w v (omega arith) (plain-placed turns answers way name w))
-  name-behind way name w false = placed-behind (item.Uses way name) w (outcome (plain_name turns way name w) answers) (any-placed turns answers way name w)
-
   by-visit : (site : Item) (w : Walk) → IsBehind w (visited turns answers site w)
   by-visit site w = placed-behind site w (visited turns answers site w) (visit-placed turns answers site w)
 
@@ -208,23 +141,6 @@ value-even w way (Faulty []) = (λ none. (refl, refl), λ none. (refl, refl))
 value-even w way (Faulty (f ∷ fs)) = (λ none. (cc, cc), λ none. (cc, cc))
 
 module _ (turns : ℕ) (answers : Key → Option Answer) where
-  pub given-some : (way : Use) (name : ScopedName) (w : Walk) (is_global : Bool) (parts : List (List ℕ)) → (outcome (given_by turns answers way name w is_global parts) answers).faults ≡ [] → ⊥
-  given-some way name w true parts h = no-end [] (fault_at w.at BadOneway) h
-  given-some way name w false [] h =
-      let query = used turns way name w in
-      no-end (outcome query answers).faults (fault_at w.at BadOneway) (ap (λ (v : Visit). v.faults) (sym (outcome-and_then query (λ v. Done (with_oneway w.at v)) answers)) ∙ h)
-  given-some way name w false (part ∷ parts) h =
-      let query = under w.own (denoted (turns_at turns w) w.cursor (head_of name)) in
-      no-end (head_visit name w (outcome query answers)).faults (fault_at w.at BadOneway) (ap (λ (v : Visit). v.faults) (sym (outcome-and_then query (λ r. Done (with_oneway w.at (head_visit name w r))) answers)) ∙ h)
-
-  named-even : (way : Use) (name : ScopedName) (w : Walk) (b : Bool)
-      → IsEven (outcome (named_by turns answers way name w b) answers) (cond b (with_oneway w.at (outcome (used turns way name w) answers)) (outcome (plain_name turns way name w) answers))
-  unfolding given_back
-  named-even way name w true =
-      even-faulty (outcome (named_by turns answers way name w true) answers) (with_oneway w.at (outcome (used turns way name w) answers)) (given-some way name w name.is_global name.rest)
-      (no-end (outcome (used turns way name w) answers).faults (fault_at w.at BadOneway))
-  named-even way name w false = even-same (outcome (plain_name turns way name w) answers) (outcome (plain_name turns way name w) answers) refl
-
   site-even : (site : Item) (w : Walk) → IsEven (visited turns answers site w) (whole_visit turns answers site w)
   unfolding visit
   site-even (item.Plain n) w = even-same (visited turns answers (item.Plain n) w) (visited turns answers (item.Plain n) w) refl

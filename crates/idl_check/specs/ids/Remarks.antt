@@ -1,6 +1,6 @@
 -- What `typeid` and `typeprefix` say of what their name denotes, by the text that stands behind it. A
 -- `typeid` says what the pragma of an id does.
-use Rattle.std.specs.Prelude.{ℕ, Bool, true, false, List, [], map, option_to_list, if◌then◌else◌}
+use Rattle.std.specs.Prelude.{ℕ, Bool, false, List, [], ◌∷◌, map, option_to_list, Option, None, Some, if◌then◌else◌}
 use Rattle.idl_check.specs.ids.About.{Said, about_entity, refused_for}
 use Rattle.idl_check.specs.tables.Codes.{faults_by}
 use Rattle.idl_check.specs.tables.Rules.{is_no_id, is_no_prefix, is_prefixed}
@@ -22,18 +22,14 @@ use Rattle.idl_parts.specs.declared.part.Use.TheVariants.{AsIdentified, AsPrefix
 use Rattle.idl_scope.specs.Lookup.{Lookup}
 use Rattle.idl_unit.specs.TokenRules.{fault_at}
 
--- of what a name denotes that is used so something is said, and the name introduces nothing
-abbrev pub is_spoken_of : Use → Bool
-is_spoken_of AsIdentified = true
-is_spoken_of AsPrefixed = true
-is_spoken_of other = false
+-- What the text behind a name is for that is used so, if there is one. Something is said by it of
+-- what the name denotes, and the name introduces nothing.
+abbrev pub purpose_of : Use → Option TextPurpose
+purpose_of AsIdentified = Some text.Id
+purpose_of AsPrefixed = Some text.Prefix
+purpose_of other = None
 
--- what the text behind such a name is
-abbrev pub purpose_of : Use → TextPurpose
-purpose_of AsPrefixed = text.Prefix
-purpose_of other = text.Id
-
--- whether a text may not be that
+-- whether a text may not be what it is for
 abbrev pub is_bad_text : TextPurpose → List ℕ → Bool
 is_bad_text text.Context t = false
 is_bad_text text.Id t = is_no_id t
@@ -53,18 +49,19 @@ about_scope at prefix e =
     then Ask (Typeprefix e.path) (λ answer. Done (prefixed_at at prefix e.path answer))
     else Done (refused_for (fault_at at NoScope ∷ []))
 
--- what is said of an entity, with the name that ends at this token, by a text
-abbrev pub said_by_text : Use → ℕ → List ℕ → Entity → Lookup Said
-said_by_text AsPrefixed at t e = about_scope at t e
-said_by_text other at t e = about_entity at (Id t) e
+-- what a text says of an entity whose name ends at this token
+abbrev pub said_by_text : TextPurpose → ℕ → List ℕ → Entity → Lookup Said
+said_by_text text.Context at t e = Done (refused_for [])
+said_by_text text.Id at t e = about_entity at (Id t) e
+said_by_text text.Prefix at t e = about_scope at t e
 
--- a text that may not be what it is adds nothing
+-- it adds nothing where it may not be what it is for
 abbrev pub unless : Bool → Said → Said
 unless is_bad s = if is_bad then record s { additions = [] } else s
 
-abbrev pub remark : Use → ℕ → List ℕ → Entity → Lookup Said
-remark way at t e =
-    and_then (said_by_text way at t e) (λ s. Done (unless (is_bad_text (purpose_of way) t) s))
+abbrev pub remark : TextPurpose → ℕ → List ℕ → Entity → Lookup Said
+remark purpose at t e =
+    and_then (said_by_text purpose at t e) (λ s. Done (unless (is_bad_text purpose t) s))
 
 -- a remark on what has a name that ends at this token
 abbrev pub remarked : ℕ → Remark → Said

@@ -5,8 +5,8 @@ use Rattle.idl_check.specs.ids.Pragmas.{said_by}
 use Rattle.idl_check.specs.told.Values.{code_of}
 use Rattle.idl_check.specs.walk.Placing.{place_faults}
 use Rattle.idl_check.specs.walk.Verdict.{first_faults, tree_of}
-use Rattle.idl_check.specs.walk.Walk.{Visit, Walk, evaluation_at, first_walk, is_repeated, plain_name, used, visit, with_oneway}
-use Rattle.idl_fault.specs.declared.code.Code.TheVariants.{MisplacedUnit, NoTree, RepeatedLabel}
+use Rattle.idl_check.specs.walk.Walk.{Visit, Walk, evaluation_at, first_walk, is_repeated, visit}
+use Rattle.idl_fault.specs.declared.code.Code.TheVariants.{NoTree, RepeatedLabel}
 use Rattle.idl_lex.specs.tokens.Tokens.{Token}
 use Rattle.idl_memo.specs.Query.{outcome}
 use Rattle.idl_env.specs.Facts.{scopes_in}
@@ -43,12 +43,6 @@ evaluation_faults w way (Valued v) =
 evaluation_faults w way (Faulty faults) = map (placed_at (first_token w)) faults
 
 module _ (turns : ℕ) (answers : Key → Option Answer) where
-  -- a used name, which is looked at whole where a oneway operation gives it back, too
-  abbrev pub name_visit : Use → ScopedName → Walk → Visit
-  name_visit way name w =
-      if w.gives_back then with_oneway w.at (outcome (used turns way name w) answers)
-      else outcome (plain_name turns way name w) answers
-
   -- all that comes of a site
   abbrev pub whole_visit : Item → Walk → Visit
   whole_visit (item.ValueEnds way e) w = record {

@@ -5,7 +5,7 @@ use Rattle.idl_check.specs.ids.About.{Said, refused_for, said_at}
 use Rattle.idl_check.specs.ids.Pragmas.{said}
 use Rattle.idl_check.specs.Apart.{boxed_or}
 use Rattle.idl_check.specs.told.Values.{Values, nothing_kept}
-use Rattle.idl_check.specs.walk.Walk.{turns_at, Walk, past_name, head_of, head_visit, noted_in, spoken_of, used, visit}
+use Rattle.idl_check.specs.walk.Walk.{turns_at, Walk, cut_name, head_of, head_visit, looked_at, noted_in, spoken_of, used}
 use Rattle.idl_check.specs.declared.tables.declaring.Written.{Written as LastWritten}
 use Rattle.idl_check.specs.walk.Verdict.{pragma_verdict}
 use Rattle.idl_check.specs.declared.ids.about.Named.{Named}
@@ -20,6 +20,7 @@ use Rattle.idl_env.specs.declared.answering.answer.Scope.{Scope}
 use Rattle.idl_entity.specs.declared.identity.Fixed.{Fixed}
 use Rattle.idl_entity.specs.declared.identity.Identity.{Identity}
 use Rattle.idl_parts.specs.Item.{Item, items_length}
+use Rattle.idl_parts.specs.declared.part.TextPurpose.{TextPurpose}
 use Rattle.idl_parts.specs.declared.part.Use.{Use}
 use Rattle.idl_tree.specs.declared.name.ScopedName.{ScopedName}
 use Rattle.idl_tree.specs.declared.pragma.Pragma.{Pragma}
@@ -55,7 +56,6 @@ held w = record {
   bodies = w.bodies;
   clauses = w.clauses;
   unions = w.unions.items;
-  gives_back = w.gives_back;
   text = w.text;
   found = w.found;
   values = held_values w.values;
@@ -70,10 +70,13 @@ visited turns site w = and_then (looked_at turns site w) (λ v. Done (noted_in v
 abbrev pub used_noted : ℕ → Use → ScopedName → Walk → Lookup Walk
 used_noted turns way name w = and_then (used turns way name w) (λ v. Done (noted_in v w.fault))
 
+abbrev pub cut_noted : ℕ → Use → ScopedName → Walk → Lookup Walk
+cut_noted turns way name w = and_then (cut_name turns way name w) (λ v. Done (noted_in v w.fault))
+
 -- and of one of which something is said
-abbrev pub spoken_noted : ℕ → Use → ScopedName → Walk → Lookup Walk
-spoken_noted turns way name w =
-    and_then (spoken_of turns way name w) (λ v. Done (noted_in v w.fault))
+abbrev pub spoken_noted : ℕ → TextPurpose → ScopedName → Walk → Lookup Walk
+spoken_noted turns purpose name w =
+    and_then (spoken_of turns purpose name w) (λ v. Done (noted_in v w.fault))
 
 abbrev pub head_noted : ℕ → ScopedName → Walk → Lookup Walk
 head_noted turns name w =

@@ -1,8 +1,8 @@
 -- The walk over the sites of a unit, in the order of its tokens: what is asked at each, what is
 -- wrong there, and what it adds.
-use Rattle.std.specs.Prelude.{ℕ, ◌+◌, Bool, true, false, ◌&&◌, ◌||◌, List, [], ◌∷◌, ◌++◌, drop, fold, is_some, min, nat_lt, not, take, Option, None, Some, Result, Ok, Err, if◌then◌else◌, option_to_list}
+use Rattle.std.specs.Prelude.{ℕ, ◌+◌, Bool, false, ◌&&◌, ◌||◌, List, [], ◌∷◌, ◌++◌, drop, fold, is_some, min, nat_lt, not, take, Option, None, Some, Result, Ok, Err, if◌then◌else◌, option_to_list}
 use Rattle.idl_check.specs.ids.About.{Said, unnamed_faults}
-use Rattle.idl_check.specs.ids.Remarks.{is_bad_text, is_spoken_of, remark}
+use Rattle.idl_check.specs.ids.Remarks.{is_bad_text, purpose_of, remark}
 use Rattle.idl_check.specs.told.Bodies.{Body, Clauses, array_of, begun_body, no_clauses, told_innermost, with_array_member, with_body_label, with_text, with_member, with_raised}
 use Rattle.idl_check.specs.tables.Codes.{faults_by}
 use Rattle.idl_check.specs.tables.Declaring.{Written, declared_table, entity_of, kind_of, standing, with_declared, written_after}
@@ -70,8 +70,6 @@ pub record Walk : Type 0 where
   pub clauses : Clauses
   -- the labels of the unions around it, the innermost first
   pub unions : List Labels
-  -- what the next token begins is given back by a oneway operation
-  pub gives_back : Bool
   -- the text that stands behind the next name, if something is said by it of what that denotes
   pub text : List ℕ
   -- the paths of what the used names denote, in order
@@ -94,7 +92,6 @@ first_walk cursor = record {
   bodies = [];
   clauses = no_clauses;
   unions = [];
-  gives_back = false;
   text = [];
   found = [];
   values = no_values;
@@ -200,7 +197,6 @@ spoken_visit w name found s = record {
   after = record w {
     at = last_at w.at name + 1;
     own = fold with_addition w.own s.additions;
-    gives_back = false;
     found = w.found ++ found.entity.path ∷ [];
   };
 }
@@ -209,27 +205,26 @@ spoken_visit w name found s = record {
 abbrev pub unspoken_visit : Walk → ScopedName → NameFault → Visit
 unspoken_visit w name fault = record {
   faults = unnamed_faults w.at name fault;
-  after = record w { at = last_at w.at name + 1; gives_back = false };
+  after = record w { at = last_at w.at name + 1 };
 }
 
-unfoldable pub spoken_of : ℕ → Use → ScopedName → Walk → Lookup Visit
-spoken_of turns way name w =
+unfoldable pub spoken_of : ℕ → TextPurpose → ScopedName → Walk → Lookup Visit
+spoken_of turns purpose name w =
     and_then (under w.own (denoted (turns_at turns w) w.cursor name))
     (λ r. by_result r
-    (λ found. and_then (under w.own (remark way (last_at w.at name) w.text found.entity))
+    (λ found. and_then (under w.own (remark purpose (last_at w.at name) w.text found.entity))
     (λ s. Done (spoken_visit w name found s)))
     (λ fault. Done (unspoken_visit w name fault)))
 
--- a name that isn't given back by a oneway operation
+-- a used name, by whether something is said of it
 abbrev pub plain_name : ℕ → Use → ScopedName → Walk → Lookup Visit
 plain_name turns way name w =
-    if is_spoken_of way then spoken_of turns way name w else used turns way name w
+    elim (purpose_of way) [
+      | None ↦ used turns way name w
+      | Some purpose ↦ spoken_of turns purpose name w
+    ]
 
--- The type that a oneway operation gives back: the fault stands at its first token, and of a name
--- that token alone is looked at.
-abbrev pub with_oneway : ℕ → Visit → Visit
-with_oneway at v = record v { faults = v.faults ++ fault_at at code.BadOneway ∷ [] }
-
+-- A used name that is cut behind its first token: nothing further on is looked at.
 abbrev pub head_faults : ℕ → Result Found NameFault → List Fault
 head_faults at (Ok found) =
     if is_scope found.entity.kind then [] else fault_at at code.NoScope ∷ []
@@ -347,12 +342,6 @@ evaluation_at w way e =
 abbrev pub outcome_at : Walk → Purpose → Expression → Outcome
 outcome_at w way e = first_of (evaluation_at w way e)
 
--- with the fault of a text that begins at this token where a test holds
-abbrev pub with_text_fault : ℕ → Bool → Visit → Visit
-with_text_fault at is_bad v = record v {
-  faults = v.faults ++ (if is_bad then fault_at at code.BadIdText ∷ [] else []);
-}
-
 -- a site
 unfoldable pub visit : ℕ → Item → Walk → Lookup Visit
 visit turns (item.Declares way name) w =
@@ -362,8 +351,7 @@ visit turns (item.Declares way name) w =
           and_then (under w.own (standing (turns_at turns w) s e))
           (λ there. Done (declared_visit w way s e there))
     ]
-visit turns (item.Uses way name) w =
-    if w.gives_back then given_back turns way name w else plain_name turns way name w
+visit turns (item.Uses way name) w = plain_name turns way name w
 visit turns (item.ScopeBegins way name) w =
     Done (quiet (record w {
       cursor = with_scope way name w.cursor;
@@ -400,11 +388,10 @@ visit turns item.GivesBack w =
     Done (record { faults = fault_at w.at code.BadOneway ∷ []; after = w })
 visit turns (item.Plain n) w = Done (quiet (passed n w))
 visit turns (item.Says purpose text) w =
-    Done (with_text_fault w.at (is_bad_text purpose (joined text))
-    (faulty_if w.gives_back code.BadOneway w
+    Done (faulty_if (is_bad_text purpose (joined text)) code.BadIdText w
     (record (passed (item_length (item.Says purpose text)) w) {
       clauses = with_text purpose text w.clauses;
-    })))
+    }))
 
 -- after a site: the least of its faults and of the one before
 abbrev pub noted : Option Fault → List Fault → Option Fault
@@ -423,10 +410,14 @@ abbrev pub is_over : Walk → Bool
 is_over w = is_known w.at w
 
 -- A site to which a walk comes. Where a fault of the next token is known before the token is looked
--- at, as one of the tree by itself is, a name that begins there is cut.
+-- at, as one of the tree by itself is, a name that begins there is cut. (None is before a name of which
+-- something is said.)
 abbrev pub looked_at : ℕ → Item → Walk → Lookup Visit
 looked_at turns (item.Uses way name) w =
-    if is_known (w.at + 1) w then cut_name turns way name w else used turns way name w
+    elim (purpose_of way) [
+      | None ↦ if is_known (w.at + 1) w then cut_name turns way name w else used turns way name w
+      | Some purpose ↦ spoken_of turns purpose name w
+    ]
 looked_at turns site w = visit turns site w
 
 -- the walk over these sites

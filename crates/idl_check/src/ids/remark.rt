@@ -9,9 +9,9 @@ ghost use Rattle.std.specs.Option.{option_copied};
 ghost use Rattle.idl_env.specs.Facts.{answers};
 ghost use Rattle.idl_env.specs.declared.additions.addition.Addition.TheVariants.{Identifies, TypePrefixes};
 ghost use Rattle.idl_env.specs.keys.Key.{key_eq};
-ghost use Rattle.idl_entity.specs.declared.identity.Fixed.TheVariants.{Id};
+ghost use Rattle.idl_entity.specs.declared.identity.Fixed.TheVariants.{Id as FixedId};
 ghost use Rattle.idl_memo.specs.Query.{run};
-ghost use Rattle.idl_parts.specs.declared.part.Use.TheVariants.{AsIdentified, AsPrefixed};
+ghost use Rattle.idl_parts.specs.declared.part.TextPurpose.TheVariants.{Id, Prefix};
 ghost use Rattle.idl_scope.specs.Lookup.{under};
 
 use crate::ids::about::{Named, Subject};
@@ -33,10 +33,21 @@ pub struct Remark {
     pub adds: Option<Addition>,
 }
 
-/// A text that stands behind a name that is used so.
+/// What the text behind a name is for that is used so, if something is said by it.
+pub fn purpose_of(way: Use) -> Option<TextPurpose>
+    ensures { result ≡ purpose_of way }
+{
+    match way {
+        Use::AsIdentified => Some(TextPurpose::Id),
+        Use::AsPrefixed => Some(TextPurpose::Prefix),
+        _ => None,
+    }
+}
+
+/// A text that stands behind a name.
 #[derive(Clone, Copy)]
 pub struct Text<'a> {
-    pub way: Use,
+    pub purpose: TextPurpose,
     pub characters: &'a [u16],
 }
 
@@ -52,12 +63,16 @@ impl<'a> Text<'a> {
             (remarked at r, log.new)
             ≡ run key_eq
             (under subject.entry.own.now.additions
-            (remark self.entry.way at self.entry.characters.now entity.now))
+            (remark self.entry.purpose at self.entry.characters.now entity.now))
             (answers subject.entry.env.now) log.old) }
     {
-        match self.way {
-            Use::AsPrefixed => prefixed(subject, log, entity, self.characters),
-            _ => identified(subject, log, entity, self.characters),
+        match self.purpose {
+            TextPurpose::Context => Ok(Remark {
+                code: None,
+                adds: None,
+            }),
+            TextPurpose::Id => identified(subject, log, entity, self.characters),
+            TextPurpose::Prefix => prefixed(subject, log, entity, self.characters),
         }
     }
 }
@@ -72,7 +87,7 @@ fn identified(
     ensures { IfOk result (λ r. (at : ℕ) →
         (remarked at r, log.new)
         ≡ run key_eq
-        (under subject.entry.own.now.additions (remark AsIdentified at text.now entity.now))
+        (under subject.entry.own.now.additions (remark Id at text.now entity.now))
         (answers subject.entry.env.now) log.old) }
 {
     if !has_id(entity.kind()) {
@@ -96,7 +111,7 @@ fn given(alloc: Global, named: &Named, text: &[u16]) -> Result<Remark, AllocErro
     ensures { IfOk result (λ r. (at : ℕ) →
         remarked at r
         ≡ unless (is_no_id text.now)
-        (said_at at (Id text.now) named.now.path named.now.identity)) }
+        (said_at at (FixedId text.now) named.now.path named.now.identity)) }
 {
     let is_again = is_given(alloc, text, &named.path, &named.identity)?;
     let adds = identifying(alloc, named, text)?;
@@ -111,7 +126,7 @@ fn identifying(alloc: Global, named: &Named, text: &[u16]) -> Result<Option<Addi
     ensures { IfOk result (λ adds.
         adds
         ≡ (if is_id text.now
-        then Some (Identifies named.now.path (changed (Id text.now) named.now.identity))
+        then Some (Identifies named.now.path (changed (FixedId text.now) named.now.identity))
         else None)) }
 {
     let spelled = id_text(alloc, text)?;
@@ -135,7 +150,7 @@ fn prefixed(
     ensures { IfOk result (λ r. (at : ℕ) →
         (remarked at r, log.new)
         ≡ run key_eq
-        (under subject.entry.own.now.additions (remark AsPrefixed at text.now entity.now))
+        (under subject.entry.own.now.additions (remark Prefix at text.now entity.now))
         (answers subject.entry.env.now) log.old) }
 {
     if !entity.kind().is_scope() {

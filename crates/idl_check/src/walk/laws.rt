@@ -27,7 +27,8 @@ ghost use Rattle.idl_env.specs.keys.Key.{key_eq};
 ghost use Rattle.idl_env.specs.declared.keys.key.Key.{Key};
 ghost use Rattle.idl_env.specs.declared.keys.key.Key.TheVariants.{Cursor};
 ghost use Rattle.idl_scope.specs.Lookup.{denoted, under};
-ghost use Rattle.idl_scope.specs.Meaning.{Denotes, InheritsOperation, Reaches, entity_found, seen};
+ghost use Rattle.idl_entity.specs.Kind.{inherits};
+ghost use Rattle.idl_scope.specs.Meaning.{Denotes, InheritsOperation, Reaches, Through, bases_at, entity_found, seen};
 ghost use Rattle.idl_entity.specs.Path.{name_of, scope_of};
 ghost use Rattle.idl_env.specs.Turns.{turns_for};
 ghost use Rattle.idl_scope.specs.declared.found.Found.{Found};
@@ -263,7 +264,8 @@ pub fn more_turns()
 /// Where a unit uses a name, it denotes what the scoping rules say, over the facts before the unit
 /// and what its earlier tokens add, and its use is introduced into the scopes that they tell. A
 /// pragma's name denotes what they say over the facts before it. Where a unit declares a name, it is
-/// told just where an interface inherits an operation or attribute of that name.
+/// told just where an operation or attribute of that name is inherited, and where a struct reaches
+/// anything of that name through its base.
 pub fn denoting()
     ensures denoted { (facts : List UnitFacts) (turns : ℕ) (w : Walk) (name : ScopedName)
         → turns_for facts ≤ turns
@@ -292,6 +294,13 @@ pub fn denoting()
         ((outcome query (answers facts)).brings_operation ≡ true)
         ↔ ((f : Entity)
         × InheritsOperation (seen w.own facts) s (folded (name_of e.path)) f) }
+    ensures reached { (facts : List UnitFacts) (turns : ℕ) (w : Walk) (s : Scope) (e : Entity)
+        → turns_for facts ≤ turns
+        → let query = under w.own (standing (turns_at turns w) s e) in
+        let after = seen w.own facts in
+        ((outcome query (answers facts)).is_reached ≡ true)
+        ↔ ((f : Entity) × (inherits s.kind ≡ true)
+        × Through after (folded (name_of e.path)) (bases_at after s.path) f) }
 {}
 
 /// The operations and attributes of a closed interface are those that the scoping rules reach from

@@ -22,6 +22,7 @@ ghost use Rattle.idl_parts.specs.Item.{item_length};
 ghost use Rattle.idl_parts.specs.Part.{Part as item};
 ghost use Rattle.idl_unit.specs.TokenRules.{fault_at, first};
 
+use crate::ids::remark::purpose_of;
 use crate::tables::declaring::{declared_code, stays};
 use crate::tables::standing::{Standing, standing_of};
 use crate::tables::using::{Denoted, Denoting, introduce, name_code, used_code};
@@ -117,14 +118,16 @@ impl<'a> Walker<'a> {
             (self.new.at ≡ self.old.at + item_length (item.Uses way name.now)) }
         ensures env { OnOk result (self.new.env.now ≡ self.old.env.now) }
     {
+        if let Some(purpose) = purpose_of(way) {
+            self.speak_of(log, purpose, name)?;
+            return Ok(());
+        }
         if self.is_known(self.at + 1) {
             self.cut_name(log, way, name)?;
             return Ok(());
         }
-        match way {
-            Use::AsIdentified | Use::AsPrefixed => self.speak_of(log, way, name),
-            _ => self.use_any(log, way, name),
-        }
+        self.use_any(log, way, name)?;
+        Ok(())
     }
 
     // A used name of which nothing counts behind its first token.

@@ -1,11 +1,11 @@
 //! The walk over names of what something is said by a text, and over that text.
 
-ghost use Rattle.std.specs.Prelude.{◌≡◌, ◌≤◌, ◌+◌, ◌∷◌, ◌++◌, [], ℕ, IfOk, OnOk, fold};
+ghost use Rattle.std.specs.Prelude.{◌≡◌, ◌≤◌, ◌+◌, ◌∷◌, ◌++◌, [], ℕ, IfOk, OnOk, fold, option_to_list};
 ghost use Rattle.idl_check.specs.ids.Remarks.{is_bad_text, remarked};
 ghost use Rattle.idl_check.specs.told.Bodies.{with_text};
 ghost use Rattle.idl_check.specs.walk.Held.{HasRoomFor, held, spoken_noted};
-ghost use Rattle.idl_check.specs.walk.Walk.{faulty_if, noted_in, passed, with_text_fault};
-ghost use Rattle.idl_fault.specs.declared.code.Code.TheVariants.{BadOneway};
+ghost use Rattle.idl_check.specs.walk.Walk.{faulty_if, noted_in, passed};
+ghost use Rattle.idl_fault.specs.declared.code.Code.TheVariants.{BadIdText};
 ghost use Rattle.idl_memo.specs.Query.{run};
 ghost use Rattle.idl_env.specs.Facts.{answers, with_addition};
 ghost use Rattle.idl_env.specs.keys.Key.{key_eq};
@@ -20,10 +20,10 @@ use crate::ids::remark::{Remark, Text, is_bad_text};
 use crate::walk::walker::Walker;
 use idl_base::Seq;
 use idl_entity::Path;
-use idl_env::Env;
+use idl_env::{Addition, Env, Facts};
 use idl_fault::Code;
 use idl_memo::Journal;
-use idl_parts::{TextPurpose, Use};
+use idl_parts::TextPurpose;
 use idl_scope::{NameFault, Standpoint, resolve};
 use idl_tree::{ScopedName, Several, last_at};
 use idl_value::joined;
@@ -45,13 +45,13 @@ impl<'a> Walker<'a> {
     pub fn speak_of(
         &mut self,
         log: &mut Journal<Env>,
-        way: Use,
+        purpose: TextPurpose,
         name: &ScopedName,
     ) -> Result<(), AllocError>
         requires room { last_at self.old.at name.now + 1 ≤ 18446744073709551615 }
         ensures run { OnOk result ((turns : ℕ) → turns_for self.old.env.now ≤ turns →
             (held self.new, log.new)
-            ≡ run key_eq (spoken_noted turns way name.now (held self.old))
+            ≡ run key_eq (spoken_noted turns purpose name.now (held self.old))
             (answers self.old.env.now) log.old) }
         ensures at { OnOk result (self.new.at ≡ last_at self.old.at name.now + 1) }
         ensures env { OnOk result (self.new.env.now ≡ self.old.env.now) }
@@ -65,7 +65,8 @@ impl<'a> Walker<'a> {
                 let entity = found.entity.get();
                 let text = self.text_for(purpose);
                 let remark = text.remark(self.subject(), log, entity)?;
-                self.take_remark(name, entity.path(), remark)
+                self.take_remark(name, entity.path(), remark)?;
+                Ok(())
             }
             Err(NameFault::Memory) => Err(AllocError),
             Err(NameFault::At(code, part)) => {
@@ -115,7 +116,6 @@ impl<'a> Walker<'a> {
               after = record (held self.old) {
                 at = last_at self.old.at name.now + 1;
                 own = fold with_addition self.old.own.additions s.additions;
-                gives_back = false;
                 found = self.old.found ++ path.now ∷ [];
               };
             }) self.old.fault) }
@@ -125,12 +125,9 @@ impl<'a> Walker<'a> {
         let last = last_at(self.at, name);
         self.note(last, code);
         self.at = last + 1;
-        self.gives_back = false;
         self.found.push(path.clone()?)?;
-        match adds {
-            Some(addition) => self.own.add(addition),
-            None => Ok(()),
-        }
+        add_any(&mut self.own, adds)?;
+        Ok(())
     }
 
     /// String literals, which are joined: a text of a context, or what is said by it of what a name denotes.
@@ -139,11 +136,10 @@ impl<'a> Walker<'a> {
         ensures visit { OnOk result
             (held self.new
             ≡ noted_in
-            (with_text_fault self.old.at (is_bad_text purpose (joined text.now))
-            (faulty_if self.old.gives_back BadOneway (held self.old)
+            (faulty_if (is_bad_text purpose (joined text.now)) BadIdText (held self.old)
             (record (passed (item_length (item.Says purpose text.now)) (held self.old)) {
               clauses = with_text purpose text.now self.old.clauses;
-            }))) self.old.fault) }
+            })) self.old.fault) }
         ensures at { OnOk result
             (self.new.at ≡ self.old.at + item_length (item.Says purpose text.now)) }
         ensures env { OnOk result (self.new.env.now ≡ self.old.env.now) }
@@ -160,7 +156,21 @@ impl<'a> Walker<'a> {
     }
 }
 
-// Whether string literals may not be, joined, what they are.
+// Puts in what is added, if anything is.
+fn add_any(own: &mut Facts, adds: Option<Addition>) -> Result<(), AllocError>
+    ensures { OnOk result
+        (own.new
+        ≡ record own.old {
+          additions = fold with_addition own.old.additions (option_to_list adds);
+        }) }
+{
+    match adds {
+        Some(addition) => own.add(addition),
+        None => Ok(()),
+    }
+}
+
+// Whether string literals may not be, joined, what they are for.
 fn is_bad(alloc: Global, purpose: TextPurpose, text: &Several<Seq<u16>>) -> Result<bool, AllocError>
     ensures { IfOk result (λ b. b ≡ is_bad_text purpose (joined text.now)) }
 {

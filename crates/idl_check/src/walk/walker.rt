@@ -1,10 +1,10 @@
 //! The walk over the sites of a unit.
 
-ghost use Rattle.std.specs.Prelude.{◌≡◌, ◌≤◌, ◌+◌, ◌∷◌, ◌++◌, [], ℕ, OnOk, Some, drop, map, option_to_list, take, true};
+ghost use Rattle.std.specs.Prelude.{◌≡◌, ◌≤◌, ◌+◌, ◌∷◌, ◌++◌, [], ℕ, OnOk, Some, drop, map, option_to_list, take};
 ghost use Rattle.idl_check.specs.told.Bodies.{begun_body, raising};
 ghost use Rattle.idl_check.specs.tables.Declaring.{finished, with_finished};
 ghost use Rattle.idl_check.specs.walk.Held.{HasRoomFor, held, visited};
-ghost use Rattle.idl_check.specs.walk.Walk.{faulty_if, first_walk, is_known, is_over, noted, noted_in, passed, scope_visit, walk, with_scope};
+ghost use Rattle.idl_check.specs.walk.Walk.{faulty_if, first_walk, is_known, is_over, noted, noted_in, scope_visit, walk, with_scope};
 ghost use Rattle.idl_check.specs.told.Labels.{is_idle};
 ghost use Rattle.idl_fault.specs.declared.code.Code.TheVariants.{BadOneway, UselessDefault};
 ghost use Rattle.std.specs.List.{list_any};
@@ -55,8 +55,6 @@ pub struct Walker<'a> {
     pub clauses: Clauses,
     /// The labels of the unions around it, the innermost first.
     pub unions: Vec<Labels>,
-    /// Whether what the next token begins is given back by a oneway operation.
-    pub gives_back: bool,
     /// The text that stands behind the next name, if something is said by it of what that denotes.
     pub text: Seq<u16>,
     /// The paths of what the used names denote, in order.
@@ -91,7 +89,6 @@ impl<'a> Walker<'a> {
             bodies: Nest::new(alloc),
             clauses: Clauses::new(alloc),
             unions: Vec::new(alloc),
-            gives_back: false,
             text: Seq::new(alloc),
             found: Seq::new(alloc),
             values: Values::new(alloc),

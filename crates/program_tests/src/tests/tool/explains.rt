@@ -54,7 +54,7 @@ fn a_word_is_explained(rt: HostRuntime) -> Result<(), Fail> {
 #[test]
 fn all_are_told_without_a_word(rt: HostRuntime) -> Result<(), Fail> {
     let got = tool_given(rt.alloc(), "explain", "")?;
-    assert_eq!(rt; got.split(" /").count(), 69);
+    assert_eq!(rt; got.split(" /").count(), 71);
     assert!(rt;
         got.starts_with("0 out E01: `TOKEN` begins no token of IDL /E02: the literal TOKEN ")
     );

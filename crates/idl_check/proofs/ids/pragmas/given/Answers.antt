@@ -22,15 +22,15 @@ returns-then-is_again c =
     (λ v gives. gives ∙ sym (verdict-faulty (given_id at text path d) (fault_at at RepeatedId) (id-given at text path d holds)))
     c.refused.ensures
 
-pub returns-in-Some : goal.returns-in-Some
-returns-in-Some c =
+pub returns-in_ok-identity-in-Some : goal.returns-in_ok-identity-in-Some
+returns-in_ok-identity-in-Some c =
     let path = c.args.named.now.path in
     let d = c.args.named.now.identity in
     let text = c.args.text.now in
     let at = c.args.at in
     let no = sym c.in_ok-is_again.ensures ∙ c.if-is_again.false in
     let there = text-there (is_id text) text c.in-Some.id (sym c.in-Some.is ∙ c.in_ok-spelled.ensures) in
-    let identity = c.in_ok-identity.ensures ∙ (λ i. changed (Id (there.1 i)) d) in
+    let identity = c.in_ok-identity-in-Some.ensures ∙ (λ i. changed (Id (there.1 i)) d) in
     IfOk-weaker c.identifying.result _ _
     (λ v gives.
     gives
@@ -42,8 +42,8 @@ returns-in-Some c =
     ∙ sym (verdict-sound (given_id at text path d) (id-sound at text path d no there.0)))
     c.identifying.ensures
 
-pub returns : goal.returns
-returns c =
+pub returns-in-None : goal.returns-in-None
+returns-in-None c =
     let path = c.args.named.now.path in
     let d = c.args.named.now.identity in
     let text = c.args.text.now in

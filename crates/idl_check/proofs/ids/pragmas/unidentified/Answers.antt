@@ -17,8 +17,8 @@ returns-in-Some c =
     (λ v gives. gives ∙ sym (verdict-sound (with_faults (text_faults at text) (refused_for [])) (text-sound at text there.0)))
     c.adding.ensures
 
-pub returns : goal.returns
-returns c =
+pub returns-in-None : goal.returns-in-None
+returns-in-None c =
     let text = c.args.text.now in
     let at = c.args.at in
     let bad = text-none (is_id text) text (sym c.in-None.is ∙ c.in_ok-spelled.ensures) in

@@ -39,8 +39,8 @@ returns-in-Some c =
     ∙ sym (remark-by own bank purpose.Id at text e log _ after (sym (about-named own bank (Id text) at e log _ after some named))))
     c.given.ensures
 
-pub returns : goal.returns
-returns c = λ at.
+pub returns-in-None : goal.returns-in-None
+returns-in-None c = λ at.
     let own = c.args.subject.own.now.additions in
     let bank = answers c.args.subject.env.now in
     let e = c.args.entity.now in

@@ -9,7 +9,7 @@ returns-in-Some c =
     let text = c.args.text.now in
     ap not (sym (text-there (is_visible text) text c.in-Some._prefix (sym c.in-Some.is ∙ c.in_ok-spelled.ensures)).0)
 
-pub returns : goal.returns
-returns c =
+pub returns-in-None : goal.returns-in-None
+returns-in-None c =
     let text = c.args.text.now in
     ap not (sym (text-none (is_visible text) text (sym c.in-None.is ∙ c.in_ok-spelled.ensures)))

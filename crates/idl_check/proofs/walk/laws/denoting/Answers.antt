@@ -1,5 +1,5 @@
 use Rattle.std.proofs.Common.{◌∙◌, sym, subst, arith, [], Result}
-use Rattle.idl_check.proofs.Fitting.InheritedLaws.{standing-inherited}
+use Rattle.idl_check.proofs.Fitting.InheritedLaws.{standing-inherited, standing-reached}
 use Rattle.idl_check.proofs.Visits.RowLaws.{used-path}
 use Rattle.idl_check.proofs.Visits.VisitLemmas.{turns-here}
 use Rattle.idl_check.specs.walk.Walk.{turns_at}
@@ -31,3 +31,6 @@ returns-clause-pragma c = λ facts turns scopes name enough. denotes facts [] tu
 
 pub returns-clause-inherited : goal.returns-clause-inherited
 returns-clause-inherited c = standing-inherited
+
+pub returns-clause-reached : goal.returns-clause-reached
+returns-clause-reached c = standing-reached

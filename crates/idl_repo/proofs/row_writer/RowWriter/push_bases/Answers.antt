@@ -16,11 +16,11 @@ returns-in_ok-extend_from_slice-2 c =
 pub returns-in_ok-push_base : goal.returns-in_ok-push_base
 returns-in_ok-push_base c =
     let no : kind_eq c.args.entity.now.kind Interface ≡ false = ap (λ kind. kind_eq kind Interface) (sym c.kind.ensures) ∙ sym c.eq.ensures ∙ c.if-eq.false in
-    let is : kind_eq c.args.entity.now.kind Structure ≡ true = ap (λ kind. kind_eq kind Structure) (sym c.kind-2.ensures) ∙ sym c.eq-2.ensures ∙ c.if-eq-2.true in
-    rw (no, is) (grows-as (ap base_pieces c.bases-2.ensures) c.in_ok-push_base.ensures)
+    let is : kind_eq c.args.entity.now.kind Structure ≡ true = ap (λ kind. kind_eq kind Structure) (sym c.kind-else-eq.ensures) ∙ sym c.eq-else-eq.ensures ∙ c.if-eq-2.true in
+    rw (no, is) (grows-as (ap base_pieces c.bases-then-eq-2.ensures) c.in_ok-push_base.ensures)
 
 pub returns-else-eq-2 : goal.returns-else-eq-2
 returns-else-eq-2 c =
     let no : kind_eq c.args.entity.now.kind Interface ≡ false = ap (λ kind. kind_eq kind Interface) (sym c.kind.ensures) ∙ sym c.eq.ensures ∙ c.if-eq.false in
-    let other : kind_eq c.args.entity.now.kind Structure ≡ false = ap (λ kind. kind_eq kind Structure) (sym c.kind-2.ensures) ∙ sym c.eq-2.ensures ∙ c.if-eq-2.false in
+    let other : kind_eq c.args.entity.now.kind Structure ≡ false = ap (λ kind. kind_eq kind Structure) (sym c.kind-else-eq.ensures) ∙ sym c.eq-else-eq.ensures ∙ c.if-eq-2.false in
     rw (no, other) grows-nothing

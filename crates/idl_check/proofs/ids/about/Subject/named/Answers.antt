@@ -34,8 +34,8 @@ returns-then-not-has_id-clause-said c = λ turns more change.
 pub returns-then-not-has_id-clause-place : goal.returns-then-not-has_id-clause-place
 returns-then-not-has_id-clause-place c = omega (arith, c.last_at.ensures)
 
-pub returns-in-Ok-clause-said : goal.returns-in-Ok-clause-said
-returns-in-Ok-clause-said c = λ turns more change.
+pub returns-in_ok-identified-in-Ok-clause-said : goal.returns-in_ok-identified-in-Ok-clause-said
+returns-in_ok-identified-in-Ok-clause-said c = λ turns more change.
     let own = c.args.self.own.now.additions in
     let bank = answers c.args.self.env.now in
     let first = c.args.self.first in
@@ -61,8 +61,8 @@ part_at-requires c =
     (asked turns (omega arith)) in
     omega (arith, within, c.requires, c.in-Err-At.part-is)
 
-pub returns-clause-said : goal.returns-clause-said
-returns-clause-said c = λ turns more change.
+pub returns-in-Err-At-clause-said : goal.returns-in-Err-At-clause-said
+returns-in-Err-At-clause-said c = λ turns more change.
     let own = c.args.self.own.now.additions in
     let bank = answers c.args.self.env.now in
     let first = c.args.self.first in
@@ -76,8 +76,8 @@ returns-clause-said c = λ turns more change.
     ∙ (λ i. (refused_for (fault_at (part_at first name (c.in-Err-At.part-is i)) (name_code (c.in-Err-At.code-is i)) ∷ []), after))
     ∙ sym (named-unfound own bank change first turns scopes name log (At c.in-Err-At.code c.in-Err-At.part) after gives)
 
-pub returns-clause-place : goal.returns-clause-place
-returns-clause-place c =
+pub returns-in-Err-At-clause-place : goal.returns-in-Err-At-clause-place
+returns-in-Err-At-clause-place c =
     let own = c.args.self.own.now.additions in
     let turns = turns_for c.args.self.env.now + turns_among own in
     let asked = rw c.in-Err-At.field-0-is at c.in-Err-At.ensures.asked in

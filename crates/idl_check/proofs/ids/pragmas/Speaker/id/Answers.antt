@@ -50,8 +50,8 @@ returns-in-Ok-None c =
     ∙ sym (id-spoken bank turns scopes name text c.args.log.now _ after (c.in_ok-found.ensures.said turns enough (Id text))))
     c.unidentified.ensures
 
-pub returns : goal.returns
-returns c =
+pub returns-in-Err : goal.returns-in-Err
+returns-in-Err c =
     let bank = answers c.args.self.env.now in
     let scopes = c.args.self.scopes.now in
     let name = c.args.name.now in
@@ -59,7 +59,7 @@ returns c =
     let after = c.named.new.log in
     let at = last_at 2 name in
     let more = text_faults (at + 1) text in
-    let fault = c.in-Err.field-0 in
+    let fault = c.in-Err.fault in
     let place = IfErr-at_err (λ (fault : Fault). fault.index ≤ at) c.in-Err.is c.in_ok-found.ensures.place in
     IfOk-weaker c.adding.result _ _
     (λ v gives turns enough.

@@ -1,4 +1,5 @@
-use Rattle.std.proofs.Common.{◌∙◌, [], sym, ap}
+use Rattle.std.specs.Prelude.{◌+◌}
+use Rattle.std.proofs.Common.{◌∙◌, sym}
 use Rattle.std.proofs.lemmas.Bool.{false≢true}
 use Rattle.idl_check.proofs.Visits.VisitLemmas.{cut-global, cut-head, cut-whole}
 use Rattle.idl_check.specs.walk.Held.{held}

@@ -1,11 +1,11 @@
 use Rattle.std.proofs.Common.{◌+◌, ◌∷◌, [], sym, ap, ◌∙◌, arith}
 use Rattle.idl_tree.proofs.NameLemmas.{text-length}
-use Rattle.idl_check.proofs.Faults.NotedLemmas.{text-bad, text-good}
+use Rattle.idl_check.proofs.Faults.NotedLemmas.{faulty-no, faulty-yes}
 use Rattle.idl_check.specs.ids.Remarks.{is_bad_text}
 use Rattle.idl_check.specs.told.Bodies.{with_text}
 use Rattle.idl_check.specs.walk.Held.{held}
-use Rattle.idl_check.specs.walk.Walk.{Walk, faulty_if, noted, noted_in, passed}
-use Rattle.idl_fault.specs.declared.code.Code.TheVariants.{BadIdText, BadOneway}
+use Rattle.idl_check.specs.walk.Walk.{Walk, noted, passed}
+use Rattle.idl_fault.specs.declared.code.Code.TheVariants.{BadIdText}
 use Rattle.idl_parts.specs.Item.{item_length}
 use Rattle.idl_parts.specs.Part.{Part as item}
 use Rattle.idl_unit.specs.TokenRules.{fault_at}
@@ -27,34 +27,34 @@ returns-then-is_bad-clause-visit c =
     let w = held c.args.self.now in
     let text = c.args.text.now in
     let purpose = c.args.purpose in
-    let count = text-length text in
-    let whole = (λ i. noted_in (faulty_if w.gives_back BadOneway w (record (passed (1 + c.len.result) w) { clauses = c.in_ok-add_text.ensures i })) w.fault)
-    ∙ (λ i. noted_in (faulty_if w.gives_back BadOneway w (record (passed (1 + c.len.ensures i) w) { clauses = with_text purpose text w.clauses })) w.fault)
-    ∙ (λ i. noted_in (faulty_if w.gives_back BadOneway w (record (passed (sym count i) w) { clauses = with_text purpose text w.clauses })) w.fault) in
+    let after : Walk = record (passed (item_length (item.Says purpose text)) w) { clauses = with_text purpose text w.clauses } in
     let fault : Walk → Walk = λ u. record u { fault = noted u.fault (fault_at w.at BadIdText ∷ []) } in
     (λ i. held (c.note.ensures i))
-    ∙ ap fault (c.pass.ensures.visit ∙ whole)
-    ∙ sym (text-bad w.at (is_bad_text purpose (joined text)) (faulty_if w.gives_back BadOneway w (record (passed (item_length (item.Says purpose text)) w) { clauses = with_text purpose text w.clauses })) w.fault (sym c.in_ok-is_bad.ensures ∙ c.if-is_bad.true))
+    ∙ ap fault (ap held c.pass.ensures
+    ∙ (λ i. record (passed (1 + c.len.ensures i) w) { clauses = c.in_ok-add_text.ensures i })
+    ∙ (λ i. record (passed (sym (text-length text) i) w) { clauses = with_text purpose text w.clauses }))
+    ∙ sym (faulty-yes (is_bad_text purpose (joined text)) BadIdText w after w.fault (sym c.in_ok-is_bad.ensures ∙ c.if-is_bad.true))
 
 pub returns-then-is_bad-clause-at : goal.returns-then-is_bad-clause-at
 returns-then-is_bad-clause-at c =
     let all = text-length c.args.text.now in
     let same = ap (λ w. w.at) c.note.ensures in
-    omega (arith, all, same, c.pass.ensures.at, c.len.ensures)
+    let at = ap (λ w. w.at) c.pass.ensures in
+    omega (arith, all, same, at, c.len.ensures)
 
 pub returns-clause-visit : goal.returns-clause-visit
 returns-clause-visit c =
     let w = held c.args.self.now in
     let text = c.args.text.now in
     let purpose = c.args.purpose in
-    let count = text-length text in
-    c.pass.ensures.visit
-    ∙ (λ i. noted_in (faulty_if w.gives_back BadOneway w (record (passed (1 + c.len.result) w) { clauses = c.in_ok-add_text.ensures i })) w.fault)
-    ∙ (λ i. noted_in (faulty_if w.gives_back BadOneway w (record (passed (1 + c.len.ensures i) w) { clauses = with_text purpose text w.clauses })) w.fault)
-    ∙ (λ i. noted_in (faulty_if w.gives_back BadOneway w (record (passed (sym count i) w) { clauses = with_text purpose text w.clauses })) w.fault)
-    ∙ sym (text-good w.at (is_bad_text purpose (joined text)) (faulty_if w.gives_back BadOneway w (record (passed (item_length (item.Says purpose text)) w) { clauses = with_text purpose text w.clauses })) w.fault (sym c.in_ok-is_bad.ensures ∙ c.if-is_bad.false))
+    let after : Walk = record (passed (item_length (item.Says purpose text)) w) { clauses = with_text purpose text w.clauses } in
+    ap held c.pass.ensures
+    ∙ (λ i. record (passed (1 + c.len.ensures i) w) { clauses = c.in_ok-add_text.ensures i })
+    ∙ (λ i. record (passed (sym (text-length text) i) w) { clauses = with_text purpose text w.clauses })
+    ∙ sym (faulty-no (is_bad_text purpose (joined text)) BadIdText w after w.fault (sym c.in_ok-is_bad.ensures ∙ c.if-is_bad.false))
 
 pub returns-clause-at : goal.returns-clause-at
 returns-clause-at c =
     let all = text-length c.args.text.now in
-    omega (arith, all, c.pass.ensures.at, c.len.ensures)
+    let at = ap (λ w. w.at) c.pass.ensures in
+    omega (arith, all, at, c.len.ensures)

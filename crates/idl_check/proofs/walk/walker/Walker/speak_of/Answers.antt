@@ -1,4 +1,4 @@
-use Rattle.std.proofs.Common.{ℕ, ◌≤◌, ◌+◌, ◌∷◌, ◌++◌, [], false, length, subst, sym, ap, ◌∙◌, arith}
+use Rattle.std.proofs.Common.{ℕ, ◌≤◌, ◌+◌, ◌∷◌, ◌++◌, [], length, subst, sym, ap, ◌∙◌, arith}
 use Rattle.std.specs.Prelude.{fold}
 use Rattle.idl_check.proofs.PartLemmas.{part-within}
 use Rattle.idl_check.proofs.Visits.VisitLemmas.{runs_over, spoken_by, turns-here, unspoken_by}
@@ -42,7 +42,7 @@ returns-in_ok-take_remark-in-Ok-clause-run c = λ turns more.
     ∙ (λ i. (
       noted_in (record {
         faults = s.faults;
-        after = record w { at = at + 1; own = fold with_addition w.own s.additions; gives_back = false; found = w.found ++ path i ∷ [] };
+        after = record w { at = at + 1; own = fold with_addition w.own s.additions; found = w.found ++ path i ∷ [] };
       }) w.fault,
       after,
     ))
@@ -51,8 +51,8 @@ returns-in_ok-take_remark-in-Ok-clause-run c = λ turns more.
 pub returns-in_ok-take_remark-in-Ok-clause-at : goal.returns-in_ok-take_remark-in-Ok-clause-at
 returns-in_ok-take_remark-in-Ok-clause-at c = ap (λ w. w.at) c.in_ok-take_remark-in-Ok.ensures.visit
 
-pub returns-clause-run : goal.returns-clause-run
-returns-clause-run c = λ turns more.
+pub returns-in-Err-At-clause-run : goal.returns-in-Err-At-clause-run
+returns-in-Err-At-clause-run c = λ turns more.
     let w = held c.args.self.now in
     let bank = answers c.args.self.now.env.now in
     let purpose = c.args.purpose in

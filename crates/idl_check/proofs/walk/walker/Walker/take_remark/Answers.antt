@@ -1,4 +1,4 @@
-use Rattle.std.proofs.Common.{ℕ, List, ◌+◌, ◌∷◌, ◌++◌, [], false, map, ◌∙◌}
+use Rattle.std.proofs.Common.{ℕ, List, ◌+◌, ◌∷◌, ◌++◌, [], map, ◌∙◌}
 use Rattle.std.specs.Prelude.{fold, option_to_list}
 use Rattle.idl_check.specs.walk.Held.{held}
 use Rattle.idl_tree.specs.NameParts.{last_at}
@@ -18,7 +18,7 @@ returns-clause-visit c =
     let adds = option_to_list c.args.remark.adds in
     let before = c.note.new.self in
     let last = last_at old.at name in
-    let after : Walker → ℕ → List Addition → List (List (List ℕ)) → Walk = λ w at own found. record (held w) { at = at + 1; own = own; gives_back = false; found = found } in
+    let after : Walker → ℕ → List Addition → List (List (List ℕ)) → Walk = λ w at own found. record (held w) { at = at + 1; own = own; found = found } in
     (λ i. after before c.last_at-last.result (c.in_ok-add_any.ensures i).additions (c.in_ok-push.ensures.items i))
     ∙ (λ i. after before (c.last_at-last.ensures i) (fold with_addition before.own.additions adds) (before.found ++ c.in_ok-clone.ensures.cases i ∷ []))
     ∙ (λ i. after (c.note.ensures i) last (fold with_addition (c.note.ensures i).own.additions adds) ((c.note.ensures i).found ++ path ∷ []))

@@ -33,7 +33,7 @@ returns-clause-visit c =
       bases = bases_after way f w.bases;
       written = record w.written { data_type = type_after way f w.written.data_type; constants = constants_after way behind w.written.constants };
       clauses = clauses;
-      unions = unions_after way behind w.unions.items;
+      unions = unions_after way behind w.unions;
       found = found;
       values = values_after way f.value w.values;
     } in
@@ -42,7 +42,6 @@ returns-clause-visit c =
       at = at + 1;
       own = own_after way (last_after way path w.last) own;
       last = last_after way path w.last;
-      gives_back = false;
     } in
     let over = c.take_base.new.self in
     let lent = c.path-path.ensures ∙ ap (λ (f : Entity). f.path) c.get-entity.ensures in

@@ -1,6 +1,6 @@
 use Rattle.std.proofs.Common.{sym, ◌∙◌, arith}
 use Rattle.idl_tree.proofs.NameLemmas.{behind_name}
-use Rattle.idl_check.proofs.Visits.VisitLemmas.{given_by, named_plain, named_spoken}
+use Rattle.idl_check.proofs.Visits.VisitLemmas.{named-cut, named-spoken, named-whole}
 use Rattle.idl_check.specs.walk.Held.{held}
 use Rattle.idl_env.specs.Facts.{answers}
 use Rattle.idl_check.proofs.walk.walker.Walker.use_name.Goals as goal
@@ -29,7 +29,7 @@ pub returns-then-is_known-clause-visited : goal.returns-then-is_known-clause-vis
 returns-then-is_known-clause-visited c = λ turns more.
     let bank = answers c.args.self.now.env.now in
     c.in_ok-cut_name.ensures.run turns more
-    ∙ sym (named-cut bank turns c.args.way c.args.name.now (held c.args.self.now) c.args.log.now (sym c.is_known.ensures ∙ c.if-is_known.true))
+    ∙ sym (named-cut bank turns c.args.way c.args.name.now (held c.args.self.now) c.args.log.now (sym c.purpose_of.ensures ∙ c.in_default.is) (sym c.is_known.ensures ∙ c.if-is_known.true))
 
 pub returns-then-is_known-clause-at : goal.returns-then-is_known-clause-at
 returns-then-is_known-clause-at c = c.in_ok-cut_name.ensures.at ∙ behind_name c.args.self.now.at c.args.name.now
@@ -37,17 +37,17 @@ returns-then-is_known-clause-at c = c.in_ok-cut_name.ensures.at ∙ behind_name 
 pub returns-in-Some-clause-visited : goal.returns-in-Some-clause-visited
 returns-in-Some-clause-visited c = λ turns more.
     let bank = answers c.args.self.now.env.now in
-    c.in_ok-speak_of-in-Some.ensures.run turns more
-    ∙ sym (named_spoken bank turns c.args.way c.in-Some.purpose c.args.name.now (held c.args.self.now) c.args.log.now c.if-self.false (sym c.purpose_of.ensures ∙ c.in-Some.is))
+    c.in_ok-speak_of.ensures.run turns more
+    ∙ sym (named-spoken bank turns c.args.way c.in-Some.purpose c.args.name.now (held c.args.self.now) c.args.log.now (sym c.purpose_of.ensures ∙ c.in-Some.is))
 
 pub returns-in-Some-clause-at : goal.returns-in-Some-clause-at
-returns-in-Some-clause-at c = c.in_ok-speak_of-in-Some.ensures.at ∙ behind_name c.args.self.now.at c.args.name.now
+returns-in-Some-clause-at c = c.in_ok-speak_of.ensures.at ∙ behind_name c.args.self.now.at c.args.name.now
 
 pub returns-clause-visited : goal.returns-clause-visited
 returns-clause-visited c = λ turns more.
     let bank = answers c.args.self.now.env.now in
     c.in_ok-use_any.ensures.run turns more
-    ∙ sym (named_plain bank turns c.args.way c.args.name.now (held c.args.self.now) c.args.log.now c.if-self.false (sym c.purpose_of.ensures ∙ c.in-None.is))
+    ∙ sym (named-whole bank turns c.args.way c.args.name.now (held c.args.self.now) c.args.log.now (sym c.purpose_of.ensures ∙ c.in_default.is) (sym c.is_known.ensures ∙ c.if-is_known.false))
 
 pub returns-clause-at : goal.returns-clause-at
 returns-clause-at c = c.in_ok-use_any.ensures.at ∙ behind_name c.args.self.now.at c.args.name.now

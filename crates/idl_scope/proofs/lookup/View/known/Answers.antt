@@ -7,7 +7,7 @@ use Rattle.idl_env.specs.keys.Key.{key_eq}
 use Rattle.idl_env.specs.declared.keys.key.Key.TheVariants.{IdOf}
 use Rattle.idl_scope.specs.Known.{typeprefix_around}
 use Rattle.idl_scope.proofs.LookupLaws.RunLemmas.{runs, runs-and_then, seen_at}
-use Rattle.idl_scope.proofs.known.View.known.Goals as goal
+use Rattle.idl_scope.proofs.lookup.View.known.Goals as goal
 
 pub returns : goal.returns
 returns c =
@@ -16,7 +16,7 @@ returns c =
     let path = c.args.path.now in
     let key = c.id_of-key.ensures in
     let logged = c.in_ok-before.ensures.logged ∙ ap (noted key_eq bank c.args.log.now) key in
-    let answer = (λ i. over own (key i) (c.in_ok-before.ensures.answer i)) ∙ ap (λ k. over own k (bank k)) key in
+    let answer = ap (over own c.id_of-key.result) c.in_ok-before.ensures.answer ∙ ap (λ k. over own k (bank k)) key in
     let found = c.in_ok-typeprefix.ensures ∙ ap (runs own bank (typeprefix_around path)) logged in
     IfOk-weaker c.identified.result _ _
     (λ d told.
