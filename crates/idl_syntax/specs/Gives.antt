@@ -4,11 +4,15 @@ use Rattle.std.specs.Borrow.{Bor}
 use Rattle.idl_syntax.specs.declared.fault.SyntaxFault.{SyntaxFault}
 use Rattle.idl_syntax.specs.declared.fault.SyntaxFault.TheVariants as fault
 use Rattle.idl_tree.specs.Lexeme.{Lexeme, lexemes}
-use Rattle.idl_tree.specs.reading.Reading.{Reader, expect}
+use Rattle.idl_tree.specs.reading.Reading.{◌>>=◌, Reader, expect}
 
 -- a token to a contract is its bytes
 abbrev pub Tokens : Type 0
 Tokens = List (List ℕ)
+
+-- a reader of what this makes of a part that is read
+abbrev pub made : {A B : Type 0} → (A → B) → Reader A → Reader B
+made make reader ts = reader ts >>= λ x. Ok (make x.0, x.1)
 
 -- reading fails there, or memory ran out; no reader looks at the rules of tokens
 abbrev pub Fails : {Y : Type 0} → SyntaxFault → Result Y ℕ → Type 0

@@ -2,9 +2,14 @@
 
 ghost use Rattle.std.specs.Prelude.{◌≡◌, ◌<◌, ◌≤◌, length, IfOk};
 ghost use Rattle.idl_tree.specs.Lexeme.{lexemes};
+ghost use Rattle.idl_tree.specs.reading.ReadConstruction.{enumeration_at};
 ghost use Rattle.idl_tree.specs.reading.ReadExpression.{expression_at};
+ghost use Rattle.idl_tree.specs.reading.ReadInterface.{operation_with};
+ghost use Rattle.idl_tree.specs.reading.ReadType.{type_at};
 ghost use Rattle.idl_tree.specs.reading.ReadUnit.{constant_type_with, constant_with, declaration_with, ended_with, equals_at, exception_with, native_at, structure_declaration_with, typedef_with, typeid_at, typeprefix_at, union_declaration_with, unit_at};
-ghost use Rattle.idl_syntax.specs.Gives.{Advances, Reads, Remains};
+ghost use Rattle.idl_tree.specs.declared.declarations.construction.Construction.TheVariants as construction;
+ghost use Rattle.idl_tree.specs.declared.unit.Tree.TheVariants as tree;
+ghost use Rattle.idl_syntax.specs.Gives.{Advances, Reads, Remains, made};
 ghost use Rattle.idl_syntax.specs.Nested.{nested};
 
 use crate::cursor::{behind, behind_word, closed, identifier, is_at, keyword, named};
@@ -21,7 +26,6 @@ use crate::fault::SyntaxFault;
 use crate::literal::text;
 use crate::name::scoped_name;
 use crate::production::listed;
-use idl_base::Bytes;
 use idl_lex::Token;
 use idl_lex::kinds::{Keyword, Mark};
 use idl_tree::declarations::{Construction, Forward};
@@ -59,7 +63,8 @@ fn ended_declaration(
     Ok(read)
 }
 
-/// A declaration, without its `;`.
+/// A declaration, without its `;`. Each production is read in a function of its own, which makes the tree where it is given back,
+/// since trees are large.
 #[tactic(auto, unfolding(idl_tree::specs::reading::ReadUnit::declaration_with))]
 #[inline(always)]
 fn declaration(
@@ -73,47 +78,16 @@ fn declaration(
     match keyword(tokens) {
         Some(Keyword::Struct) => structure_declaration(alloc, depth, tokens),
         Some(Keyword::Union) => union_declaration(alloc, depth, tokens),
-        Some(Keyword::Enum) => {
-            let (enumeration, rest) = enumeration(alloc, tokens)?;
-            let construction = Construction::Enumeration(enumeration);
-            Ok((Tree::Construction(construction), rest))
-        }
-        Some(Keyword::Typedef) => {
-            let (typedef, rest) = typedef(alloc, depth, tokens)?;
-            Ok((Tree::Typedef(typedef), rest))
-        }
-        Some(Keyword::Native) => {
-            let (name, rest) = native(tokens)?;
-            Ok((Tree::Native(name), rest))
-        }
-        Some(Keyword::Const) => {
-            let (constant, rest) = constant(alloc, depth, tokens)?;
-            Ok((Tree::Constant(constant), rest))
-        }
-        Some(Keyword::Exception) => {
-            let (exception, rest) = exception(alloc, depth, tokens)?;
-            Ok((Tree::Exception(exception), rest))
-        }
-        Some(Keyword::Readonly) => {
-            let (attribute, rest) = readonly_attribute(alloc, depth, tokens)?;
-            Ok((Tree::ReadonlyAttribute(attribute), rest))
-        }
-        Some(Keyword::Attribute) => {
-            let (attribute, rest) = attribute(alloc, depth, tokens)?;
-            Ok((Tree::Attribute(attribute), rest))
-        }
-        Some(Keyword::Typeid) => {
-            let (typeid, rest) = typeid(alloc, tokens)?;
-            Ok((Tree::Typeid(typeid), rest))
-        }
-        Some(Keyword::Typeprefix) => {
-            let (typeprefix, rest) = typeprefix(alloc, tokens)?;
-            Ok((Tree::Typeprefix(typeprefix), rest))
-        }
-        _ => {
-            let (operation, rest) = operation(alloc, depth, tokens)?;
-            Ok((Tree::Operation(operation), rest))
-        }
+        Some(Keyword::Enum) => enumeration_declaration(alloc, tokens),
+        Some(Keyword::Typedef) => typedef(alloc, depth, tokens),
+        Some(Keyword::Native) => native(tokens),
+        Some(Keyword::Const) => constant(alloc, depth, tokens),
+        Some(Keyword::Exception) => exception(alloc, depth, tokens),
+        Some(Keyword::Readonly) => readonly_attribute(alloc, depth, tokens),
+        Some(Keyword::Attribute) => attribute(alloc, depth, tokens),
+        Some(Keyword::Typeid) => typeid(alloc, tokens),
+        Some(Keyword::Typeprefix) => typeprefix(alloc, tokens),
+        _ => operation_declaration(alloc, depth, tokens),
     }
 }
 
@@ -159,30 +133,55 @@ fn union_declaration(
     }
 }
 
-/// A typedef, without its `;`.
-#[tactic(auto, unfolding(idl_tree::specs::reading::ReadUnit::typedef_with))]
-fn typedef(
+/// An enum.
+#[inline(never)]
+fn enumeration_declaration(alloc: Global, tokens: &[Token]) -> Result<(Tree, &[Token]), SyntaxFault>
+    ensures reads { Reads (made (λ e. tree.Construction (construction.Enumeration e)) enumeration_at)
+        tokens.now result }
+    ensures shorter { Advances tokens.now result }
+{
+    let (enumeration, rest) = enumeration(alloc, tokens)?;
+    let construction = Construction::Enumeration(enumeration);
+    Ok((Tree::Construction(construction), rest))
+}
+
+/// An operation.
+#[inline(never)]
+fn operation_declaration(
     alloc: Global,
     depth: usize,
     tokens: &[Token],
-) -> Result<(Typedef, &[Token]), SyntaxFault>
-    ensures reads { Reads (nested typedef_with depth) tokens.now result }
+) -> Result<(Tree, &[Token]), SyntaxFault>
+    ensures reads { Reads (made tree.Operation (operation_with (type_at depth))) tokens.now result }
+    ensures shorter { Advances tokens.now result }
+{
+    let (operation, rest) = operation(alloc, depth, tokens)?;
+    Ok((Tree::Operation(operation), rest))
+}
+
+/// A typedef, without its `;`.
+#[tactic(auto, unfolding(idl_tree::specs::reading::ReadUnit::typedef_with))]
+#[inline(never)]
+fn typedef(alloc: Global, depth: usize, tokens: &[Token]) -> Result<(Tree, &[Token]), SyntaxFault>
+    ensures reads { Reads (made tree.Typedef (nested typedef_with depth)) tokens.now result }
     ensures shorter { Advances tokens.now result }
 {
     let rest = behind_word(tokens, Keyword::Typedef)?;
     let (kind, rest) = member_type(alloc, depth, rest)?;
     let (declarators, rest) = listed(alloc, &Declared { depth }, rest)?;
-    Ok((Typedef { kind, declarators }, rest))
+    Ok((Tree::Typedef(Typedef { kind, declarators }), rest))
 }
 
 /// `native` and a name, without the `;`.
 #[tactic(auto, unfolding(idl_tree::specs::reading::ReadUnit::native_at))]
-fn native(tokens: &[Token]) -> Result<(Bytes, &[Token]), SyntaxFault>
-    ensures reads { Reads native_at tokens.now result }
+#[inline(never)]
+fn native(tokens: &[Token]) -> Result<(Tree, &[Token]), SyntaxFault>
+    ensures reads { Reads (made tree.Native native_at) tokens.now result }
     ensures shorter { Advances tokens.now result }
 {
     let rest = behind_word(tokens, Keyword::Native)?;
-    identifier(rest)
+    let (name, rest) = identifier(rest)?;
+    Ok((Tree::Native(name), rest))
 }
 
 /// The type of a constant.
@@ -213,12 +212,9 @@ fn constant_type(
 
 /// A constant, without its `;`.
 #[tactic(auto, unfolding(idl_tree::specs::reading::ReadUnit::constant_with))]
-fn constant(
-    alloc: Global,
-    depth: usize,
-    tokens: &[Token],
-) -> Result<(Constant, &[Token]), SyntaxFault>
-    ensures reads { Reads (constant_with (expression_at depth)) tokens.now result }
+#[inline(never)]
+fn constant(alloc: Global, depth: usize, tokens: &[Token]) -> Result<(Tree, &[Token]), SyntaxFault>
+    ensures reads { Reads (made tree.Constant (constant_with (expression_at depth))) tokens.now result }
     ensures shorter { Advances tokens.now result }
 {
     let rest = behind_word(tokens, Keyword::Const)?;
@@ -226,35 +222,33 @@ fn constant(
     let (head, rest) = named(kind, rest)?;
     let ((kind, name), rest) = closed(head, rest, Mark::Equals)?;
     let (value, rest) = expression(alloc, depth, rest)?;
-    Ok((Constant { kind, name, value }, rest))
+    Ok((Tree::Constant(Constant { kind, name, value }), rest))
 }
 
 /// An exception, without its `;`.
 #[tactic(auto, unfolding(idl_tree::specs::reading::ReadUnit::exception_with))]
-fn exception(
-    alloc: Global,
-    depth: usize,
-    tokens: &[Token],
-) -> Result<(Exception, &[Token]), SyntaxFault>
-    ensures reads { Reads (nested exception_with depth) tokens.now result }
+#[inline(never)]
+fn exception(alloc: Global, depth: usize, tokens: &[Token]) -> Result<(Tree, &[Token]), SyntaxFault>
+    ensures reads { Reads (made tree.Exception (nested exception_with depth)) tokens.now result }
     ensures shorter { Advances tokens.now result }
 {
     let rest = behind_word(tokens, Keyword::Exception)?;
     let (name, rest) = identifier(rest)?;
     let (members, rest) = members(alloc, depth, rest)?;
-    Ok((Exception { name, members }, rest))
+    Ok((Tree::Exception(Exception { name, members }), rest))
 }
 
 /// `typeid`, a name and its id, without the `;`.
 #[tactic(auto, unfolding(idl_tree::specs::reading::ReadUnit::typeid_at))]
-fn typeid(alloc: Global, tokens: &[Token]) -> Result<(Typeid, &[Token]), SyntaxFault>
-    ensures reads { Reads typeid_at tokens.now result }
+#[inline(never)]
+fn typeid(alloc: Global, tokens: &[Token]) -> Result<(Tree, &[Token]), SyntaxFault>
+    ensures reads { Reads (made tree.Typeid typeid_at) tokens.now result }
     ensures shorter { Advances tokens.now result }
 {
     let rest = behind_word(tokens, Keyword::Typeid)?;
     let (name, rest) = scoped_name(alloc, rest)?;
     let (text, rest) = text(alloc, rest)?;
-    Ok((Typeid { name, text }, rest))
+    Ok((Tree::Typeid(Typeid { name, text }), rest))
 }
 
 /// Whether a `=` stands here, and what is behind it if one does.
@@ -272,8 +266,9 @@ fn equals(tokens: &[Token]) -> Result<(bool, &[Token]), SyntaxFault>
 
 /// `typeprefix`, a name and what the ids in it begin with, without the `;`.
 #[tactic(auto, unfolding(idl_tree::specs::reading::ReadUnit::typeprefix_at))]
-fn typeprefix(alloc: Global, tokens: &[Token]) -> Result<(Typeprefix, &[Token]), SyntaxFault>
-    ensures reads { Reads typeprefix_at tokens.now result }
+#[inline(never)]
+fn typeprefix(alloc: Global, tokens: &[Token]) -> Result<(Tree, &[Token]), SyntaxFault>
+    ensures reads { Reads (made tree.Typeprefix typeprefix_at) tokens.now result }
     ensures shorter { Advances tokens.now result }
 {
     let rest = behind_word(tokens, Keyword::Typeprefix)?;
@@ -285,5 +280,5 @@ fn typeprefix(alloc: Global, tokens: &[Token]) -> Result<(Typeprefix, &[Token]),
         has_equals,
         text,
     };
-    Ok((typeprefix, rest))
+    Ok((Tree::Typeprefix(typeprefix), rest))
 }

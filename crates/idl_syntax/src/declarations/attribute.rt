@@ -4,7 +4,8 @@ ghost use Rattle.idl_tree.specs.reading.ReadInterface.{attribute_by, attribute_n
 ghost use Rattle.idl_tree.specs.reading.ReadType.{type_at};
 ghost use Rattle.idl_tree.specs.reading.Reading.{first};
 ghost use Rattle.idl_tree.specs.reading.Tests.{keyword_of};
-ghost use Rattle.idl_syntax.specs.Gives.{Advances, Reads, Remains};
+ghost use Rattle.idl_tree.specs.declared.unit.Tree.TheVariants as tree;
+ghost use Rattle.idl_syntax.specs.Gives.{Advances, Reads, Remains, made};
 
 use crate::cursor::{behind_word, identifier, is_at_word, keyword};
 use crate::declarations::data_type::data_type;
@@ -14,27 +15,32 @@ use crate::production::more_listed;
 use idl_base::Bytes;
 use idl_lex::Token;
 use idl_lex::kinds::Keyword;
-use idl_tree::Several;
 use idl_tree::declarations::{
     Attribute, AttributeNames, AttributeRaises, ReadonlyAttribute, ReadonlyNames,
 };
+use idl_tree::{Several, Tree};
 use std::alloc::Global;
 
 /// An attribute that is read alone.
 #[tactic(auto, unfolding(idl_tree::specs::reading::ReadInterface::readonly_attribute_with))]
+#[inline(never)]
 pub fn readonly_attribute(
     alloc: Global,
     depth: usize,
     tokens: &[Token],
-) -> Result<(ReadonlyAttribute, &[Token]), SyntaxFault>
-    ensures reads { Reads (readonly_attribute_with (type_at depth)) tokens.now result }
+) -> Result<(Tree, &[Token]), SyntaxFault>
+    ensures reads { Reads (made tree.ReadonlyAttribute (readonly_attribute_with (type_at depth))) tokens.now
+        result }
     ensures shorter { Advances tokens.now result }
 {
     let rest = behind_word(tokens, Keyword::Readonly)?;
     let rest = behind_word(rest, Keyword::Attribute)?;
     let (kind, rest) = data_type(alloc, depth, rest)?;
     let (names, rest) = readonly_names(alloc, rest)?;
-    Ok((ReadonlyAttribute { kind, names }, rest))
+    Ok((
+        Tree::ReadonlyAttribute(ReadonlyAttribute { kind, names }),
+        rest,
+    ))
 }
 
 /// Its name with what reading raises, or its names.
@@ -72,18 +78,19 @@ fn readonly_names_rest(
 
 /// An attribute that is read and written.
 #[tactic(auto, unfolding(idl_tree::specs::reading::ReadInterface::attribute_with))]
+#[inline(never)]
 pub fn attribute(
     alloc: Global,
     depth: usize,
     tokens: &[Token],
-) -> Result<(Attribute, &[Token]), SyntaxFault>
-    ensures reads { Reads (attribute_with (type_at depth)) tokens.now result }
+) -> Result<(Tree, &[Token]), SyntaxFault>
+    ensures reads { Reads (made tree.Attribute (attribute_with (type_at depth))) tokens.now result }
     ensures shorter { Advances tokens.now result }
 {
     let rest = behind_word(tokens, Keyword::Attribute)?;
     let (kind, rest) = data_type(alloc, depth, rest)?;
     let (names, rest) = attribute_names(alloc, rest)?;
-    Ok((Attribute { kind, names }, rest))
+    Ok((Tree::Attribute(Attribute { kind, names }), rest))
 }
 
 /// Its name with what it raises, or its names.
