@@ -8,4 +8,6 @@ pub mod PragmaLaws
 mod StandingLaws
 mod StandingLemmas
 mod TypeLemmas
+mod UseLaws
+mod UseLemmas
 pub mod Visits

@@ -4,7 +4,7 @@ use Rattle.idl_lex.specs.kinds.Keywords.{folded}
 use Rattle.idl_memo.specs.Query.{Done, and_then, outcome, run}
 use Rattle.idl_memo.proofs.QueryLaws.{outcome-and_then}
 use Rattle.idl_entity.specs.Kind.{is_scope}
-use Rattle.idl_scope.specs.Lookup.{Lookup, by_result, denoted, found_as, further, has, judged, outward, part_of, placed, searched, under}
+use Rattle.idl_scope.specs.Lookup.{Lookup, by_result, decided, denoted, first_part, found_as, further, has, judged, part_of, placed, reach_of, searched, under}
 use Rattle.idl_env.specs.declared.answering.answer.Answer.{Answer}
 use Rattle.idl_env.specs.declared.answering.answer.Scope.{Scope}
 use Rattle.idl_entity.specs.declared.entity.Entity.{Entity}
@@ -13,6 +13,7 @@ use Rattle.idl_scope.specs.declared.fault.NameCode.TheVariants.{NoScope}
 use Rattle.idl_scope.specs.declared.fault.NameFault.{NameFault}
 use Rattle.idl_scope.specs.declared.fault.NameFault.TheVariants.{At, Memory}
 use Rattle.idl_scope.specs.declared.found.Found.{Found}
+use Rattle.idl_scope.specs.declared.found.Reach.{Reach}
 use Rattle.idl_env.specs.declared.keys.key.Key.{Key}
 use Rattle.idl_tree.specs.declared.name.ScopedName.{ScopedName}
 use Rattle.std.specs.Prelude.{Option}
@@ -36,10 +37,10 @@ module _ (P : ℕ → Type 0) where
   placed-at part (Ok e) h = tt
   placed-at part (Err code) h = h
 
-  pub found_as-at : (name : ScopedName) (cursor : List Scope) (first : Entity) (r : Result Entity NameFault) → StandsAt P r → StandsAt P (found_as name cursor first r)
-  found_as-at name cursor first (Ok e) h = tt
-  found_as-at name cursor first (Err Memory) h = h
-  found_as-at name cursor first (Err (At code part)) h = h
+  pub found_as-at : (reach : Reach) (r : Result Entity NameFault) → StandsAt P r → StandsAt P (found_as reach r)
+  found_as-at reach (Ok e) h = tt
+  found_as-at reach (Err Memory) h = h
+  found_as-at reach (Err (At code part)) h = h
 
 module _ (turns : ℕ) (bank : Key → Option Answer) where
   -- the rest of a name, behind a part that denotes this or has a fault
@@ -47,9 +48,9 @@ module _ (turns : ℕ) (bank : Key → Option Answer) where
   behind part names r = by_result r (λ f. further turns part f names) (λ fault. Done (Err fault))
 
   -- what a name comes to from its first part
-  abbrev pub from_first : List Scope → ScopedName → Result Entity NameFault → Lookup (Result Found NameFault)
-  from_first cursor name r =
-      by_result r (λ first. and_then (further turns 0 first name.rest) (λ last. Done (found_as name cursor first last))) (λ fault. Done (Err fault))
+  abbrev pub from_first : List Scope → ScopedName → ℕ → Result Entity NameFault → Lookup (Result Found NameFault)
+  from_first cursor name inside r =
+      by_result r (λ first. and_then (further turns 0 first name.rest) (λ last. Done (found_as (reach_of name cursor inside first) last))) (λ fault. Done (Err fault))
 
   module _ (P : ℕ → Type 0) where
     pub part_of-at : (part : ℕ) (name : List ℕ) (there : Lookup (List Entity)) → P part → StandsAt P (outcome (part_of part name there) bank)
@@ -78,21 +79,26 @@ module _ (turns : ℕ) (bank : Key → Option Answer) where
         (part_of-at (part + 1) name (has turns e.kind e.path (folded name)) (h (part + 1) (omega arith) (omega arith)))
         (h part (omega arith) (omega arith)) (is_scope e.kind)
 
-  from_first-IsUpTo : (cursor : List Scope) (name : ScopedName) (r : Result Entity NameFault) → IsUpTo 0 r → IsUpTo (length name.rest) (outcome (from_first cursor name r) bank)
-  from_first-IsUpTo cursor name (Ok first) h =
-      rw (outcome-and_then (further turns 0 first name.rest) (λ last. Done (found_as name cursor first last)) bank)
-      (found_as-at (λ part. part ≤ length name.rest) name cursor first (outcome (further turns 0 first name.rest) bank)
+  -- the first part's
+  pub first_part-at : (P : ℕ → Type 0) (cursor : List Scope) (name : ScopedName) → P 0 → StandsAt P (outcome (first_part turns cursor name) bank).0
+  first_part-at P cursor name h =
+      rw (outcome-and_then {B = Result Entity NameFault × ℕ} (decided turns 0 (searched name.is_global cursor) (folded name.first)) (λ d. Done (placed 0 (judged name.first d.0), d.1)) bank)
+      (placed-at P 0 (judged name.first (outcome (decided turns 0 (searched name.is_global cursor) (folded name.first)) bank).0) h)
+
+  from_first-IsUpTo : (cursor : List Scope) (name : ScopedName) (inside : ℕ) (r : Result Entity NameFault) → IsUpTo 0 r → IsUpTo (length name.rest) (outcome (from_first cursor name inside r) bank)
+  from_first-IsUpTo cursor name inside (Ok first) h =
+      rw (outcome-and_then (further turns 0 first name.rest) (λ last. Done (found_as (reach_of name cursor inside first) last)) bank)
+      (found_as-at (λ part. part ≤ length name.rest) (reach_of name cursor inside first) (outcome (further turns 0 first name.rest) bank)
       (further-at (λ part. part ≤ length name.rest) 0 first name.rest (λ k from to. omega (arith, to))))
-  from_first-IsUpTo cursor name (Err Memory) h = h
-  from_first-IsUpTo cursor name (Err (At code part)) h = omega arith
+  from_first-IsUpTo cursor name inside (Err Memory) h = h
+  from_first-IsUpTo cursor name inside (Err (At code part)) h = omega arith
 
   -- a name's fault stands at one of its parts
   pub denoted-IsUpTo : (cursor : List Scope) (name : ScopedName) → IsUpTo (length name.rest) (outcome (denoted turns cursor name) bank)
   denoted-IsUpTo cursor name =
-      let first = part_of 0 name.first (outward turns (searched name.is_global cursor) (folded name.first)) in
-      rw (outcome-and_then first (from_first cursor name) bank)
-      (from_first-IsUpTo cursor name (outcome first bank)
-      (part_of-at (λ part. part ≤ 0) 0 name.first (outward turns (searched name.is_global cursor) (folded name.first)) (omega arith)))
+      let first = outcome (first_part turns cursor name) bank in
+      rw (outcome-and_then (first_part turns cursor name) (λ r. from_first cursor name r.1 r.0) bank)
+      (from_first-IsUpTo cursor name first.1 first.0 (first_part-at (λ part. part ≤ 0) cursor name (omega arith)))
 
 -- the part of a name's fault, as a run of its lookup tells it
 pub part-within : (own : List Addition) (bank : Key → Option Answer) (turns : ℕ) (cursor : List Scope) (name : ScopedName) (log after : List (Key × Option Answer)) (code : NameCode) (part : ℕ)

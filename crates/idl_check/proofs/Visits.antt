@@ -5,6 +5,7 @@ pub mod MoreTurns
 pub mod RemarkLaws
 pub mod RowLaws
 pub mod SiteLaws
+pub mod SpokenLaws
 pub mod StepLaws
 pub mod ValuedLaws
 pub mod VerdictLaws

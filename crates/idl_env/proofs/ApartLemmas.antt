@@ -1,7 +1,7 @@
 -- The keys at which facts look, and their digests.
-use Rattle.std.proofs.Common.{◌≡◌, ℕ, List, [], ◌∷◌, map, Some, refl, sym, ap, ◌∙◌, subst, Bool, true, false, cond, Option, None, inl}
+use Rattle.std.proofs.Common.{◌≡◌, ℕ, List, [], ◌∷◌, ◌++◌, map, Some, refl, sym, ap, ◌∙◌, subst, Bool, true, false, cond, Option, None, inl}
 use Rattle.std.specs.Prelude.{All, Contains}
-use Rattle.std.proofs.lemmas.List.Elements.{All-weaker, All-contains_itself}
+use Rattle.std.proofs.lemmas.List.Elements.{All-append, All-contains_itself, All-weaker, Contains-append_left, Contains-append_right}
 use Rattle.std.proofs.lemmas.Option.{same_Some}
 use Rattle.idl_lex.specs.kinds.Keywords.{folded}
 use Rattle.idl_entity.specs.Digest.{path_digest, under}
@@ -9,13 +9,13 @@ use Rattle.idl_env.specs.Facts.{UnitFacts, World, entity_key, scopes_in, with_ad
 use Rattle.idl_env.specs.Held.{closable}
 use Rattle.idl_env.specs.keys.Key.{key_digest}
 use Rattle.idl_entity.specs.Kind.{kind_eq}
-use Rattle.idl_env.specs.Outside.{gathered_at, looked_at, looked_at_by}
+use Rattle.idl_env.specs.Outside.{gathered_at, looked_at}
 use Rattle.idl_entity.specs.Path.{name_of, scope_of}
 use Rattle.idl_env.specs.declared.additions.addition.Step.TheVariants.{Closes}
 use Rattle.idl_env.specs.declared.answering.answer.Answer.{Answer}
 use Rattle.idl_env.specs.declared.answering.answer.Scope.{Scope}
 use Rattle.idl_env.specs.declared.keys.key.Key.{Key}
-use Rattle.idl_env.specs.declared.keys.key.Key.TheVariants.{Cursor}
+use Rattle.idl_env.specs.declared.keys.key.Key.TheVariants.{Cursor, Declared}
 use Rattle.idl_env.proofs.Membership.{Contains-IsIn, IsIn-Contains, IsIn-map, IsIn}
 use Rattle.idl_entity.specs.declared.kind.Kind.TheVariants.{Interface}
 
@@ -47,9 +47,25 @@ pub entity_digest-is : (path : List (List ℕ)) → under (path_digest (scope_of
 unfolding key_digest
 entity_digest-is path = refl
 
+-- and that of the key of a name in a scope
+pub declared_digest-is : (n : List ℕ) (path : List (List ℕ)) → under (path_digest path) n ≡ key_digest (Declared n path)
+unfolding key_digest
+declared_digest-is n path = refl
+
+-- those of more keys behind them
+pub digests-both : (stops looked : List Key) (first all : List ℕ) → All (λ k. Contains first (key_digest k)) looked → all ≡ first ++ map key_digest stops
+    → All (λ k. Contains all (key_digest k)) (stops ++ looked)
+digests-both stops looked first all told is =
+    let P : Key → Type 0 = λ k. Contains (first ++ map key_digest stops) (key_digest k) in
+    let own : (k : Key) → Contains stops k → P k = λ k c.
+    Contains-append_right first (map key_digest stops) (key_digest k) (Contains-IsIn (key_digest k) (map key_digest stops) (IsIn-map key_digest k stops (IsIn-Contains k stops c))) in
+    subst (λ (ds : List ℕ). All (λ k. Contains ds (key_digest k)) (stops ++ looked)) (sym is)
+    (All-append P stops looked (All-weaker (Contains stops) P own stops (All-contains_itself stops))
+    (All-weaker (λ k. Contains first (key_digest k)) P (λ k c. Contains-append_left first (map key_digest stops) (key_digest k) c) looked told))
+
 -- the keys at which the closing of a scope looks, without additions
-pub looked_at_by-closing : (w : World) (f : UnitFacts) → f.step ≡ Closes → f.additions ≡ [] → looked_at_by w f ≡ Cursor ∷ gathered_at w (scopes_in (w.answers Cursor))
-looked_at_by-closing w f step none =
+pub looked_at-closing : (w : World) (f : UnitFacts) → f.step ≡ Closes → f.additions ≡ [] → looked_at (with_additions f.additions w) f.step ≡ Cursor ∷ gathered_at w (scopes_in (w.answers Cursor))
+looked_at-closing w f step none =
     (λ i. looked_at (with_additions (none i) w) (step i))
     ∙ ap (λ ks. Cursor ∷ ks) (gathered_at-same (with_additions [] w) w (scopes_in (w.answers Cursor)) (λ k i. refl))
 

@@ -3,13 +3,14 @@ use Rattle.std.proofs.Common.{◌≡◌, ℕ, ◌+◌, ◌≤◌, List, [], ◌�
 use Rattle.idl_env.specs.Facts.{UnitFacts}
 use Rattle.idl_env.specs.Turns.{declared_among, declared_named}
 use Rattle.idl_env.specs.declared.additions.addition.Addition.{Addition}
-use Rattle.idl_env.specs.declared.additions.addition.Addition.TheVariants.{Declares, Uses, Appears, Identifies, TypePrefixes}
+use Rattle.idl_env.specs.declared.additions.addition.Addition.TheVariants.{Declares, Uses, UsesFurther, Appears, Identifies, TypePrefixes}
 
 -- an addition declares one entity at most
 pub declared-few : (additions : List Addition) → length (declared_among additions) ≤ length additions
 declared-few [] = omega arith
 declared-few (Declares e ∷ additions) = let l = declared-few additions in omega (arith, l)
 declared-few (Uses n path body ∷ additions) = let l = declared-few additions in omega (arith, l)
+declared-few (UsesFurther n path further ∷ additions) = let l = declared-few additions in omega (arith, l)
 declared-few (Appears path prefix ∷ additions) = let l = declared-few additions in omega (arith, l)
 declared-few (Identifies path identity ∷ additions) = let l = declared-few additions in omega (arith, l)
 declared-few (TypePrefixes path text ∷ additions) = let l = declared-few additions in omega (arith, l)

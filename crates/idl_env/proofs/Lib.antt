@@ -5,3 +5,4 @@ pub mod FirstLemmas
 pub mod MarkLemmas
 pub mod Membership
 pub mod OutlineLemmas
+pub mod StoppedLemmas

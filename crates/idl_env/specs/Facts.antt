@@ -1,5 +1,5 @@
 -- The facts that units add, one unit after another, and the answers that they leave at each key.
-use Rattle.std.specs.Prelude.{ℕ, ◌+◌, List, [], ◌∷◌, ◌++◌, Option, Some, None, decimal, drop, if◌then◌else◌}
+use Rattle.std.specs.Prelude.{ℕ, ◌+◌, Bool, List, [], ◌∷◌, ◌++◌, Option, Some, None, decimal, drop, filter, is_some, map, not, if◌then◌else◌}
 use Rattle.std.specs.List.{list_any}
 use Rattle.idl_lex.specs.kinds.Keywords.{folded}
 use Rattle.idl_entity.specs.Entity.{is_operation}
@@ -10,7 +10,7 @@ use Rattle.idl_env.specs.declared.keys.key.Key.TheVariants.{Cursor, Declared, In
 use Rattle.idl_entity.specs.Kind.{kind_eq}
 use Rattle.idl_entity.specs.Path.{name_of, path_eq, scope_of}
 use Rattle.idl_env.specs.declared.additions.addition.Addition.{Addition}
-use Rattle.idl_env.specs.declared.additions.addition.Addition.TheVariants.{Declares, Uses, Appears, Identifies, TypePrefixes}
+use Rattle.idl_env.specs.declared.additions.addition.Addition.TheVariants.{Declares, Uses, UsesFurther, Appears, Identifies, TypePrefixes}
 use Rattle.idl_env.specs.declared.additions.addition.Step.{Step}
 use Rattle.idl_env.specs.declared.additions.addition.Step.TheVariants.{Stays, Opens, OpensNameless, Closes, Prefixes, Enters, Leaves}
 use Rattle.idl_env.specs.declared.answering.answer.Answer.{Answer}
@@ -36,6 +36,7 @@ entity_key path = Declared (folded (name_of path)) (scope_of path)
 abbrev pub key_of : Addition → Key
 key_of (Declares e) = entity_key e.path
 key_of (Uses n path body) = Introduced n path body
+key_of (UsesFurther n path further) = Introduced n path further.body
 key_of (Appears path prefix) = IdOf path
 key_of (Identifies path identity) = IdOf path
 key_of (TypePrefixes path text) = Typeprefix path
@@ -44,6 +45,7 @@ key_of (TypePrefixes path text) = Typeprefix path
 abbrev pub answer_of : Addition → Answer
 answer_of (Declares e) = Known e
 answer_of (Uses n path body) = Used
+answer_of (UsesFurther n path further) = Used
 answer_of (Appears path prefix) = Appeared (prefix_for path prefix)
 answer_of (Identifies path fixed) = Identified (fixed_for path fixed)
 answer_of (TypePrefixes path text) = Prefixed text
@@ -138,6 +140,7 @@ operations_among [] = []
 operations_among (Declares e ∷ additions) =
     if is_operation e then e.path ∷ operations_among additions else operations_among additions
 operations_among (Uses n path body ∷ additions) = operations_among additions
+operations_among (UsesFurther n path further ∷ additions) = operations_among additions
 operations_among (Appears path prefix ∷ additions) = operations_among additions
 operations_among (Identifies path identity ∷ additions) = operations_among additions
 operations_among (TypePrefixes path text ∷ additions) = operations_among additions
@@ -152,10 +155,24 @@ abbrev pub innermost : List (List (List (List ℕ))) → List (List (List ℕ))
 innermost [] = []
 innermost (own ∷ outer) = own
 
--- after additions
+-- the keys at which it is told whether an addition is stopped: what the scopes that may stop a use
+-- declare the name as
+abbrev pub stops_of : Addition → List Key
+stops_of (UsesFurther n path further) = map (λ p. Declared n p) further.unless
+stops_of other = []
+
+-- one of these scopes itself declares the name
+abbrev pub is_stopped : (Key → Option Answer) → Addition → Bool
+is_stopped answers a = list_any (λ k. is_some (entity_in (answers k))) (stops_of a)
+
+-- the additions without the uses that are stopped
+abbrev pub unstopped : (Key → Option Answer) → List Addition → List Addition
+unstopped answers additions = filter (λ a. not (is_stopped answers a)) additions
+
+-- after additions, of which those count that are not stopped by what was declared before
 abbrev pub with_additions : List Addition → World → World
 with_additions additions w = record w {
-  answers = λ k. over additions k (w.answers k);
+  answers = λ k. over (unstopped w.answers additions) k (w.answers k);
   inside = more_inside w.inside (operations_among additions);
 }
 

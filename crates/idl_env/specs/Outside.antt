@@ -1,6 +1,6 @@
 -- Answers that are the same outside some keys, and which keys the facts of a unit look at.
-use Rattle.std.specs.Prelude.{◌≡◌, List, [], ◌∷◌, Option, Some, None, Contains, drop, map, if◌then◌else◌}
-use Rattle.idl_env.specs.Facts.{UnitFacts, World, entity_key, scopes_in, entity_in, count_in, nameless, path_around, with_additions}
+use Rattle.std.specs.Prelude.{◌≡◌, List, [], ◌∷◌, Option, Some, None, ◌++◌, Contains, drop, flat_map, map, if◌then◌else◌}
+use Rattle.idl_env.specs.Facts.{UnitFacts, World, entity_key, scopes_in, entity_in, count_in, nameless, path_around, stops_of, with_additions}
 use Rattle.idl_entity.specs.Kind.{kind_eq}
 use Rattle.idl_env.specs.declared.additions.addition.Step.{Step}
 use Rattle.idl_env.specs.declared.additions.addition.Step.TheVariants.{Stays, Opens, OpensNameless, Closes, Prefixes, Enters, Leaves}
@@ -56,7 +56,8 @@ looked_at w Leaves = []
 
 -- the keys that the facts of a unit look at
 abbrev pub looked_at_by : World → UnitFacts → List Key
-looked_at_by w f = looked_at (with_additions f.additions w) f.step
+looked_at_by w f =
+    flat_map stops_of f.additions ++ looked_at (with_additions f.additions w) f.step
 
 -- none of these keys is one of those
 abbrev pub AreApart : List Key → List Key → Type 0

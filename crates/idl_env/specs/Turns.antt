@@ -3,12 +3,13 @@
 use Rattle.std.specs.Prelude.{ℕ, ◌+◌, ◌≤◌, List, [], ◌∷◌, flat_map, length}
 use Rattle.idl_env.specs.Facts.{UnitFacts}
 use Rattle.idl_env.specs.declared.additions.addition.Addition.{Addition}
-use Rattle.idl_env.specs.declared.additions.addition.Addition.TheVariants.{Declares, Uses, Appears, Identifies, TypePrefixes}
+use Rattle.idl_env.specs.declared.additions.addition.Addition.TheVariants.{Declares, Uses, UsesFurther, Appears, Identifies, TypePrefixes}
 
 -- the paths of the bases that an addition names
 abbrev pub bases_in : Addition → List (List (List ℕ))
 bases_in (Declares e) = e.bases
 bases_in (Uses n path body) = []
+bases_in (UsesFurther n path further) = []
 bases_in (Appears path prefix) = []
 bases_in (Identifies path identity) = []
 bases_in (TypePrefixes path text) = []
@@ -25,6 +26,7 @@ bases_named facts = flat_map (λ f. bases_among f.additions) facts
 abbrev pub declared_in : Addition → List (List (List ℕ))
 declared_in (Declares e) = e.path ∷ []
 declared_in (Uses n path body) = []
+declared_in (UsesFurther n path further) = []
 declared_in (Appears path prefix) = []
 declared_in (Identifies path identity) = []
 declared_in (TypePrefixes path text) = []

@@ -1,9 +1,9 @@
 //! At which keys facts look over an environment, by the digests of these keys.
 
 ghost use Rattle.std.specs.Prelude.{◌≡◌, ◌++◌, ◌∷◌, [], All, Contains, IfOk, IfSome, None, OnOk, map};
-ghost use Rattle.idl_env.specs.Facts.{answers, entity_key, scopes_in, world};
+ghost use Rattle.idl_env.specs.Facts.{answers, entity_key, scopes_in, with_additions, world};
 ghost use Rattle.idl_env.specs.keys.Key.{key_digest};
-ghost use Rattle.idl_env.specs.Outside.{IsInnermost, gathered_at, looked_at_by};
+ghost use Rattle.idl_env.specs.Outside.{IsInnermost, gathered_at, looked_at, looked_at_by};
 ghost use Rattle.idl_env.specs.declared.answering.answer.Scope.{Scope};
 ghost use Rattle.idl_env.specs.declared.keys.key.Key.TheVariants as key;
 
@@ -27,6 +27,20 @@ impl Env {
         ensures { IfOk result (λ found. IfSome found (λ digests.
             All (λ k. Contains digests.items (key_digest k))
             (looked_at_by (world self.now) facts.now))) }
+    {
+        let Some(mut digests) = self.digests_of_step(facts)? else {
+            return Ok(None);
+        };
+        facts.stops_into(&mut digests)?;
+        Ok(Some(digests))
+    }
+
+    // Those of the keys at which their step looks.
+    fn digests_of_step(&self, facts: &Facts) -> Result<Option<Vec<u64>>, AllocError>
+        ensures { let f = facts.now in
+            IfOk result (λ found. IfSome found (λ digests.
+            All (λ k. Contains digests.items (key_digest k))
+            (looked_at (with_additions f.additions (world self.now)) f.step))) }
     {
         let alloc = self.alloc();
         match facts.step() {

@@ -1,10 +1,11 @@
 //! The environment: what the facts so far answer.
 
-ghost use Rattle.std.specs.Prelude.{◌≡◌, ◌∷◌, ◌++◌, [], IfOk, ◌+◌, ◌<◌, ◌≤◌, length};
+ghost use Rattle.std.specs.Prelude.{◌≡◌, ◌∷◌, ◌++◌, [], ℕ, IfOk, IsFalse, List, None, ◌+◌, ◌<◌, ◌≤◌, length};
 ghost use Rattle.std.specs.Option.{option_copied};
 ghost use Rattle.idl_entity.specs.DataType.{plain_type};
 ghost use Rattle.idl_env.specs.Facts.{answers};
 ghost use Rattle.idl_env.specs.Turns.{declared_named};
+ghost use Rattle.idl_env.specs.declared.keys.key.Key.TheVariants.{Typeprefix};
 
 use crate::additions::facts::Facts;
 use crate::additions::room::{Room, Writes};
@@ -81,6 +82,15 @@ impl Env {
         ensures { length (declared_named self.now) ≤ result }
     {
         self.count
+    }
+
+    /// Whether a scope may have a typeprefix.
+    #[inline]
+    pub fn has_typeprefixes(&self) -> bool
+        ensures { IsFalse result
+            → (path : List (List ℕ)) → answers self.now (Typeprefix path) ≡ None }
+    {
+        self.state.answers.has_typeprefixes()
     }
 
     /// Where it takes memory.

@@ -12,6 +12,7 @@ mod plain;
 
 pub use additions::addition::{Addition, Step};
 pub use additions::facts::Facts;
+pub use additions::further::Further;
 pub use additions::room::{Room, Writes};
 pub use answering::answer::{
     Answer, Scope, count_in, entity_in, identity_in, prefix_in, push_id_at, scopes_in,

@@ -65,7 +65,7 @@ pub fn id_of<'e>(
 {
     let key = LentKey::id_of(env.alloc(), path);
     let answer = log.ask_lent(&key, env)?;
-    let typeprefix = typeprefix_around(env, None, log, path)?;
+    let typeprefix = typeprefix_around(env, log, path)?;
     Ok(AnsweredId {
         path,
         typeprefix,

@@ -1,6 +1,6 @@
 -- What was kept of a root's units, beside facts of which more and more are told.
 use Rattle.std.proofs.Common.{◌≡◌, Bool, true, false, ℕ, zero, suc, ◌+◌, ◌≤◌, ◌<◌, List, [], ◌∷◌, ◌++◌, length, get_or, map, Option, refl, ap, sym, subst, ◌∙◌, arith, append-nil, append_assoc}
-use Rattle.std.specs.Prelude.{All, Contains, IfSome}
+use Rattle.std.specs.Prelude.{All, Contains, IfSome, flat_map}
 use Rattle.std.specs.Global.{Global}
 use Rattle.std.specs.Prelude.{Vec}
 use Rattle.std.proofs.lemmas.List.Elements.{All-append, All-contains, All-map, All-push, All-weaker, Contains-append_left, Contains-append_right, Contains-push}
@@ -17,7 +17,7 @@ use Rattle.idl_root.specs.declared.kept.kept_units.Judgement.{Judgement}
 use Rattle.idl_root.specs.declared.kept.kept_units.KeptEntry.{KeptEntry}
 use Rattle.idl_root.specs.declared.kept.kept_units.KeptUnit.{KeptUnit}
 use Rattle.idl_root.specs.declared.kept.reprinting.Reprinting.{Reprinting}
-use Rattle.idl_env.specs.Facts.{UnitFacts, World, after, after_all, answers, entity_key, first_world, key_of, operations_among, world, with_additions}
+use Rattle.idl_env.specs.Facts.{UnitFacts, World, after, after_all, answers, entity_key, first_world, key_of, operations_among, stops_of, world, with_additions}
 use Rattle.idl_env.specs.keys.Key.{key_digest, key_eq}
 use Rattle.idl_scope.specs.Lookup.{Lookup}
 use Rattle.idl_env.specs.Outside.{AgreeOutside, AreApart, IsInnermost, WorldsAgreeAround, WorldsAgreeOutside, looked_at, looked_at_by}
@@ -208,7 +208,7 @@ module _ (wider : (keys : List Key) (w other : World) → WorldsAgreeOutside key
     module _ (looked_law : (keys : List Key) (w other : World) (f : UnitFacts) → WorldsAgreeOutside keys w other → AreApart (looked_at_by other f) keys → AreApart (looked_at_by w f) keys) where
       -- behind units that add the same
       pub beside-same : ((keys : List Key) (w other : World) (f : UnitFacts) → WorldsAgreeOutside keys w other → AreApart (looked_at_by w f) keys → WorldsAgreeOutside keys (after w f) (after other f))
-          → ((keys : List Key) (w other : World) (f : UnitFacts) → WorldsAgreeAround keys w other → f.step ≡ Stays → WorldsAgreeAround keys (after w f) (after other f))
+          → ((keys : List Key) (w other : World) (f : UnitFacts) → WorldsAgreeAround keys w other → f.step ≡ Stays → AreApart (flat_map stops_of f.additions) keys → WorldsAgreeAround keys (after w f) (after other f))
           → (around : Bool) (changed : List ℕ) (k : KeptUnit) (rest kept : List KeptUnit) (facts : List UnitFacts) (f : UnitFacts) → kept ≡ k ∷ rest → added_by k ≡ f
           → StayAlike around facts changed f → IsBeside all around changed kept facts → IsBeside all around changed rest (facts ++ f ∷ [])
       beside-same law law_around false changed k rest kept facts f is adds (looked, (noted, none)) b =
@@ -216,10 +216,12 @@ module _ (wider : (keys : List Key) (w other : World) → WorldsAgreeOutside key
           let apart = looked_law keys (world b.before) (world facts) f b.but.agree (apart-noted looked changed (looked_at_by (world facts) f) keys noted b.but.noted none) in
           beside-next false changed keys k rest kept b.before facts f is b.whole b.units b.but.noted
           (subst (λ g. WorldsAgreeOutside keys (after (world b.before) g) (after (world facts) f)) (sym adds) (law keys (world b.before) (world facts) f b.but.agree apart))
-      beside-same law law_around true changed k rest kept facts f is adds stays b =
+      beside-same law law_around true changed k rest kept facts f is adds (stays, (looked, (noted, none))) b =
           let keys = b.but.keys in
+          let apart = apart-noted looked changed (looked_at_by (world facts) f) keys noted b.but.noted none in
+          let stops : AreApart (flat_map stops_of f.additions) keys = λ q c. apart q (Contains-append_left (flat_map stops_of f.additions) (looked_at (with_additions f.additions (world facts)) f.step) q c) in
           beside-next true changed keys k rest kept b.before facts f is b.whole b.units b.but.noted
-          (subst (λ g. WorldsAgreeAround keys (after (world b.before) g) (after (world facts) f)) (sym adds) (law_around keys (world b.before) (world facts) f b.but.agree stays))
+          (subst (λ g. WorldsAgreeAround keys (after (world b.before) g) (after (world facts) f)) (sym adds) (law_around keys (world b.before) (world facts) f b.but.agree stays stops))
 
       -- what is looked at is told by the answers alone
       looked-answers : (w : World) (step : Step) → looked_at_by w (record { additions = []; step = step }) ≡ looked_at w step
@@ -234,7 +236,7 @@ module _ (wider : (keys : List Key) (w other : World) → WorldsAgreeOutside key
       -- behind units of which one takes the place of the other
       pub beside-other : ((keys : List Key) (w other : World) (f g : UnitFacts) → WorldsAgreeOutside keys w other → f.step ≡ g.step → operations_among f.additions ≡ operations_among g.additions
           → let more = keys ++ (map key_of f.additions ++ map key_of g.additions) in
-          AreApart (looked_at_by w f) more → WorldsAgreeOutside more (after w f) (after other g))
+          AreApart (looked_at (with_additions f.additions w) f.step) more → WorldsAgreeOutside more (after w f) (after other g))
           → ((keys : List Key) (w other : World) (f g : UnitFacts) → WorldsAgreeAround keys w other → f.step ≡ Stays → g.step ≡ Stays
           → WorldsAgreeAround (keys ++ (map key_of f.additions ++ map key_of g.additions)) (after w f) (after other g))
           → (around then_around : Bool) (changed : List ℕ) (k : KeptUnit) (rest kept : List KeptUnit) (facts : List UnitFacts) (g : UnitFacts) → kept ≡ k ∷ rest
@@ -252,9 +254,10 @@ module _ (wider : (keys : List Key) (w other : World) → WorldsAgreeOutside key
           let alike : WorldsAgreeOutside keys w v = subst (λ a. WorldsAgree a keys w v) (may refl).0 b.but.agree in
           let more = keys ++ (map key_of f.additions ++ map key_of g.additions) in
           let both = noted-both changed keys f.additions g.additions b.but.noted in
-          let here : AreApart (looked_at_by v g) more = apart-noted looked ((changed ++ own f.additions) ++ own g.additions) (looked_at_by v g) more noted both none in
           let w2 = with_additions f.additions w in
           let v2 = with_additions g.additions v in
+          let clear = apart-noted looked ((changed ++ own f.additions) ++ own g.additions) (looked_at_by v g) more noted both none in
+          let here : AreApart (looked_at v2 g.step) more = λ q c. clear q (Contains-append_right (flat_map stops_of g.additions) (looked_at v2 g.step) q c) in
           let grown : WorldsAgreeOutside more w2 v2 =
           law keys w v (record { additions = f.additions; step = Stays }) (record { additions = g.additions; step = Stays }) alike refl operations (λ key i j. omega (arith, i.1)) in
           let there : AreApart (looked_at w2 f.step) more =
@@ -263,7 +266,7 @@ module _ (wider : (keys : List Key) (w other : World) → WorldsAgreeOutside key
           (subst (λ l. AreApart l more) (sym (looked-answers v2 f.step)) (subst (λ s. AreApart (looked_at v2 s) more) (sym steps) here))) in
           subst (λ n. IsBeside all false n rest (facts ++ g ∷ [])) (sym now-is)
           (beside-next false ((changed ++ own f.additions) ++ own g.additions) more k rest kept b.before facts g is b.whole b.units both (law keys w v f g alike steps operations there))
-      beside-other law law_around around true changed k rest kept facts g is may now now-is steps stays b =
+      beside-other law law_around around true changed k rest kept facts g is may now now-is steps (stays, elsewhere) b =
           let f = added_by k in
           let keys = b.but.keys in
           let w = world b.before in

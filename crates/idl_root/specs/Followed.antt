@@ -44,12 +44,16 @@ IsFollowed following facts =
     IsBeside (map added_by following.earlier.now.0) following.is_around following.changed
     following.kept.now facts
 
--- facts that are added to both keep them so: they look at no key of these digests, or else change
--- no open scope
-abbrev pub StayAlike : Bool → List UnitFacts → List ℕ → UnitFacts → Type 0
-StayAlike false facts changed f =
+-- facts look at no key of these digests
+abbrev pub LookElsewhere : List UnitFacts → List ℕ → UnitFacts → Type 0
+LookElsewhere facts changed f =
     (looked : List ℕ) × (AreNoted looked (looked_at_by (world facts) f) × ShareNone looked changed)
-StayAlike true facts changed f = f.step ≡ Stays
+
+-- facts that are added to both keep them so: they look at no such key, and where the innermost scope
+-- may have other operations they change no open scope
+abbrev pub StayAlike : Bool → List UnitFacts → List ℕ → UnitFacts → Type 0
+StayAlike false facts changed f = LookElsewhere facts changed f
+StayAlike true facts changed f = (f.step ≡ Stays) × LookElsewhere facts changed f
 
 -- the entries that are still to come were kept over these facts
 abbrev pub ArePrinted : List UnitFacts → Reprinting → Type 0

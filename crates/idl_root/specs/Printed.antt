@@ -11,7 +11,7 @@ use Rattle.idl_root.specs.declared.compiling.finding.EventFinding.{EventFinding}
 use Rattle.idl_root.specs.declared.compiling.printing.Sought.{Sought}
 use Rattle.idl_env.specs.Facts.{UnitFacts, answers}
 use Rattle.idl_env.specs.declared.additions.addition.Addition.{Addition}
-use Rattle.idl_env.specs.declared.additions.addition.Addition.TheVariants.{Declares, Uses, Appears, Identifies, TypePrefixes}
+use Rattle.idl_env.specs.declared.additions.addition.Addition.TheVariants.{Declares, Uses, UsesFurther, Appears, Identifies, TypePrefixes}
 use Rattle.idl_unit.specs.TokenRules.{fault_at}
 use Rattle.idl_unit.specs.declared.unit.UnitText.{UnitText}
 
@@ -27,6 +27,7 @@ abbrev pub first_paths : List Addition → List (List (List ℕ))
 first_paths [] = []
 first_paths (Declares e ∷ additions) = first_paths additions
 first_paths (Uses n path body ∷ additions) = first_paths additions
+first_paths (UsesFurther n path further ∷ additions) = first_paths additions
 first_paths (Appears path prefix ∷ additions) = path ∷ first_paths additions
 first_paths (Identifies path identity ∷ additions) = first_paths additions
 first_paths (TypePrefixes path text ∷ additions) = first_paths additions

@@ -1,10 +1,10 @@
 -- Facts over worlds that may have other operations and attributes in the innermost scope.
 use Rattle.std.proofs.Common.{◌≡◌, ℕ, Bool, true, false, cond, List, [], ◌∷◌, ◌++◌, drop, map, Option, Some, None, refl, sym, ap, ◌∙◌, subst, inl, inr}
-use Rattle.std.specs.Prelude.{Contains}
+use Rattle.std.specs.Prelude.{Contains, flat_map}
 use Rattle.idl_lex.specs.kinds.Keywords.{folded}
-use Rattle.idl_env.specs.Facts.{UnitFacts, World, after, after_closing, after_step, answers, closed, closing, entity_in, entity_key, given_back, key_of, more_inside, operations_among, over, scopes_in, with_additions, world}
+use Rattle.idl_env.specs.Facts.{UnitFacts, World, after, after_closing, after_step, answers, closed, closing, entity_in, entity_key, given_back, key_of, more_inside, operations_among, over, scopes_in, stops_of, with_additions, world}
 use Rattle.idl_entity.specs.Kind.{kind_eq}
-use Rattle.idl_env.specs.Outside.{AgreeOutside, IsInnermost, WorldsAgreeAround, WorldsAgreeOutside}
+use Rattle.idl_env.specs.Outside.{AgreeOutside, AreApart, IsInnermost, WorldsAgreeAround, WorldsAgreeOutside}
 use Rattle.idl_entity.specs.Path.{name_of, scope_of}
 use Rattle.idl_env.specs.declared.additions.addition.Addition.{Addition}
 use Rattle.idl_env.specs.declared.additions.addition.Addition.TheVariants.{Declares}
@@ -16,8 +16,8 @@ use Rattle.idl_entity.specs.declared.entity.Entity.{Entity}
 use Rattle.idl_env.specs.declared.keys.key.Key.{Key}
 use Rattle.idl_env.specs.declared.keys.key.Key.TheVariants.{Cursor, Declared}
 use Rattle.idl_entity.specs.declared.kind.Kind.TheVariants.{Interface}
-use Rattle.idl_scope.proofs.ExchangeLaws.{exchanged, over-elsewhere, over-exchanged}
-use Rattle.idl_scope.proofs.FactsLaws.{over-outside, with_answer-outside, with_prefix-outside}
+use Rattle.idl_scope.proofs.ExchangeLaws.{added-elsewhere, exchanged, over-elsewhere, over-exchanged}
+use Rattle.idl_scope.proofs.FactsLaws.{additions-outside, with_answer-outside, with_prefix-outside}
 use Rattle.idl_scope.proofs.LookupLaws.LookupLaws.{own_path}
 use Rattle.idl_env.proofs.Membership.{Contains-IsIn, IsIn, IsIn-Contains, IsIn-left, IsIn-right}
 
@@ -30,13 +30,13 @@ module _ (keys : List Key) (w v : World) where
   pub around-wider : WorldsAgreeOutside keys w v → WorldsAgreeAround keys w v
   around-wider (same, both) = (same, (ap (drop 1) both.0, both.1))
 
-  pub around-same : (f : UnitFacts) → WorldsAgreeAround keys w v → f.step ≡ Stays → WorldsAgreeAround keys (after w f) (after v f)
-  around-same f (same, both) step =
+  pub around-same : (f : UnitFacts) → WorldsAgreeAround keys w v → f.step ≡ Stays → AreApart (flat_map stops_of f.additions) keys → WorldsAgreeAround keys (after w f) (after v f)
+  around-same f (same, both) step apart =
       let paths = operations_among f.additions in
       let inside : drop 1 (more_inside v.inside paths) ≡ drop 1 (more_inside w.inside paths) =
       around-more_inside v.inside paths ∙ both.0 ∙ sym (around-more_inside w.inside paths) in
       subst (λ (s : Step). WorldsAgreeAround keys (after_step (with_additions f.additions w) s) (after_step (with_additions f.additions v) s)) (sym step)
-      (over-outside f.additions keys w.answers v.answers same, (inside, both.1))
+      (additions-outside f.additions keys w.answers v.answers same apart, (inside, both.1))
 
   pub around-pair : (f g : UnitFacts) → WorldsAgreeAround keys w v → f.step ≡ Stays → g.step ≡ Stays
       → WorldsAgreeAround (exchanged keys f.additions g.additions) (after w f) (after v g)
@@ -58,7 +58,7 @@ module _ (keys : List Key) (w v : World) where
       let grown = with_additions f.additions w in
       let added : AgreeOutside (keys ++ mine) grown.answers v.answers = λ k out.
       same k (λ c. out (Contains-IsIn k (keys ++ mine) (IsIn-left k keys mine (IsIn-Contains k keys c))))
-      ∙ sym (over-elsewhere f.additions k (w.answers k) (λ i. out (Contains-IsIn k (keys ++ mine) (IsIn-right k keys mine i)))) in
+      ∙ sym (added-elsewhere w.answers f.additions k (λ i. out (Contains-IsIn k (keys ++ mine) (IsIn-right k keys mine i)))) in
       let inside : drop 1 v.inside ≡ drop 1 grown.inside = both.0 ∙ sym (around-more_inside w.inside (operations_among f.additions)) in
       subst (λ (s : Step). WorldsAgreeAround (keys ++ mine) (after_step grown s) v) (sym step) (added, (inside, both.1))
 
@@ -67,7 +67,7 @@ module _ (keys : List Key) (w v : World) where
       let mine = map key_of g.additions in
       let grown = with_additions g.additions v in
       let added : AgreeOutside (keys ++ mine) w.answers grown.answers = λ k out.
-      over-elsewhere g.additions k (v.answers k) (λ i. out (Contains-IsIn k (keys ++ mine) (IsIn-right k keys mine i)))
+      added-elsewhere v.answers g.additions k (λ i. out (Contains-IsIn k (keys ++ mine) (IsIn-right k keys mine i)))
       ∙ same k (λ c. out (Contains-IsIn k (keys ++ mine) (IsIn-left k keys mine (IsIn-Contains k keys c)))) in
       let inside : drop 1 grown.inside ≡ drop 1 w.inside = around-more_inside v.inside (operations_among g.additions) ∙ both.0 in
       subst (λ (s : Step). WorldsAgreeAround (keys ++ mine) w (after_step grown s)) (sym step) (added, (inside, both.1))

@@ -1,8 +1,9 @@
 -- Facts that take the place of others, over answers that are the same outside some keys, and what such facts look at.
 use Rattle.std.proofs.Common.{◌≡◌, Bool, true, false, cond, List, [], ◌∷◌, ◌++◌, map, Option, Some, refl, sym, ap, ◌∙◌, subst, inl, inr}
-use Rattle.std.specs.Prelude.{Contains}
+use Rattle.std.specs.Prelude.{Contains, flat_map}
+use Rattle.std.proofs.lemmas.List.Elements.{Contains-append_left, Contains-append_right}
 use Rattle.idl_env.proofs.ApartLemmas.{gathered_at-same}
-use Rattle.idl_env.specs.Facts.{UnitFacts, World, after, after_step, answer_of, count_in, key_of, more_inside, nameless, operations_among, over, path_around, scopes_in, with_additions}
+use Rattle.idl_env.specs.Facts.{UnitFacts, World, after, after_step, answer_of, count_in, key_of, more_inside, nameless, operations_among, over, path_around, scopes_in, stops_of, unstopped, with_additions}
 use Rattle.idl_env.specs.keys.Key.{key_eq}
 use Rattle.idl_env.specs.SameKey.{same_key}
 use Rattle.idl_env.specs.Outside.{AgreeOutside, AreApart, WorldsAgreeOutside, gathered_at, looked_at, looked_at_by}
@@ -13,7 +14,8 @@ use Rattle.idl_env.specs.declared.answering.answer.Answer.{Answer}
 use Rattle.idl_env.specs.declared.keys.key.Key.{Key}
 use Rattle.idl_env.specs.declared.keys.key.Key.TheVariants.{Cursor, Opened, Nameless, Prefix as PrefixKey}
 use Rattle.idl_env.proofs.AnswerLaws.AnswerLemmas.{over-cons}
-use Rattle.idl_scope.proofs.FactsLaws.{after_step-outside, over-outside}
+use Rattle.idl_env.proofs.StoppedLemmas.{unstopped-keys}
+use Rattle.idl_scope.proofs.FactsLaws.{additions-outside, after_step-outside}
 use Rattle.idl_env.proofs.Membership.{Contains-IsIn, IsIn, IsIn-Contains, IsIn-left, IsIn-right}
 use Rattle.idl_env.proofs.AnswerLaws.StateLemmas.{more_inside-nothing}
 
@@ -28,23 +30,27 @@ over-elsewhere (a ∷ additions) k before out = over-cons a additions k before �
     by true t rest = absurd (out (inl (sym (same_key k (key_of a) t))))
     by false t rest = rest
 
+-- and without those of them that are stopped
+pub added-elsewhere : (answers : Key → Option Answer) (additions : List Addition) (k : Key) → (IsIn k (map key_of additions) → ⊥) → over (unstopped answers additions) k (answers k) ≡ answers k
+added-elsewhere answers additions k out = over-elsewhere (unstopped answers additions) k (answers k) (λ i. out (unstopped-keys answers k additions i))
+
 -- the keys outside of which answers are the same where additions take the place of others
 abbrev pub exchanged : List Key → List Addition → List Addition → List Key
 exchanged keys additions others = keys ++ (map key_of additions ++ map key_of others)
 
 pub over-exchanged : (keys : List Key) (additions others : List Addition) (bank other : Key → Option Answer) → AgreeOutside keys bank other
-    → AgreeOutside (exchanged keys additions others) (λ k. over additions k (bank k)) (λ k. over others k (other k))
+    → AgreeOutside (exchanged keys additions others) (λ k. over (unstopped bank additions) k (bank k)) (λ k. over (unstopped other others) k (other k))
 over-exchanged keys additions others bank other same k out =
     let mine = map key_of additions in
     let theirs = map key_of others in
     let apart : IsIn k (keys ++ (mine ++ theirs)) → ⊥ = λ i. out (Contains-IsIn k (keys ++ (mine ++ theirs)) i) in
-    over-elsewhere others k (other k) (λ i. apart (IsIn-right k keys (mine ++ theirs) (IsIn-right k mine theirs i)))
+    added-elsewhere other others k (λ i. apart (IsIn-right k keys (mine ++ theirs) (IsIn-right k mine theirs i)))
     ∙ same k (λ c. apart (IsIn-left k keys (mine ++ theirs) (IsIn-Contains k keys c)))
-    ∙ sym (over-elsewhere additions k (bank k) (λ i. apart (IsIn-right k keys (mine ++ theirs) (IsIn-left k mine theirs i))))
+    ∙ sym (added-elsewhere bank additions k (λ i. apart (IsIn-right k keys (mine ++ theirs) (IsIn-left k mine theirs i))))
 
 -- facts that take the place of others with the same change of the open scopes and the same operations
 pub after-exchanged : (keys : List Key) (w v : World) (f g : UnitFacts) → WorldsAgreeOutside keys w v → f.step ≡ g.step → operations_among f.additions ≡ operations_among g.additions
-    → AreApart (looked_at_by w f) (exchanged keys f.additions g.additions) → WorldsAgreeOutside (exchanged keys f.additions g.additions) (after w f) (after v g)
+    → AreApart (looked_at (with_additions f.additions w) f.step) (exchanged keys f.additions g.additions) → WorldsAgreeOutside (exchanged keys f.additions g.additions) (after w f) (after v g)
 after-exchanged keys w v f g (same, both) step operations apart =
     let more = exchanged keys f.additions g.additions in
     let added = over-exchanged keys f.additions g.additions w.answers v.answers same in
@@ -61,7 +67,7 @@ after-less keys w v f (same, both) step operations =
     let grown = with_additions f.additions w in
     let added : AgreeOutside (keys ++ mine) grown.answers v.answers = λ k out.
     same k (λ c. out (Contains-IsIn k (keys ++ mine) (IsIn-left k keys mine (IsIn-Contains k keys c))))
-    ∙ sym (over-elsewhere f.additions k (w.answers k) (λ i. out (Contains-IsIn k (keys ++ mine) (IsIn-right k keys mine i)))) in
+    ∙ sym (added-elsewhere w.answers f.additions k (λ i. out (Contains-IsIn k (keys ++ mine) (IsIn-right k keys mine i)))) in
     let inside : v.inside ≡ grown.inside = both.0 ∙ sym (ap (more_inside w.inside) operations ∙ more_inside-nothing w.inside) in
     subst (λ (s : Step). WorldsAgreeOutside (keys ++ mine) (after_step grown s) v) (sym step) (added, (inside, both.1))
 
@@ -71,7 +77,7 @@ after-more keys w v g (same, both) step operations =
     let mine = map key_of g.additions in
     let grown = with_additions g.additions v in
     let added : AgreeOutside (keys ++ mine) w.answers grown.answers = λ k out.
-    over-elsewhere g.additions k (v.answers k) (λ i. out (Contains-IsIn k (keys ++ mine) (IsIn-right k keys mine i)))
+    added-elsewhere v.answers g.additions k (λ i. out (Contains-IsIn k (keys ++ mine) (IsIn-right k keys mine i)))
     ∙ same k (λ c. out (Contains-IsIn k (keys ++ mine) (IsIn-left k keys mine (IsIn-Contains k keys c)))) in
     let inside : grown.inside ≡ w.inside = ap (more_inside v.inside) operations ∙ more_inside-nothing v.inside ∙ both.0 in
     subst (λ (s : Step). WorldsAgreeOutside (keys ++ mine) w (after_step grown s)) (sym step) (added, (inside, both.1))
@@ -95,6 +101,8 @@ module _ (w v : World) where
 -- so facts that look at none of the keys outside of which two worlds agree do so over either
 pub looked_at_by-outside : (keys : List Key) (w v : World) (f : UnitFacts) → WorldsAgreeOutside keys w v → AreApart (looked_at_by v f) keys → AreApart (looked_at_by w f) keys
 looked_at_by-outside keys w v f (same, both) apart =
-    let added = over-outside f.additions keys w.answers v.answers same in
-    let one = looked_at-same (with_additions f.additions w) (with_additions f.additions v) f.step (λ k i. added k (apart k (Contains-IsIn k (looked_at_by v f) i))) in
-    λ k c. apart k (subst (λ (ks : List Key). Contains ks k) one c)
+    let stops = flat_map stops_of f.additions in
+    let there = looked_at (with_additions f.additions v) f.step in
+    let added = additions-outside f.additions keys w.answers v.answers same (λ k c. apart k (Contains-append_left stops there k c)) in
+    let one = looked_at-same (with_additions f.additions w) (with_additions f.additions v) f.step (λ k i. added k (apart k (Contains-append_right stops there k (Contains-IsIn k there i)))) in
+    λ k c. apart k (subst (λ (ks : List Key). Contains (stops ++ ks) k) one c)

@@ -1,9 +1,9 @@
 -- Facts that are added to facts, and to answers that are the same outside some keys.
 use Rattle.std.proofs.Common.{◌≡◌, ℕ, ◌+◌, Bool, true, false, cond, List, [], ◌∷◌, ◌++◌, map, Option, Some, None, refl, ap, ◌∙◌, inl, inr}
-use Rattle.std.specs.Prelude.{Contains, drop}
-use Rattle.std.proofs.lemmas.List.Elements.{All-weaker, All-contains_itself}
+use Rattle.std.specs.Prelude.{Contains, drop, flat_map}
+use Rattle.std.proofs.lemmas.List.Elements.{All-weaker, All-contains_itself, Contains-append_left, Contains-append_right}
 use Rattle.idl_memo.specs.Query.{Done, Ask, Tell, outcome, asked, Agree}
-use Rattle.idl_env.specs.Facts.{UnitFacts, World, given_back, prefix_in, with_prefix, entity_key, entity_in, scopes_in, count_in, over, operations_of, joined, gathered, inherited, innermost, closed, closing, with_answer, with_additions, after_opening, after_closing, after_nameless, after_step, after, after_all, first_world, world, answers, nameless, path_around, next_body, more_inside, operations_among}
+use Rattle.idl_env.specs.Facts.{UnitFacts, World, given_back, prefix_in, with_prefix, entity_key, entity_in, scopes_in, count_in, over, operations_of, joined, gathered, inherited, innermost, closed, closing, with_answer, with_additions, after_opening, after_closing, after_nameless, after_step, after, after_all, first_world, world, answers, nameless, path_around, next_body, more_inside, operations_among, stops_of, unstopped}
 use Rattle.idl_env.specs.keys.Key.{key_eq}
 use Rattle.idl_entity.specs.Kind.{kind_eq}
 use Rattle.idl_scope.specs.Lookup.{Lookup, under}
@@ -23,6 +23,7 @@ use Rattle.idl_env.specs.declared.keys.key.Key.TheVariants.{Cursor, Opened, Name
 use Rattle.idl_entity.specs.declared.kind.Kind.{Kind}
 use Rattle.idl_entity.specs.declared.kind.Kind.TheVariants.{Interface}
 use Rattle.idl_entity.specs.declared.kind.Stage.TheVariants.{Complete}
+use Rattle.idl_env.proofs.StoppedLemmas.{unstopped-same}
 use Rattle.idl_env.proofs.Membership.{IsIn, IsIn-map, Contains-IsIn}
 
 -- ---- facts behind facts
@@ -35,8 +36,9 @@ pub world-append : (facts more : List UnitFacts) → world (facts ++ more) ≡ a
 unfolding world
 world-append facts more = after_all-append first_world facts more
 
--- what a unit's earlier tokens add is seen as what a unit adds that changes no open scope
-pub answers-own : (facts : List UnitFacts) (own : List Addition) (k : Key) → answers (facts ++ record { additions = own; step = Stays } ∷ []) k ≡ seen own facts k
+-- what a unit adds that changes no open scope is seen as what its earlier tokens add, but for uses that are stopped
+pub answers-own : (facts : List UnitFacts) (own : List Addition) (k : Key)
+    → answers (facts ++ record { additions = own; step = Stays } ∷ []) k ≡ seen (unstopped (answers facts) own) facts k
 answers-own facts own k = ap (λ w. w.answers k) (world-append facts (record { additions = own; step = Stays } ∷ []))
 
 -- ---- a query under additions
@@ -61,6 +63,13 @@ Agree-outside keys asks bank other same apart = All-weaker (Contains asks) (λ k
 -- additions keep such answers so
 pub over-outside : (additions : List Addition) (keys : List Key) (bank other : Key → Option Answer) → AgreeOutside keys bank other → AgreeOutside keys (λ k. over additions k (bank k)) (λ k. over additions k (other k))
 over-outside additions keys bank other same k out = ap (over additions k) (same k out)
+
+-- and so do they without the uses that are stopped, where these look at none of the keys
+pub additions-outside : (additions : List Addition) (keys : List Key) (bank other : Key → Option Answer) → AgreeOutside keys bank other → AreApart (flat_map stops_of additions) keys
+    → AgreeOutside keys (λ k. over (unstopped bank additions) k (bank k)) (λ k. over (unstopped other additions) k (other k))
+additions-outside additions keys bank other same apart k out =
+    ap (λ left. over left k (other k)) (unstopped-same bank other additions (λ q i. same q (apart q (Contains-IsIn q (flat_map stops_of additions) i))))
+    ∙ ap (over (unstopped bank additions) k) (same k out)
 
 module _ (keys : List Key) where
   pub with_answer-outside : (q : Key) (a b : Answer) (bank other : Key → Option Answer) → b ≡ a → AgreeOutside keys bank other → AgreeOutside keys (with_answer q a bank) (with_answer q b other)
@@ -199,6 +208,8 @@ module _ (keys : List Key) where
   -- the facts of a unit, added to worlds that agree outside some keys, of which they look at none
   pub after-outside : (w v : World) (f : UnitFacts) → WorldsAgreeOutside keys w v → AreApart (looked_at_by w f) keys → WorldsAgreeOutside keys (after w f) (after v f)
   after-outside w v f (same, both) apart =
-      let added = over-outside f.additions keys w.answers v.answers same in
+      let stops = flat_map stops_of f.additions in
+      let looked = looked_at (with_additions f.additions w) f.step in
+      let added = additions-outside f.additions keys w.answers v.answers same (λ k c. apart k (Contains-append_left stops looked k c)) in
       let more = ap (λ x. more_inside x (operations_among f.additions)) both.0 in
-      after_step-outside (with_additions f.additions w) (with_additions f.additions v) f.step (added, (more, both.1)) apart
+      after_step-outside (with_additions f.additions w) (with_additions f.additions v) f.step (added, (more, both.1)) (λ k c. apart k (Contains-append_right stops looked k c))

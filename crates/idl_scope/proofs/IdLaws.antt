@@ -6,14 +6,14 @@ use Rattle.idl_env.proofs.AnswerLaws.AnswerLemmas.{over-cons}
 use Rattle.idl_scope.specs.Known.{told_at}
 use Rattle.idl_scope.proofs.Constructors.{head_same, none_some, some_none, some_same, tail_same}
 use Rattle.idl_entity.proofs.IdLemmas.{relative-inside, relative-name, within_global}
-use Rattle.idl_env.specs.Facts.{UnitFacts, World, after, after_all, after_closing, after_step, answer_of, answers, closed, closing, entity_in, entity_key, first_world, key_of, over, scopes_in, with_additions, world}
+use Rattle.idl_env.specs.Facts.{UnitFacts, World, after, after_all, after_closing, after_step, answer_of, answers, closed, closing, entity_in, entity_key, first_world, key_of, over, scopes_in, unstopped, with_additions, world}
 use Rattle.idl_entity.specs.Identity.{fixed_for, is_within, prefix_by, prefix_for, prefixed, relative, slashed, stem, told_by, version_text}
 use Rattle.idl_env.specs.keys.Key.{key_eq}
 use Rattle.idl_env.specs.declared.keys.key.Key.TheVariants.{Cursor, IdOf}
 use Rattle.idl_entity.specs.Kind.{kind_eq}
 use Rattle.idl_entity.specs.Path.{path_eq, same_path, scope_of}
 use Rattle.idl_env.specs.declared.additions.addition.Addition.{Addition}
-use Rattle.idl_env.specs.declared.additions.addition.Addition.TheVariants.{Declares, Uses, Appears, Identifies, TypePrefixes}
+use Rattle.idl_env.specs.declared.additions.addition.Addition.TheVariants.{Declares, Uses, UsesFurther, Appears, Identifies, TypePrefixes}
 use Rattle.idl_env.specs.declared.additions.addition.Step.{Step}
 use Rattle.idl_env.specs.declared.additions.addition.Step.TheVariants.{Stays, Opens, OpensNameless, Closes, Prefixes}
 use Rattle.idl_env.specs.declared.answering.answer.Answer.{Answer}
@@ -63,6 +63,7 @@ additions-of-id path (a ∷ additions) before h =
     by : (b : Addition) → IsOfId path (over additions (IdOf path) before) → IsOfId path (cond (key_eq (IdOf path) (key_of b)) (Some (answer_of b)) (over additions (IdOf path) before))
     by (Declares e) there = there
     by (Uses n p body) there = there
+    by (UsesFurther n p further) there = there
     by (Appears q p) there = at q (Some (Appeared (prefix_for q p))) (over additions (IdOf path) before) (prefix-around q p) there (path_eq path q) refl
     by (Identifies q d) there = at q (Some (Identified (fixed_for q d))) (over additions (IdOf path) before) (met-for q d.prefix d.by) there (path_eq path q) refl
     by (TypePrefixes q t) there = there
@@ -93,7 +94,7 @@ after_all-of-id : (path : List (List ℕ)) (facts : List UnitFacts) (w : World) 
 after_all-of-id path [] w h = h
 after_all-of-id path (f ∷ facts) w h =
     after_all-of-id path facts (after w f)
-    (subst (λ o. IsOfId path o) (sym (step-keeps (with_additions f.additions w) f.step path)) (additions-of-id path f.additions (w.answers (IdOf path)) h))
+    (subst (λ o. IsOfId path o) (sym (step-keeps (with_additions f.additions w) f.step path)) (additions-of-id path (unstopped w.answers f.additions) (w.answers (IdOf path)) h))
 
 pub answers-of-id : (facts : List UnitFacts) (path : List (List ℕ)) → IsOfId path (answers facts (IdOf path))
 unfolding world

@@ -1,4 +1,4 @@
--- What is asked for typeprefixes, scope after scope.
+-- What is asked for typeprefixes, scope after scope, and what comes of it.
 use Rattle.std.proofs.Common.{◌≡◌, ℕ, List, ◌∷◌, Option, Some, None, ap}
 use Rattle.idl_memo.specs.Query.{Done, noted}
 use Rattle.idl_env.specs.Facts.{typeprefix_in}

@@ -6,4 +6,5 @@ pub mod IdLaws
 pub mod KnownLemmas
 pub mod LookupLaws
 pub mod PrefixLaws
+pub mod ReachLemmas
 pub mod Worlds

@@ -3,11 +3,11 @@ use Rattle.std.proofs.Common.{◌≡◌, ◌≢◌, ◌∙◌, ℕ, zero, suc, t
 use Rattle.idl_env.proofs.AnswerLaws.AnswerLemmas.{over_prefix}
 use Rattle.idl_scope.proofs.Constructors.{none_some, some_same, tail_same}
 use Rattle.idl_scope.proofs.FactsLaws.{after_all-append}
-use Rattle.idl_env.specs.Facts.{UnitFacts, World, after, after_all, after_closing, after_step, count_in, given_back, nameless, next_body, over, path_around, prefix_in, scopes_in, with_additions, after_nameless}
+use Rattle.idl_env.specs.Facts.{UnitFacts, World, after, after_all, after_closing, after_step, count_in, given_back, nameless, next_body, over, path_around, prefix_in, scopes_in, unstopped, with_additions, after_nameless}
 use Rattle.idl_entity.specs.Identity.{no_prefix}
 use Rattle.idl_scope.specs.Stretch.{IsBalanced, closes, depth, depth_behind, enters, leaves, opens}
 use Rattle.idl_env.specs.declared.additions.addition.Addition.{Addition}
-use Rattle.idl_env.specs.declared.additions.addition.Addition.TheVariants.{Declares, Uses, Appears, Identifies, TypePrefixes}
+use Rattle.idl_env.specs.declared.additions.addition.Addition.TheVariants.{Declares, Uses, UsesFurther, Appears, Identifies, TypePrefixes}
 use Rattle.idl_env.specs.declared.additions.addition.Step.{Step}
 use Rattle.idl_env.specs.declared.additions.addition.Step.TheVariants.{Stays, Opens, OpensNameless, Closes, Prefixes, Enters, Leaves}
 use Rattle.idl_env.specs.declared.answering.answer.Answer.{Answer}
@@ -34,6 +34,7 @@ over_cursor : (additions : List Addition) (before : Option Answer) → over addi
 over_cursor [] before = refl
 over_cursor (Declares e ∷ additions) before = over_cursor additions before
 over_cursor (Uses n path body ∷ additions) before = over_cursor additions before
+over_cursor (UsesFurther n path further ∷ additions) before = over_cursor additions before
 over_cursor (Appears path prefix ∷ additions) before = over_cursor additions before
 over_cursor (Identifies path identity ∷ additions) before = over_cursor additions before
 over_cursor (TypePrefixes path text ∷ additions) before = over_cursor additions before
@@ -46,7 +47,7 @@ module _ (t : Scope) (outer : List Scope) (opened : List Prefix) where
 
   inside-additions : (w : World) (n : ℕ) (additions : List Addition) → IsInside w n → IsInside (with_additions additions w) n
   inside-additions w n additions h = record {
-    scopes = ap (λ o. drop n (scopes_in o)) (over_cursor additions (w.answers Cursor)) ∙ h.scopes;
+    scopes = ap (λ o. drop n (scopes_in o)) (over_cursor (unstopped w.answers additions) (w.answers Cursor)) ∙ h.scopes;
     kept = h.kept;
   }
 
@@ -106,13 +107,13 @@ prefix-behind_scope w f g inside some begins balanced ends =
     let v = after_all (after w f) inside in
     let x = with_additions g.additions v in
     let here = inside-all o.scope (scopes_in (u.answers Cursor)) (prefix_in (u.answers PrefixKey) ∷ u.before.opened) inside (after w f) zero zero balanced (record { scopes = o.scopes; kept = o.opened }) in
-    let scopes : scopes_in (x.answers Cursor) ≡ o.scope ∷ scopes_in (u.answers Cursor) = ap scopes_in (over_cursor g.additions (v.answers Cursor)) ∙ here.scopes in
-    let outer : scopes_in (u.answers Cursor) ≢ [] = λ e. some (sym (ap scopes_in (over_cursor f.additions (w.answers Cursor))) ∙ e) in
+    let scopes : scopes_in (x.answers Cursor) ≡ o.scope ∷ scopes_in (u.answers Cursor) = ap scopes_in (over_cursor (unstopped v.answers g.additions) (v.answers Cursor)) ∙ here.scopes in
+    let outer : scopes_in (u.answers Cursor) ≢ [] = λ e. some (sym (ap scopes_in (over_cursor (unstopped w.answers f.additions) (w.answers Cursor))) ∙ e) in
     ap (λ (y : World). prefix_in (y.answers PrefixKey)) (after_all-append (after w f) inside (g ∷ []))
     ∙ ap (λ step. prefix_in ((after_step x step).answers PrefixKey)) ends
     ∙ closing-prefix x (scopes_in (x.answers Cursor)) (scopes_in (u.answers Cursor)) o.scope scopes outer
     ∙ ap given_back here.kept
-    ∙ ap prefix_in (over_prefix f.additions (w.answers PrefixKey))
+    ∙ ap prefix_in (over_prefix (unstopped w.answers f.additions) (w.answers PrefixKey))
 
 -- inside of so many files more than these
 module _ (entered : List Prefix) where
@@ -138,7 +139,7 @@ module _ (entered : List Prefix) where
       by (Some k) is rest more = more k rest (entered-step (with_additions f.additions w) n k f.step is h)
 
 entering : (w : World) (f : UnitFacts) → f.step ≡ Enters → (after w f).before.entered ≡ prefix_in (w.answers PrefixKey) ∷ w.before.entered
-entering w f e = ap (λ step. (after_step (with_additions f.additions w) step).before.entered) e ∙ ap (λ o. prefix_in o ∷ w.before.entered) (over_prefix f.additions (w.answers PrefixKey))
+entering w f e = ap (λ step. (after_step (with_additions f.additions w) step).before.entered) e ∙ ap (λ o. prefix_in o ∷ w.before.entered) (over_prefix (unstopped w.answers f.additions) (w.answers PrefixKey))
 
 pub prefix-behind_file : (w : World) (f g : UnitFacts) (inside : List UnitFacts) → f.step ≡ Enters → IsBalanced enters leaves inside → g.step ≡ Leaves
     → prefix_in ((after_all w (f ∷ (inside ++ g ∷ []))).answers PrefixKey) ≡ prefix_in (w.answers PrefixKey)
@@ -158,10 +159,10 @@ prefix_met text scopes = record { text = text; scope = path_around scopes }
 pub prefix-told : (w : World) (f : UnitFacts) (text : List ℕ) → f.step ≡ Prefixes text → prefix_in ((after w f).answers PrefixKey) ≡ prefix_met text (scopes_in (w.answers Cursor))
 prefix-told w f text e =
     ap (λ step. prefix_in ((after_step (with_additions f.additions w) step).answers PrefixKey)) e
-    ∙ ap (λ o. prefix_met text (scopes_in o)) (over_cursor f.additions (w.answers Cursor))
+    ∙ ap (λ o. prefix_met text (scopes_in o)) (over_cursor (unstopped w.answers f.additions) (w.answers Cursor))
 
 pub prefix-inside : (w : World) (f : UnitFacts) → opens f.step ≡ true → prefix_in ((after w f).answers PrefixKey) ≡ prefix_in (w.answers PrefixKey)
-prefix-inside w f e = by f.step e ∙ ap prefix_in (over_prefix f.additions (w.answers PrefixKey))
+prefix-inside w f e = by f.step e ∙ ap prefix_in (over_prefix (unstopped w.answers f.additions) (w.answers PrefixKey))
   where
     u : World
     u = with_additions f.additions w

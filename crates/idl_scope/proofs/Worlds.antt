@@ -4,7 +4,7 @@ use Rattle.std.proofs.Common.{◌≡◌, ◌⊎◌, ℕ, Bool, true, false, cond
 use Rattle.std.specs.Prelude.{flat_map}
 use Rattle.idl_lex.specs.kinds.Keywords.{folded}
 use Rattle.idl_env.specs.Turns.{bases_in, bases_among, bases_named, declared_in, declared_among, declared_named}
-use Rattle.idl_env.specs.Facts.{UnitFacts, World, entity_key, entity_in, scopes_in, key_of, answer_of, addition_at, over, with_answer, with_additions, first_answer, first_world, given_back, with_prefix, closed, closing, after_closing, after_opening, after_nameless, after_step, after, after_all, world, answers}
+use Rattle.idl_env.specs.Facts.{UnitFacts, World, entity_key, entity_in, scopes_in, key_of, answer_of, addition_at, over, unstopped, with_answer, with_additions, first_answer, first_world, given_back, with_prefix, closed, closing, after_closing, after_opening, after_nameless, after_step, after, after_all, world, answers}
 use Rattle.idl_entity.specs.Identity.{fixed_for, no_prefix, prefix_for}
 use Rattle.idl_env.specs.keys.Key.{key_eq}
 use Rattle.idl_env.specs.declared.keys.key.Key.{Key}
@@ -15,7 +15,7 @@ use Rattle.idl_scope.specs.Lookup.{bases_of}
 use Rattle.idl_scope.specs.Meaning.{own_at, bases_at}
 use Rattle.idl_entity.specs.Path.{name_of, scope_of}
 use Rattle.idl_env.specs.declared.additions.addition.Addition.{Addition}
-use Rattle.idl_env.specs.declared.additions.addition.Addition.TheVariants.{Declares, Uses, Appears, Identifies, TypePrefixes}
+use Rattle.idl_env.specs.declared.additions.addition.Addition.TheVariants.{Declares, Uses, UsesFurther, Appears, Identifies, TypePrefixes}
 use Rattle.idl_env.specs.declared.additions.addition.Step.{Step}
 use Rattle.idl_env.specs.declared.additions.addition.Step.TheVariants.{Stays, Opens, OpensNameless, Closes, Prefixes, Enters, Leaves}
 use Rattle.idl_env.specs.declared.answering.answer.Answer.{Answer}
@@ -26,6 +26,7 @@ use Rattle.idl_entity.specs.declared.identity.FixedIdentity.{FixedIdentity}
 use Rattle.idl_entity.specs.declared.identity.Prefix.{Prefix}
 use Rattle.idl_entity.specs.declared.kind.Kind.TheVariants.{Interface}
 use Rattle.idl_scope.proofs.Constructors.{none_some, some_same}
+use Rattle.idl_env.proofs.StoppedLemmas.{unstopped-in}
 use Rattle.idl_env.proofs.Membership.{IsIn, IsIn-left, IsIn-right}
 
 known_same : (e f : Entity) → Known e ≡ Known f → e ≡ f
@@ -122,6 +123,7 @@ module _ (parts : Entity → List (List (List ℕ))) (places : List (List (List 
       let same = known_same d e h in
       (ap (λ x. entity_key x.path) same, λ c i. within d refl c (let Q : Entity → Type 0 = λ x. IsIn c (parts x) in subst Q (sym same) i))
   addition-grounded (Uses n path body) within e h = no_entity_used (Introduced n path body) e h
+  addition-grounded (UsesFurther n path further) within e h = no_entity_used (Introduced n path further.body) e h
   addition-grounded (Appears path prefix) within e h = no_entity_first (IdOf path) (prefix_for path prefix) e h
   addition-grounded (Identifies path identity) within e h = no_entity_identity (IdOf path) (fixed_for path identity) e h
   addition-grounded (TypePrefixes path text) within e h = no_entity_typeprefix (Typeprefix path) text e h
@@ -187,7 +189,7 @@ module _ (parts : Entity → List (List (List ℕ))) (places : List (List (List 
   after_step-grounded keeps w Leaves g = with_prefix-grounded (given_back w.before.entered) w.answers g
 
   after-grounded : KeepsClosing → (w : World) (f : UnitFacts) → ((a : Addition) → IsIn a f.additions → HasPartsIn parts places a) → AreGroundedBy parts places w.answers → AreGroundedBy parts places (after w f).answers
-  after-grounded keeps w f within g = after_step-grounded keeps (with_additions f.additions w) f.step (over-grounded f.additions w.answers g (λ a i. addition-grounded a (within a i)))
+  after-grounded keeps w f within g = after_step-grounded keeps (with_additions f.additions w) f.step (over-grounded (unstopped w.answers f.additions) w.answers g (λ a i. addition-grounded a (within a (unstopped-in w.answers a f.additions i))))
 
   pub after_all-grounded : KeepsClosing → (w : World) (facts : List UnitFacts) → ((f : UnitFacts) → IsIn f facts → (a : Addition) → IsIn a f.additions → HasPartsIn parts places a) → AreGroundedBy parts places w.answers → AreGroundedBy parts places (after_all w facts).answers
   after_all-grounded keeps w [] within g = g

@@ -1,6 +1,6 @@
 -- How a scoped name is looked up: what is asked, and what comes of it, which is what the rules of
 -- `Meaning` say. Bases are entered one after another, at most so many; each once.
-use Rattle.std.specs.Prelude.{ℕ, zero, suc, ◌+◌, Bool, true, false, List, [], ◌∷◌, ◌++◌, Option, Some, None, Result, Ok, Err, option_to_list, slice_get, if◌then◌else◌}
+use Rattle.std.specs.Prelude.{ℕ, zero, suc, ◌+◌, ◌-◌, min, Bool, true, false, List, [], ◌∷◌, ◌++◌, Option, Some, None, Result, Ok, Err, option_to_list, slice_get, if◌then◌else◌}
 use Rattle.idl_entity.specs.Kind.{inherits, is_scope, kind_eq}
 use denote.Ref.{Bor}
 use Rattle.std.specs.Str.{bytes_eq}
@@ -18,6 +18,7 @@ use Rattle.idl_scope.specs.declared.fault.NameCode.TheVariants.{Undeclared, Ambi
 use Rattle.idl_scope.specs.declared.fault.NameFault.{NameFault}
 use Rattle.idl_scope.specs.declared.fault.NameFault.TheVariants.{At, Memory}
 use Rattle.idl_scope.specs.declared.found.Found.{Found}
+use Rattle.idl_scope.specs.declared.found.Reach.{Reach}
 use Rattle.idl_env.specs.declared.keys.key.Key.TheVariants.{Declared}
 use Rattle.idl_entity.specs.declared.kind.Kind.{Kind}
 use Rattle.idl_entity.specs.declared.kind.Kind.TheVariants.{Module}
@@ -62,12 +63,14 @@ abbrev pub is_nothing : {A : Type 0} → List A → Bool
 is_nothing [] = true
 is_nothing (x ∷ xs) = false
 
--- what the innermost of these scopes has that has the name
-abbrev pub outward : ℕ → List Scope → List ℕ → Lookup (List Entity)
-outward turns [] n = Done []
-outward turns (s ∷ scopes) n =
+-- what the innermost of these scopes has that has the name, and how many scopes are inside that one,
+-- where so many are inside all of these
+abbrev pub decided : ℕ → ℕ → List Scope → List ℕ → Lookup (List Entity × ℕ)
+decided turns inside [] n = Done ([], 0)
+decided turns inside (s ∷ scopes) n =
     and_then (has turns s.kind s.path n)
-    (λ found. if is_nothing found then outward turns scopes n else Done found)
+    (λ found. if is_nothing found then decided turns (inside + 1) scopes n
+    else Done (found, inside))
 
 -- the one entity, spelled so, or the fault
 abbrev pub judged : List ℕ → List Entity → Result Entity NameCode
@@ -94,37 +97,59 @@ further turns part e (name ∷ names) =
     (λ r. by_result r (λ f. further turns (part + 1) f names) (λ fault. Done (Err fault)))
     else Done (Err (At NoScope part))
 
--- into how many of the scopes outward from one that is no module a name is introduced, where it is
--- found as this: up to a module, and up to the scope that declares it
-abbrev pub outer_reach : List Scope → Entity → ℕ
-outer_reach [] e = 0
-outer_reach (s ∷ scopes) e =
-    if kind_eq s.kind Module then 0
-    else if path_eq (scope_of e.path) s.path then 0 else suc (outer_reach scopes e)
+-- how many of the scopes outward from one that is no module there are before a module
+abbrev pub before_module : List Scope → ℕ
+before_module [] = 0
+before_module (s ∷ scopes) = if kind_eq s.kind Module then 0 else suc (before_module scopes)
 
--- into how many of these scopes, the innermost first, its use introduces it: none where the
--- innermost declares it, and in a module that one alone
-abbrev pub reach : List Scope → Entity → ℕ
-reach [] e = 0
-reach (s ∷ scopes) e =
-    if path_eq (scope_of e.path) s.path then 0
-    else suc (if kind_eq s.kind Module then 0 else outer_reach scopes e)
+-- into how many of these scopes, the innermost first, the use of a name in them may go: in a module
+-- into that one alone
+abbrev pub extent : List Scope → ℕ
+extent [] = 0
+extent (s ∷ scopes) = suc (if kind_eq s.kind Module then 0 else before_module scopes)
+
+-- the scope with so many of these inside it itself declares this
+abbrev pub declares_at : List Scope → ℕ → Entity → Bool
+declares_at scopes inside e =
+    elim (slice_get scopes inside)
+    [ None ↦ false | Some s ↦ path_eq (scope_of e.path) s.path ]
+
+-- how far a use goes that may go so far: for certain into the scopes inside the one that decides, and
+-- into that if it has the name through bases; and then further outward, where none was asked
+abbrev pub reach_by : Bool → ℕ → ℕ → Reach
+reach_by true inside extent = record { certain = min inside extent; further = 0 }
+reach_by false inside extent =
+    record { certain = min (suc inside) extent; further = extent - suc inside }
+
+-- how far the use of a name goes in these scopes, the innermost first, where it is found as this by
+-- the one with so many inside it
+abbrev pub reach : List Scope → ℕ → Entity → Reach
+reach scopes inside e = reach_by (declares_at scopes inside e) inside (extent scopes)
+
+-- how far its first part is introduced
+abbrev pub reach_of : ScopedName → List Scope → ℕ → Entity → Reach
+reach_of name cursor inside first =
+    if name.is_global then record { certain = 0; further = 0 } else reach cursor inside first
 
 -- what is found, and how far the first part is introduced
-abbrev pub found_as : ScopedName → List Scope → Entity → Result Entity NameFault
-    → Result Found NameFault
-found_as name cursor first (Ok e) =
-    Ok (record { entity = e; reach = if name.is_global then 0 else reach cursor first })
-found_as name cursor first (Err fault) = Err fault
+abbrev pub found_as : Reach → Result Entity NameFault → Result Found NameFault
+found_as reach (Ok e) = Ok (record { entity = e; reach = reach })
+found_as reach (Err fault) = Err fault
+
+-- what the first part of a scoped name denotes that stands in these scopes, and how many of these are
+-- inside the one that decides it
+abbrev pub first_part : ℕ → List Scope → ScopedName → Lookup (Result Entity NameFault × ℕ)
+first_part turns cursor name =
+    and_then (decided turns 0 (searched name.is_global cursor) (folded name.first))
+    (λ d. Done (placed 0 (judged name.first d.0), d.1))
 
 -- what a scoped name denotes that stands in these scopes, the innermost first
 abbrev pub denoted : ℕ → List Scope → ScopedName → Lookup (Result Found NameFault)
 denoted turns cursor name =
-    and_then
-    (part_of 0 name.first (outward turns (searched name.is_global cursor) (folded name.first)))
-    (λ r. by_result r
+    and_then (first_part turns cursor name)
+    (λ r. by_result r.0
     (λ first. and_then (further turns 0 first name.rest)
-    (λ last. Done (found_as name cursor first last)))
+    (λ last. Done (found_as (reach_of name cursor r.1 first) last)))
     (λ fault. Done (Err fault)))
 
 -- the entity to which a result leads

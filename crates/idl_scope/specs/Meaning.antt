@@ -1,5 +1,5 @@
 -- What names denote, over answers: the scoping rules, without a word of how a name is looked up.
-use Rattle.std.specs.Prelude.{◌≡◌, ◌≢◌, ◌↔◌, ◌⊎◌, ℕ, Bool, true, if◌then◌else◌, MatchBool, List, [], ◌∷◌, ◌+◌, Option, Some, None, Result, Ok, Err, Contains, take}
+use Rattle.std.specs.Prelude.{◌≡◌, ◌≢◌, ◌↔◌, ◌⊎◌, ℕ, Bool, true, if◌then◌else◌, MatchBool, List, [], ◌∷◌, ◌++◌, ◌+◌, Option, Some, None, Result, Ok, Err, Contains, drop, is_some, take}
 use Rattle.idl_lex.specs.kinds.Keywords.{folded}
 use Rattle.idl_entity.specs.Entity.{is_operation}
 use Rattle.idl_entity.specs.Kind.{has_bases, inherits, is_scope}
@@ -15,6 +15,7 @@ use Rattle.idl_scope.specs.declared.fault.NameCode.TheVariants.{Undeclared, Ambi
 use Rattle.idl_scope.specs.declared.fault.NameFault.{NameFault}
 use Rattle.idl_scope.specs.declared.fault.NameFault.TheVariants.{At}
 use Rattle.idl_scope.specs.declared.found.Found.{Found}
+use Rattle.idl_scope.specs.declared.found.Reach.{Reach}
 use Rattle.idl_env.specs.declared.keys.key.Key.{Key}
 use Rattle.idl_env.specs.declared.keys.key.Key.TheVariants.{Declared}
 use Rattle.idl_entity.specs.declared.kind.Kind.{Kind}
@@ -110,31 +111,41 @@ abbrev pub entity_found : Result Found NameFault → Result Entity NameFault
 entity_found (Ok found) = Ok found.entity
 entity_found (Err fault) = Err fault
 
--- the use of a name that denotes this introduces it into that one of the scopes in which it stands:
--- the innermost, or one outward of it with no module up to there; and no scope up to there declares
--- what it denotes
+-- the use of a name introduces it into that one of the scopes in which it stands: the innermost, or
+-- one outward of it with no module up to there; and no scope up to there itself declares it
 abbrev pub NoModuleTo : List Scope → Scope → Type 0
 NoModuleTo [] t = ⊥
 NoModuleTo (s ∷ scopes) t = (s.kind ≢ Module) × ((s ≡ t) ⊎ NoModuleTo scopes t)
 
-abbrev pub NoneDeclaresTo : (Key → Option Answer) → List Scope → List ℕ → Entity → Scope → Type 0
-NoneDeclaresTo answers [] n e t = ⊥
-NoneDeclaresTo answers (s ∷ scopes) n e t =
-    (own_at answers n s.path ≢ Some e) × ((s ≡ t) ⊎ NoneDeclaresTo answers scopes n e t)
+abbrev pub NoneDeclaresTo : (Key → Option Answer) → List Scope → List ℕ → Scope → Type 0
+NoneDeclaresTo answers [] n t = ⊥
+NoneDeclaresTo answers (s ∷ scopes) n t =
+    (own_at answers n s.path ≡ None) × ((s ≡ t) ⊎ NoneDeclaresTo answers scopes n t)
 
 abbrev pub IsInnermost : List Scope → Scope → Type 0
 IsInnermost [] t = ⊥
 IsInnermost (s ∷ scopes) t = s ≡ t
 
-abbrev pub Introduces : (Key → Option Answer) → List Scope → List ℕ → Entity → Scope → Type 0
-Introduces answers cursor n e t =
-    NoneDeclaresTo answers cursor n e t × (IsInnermost cursor t ⊎ NoModuleTo cursor t)
+abbrev pub Introduces : (Key → Option Answer) → List Scope → List ℕ → Scope → Type 0
+Introduces answers cursor n t =
+    NoneDeclaresTo answers cursor n t × (IsInnermost cursor t ⊎ NoModuleTo cursor t)
 
--- the use of a scoped name introduces its first part into so many of the scopes, the innermost first,
--- and into no others; with a leading `::` into none
-abbrev pub Reaches : (Key → Option Answer) → List Scope → ScopedName → ℕ → Type 0
-Reaches answers cursor name reach =
-    MatchBool name.is_global (reach ≡ 0)
-    ((first : Entity) → FirstHas answers cursor (folded name.first) first
-    → (s : Scope) → Contains (take reach cursor) s
-    ↔ Introduces answers cursor (folded name.first) first s)
+-- the scopes, the innermost first, before the first that itself declares a name
+abbrev pub undeclared : (Key → Option Answer) → List ℕ → List Scope → List Scope
+undeclared answers n [] = []
+undeclared answers n (s ∷ scopes) =
+    if is_some (own_at answers n s.path) then [] else s ∷ undeclared answers n scopes
+
+-- those of a cursor to which a use of a name comes that goes so far: all to which it goes for certain,
+-- and of those further outward the ones before the first that itself declares the name
+abbrev pub reached_by : (Key → Option Answer) → List ℕ → List Scope → Reach → List Scope
+reached_by answers n cursor r =
+    take r.certain cursor ++ undeclared answers n (take r.further (drop r.certain cursor))
+
+-- the use of a scoped name that goes so far introduces its first part into the scopes to which it
+-- comes, and into no others; with a leading `::` into none
+abbrev pub Reaches : (Key → Option Answer) → List Scope → ScopedName → Reach → Type 0
+Reaches answers cursor name r =
+    let n = folded name.first in
+    MatchBool name.is_global (reached_by answers n cursor r ≡ [])
+    ((s : Scope) → Contains (reached_by answers n cursor r) s ↔ Introduces answers cursor n s)

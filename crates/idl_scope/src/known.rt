@@ -44,7 +44,7 @@ impl<'a> View<'a> {
     {
         let key = LentKey::id_of(self.env.alloc(), path);
         let before = log.ask_lent(&key, self.env)?;
-        let typeprefix = typeprefix_around(self.env, Some(self.own), log, path)?;
+        let typeprefix = typeprefix_over(self.env, Some(self.own), log, path)?;
         self.identified(&key, typeprefix, before)
     }
 
@@ -70,9 +70,23 @@ impl<'a> View<'a> {
     }
 }
 
-/// The typeprefix of the innermost scope that has one, of what is declared at a path and the scopes around it, over an environment
-/// and what the earlier tokens of a unit add, where any are looked at.
-pub fn typeprefix_around<'a>(
+/// The typeprefix of the innermost scope that has one, of what is declared at a path and the scopes around it.
+#[inline(always)]
+pub fn typeprefix_around<'e>(
+    env: &'e Env,
+    log: &mut Journal<Env>,
+    path: &Path,
+) -> Result<Option<&'e Shared<Bytes>>, AllocError>
+    ensures { IfOk result (λ text.
+        (option_copied text, log.new)
+        ≡ run key_eq (typeprefix_around path.now) (answers env.now) log.old) }
+{
+    typeprefix_over(env, None, log, path)
+}
+
+// The same over an environment and what the earlier tokens of a unit add, where any are looked at.
+#[inline(never)]
+fn typeprefix_over<'a>(
     env: &'a Env,
     own: Option<&'a Facts>,
     log: &mut Journal<Env>,

@@ -3,20 +3,20 @@
 //! Each function does nothing: it carries its laws as clauses. They hold of any facts, also of such as
 //! no declarations add; only, a walk over bases must be allowed as many turns as these facts need.
 
-ghost use Rattle.std.specs.Prelude.{◌≡◌, ◌≢◌, ◌↔◌, ◌∷◌, ◌++◌, ◌+◌, [], ℕ, List, Ok, Option, Result, Some, true, AllPairs, Contains, map};
+ghost use Rattle.std.specs.Prelude.{◌≡◌, ◌≢◌, ◌↔◌, ◌∷◌, ◌++◌, ◌+◌, [], ℕ, List, Ok, Option, Result, Some, true, AllPairs, Contains, flat_map, map};
 ghost use Rattle.idl_lex.specs.kinds.Keywords.{folded};
 ghost use Rattle.idl_memo.specs.Query.{Agree, asked, outcome, run};
 ghost use Rattle.idl_entity.specs.Identity.{no_prefix};
 ghost use Rattle.idl_tree.specs.declared.name.ScopedName.{ScopedName};
 ghost use Rattle.idl_env.specs.Turns.{HasTurnsFor};
-ghost use Rattle.idl_env.specs.Facts.{UnitFacts, World, after, after_all, answers, entity_key, key_of, operations_among, over, path_around, prefix_in, scopes_in, world};
+ghost use Rattle.idl_env.specs.Facts.{UnitFacts, World, after, after_all, answers, entity_key, key_of, operations_among, over, path_around, prefix_in, scopes_in, stops_of, unstopped, with_additions, world};
 ghost use Rattle.idl_env.specs.keys.Key.{key_eq};
 ghost use Rattle.idl_env.specs.declared.keys.key.Key.{Key};
 ghost use Rattle.idl_env.specs.declared.keys.key.Key.TheVariants as key;
 ghost use Rattle.idl_scope.specs.Known.{told_at};
 ghost use Rattle.idl_scope.specs.Lookup.{Lookup, denoted, has, reached, under};
 ghost use Rattle.idl_scope.specs.Meaning.{Denotes, Has, Reaches, Through, bases_at, entity_found, own_at, seen};
-ghost use Rattle.idl_env.specs.Outside.{AgreeOutside, AreApart, IsInnermost, WorldsAgreeAround, WorldsAgreeOutside, looked_at_by};
+ghost use Rattle.idl_env.specs.Outside.{AgreeOutside, AreApart, IsInnermost, WorldsAgreeAround, WorldsAgreeOutside, looked_at, looked_at_by};
 ghost use Rattle.idl_entity.specs.Path.{name_of, scope_of};
 ghost use Rattle.idl_env.specs.declared.additions.addition.Addition.{Addition};
 ghost use Rattle.idl_scope.specs.Stretch.{IsBalanced, closes, enters, leaves, opens};
@@ -85,7 +85,7 @@ pub fn more_turns()
 {}
 
 /// The use of a name introduces its first part into the scopes that the rules tell, and into no
-/// others: as many, the innermost first, as its reach says.
+/// others: those to which it comes, as far as its reach says.
 pub fn introduction()
     ensures { (facts : List UnitFacts) (own : List Addition) (turns : ℕ)
         → HasTurnsFor facts own turns
@@ -94,12 +94,12 @@ pub fn introduction()
         → Reaches (seen own facts) cursor name found.reach }
 {}
 
-/// What a unit's earlier tokens add is seen as what a unit adds that changes no open scope. What is
-/// asked under additions is asked of the answers as they change them.
+/// What a unit adds that changes no open scope is seen as what its earlier tokens add, but for uses
+/// that are stopped. What is asked under additions is asked of the answers as they change them.
 pub fn own_facts<A>()
     ensures seen { (facts : List UnitFacts) (own : List Addition) (key : Key)
         → answers (facts ++ record { additions = own; step = Stays } ∷ []) key
-        ≡ seen own facts key }
+        ≡ seen (unstopped (answers facts) own) facts key }
     ensures outcome { (own : List Addition) (query : Lookup A) (bank : Key → Option Answer)
         → outcome (under own query) bank ≡ outcome query (λ key. over own key (bank key)) }
     ensures asked { (own : List Addition) (query : Lookup A) (bank : Key → Option Answer)
@@ -129,7 +129,8 @@ pub fn exchanging()
         → WorldsAgreeOutside keys w other → f.step ≡ g.step
         → operations_among f.additions ≡ operations_among g.additions
         → let more = keys ++ (map key_of f.additions ++ map key_of g.additions) in
-        AreApart (looked_at_by w f) more → WorldsAgreeOutside more (after w f) (after other g) }
+        AreApart (looked_at (with_additions f.additions w) f.step) more
+        → WorldsAgreeOutside more (after w f) (after other g) }
     ensures less { (keys : List Key) (w other : World) (f : UnitFacts)
         → WorldsAgreeOutside keys w other → f.step ≡ Stays → operations_among f.additions ≡ []
         → WorldsAgreeOutside (keys ++ map key_of f.additions) (after w f) other }
@@ -142,12 +143,14 @@ pub fn exchanging()
 {}
 
 /// Facts that change no open scope may declare any operations, and take the place of such others, where the worlds may have other
-/// operations in the innermost scope. Once that scope closes, they have the same, and agree but at its own key.
+/// operations in the innermost scope. Once that scope closes, they have the same, and agree but at its own key. The same facts on
+/// both sides stop the same uses, where these look at none of the keys.
 pub fn agreeing_around()
     ensures wider { (keys : List Key) (w other : World)
         → WorldsAgreeOutside keys w other → WorldsAgreeAround keys w other }
     ensures same { (keys : List Key) (w other : World) (f : UnitFacts)
         → WorldsAgreeAround keys w other → f.step ≡ Stays
+        → AreApart (flat_map stops_of f.additions) keys
         → WorldsAgreeAround keys (after w f) (after other f) }
     ensures pair { (keys : List Key) (w other : World) (f g : UnitFacts)
         → WorldsAgreeAround keys w other → f.step ≡ Stays → g.step ≡ Stays

@@ -15,7 +15,7 @@ mod naming;
 
 pub use cursor::Cursor;
 pub use fault::{NameCode, NameFault};
-pub use found::Found;
+pub use found::{Found, Reach};
 pub use idl_entity::Entity;
 pub use idl_env::{Env, Facts, Key};
 pub use known::typeprefix_around;

@@ -7,7 +7,8 @@ ghost use Rattle.idl_env.specs.Facts.{answer_of, answers, entity_in, entity_key,
 ghost use Rattle.idl_scope.specs.Finds.{those};
 ghost use Rattle.idl_env.specs.keys.Key.{key_eq};
 ghost use Rattle.idl_env.specs.declared.keys.key.Key.TheVariants.{Declared, Prefix as PrefixKey};
-ghost use Rattle.idl_scope.specs.Lookup.{bases_of, entered, has, outward, reached, under};
+ghost use Rattle.idl_scope.specs.Known.{known};
+ghost use Rattle.idl_scope.specs.Lookup.{bases_of, decided, entered, has, reached, under};
 ghost use Rattle.idl_env.specs.Turns.{HasTurnsFor, declared_among, declared_named};
 
 use crate::finds::Finds;
@@ -204,24 +205,6 @@ impl<'a> View<'a> {
         found.into_vec(self.env.alloc())
     }
 
-    /// What the innermost of these scopes has that has the name.
-    pub fn outward(
-        self,
-        log: &mut Journal<Env>,
-        scopes: &OpenScopes,
-        name: &Bytes,
-    ) -> Result<Vec<&'a Shared<Entity>>, AllocError>
-        ensures { IfOk result (λ es.
-            (turns : ℕ) → HasTurnsFor self.entry.env.now self.entry.own.now.additions turns →
-            (map (λ e. e.now) es.items, log.new)
-            ≡ run key_eq
-            (under self.entry.own.now.additions (outward turns scopes.now name.now))
-            (answers self.entry.env.now) log.old) }
-    {
-        let found = self.found_outward(log, scopes, name)?;
-        found.into_vec(self.env.alloc())
-    }
-
     /// What a scope has under a name, as it is held.
     pub(crate) fn found_in(
         self,
@@ -248,33 +231,36 @@ impl<'a> View<'a> {
         Ok(Finds::Reached(self.reached(log, name, bases_of(scope))?))
     }
 
-    /// What the innermost of these scopes has that has the name, as it is held.
+    /// What the innermost of these scopes has that has the name, as it is held, and how many are inside that one.
     pub(crate) fn found_outward(
         self,
         log: &mut Journal<Env>,
         scopes: &OpenScopes,
         name: &Bytes,
-    ) -> Result<Finds<'a>, AllocError>
+    ) -> Result<(Finds<'a>, usize), AllocError>
         ensures { IfOk result (λ found.
             (turns : ℕ) → usize.MAX ≤ turns →
-            (those found, log.new)
+            ((those found.0, found.1), log.new)
             ≡ run key_eq
-            (under self.entry.own.now.additions (outward turns scopes.now name.now))
+            (under self.entry.own.now.additions (decided turns 0 scopes.now name.now))
             (answers self.entry.env.now) log.old) }
     {
         let mut rest = scopes;
-        'scopes: while let Some((scope, outer)) = rest.split_first() {
+        for inside in 0..scopes.len() {
+            let Some((scope, outer)) = rest.split_first() else {
+                return Ok((Finds::own(self.env.alloc(), None), 0));
+            };
             let place = ScopeAt {
                 kind: scope.kind,
                 path: &scope.path,
             };
             let found = self.found_in(log, place, name)?;
             if !found.is_nothing() {
-                return Ok(found);
+                return Ok((found, inside));
             }
             rest = outer;
         }
-        Ok(Finds::own(self.env.alloc(), None))
+        Ok((Finds::own(self.env.alloc(), None), 0))
     }
 }
 

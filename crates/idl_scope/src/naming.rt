@@ -1,18 +1,18 @@
 //! What a scoped name denotes.
 
-ghost use Rattle.std.specs.Prelude.{◌≡◌, ◌≤◌, ◌∷◌, [], ℕ, IfOk, if◌then◌else◌, length};
+ghost use Rattle.std.specs.Prelude.{◌≡◌, ◌≤◌, ◌∷◌, [], ℕ, IfOk, length};
 ghost use Rattle.idl_memo.specs.Query.{run};
 ghost use Rattle.idl_env.specs.Facts.{answers};
 ghost use Rattle.idl_scope.specs.Finds.{those};
 ghost use Rattle.idl_env.specs.keys.Key.{key_eq};
-ghost use Rattle.idl_scope.specs.Lookup.{denoted, further, has, judged, named, outer_reach, part_of, placed, reach, searched, outward, under, IfSettled};
+ghost use Rattle.idl_scope.specs.Lookup.{before_module, decided, declares_at, denoted, extent, first_part, further, has, judged, named, part_of, placed, reach_of, searched, under, IfSettled};
 ghost use Rattle.idl_scope.specs.Meaning.{Denotes, Reaches, entity_found, seen};
 ghost use Rattle.idl_env.specs.Turns.{HasTurnsFor};
 ghost use Rattle.idl_lex.specs.kinds.Keywords.{folded};
 
 use crate::fault::{NameCode, NameFault};
 use crate::finds::Finds;
-use crate::found::Found;
+use crate::found::{Found, Reach};
 use crate::lookup::{ScopeAt, View};
 use idl_base::{Bytes, Shared};
 use idl_entity::{Entity, Kind, Path};
@@ -76,51 +76,51 @@ impl<'a> View<'a> {
             (under self.entry.own.now.additions (denoted turns cursor.now name.now))
             (answers self.entry.env.now) log.old) }
     {
-        let first = match self.first_part(log, cursor, name)? {
+        let (first, inside) = self.first_part(log, cursor, name)?;
+        let first = match first {
             Ok(first) => first,
             Err(fault) => return Ok(Err(fault)),
         };
         match self.further(log, first, name.rest.as_slice())? {
             Ok(last) => {
                 let entity = last.clone()?;
-                let reach = reach_of(name, cursor, first.get());
+                let reach = reach_of(name, cursor, inside, first.get());
                 Ok(Ok(Found { entity, reach }))
             }
             Err(fault) => Ok(Err(fault)),
         }
     }
 
-    // What the first part of a name denotes.
+    // What the first part of a name denotes, and how many scopes are inside the one that decides it.
     fn first_part(
         self,
         log: &mut Journal<Env>,
         cursor: &OpenScopes,
         name: &ScopedName,
-    ) -> Result<Result<&'a Shared<Entity>, NameFault>, AllocError>
+    ) -> Result<(Result<&'a Shared<Entity>, NameFault>, usize), AllocError>
         ensures { IfOk result (λ r.
             (turns : ℕ) → usize.MAX ≤ turns →
-            (named r, log.new)
-            ≡ run key_eq (under self.entry.own.now.additions
-            (part_of 0 name.now.first
-            (outward turns (searched name.now.is_global cursor.now) (folded name.now.first))))
+            ((named r.0, r.1), log.new)
+            ≡ run key_eq
+            (under self.entry.own.now.additions (first_part turns cursor.now name.now))
             (answers self.entry.env.now) log.old) }
     {
-        let found = self.first_found(log, cursor, name)?;
-        Ok(judged(0, name.first.as_bytes(), &found))
+        let (found, inside) = self.first_found(log, cursor, name)?;
+        Ok((judged(0, name.first.as_bytes(), &found), inside))
     }
 
-    // What there is under the first part of a name.
+    // What there is under the first part of a name, and how many scopes are inside the one that has it.
     fn first_found(
         self,
         log: &mut Journal<Env>,
         cursor: &OpenScopes,
         name: &ScopedName,
-    ) -> Result<Finds<'a>, AllocError>
+    ) -> Result<(Finds<'a>, usize), AllocError>
         ensures { IfOk result (λ found.
             (turns : ℕ) → usize.MAX ≤ turns →
-            (those found, log.new)
+            ((those found.0, found.1), log.new)
             ≡ run key_eq (under self.entry.own.now.additions
-            (outward turns (searched name.now.is_global cursor.now) (folded name.now.first)))
+            (decided turns 0 (searched name.now.is_global cursor.now) (folded name.now.first)))
             (answers self.entry.env.now) log.old) }
     {
         let folded = name.first.to_folded(self.env.alloc())?;
@@ -130,7 +130,7 @@ impl<'a> View<'a> {
                 kind: Kind::Module,
                 path: &path,
             };
-            return self.found_in(log, place, &folded);
+            return Ok((self.found_in(log, place, &folded)?, 0));
         }
         self.found_outward(log, cursor, &folded)
     }
@@ -216,28 +216,69 @@ fn spelled<'a>(
     }
 }
 
-// Into how many of the scopes the use of a name introduces its first part, which denotes this.
-fn reach_of(name: &ScopedName, cursor: &OpenScopes, first: &Entity) -> usize
-    ensures { result ≡ (if name.now.is_global then 0 else reach cursor.now first.now) }
+// How far the use of a name introduces its first part, which denotes this by the scope with so many inside it.
+#[tactic(auto, using(crate::proofs::ReachLemmas::reach_past, crate::proofs::ReachLemmas::reach_up_to, crate::proofs::ReachLemmas::reach_on))]
+fn reach_of(name: &ScopedName, cursor: &OpenScopes, inside: usize, first: &Entity) -> Reach
+    ensures { result ≡ reach_of name.now cursor.now inside first.now }
 {
     if name.is_global {
-        return 0;
+        return Reach {
+            certain: 0,
+            further: 0,
+        };
     }
-    let Some((innermost, outer)) = cursor.split_first() else {
-        return 0;
-    };
-    if first.path().around().are_those(&innermost.path.lent()) {
-        0
-    } else if innermost.kind == Kind::Module {
-        1
-    } else {
-        1 + outer_reach(outer, first)
+    let extent = extent(cursor);
+    if inside >= extent {
+        return Reach {
+            certain: extent,
+            further: 0,
+        };
+    }
+    if declares_at(cursor, inside, first) {
+        return Reach {
+            certain: inside,
+            further: 0,
+        };
+    }
+    Reach {
+        certain: inside + 1,
+        further: extent - (inside + 1),
     }
 }
 
-// Into how many of the scopes outward from one that is no module.
-fn outer_reach(scopes: &OpenScopes, first: &Entity) -> usize
-    ensures reach { result ≡ outer_reach scopes.now first.now }
+// Whether the scope with so many of these inside it itself declares this.
+fn declares_at(scopes: &OpenScopes, inside: usize, first: &Entity) -> bool
+    ensures { result ≡ declares_at scopes.now inside first.now }
+{
+    let mut rest = scopes;
+    for _passed in 0..inside {
+        let Some((_scope, outer)) = rest.split_first() else {
+            return false;
+        };
+        rest = outer;
+    }
+    match rest.innermost() {
+        Some(scope) => first.path().around().are_those(&scope.path.lent()),
+        None => false,
+    }
+}
+
+// Into how many of these scopes the use of a name in them may go.
+fn extent(scopes: &OpenScopes) -> usize
+    ensures { result ≡ extent scopes.now }
+{
+    let Some((innermost, outer)) = scopes.split_first() else {
+        return 0;
+    };
+    if innermost.kind == Kind::Module {
+        return 1;
+    }
+    1 + before_module(outer)
+}
+
+// How many of the scopes outward from one that is no module there are before a module.
+fn before_module(scopes: &OpenScopes) -> usize
+    ensures count { result ≡ before_module scopes.now }
     ensures within { result ≤ length scopes.now }
 {
     let mut rest = scopes;
@@ -245,7 +286,7 @@ fn outer_reach(scopes: &OpenScopes, first: &Entity) -> usize
         let Some((scope, outer)) = rest.split_first() else {
             return index;
         };
-        if scope.kind == Kind::Module || first.path().around().are_those(&scope.path.lent()) {
+        if scope.kind == Kind::Module {
             return index;
         }
         rest = outer;

@@ -13,7 +13,7 @@ use Rattle.idl_memo.specs.Query.{Done, and_then, outcome}
 use Rattle.idl_scope.proofs.FactsLaws.{outcome-under}
 use Rattle.idl_env.specs.Facts.{over}
 use Rattle.idl_entity.specs.Kind.{is_scope}
-use Rattle.idl_scope.specs.Lookup.{Lookup, denoted, found_as, further, has, outward, part_of, searched, under}
+use Rattle.idl_scope.specs.Lookup.{Lookup, denoted, first_part, found_as, further, has, part_of, reach_of, under}
 use Rattle.idl_env.specs.declared.answering.answer.Answer.{Answer}
 use Rattle.idl_env.specs.declared.answering.answer.Scope.{Scope}
 use Rattle.idl_entity.specs.declared.entity.Entity.{Entity}
@@ -30,7 +30,7 @@ use Rattle.idl_unit.specs.TokenRules.{fault_at}
 use Rattle.idl_unit.specs.declared.fault.Fault.{Fault}
 use Rattle.idl_check.proofs.Faults.FaultOrder.{all-at}
 use Rattle.idl_check.proofs.Faults.NotedLemmas.{IsLater, noted-later}
-use Rattle.idl_check.proofs.PartLemmas.{IsUpTo, StandsAt, behind, behind-at, found_as-at, from_first, further-at, part_of-at}
+use Rattle.idl_check.proofs.PartLemmas.{IsUpTo, StandsAt, behind, behind-at, first_part-at, found_as-at, from_first, further-at, part_of-at}
 use Rattle.idl_check.proofs.Visits.SiteLaws.{IsPlaced, denoted-up, plain-placed, used-begins, used_by}
 use Rattle.idl_check.proofs.Visits.VisitLemmas.{cut_by}
 
@@ -79,14 +79,18 @@ module _ (turns : ℕ) (bank : Key → Option Answer) where
       ap (λ b. outcome (cond b (and_then (part_of 1 name (has turns e.kind e.path (folded name))) (behind turns bank 1 names)) (Done (Err (At why.NoScope 0)))) bank) h
 
   abbrev first_of : List Scope → ScopedName → Result Entity NameFault
-  first_of cursor name = outcome (part_of 0 name.first (outward turns (searched name.is_global cursor) (folded name.first))) bank
+  first_of cursor name = (outcome (first_part turns cursor name) bank).0
 
-  denoted-is : (cursor : List Scope) (name : ScopedName) → outcome (denoted turns cursor name) bank ≡ outcome (from_first turns bank cursor name (first_of cursor name)) bank
-  denoted-is cursor name = outcome-and_then (part_of 0 name.first (outward turns (searched name.is_global cursor) (folded name.first))) (from_first turns bank cursor name) bank
+  -- how many scopes are inside the one that decides it
+  abbrev inside_of : List Scope → ScopedName → ℕ
+  inside_of cursor name = (outcome (first_part turns cursor name) bank).1
 
-  first-is : (cursor : List Scope) (name : ScopedName) (e : Entity)
-      → outcome (from_first turns bank cursor name (Ok e)) bank ≡ found_as name cursor e (outcome (further turns 0 e name.rest) bank)
-  first-is cursor name e = outcome-and_then (further turns 0 e name.rest) (λ last. Done (found_as name cursor e last)) bank
+  denoted-is : (cursor : List Scope) (name : ScopedName) → outcome (denoted turns cursor name) bank ≡ outcome (from_first turns bank cursor name (inside_of cursor name) (first_of cursor name)) bank
+  denoted-is cursor name = outcome-and_then (first_part turns cursor name) (λ r. from_first turns bank cursor name r.1 r.0) bank
+
+  first-is : (cursor : List Scope) (name : ScopedName) (inside : ℕ) (e : Entity)
+      → outcome (from_first turns bank cursor name inside (Ok e)) bank ≡ found_as (reach_of name cursor inside e) (outcome (further turns 0 e name.rest) bank)
+  first-is cursor name inside e = outcome-and_then (further turns 0 e name.rest) (λ last. Done (found_as (reach_of name cursor inside e) last)) bank
 
 -- ---- the faults of the name, and of its first part
 
@@ -123,25 +127,25 @@ module _ (turns : ℕ) (answers : Key → Option Answer) (way : Use) (name : Sco
 
   -- a fault that is known by its first token
   module _ (f : Fault) (known : f.index ≤ w.at) where
-    scoped-same : (e : Entity) (part : List ℕ) (parts : List (List ℕ)) → name.is_global ≡ false → name.rest ≡ part ∷ parts → (b : Bool) → is_scope e.kind ≡ b
-        → noted (Some f) (cond b [] (fault_at w.at NoScope ∷ [])) ≡ noted (Some f) (faults_of (outcome (from_first (turns_at turns w) bank w.cursor name (Ok e)) bank))
-    scoped-same e part parts local rest true scope =
-        let r = outcome (from_first (turns_at turns w) bank w.cursor name (Ok e)) bank in
-        let inside : IsFromPart 1 (outcome (further (turns_at turns w) 0 e name.rest) bank) = subst (λ names. IsFromPart 1 (outcome (further (turns_at turns w) 0 e names) bank)) (sym rest) (scope-from (turns_at turns w) bank e part parts scope) in
-        let up : IsFromPart 1 r = subst (IsFromPart 1) (sym (first-is (turns_at turns w) bank w.cursor name e)) (found_as-at (λ part. 1 ≤ part) name w.cursor e (outcome (further (turns_at turns w) 0 e name.rest) bank) inside) in
+    scoped-same : (inside : ℕ) (e : Entity) (part : List ℕ) (parts : List (List ℕ)) → name.is_global ≡ false → name.rest ≡ part ∷ parts → (b : Bool) → is_scope e.kind ≡ b
+        → noted (Some f) (cond b [] (fault_at w.at NoScope ∷ [])) ≡ noted (Some f) (faults_of (outcome (from_first (turns_at turns w) bank w.cursor name inside (Ok e)) bank))
+    scoped-same inside e part parts local rest true scope =
+        let r = outcome (from_first (turns_at turns w) bank w.cursor name inside (Ok e)) bank in
+        let later : IsFromPart 1 (outcome (further (turns_at turns w) 0 e name.rest) bank) = subst (λ names. IsFromPart 1 (outcome (further (turns_at turns w) 0 e names) bank)) (sym rest) (scope-from (turns_at turns w) bank e part parts scope) in
+        let up : IsFromPart 1 r = subst (IsFromPart 1) (sym (first-is (turns_at turns w) bank w.cursor name inside e)) (found_as-at (λ part. 1 ≤ part) (reach_of name w.cursor inside e) (outcome (further (turns_at turns w) 0 e name.rest) bank) later) in
         let some : 1 ≤ length name.rest = omega (arith, ap length rest) in
         sym (noted-later f w.at (faults_of r) known (faults-later 1 (λ p le. part-later name w.at p le) some r up))
-    scoped-same e part parts local rest false scope =
+    scoped-same inside e part parts local rest false scope =
         let none : outcome (further (turns_at turns w) 0 e name.rest) bank ≡ Err (At why.NoScope 0) = ap (λ names. outcome (further (turns_at turns w) 0 e names) bank) rest ∙ other-is (turns_at turns w) bank e part parts scope in
-        let is : outcome (from_first (turns_at turns w) bank w.cursor name (Ok e)) bank ≡ Err (At why.NoScope 0) = first-is (turns_at turns w) bank w.cursor name e ∙ ap (found_as name w.cursor e) none in
+        let is : outcome (from_first (turns_at turns w) bank w.cursor name inside (Ok e)) bank ≡ Err (At why.NoScope 0) = first-is (turns_at turns w) bank w.cursor name inside e ∙ ap (found_as (reach_of name w.cursor inside e)) none in
         ap (λ n. noted (Some f) (fault_at n NoScope ∷ [])) (sym (part-zero name w.at 0 local (omega arith)))
         ∙ ap (λ r. noted (Some f) (faults_of r)) (sym is)
 
-    parts-same : (part : List ℕ) (parts : List (List ℕ)) → name.is_global ≡ false → name.rest ≡ part ∷ parts → (p : Result Entity NameFault) → IsUpTo 0 p
-        → noted (Some f) (head_faults w.at (outcome (from_first (turns_at turns w) bank w.cursor (head_of name) p) bank)) ≡ noted (Some f) (faults_of (outcome (from_first (turns_at turns w) bank w.cursor name p) bank))
-    parts-same part parts local rest (Ok e) up = scoped-same e part parts local rest (is_scope e.kind) refl
-    parts-same part parts local rest (Err (At code n)) up = ap (λ m. noted (Some f) (fault_at m (name_code code) ∷ [])) (sym (part-zero name w.at n local up))
-    parts-same part parts local rest (Err Memory) up = absurd up
+    parts-same : (inside : ℕ) (part : List ℕ) (parts : List (List ℕ)) → name.is_global ≡ false → name.rest ≡ part ∷ parts → (p : Result Entity NameFault) → IsUpTo 0 p
+        → noted (Some f) (head_faults w.at (outcome (from_first (turns_at turns w) bank w.cursor (head_of name) inside p) bank)) ≡ noted (Some f) (faults_of (outcome (from_first (turns_at turns w) bank w.cursor name inside p) bank))
+    parts-same inside part parts local rest (Ok e) up = scoped-same inside e part parts local rest (is_scope e.kind) refl
+    parts-same inside part parts local rest (Err (At code n)) up = ap (λ m. noted (Some f) (fault_at m (name_code code) ∷ [])) (sym (part-zero name w.at n local up))
+    parts-same inside part parts local rest (Err Memory) up = absurd up
 
     -- what counts stands there
     pub cut-same : (is_global : Bool) (parts : List (List ℕ)) → name.is_global ≡ is_global → name.rest ≡ parts → noted (Some f) (cut is_global parts).faults ≡ noted (Some f) named.faults
@@ -151,10 +155,10 @@ module _ (turns : ℕ) (answers : Key → Option Answer) (way : Use) (name : Sco
         sym (noted-later f w.at named.faults known (subst (λ (v : Visit). IsLater w.at v.faults) (sym named-is) later))
     cut-same false [] local rest = refl
     cut-same false (part ∷ parts) local rest =
-        let up = part_of-at (turns_at turns w) bank (λ part. part ≤ 0) 0 name.first (outward (turns_at turns w) (searched name.is_global w.cursor) (folded name.first)) (omega arith) in
+        let up = first_part-at (turns_at turns w) bank (λ part. part ≤ 0) w.cursor name (omega arith) in
         ap (λ (v : Visit). noted (Some f) v.faults) (outcome-and_then head (λ r. Done (head_visit name w r)) answers)
         ∙ ap (λ r. noted (Some f) (head_faults w.at r)) (outcome-under w.own answers (denoted (turns_at turns w) w.cursor (head_of name)) ∙ denoted-is (turns_at turns w) bank w.cursor (head_of name))
-        ∙ parts-same part parts local rest (first_of (turns_at turns w) bank w.cursor name) up
+        ∙ parts-same (inside_of (turns_at turns w) bank w.cursor name) part parts local rest (first_of (turns_at turns w) bank w.cursor name) up
         ∙ ap (λ r. noted (Some f) (faults_of r)) (sym (outcome-under w.own answers (denoted (turns_at turns w) w.cursor name) ∙ denoted-is (turns_at turns w) bank w.cursor name))
         ∙ ap (λ (v : Visit). noted (Some f) v.faults) (sym named-is)
 

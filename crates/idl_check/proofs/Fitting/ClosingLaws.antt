@@ -14,18 +14,19 @@ use Rattle.idl_scope.proofs.Constructors.{some_same, none_some}
 use Rattle.idl_scope.proofs.FactsLaws.{world-append}
 use Rattle.idl_env.proofs.Membership.{Contains-IsIn, IsIn, IsIn-Contains, IsIn-left, IsIn-right, IsIn-split}
 use Rattle.std.specs.Char.{to_ascii_lowercase}
-use Rattle.idl_env.specs.Facts.{UnitFacts, World, addition_at, answer_of, after, after_closing, after_nameless, after_opening, after_step, answers, closed, closing, entity_in, entity_key, first_world, inherited, innermost, nameless, next_body, operations_of, path_around, scopes_in, with_additions, world, count_in}
+use Rattle.idl_env.proofs.StoppedLemmas.{declared-unstopped}
+use Rattle.idl_env.specs.Facts.{UnitFacts, World, addition_at, answer_of, after, after_closing, after_nameless, after_opening, after_step, answers, closed, closing, entity_in, entity_key, first_world, inherited, innermost, nameless, next_body, operations_of, path_around, scopes_in, unstopped, with_additions, world, count_in}
 use Rattle.idl_entity.specs.Kind.{kind_eq, same_kind}
 use Rattle.idl_entity.specs.Path.{name_of, scope_of}
 use Rattle.idl_env.specs.Turns.{turns_for}
 use Rattle.idl_env.specs.declared.additions.addition.Addition.{Addition}
-use Rattle.idl_env.specs.declared.additions.addition.Addition.TheVariants.{Declares, Uses, Appears, Identifies, TypePrefixes}
+use Rattle.idl_env.specs.declared.additions.addition.Addition.TheVariants.{Declares, Uses, UsesFurther, Appears, Identifies, TypePrefixes}
 use Rattle.idl_env.specs.declared.additions.addition.Step.{Step}
 use Rattle.idl_env.specs.declared.additions.addition.Step.TheVariants.{Stays, Opens, OpensNameless, Closes, Enters, Leaves}
 use Rattle.idl_env.specs.declared.answering.answer.Answer.{Answer}
 use Rattle.idl_env.specs.declared.answering.answer.Scope.{Scope}
 use Rattle.idl_entity.specs.declared.entity.Entity.{Entity}
-use Rattle.idl_env.specs.declared.keys.key.Key.TheVariants.{Cursor, Nameless}
+use Rattle.idl_env.specs.declared.keys.key.Key.TheVariants.{Cursor, Declared, Nameless}
 use Rattle.idl_entity.specs.declared.kind.Kind.{Kind}
 use Rattle.idl_entity.specs.declared.kind.Kind.TheVariants.{Interface}
 use Rattle.idl_unit.specs.declared.unit.UnitText.{UnitText}
@@ -141,9 +142,14 @@ pub cursor-kept : (additions : List Addition) → addition_at additions Cursor �
 cursor-kept [] = refl
 cursor-kept (Declares e ∷ additions) = cursor-kept additions
 cursor-kept (Uses n path body ∷ additions) = cursor-kept additions
+cursor-kept (UsesFurther n path further ∷ additions) = cursor-kept additions
 cursor-kept (Appears path prefix ∷ additions) = cursor-kept additions
 cursor-kept (Identifies path identity ∷ additions) = cursor-kept additions
 cursor-kept (TypePrefixes path text ∷ additions) = cursor-kept additions
+
+-- and no name is declared otherwise by uses that are stopped
+pub added-names : (w : World) (additions : List Addition) → names_in (with_additions additions w).answers ≡ over additions (names_in w.answers)
+added-names w additions = λ i n path. declared-unstopped w.answers n path additions (w.answers (Declared n path)) i
 
 -- so it is kept by a unit that adds this
 pub record IsFitting (w : World) (f : UnitFacts) : Type 0 where
@@ -154,9 +160,9 @@ pub record IsFitting (w : World) (f : UnitFacts) : Type 0 where
 unit-settled : (w : World) (f : UnitFacts) → IsSettled w → IsFitting w f → IsSettled (after w f)
 unit-settled w f k fits =
     let v = with_additions f.additions w in
-    let same : v.answers Cursor ≡ w.answers Cursor = ap (λ o. elim o as (λ _. Option Answer) [ None ↦ w.answers Cursor | Some a ↦ Some (answer_of a) ]) (cursor-kept f.additions) in
+    let same : v.answers Cursor ≡ w.answers Cursor = ap (λ o. elim o as (λ _. Option Answer) [ None ↦ w.answers Cursor | Some a ↦ Some (answer_of a) ]) (cursor-kept (unstopped w.answers f.additions)) in
     let added = added-kept (names_in w.answers) (scopes_in (w.answers Cursor)) w.inside f.additions k fits.added fits.once in
-    step-settled v f.step (subst (λ o. IsKept (over f.additions (names_in w.answers)) (scopes_in o) v.inside) (sym same) added) fits.step
+    step-settled v f.step (subst (λ ns. IsKept ns (scopes_in (v.answers Cursor)) v.inside) (sym (added-names w f.additions)) (subst (λ o. IsKept (over f.additions (names_in w.answers)) (scopes_in o) v.inside) (sym same) added)) fits.step
 
 -- ---- unit after unit
 

@@ -1,7 +1,7 @@
 -- A unit that declares a module, or a name ahead, fits the facts before it.
 use Rattle.std.proofs.Common.{◌≡◌, ◌∙◌, ℕ, ◌≤◌, Bool, true, false, cond, List, [], ◌∷◌, ◌++◌, Option, Some, None, refl, sym, ap, subst, inl, inr}
 use Rattle.std.specs.Prelude.{◌≢◌, ◌&&◌, ◌||◌}
-use Rattle.idl_check.proofs.Fitting.ClosingLaws.{IsFitting, IsSettled, cursor-kept, under-around}
+use Rattle.idl_check.proofs.Fitting.ClosingLaws.{IsFitting, IsSettled, added-names, cursor-kept, under-around}
 use Rattle.idl_check.proofs.Fitting.GrowingLaws.{once-with, declares-one}
 use Rattle.idl_check.proofs.Fitting.OpeningLaws.{identity-found}
 use Rattle.idl_check.proofs.Fitting.ReachedLaws.{Names, Place, own, there}
@@ -29,7 +29,7 @@ use Rattle.idl_memo.specs.Query.{Done, outcome}
 use Rattle.idl_scope.proofs.Constructors.{some_same, none_some}
 use Rattle.idl_env.proofs.FirstLemmas.{addition_at-with_addition}
 use Rattle.idl_entity.specs.Entity.{is_operation}
-use Rattle.idl_env.specs.Facts.{UnitFacts, addition_at, answer_of, answers, entity_in, entity_key, next_body, path_around, scopes_in, with_addition, with_additions, world}
+use Rattle.idl_env.specs.Facts.{UnitFacts, addition_at, answer_of, answers, entity_in, entity_key, next_body, path_around, scopes_in, unstopped, with_addition, with_additions, world}
 use Rattle.idl_env.specs.keys.Key.{key_eq}
 use Rattle.idl_env.specs.keys.Digested.{key_equiv}
 use Rattle.idl_entity.specs.Kind.{kind_eq, same_kind}
@@ -247,15 +247,16 @@ module _ (facts : List UnitFacts) (k : IsSettled (world facts)) (turns : ℕ) (e
         module-lone =
             let ys = additions_of facts k turns enough end in
             let u = with_additions ys (world facts) in
-            let same : u.answers Cursor ≡ answers facts Cursor = ap (λ o. elim o as (λ _. Option Answer) [ None ↦ answers facts Cursor | Some a ↦ Some (answer_of a) ]) (cursor-kept ys) in
+            let same : u.answers Cursor ≡ answers facts Cursor = ap (λ o. elim o as (λ _. Option Answer) [ None ↦ answers facts Cursor | Some a ↦ Some (answer_of a) ]) (cursor-kept (unstopped (answers facts) ys)) in
             let path : s.path ≡ path_around around = sym (ap path_around is) in
             let body = next_body u (name ∷ path_around around) in
             record {
               once = lone-grown.1;
               added = lone-grown.0;
               step = (
-                subst (λ zs. IsOpened (over zs names) (record { path = name ∷ path_around around; kind = kind.Module; body = body }) []) (sym ends)
-                    (subst (λ q. IsOpened (over (all st.there st.ids) names) (record { path = name ∷ q; kind = kind.Module; body = body }) []) path (opened body)),
+                subst (λ ns. IsOpened ns (record { path = name ∷ path_around around; kind = kind.Module; body = body }) []) (sym (added-names (world facts) ys))
+                    (subst (λ zs. IsOpened (over zs names) (record { path = name ∷ path_around around; kind = kind.Module; body = body }) []) (sym ends)
+                    (subst (λ q. IsOpened (over (all st.there st.ids) names) (record { path = name ∷ q; kind = kind.Module; body = body }) []) path (opened body))),
                 subst (λ o. IsUnder (record { path = name ∷ path_around around; kind = kind.Module; body = body }) (scopes_in o)) (sym same) (under-around name kind.Module body around),
               );
             }

@@ -1,7 +1,9 @@
 -- A unit that opens an interface fits the facts before it: its bases are closed, and nothing is declared in it yet.
 use Rattle.std.proofs.Common.{◌≡◌, ◌∙◌, ℕ, ◌≤◌, Bool, true, false, cond, List, [], ◌∷◌, ◌++◌, length, Option, Some, None, Result, Ok, Err, refl, sym, ap, subst, arith, inl, inr}
-use Rattle.std.specs.Prelude.{take}
-use Rattle.idl_check.proofs.Fitting.ClosingLaws.{IsFitting, IsSettled, cursor-kept, under-around}
+use Rattle.std.specs.Prelude.{fold}
+use Rattle.idl_check.proofs.UseLemmas.{DeclareNone, uses-none}
+use Rattle.idl_scope.specs.declared.found.Reach.{Reach}
+use Rattle.idl_check.proofs.Fitting.ClosingLaws.{IsFitting, IsSettled, added-names, cursor-kept, under-around}
 use Rattle.idl_check.proofs.Fitting.GrowingLaws.{IsGrown, declares-one}
 use Rattle.idl_check.proofs.PartLemmas.{IsUpTo}
 use Rattle.idl_check.proofs.Fitting.ReachedLaws.{Names, kept-at, own, there}
@@ -17,7 +19,7 @@ use Rattle.idl_check.specs.ids.Identifying.{with_identity}
 use Rattle.idl_check.specs.told.Bodies.{raising}
 use Rattle.idl_check.specs.walk.Judging.{walked}
 use Rattle.idl_check.specs.told.Types.{looked_through}
-use Rattle.idl_check.specs.tables.Using.{with_uses}
+use Rattle.idl_check.specs.tables.Using.{uses_of, with_uses}
 use Rattle.idl_check.specs.walk.Walk.{Visit, Walk, declared_visit, first_walk, passed, turns_at, used, used_visit, visit}
 use Rattle.idl_check.specs.declared.ids.identifying.Ids.{Ids}
 use Rattle.idl_check.specs.declared.tables.standing.Standing.{Standing}
@@ -28,13 +30,13 @@ use Rattle.idl_scope.proofs.Constructors.{some_same, none_some}
 use Rattle.idl_env.proofs.FirstLemmas.{addition_at-with_addition}
 use Rattle.idl_env.proofs.Membership.{IsIn-Contains}
 use Rattle.idl_env.specs.keys.Digested.{key_equiv}
-use Rattle.idl_env.specs.Facts.{UnitFacts, addition_at, answer_of, answers, entity_in, entity_key, next_body, path_around, scopes_in, with_addition, with_additions, world}
+use Rattle.idl_env.specs.Facts.{UnitFacts, addition_at, answer_of, answers, entity_in, entity_key, next_body, path_around, scopes_in, unstopped, with_addition, with_additions, world}
 use Rattle.idl_env.specs.keys.Key.{key_eq}
 use Rattle.idl_scope.specs.Lookup.{denoted, under}
 use Rattle.idl_entity.specs.Path.{name_of, scope_of}
 use Rattle.idl_env.specs.Turns.{turns_for}
 use Rattle.idl_env.specs.declared.additions.addition.Addition.{Addition}
-use Rattle.idl_env.specs.declared.additions.addition.Addition.TheVariants.{Declares, Uses}
+use Rattle.idl_env.specs.declared.additions.addition.Addition.TheVariants.{Declares}
 use Rattle.idl_env.specs.declared.additions.addition.Step.TheVariants.{Opens}
 use Rattle.idl_env.specs.declared.answering.answer.Answer.{Answer}
 use Rattle.idl_env.specs.declared.answering.answer.Scope.{Scope}
@@ -73,10 +75,14 @@ pub record IsRest (w v : Walk) : Type 0 where
   pub last : v.last ≡ w.last
   pub found : (x : Entity) → IsFound v.own x → IsFound w.own x
 
-uses-found : (n : List ℕ) (ss : List Scope) (additions : List Addition) (x : Entity) → IsFound (with_uses n ss additions) x → IsFound additions x
-uses-found n [] additions x h = h
-uses-found n (s ∷ ss) additions x h =
-    sym (addition_at-with_addition additions (Uses n s.path s.body) (entity_key x.path)) ∙ uses-found n ss (with_addition additions (Uses n s.path s.body)) x h
+all-found : (uses : List Addition) → DeclareNone uses → (additions : List Addition) (x : Entity) → IsFound (fold with_addition additions uses) x → IsFound additions x
+all-found [] none additions x h = h
+all-found (a ∷ uses) none additions x h =
+    sym (addition_at-with_addition additions a (entity_key x.path) ∙ ap (λ t. cond t (Some a) (addition_at additions (entity_key x.path))) (none.0 (folded (name_of x.path)) (scope_of x.path)))
+    ∙ all-found uses none.1 (with_addition additions a) x h
+
+uses-found : (n : List ℕ) (r : Reach) (scopes : List Scope) (additions : List Addition) (x : Entity) → IsFound (with_uses n r scopes additions) x → IsFound additions x
+uses-found n r scopes additions x h = all-found (uses_of n r scopes additions) (uses-none n r scopes additions) additions x h
 
 module _ (facts : List UnitFacts) (k : IsSettled (world facts)) (turns : ℕ) (enough : turns_for facts ≤ turns) where
   abbrev names : Names
@@ -90,7 +96,7 @@ module _ (facts : List UnitFacts) (k : IsSettled (world facts)) (turns : ℕ) (e
   used-by-rest is_local name w (Ok found) up none =
       let query = under w.own (looked_through (turns_at turns w) (AsBase is_local) found.entity) in
       let same = outcome-and_then query (λ behind. Done (used_visit w (AsBase is_local) name found behind)) (answers facts) in
-      subst (λ (v : Visit). IsRest w v.after) (sym same) (record { begun = refl; last = refl; found = λ x h. uses-found (folded name.first) (take found.reach w.cursor) w.own x h })
+      subst (λ (v : Visit). IsRest w v.after) (sym same) (record { begun = refl; last = refl; found = λ x h. uses-found (folded name.first) found.reach w.cursor w.own x h })
   used-by-rest is_local name w (Err (Faulty why part)) up none = cc
   used-by-rest is_local name w (Err Memory) up none = absurd up
 
@@ -253,14 +259,15 @@ module _ (facts : List UnitFacts) (k : IsSettled (world facts)) (turns : ℕ) (e
         let ys = additions_of facts k turns enough w in
         let u = with_additions ys (world facts) in
         let ended = ends-grown facts k turns enough w walks.0 walks.1 in
-        let same : u.answers Cursor ≡ answers facts Cursor = ap (λ o. elim o as (λ _. Option Answer) [ None ↦ answers facts Cursor | Some a ↦ Some (answer_of a) ]) (cursor-kept ys) in
+        let same : u.answers Cursor ≡ answers facts Cursor = ap (λ o. elim o as (λ _. Option Answer) [ None ↦ answers facts Cursor | Some a ↦ Some (answer_of a) ]) (cursor-kept (unstopped (answers facts) ys)) in
         let path : s.path ≡ path_around around = sym (ap path_around is) in
         record {
           once = ended.once;
           added = ended.added;
           step = (
-            subst (λ zs. IsOpened (over zs names) (record { path = name ∷ path_around around; kind = Interface; body = next_body u (name ∷ path_around around) }) []) (sym is-additions)
-                (subst (λ q. IsOpened after (record { path = name ∷ q; kind = Interface; body = next_body u (name ∷ q) }) []) path (opened (next_body u (name ∷ s.path)))),
+            subst (λ ns. IsOpened ns (record { path = name ∷ path_around around; kind = Interface; body = next_body u (name ∷ path_around around) }) []) (sym (added-names (world facts) ys))
+                (subst (λ zs. IsOpened (over zs names) (record { path = name ∷ path_around around; kind = Interface; body = next_body u (name ∷ path_around around) }) []) (sym is-additions)
+                (subst (λ q. IsOpened after (record { path = name ∷ q; kind = Interface; body = next_body u (name ∷ q) }) []) path (opened (next_body u (name ∷ s.path))))),
             subst (λ o. IsUnder (record { path = name ∷ path_around around; kind = Interface; body = next_body u (name ∷ path_around around) }) (scopes_in o)) (sym same)
                 (under-around name Interface (next_body u (name ∷ path_around around)) around),
           );

@@ -15,7 +15,7 @@ use Rattle.idl_env.specs.SameKey.{same_key}
 use Rattle.idl_scope.specs.Meaning.{Through, bases_of}
 use Rattle.idl_entity.specs.Path.{name_of, scope_of}
 use Rattle.idl_env.specs.declared.additions.addition.Addition.{Addition}
-use Rattle.idl_env.specs.declared.additions.addition.Addition.TheVariants.{Declares, Uses, Appears, Identifies, TypePrefixes}
+use Rattle.idl_env.specs.declared.additions.addition.Addition.TheVariants.{Declares, Uses, UsesFurther, Appears, Identifies, TypePrefixes}
 use Rattle.idl_env.specs.declared.answering.answer.Answer.{Answer}
 use Rattle.idl_env.specs.declared.answering.answer.Scope.{Scope}
 use Rattle.idl_entity.specs.declared.entity.Entity.{Entity}
@@ -163,6 +163,7 @@ stood D additions n path = by_found (addition_at additions (Declared n path)) re
     by_found None e = Was (ap told e)
     by_found (Some (Declares x)) e = let r = addition_at-Some additions (Declared n path) (Declares x) e in Added x (ap (addition_at additions) (sym r.1) ∙ e) r.1 (ap told e)
     by_found (Some (Uses m q b)) e = let r : Declared n path ≡ key_of (Uses m q b) = (addition_at-Some additions (Declared n path) (Uses m q b) e).1 in cc
+    by_found (Some (UsesFurther m q further)) e = let r : Declared n path ≡ key_of (UsesFurther m q further) = (addition_at-Some additions (Declared n path) (UsesFurther m q further) e).1 in cc
     by_found (Some (Appears q prefix)) e = let r : Declared n path ≡ key_of (Appears q prefix) = (addition_at-Some additions (Declared n path) (Appears q prefix) e).1 in cc
     by_found (Some (Identifies q identity)) e = let r : Declared n path ≡ key_of (Identifies q identity) = (addition_at-Some additions (Declared n path) (Identifies q identity) e).1 in cc
     by_found (Some (TypePrefixes q text)) e = let r : Declared n path ≡ key_of (TypePrefixes q text) = (addition_at-Some additions (Declared n path) (TypePrefixes q text) e).1 in cc
@@ -186,6 +187,8 @@ operations-in (Declares y ∷ additions) x (inr i) h = later (operations-in addi
     later there false = there
 operations-in (Uses m q b ∷ additions) x (inl e) h = cc
 operations-in (Uses m q b ∷ additions) x (inr i) h = operations-in additions x i h
+operations-in (UsesFurther m q further ∷ additions) x (inl e) h = cc
+operations-in (UsesFurther m q further ∷ additions) x (inr i) h = operations-in additions x i h
 operations-in (Appears q prefix ∷ additions) x (inl e) h = cc
 operations-in (Appears q prefix ∷ additions) x (inr i) h = operations-in additions x i h
 operations-in (Identifies q identity ∷ additions) x (inl e) h = cc
@@ -204,6 +207,7 @@ operations-out (Declares y ∷ additions) p i = by_kind (operations-out addition
     by_kind rest true e (inr j) = let r = rest j in (r.0, inr r.1, r.2, r.3)
     by_kind rest false e j = let r = rest j in (r.0, inr r.1, r.2, r.3)
 operations-out (Uses m q b ∷ additions) p i = let r = operations-out additions p i in (r.0, inr r.1, r.2, r.3)
+operations-out (UsesFurther m q further ∷ additions) p i = let r = operations-out additions p i in (r.0, inr r.1, r.2, r.3)
 operations-out (Appears q prefix ∷ additions) p i = let r = operations-out additions p i in (r.0, inr r.1, r.2, r.3)
 operations-out (Identifies q identity ∷ additions) p i = let r = operations-out additions p i in (r.0, inr r.1, r.2, r.3)
 operations-out (TypePrefixes q text ∷ additions) p i = let r = operations-out additions p i in (r.0, inr r.1, r.2, r.3)

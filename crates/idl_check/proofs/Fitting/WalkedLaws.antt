@@ -2,6 +2,8 @@
 use Rattle.std.proofs.Common.{◌≡◌, ◌⊎◌, ◌∙◌, ℕ, zero, suc, ◌-◌, ◌≤◌, Bool, true, false, cond, List, [], ◌∷◌, ◌++◌, length, Option, Some, None, Result, Ok, Err, refl, sym, ap, subst, arith, inl, inr}
 use Rattle.std.proofs.lemmas.Bool.{not-false}
 use Rattle.std.specs.Prelude.{◌≢◌, ◌&&◌, drop, take, All, fold}
+use Rattle.idl_check.proofs.UseLemmas.{DeclareNone, uses-none}
+use Rattle.idl_scope.specs.declared.found.Reach.{Reach}
 use Rattle.idl_check.proofs.Fitting.ClosingLaws.{IsFitting, IsSettled, StepFits}
 use Rattle.idl_check.proofs.Fitting.GrowingLaws.{Grows, IsGrown, IsMine, IsNew, grows-beside, grows-none, grows-on, grows-with}
 use Rattle.idl_check.proofs.Nests.AroundLaws.{used-none}
@@ -28,7 +30,7 @@ use Rattle.idl_check.specs.walk.Placing.{step_of}
 use Rattle.idl_check.specs.told.Types.{looked_through}
 use Rattle.idl_check.specs.tables.Codes.{codes_in}
 use Rattle.idl_check.specs.tables.Rules.{is_open_base, suits}
-use Rattle.idl_check.specs.tables.Using.{Bases, base_table, bases_after, last_after, own_after, with_uses}
+use Rattle.idl_check.specs.tables.Using.{Bases, base_table, bases_after, last_after, own_after, uses_of, with_uses}
 use Rattle.idl_fault.specs.declared.code.Code.TheVariants as code
 use Rattle.idl_check.specs.walk.Verdict.{sound}
 use Rattle.idl_check.specs.walk.Walk.{Visit, Walk, declared_visit, ended_array, ended_scope, first_walk, is_begun, outcome_at, passed, turns_at, used, used_after, used_visit, value_visit, visit, with_array, with_scope, plain_name, spoken_of, spoken_visit, unspoken_visit}
@@ -48,7 +50,7 @@ use Rattle.idl_scope.specs.Meaning.{Denotes, Through, bases_of, entity_found, se
 use Rattle.idl_entity.specs.Path.{name_of, scope_of}
 use Rattle.idl_env.specs.Turns.{turns_for}
 use Rattle.idl_env.specs.declared.additions.addition.Addition.{Addition}
-use Rattle.idl_env.specs.declared.additions.addition.Addition.TheVariants.{Declares, Uses}
+use Rattle.idl_env.specs.declared.additions.addition.Addition.TheVariants.{Declares}
 use Rattle.idl_env.specs.declared.answering.answer.Answer.{Answer}
 use Rattle.idl_env.specs.declared.answering.answer.Scope.{Scope}
 use Rattle.idl_entity.specs.declared.entity.Entity.{Entity}
@@ -128,11 +130,14 @@ module _ (facts : List UnitFacts) (k : IsSettled (world facts)) (turns : ℕ) (e
   renews additions e z g m path kind other = grows-with names around additions z g (renewed additions e z g m path kind other)
 
   -- uses change no name
-  uses-grow : (n : List ℕ) (ss : List Scope) (additions : List Addition) → IsGrown names around additions → Grow additions (with_uses n ss additions)
-  uses-grow n [] additions g = grows-none names around additions g
-  uses-grow n (s ∷ ss) additions g =
-      let one = grows-beside names around additions (Uses n s.path s.body) g (λ m q. refl) in
-      grows-on names around additions (with_addition additions (Uses n s.path s.body)) (with_uses n (s ∷ ss) additions) one (uses-grow n ss (with_addition additions (Uses n s.path s.body)) one.grown)
+  all-grow : (uses : List Addition) → DeclareNone uses → (additions : List Addition) → IsGrown names around additions → Grow additions (fold with_addition additions uses)
+  all-grow [] none additions g = grows-none names around additions g
+  all-grow (a ∷ uses) none additions g =
+      let one = grows-beside names around additions a g none.0 in
+      grows-on names around additions (with_addition additions a) (fold with_addition (with_addition additions a) uses) one (all-grow uses none.1 (with_addition additions a) one.grown)
+
+  uses-grow : (n : List ℕ) (r : Reach) (scopes : List Scope) (additions : List Addition) → IsGrown names around additions → Grow additions (with_uses n r scopes additions)
+  uses-grow n r scopes additions g = all-grow (uses_of n r scopes additions) (uses-none n r scopes additions) additions g
 
   -- the unit's end finishes names of its own
   abbrev AreMine : List Addition → List Entity → Type 0
@@ -278,10 +283,10 @@ module _ (facts : List UnitFacts) (k : IsSettled (world facts)) (turns : ℕ) (e
       let same = outcome-and_then query (λ behind. Done (used_visit w way name found behind)) (answers facts) in
       let stands = denoted-declared (seen w.own facts) w.cursor name found.entity denotes_it in
       let behind = outcome query (answers facts) in
-      let used_now : Walk = record (used_after w way name found behind) { own = with_uses (folded name.first) (take found.reach w.cursor) w.own; last = w.last } in
+      let used_now : Walk = record (used_after w way name found behind) { own = with_uses (folded name.first) found.reach w.cursor w.own; last = w.last } in
       subst (λ (v : Visit). At v.after s) (sym same)
       (over-base way found.entity.path w.last used_now s refl
-      (walks-on w used_now s h (uses-grow (folded name.first) (take found.reach w.cursor) w.own h.grown) refl refl refl (same-bodies w.bodies)
+      (walks-on w used_now s h (uses-grow (folded name.first) found.reach w.cursor w.own h.grown) refl refl refl (same-bodies w.bodies)
       (bases-used way name w s found behind stands (ap (λ (v : Visit). v.faults) (sym same) ∙ none) h)))
   used-by-walks way name w s (Err (Faulty why part)) up denotes_it none h = cc
   used-by-walks way name w s (Err Memory) up denotes_it none h = absurd up

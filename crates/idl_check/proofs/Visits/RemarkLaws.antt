@@ -16,10 +16,10 @@ use Rattle.idl_entity.specs.declared.identity.Fixed.TheVariants.{Version, Id}
 use Rattle.idl_entity.specs.declared.identity.Identity.{Identity}
 use Rattle.idl_env.specs.Facts.{key_of, over, typeprefix_in}
 use Rattle.idl_env.specs.declared.additions.addition.Addition.{Addition}
-use Rattle.idl_env.specs.declared.additions.addition.Addition.TheVariants.{Appears, Declares, Identifies, TypePrefixes, Uses}
+use Rattle.idl_env.specs.declared.additions.addition.Addition.TheVariants.{Appears, Declares, Identifies, TypePrefixes, Uses, UsesFurther}
 use Rattle.idl_env.specs.declared.answering.answer.Answer.{Answer}
 use Rattle.idl_env.specs.declared.keys.key.Key.{Key}
-use Rattle.idl_env.specs.declared.keys.key.Key.TheVariants.{Declared, Typeprefix}
+use Rattle.idl_env.specs.declared.keys.key.Key.TheVariants.{Declared, Introduced, Typeprefix}
 use Rattle.idl_env.specs.keys.Key.{key_eq}
 use Rattle.idl_parts.specs.declared.part.TextPurpose.{TextPurpose}
 use Rattle.idl_parts.specs.declared.part.TextPurpose.TheVariants as purpose
@@ -44,6 +44,16 @@ of-ids-apart (TypePrefixes path text) n q h = refl
 of-ids-apart (Declares e) n q h = absurd h
 of-ids-apart (Uses m path body) n q h = absurd h
 of-ids-apart (Appears path prefix) n q h = absurd h
+of-ids-apart (UsesFurther m path further) n q h = absurd h
+
+-- nor at an introduced one
+pub of-ids-unused : (a : Addition) (n : List ℕ) (q : List (List ℕ)) (body : ℕ) → IsOfIds a → key_eq (Introduced n q body) (key_of a) ≡ false
+of-ids-unused (Identifies path d) n q body h = refl
+of-ids-unused (TypePrefixes path text) n q body h = refl
+of-ids-unused (Declares e) n q body h = absurd h
+of-ids-unused (Uses m path other) n q body h = absurd h
+of-ids-unused (Appears path prefix) n q body h = absurd h
+of-ids-unused (UsesFurther m path further) n q body h = absurd h
 
 abbrev pub StandsSo : ℕ → Fault → Type 0
 StandsSo at f = f.index ≡ at

@@ -1,5 +1,5 @@
 -- Used names: what they may denote where they stand, and what bases bring.
-use Rattle.std.specs.Prelude.{ℕ, Bool, true, false, List, [], ◌∷◌, fold, length, map, Option, Some, if◌then◌else◌}
+use Rattle.std.specs.Prelude.{ℕ, Bool, true, false, List, [], ◌∷◌, ◌++◌, drop, fold, length, map, take, Option, None, Some, if◌then◌else◌}
 use Rattle.std.specs.Str.{bytes_eq}
 use Rattle.idl_map.specs.Table.{insert_entry}
 use Rattle.idl_check.specs.tables.Codes.{Table}
@@ -11,17 +11,19 @@ use Rattle.idl_fault.specs.declared.code.Code.{Code}
 use Rattle.idl_fault.specs.declared.code.Code.TheVariants as code
 use Rattle.idl_lex.specs.kinds.Keywords.{folded}
 use Rattle.idl_entity.specs.DataType.{plain_type}
-use Rattle.idl_env.specs.Facts.{joined, with_addition}
+use Rattle.idl_env.specs.Facts.{joined, over, with_addition}
 use Rattle.idl_entity.specs.Path.{name_of}
 use Rattle.idl_env.specs.declared.additions.addition.Addition.{Addition}
-use Rattle.idl_env.specs.declared.additions.addition.Addition.TheVariants.{Declares, Uses}
+use Rattle.idl_env.specs.declared.additions.addition.Addition.TheVariants.{Declares, Uses, UsesFurther}
 use Rattle.idl_env.specs.declared.answering.answer.Scope.{Scope}
 use Rattle.idl_entity.specs.declared.data_type.DataType.{DataType}
 use Rattle.idl_entity.specs.declared.data_type.Element.TheVariants.{Named}
 use Rattle.idl_entity.specs.declared.entity.Entity.{Entity}
 use Rattle.idl_entity.specs.declared.kind.Stage.TheVariants.{Open}
+use Rattle.idl_scope.specs.Meaning.{undeclared}
 use Rattle.idl_scope.specs.declared.fault.NameCode.{NameCode}
 use Rattle.idl_scope.specs.declared.fault.NameCode.TheVariants.{Undeclared, Ambiguous, OtherSpelling, NoScope}
+use Rattle.idl_scope.specs.declared.found.Reach.{Reach}
 use Rattle.idl_parts.specs.declared.part.Use.{Use}
 use Rattle.idl_parts.specs.declared.part.Use.TheVariants.{AsBase, AsStructBase, AsType, AsElement, AsConstantType, AsDiscriminator, AsOperand}
 use Rattle.idl_value.specs.declared.constant_type.ConstantType.{ConstantType}
@@ -116,9 +118,26 @@ unions_after AsDiscriminator behind unions =
     no_labels (constants_of behind) (length behind.enumerators) ∷ unions
 unions_after other behind unions = unions
 
--- the use of a folded name introduces it into these scopes
-abbrev pub with_uses : List ℕ → List Scope → List Addition → List Addition
-with_uses n scopes own = fold with_addition own (map (λ s. Uses n s.path s.body) scopes)
+-- uses of a folded name that go further outward, into these scopes: each unless it, one inside it or
+-- one of those before them itself declares the name
+abbrev pub further_uses : List ℕ → List (List (List ℕ)) → List Scope → List Addition
+further_uses n before [] = []
+further_uses n before (s ∷ scopes) =
+    let unless = before ++ s.path ∷ [] in
+    UsesFurther n s.path (record { body = s.body; unless = unless })
+    ∷ further_uses n unless scopes
+
+-- the use of a folded name in these scopes that goes so far, where a unit's earlier tokens add this:
+-- further outward it goes up to the first scope in which these declare the name
+abbrev pub uses_of : List ℕ → Reach → List Scope → List Addition → List Addition
+uses_of n r scopes own =
+    map (λ s. Uses n s.path s.body) (take r.certain scopes)
+    ++ further_uses n []
+    (undeclared (λ k. over own k None) n (take r.further (drop r.certain scopes)))
+
+-- with that use
+abbrev pub with_uses : List ℕ → Reach → List Scope → List Addition → List Addition
+with_uses n r scopes own = fold with_addition own (uses_of n r scopes own)
 
 -- the struct that was declared last is open over what is used as its base
 abbrev pub last_after : Use → List (List ℕ) → Option Entity → Option Entity

@@ -1,6 +1,6 @@
 -- The walk over the sites of a unit, in the order of its tokens: what is asked at each, what is
 -- wrong there, and what it adds.
-use Rattle.std.specs.Prelude.{ℕ, ◌+◌, Bool, false, ◌&&◌, ◌||◌, List, [], ◌∷◌, ◌++◌, drop, fold, is_some, min, nat_lt, not, take, Option, None, Some, Result, Ok, Err, if◌then◌else◌, option_to_list}
+use Rattle.std.specs.Prelude.{ℕ, ◌+◌, Bool, false, ◌&&◌, ◌||◌, List, [], ◌∷◌, ◌++◌, drop, fold, is_some, min, nat_lt, not, Option, None, Some, Result, Ok, Err, if◌then◌else◌, option_to_list}
 use Rattle.idl_check.specs.ids.About.{Said, unnamed_faults}
 use Rattle.idl_check.specs.ids.Remarks.{is_bad_text, purpose_of, remark}
 use Rattle.idl_check.specs.told.Bodies.{Body, Clauses, array_of, begun_body, no_clauses, told_innermost, with_array_member, with_body_label, with_text, with_member, with_raised}
@@ -142,7 +142,7 @@ abbrev pub used_after : Walk → Use → ScopedName → Found → Entity → Wal
 used_after w way name found behind = record w {
   at = last_at w.at name + 1;
   own = own_after way (last_after way found.entity.path w.last)
-      (with_uses (folded name.first) (take found.reach w.cursor) w.own);
+      (with_uses (folded name.first) found.reach w.cursor w.own);
   last = last_after way found.entity.path w.last;
   bases = bases_after way found.entity w.bases;
   written = record w.written {

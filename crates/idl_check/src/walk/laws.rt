@@ -3,12 +3,16 @@
 //! Each function does nothing: it carries its laws as clauses. They hold over any answers, and for
 //! any number of turns. `fitting` alone looks at a unit that a program holds.
 
-ghost use Rattle.std.specs.Prelude.{◌≡◌, ◌≢◌, ◌↔◌, ◌+◌, ◌++◌, ◌<◌, ◌≤◌, Bool, ℕ, List, [], ◌∷◌, All, Contains, codes, decimal, false, length, take, true, Err, None, Ok, Option, Some};
+ghost use Rattle.std.specs.Prelude.{◌≡◌, ◌≢◌, ◌↔◌, ◌+◌, ◌++◌, ◌<◌, ◌≤◌, Bool, ℕ, List, [], ◌∷◌, All, Contains, codes, decimal, false, fold, length, take, true, Err, None, Ok, Option, Some, map};
 ghost use Rattle.std.specs.Option.{IsSome};
 ghost use Rattle.idl_check.specs.walk.AllFaults.{site_faults, unit_faults};
+ghost use Rattle.idl_check.specs.tables.Using.{uses_of};
 ghost use Rattle.idl_check.specs.walk.Closing.{AreTold, HasOperation};
 ghost use Rattle.idl_check.specs.tables.Declaring.{standing};
+ghost use Rattle.idl_check.specs.ids.About.{about};
 ghost use Rattle.idl_check.specs.ids.Identifying.{changed};
+ghost use Rattle.idl_check.specs.ids.Remarks.{purpose_of, unless};
+ghost use Rattle.idl_check.specs.tables.Rules.{is_no_id};
 ghost use Rattle.idl_check.specs.walk.Placing.{faulty_step, step_of};
 ghost use Rattle.idl_check.specs.walk.Judging.{FitsMemory, IsNotAfter, IsSound, IsSpoken, refused_keys, spoken_from, spoken_till, used_names, walked, without_name};
 ghost use Rattle.idl_dump.specs.Row.{Rest, unit_text};
@@ -20,20 +24,24 @@ ghost use Rattle.idl_fault.specs.declared.code.Code.TheVariants.{NoTree};
 ghost use Rattle.idl_lex.specs.kinds.Keywords.{folded};
 ghost use Rattle.idl_lex.specs.tokens.Tokens.{Token};
 ghost use Rattle.idl_memo.specs.Query.{asked, outcome, run};
-ghost use Rattle.idl_env.specs.Facts.{UnitFacts, answers, entity_key, scopes_in};
+ghost use Rattle.idl_env.specs.Facts.{UnitFacts, addition_at, answers, entity_key, scopes_in, with_addition, key_of, unstopped};
 ghost use Rattle.idl_entity.specs.Identity.{first_identity, identity_of, is_within, prefixed, relative, slashed, told};
 ghost use Rattle.idl_entity.specs.declared.identity.Fixed.TheVariants.{Version, Id};
 ghost use Rattle.idl_env.specs.keys.Key.{key_eq};
 ghost use Rattle.idl_env.specs.declared.keys.key.Key.{Key};
-ghost use Rattle.idl_env.specs.declared.keys.key.Key.TheVariants.{Cursor};
+ghost use Rattle.idl_env.specs.declared.keys.key.Key.TheVariants.{Cursor, Declared, Introduced};
+ghost use Rattle.idl_env.specs.declared.additions.addition.Addition.{Addition};
 ghost use Rattle.idl_scope.specs.Lookup.{denoted, under};
 ghost use Rattle.idl_entity.specs.Kind.{inherits};
-ghost use Rattle.idl_scope.specs.Meaning.{Denotes, InheritsOperation, Reaches, Through, bases_at, entity_found, seen};
+ghost use Rattle.idl_scope.specs.Meaning.{Denotes, InheritsOperation, Reaches, Through, bases_at, entity_found, reached_by, seen};
 ghost use Rattle.idl_entity.specs.Path.{name_of, scope_of};
 ghost use Rattle.idl_env.specs.Turns.{turns_for};
 ghost use Rattle.idl_scope.specs.declared.found.Found.{Found};
+ghost use Rattle.idl_scope.specs.declared.found.Reach.{Reach};
 ghost use Rattle.idl_parts.specs.Part.{Part as item};
+ghost use Rattle.idl_parts.specs.declared.part.TextPurpose.{TextPurpose};
 ghost use Rattle.idl_parts.specs.declared.part.Use.{Use};
+ghost use Rattle.idl_parts.specs.declared.part.Use.TheVariants.{AsIdentified};
 ghost use Rattle.idl_tree.specs.declared.expression.Expression.{Expression};
 ghost use Rattle.idl_tree.specs.declared.name.ScopedName.{ScopedName};
 ghost use Rattle.idl_value.specs.Names.{name_count};
@@ -262,7 +270,8 @@ pub fn more_turns()
 {}
 
 /// Where a unit uses a name, it denotes what the scoping rules say, over the facts before the unit
-/// and what its earlier tokens add, and its use is introduced into the scopes that they tell. A
+/// and what its earlier tokens add, and its use is introduced into the scopes that they tell: into
+/// these are the uses that it adds and that are not stopped over the facts before the unit. A
 /// pragma's name denotes what they say over the facts before it. Where a unit declares a name, it is
 /// told just where an operation or attribute of that name is inherited, and where a struct reaches
 /// anything of that name through its base.
@@ -277,6 +286,10 @@ pub fn denoting()
         → let query = under w.own (denoted (turns_at turns w) w.cursor name) in
         outcome query (answers facts) ≡ Ok found
         → Reaches (seen w.own facts) w.cursor name found.reach }
+    ensures used { (facts : List UnitFacts) (own : List Addition) (n : List ℕ) (r : Reach)
+        (cursor : List Scope)
+        → map key_of (unstopped (answers facts) (uses_of n r cursor own))
+        ≡ map (λ s. Introduced n s.path s.body) (reached_by (seen own facts) n cursor r) }
     ensures path { (facts : List UnitFacts) (turns : ℕ) (w : Walk) (way : Use) (name : ScopedName)
         (found : Found)
         → let query = under w.own (denoted (turns_at turns w) w.cursor name) in
@@ -301,6 +314,24 @@ pub fn denoting()
         ((outcome query (answers facts)).is_reached ≡ true)
         ↔ ((f : Entity) × (inherits s.kind ≡ true)
         × Through after (folded (name_of e.path)) (bases_at after s.path) f) }
+{}
+
+/// What a `typeid` says of what its name denotes is what the pragma of an id says of that, and is added where its text may be an id.
+/// By it, and by a `typeprefix`, no name is declared or introduced.
+pub fn speaking()
+    ensures id { (turns : ℕ) (answers : Key → Option Answer) (w : Walk) (name : ScopedName)
+        → let query = about w.at (turns_at turns w) w.cursor name (Id w.text) in
+        let said = outcome (under w.own query) answers in
+        let v = outcome (visit turns (item.Uses AsIdentified name) w) answers in
+        (v.faults ≡ said.faults)
+        × (v.after.own ≡ fold with_addition w.own (unless (is_no_id w.text) said).additions) }
+    ensures alone { (turns : ℕ) (answers : Key → Option Answer) (w : Walk) (way : Use)
+        (purpose : TextPurpose) (name : ScopedName) (n : List ℕ) (path : List (List ℕ)) (body : ℕ)
+        → purpose_of way ≡ Some purpose
+        → let own = (outcome (visit turns (item.Uses way name) w) answers).after.own in
+        (addition_at own (Declared n path) ≡ addition_at w.own (Declared n path))
+        × (addition_at own (Introduced n path body)
+        ≡ addition_at w.own (Introduced n path body)) }
 {}
 
 /// The operations and attributes of a closed interface are those that the scoping rules reach from

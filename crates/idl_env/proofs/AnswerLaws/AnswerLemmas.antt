@@ -7,7 +7,7 @@ use Rattle.idl_env.specs.Held.{HaveOwnKeys}
 use Rattle.idl_env.specs.keys.Key.{key_eq}
 use Rattle.idl_env.specs.SameKey.{same_key}
 use Rattle.idl_env.specs.declared.additions.addition.Addition.{Addition}
-use Rattle.idl_env.specs.declared.additions.addition.Addition.TheVariants.{Declares, Uses, Appears, Identifies, TypePrefixes}
+use Rattle.idl_env.specs.declared.additions.addition.Addition.TheVariants.{Declares, Uses, UsesFurther, Appears, Identifies, TypePrefixes}
 use Rattle.idl_env.specs.declared.answering.answer.Answer.{Answer}
 use Rattle.idl_env.specs.declared.keys.key.Key.{Key}
 use Rattle.idl_env.specs.declared.keys.key.Key.TheVariants.{Prefix as PrefixKey}
@@ -54,6 +54,7 @@ pub over_prefix : (additions : List Addition) (before : Option Answer) → over 
 over_prefix [] before = refl
 over_prefix (Declares e ∷ additions) before = over_prefix additions before
 over_prefix (Uses n path body ∷ additions) before = over_prefix additions before
+over_prefix (UsesFurther n path further ∷ additions) before = over_prefix additions before
 over_prefix (Appears path prefix ∷ additions) before = over_prefix additions before
 over_prefix (Identifies path identity ∷ additions) before = over_prefix additions before
 over_prefix (TypePrefixes path text ∷ additions) before = over_prefix additions before

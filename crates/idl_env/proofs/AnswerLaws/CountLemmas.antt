@@ -1,10 +1,10 @@
 -- No count is greater than the number of units.
 use Rattle.std.proofs.Common.{◌≡◌, ℕ, suc, ◌+◌, ◌≤◌, Bool, true, false, cond, List, [], ◌∷◌, ◌++◌, Option, Some, None, length, refl, arith}
-use Rattle.idl_env.specs.Facts.{UnitFacts, World, addition_at, after, after_all, after_closing, after_nameless, after_opening, after_step, answer_of, closing, count_in, first_world, given_back, nameless, next_body, over, path_around, scopes_in, with_additions, with_answer, with_prefix, world}
+use Rattle.idl_env.specs.Facts.{UnitFacts, World, addition_at, after, after_all, after_closing, after_nameless, after_opening, after_step, answer_of, closing, count_in, first_world, given_back, nameless, next_body, over, path_around, scopes_in, unstopped, with_additions, with_answer, with_prefix, world}
 use Rattle.idl_entity.specs.Identity.{no_prefix}
 use Rattle.idl_env.specs.keys.Key.{key_eq}
 use Rattle.idl_env.specs.declared.additions.addition.Addition.{Addition}
-use Rattle.idl_env.specs.declared.additions.addition.Addition.TheVariants.{Declares, Uses, Appears, Identifies, TypePrefixes}
+use Rattle.idl_env.specs.declared.additions.addition.Addition.TheVariants.{Declares, Uses, UsesFurther, Appears, Identifies, TypePrefixes}
 use Rattle.idl_env.specs.declared.additions.addition.Step.{Step}
 use Rattle.idl_env.specs.declared.additions.addition.Step.TheVariants.{Stays, Opens, OpensNameless, Closes, Prefixes, Enters, Leaves}
 use Rattle.idl_env.specs.declared.answering.answer.Answer.{Answer}
@@ -19,6 +19,7 @@ over_counts : (before : Option Answer) (n : ℕ) → count_in before ≤ n → (
 over_counts before n h None = h
 over_counts before n h (Some (Declares e)) = omega arith
 over_counts before n h (Some (Uses m path body)) = omega arith
+over_counts before n h (Some (UsesFurther m path further)) = omega arith
 over_counts before n h (Some (Appears path prefix)) = omega arith
 over_counts before n h (Some (Identifies path identity)) = omega arith
 over_counts before n h (Some (TypePrefixes path text)) = omega arith
@@ -33,7 +34,7 @@ abbrev pub AtMost : World → ℕ → Type 0
 AtMost w n = (k : Key) → count_in (w.answers k) ≤ n
 
 AtMost-with_additions : (w : World) (n : ℕ) (additions : List Addition) → AtMost w n → AtMost (with_additions additions w) n
-AtMost-with_additions w n additions h k = over_counts (w.answers k) n (h k) (addition_at additions k)
+AtMost-with_additions w n additions h k = over_counts (w.answers k) n (h k) (addition_at (unstopped w.answers additions) k)
 
 AtMost-more : (w : World) (n : ℕ) → AtMost w n → AtMost w (suc n)
 AtMost-more w n h k = let at = h k in omega arith

@@ -1,5 +1,6 @@
 -- Answers beside which those of two keys stand apart.
-use Rattle.std.proofs.Common.{◌≡◌, ◌<◌, List, ◌∷◌, refl, arith}
+use Rattle.std.proofs.Common.{◌≡◌, ◌∙◌, ◌<◌, ℕ, List, ◌∷◌, Result, Ok, Err, None, Some, false, ap, refl, arith}
+use Rattle.std.specs.Prelude.{OnErr, OnOk, if◌then◌else◌}
 use Rattle.std.specs.Map.{lookup}
 use Rattle.idl_env.specs.Facts.{key_of}
 use Rattle.idl_env.specs.Held.{IsAmongOthers}
@@ -8,7 +9,7 @@ use Rattle.idl_env.specs.declared.additions.addition.Addition.{Addition}
 use Rattle.idl_env.specs.declared.additions.addition.Addition.TheVariants.{Declares}
 use Rattle.idl_env.specs.declared.answering.answer.Answer.{Answer}
 use Rattle.idl_env.specs.declared.keys.key.Key.{Key}
-use Rattle.idl_env.specs.declared.keys.key.Key.TheVariants.{Cursor, Prefix}
+use Rattle.idl_env.specs.declared.keys.key.Key.TheVariants.{Cursor, Prefix, Typeprefix}
 
 -- those of the two are asked at no other key
 pub lookup-others : (k : Key) (cursor prefix : Answer) (others : List (Key × Answer)) → IsAmongOthers k → lookup (key_eq k) ((Cursor, cursor) ∷ (Prefix, prefix) ∷ others) ≡ lookup (key_eq k) others
@@ -27,3 +28,13 @@ unfolding key_digest
 among_others-digest Cursor h = omega (h, arith)
 among_others-digest Prefix h = omega (h, arith)
 among_others-digest other h = tt
+
+-- where an answer is put in at no key of a typeprefix, there are as few as before
+pub no-typeprefixes : {A E : Type 0} (r : Result A E) (key : Key) (answer : Answer) (old new : List (Key × Answer))
+    → OnOk r ((k : Key) → lookup (key_eq k) new ≡ (if key_eq k key then Some answer else lookup (key_eq k) old))
+    → OnErr r ((k : Key) → lookup (key_eq k) new ≡ lookup (key_eq k) old)
+    → (path : List (List ℕ)) → key_eq (Typeprefix path) key ≡ false
+    → lookup (key_eq (Typeprefix path)) old ≡ None → lookup (key_eq (Typeprefix path)) new ≡ None
+no-typeprefixes (Ok x) key answer old new put kept path other none =
+    put (Typeprefix path) ∙ ap (λ b. if b then Some answer else lookup (key_eq (Typeprefix path)) old) other ∙ none
+no-typeprefixes (Err x) key answer old new put kept path other none = kept (Typeprefix path) ∙ none

@@ -12,7 +12,7 @@ use Rattle.idl_env.specs.keys.Key.{key_eq}
 use Rattle.idl_entity.specs.Kind.{kind_eq}
 use Rattle.idl_entity.specs.declared.kind.Kind.TheVariants.{Interface}
 use Rattle.idl_env.specs.declared.additions.addition.Addition.{Addition}
-use Rattle.idl_env.specs.declared.additions.addition.Addition.TheVariants.{Declares, Uses, Appears, Identifies, TypePrefixes}
+use Rattle.idl_env.specs.declared.additions.addition.Addition.TheVariants.{Declares, Uses, UsesFurther, Appears, Identifies, TypePrefixes}
 use Rattle.idl_env.specs.declared.answering.answer.Answer.{Answer}
 use Rattle.idl_env.specs.declared.answering.answer.Answer.TheVariants.{Open, Count, InForce}
 use Rattle.idl_env.specs.declared.answering.answer.Scope.{Scope}
@@ -79,6 +79,7 @@ count-over additions k before n h = by (addition_at additions k)
     by None = h
     by (Some (Declares e)) = none
     by (Some (Uses m path body)) = none
+    by (Some (UsesFurther m path further)) = none
     by (Some (Appears path prefix)) = none
     by (Some (Identifies path identity)) = none
     by (Some (TypePrefixes path text)) = none

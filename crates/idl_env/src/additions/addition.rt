@@ -5,6 +5,7 @@ ghost use Rattle.idl_env.specs.Facts.{answer_of, key_of, operations_among};
 ghost use Rattle.idl_env.specs.keys.HeldKey.{key_in};
 ghost use Rattle.idl_env.specs.keys.Key.{key_digest, key_eq};
 
+use crate::additions::further::Further;
 use crate::answering::answer::Answer;
 use crate::keys::digested::DigestedKey;
 use crate::keys::held_key::HeldKey;
@@ -21,6 +22,8 @@ pub enum Addition {
     Declares(Shared<Entity>),
     /// A folded name is introduced into the body with this number of the scope at a path.
     Uses(OwnName, Path, usize),
+    /// The same, unless a scope on the way outward that wasn't asked itself declares the name.
+    UsesFurther(OwnName, Path, Shared<Further>),
     /// What has an id is declared first, at a path and under this prefix: the two tell its id.
     Appears(Path, Shared<Prefix>),
     /// What is declared at a path is identified so from now on.
@@ -68,6 +71,11 @@ impl Addition {
                 name.spelling().as_bytes(),
                 *body,
             ),
+            Addition::UsesFurther(name, path, further) => introduced(
+                path.digest(),
+                name.spelling().as_bytes(),
+                further.get().body,
+            ),
             Addition::Appears(path, _) | Addition::Identifies(path, _) => {
                 identified(path.digest())
             }
@@ -84,6 +92,9 @@ impl Addition {
             Addition::Declares(entity) => HeldKey::of_entity(alloc, entity.get().path())?,
             Addition::Uses(name, path, body) => {
                 HeldKey::introduced(alloc, name.clone()?, path.clone()?, *body)?
+            }
+            Addition::UsesFurther(name, path, further) => {
+                HeldKey::introduced(alloc, name.clone()?, path.clone()?, further.get().body)?
             }
             Addition::Appears(path, _) | Addition::Identifies(path, _) => {
                 HeldKey::id_of(alloc, path.clone()?)?
@@ -104,6 +115,10 @@ impl Addition {
                 (key, Answer::Known(entity))
             }
             Addition::Uses(name, path, body) => {
+                (HeldKey::introduced(alloc, name, path, body)?, Answer::Used)
+            }
+            Addition::UsesFurther(name, path, further) => {
+                let body = further.get().body;
                 (HeldKey::introduced(alloc, name, path, body)?, Answer::Used)
             }
             Addition::Appears(path, prefix) => {
@@ -131,6 +146,16 @@ impl Addition {
             (Addition::Uses(name, path, body), Addition::Uses(word, scope, number)) => {
                 name.is(word) && *path == *scope && *body == *number
             }
+            (Addition::Uses(name, path, body), Addition::UsesFurther(word, scope, further)) => {
+                name.is(word) && *path == *scope && *body == further.get().body
+            }
+            (Addition::UsesFurther(name, path, further), Addition::Uses(word, scope, number)) => {
+                name.is(word) && *path == *scope && further.get().body == *number
+            }
+            (
+                Addition::UsesFurther(name, path, further),
+                Addition::UsesFurther(word, scope, other),
+            ) => name.is(word) && *path == *scope && further.get().body == other.get().body,
             (
                 Addition::Appears(path, _) | Addition::Identifies(path, _),
                 Addition::Appears(same, _) | Addition::Identifies(same, _),
@@ -160,7 +185,7 @@ impl Addition {
     {
         match self {
             Addition::Declares(entity) => Ok(Answer::Known(entity.clone()?)),
-            Addition::Uses(_, _, _) => Ok(Answer::Used),
+            Addition::Uses(_, _, _) | Addition::UsesFurther(_, _, _) => Ok(Answer::Used),
             Addition::Appears(path, prefix) => {
                 Ok(Answer::Appeared(prefix_for(alloc, path, prefix.clone()?)?))
             }

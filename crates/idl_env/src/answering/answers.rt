@@ -1,12 +1,12 @@
 //! The answers at their keys.
 
-ghost use Rattle.std.specs.Prelude.{◌≡◌, ◌∷◌, [], IfOk, OnOk, Some, if◌then◌else◌};
+ghost use Rattle.std.specs.Prelude.{◌≡◌, ◌∷◌, [], ℕ, IfOk, IsFalse, List, None, OnOk, Some, if◌then◌else◌};
 ghost use Rattle.std.specs.Map.{lookup};
 ghost use Rattle.std.specs.Option.{option_copied};
 ghost use Rattle.idl_env.specs.Held.{IsAmongOthers};
 ghost use Rattle.idl_env.specs.keys.Key.{key_eq};
 ghost use Rattle.idl_env.specs.declared.keys.key.Key.{Key};
-ghost use Rattle.idl_env.specs.declared.keys.key.Key.TheVariants.{Cursor, Prefix};
+ghost use Rattle.idl_env.specs.declared.keys.key.Key.TheVariants.{Cursor, Prefix, Typeprefix};
 
 use crate::answering::answer::Answer;
 use crate::keys::digested::DigestedKey;
@@ -24,11 +24,15 @@ const LAST_APART: u64 = 262;
 pub struct Answers {
     cursor: Answer,
     prefix: Answer,
+    // Whether a scope may have a typeprefix. Few roots have any, and each id that is told asks for those of the scopes around.
+    has_typeprefixes: bool,
     others: Map<DigestedKey, Answer>,
 }
 
 impl Model for Answers {
-    ghost use Rattle.std.specs.Prelude.{List, ◌∷◌};
+    ghost use Rattle.std.specs.Prelude.{◌≡◌, ◌∷◌, ℕ, IsFalse, List, None};
+    ghost use Rattle.std.specs.Map.{lookup};
+    ghost use Rattle.idl_env.specs.keys.Key.{key_eq};
     ghost use Rattle.idl_env.specs.declared.answering.answer.Answer.{Answer};
     ghost use Rattle.idl_env.specs.declared.keys.key.Key.{Key};
     ghost use Rattle.idl_env.specs.declared.keys.key.Key.TheVariants as keys;
@@ -37,6 +41,9 @@ impl Model for Answers {
 
     ghost view = { λ answers.
         (keys.Cursor, answers.cursor) ∷ (keys.Prefix, answers.prefix) ∷ answers.others };
+
+    ghost invariant = { λ answers. IsFalse answers.has_typeprefixes
+        → (path : List (List ℕ)) → lookup (key_eq (keys.Typeprefix path)) answers.others ≡ None };
 }
 
 impl Drop for Answers {
@@ -44,6 +51,7 @@ impl Drop for Answers {
         let Answers {
             cursor: _cursor,
             prefix: _prefix,
+            has_typeprefixes: _has_typeprefixes,
             others: _others,
         } = self;
     }
@@ -58,6 +66,7 @@ impl Answers {
         Ok(Answers {
             cursor,
             prefix,
+            has_typeprefixes: false,
             others,
         })
     }
@@ -76,6 +85,15 @@ impl Answers {
         ensures { Some result.now ≡ lookup (key_eq Prefix) self.now }
     {
         &self.prefix
+    }
+
+    /// Whether a scope may have a typeprefix.
+    #[inline]
+    pub fn has_typeprefixes(&self) -> bool
+        ensures { IsFalse result
+            → (path : List (List ℕ)) → lookup (key_eq (Typeprefix path)) self.now ≡ None }
+    {
+        self.has_typeprefixes
     }
 
     /// The answer at a key, or nothing.
@@ -142,6 +160,7 @@ impl Answers {
             → lookup (key_eq k) self.new
             ≡ (if key_eq k key then Some answer else lookup (key_eq k) self.old)) }
     {
+        self.has_typeprefixes |= key.held().is_typeprefix();
         self.others.insert(key, answer)
     }
 }

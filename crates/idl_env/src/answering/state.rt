@@ -2,7 +2,7 @@
 
 ghost use Rattle.std.specs.Prelude.{◌≡◌, ◌<◌, ◌∷◌, ◌++◌, [], IfOk, drop, map, OnOk, option_to_list, reverse};
 ghost use Rattle.std.specs.Option.{option_map};
-ghost use Rattle.idl_env.specs.Facts.{after, after_step, closed, closing, first_world, given_back, inherited, innermost, nameless, next_body, path_around, prefix_in, with_additions, count_in, entity_in, scopes_in, over};
+ghost use Rattle.idl_env.specs.Facts.{after, after_step, closed, closing, first_world, given_back, inherited, innermost, nameless, next_body, path_around, prefix_in, with_additions, count_in, entity_in, scopes_in, over, unstopped};
 ghost use Rattle.idl_env.specs.Held.{closable, held};
 ghost use Rattle.idl_env.specs.keys.Key.{key_eq};
 ghost use Rattle.idl_env.specs.declared.additions.addition.Addition.TheVariants.{Declares};
@@ -110,7 +110,7 @@ impl State {
         ensures { OnOk result
             (held self.new ≡ with_additions facts.now.additions (held self.old)) }
     {
-        put_all(alloc, &mut self.answers, facts)?;
+        put_unstopped(alloc, &mut self.answers, facts)?;
         add_inside(&mut self.inside, facts)
     }
 
@@ -327,6 +327,22 @@ fn closed(
     Ok(entity)
 }
 
+// The answers with those of the additions that are not stopped.
+fn put_unstopped(alloc: Global, answers: &mut Answers, facts: &Facts) -> Result<(), AllocError>
+    ensures { OnOk result
+        ((k : Key)
+        → lookup (key_eq k) answers.new
+        ≡ over (unstopped (λ q. lookup (key_eq q) answers.old) facts.now.additions) k
+        (lookup (key_eq k) answers.old)) }
+{
+    if !facts.may_be_stopped() {
+        return put_all(alloc, answers, facts);
+    }
+    let left = facts.unstopped(alloc, answers)?;
+    put_few(alloc, answers, left)?;
+    Ok(())
+}
+
 // The answers with those of the additions.
 fn put_all(alloc: Global, answers: &mut Answers, facts: &Facts) -> Result<(), AllocError>
     ensures { OnOk result
@@ -345,8 +361,24 @@ fn put_all(alloc: Global, answers: &mut Answers, facts: &Facts) -> Result<(), Al
     Ok(())
 }
 
-// The same with additions that are taken out of the facts, unless they are many.
+// The same, where the additions may be taken out of the facts.
 fn put_own(alloc: Global, answers: &mut Answers, facts: &mut Facts) -> Result<(), AllocError>
+    ensures answers { OnOk result
+        ((k : Key)
+        → lookup (key_eq k) answers.new
+        ≡ over (unstopped (λ q. lookup (key_eq q) answers.old) facts.old.additions) k
+        (lookup (key_eq k) answers.old)) }
+    ensures step { OnOk result (facts.new.step ≡ facts.old.step) }
+{
+    if facts.may_be_stopped() {
+        return put_unstopped(alloc, answers, facts);
+    }
+    put_taken(alloc, answers, facts)
+}
+
+// The answers with those of the additions, which are taken out of the facts, unless they are many.
+#[inline]
+fn put_taken(alloc: Global, answers: &mut Answers, facts: &mut Facts) -> Result<(), AllocError>
     ensures answers { OnOk result
         ((k : Key)
         → lookup (key_eq k) answers.new ≡ over facts.old.additions k (lookup (key_eq k) answers.old)) }
@@ -360,7 +392,7 @@ fn put_own(alloc: Global, answers: &mut Answers, facts: &mut Facts) -> Result<()
     Ok(())
 }
 
-// The same with these additions; their list, in which none is left.
+// The answers with those of these additions; their list, in which none is left.
 fn put_few(
     alloc: Global,
     answers: &mut Answers,

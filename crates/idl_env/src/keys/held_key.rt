@@ -1,6 +1,6 @@
 //! Keys as they are held: small, since an environment holds many.
 
-ghost use Rattle.std.specs.Prelude.{◌≡◌, IfOk};
+ghost use Rattle.std.specs.Prelude.{◌≡◌, ℕ, IfOk, IsFalse, List, false};
 ghost use Rattle.idl_env.specs.Facts.{entity_key};
 ghost use Rattle.idl_env.specs.keys.HeldKey.{key_in};
 ghost use Rattle.idl_env.specs.keys.Key.{key_eq};
@@ -139,6 +139,19 @@ impl HeldKey {
         match self {
             HeldKey::Prefix => true,
             HeldKey::Whole(key) => matches!(**key, Key::Prefix),
+            _ => false,
+        }
+    }
+
+    /// Whether it is the key of a typeprefix.
+    #[inline]
+    pub(crate) fn is_typeprefix(&self) -> bool
+        ensures { IsFalse result
+            → (path : List (List ℕ)) → key_eq (keys.Typeprefix path) (key_in self.now) ≡ false }
+    {
+        match self {
+            HeldKey::Typeprefix(_) => true,
+            HeldKey::Whole(key) => matches!(**key, Key::Typeprefix(_)),
             _ => false,
         }
     }

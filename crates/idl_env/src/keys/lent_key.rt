@@ -170,6 +170,9 @@ impl<'a> LentKey<'a> {
             (Parts::Introduced(path, scope, body), Addition::Uses(name, other, number)) => {
                 path.has_folded(name.spelling()) && **scope == *other && *body == *number
             }
+            (Parts::Introduced(path, scope, body), Addition::UsesFurther(name, other, further)) => {
+                path.has_folded(name.spelling()) && **scope == *other && *body == further.get().body
+            }
             (Parts::IdOf(path), Addition::Appears(other, _) | Addition::Identifies(other, _)) => {
                 **path == *other
             }

@@ -1,12 +1,12 @@
 //! What was kept of a root's units, gone through beside the units that stand there now.
 
 ghost use Rattle.std.specs.Prelude.{◌≡◌, ◌-◌, ◌∷◌, ◌++◌, [], false, IfOk, IfSome, IsFalse, IsTrue, List};
-ghost use Rattle.idl_root.specs.Followed.{AreBeside, IsFollowed, IsNext, StayAlike};
+ghost use Rattle.idl_root.specs.Followed.{AreBeside, IsFollowed, IsNext, LookElsewhere, StayAlike};
 ghost use Rattle.idl_root.specs.Kept.{IsJudged, added_by};
 ghost use Rattle.idl_root.specs.declared.kept.kept_units.KeptUnit.{KeptUnit as RootKeptUnit};
 ghost use Rattle.idl_root.specs.declared.kept.kept_units.KeptUnit.TheVariants.{Judged};
 ghost use Rattle.idl_env.specs.Facts.{UnitFacts, operations_among};
-ghost use Rattle.idl_env.specs.declared.additions.addition.Step.TheVariants.{Closes};
+ghost use Rattle.idl_env.specs.declared.additions.addition.Step.TheVariants.{Closes, Stays};
 
 use crate::kept::changed::Changed;
 use crate::kept::kept_units::{Judgement, KeptUnit, KeptUnits};
@@ -400,9 +400,24 @@ fn stay_alike(
     ensures { IfOk result (λ stay.
         IsTrue stay → StayAlike is_around env.now changed.now facts.now) }
 {
-    if is_around {
-        return Ok(matches!(facts.step(), Step::Stays));
+    if is_around && !changes_no_scope(facts) {
+        return Ok(false);
     }
+    look_elsewhere(env, changed, facts)
+}
+
+// Whether facts change no open scope, file or prefix.
+fn changes_no_scope(facts: &Facts) -> bool
+    ensures { IsTrue result → facts.now.step ≡ Stays }
+{
+    matches!(facts.step(), Step::Stays)
+}
+
+// Whether facts look at no key of these digests.
+fn look_elsewhere(env: &Env, changed: &Changed, facts: &Facts) -> Result<bool, AllocError>
+    ensures { IfOk result (λ elsewhere.
+        IsTrue elsewhere → LookElsewhere env.now changed.now facts.now) }
+{
     match env.digests_looked_at(facts)? {
         Some(looked) => Ok(changed.shares_none(looked.as_slice())),
         None => Ok(false),

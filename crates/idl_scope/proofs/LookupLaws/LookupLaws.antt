@@ -1,5 +1,5 @@
 -- The laws of names, from what lookup comes to.
-use Rattle.std.proofs.Common.{◌≡◌, ℕ, ◌+◌, ◌≤◌, Bool, true, false, cond, List, ◌++◌, length, take, Option, Some, Result, Ok, Err, length-append, subst, ap, ◌∙◌, arith, sym}
+use Rattle.std.proofs.Common.{◌≡◌, ℕ, ◌+◌, ◌≤◌, Bool, true, false, cond, List, [], ◌++◌, length, Option, Some, Result, Ok, Err, length-append, subst, ap, ◌∙◌, arith, sym}
 use Rattle.std.specs.Prelude.{◌≢◌, ◌↔◌, AllPairs, Contains, IfOk, MatchBool}
 use Rattle.idl_lex.specs.kinds.Keywords.{folded}
 use Rattle.idl_memo.specs.Query.{outcome, run}
@@ -7,8 +7,8 @@ use Rattle.idl_tree.specs.declared.name.ScopedName.{ScopedName}
 use Rattle.idl_env.specs.Turns.{bases_among, bases_named, declared_among, declared_named, HasTurnsFor, turns_among, turns_for}
 use Rattle.idl_env.specs.Facts.{UnitFacts, answers}
 use Rattle.idl_env.specs.keys.Key.{key_eq}
-use Rattle.idl_scope.specs.Lookup.{IfSettled, denoted, has, outward, reach, reached, searched, under}
-use Rattle.idl_scope.specs.Meaning.{Denotes, FirstHas, Has, Introduces, Reaches, Through, bases_at, entity_found, own_at, seen}
+use Rattle.idl_scope.specs.Lookup.{IfSettled, denoted, has, reach, reached, searched, under}
+use Rattle.idl_scope.specs.Meaning.{Denotes, Has, Introduces, Reaches, Through, bases_at, entity_found, own_at, reached_by, seen}
 use Rattle.idl_entity.specs.Path.{name_of, scope_of}
 use Rattle.idl_env.specs.declared.additions.addition.Addition.{Addition}
 use Rattle.idl_env.specs.declared.answering.answer.Answer.{Answer}
@@ -17,14 +17,15 @@ use Rattle.idl_entity.specs.declared.entity.Entity.{Entity}
 use Rattle.idl_scope.specs.declared.fault.NameFault.{NameFault}
 use Rattle.idl_scope.specs.declared.fault.NameFault.TheVariants.{At, Memory}
 use Rattle.idl_scope.specs.declared.found.Found.{Found}
+use Rattle.idl_scope.specs.declared.found.Reach.{Reach}
 use Rattle.idl_env.specs.declared.keys.key.Key.{Key}
 use Rattle.idl_entity.specs.declared.kind.Kind.{Kind}
 use Rattle.idl_env.proofs.Membership.{IsIn-left, IsIn-right, Contains-IsIn, IsIn-Contains, AllPairs-Distinct}
 use Rattle.idl_scope.proofs.FactsLaws.{outcome-under}
-use Rattle.idl_scope.proofs.LookupLaws.Introduced.{first-home, Introduces_in, in_Introduces}
+use Rattle.idl_scope.proofs.LookupLaws.Introduced.{Decides, Introduces_in, in_Introduces}
 use Rattle.idl_scope.proofs.LookupLaws.Meant.{has-Has, denoted-Denotes, denoted-Ok, reached-all}
 use Rattle.idl_scope.proofs.LookupLaws.RunLemmas.{runs}
-use Rattle.idl_scope.proofs.LookupLaws.TurnsLaws.{denoted-same, has-same, outward-same, reached-same}
+use Rattle.idl_scope.proofs.LookupLaws.TurnsLaws.{denoted-same, has-same, reached-same}
 use Rattle.idl_scope.proofs.Worlds.{AreDeclared, AreGrounded, addition-grounded, answers-declared, answers-grounded, bases-among, over-grounded, own_at-home, own_at-name, own_place, places-among, wider-grounded}
 
 -- a fact about a result, whatever it is
@@ -54,16 +55,15 @@ module _ (facts : List UnitFacts) (own : List Addition) where
   own_path n path e h = (own_at-name places (seen own facts) seen-grounded n path e h, own_at-home places (seen own facts) seen-grounded n path e h)
 
   -- a name is introduced into the scopes that the rules tell, and into no others
-  reaches_by : (b : Bool) (cursor : List Scope) (n : List ℕ) (first : Entity) → ((x : Entity) → FirstHas (seen own facts) (searched b cursor) n x → x ≡ first) → (r : ℕ) → r ≡ cond b 0 (reach cursor first)
-      → MatchBool b (r ≡ 0) ((x : Entity) → FirstHas (seen own facts) cursor n x → (s : Scope) → Contains (take r cursor) s ↔ Introduces (seen own facts) cursor n x s)
-  reaches_by true cursor n first only r e = e
-  reaches_by false cursor n first only r e = λ x h s.
+  reaches_by : (b : Bool) (cursor : List Scope) (n : List ℕ) (k : ℕ) (first : Entity) → Decides (seen own facts) n (searched b cursor) k first
+      → (r : Reach) → r ≡ cond b (record { certain = 0; further = 0 }) (reach cursor k first)
+      → MatchBool b (reached_by (seen own facts) n cursor r ≡ []) ((s : Scope) → Contains (reached_by (seen own facts) n cursor r) s ↔ Introduces (seen own facts) cursor n s)
+  reaches_by true cursor n k first d r e = ap (reached_by (seen own facts) n cursor) e
+  reaches_by false cursor n k first d r e = λ s.
       let at_home = own_at-home places (seen own facts) seen-grounded n in
-      let home = first-home (seen own facts) n at_home cursor x h in
-      let far : r ≡ reach cursor x = e ∙ ap (reach cursor) (sym (only x h)) in
-      rw far (
-        λ c. in_Introduces (seen own facts) n at_home x home cursor s (IsIn-Contains s (take (reach cursor x) cursor) c),
-        λ i. Contains-IsIn s (take (reach cursor x) cursor) (Introduces_in (seen own facts) n at_home x home cursor s i),
+      rw e (
+        λ c. in_Introduces (seen own facts) n at_home cursor k first d s (IsIn-Contains s (reached_by (seen own facts) n cursor (reach cursor k first)) c),
+        λ i. Contains-IsIn s (reached_by (seen own facts) n cursor (reach cursor k first)) (Introduces_in (seen own facts) n at_home cursor k first d s i),
       )
 
   module _ (turns : ℕ) (h : HasTurnsFor facts own turns) where
@@ -93,9 +93,6 @@ module _ (facts : List UnitFacts) (own : List Addition) where
     pub denoted-more : (more : ℕ) (cursor : List Scope) (name : ScopedName) (log : List (Key × Option Answer)) → runs own (answers facts) (denoted (turns + more) cursor name) log ≡ runs own (answers facts) (denoted turns cursor name) log
     denoted-more more cursor name log = denoted-same own (answers facts) places seen-grounded turns enough more cursor name log
 
-    pub outward-more : (more : ℕ) (scopes : List Scope) (n : List ℕ) (log : List (Key × Option Answer)) → runs own (answers facts) (outward (turns + more) scopes n) log ≡ runs own (answers facts) (outward turns scopes n) log
-    outward-more more scopes n log = outward-same own (answers facts) places seen-grounded turns enough more scopes n log
-
     pub reached-more : (more : ℕ) (n : List ℕ) (path : List (List ℕ)) (log : List (Key × Option Answer)) → runs own (answers facts) (reached (turns + more) n (bases_at (seen own facts) path)) log ≡ runs own (answers facts) (reached turns n (bases_at (seen own facts) path)) log
     reached-more more n path log = reached-same own (answers facts) places seen-grounded turns enough more n path log
 
@@ -103,9 +100,6 @@ module _ (facts : List UnitFacts) (own : List Addition) where
     module _ (least : ℕ) (log after : List (Key × Option Answer)) where
       pub has-from : (kind : Kind) (path : List (List ℕ)) (n : List ℕ) (es : List Entity) → ((t : ℕ) → least ≤ t → (es, after) ≡ runs own (answers facts) (has t kind path n) log) → (es, after) ≡ runs own (answers facts) (has turns kind path n) log
       has-from kind path n es gives = gives (turns + least) (omega arith) ∙ has-more least kind path n log
-
-      pub outward-from : (scopes : List Scope) (n : List ℕ) (es : List Entity) → ((t : ℕ) → least ≤ t → (es, after) ≡ runs own (answers facts) (outward t scopes n) log) → (es, after) ≡ runs own (answers facts) (outward turns scopes n) log
-      outward-from scopes n es gives = gives (turns + least) (omega arith) ∙ outward-more least scopes n log
 
       pub denoted-from : (cursor : List Scope) (name : ScopedName) (r : Result Found NameFault) → ((t : ℕ) → least ≤ t → (r, after) ≡ runs own (answers facts) (denoted t cursor name) log) → (r, after) ≡ runs own (answers facts) (denoted turns cursor name) log
       denoted-from cursor name r gives = gives (turns + least) (omega arith) ∙ denoted-more least cursor name log
@@ -116,7 +110,7 @@ module _ (facts : List UnitFacts) (own : List Addition) where
     pub reaches : (cursor : List Scope) (name : ScopedName) (found : Found) → outcome (denoted turns cursor name) (seen own facts) ≡ Ok found → Reaches (seen own facts) cursor name found.reach
     reaches cursor name found h =
         let first = denoted-Ok places (seen own facts) seen-grounded turns enough cursor name found h in
-        reaches_by name.is_global cursor (folded name.first) first.0 first.1 found.reach first.2
+        reaches_by name.is_global cursor (folded name.first) first.1 first.0 first.2 found.reach first.3
 
   -- ---- of runs under a unit's own additions, in which however many turns make no difference from some number on
 

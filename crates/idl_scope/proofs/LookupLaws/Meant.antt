@@ -1,5 +1,5 @@
 -- What lookup comes to is what the scoping rules say.
-use Rattle.std.proofs.Common.{◌≡◌, ℕ, ◌+◌, ◌≤◌, Bool, true, false, cond, List, [], ◌∷◌, length, Option, Some, None, Result, Ok, Err, refl, ap, ◌∙◌, sym, inl, inr, subst}
+use Rattle.std.proofs.Common.{◌≡◌, ℕ, suc, ◌+◌, ◌≤◌, Bool, true, false, cond, List, [], ◌∷◌, length, Option, Some, None, Result, Ok, Err, refl, ap, ◌∙◌, sym, inl, inr, subst, arith}
 use Rattle.std.specs.Prelude.{option_to_list, MatchBool}
 use Rattle.std.specs.Str.{bytes_eq}
 use Rattle.std.specs.Cmp.Lexicographic.{bytes_decides}
@@ -10,7 +10,7 @@ use Rattle.idl_memo.proofs.QueryLaws.{outcome-and_then}
 use Rattle.idl_entity.specs.Kind.{inherits, is_scope}
 use Rattle.idl_tree.specs.declared.name.ScopedName.{ScopedName}
 use Rattle.idl_env.specs.Facts.{entity_key, entity_in}
-use Rattle.idl_scope.specs.Lookup.{Lookup, bases_of, choose, reached, has, is_nothing, outward, judged, placed, by_result, part_of, further, reach, searched, found_as, denoted}
+use Rattle.idl_scope.specs.Lookup.{Lookup, bases_of, choose, reached, has, is_nothing, decided, judged, placed, by_result, part_of, first_part, further, reach_of, searched, found_as, denoted}
 use Rattle.idl_scope.specs.Meaning.{own_at, bases_at, Through, Own, Up, Has, FirstHas, Judges, Goes, DenotesIn, Denotes, entity_found}
 use Rattle.idl_entity.specs.Path.{name_of, scope_of}
 use Rattle.idl_env.specs.declared.answering.answer.Answer.{Answer}
@@ -21,10 +21,12 @@ use Rattle.idl_scope.specs.declared.fault.NameCode.TheVariants.{OtherSpelling, N
 use Rattle.idl_scope.specs.declared.fault.NameFault.{NameFault}
 use Rattle.idl_scope.specs.declared.fault.NameFault.TheVariants.{At}
 use Rattle.idl_scope.specs.declared.found.Found.{Found}
+use Rattle.idl_scope.specs.declared.found.Reach.{Reach}
 use Rattle.idl_env.specs.declared.keys.key.Key.{Key}
 use Rattle.idl_entity.specs.declared.kind.Kind.{Kind}
 use Rattle.idl_scope.proofs.Constructors.{none_some, some_same}
 use Rattle.idl_env.proofs.Membership.{IsIn, either, Distinct, Contains-IsIn, IsIn-Contains}
+use Rattle.idl_scope.proofs.LookupLaws.Introduced.{Decides}
 use Rattle.idl_scope.proofs.LookupLaws.Reaching.{Reached, Here, On, visited, added, visited-Reached, visited-Distinct}
 use Rattle.idl_scope.proofs.LookupLaws.Walked.{among, among-IsIn, outcome-reached}
 use Rattle.idl_scope.proofs.Worlds.{AreGrounded, own_at-home, bases_at-within}
@@ -42,16 +44,15 @@ err_ok h = cc
 ok_same : {A B : Type 0} {x y : A} → ◌≡◌ {A = Result A B} (Ok x) (Ok y) → x ≡ y
 ok_same h = cc
 
--- what is judged to be the one entity is all of the list
-judged-only : (name : List ℕ) (es : List Entity) (e : Entity) → judged name es ≡ Ok e → (x : Entity) → IsIn x es → x ≡ e
-judged-only name [] e h x i = absurd i
-judged-only name (y ∷ []) e h x (inr i) = absurd i
-judged-only name (y ∷ []) e h x (inl same) = by_test (bytes_eq (name_of y.path) name) h
+-- what is judged to be the one entity is among the list
+judged-in : (name : List ℕ) (es : List Entity) (e : Entity) → judged name es ≡ Ok e → IsIn e es
+judged-in name [] e h = absurd (err_ok h)
+judged-in name (y ∷ []) e h = by_test (bytes_eq (name_of y.path) name) h
   where
-    by_test : (t : Bool) → cond t (Ok y) (Err OtherSpelling) ≡ Ok e → x ≡ e
-    by_test true k = sym same ∙ ok_same k
+    by_test : (t : Bool) → cond t (Ok y) (Err OtherSpelling) ≡ Ok e → IsIn e (y ∷ [])
+    by_test true k = inl (ok_same k)
     by_test false k = absurd (err_ok k)
-judged-only name (y ∷ z ∷ es) e h x i = absurd (err_ok h)
+judged-in name (y ∷ z ∷ es) e h = absurd (err_ok h)
 
 judged-Judges : (P : Entity → Type 0) (es : List Entity) → IsAll P es → (name : List ℕ) → Judges P name (judged name es)
 judged-Judges P [] is name = λ x p. (is.0 x).1 p
@@ -110,14 +111,32 @@ module _ (places : List (List (List ℕ))) (bank : Key → Option Answer) (g : A
       by_kind true k w = own_or_walk k w (own_at bank n path) refl
       by_kind false k w = own_alone k (own_at bank n path) refl
 
-  outward-FirstHas : (scopes : List Scope) (n : List ℕ) → IsAll (FirstHas bank scopes n) (outcome (outward turns scopes n) bank)
-  outward-FirstHas [] n = (λ e. (λ i. i, λ h. h), tt)
-  outward-FirstHas (s ∷ scopes) n = rw (outcome-and_then (has turns s.kind s.path n) (λ es. cond (is_nothing es) (outward turns scopes n) (Done es)) bank)
-      (by_list (outward-FirstHas scopes n) (outcome (has turns s.kind s.path n) bank) (has-Has s.kind s.path n))
+  decided-FirstHas : (inside : ℕ) (scopes : List Scope) (n : List ℕ) → IsAll (FirstHas bank scopes n) (outcome (decided turns inside scopes n) bank).0
+  decided-FirstHas inside [] n = (λ e. (λ i. i, λ h. h), tt)
+  decided-FirstHas inside (s ∷ scopes) n = rw (outcome-and_then (has turns s.kind s.path n) (λ es. cond (is_nothing es) (decided turns (inside + 1) scopes n) (Done (es, inside))) bank)
+      (by_list (decided-FirstHas (inside + 1) scopes n) (outcome (has turns s.kind s.path n) bank) (has-Has s.kind s.path n))
     where
-      by_list : IsAll (FirstHas bank scopes n) (outcome (outward turns scopes n) bank) → (es : List Entity) → IsAll (Has bank s.kind s.path n) es → IsAll (FirstHas bank (s ∷ scopes) n) (outcome (cond (is_nothing es) (outward turns scopes n) (Done es)) bank)
+      by_list : IsAll (FirstHas bank scopes n) (outcome (decided turns (inside + 1) scopes n) bank).0 → (es : List Entity) → IsAll (Has bank s.kind s.path n) es
+          → IsAll (FirstHas bank (s ∷ scopes) n) (outcome (cond (is_nothing es) (decided turns (inside + 1) scopes n) (Done (es, inside))) bank).0
       by_list w [] is = (λ e. (λ i. inr (λ x p. (is.0 x).1 p, (w.0 e).0 i), elim [ inl p ↦ absurd ((is.0 e).1 p) | inr q ↦ (w.0 e).1 q.1 ]), w.1)
       by_list w (x ∷ es) is = (λ e. (λ i. inl ((is.0 e).0 i), elim [ inl p ↦ (is.0 e).1 p | inr q ↦ absurd (q.0 x ((is.0 x).0 (inl refl))) ]), is.1)
+
+  -- where it is found: the scopes inside have nothing
+  decided-Decides : (inside : ℕ) (scopes : List Scope) (n : List ℕ) (e : Entity) → IsIn e (outcome (decided turns inside scopes n) bank).0
+      → (k : ℕ) × ((outcome (decided turns inside scopes n) bank).1 ≡ inside + k) × Decides bank n scopes k e
+  decided-Decides inside [] n e i = absurd i
+  decided-Decides inside (s ∷ scopes) n e i =
+      let Q : List Entity × ℕ → Type 0 = λ d. (k : ℕ) × (d.1 ≡ inside + k) × Decides bank n (s ∷ scopes) k e in
+      let comes = outcome-and_then (has turns s.kind s.path n) (λ es. cond (is_nothing es) (decided turns (inside + 1) scopes n) (Done (es, inside))) bank in
+      let P : List Entity × ℕ → Type 0 = λ d. IsIn e d.0 in
+      subst Q (sym comes) (by_list (λ j. decided-Decides (inside + 1) scopes n e j) (outcome (has turns s.kind s.path n) bank) (has-Has s.kind s.path n) (subst P comes i))
+    where
+      by_list : (IsIn e (outcome (decided turns (inside + 1) scopes n) bank).0 → (k : ℕ) × ((outcome (decided turns (inside + 1) scopes n) bank).1 ≡ inside + 1 + k) × Decides bank n scopes k e)
+          → (es : List Entity) → IsAll (Has bank s.kind s.path n) es
+          → IsIn e (outcome (cond (is_nothing es) (decided turns (inside + 1) scopes n) (Done (es, inside))) bank).0
+          → (k : ℕ) × ((outcome (cond (is_nothing es) (decided turns (inside + 1) scopes n) (Done (es, inside))) bank).1 ≡ inside + k) × Decides bank n (s ∷ scopes) k e
+      by_list on [] is j = let r = on j in (suc r.0, omega (arith, r.1), (λ x h. (is.0 x).1 h, r.2))
+      by_list on (x ∷ es) is j = (0, omega arith, (is.0 e).0 j)
 
   -- a part that is judged by what is there
   outcome-part_of : (part : ℕ) (name : List ℕ) (there : Lookup (List Entity)) → outcome (part_of part name there) bank ≡ placed part (judged name (outcome there bank))
@@ -160,56 +179,60 @@ module _ (places : List (List (List ℕ))) (bank : Key → Option Answer) (g : A
       by_kind false next = refl
 
   -- what is found of a name, its entity alone
-  finish : (cursor : List Scope) (name : ScopedName) (first : Entity) → entity_found (outcome (and_then (further turns 0 first name.rest) (λ last. Done (found_as name cursor first last))) bank) ≡ outcome (further turns 0 first name.rest) bank
-  finish cursor name first = ap entity_found (outcome-and_then (further turns 0 first name.rest) (λ last. Done (found_as name cursor first last)) bank) ∙ alone (outcome (further turns 0 first name.rest) bank)
+  finish : (reach : Reach) (first : Entity) (names : List (List ℕ))
+      → entity_found (outcome (and_then (further turns 0 first names) (λ last. Done (found_as reach last))) bank) ≡ outcome (further turns 0 first names) bank
+  finish reach first names = ap entity_found (outcome-and_then (further turns 0 first names) (λ last. Done (found_as reach last)) bank) ∙ alone (outcome (further turns 0 first names) bank)
     where
-      alone : (r : Result Entity NameFault) → entity_found (found_as name cursor first r) ≡ r
+      alone : (r : Result Entity NameFault) → entity_found (found_as reach r) ≡ r
       alone (Ok e) = refl
       alone (Err fault) = refl
 
-  pub denoted-Denotes : (cursor : List Scope) (name : ScopedName) → Denotes bank cursor name (entity_found (outcome (denoted turns cursor name) bank))
-  denoted-Denotes cursor name =
-      let Q : Result Entity NameFault → Type 0 = Denotes bank cursor name in
-      subst Q (sym (ap entity_found comes)) (judged name.first es, judged-Judges (FirstHas bank (searched name.is_global cursor) (folded name.first)) es (outward-FirstHas (searched name.is_global cursor) (folded name.first)) name.first, goes (judged name.first es))
-    where
-      es : List Entity
-      es = outcome (outward turns (searched name.is_global cursor) (folded name.first)) bank
+  module _ (cursor : List Scope) (name : ScopedName) where
+    -- what the innermost scope has that has the first part
+    abbrev there : List Entity × ℕ
+    there = outcome (decided turns 0 (searched name.is_global cursor) (folded name.first)) bank
 
-      on : Result Entity NameFault → Lookup (Result Found NameFault)
-      on r = by_result r (λ first. and_then (further turns 0 first name.rest) (λ last. Done (found_as name cursor first last))) (λ fault. Done (Err fault))
+    all_there : IsAll (FirstHas bank (searched name.is_global cursor) (folded name.first)) there.0
+    all_there = decided-FirstHas 0 (searched name.is_global cursor) (folded name.first)
 
-      comes : outcome (denoted turns cursor name) bank ≡ outcome (on (placed 0 (judged name.first es))) bank
-      comes = outcome-and_then (part_of 0 name.first (outward turns (searched name.is_global cursor) (folded name.first))) on bank
-          ∙ ap (λ r. outcome (on r) bank) (outcome-part_of 0 name.first (outward turns (searched name.is_global cursor) (folded name.first)))
+    -- how the name goes on
+    abbrev on : ℕ → Result Entity NameFault → Lookup (Result Found NameFault)
+    on inside r = by_result r (λ first. and_then (further turns 0 first name.rest) (λ last. Done (found_as (reach_of name cursor inside first) last))) (λ fault. Done (Err fault))
 
-      goes : (j : Result Entity NameCode) → Goes 0 j (λ first. DenotesIn bank 0 first name.rest (entity_found (outcome (on (placed 0 j)) bank))) (entity_found (outcome (on (placed 0 j)) bank))
-      goes (Ok first) = let Q : Result Entity NameFault → Type 0 = DenotesIn bank 0 first name.rest in subst Q (sym (finish cursor name first)) (further-DenotesIn 0 first name.rest)
-      goes (Err code) = refl
+    comes : outcome (denoted turns cursor name) bank ≡ outcome (on there.1 (placed 0 (judged name.first there.0))) bank
+    comes = outcome-and_then (first_part turns cursor name) (λ (r : Result Entity NameFault × ℕ). on r.1 r.0) bank
+        ∙ ap (λ (r : Result Entity NameFault × ℕ). outcome (on r.1 r.0) bank) (outcome-and_then (decided turns 0 (searched name.is_global cursor) (folded name.first)) (λ d. Done (placed 0 (judged name.first d.0), d.1)) bank)
 
-  -- where a name is found, its first part is found, as nothing else, and introduced as far as that reaches
-  abbrev HasFirst : List Scope → ScopedName → Found → Type 0
-  HasFirst cursor name found = (first : Entity) × ((x : Entity) → FirstHas bank (searched name.is_global cursor) (folded name.first) x → x ≡ first) × (found.reach ≡ cond name.is_global 0 (reach cursor first))
+    pub denoted-Denotes : Denotes bank cursor name (entity_found (outcome (denoted turns cursor name) bank))
+    denoted-Denotes =
+        let Q : Result Entity NameFault → Type 0 = Denotes bank cursor name in
+        subst Q (sym (ap entity_found comes))
+        (judged name.first there.0, judged-Judges (FirstHas bank (searched name.is_global cursor) (folded name.first)) there.0 all_there name.first, goes (judged name.first there.0))
+      where
+        goes : (j : Result Entity NameCode)
+            → Goes 0 j (λ first. DenotesIn bank 0 first name.rest (entity_found (outcome (on there.1 (placed 0 j)) bank))) (entity_found (outcome (on there.1 (placed 0 j)) bank))
+        goes (Ok first) =
+            let Q : Result Entity NameFault → Type 0 = DenotesIn bank 0 first name.rest in
+            subst Q (sym (finish (reach_of name cursor there.1 first) first name.rest)) (further-DenotesIn 0 first name.rest)
+        goes (Err code) = refl
 
-  pub denoted-Ok : (cursor : List Scope) (name : ScopedName) (found : Found) → outcome (denoted turns cursor name) bank ≡ Ok found → HasFirst cursor name found
-  denoted-Ok cursor name found h = by_judged (judged name.first es) refl (sym comes ∙ h)
-    where
-      es : List Entity
-      es = outcome (outward turns (searched name.is_global cursor) (folded name.first)) bank
+    -- where a name is found, its first part is found by one of the scopes, and introduced as far as that reaches
+    abbrev HasFirst : Found → Type 0
+    HasFirst found =
+        (first : Entity) × (k : ℕ) × Decides bank (folded name.first) (searched name.is_global cursor) k first × (found.reach ≡ reach_of name cursor k first)
 
-      all : IsAll (FirstHas bank (searched name.is_global cursor) (folded name.first)) es
-      all = outward-FirstHas (searched name.is_global cursor) (folded name.first)
+    pub denoted-Ok : (found : Found) → outcome (denoted turns cursor name) bank ≡ Ok found → HasFirst found
+    denoted-Ok found h = by_judged (judged name.first there.0) refl (sym comes ∙ h)
+      where
+        reaches : (reach : Reach) (r : Result Entity NameFault) → found_as reach r ≡ Ok found → found.reach ≡ reach
+        reaches reach (Ok e) k = sym (ap (λ f. f.reach) (ok_same k))
+        reaches reach (Err fault) k = absurd (err_ok k)
 
-      on : Result Entity NameFault → Lookup (Result Found NameFault)
-      on r = by_result r (λ first. and_then (further turns 0 first name.rest) (λ last. Done (found_as name cursor first last))) (λ fault. Done (Err fault))
-
-      comes : outcome (denoted turns cursor name) bank ≡ outcome (on (placed 0 (judged name.first es))) bank
-      comes = outcome-and_then (part_of 0 name.first (outward turns (searched name.is_global cursor) (folded name.first))) on bank
-          ∙ ap (λ r. outcome (on r) bank) (outcome-part_of 0 name.first (outward turns (searched name.is_global cursor) (folded name.first)))
-
-      reaches : (first : Entity) (r : Result Entity NameFault) → found_as name cursor first r ≡ Ok found → found.reach ≡ cond name.is_global 0 (reach cursor first)
-      reaches first (Ok e) k = sym (ap (λ f. f.reach) (ok_same k))
-      reaches first (Err fault) k = absurd (err_ok k)
-
-      by_judged : (j : Result Entity NameCode) → judged name.first es ≡ j → outcome (on (placed 0 j)) bank ≡ Ok found → HasFirst cursor name found
-      by_judged (Ok first) j k = (first, (λ x h. judged-only name.first es first j x ((all.0 x).1 h)), reaches first (outcome (further turns 0 first name.rest) bank) (sym (outcome-and_then (further turns 0 first name.rest) (λ last. Done (found_as name cursor first last)) bank) ∙ k))
-      by_judged (Err code) j k = absurd (err_ok k)
+        by_judged : (j : Result Entity NameCode) → judged name.first there.0 ≡ j → outcome (on there.1 (placed 0 j)) bank ≡ Ok found → HasFirst found
+        by_judged (Ok first) j k =
+            let d = decided-Decides 0 (searched name.is_global cursor) (folded name.first) first (judged-in name.first there.0 first j) in
+            let far = reaches (reach_of name cursor there.1 first) (outcome (further turns 0 first name.rest) bank)
+            (sym (outcome-and_then (further turns 0 first name.rest) (λ last. Done (found_as (reach_of name cursor there.1 first) last)) bank) ∙ k) in
+            let is : there.1 ≡ d.0 = omega (arith, d.1) in
+            (first, d.0, d.2, far ∙ ap (λ inside. reach_of name cursor inside first) is)
+        by_judged (Err code) j k = absurd (err_ok k)

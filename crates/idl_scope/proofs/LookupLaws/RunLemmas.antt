@@ -6,7 +6,7 @@ use Rattle.idl_memo.proofs.QueryLaws.{run-and_then_at}
 use Rattle.idl_env.specs.Facts.{joined, over}
 use Rattle.idl_env.specs.keys.Key.{key_eq}
 use Rattle.idl_entity.specs.Kind.{is_scope}
-use Rattle.idl_scope.specs.Lookup.{Lookup, by_result, denoted, entered, found_as, further, has, is_nothing, judged, outward, part_of, placed, searched, under, walk}
+use Rattle.idl_scope.specs.Lookup.{Lookup, by_result, decided, denoted, entered, first_part, found_as, further, has, is_nothing, judged, part_of, placed, reach_of, searched, under, walk}
 use Rattle.idl_lex.specs.kinds.Keywords.{folded}
 use Rattle.idl_tree.specs.declared.name.ScopedName.{ScopedName}
 use Rattle.idl_scope.specs.declared.found.Found.{Found}
@@ -64,24 +64,24 @@ module _ (own : List Addition) (bank : Key → Option Answer) where
       ∙ runs-and_then (entered n b) (λ r. walk turns n (at + 1) (joined queue r.1) (found ++ option_to_list r.0)) log r after gives
 
   -- the innermost scope that has the name
-  pub outward_found : (turns : ℕ) (s : Scope) (scopes : List Scope) (n : List ℕ) (log : List (Key × Option Answer)) (found : List Entity) (after : List (Key × Option Answer))
-      → (found, after) ≡ runs (has turns s.kind s.path n) log → is_nothing found ≡ false → runs (outward turns (s ∷ scopes) n) log ≡ (found, after)
-  outward_found turns s scopes n log found after h some =
-      runs-and_then (has turns s.kind s.path n) (λ found. cond (is_nothing found) (outward turns scopes n) (Done found)) log found after h
-      ∙ ap (λ b. runs (cond b (outward turns scopes n) (Done found)) after) some
+  pub decided_found : (turns inside : ℕ) (s : Scope) (scopes : List Scope) (n : List ℕ) (log : List (Key × Option Answer)) (found : List Entity) (after : List (Key × Option Answer))
+      → (found, after) ≡ runs (has turns s.kind s.path n) log → is_nothing found ≡ false → runs (decided turns inside (s ∷ scopes) n) log ≡ ((found, inside), after)
+  decided_found turns inside s scopes n log found after h some =
+      runs-and_then (has turns s.kind s.path n) (λ found. cond (is_nothing found) (decided turns (inside + 1) scopes n) (Done (found, inside))) log found after h
+      ∙ ap (λ b. runs (cond b (decided turns (inside + 1) scopes n) (Done (found, inside))) after) some
 
   -- and one that has not
-  pub outward_on : (turns : ℕ) (s : Scope) (scopes : List Scope) (n : List ℕ) (log : List (Key × Option Answer)) (found : List Entity) (after : List (Key × Option Answer))
-      → (found, after) ≡ runs (has turns s.kind s.path n) log → is_nothing found ≡ true → runs (outward turns (s ∷ scopes) n) log ≡ runs (outward turns scopes n) after
-  outward_on turns s scopes n log found after h none =
-      runs-and_then (has turns s.kind s.path n) (λ found. cond (is_nothing found) (outward turns scopes n) (Done found)) log found after h
-      ∙ ap (λ b. runs (cond b (outward turns scopes n) (Done found)) after) none
+  pub decided_on : (turns inside : ℕ) (s : Scope) (scopes : List Scope) (n : List ℕ) (log : List (Key × Option Answer)) (found : List Entity) (after : List (Key × Option Answer))
+      → (found, after) ≡ runs (has turns s.kind s.path n) log → is_nothing found ≡ true → runs (decided turns inside (s ∷ scopes) n) log ≡ runs (decided turns (inside + 1) scopes n) after
+  decided_on turns inside s scopes n log found after h none =
+      runs-and_then (has turns s.kind s.path n) (λ found. cond (is_nothing found) (decided turns (inside + 1) scopes n) (Done (found, inside))) log found after h
+      ∙ ap (λ b. runs (cond b (decided turns (inside + 1) scopes n) (Done (found, inside))) after) none
 
-  -- of one scope alone, what is outward is what it has
-  pub outward_alone : (turns : ℕ) (s : Scope) (n : List ℕ) (log : List (Key × Option Answer)) (found : List Entity) (after : List (Key × Option Answer))
-      → (found, after) ≡ runs (has turns s.kind s.path n) log → (found, after) ≡ runs (outward turns (s ∷ []) n) log
-  outward_alone turns s n log [] after h = sym (outward_on turns s [] n log [] after h refl)
-  outward_alone turns s n log (e ∷ found) after h = sym (outward_found turns s [] n log (e ∷ found) after h refl)
+  -- of one scope alone it is what that has
+  pub decided_alone : (turns : ℕ) (s : Scope) (n : List ℕ) (log : List (Key × Option Answer)) (found : List Entity) (after : List (Key × Option Answer))
+      → (found, after) ≡ runs (has turns s.kind s.path n) log → ((found, 0), after) ≡ runs (decided turns 0 (s ∷ []) n) log
+  decided_alone turns s n log [] after h = sym (decided_on turns 0 s [] n log [] after h refl)
+  decided_alone turns s n log (e ∷ found) after h = sym (decided_found turns 0 s [] n log (e ∷ found) after h refl)
 
   -- one part of a name
   pub part_on : (part : ℕ) (name : List ℕ) (there : Lookup (List Entity)) (log : List (Key × Option Answer)) (found : List Entity) (after : List (Key × Option Answer))
@@ -96,17 +96,24 @@ module _ (own : List Addition) (bank : Key → Option Answer) where
       ap (λ b. runs (cond b (and_then (part_of (part + 1) name (has turns e.kind e.path (folded name))) (λ r. by_result r (λ f. further turns (part + 1) f names) (λ fault. Done (Err fault)))) (Done (Err (At NoScope part)))) log) h
       ∙ runs-and_then (part_of (part + 1) name (has turns e.kind e.path (folded name))) (λ r. by_result r (λ f. further turns (part + 1) f names) (λ fault. Done (Err fault))) log r after gives
 
-  -- what a name comes to from its first part
-  abbrev pub from_first : ℕ → List Scope → ScopedName → Entity → Lookup (Result Found NameFault)
-  from_first turns cursor name first = and_then (further turns 0 first name.rest) (λ last. Done (found_as name cursor first last))
+  -- the first part of a name
+  pub first_on : (turns : ℕ) (cursor : List Scope) (name : ScopedName) (log : List (Key × Option Answer)) (found : List Entity) (inside : ℕ) (after : List (Key × Option Answer))
+      → ((found, inside), after) ≡ runs (decided turns 0 (searched name.is_global cursor) (folded name.first)) log
+      → runs (first_part turns cursor name) log ≡ ((placed 0 (judged name.first found), inside), after)
+  first_on turns cursor name log found inside after h =
+      runs-and_then (decided turns 0 (searched name.is_global cursor) (folded name.first)) (λ d. Done (placed 0 (judged name.first d.0), d.1)) log (found, inside) after h
 
-  pub from_first_on : (turns : ℕ) (cursor : List Scope) (name : ScopedName) (first : Entity) (log : List (Key × Option Answer)) (r : Result Entity NameFault) (after : List (Key × Option Answer))
-      → (r, after) ≡ runs (further turns 0 first name.rest) log → runs (from_first turns cursor name first) log ≡ (found_as name cursor first r, after)
-  from_first_on turns cursor name first log r after h = runs-and_then (further turns 0 first name.rest) (λ last. Done (found_as name cursor first last)) log r after h
+  -- what a name comes to from its first part, which the scope with so many inside it decides
+  abbrev pub from_first : ℕ → List Scope → ScopedName → ℕ → Entity → Lookup (Result Found NameFault)
+  from_first turns cursor name inside first = and_then (further turns 0 first name.rest) (λ last. Done (found_as (reach_of name cursor inside first) last))
 
-  pub denoted_on : (turns : ℕ) (cursor : List Scope) (name : ScopedName) (log : List (Key × Option Answer)) (r : Result Entity NameFault) (after : List (Key × Option Answer))
-      → (r, after) ≡ runs (part_of 0 name.first (outward turns (searched name.is_global cursor) (folded name.first))) log
-      → runs (denoted turns cursor name) log ≡ runs (by_result r (from_first turns cursor name) (λ fault. Done (Err fault))) after
-  denoted_on turns cursor name log r after h =
-      runs-and_then (part_of 0 name.first (outward turns (searched name.is_global cursor) (folded name.first)))
-      (λ r. by_result r (from_first turns cursor name) (λ fault. Done (Err fault))) log r after h
+  pub from_first_on : (turns : ℕ) (cursor : List Scope) (name : ScopedName) (inside : ℕ) (first : Entity) (log : List (Key × Option Answer)) (r : Result Entity NameFault) (after : List (Key × Option Answer))
+      → (r, after) ≡ runs (further turns 0 first name.rest) log → runs (from_first turns cursor name inside first) log ≡ (found_as (reach_of name cursor inside first) r, after)
+  from_first_on turns cursor name inside first log r after h =
+      runs-and_then (further turns 0 first name.rest) (λ last. Done (found_as (reach_of name cursor inside first) last)) log r after h
+
+  pub denoted_on : (turns : ℕ) (cursor : List Scope) (name : ScopedName) (log : List (Key × Option Answer)) (r : Result Entity NameFault) (inside : ℕ) (after : List (Key × Option Answer))
+      → ((r, inside), after) ≡ runs (first_part turns cursor name) log
+      → runs (denoted turns cursor name) log ≡ runs (by_result r (from_first turns cursor name inside) (λ fault. Done (Err fault))) after
+  denoted_on turns cursor name log r inside after h =
+      runs-and_then (first_part turns cursor name) (λ r. by_result r.0 (from_first turns cursor name r.1) (λ fault. Done (Err fault))) log (r, inside) after h

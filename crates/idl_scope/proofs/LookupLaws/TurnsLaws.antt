@@ -8,7 +8,7 @@ use Rattle.idl_entity.specs.Kind.{inherits, is_scope}
 use Rattle.idl_tree.specs.declared.name.ScopedName.{ScopedName}
 use Rattle.idl_env.specs.Facts.{entity_key, entity_in, joined, over}
 use Rattle.idl_env.specs.keys.Key.{key_eq}
-use Rattle.idl_scope.specs.Lookup.{Lookup, bases_of, choose, entered, walk, reached, has, is_nothing, outward, judged, placed, by_result, part_of, further, searched, found_as, denoted}
+use Rattle.idl_scope.specs.Lookup.{Lookup, bases_of, choose, entered, walk, reached, has, is_nothing, decided, judged, placed, by_result, part_of, first_part, further, searched, reach_of, found_as, denoted}
 use Rattle.idl_scope.specs.Meaning.{own_at, bases_at}
 use Rattle.idl_env.specs.declared.additions.addition.Addition.{Addition}
 use Rattle.idl_env.specs.declared.answering.answer.Answer.{Answer}
@@ -131,15 +131,15 @@ module _ (own : List Addition) (bank : Key → Option Answer) where
         by_kind true h = h
         by_kind false h = refl
 
-    pub outward-same : (scopes : List Scope) (n : List ℕ) → AreSame (outward (turns + extra) scopes n) (outward turns scopes n)
-    outward-same [] n = λ log. refl
-    outward-same (s ∷ scopes) n =
+    decided-same : (inside : ℕ) (scopes : List Scope) (n : List ℕ) → AreSame (decided (turns + extra) inside scopes n) (decided turns inside scopes n)
+    decided-same inside [] n = λ log. refl
+    decided-same inside (s ∷ scopes) n =
         and_then-same (has (turns + extra) s.kind s.path n) (has turns s.kind s.path n)
-        (λ found. cond (is_nothing found) (outward (turns + extra) scopes n) (Done found)) (λ found. cond (is_nothing found) (outward turns scopes n) (Done found))
-        (has-same s.kind s.path n) (λ found. by_list (outward-same scopes n) found)
+        (λ found. cond (is_nothing found) (decided (turns + extra) (inside + 1) scopes n) (Done (found, inside))) (λ found. cond (is_nothing found) (decided turns (inside + 1) scopes n) (Done (found, inside)))
+        (has-same s.kind s.path n) (λ found. by_list (decided-same (inside + 1) scopes n) found)
       where
-        by_list : AreSame (outward (turns + extra) scopes n) (outward turns scopes n) → (es : List Entity)
-            → AreSame (cond (is_nothing es) (outward (turns + extra) scopes n) (Done es)) (cond (is_nothing es) (outward turns scopes n) (Done es))
+        by_list : AreSame (decided (turns + extra) (inside + 1) scopes n) (decided turns (inside + 1) scopes n) → (es : List Entity)
+            → AreSame (cond (is_nothing es) (decided (turns + extra) (inside + 1) scopes n) (Done (es, inside))) (cond (is_nothing es) (decided turns (inside + 1) scopes n) (Done (es, inside)))
         by_list h [] = h
         by_list h (x ∷ es) = λ log. refl
 
@@ -170,25 +170,27 @@ module _ (own : List Addition) (bank : Key → Option Answer) where
             (goes on) log
         by_kind false on = refl
 
+    first-same : (cursor : List Scope) (name : ScopedName) → AreSame (first_part (turns + extra) cursor name) (first_part turns cursor name)
+    first-same cursor name =
+        and_then-same (decided (turns + extra) 0 (searched name.is_global cursor) (folded name.first)) (decided turns 0 (searched name.is_global cursor) (folded name.first))
+        (λ d. Done (placed 0 (judged name.first d.0), d.1)) (λ d. Done (placed 0 (judged name.first d.0), d.1))
+        (decided-same 0 (searched name.is_global cursor) (folded name.first)) (λ d log. refl)
+
     pub denoted-same : (cursor : List Scope) (name : ScopedName) → AreSame (denoted (turns + extra) cursor name) (denoted turns cursor name)
     denoted-same cursor name =
-        and_then-same (begun (turns + extra)) (begun turns) (on (turns + extra)) (on turns)
-        (part_of-same 0 name.first (outward (turns + extra) (searched name.is_global cursor) (folded name.first)) (outward turns (searched name.is_global cursor) (folded name.first))
-        (outward-same (searched name.is_global cursor) (folded name.first)))
-        goes
+        and_then-same (first_part (turns + extra) cursor name) (first_part turns cursor name) (λ r. on (turns + extra) r.1 r.0) (λ r. on turns r.1 r.0)
+        (first-same cursor name) (λ r. goes r.1 r.0)
       where
-        begun : ℕ → Lookup (Result Entity NameFault)
-        begun t = part_of 0 name.first (outward t (searched name.is_global cursor) (folded name.first))
-
         -- what a name comes to from its first part
-        from : ℕ → Entity → Lookup (Result Found NameFault)
-        from t first = and_then (further t 0 first name.rest) (λ last. Done (found_as name cursor first last))
+        from : ℕ → ℕ → Entity → Lookup (Result Found NameFault)
+        from t inside first = and_then (further t 0 first name.rest) (λ last. Done (found_as (reach_of name cursor inside first) last))
 
-        on : ℕ → Result Entity NameFault → Lookup (Result Found NameFault)
-        on t r = by_result r (from t) (λ fault. Done (Err fault))
+        on : ℕ → ℕ → Result Entity NameFault → Lookup (Result Found NameFault)
+        on t inside r = by_result r (from t inside) (λ fault. Done (Err fault))
 
-        goes : (r : Result Entity NameFault) → AreSame (on (turns + extra) r) (on turns r)
-        goes (Ok first) =
-            and_then-same (further (turns + extra) 0 first name.rest) (further turns 0 first name.rest) (λ last. Done (found_as name cursor first last)) (λ last. Done (found_as name cursor first last))
+        goes : (inside : ℕ) (r : Result Entity NameFault) → AreSame (on (turns + extra) inside r) (on turns inside r)
+        goes inside (Ok first) =
+            and_then-same (further (turns + extra) 0 first name.rest) (further turns 0 first name.rest)
+            (λ last. Done (found_as (reach_of name cursor inside first) last)) (λ last. Done (found_as (reach_of name cursor inside first) last))
             (further-same 0 first name.rest) (λ last log. refl)
-        goes (Err fault) = λ log. refl
+        goes inside (Err fault) = λ log. refl

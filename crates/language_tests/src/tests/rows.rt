@@ -87,7 +87,7 @@ static DECLARATIONS: [&str; 12] = [
 ];
 
 // Structs over a base.
-static STRUCTURES: [&str; 6] = [
+static STRUCTURES: [&str; 9] = [
     // Nothing is declared that is reached, be it a member, a type or an enumerator, of whatever base.
     "struct B { long a; };\nstruct D : B { };\n=struct B { long a; };\n=struct D : ::B { }; ¶ struct B { long a; };\n\
      struct D : B { };\nstruct E : D { short A; };\n=a:3: E44 A ¶ struct B { enum E { P, Q } f; };\n\
@@ -110,6 +110,24 @@ static STRUCTURES: [&str; 6] = [
      struct B { enum E { P, Q } f; };\nstruct D : B { E g; };\nconst D::E K = D::P;\n=struct B { enum E { P, Q } f; };\n\
      =struct D : ::B { ::B::E g; };\n=const ::B::E K = ::B::P; ¶ interface I { struct B { long a; }; };\n\
      interface J : I {\nstruct D : B { long c; };\nstruct E : D { long A; };\n};\n=a:4: E44 A",
+    // A use goes outward up to the scope that itself declares the name, be that declared before or in the same unit.
+    "struct B { struct T { long q; } m; };\ninterface I {\nstruct T;\nstruct D : B { T y; };\nstruct T { long z; };\n};\n\
+     =struct B { struct T { long q; } m; };\n=interface I {\n=  struct T;\n=  struct D : ::B { ::B::T y; };\n\
+     =  struct T { long z; };\n=}; ¶ struct B { struct T { long q; } m; };\ninterface I {\n\
+     struct X { struct T { long r; } s; struct D : B { T y; } e; };\nstruct T { long z; };\n};\n\
+     =struct B { struct T { long q; } m; };\n=interface I {\n\
+     =  struct X { struct T { long r; } s; struct D : ::B { ::B::T y; } e; };\n=  struct T { long z; };\n=};",
+    // And else up to the outermost scope that is no module.
+    "struct B { struct T { long q; } m; };\ninterface I {\nstruct D : B { T y; };\nstruct T { long z; };\n};\n=a:4: E35 T ¶ \
+     struct B { struct T { long q; } m; };\ninterface I {\nstruct X { struct D : B { T y; } e; };\n\
+     struct T { long z; };\n};\n=a:4: E35 T ¶ struct B { struct T { long q; } m; };\nmodule M {\nstruct D : B { T y; };\n\
+     struct T { long z; };\n};\n=struct B { struct T { long q; } m; };\n=module M {\n=  struct D : ::B { ::B::T y; };\n\
+     =  struct T { long z; };\n=}; ¶ struct B { struct T { long q; } m; };\ninterface I {\nstruct T { long z; };\n\
+     typedef struct D : B { T y; } T;\n};\n=a:4: E33 T",
+    // A scope without a name stops it as any other.
+    "struct B { struct T { long q; } m; };\ninterface I {\ninterface J {\nstruct T { long p; };\nstruct D : B { T y; };\n};\n\
+     struct T { long z; };\n};\n=a:3: E22 interface ¶ struct B { struct T { long q; } m; };\ninterface I {\n\
+     interface J {\nstruct D : B { T y; };\n};\nstruct T { long z; };\n};\n=a:3: E22 interface\n=a:6: E35 T",
     // Each of a unit has its own.
     "struct B { long x; };\nstruct C { long z; };\n\
      struct X { struct Y : B { long z; } p; struct Q : C { long x; } q1; };\n=struct B { long x; };\n=struct C { long z; };\n\

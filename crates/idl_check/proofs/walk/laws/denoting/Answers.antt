@@ -1,5 +1,6 @@
 use Rattle.std.proofs.Common.{◌∙◌, sym, subst, arith, [], Result}
 use Rattle.idl_check.proofs.Fitting.InheritedLaws.{standing-inherited, standing-reached}
+use Rattle.idl_check.proofs.UseLaws.{uses-told}
 use Rattle.idl_check.proofs.Visits.RowLaws.{used-path}
 use Rattle.idl_check.proofs.Visits.VisitLemmas.{turns-here}
 use Rattle.idl_check.specs.walk.Walk.{turns_at}
@@ -22,6 +23,9 @@ pub returns-clause-introduced : goal.returns-clause-introduced
 returns-clause-introduced c = λ facts turns w name found enough is.
     reaches facts w.own (turns_at turns w) (turns-here facts w.own turns enough) w.cursor name found
     (sym (outcome-under w.own (answers facts) (denoted (turns_at turns w) w.cursor name)) ∙ is)
+
+pub returns-clause-used : goal.returns-clause-used
+returns-clause-used c = λ facts own n r cursor. uses-told facts own n r cursor
 
 pub returns-clause-path : goal.returns-clause-path
 returns-clause-path c = λ facts turns w way name found is. used-path turns (answers facts) way name w found is

@@ -1,31 +1,16 @@
-use Rattle.std.proofs.Common.{sym, ap, ◌∙◌, ◌∷◌, []}
-use Rattle.std.proofs.lemmas.List.{nil_from_length}
-use Rattle.idl_env.specs.Facts.{scopes_in, with_additions, world}
-use Rattle.idl_env.specs.Outside.{gathered_at, looked_at, looked_at_by}
-use Rattle.idl_env.specs.declared.keys.key.Key.TheVariants as key
-use Rattle.idl_env.proofs.ApartLemmas.{digests-told, looked_at_by-closing}
+use Rattle.std.proofs.Common.{rules}
+use Rattle.std.specs.Prelude.{All, Contains, flat_map}
+use Rattle.idl_env.specs.Facts.{stops_of, with_additions, world}
+use Rattle.idl_env.specs.keys.Key.{key_digest}
+use Rattle.idl_env.specs.Outside.{looked_at}
+use Rattle.idl_env.proofs.ApartLemmas.{digests-both}
 use Rattle.idl_env.proofs.env.Env.digests_looked_at.Goals as goal
 
-pub returns-in_ok-digests_of_opening-in-Opens : goal.returns-in_ok-digests_of_opening-in-Opens
-returns-in_ok-digests_of_opening-in-Opens c =
+pub returns : goal.returns
+returns c =
     let w = world c.args.self.now in
     let f = c.args.facts.now in
-    let same = ap (looked_at (with_additions f.additions w)) (sym c.step.ensures ∙ c.in-Opens.is) in
-    digests-told
-    (key.Cursor ∷ key.Opened c.in-Opens.path ∷ key.Prefix ∷ [])
-    (looked_at_by w f)
-    c.in_ok-digests_of_opening-in-Opens.field-0.items
-    same
-    c.in_ok-digests_of_opening-in-Opens.ensures
-
-pub returns-in_ok-digests_of_closing-in-Closes : goal.returns-in_ok-digests_of_closing-in-Closes
-returns-in_ok-digests_of_closing-in-Closes c =
-    let w = world c.args.self.now in
-    let f = c.args.facts.now in
-    let none = nil_from_length f.additions (sym c.len.ensures ∙ c.if-len-eq0.true) in
-    digests-told
-    (key.Cursor ∷ gathered_at w (scopes_in (w.answers key.Cursor)))
-    (looked_at_by w f)
-    c.in_ok-digests_of_closing-in-Closes.field-0.items
-    (looked_at_by-closing w f (sym c.step.ensures ∙ c.in-Closes.is) none)
-    c.in_ok-digests_of_closing-in-Closes.ensures
+    let looked = looked_at (with_additions f.additions w) f.step in
+    let first = c.in-Some.digests.items in
+    let told : All (λ k. Contains first (key_digest k)) looked = search rules in
+    digests-both (flat_map stops_of f.additions) looked first c.stops_into.new.digests.items told c.in_ok-stops_into.ensures

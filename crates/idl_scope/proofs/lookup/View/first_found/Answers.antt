@@ -1,14 +1,13 @@
 use Rattle.std.proofs.Common.{◌≡◌, ◌∷◌, [], sym, ap, ◌∙◌}
-use Rattle.std.proofs.lemmas.Result.{IfOk-weaker}
 use Rattle.idl_env.specs.Facts.{answers, global_scope}
 use Rattle.idl_scope.specs.Finds.{those}
-use Rattle.idl_scope.specs.Lookup.{has, outward, searched}
+use Rattle.idl_scope.specs.Lookup.{decided, has, searched}
 use Rattle.idl_entity.specs.declared.kind.Kind.TheVariants.{Module}
-use Rattle.idl_scope.proofs.LookupLaws.RunLemmas.{outward_alone, runs}
+use Rattle.idl_scope.proofs.LookupLaws.RunLemmas.{decided_alone, runs}
 use Rattle.idl_scope.proofs.lookup.View.first_found.Goals as goal
 
 pub returns-then-name : goal.returns-then-name
-returns-then-name c =
+returns-then-name c turns more =
     let own = c.args.self.own.now.additions in
     let bank = answers c.args.self.env.now in
     let name = c.args.name.now in
@@ -16,9 +15,6 @@ returns-then-name c =
     let folded = c.in_ok-folded.folded in
     let same = c.in_ok-folded.ensures in
     let scopes : global_scope ∷ [] ≡ searched name.is_global c.args.cursor.now = sym (ap (λ b. searched b c.args.cursor.now) c.if-name.true) in
-    IfOk-weaker c.found_in.result _ _
-    (λ found given turns more.
-    outward_alone own bank turns global_scope folded log (those found) _
-    (given turns more ∙ (λ i. runs own bank (has turns Module (c.global-path.ensures i) folded) log))
-    ∙ (λ i. runs own bank (outward turns (scopes i) (same i)) log))
-    c.found_in.ensures
+    decided_alone own bank turns global_scope folded log (those c.in_ok-found_in.field-0) _
+    (c.in_ok-found_in.ensures turns more ∙ (λ i. runs own bank (has turns Module (c.global-path.ensures i) folded) log))
+    ∙ (λ i. runs own bank (decided turns 0 (scopes i) (same i)) log)

@@ -20,6 +20,6 @@ returns c =
     let found = c.in_ok-typeprefix.ensures ∙ ap (runs own bank (typeprefix_around path)) logged in
     IfOk-weaker c.identified.result _ _
     (λ d told.
-    (λ i. ((told ∙ ap (identity_in (option_copied c.in_ok-typeprefix.typeprefix)) answer) i, c.typeprefix_around.new.log))
+    (λ i. ((told ∙ ap (identity_in (option_copied c.in_ok-typeprefix.typeprefix)) answer) i, c.typeprefix_over.new.log))
     ∙ sym (runs-and_then own bank (typeprefix_around path) (λ typeprefix. Done (identity_in typeprefix (seen_at own bank (IdOf path)))) (noted key_eq bank c.args.log.now (IdOf path)) _ _ found))
     c.identified.ensures

@@ -1,7 +1,7 @@
 use Rattle.std.proofs.Common.{◌≡◌, ap, ◌∙◌}
 use Rattle.std.proofs.lemmas.Result.{IfOk-weaker}
 use Rattle.std.specs.Map.{lookup}
-use Rattle.idl_env.specs.Facts.{after_step, count_in, with_additions}
+use Rattle.idl_env.specs.Facts.{after_step, count_in, unstopped, with_additions}
 use Rattle.idl_env.specs.Held.{held}
 use Rattle.idl_env.specs.keys.Key.{key_eq}
 use Rattle.idl_env.specs.declared.answering.state.State.{State}
@@ -11,7 +11,7 @@ use Rattle.idl_env.proofs.answering.state.State.add_own.Goals as goal
 pub take-requires : goal.take-requires
 take-requires c = λ key.
     let same = ap count_in (c.in_ok-put_own.ensures.answers key) in
-    rw same (count-over c.args.facts.now.additions key (lookup (key_eq key) c.args.self.now.answers) 18446744073709551615 (c.requires key))
+    rw same (count-over (unstopped (λ k. lookup (key_eq k) c.args.self.now.answers) c.args.facts.now.additions) key (lookup (key_eq key) c.args.self.now.answers) 18446744073709551615 (c.requires key))
 
 pub returns : goal.returns
 returns c =

@@ -1,9 +1,9 @@
-use Rattle.std.proofs.Common.{rules, subst, sym}
-use Rattle.idl_root.specs.Followed.{ShareNone, StayAlike}
+use Rattle.std.proofs.Common.{rules, subst}
+use Rattle.idl_root.specs.Followed.{ShareNone}
 use Rattle.idl_root.specs.Kept.{AreNoted}
 use Rattle.idl_env.specs.Facts.{world}
 use Rattle.idl_env.specs.Outside.{looked_at_by}
-use Rattle.idl_root.proofs.kept.following.stay_alike.Goals as goal
+use Rattle.idl_root.proofs.kept.following.look_elsewhere.Goals as goal
 
 pub returns-in-Some : goal.returns-in-Some
 returns-in-Some c = λ yes.
@@ -11,4 +11,4 @@ returns-in-Some c = λ yes.
     let changed = c.args.changed.now in
     let noted : AreNoted looked (looked_at_by (world c.args.env.now) c.args.facts.now) = search rules in
     let apart : ShareNone looked changed = subst (λ l. ShareNone l changed) c.as_slice.ensures.value (c.shares_none.ensures yes) in
-    subst (λ around. StayAlike around c.args.env.now changed c.args.facts.now) (sym c.if-is_around.false) (looked, (noted, apart))
+    (looked, (noted, apart))

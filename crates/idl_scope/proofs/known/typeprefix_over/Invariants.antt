@@ -3,7 +3,7 @@ use Rattle.std.specs.Option.{option_copied}
 use Rattle.idl_env.specs.Facts.{answers}
 use Rattle.idl_scope.specs.Known.{added_by, typeprefix_around}
 use Rattle.idl_scope.proofs.LookupLaws.RunLemmas.{runs}
-use Rattle.idl_scope.proofs.known.typeprefix_around.Given as goal
+use Rattle.idl_scope.proofs.known.typeprefix_over.Given as goal
 
 -- what is left, over the log so far, is the whole
 abbrev pub invariant-scopes : goal.invariant-scopes

@@ -1,0 +1,21 @@
+use Rattle.std.proofs.Common.{◌≡◌, ◌∙◌, ◌||◌, Bool, false, true, ap, refl, sym}
+use Rattle.std.specs.Prelude.{IsFalse}
+use Rattle.idl_env.specs.keys.Key.{key_eq}
+use Rattle.idl_env.specs.declared.keys.key.Key.TheVariants.{Typeprefix}
+use Rattle.idl_env.proofs.AnswerLaws.OthersLemmas.{no-typeprefixes}
+use Rattle.idl_env.proofs.answering.answers.Answers.insert.Goals as goal
+
+neither-first : (a b : Bool) → IsFalse (a || b) → IsFalse a
+neither-first true b h = h
+neither-first false b h = refl
+
+neither-second : (a b : Bool) → IsFalse (a || b) → IsFalse b
+neither-second true b h = absurd (let z : true ≡ false = h in cc)
+neither-second false b h = h
+
+pub invariant_of-self : goal.invariant_of-self
+invariant_of-self c = λ none path.
+    let had = c.self.inside.has_typeprefixes in
+    let is_one = c.is_typeprefix.result in
+    let other = ap (key_eq (Typeprefix path)) (sym c.held.ensures) ∙ c.is_typeprefix.ensures (neither-second had is_one none) path in
+    no-typeprefixes c.insert.result c.args.key c.args.answer c.self.inside.others c.insert.new.self c.insert.ensures.each_key c.insert.ensures.err path other (c.self.invariant (neither-first had is_one none) path)
