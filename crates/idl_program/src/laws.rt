@@ -1,8 +1,11 @@
-//! Laws of the definition of what words ask for.
+//! Laws of what words ask for, and of what is told of roots.
 
-ghost use Rattle.std.specs.Prelude.{◌≡◌, ◌≤◌, ◌∷◌, List, [], codes, false, length, true};
+ghost use Rattle.std.specs.Prelude.{◌≡◌, ◌≤◌, ◌∷◌, ℕ, List, [], Some, codes, false, length, true};
 ghost use Rattle.clap.specs.Words.{Text};
 ghost use Rattle.clap.specs.declared.error.kind.ErrorKind.TheVariants.{DisplayHelp, DisplayVersion, InvalidValue, TooManyValues, UnknownArgument};
+ghost use Rattle.idl_project.specs.Project.{Project, is_root};
+ghost use Rattle.idl_project.specs.UpToDate.{diagnostics_of, dump_of, is_faulty_of, listing_of};
+ghost use Rattle.idl_program.specs.Compiled.{dump_in, errors_in, has_errors, listing_in};
 ghost use Rattle.idl_program.specs.declared.request.Request.{Request};
 ghost use Rattle.idl_program.specs.Words.{AreWrong, IsRequestOf, faults_in, files_in, found_in, stands, values_of, words_in};
 
@@ -37,4 +40,17 @@ pub fn worked_words()
         × (faults_in (words_in (codes "-V")) ≡ UnknownArgument ∷ [])
         × (faults_in (words_in (codes "-D a.idl -I")) ≡ InvalidValue ∷ [])
         × (faults_in (words_in (codes "--listing=1 a.idl")) ≡ TooManyValues ∷ []) }
+{}
+
+/// What is told of a root is what a session answers of it that has these files, macros and directories, and the root among its
+/// roots: one definition of what a root compiles to is behind both. This does nothing: it carries the laws.
+pub fn rows_of_a_session()
+    ensures errors { (project : Project) (root : List ℕ) → is_root project root ≡ true
+        → diagnostics_of project root ≡ Some (errors_in project.inputs root) }
+    ensures dump { (project : Project) (root : List ℕ) → is_root project root ≡ true
+        → dump_of project root ≡ Some (dump_in project.inputs root) }
+    ensures listing { (project : Project) (root : List ℕ) → is_root project root ≡ true
+        → listing_of project root ≡ Some (listing_in project.inputs root) }
+    ensures faulty { (project : Project) (root : List ℕ) → is_root project root ≡ true
+        → is_faulty_of project root ≡ Some (has_errors project.inputs root) }
 {}

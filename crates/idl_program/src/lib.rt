@@ -12,7 +12,7 @@ mod program;
 mod request;
 
 pub use failure::{CompileFault, OptionsFault, Status, Subject};
-pub use laws::{single_fault, worked_words};
+pub use laws::{rows_of_a_session, single_fault, worked_words};
 pub use loader::{Loaded, Loader};
 pub use loading::compile_all;
 pub use preparing::prepared;
