@@ -1,6 +1,6 @@
 -- What is asked for typeprefixes, scope after scope, and what comes of it.
-use Rattle.std.proofs.Common.{◌≡◌, ℕ, List, ◌∷◌, Option, Some, None, ap}
-use Rattle.idl_memo.specs.Query.{Done, noted}
+use Rattle.std.proofs.Common.{◌≡◌, ◌∙◌, ℕ, List, [], ◌∷◌, Option, Some, None, ap, refl}
+use Rattle.idl_memo.specs.Query.{Done, noted, outcome}
 use Rattle.idl_env.specs.Facts.{typeprefix_in}
 use Rattle.idl_env.specs.keys.Key.{key_eq}
 use Rattle.idl_env.specs.declared.additions.addition.Addition.{Addition}
@@ -25,3 +25,10 @@ module _ (own : List Addition) (bank : Key → Option Answer) (name : List ℕ) 
   -- and has none
   pub typeprefix_on : typeprefix_in (seen_at own bank here) ≡ None → runs own bank (typeprefix_around (name ∷ scope)) log ≡ runs own bank (typeprefix_around scope) (noted key_eq bank log here)
   typeprefix_on h = ap by h
+
+-- where no scope has one, none is found
+pub typeprefix_none : (bank : Key → Option Answer) → ((path : List (List ℕ)) → bank (Typeprefix path) ≡ None) → (path : List (List ℕ)) → outcome (typeprefix_around path) bank ≡ None
+typeprefix_none bank none [] = refl
+typeprefix_none bank none (name ∷ scope) =
+    ap (λ answer. outcome (elim (typeprefix_in answer) as (λ _. Lookup (Option (List ℕ))) [ None ↦ typeprefix_around scope | Some text ↦ Done (Some text) ]) bank) (none (name ∷ scope))
+    ∙ typeprefix_none bank none scope

@@ -1,8 +1,8 @@
 //! What is known of the ids of declared names: the typeprefix of the scopes around them, and what identifies them.
 
-ghost use Rattle.std.specs.Prelude.{◌≡◌, IfOk, OnOk, Some};
+ghost use Rattle.std.specs.Prelude.{◌≡◌, IfOk, IsFalse, IsTrue, List, OnOk, Option, Some};
 ghost use Rattle.std.specs.Option.{option_copied};
-ghost use Rattle.idl_memo.specs.Query.{noted, run};
+ghost use Rattle.idl_memo.specs.Query.{noted, noted_all, run};
 ghost use Rattle.idl_env.specs.Facts.{answer_of, answers, identity_in, over, typeprefix_in};
 ghost use Rattle.idl_env.specs.keys.Key.{key_eq};
 ghost use Rattle.idl_env.specs.declared.keys.key.Key.TheVariants.{Typeprefix};
@@ -14,7 +14,7 @@ use idl_base::{Bytes, Shared};
 use idl_entity::paths::Names;
 use idl_entity::{Identity, Path};
 use idl_env::{Addition, Answer, Env, Facts, LentKey, identity_in, typeprefix_in};
-use idl_memo::Journal;
+use idl_memo::{Bank, Journal};
 use std::alloc::AllocError;
 
 impl<'a> View<'a> {
@@ -70,7 +70,8 @@ impl<'a> View<'a> {
     }
 }
 
-/// The typeprefix of the innermost scope that has one, of what is declared at a path and the scopes around it.
+/// The typeprefix of the innermost scope that has one, of what is declared at a path and the scopes around it. Where no scope
+/// has one, none is looked for unless somebody reads what is asked.
 #[inline(always)]
 pub fn typeprefix_around<'e>(
     env: &'e Env,
@@ -81,7 +82,37 @@ pub fn typeprefix_around<'e>(
         (option_copied text, log.new)
         ≡ run key_eq (typeprefix_around path.now) (answers env.now) log.old) }
 {
+    if env.has_typeprefixes() {
+        return typeprefix_over(env, None, log, path);
+    }
+    if note_asked(path, env, log) {
+        return Ok(None);
+    }
     typeprefix_over(env, None, log, path)
+}
+
+// A question, of which contracts know what it asks of a bank.
+trait Question<B: Bank> {
+    ghost asked: { Self → (B.Key → Option B.Answer) → List B.Key };
+}
+
+impl Question<Env> for Path {
+    ghost use Rattle.idl_memo.specs.Query.{asked};
+    ghost use Rattle.idl_scope.specs.Known.{typeprefix_around};
+
+    ghost asked = { λ path bank. asked (typeprefix_around path) bank };
+}
+
+// Whether contracts alone are told what is asked, and no digest is noted: then they are told all that a question asks, which
+// nobody looks for.
+#[inline(always)]
+fn note_asked<B: Bank, Q: Question<B>>(question: &Q, bank: &B, log: &mut Journal<B>) -> bool
+    ensures all { IsTrue result
+        → log.new
+        ≡ noted_all B.Key.eq (B.at bank.now) log.old (Q.asked question.now (B.at bank.now)) }
+    ensures none { IsFalse result → log.new ≡ log.old }
+{
+    log.note_all(question, bank)
 }
 
 // The same over an environment and what the earlier tokens of a unit add, where any are looked at.
