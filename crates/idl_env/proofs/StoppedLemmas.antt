@@ -69,7 +69,7 @@ module _ (answers : Key → Option Answer) where
 
 -- over answers that are the same where it is told, the same are stopped
 module _ (answers other : Key → Option Answer) where
-  declared-same : (keys : List Key) → ((k : Key) → IsIn k keys → other k ≡ answers k)
+  pub declared-same : (keys : List Key) → ((k : Key) → IsIn k keys → other k ≡ answers k)
       → list_any (λ k. is_some (entity_in (other k))) keys ≡ list_any (λ k. is_some (entity_in (answers k))) keys
   declared-same [] h = refl
   declared-same (k ∷ keys) h =

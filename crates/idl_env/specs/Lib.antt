@@ -1,3 +1,4 @@
+pub mod Differing
 pub mod Facts
 pub mod Held
 pub mod Outside

@@ -17,6 +17,7 @@ use Rattle.idl_root.specs.declared.kept.kept_units.Judgement.{Judgement}
 use Rattle.idl_root.specs.declared.kept.kept_units.KeptEntry.{KeptEntry}
 use Rattle.idl_root.specs.declared.kept.kept_units.KeptUnit.{KeptUnit}
 use Rattle.idl_root.specs.declared.kept.reprinting.Reprinting.{Reprinting}
+use Rattle.idl_env.specs.Differing.{differing}
 use Rattle.idl_env.specs.Facts.{UnitFacts, World, after, after_all, answers, entity_key, first_world, key_of, operations_among, stops_of, world, with_additions}
 use Rattle.idl_env.specs.keys.Key.{key_digest, key_eq}
 use Rattle.idl_scope.specs.Lookup.{Lookup}
@@ -60,13 +61,11 @@ noted-more : (changed : List ℕ) (keys : List Key) (additions : List Addition) 
 noted-more changed keys additions h =
     All-append (λ q. Contains (changed ++ own additions) (key_digest q)) keys (map key_of additions) (noted-wider changed (own additions) keys h) (noted-own changed additions)
 
--- with the keys of those of one unit and of another
-noted-both : (changed : List ℕ) (keys : List Key) (fs gs : List Addition) → AreNoted changed keys → AreNoted ((changed ++ own fs) ++ own gs) (keys ++ (map key_of fs ++ map key_of gs))
-noted-both changed keys fs gs h =
-    let here : Key → Type 0 = λ q. Contains ((changed ++ own fs) ++ own gs) (key_digest q) in
-    All-append here keys (map key_of fs ++ map key_of gs)
-    (noted-wider (changed ++ own fs) (own gs) keys (noted-wider changed (own fs) keys h))
-    (All-append here (map key_of fs) (map key_of gs) (noted-wider (changed ++ own fs) (own gs) (map key_of fs) (noted-own changed fs)) (noted-own (changed ++ own fs) gs))
+-- with more keys
+noted-with : (changed : List ℕ) (keys more : List Key) → AreNoted changed keys → AreNoted (changed ++ map key_digest more) (keys ++ more)
+noted-with changed keys more h =
+    All-append (λ q. Contains (changed ++ map key_digest more) (key_digest q)) keys more (noted-wider changed (map key_digest more) keys h)
+    (λ k d lt. Contains-append_right changed (map key_digest more) (key_digest (get_or more k d)) (at-map key_digest more k d lt))
 
 -- ---- what is kept, beside facts
 
@@ -223,59 +222,44 @@ module _ (wider : (keys : List Key) (w other : World) → WorldsAgreeOutside key
           beside-next true changed keys k rest kept b.before facts f is b.whole b.units b.but.noted
           (subst (λ g. WorldsAgreeAround keys (after (world b.before) g) (after (world facts) f)) (sym adds) (law_around keys (world b.before) (world facts) f b.but.agree stays stops))
 
-      -- what is looked at is told by the answers alone
-      looked-answers : (w : World) (step : Step) → looked_at_by w (record { additions = []; step = step }) ≡ looked_at w step
-      looked-answers w Stays = refl
-      looked-answers w (Opens path kind) = refl
-      looked-answers w (OpensNameless kind) = refl
-      looked-answers w Closes = refl
-      looked-answers w (Prefixes text) = refl
-      looked-answers w Enters = refl
-      looked-answers w Leaves = refl
-
-      -- behind units of which one takes the place of the other
-      pub beside-other : ((keys : List Key) (w other : World) (f g : UnitFacts) → WorldsAgreeOutside keys w other → f.step ≡ g.step → operations_among f.additions ≡ operations_among g.additions
-          → let more = keys ++ (map key_of f.additions ++ map key_of g.additions) in
-          AreApart (looked_at (with_additions f.additions w) f.step) more → WorldsAgreeOutside more (after w f) (after other g))
-          → ((keys : List Key) (w other : World) (f g : UnitFacts) → WorldsAgreeAround keys w other → f.step ≡ Stays → g.step ≡ Stays
-          → WorldsAgreeAround (keys ++ (map key_of f.additions ++ map key_of g.additions)) (after w f) (after other g))
-          → (around then_around : Bool) (changed : List ℕ) (k : KeptUnit) (rest kept : List KeptUnit) (facts : List UnitFacts) (g : UnitFacts) → kept ≡ k ∷ rest
-          → (then_around ≡ false → (around ≡ false) × (operations_among (added_by k).additions ≡ operations_among g.additions))
-          → (now : List ℕ) → now ≡ (changed ++ own (added_by k).additions) ++ own g.additions
-          → (added_by k).step ≡ g.step → StayAlike then_around facts now g
-          → IsBeside all around changed kept facts → IsBeside all then_around now rest (facts ++ g ∷ [])
-      beside-other law law_around around false changed k rest kept facts g is may now now-is steps (looked, (noted, apart)) b =
-          let none = subst (ShareNone looked) now-is apart in
-          let operations = (may refl).1 in
-          let f = added_by k in
-          let keys = b.but.keys in
-          let w = world b.before in
-          let v = world facts in
-          let alike : WorldsAgreeOutside keys w v = subst (λ a. WorldsAgree a keys w v) (may refl).0 b.but.agree in
-          let more = keys ++ (map key_of f.additions ++ map key_of g.additions) in
-          let both = noted-both changed keys f.additions g.additions b.but.noted in
-          let w2 = with_additions f.additions w in
-          let v2 = with_additions g.additions v in
-          let clear = apart-noted looked ((changed ++ own f.additions) ++ own g.additions) (looked_at_by v g) more noted both none in
-          let here : AreApart (looked_at v2 g.step) more = λ q c. clear q (Contains-append_right (flat_map stops_of g.additions) (looked_at v2 g.step) q c) in
-          let grown : WorldsAgreeOutside more w2 v2 =
-          law keys w v (record { additions = f.additions; step = Stays }) (record { additions = g.additions; step = Stays }) alike refl operations (λ key i j. omega (arith, i.1)) in
-          let there : AreApart (looked_at w2 f.step) more =
-          subst (λ l. AreApart l more) (looked-answers w2 f.step)
-          (looked_law more w2 v2 (record { additions = []; step = f.step }) grown
-          (subst (λ l. AreApart l more) (sym (looked-answers v2 f.step)) (subst (λ s. AreApart (looked_at v2 s) more) (sym steps) here))) in
-          subst (λ n. IsBeside all false n rest (facts ++ g ∷ [])) (sym now-is)
-          (beside-next false ((changed ++ own f.additions) ++ own g.additions) more k rest kept b.before facts g is b.whole b.units both (law keys w v f g alike steps operations there))
-      beside-other law law_around around true changed k rest kept facts g is may now now-is steps (stays, elsewhere) b =
-          let f = added_by k in
-          let keys = b.but.keys in
-          let w = world b.before in
-          let v = world facts in
-          let more = keys ++ (map key_of f.additions ++ map key_of g.additions) in
-          let both = noted-both changed keys f.additions g.additions b.but.noted in
-          subst (λ n. IsBeside all true n rest (facts ++ g ∷ [])) (sym now-is)
-          (beside-next true ((changed ++ own f.additions) ++ own g.additions) more k rest kept b.before facts g is b.whole b.units both
-          (law_around keys w v f g (agree-around around keys w v b.but.agree) (steps ∙ stays) stays))
+    -- behind units of which one takes the place of the other
+    pub beside-other : ((keys : List Key) (w other : World) (f g : UnitFacts) → WorldsAgreeOutside keys w other → f.step ≡ g.step → operations_among f.additions ≡ operations_among g.additions
+        → let more = keys ++ differing f.additions g.additions in
+        AreApart (looked_at_by other g) more → WorldsAgreeOutside more (after w f) (after other g))
+        → ((keys : List Key) (w other : World) (f g : UnitFacts) → WorldsAgreeAround keys w other → f.step ≡ Stays → g.step ≡ Stays → AreApart (flat_map stops_of g.additions) keys
+        → WorldsAgreeAround (keys ++ differing f.additions g.additions) (after w f) (after other g))
+        → (around then_around : Bool) (changed : List ℕ) (k : KeptUnit) (rest kept : List KeptUnit) (facts : List UnitFacts) (g : UnitFacts) → kept ≡ k ∷ rest
+        → (then_around ≡ false → (around ≡ false) × (operations_among (added_by k).additions ≡ operations_among g.additions))
+        → (now : List ℕ) → now ≡ changed ++ map key_digest (differing (added_by k).additions g.additions)
+        → (added_by k).step ≡ g.step → StayAlike then_around facts now g
+        → IsBeside all around changed kept facts → IsBeside all then_around now rest (facts ++ g ∷ [])
+    beside-other law law_around around false changed k rest kept facts g is may now now-is steps (looked, (noted, none)) b =
+        let f = added_by k in
+        let keys = b.but.keys in
+        let w = world b.before in
+        let v = world facts in
+        let alike : WorldsAgreeOutside keys w v = subst (λ a. WorldsAgree a keys w v) (may refl).0 b.but.agree in
+        let more = keys ++ differing f.additions g.additions in
+        let digests = changed ++ map key_digest (differing f.additions g.additions) in
+        let both : AreNoted digests more = noted-with changed keys (differing f.additions g.additions) b.but.noted in
+        let clear = apart-noted looked digests (looked_at_by v g) more noted both (subst (ShareNone looked) now-is none) in
+        subst (λ n. IsBeside all false n rest (facts ++ g ∷ [])) (sym now-is)
+        (beside-next false digests more k rest kept b.before facts g is b.whole b.units both (law keys w v f g alike steps (may refl).1 clear))
+    beside-other law law_around around true changed k rest kept facts g is may now now-is steps (stays, (looked, (noted, none))) b =
+        let f = added_by k in
+        let keys = b.but.keys in
+        let w = world b.before in
+        let v = world facts in
+        let more = keys ++ differing f.additions g.additions in
+        let digests = changed ++ map key_digest (differing f.additions g.additions) in
+        let both : AreNoted digests more = noted-with changed keys (differing f.additions g.additions) b.but.noted in
+        let clear = apart-noted looked digests (looked_at_by v g) more noted both (subst (ShareNone looked) now-is none) in
+        let stops : AreApart (flat_map stops_of g.additions) keys = λ q c i.
+        clear q (Contains-append_left (flat_map stops_of g.additions) (looked_at (with_additions g.additions v) g.step) q c)
+        (Contains-append_left keys (differing f.additions g.additions) q i) in
+        subst (λ n. IsBeside all true n rest (facts ++ g ∷ [])) (sym now-is)
+        (beside-next true digests more k rest kept b.before facts g is b.whole b.units both
+        (law_around keys w v f g (agree-around around keys w v b.but.agree) (steps ∙ stays) stays stops))
 
 -- ---- what is taken over
 

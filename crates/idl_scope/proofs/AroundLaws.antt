@@ -16,7 +16,7 @@ use Rattle.idl_entity.specs.declared.entity.Entity.{Entity}
 use Rattle.idl_env.specs.declared.keys.key.Key.{Key}
 use Rattle.idl_env.specs.declared.keys.key.Key.TheVariants.{Cursor, Declared}
 use Rattle.idl_entity.specs.declared.kind.Kind.TheVariants.{Interface}
-use Rattle.idl_scope.proofs.ExchangeLaws.{added-elsewhere, exchanged, over-elsewhere, over-exchanged}
+use Rattle.idl_scope.proofs.DifferingLaws.{added-elsewhere, exchanged, over-elsewhere, over-exchanged}
 use Rattle.idl_scope.proofs.FactsLaws.{additions-outside, with_answer-outside, with_prefix-outside}
 use Rattle.idl_scope.proofs.LookupLaws.LookupLaws.{own_path}
 use Rattle.idl_env.proofs.Membership.{Contains-IsIn, IsIn, IsIn-Contains, IsIn-left, IsIn-right}
@@ -38,16 +38,16 @@ module _ (keys : List Key) (w v : World) where
       subst (λ (s : Step). WorldsAgreeAround keys (after_step (with_additions f.additions w) s) (after_step (with_additions f.additions v) s)) (sym step)
       (additions-outside f.additions keys w.answers v.answers same apart, (inside, both.1))
 
-  pub around-pair : (f g : UnitFacts) → WorldsAgreeAround keys w v → f.step ≡ Stays → g.step ≡ Stays
+  pub around-pair : (f g : UnitFacts) → WorldsAgreeAround keys w v → f.step ≡ Stays → g.step ≡ Stays → AreApart (flat_map stops_of g.additions) keys
       → WorldsAgreeAround (exchanged keys f.additions g.additions) (after w f) (after v g)
-  around-pair f g (same, both) step other =
+  around-pair f g (same, both) step other apart =
       let more = exchanged keys f.additions g.additions in
       let ours = operations_among f.additions in
       let theirs = operations_among g.additions in
       let inside : drop 1 (more_inside v.inside theirs) ≡ drop 1 (more_inside w.inside ours) =
       around-more_inside v.inside theirs ∙ both.0 ∙ sym (around-more_inside w.inside ours) in
       let added : WorldsAgreeAround more (with_additions f.additions w) (with_additions g.additions v) =
-      (over-exchanged keys f.additions g.additions w.answers v.answers same, (inside, both.1)) in
+      (over-exchanged keys f.additions g.additions w.answers v.answers same apart, (inside, both.1)) in
       let left : WorldsAgreeAround more (after w f) (with_additions g.additions v) =
       subst (λ (s : Step). WorldsAgreeAround more (after_step (with_additions f.additions w) s) (with_additions g.additions v)) (sym step) added in
       subst (λ (s : Step). WorldsAgreeAround more (after w f) (after_step (with_additions g.additions v) s)) (sym other) left

@@ -1,5 +1,6 @@
 pub mod AroundLaws
 pub mod Constructors
+pub mod DifferingLaws
 pub mod ExchangeLaws
 pub mod FactsLaws
 pub mod IdLaws

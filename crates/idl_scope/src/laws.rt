@@ -9,14 +9,15 @@ ghost use Rattle.idl_memo.specs.Query.{Agree, asked, outcome, run};
 ghost use Rattle.idl_entity.specs.Identity.{no_prefix};
 ghost use Rattle.idl_tree.specs.declared.name.ScopedName.{ScopedName};
 ghost use Rattle.idl_env.specs.Turns.{HasTurnsFor};
-ghost use Rattle.idl_env.specs.Facts.{UnitFacts, World, after, after_all, answers, entity_key, key_of, operations_among, over, path_around, prefix_in, scopes_in, stops_of, unstopped, with_additions, world};
+ghost use Rattle.idl_env.specs.Differing.{differing};
+ghost use Rattle.idl_env.specs.Facts.{UnitFacts, World, after, after_all, answers, entity_key, key_of, operations_among, over, path_around, prefix_in, scopes_in, stops_of, unstopped, world};
 ghost use Rattle.idl_env.specs.keys.Key.{key_eq};
 ghost use Rattle.idl_env.specs.declared.keys.key.Key.{Key};
 ghost use Rattle.idl_env.specs.declared.keys.key.Key.TheVariants as key;
 ghost use Rattle.idl_scope.specs.Known.{told_at};
 ghost use Rattle.idl_scope.specs.Lookup.{Lookup, denoted, has, reached, under};
 ghost use Rattle.idl_scope.specs.Meaning.{Denotes, Has, Reaches, Through, bases_at, entity_found, own_at, seen};
-ghost use Rattle.idl_env.specs.Outside.{AgreeOutside, AreApart, IsInnermost, WorldsAgreeAround, WorldsAgreeOutside, looked_at, looked_at_by};
+ghost use Rattle.idl_env.specs.Outside.{AgreeOutside, AreApart, IsInnermost, WorldsAgreeAround, WorldsAgreeOutside, looked_at_by};
 ghost use Rattle.idl_entity.specs.Path.{name_of, scope_of};
 ghost use Rattle.idl_env.specs.declared.additions.addition.Addition.{Addition};
 ghost use Rattle.idl_scope.specs.Stretch.{IsBalanced, closes, enters, leaves, opens};
@@ -122,15 +123,14 @@ pub fn adding()
 {}
 
 /// Facts that take the place of others with the same operations and the same change of the open scopes leave answers that are the
-/// same outside the keys of both; with no operations and no such change they may also come or go. What facts look at is told from
-/// either of two worlds, if they look at none of the keys outside of which these agree.
+/// same outside the keys at which the two differ, if they look at none of these; with no operations and no such change they may also
+/// come or go. What facts look at is told from either of two worlds, if they look at none of the keys outside of which these agree.
 pub fn exchanging()
     ensures pair { (keys : List Key) (w other : World) (f g : UnitFacts)
         → WorldsAgreeOutside keys w other → f.step ≡ g.step
         → operations_among f.additions ≡ operations_among g.additions
-        → let more = keys ++ (map key_of f.additions ++ map key_of g.additions) in
-        AreApart (looked_at (with_additions f.additions w) f.step) more
-        → WorldsAgreeOutside more (after w f) (after other g) }
+        → let more = keys ++ differing f.additions g.additions in
+        AreApart (looked_at_by other g) more → WorldsAgreeOutside more (after w f) (after other g) }
     ensures less { (keys : List Key) (w other : World) (f : UnitFacts)
         → WorldsAgreeOutside keys w other → f.step ≡ Stays → operations_among f.additions ≡ []
         → WorldsAgreeOutside (keys ++ map key_of f.additions) (after w f) other }
@@ -154,8 +154,8 @@ pub fn agreeing_around()
         → WorldsAgreeAround keys (after w f) (after other f) }
     ensures pair { (keys : List Key) (w other : World) (f g : UnitFacts)
         → WorldsAgreeAround keys w other → f.step ≡ Stays → g.step ≡ Stays
-        → WorldsAgreeAround (keys ++ (map key_of f.additions ++ map key_of g.additions))
-        (after w f) (after other g) }
+        → AreApart (flat_map stops_of g.additions) keys
+        → WorldsAgreeAround (keys ++ differing f.additions g.additions) (after w f) (after other g) }
     ensures less { (keys : List Key) (w other : World) (f : UnitFacts)
         → WorldsAgreeAround keys w other → f.step ≡ Stays
         → WorldsAgreeAround (keys ++ map key_of f.additions) (after w f) other }

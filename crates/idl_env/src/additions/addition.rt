@@ -1,6 +1,7 @@
 //! What a declared name or a use adds, and how the open scopes change.
 
 ghost use Rattle.std.specs.Prelude.{◌≡◌, ◌∷◌, [], IfOk, IfSome, IsTrue, None};
+ghost use Rattle.idl_env.specs.Differing.{is_alike};
 ghost use Rattle.idl_env.specs.Facts.{answer_of, key_of, operations_among};
 ghost use Rattle.idl_env.specs.keys.HeldKey.{key_in};
 ghost use Rattle.idl_env.specs.keys.Key.{key_digest, key_eq};
@@ -163,6 +164,16 @@ impl Addition {
             (Addition::TypePrefixes(path, _), Addition::TypePrefixes(same, _)) => *path == *same,
             _ => false,
         }
+    }
+
+    /// Whether another is at that key too, leaves the same answer there, and may be stopped by the same scopes.
+    pub(crate) fn is_alike(&self, alloc: Global, other: &Addition) -> Result<bool, AllocError>
+        ensures { IfOk result (λ alike. alike ≡ is_alike self.now other.now) }
+    {
+        if !self.has_key_of(other) || !self.is_stopped_as(other) {
+            return Ok(false);
+        }
+        Ok(self.answer(alloc)? == other.answer(alloc)?)
     }
 
     /// The path of the operation or attribute that it declares, if it does.

@@ -1,10 +1,12 @@
-//! What is asked of facts that take the place of others: at which keys they add, and whether they declare the same operations
-//! and change the open scopes in the same way.
+//! What is asked of facts that take the place of others: at which keys they add, and add otherwise, and whether they declare the
+//! same operations and change the open scopes in the same way.
 
 ghost use Rattle.std.specs.Prelude.{◌≡◌, ◌++◌, ◌∷◌, [], IfSome, IsTrue, None, OnOk, drop, map};
+ghost use Rattle.idl_env.specs.Differing.{differing, unlike};
 ghost use Rattle.idl_env.specs.Facts.{key_of, operations_among};
 ghost use Rattle.idl_env.specs.keys.Key.{key_digest};
 
+use crate::additions::digested_addition::DigestedAddition;
 use crate::additions::facts::Facts;
 use idl_entity::Path;
 use std::alloc::AllocError;
@@ -22,6 +24,51 @@ impl Facts {
             };
             digests.push(addition.digest())?;
         }
+        Ok(())
+    }
+
+    /// Puts the digests of the keys at which they add otherwise than others, or these than they, behind those that are there.
+    pub fn differing_into(&self, others: &Facts, digests: &mut Vec<u64>) -> Result<(), AllocError>
+        ensures { OnOk result
+            (digests.new.items
+            ≡ digests.old.items
+            ++ map key_digest (differing self.now.additions others.now.additions)) }
+    {
+        self.unlike_into(others, digests)?;
+        others.unlike_into(self, digests)?;
+        Ok(())
+    }
+
+    // Puts the digests of the keys of those additions last to which none of the others is alike.
+    fn unlike_into(&self, others: &Facts, digests: &mut Vec<u64>) -> Result<(), AllocError>
+        ensures { OnOk result
+            (digests.new.items
+            ≡ digests.old.items
+            ++ map key_digest (unlike self.now.additions others.now.additions)) }
+    {
+        for index in 0..self.len() {
+            let Some(addition) = self.digested(index) else {
+                continue;
+            };
+            others.put_unless_alike(digests, addition)?;
+        }
+        Ok(())
+    }
+
+    // Puts the digest of the key of an addition last, unless one of them is alike to it.
+    fn put_unless_alike(
+        &self,
+        digests: &mut Vec<u64>,
+        addition: &DigestedAddition,
+    ) -> Result<(), AllocError>
+        ensures { OnOk result
+            (digests.new.items
+            ≡ digests.old.items ++ map key_digest (unlike (addition.now ∷ []) self.now.additions)) }
+    {
+        if self.has_alike(addition)? {
+            return Ok(());
+        }
+        digests.push(addition.digest())?;
         Ok(())
     }
 

@@ -4,6 +4,7 @@ ghost use Rattle.std.specs.Prelude.{◌≡◌, ◌<◌, ◌++◌, ◌∷◌, [],
 ghost use Rattle.std.specs.Map.{lookup};
 ghost use Rattle.std.specs.Option.{option_copied};
 ghost use Rattle.idl_map.specs.Marks.{AreMarked};
+ghost use Rattle.idl_env.specs.Differing.{has_alike};
 ghost use Rattle.idl_env.specs.Facts.{addition_at, key_of, operations_among, with_addition};
 ghost use Rattle.idl_env.specs.keys.Key.{key_digest, key_eq};
 ghost use Rattle.idl_env.specs.declared.additions.addition.Step.TheVariants.{Stays};
@@ -184,6 +185,30 @@ impl Facts {
         }
     }
 
+    /// Whether the addition at the key of another is alike to it.
+    pub(crate) fn has_alike(&self, other: &DigestedAddition) -> Result<bool, AllocError>
+        ensures { IfOk result (λ alike. alike ≡ has_alike self.now.additions other.now) }
+    {
+        match self.at_key_of(other)? {
+            Some(addition) => other.addition().is_alike(self.alloc, addition),
+            None => Ok(false),
+        }
+    }
+
+    // The addition at the key of another, or nothing. It takes memory only where there are many additions.
+    fn at_key_of(&self, other: &DigestedAddition) -> Result<Option<&Addition>, AllocError>
+        ensures { IfOk result (λ a.
+            option_copied a ≡ addition_at self.now.additions (key_of other.now)) }
+    {
+        if !self.marks.has(other.digest()) {
+            return Ok(None);
+        }
+        match place_among(self.first.as_slice(), other) {
+            Some(place) => Ok(Some(self.first[place].addition())),
+            None => behind_at(self.alloc, &self.others, other),
+        }
+    }
+
     /// How many additions there are.
     pub fn len(&self) -> usize
         ensures { result ≡ length self.now.additions }
@@ -291,6 +316,25 @@ fn behind<'a>(
         return Ok(None);
     }
     let key = key.owned()?;
+    match others.get(&key) {
+        Some(addition) => Ok(Some(addition.addition())),
+        None => Ok(None),
+    }
+}
+
+// The one at the key of another among those behind the first ones.
+fn behind_at<'a>(
+    alloc: Global,
+    others: &'a Table<DigestedKey, DigestedAddition>,
+    other: &DigestedAddition,
+) -> Result<Option<&'a Addition>, AllocError>
+    ensures { IfOk result (λ a.
+        option_copied a ≡ lookup (key_eq (key_of other.now)) others.now) }
+{
+    if others.is_empty() {
+        return Ok(None);
+    }
+    let key = other.key(alloc)?;
     match others.get(&key) {
         Some(addition) => Ok(Some(addition.addition())),
         None => Ok(None),

@@ -2,7 +2,10 @@
 
 ghost use Rattle.std.specs.Prelude.{◌≡◌, ◌++◌, ◌∷◌, [], IfOk, IfSome, IsFalse, None, OnOk, flat_map, is_some, map};
 ghost use Rattle.std.specs.List.{list_any};
+ghost use Rattle.std.specs.Cmp.Lexicographic.{pointwise};
 ghost use Rattle.std.specs.Map.{lookup};
+ghost use Rattle.idl_entity.specs.Path.{path_eq};
+ghost use Rattle.idl_env.specs.Differing.{unless_of};
 ghost use Rattle.idl_env.specs.Facts.{entity_in, is_stopped, stops_of, unstopped};
 ghost use Rattle.idl_env.specs.keys.Key.{key_digest, key_eq};
 ghost use Rattle.idl_env.specs.declared.keys.key.Key.TheVariants.{Declared};
@@ -40,6 +43,23 @@ impl Addition {
         match self {
             Addition::UsesFurther(name, _, further) => Some((name, further.get())),
             _ => None,
+        }
+    }
+
+    /// Whether the same scopes may stop both.
+    pub(crate) fn is_stopped_as(&self, other: &Addition) -> bool
+        ensures { result ≡ pointwise path_eq (unless_of self.now) (unless_of other.now) }
+    {
+        self.unless() == other.unless()
+    }
+
+    // The paths of the scopes that may stop it.
+    fn unless(&self) -> &[Path]
+        ensures { result.now ≡ unless_of self.now }
+    {
+        match self {
+            Addition::UsesFurther(_, _, further) => further.get().unless.as_slice(),
+            _ => &[],
         }
     }
 

@@ -3,6 +3,7 @@
 ghost use Rattle.std.specs.Prelude.{◌≡◌, ◌++◌, ◌∷◌, [], IfOk, IsFalse, IsTrue, OnOk, Contains, map};
 ghost use Rattle.idl_root.specs.Changed.{mark_of};
 ghost use Rattle.idl_root.specs.Followed.{ShareNone};
+ghost use Rattle.idl_env.specs.Differing.{differing};
 ghost use Rattle.idl_env.specs.Facts.{key_of};
 ghost use Rattle.idl_env.specs.keys.Key.{key_digest};
 
@@ -81,8 +82,30 @@ impl Changed {
     {
         let mut more = Vec::new(alloc);
         facts.digests_into(&mut more)?;
+        self.with_all(more.as_slice())
+    }
+
+    /// With those of the keys at which facts add otherwise than others.
+    pub fn with_differing(
+        self,
+        alloc: Global,
+        facts: &Facts,
+        others: &Facts,
+    ) -> Result<Changed, AllocError>
+        ensures { IfOk result (λ changed. changed
+            ≡ self ++ map key_digest (differing facts.now.additions others.now.additions)) }
+    {
+        let mut more = Vec::new(alloc);
+        facts.differing_into(others, &mut more)?;
+        self.with_all(more.as_slice())
+    }
+
+    // With these.
+    fn with_all(self, digests: &[u64]) -> Result<Changed, AllocError>
+        ensures { IfOk result (λ changed. changed ≡ self ++ digests.now) }
+    {
         let mut changed = self;
-        for digest in more.as_slice() {
+        for digest in digests {
             changed.push(*digest)?;
         }
         Ok(changed)

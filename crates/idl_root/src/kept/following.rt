@@ -276,7 +276,7 @@ impl<'k> Following<'k> {
         if !before.is_same_step(facts) {
             return Ok(None);
         }
-        let changed = changed.with(alloc, before)?.with(alloc, facts)?;
+        let changed = changed.with_differing(alloc, before, facts)?;
         let is_around = may_differ(is_around, before, facts);
         if changed.len() > MOST || !stay_alike(is_around, env, &changed, facts)? {
             return Ok(None);

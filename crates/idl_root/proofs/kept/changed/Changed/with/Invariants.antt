@@ -1,6 +1,0 @@
-use Rattle.std.proofs.Common.{◌≡◌, ◌++◌, drop}
-use Rattle.idl_root.proofs.kept.changed.Changed.with.Given as goal
-
--- those so far and the rest are all
-abbrev pub invariant-loop-digest : goal.invariant-loop-digest
-invariant-loop-digest l = l.changed ++ drop l.digest-index l.digest-items ≡ l.fn.self ++ l.digest-items
