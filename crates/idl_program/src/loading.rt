@@ -72,7 +72,8 @@ impl Loading {
     // Loads what the roots ask for.
     #[inline(never)]
     fn explore_all<L: Loader>(&mut self, roots: &[Name], loader: &mut L) -> Result<(), CompileFault>
-        ensures { OnOk result (IsLoading (L.told loader.old) (L.told loader.new) self.old self.new) }
+        ensures { OnOk result
+            (IsLoading (L.told loader.old) (L.told loader.new) self.old self.new) }
     {
         'roots: for root in roots {
             self.explorer = Explorer::new(self.sources.allocator());
@@ -89,7 +90,8 @@ impl Loading {
         root: &Name,
         loader: &mut L,
     ) -> Result<Option<OpenFile>, CompileFault>
-        ensures { OnOk result (IsLoading (L.told loader.old) (L.told loader.new) self.old self.new) }
+        ensures { OnOk result
+            (IsLoading (L.told loader.old) (L.told loader.new) self.old self.new) }
     {
         if let Some(file) = self.opened(root)? {
             return Ok(Some(file));
@@ -111,7 +113,8 @@ impl Loading {
         room: usize,
         file: &OpenFile,
     ) -> Result<(), CompileFault>
-        ensures { OnOk result (IsLoading (L.told loader.old) (L.told loader.new) self.old self.new) }
+        ensures { OnOk result
+            (IsLoading (L.told loader.old) (L.told loader.new) self.old self.new) }
     {
         let mut walk = FileWalk::new(self.sources.allocator(), file);
         'steps: for _ in 0..u64::MAX {
@@ -142,7 +145,8 @@ impl Loading {
         room: usize,
         file: &OpenFile,
     ) -> Result<(), CompileFault>
-        ensures { OnOk result (IsLoading (L.told loader.old) (L.told loader.new) self.old self.new) }
+        ensures { OnOk result
+            (IsLoading (L.told loader.old) (L.told loader.new) self.old self.new) }
     {
         if room == 0 {
             return self
@@ -155,7 +159,8 @@ impl Loading {
 
     // Loads the first of these names that there is.
     fn load_first<L: Loader>(&mut self, names: &[Name], loader: &mut L) -> Result<(), CompileFault>
-        ensures { OnOk result (IsLoading (L.told loader.old) (L.told loader.new) self.old self.new) }
+        ensures { OnOk result
+            (IsLoading (L.told loader.old) (L.told loader.new) self.old self.new) }
     {
         'names: for name in names {
             if self.load(name, loader)? {
@@ -168,7 +173,8 @@ impl Loading {
     // Loads the file of this name, unless it is known to be missing, and tells whether it is there.
     #[inline(never)]
     fn load<L: Loader>(&mut self, name: &Name, loader: &mut L) -> Result<bool, CompileFault>
-        ensures { OnOk result (IsLoading (L.told loader.old) (L.told loader.new) self.old self.new) }
+        ensures { OnOk result
+            (IsLoading (L.told loader.old) (L.told loader.new) self.old self.new) }
     {
         if self.missing.contains(name) {
             return Ok(false);

@@ -133,7 +133,8 @@ fn take_line(announced: &mut Announced, line: Option<&[u8]>)
     requires one_line { IfSome line (λ l. IsLine l.now) }
     ensures { (count : ℕ) (lines : List (List ℕ)) (next : List ℕ)
         → option_copied line.entry ≡ line_within longest_line next
-        → IsGathered count lines announced.old → IsGathered count (lines ++ next ∷ []) announced.new }
+        → IsGathered count lines announced.old
+        → IsGathered count (lines ++ next ∷ []) announced.new }
 {
     if let Announced::Whole(lines) = announced {
         let Some(line) = line else {

@@ -92,7 +92,8 @@ impl Feed {
         requires counts { S.failures source.old < 2 ^ 64 - 1 }
 
         ensures given { let new = stream_of (S.remaining source.new) self.new in
-            OnOk result (new ≡ record (unread (S.remaining source.old)) { ended = self.new.ended }) }
+            OnOk result
+            (new ≡ record (unread (S.remaining source.old)) { ended = self.new.ended }) }
         ensures end { OnOk result (MatchBool self.new.ended
             ((self.new.bytes ≡ []) × IsOver (S.remaining source.old))
             (0 < length self.new.bytes)) }

@@ -94,7 +94,8 @@ pub fn write_work<K: Sink>(sink: &mut K, work: Work) -> Result<(), WriteFailed>
         (K.written sink.new ≡ append (K.written sink.old) (work_reply work)) }
     ensures ok { OnOk result (K.failures sink.new ≡ K.failures sink.old) }
 
-    ensures part { OnErr result (WritesPart (K.written sink.old) (work_reply work) (K.written sink.new)) }
+    ensures part { OnErr result
+        (WritesPart (K.written sink.old) (work_reply work) (K.written sink.new)) }
     ensures err { OnErr result (K.failures sink.new ≡ K.failures sink.old + 1) }
 {
     let mut reply = Reply::new();

@@ -1,12 +1,11 @@
 //! The tests, by subject.
 
-mod data;
+mod commands;
 mod devices;
-mod limits;
-mod memory;
+mod expansions;
+mod files;
+mod journals;
 mod rows;
-mod scripts;
-mod sources;
 mod support;
+mod tokens;
 mod units;
-mod values;

@@ -17,19 +17,6 @@ struct Device<'a> {
     failures: u64,
 }
 
-impl<'a> Device<'a> {
-    fn new(text: &'a str, left: usize, most: usize) -> Device<'a>
-        ensures { result.failures ≡ 0 }
-    {
-        Device {
-            bytes: text.as_bytes(),
-            left,
-            most,
-            failures: 0,
-        }
-    }
-}
-
 impl<'a> Source for Device<'a> {
     ghost remaining = { λ _. None };
 
@@ -95,26 +82,35 @@ const ASKED: &str =
     "dump a.idl\nroot a.idl\ndiagnostics a.idl\ndump a.idl\nabsent a.idl\nroot d/b.idl\ndump d/b.idl\n\
      put c.idl 3\n#ifdef R\ntypedef long Y;\n#endif\nroot c.idl\ndump c.idl\n";
 
+// A device that moves bytes of this text.
+fn device_of(text: &str, left: usize, most: usize) -> Device<'_>
+    ensures { result.failures ≡ 0 }
+{
+    let bytes = text.as_bytes();
+    Device {
+        bytes,
+        left,
+        most,
+        failures: 0,
+    }
+}
+
 // A run over such devices stops so. Nothing was called after a call that failed.
 fn stops_so(session: &mut Session, script: Script<'_>, stop: Option<Stop>) -> bool {
-    let mut source = Device::new(script.given, script.reads, script.most);
-    let mut sink = Device::new(script.wanted, script.writes, script.most);
+    let mut source = device_of(script.given, script.reads, script.most);
+    let mut sink = device_of(script.wanted, script.writes, script.most);
     run(session, &mut source, &mut sink).err() == stop
         && (source.left, sink.left) == (0, 0)
         && source.failures == u64::from(stop == Some(Stop::ReadFailed))
         && sink.failures == u64::from(stop == Some(Stop::WriteFailed))
 }
 
-fn answers_so(alloc: Global, session: &mut Session, want: &[u8]) -> Result<bool, Fail> {
-    let answer = replies(alloc, session, ASKED)?;
-    Ok(answer.as_bytes() == want)
-}
-
 // A run over such devices stops so, and leaves a session that answers so.
 fn leaves(alloc: Global, script: Script<'_>, stop: Option<Stop>, want: &[u8]) -> Result<(), Fail> {
     let mut session = Session::new(alloc);
     let is_so = stops_so(&mut session, script, stop);
-    if answers_so(alloc, &mut session, want)? && is_so {
+    let answer = replies(alloc, &mut session, ASKED)?;
+    if is_so && answer.as_bytes() == want {
         return Ok(());
     }
     let Script { reads, writes, .. } = script;
@@ -154,31 +150,14 @@ fn has_writes(alloc: Global, script: &mut Script<'_>, times: usize) -> Result<()
     Ok(())
 }
 
-fn has_stops(alloc: Global, script: &mut Script<'_>, command: &str) -> Result<(), Fail> {
-    let (lines, reply) = command.split_once("=>").unwrap_or((command, ""));
-    has_reads(alloc, script, lines.len().max(1))?;
-    has_writes(alloc, script, reply.len())
-}
-
-// Nothing fails, and all has been served.
-fn ends(alloc: Global, script: Script<'_>) -> Result<(), Fail> {
-    let all = after(alloc, script.given, script.reads)?;
-    leaves(alloc, script, None, all.as_bytes())
-}
-
-// All commands of a text, or all replies.
-fn joined(alloc: Global, text: &str, is_given: bool) -> Result<String, AllocError> {
-    let mut all = String::new(alloc);
+// In the end nothing fails, and all has been served.
+fn have_stops(alloc: Global, text: &str, most: usize) -> Result<(), Fail> {
+    let (mut given, mut wanted) = (String::new(alloc), String::new(alloc));
     for command in text.split('|') {
         let (lines, reply) = command.split_once("=>").unwrap_or((command, ""));
-        all.push_str(if is_given { lines } else { reply })?;
+        given.push_str(lines)?;
+        wanted.push_str(reply)?;
     }
-    Ok(all)
-}
-
-fn have_stops(alloc: Global, text: &str, most: usize) -> Result<(), Fail> {
-    let given = joined(alloc, text, true)?;
-    let wanted = joined(alloc, text, false)?;
     let mut script = Script {
         given: given.as_str(),
         wanted: wanted.as_str(),
@@ -187,22 +166,24 @@ fn have_stops(alloc: Global, text: &str, most: usize) -> Result<(), Fail> {
         most,
     };
     for command in text.split('|') {
-        has_stops(alloc, &mut script, command)?;
+        let (lines, reply) = command.split_once("=>").unwrap_or((command, ""));
+        has_reads(alloc, &mut script, lines.len().max(1))?;
+        has_writes(alloc, &mut script, reply.len())?;
     }
-    ends(alloc, script)
+    let all = after(alloc, script.given, script.reads)?;
+    leaves(alloc, script, None, all.as_bytes())
 }
 
 // Commands, each with its reply behind `=>`, and `|` between them; behind the last one what the end has.
 static SCRIPTS: [&str; 3] = [
-    "put a.idl 2\ntypedef long X;\ntypedef short X;\n=>ok\n|root a.idl\n=>ok\n|diagnostics a.idl\n\
-     =>rows 1\na.idl:2: E33 X\n|dump a.idl\n=>rows 0\n|splice a.idl 2 1 0\n=>ok\n|dump a.idl\n\
-     =>rows 1\ntypedef long X;\n|=>",
+    "put a.idl 2\ntypedef long X;\ntypedef short X;\n=>ok\n|root a.idl\n=>ok\n|diagnostics a.idl\n=>rows 1\na.idl:2: \
+     E33 X\n|dump a.idl\n=>rows 0\n|splice a.idl 2 1 0\n=>ok\n|dump a.idl\n=>rows 1\ntypedef long X;\n|=>",
     "root a.idl\n=>ok\n|put a.idl 3\ntypedef long X;\ntypedef long Y;\n|=>refused 10\n",
-    "put a.idl 4\n#include \"b.idl\"\n#ifdef Q\ntypedef long X;\n#endif\n=>ok\n|root a.idl\n=>ok\n|search d\n=>ok\n|\
-     absent a.idl\n=>rows 2\nb.idl\nd/b.idl\n|put d/b.idl 1\ntypedef long X;\n=>ok\n|dump a.idl\n=>rows 1\n\
-     typedef long X;\n|define Q 1\n=>ok\n|diagnostics a.idl\n=>rows 1\na.idl:3: E33 X\n|splice a.idl 1 1 1\n\n=>ok\n|\
-     undef Q\n=>ok\n|dump a.idl\n=>rows 0\n|remove d/b.idl\n=>ok\n|root a.idl\n=>refused 8\n|unroot a.idl\n=>ok\n|\
-     dump a.idl\n=>refused 7\n|\n=>refused 1\n|put a//b 1\nroot c.idl\n=>refused 2\n|define R\n=>ok\n|=>",
+    "put a.idl 4\n#include \"b.idl\"\n#ifdef Q\ntypedef long X;\n#endif\n=>ok\n|root a.idl\n=>ok\n|search d\n=>ok\n\
+     |absent a.idl\n=>rows 2\nb.idl\nd/b.idl\n|put d/b.idl 1\ntypedef long X;\n=>ok\n|dump a.idl\n=>rows 1\ntypedef \
+     long X;\n|define Q 1\n=>ok\n|diagnostics a.idl\n=>rows 1\na.idl:3: E33 X\n|splice a.idl 1 1 1\n\n=>ok\n|undef Q\n\
+     =>ok\n|dump a.idl\n=>rows 0\n|remove d/b.idl\n=>ok\n|root a.idl\n=>refused 8\n|unroot a.idl\n=>ok\n|dump a.idl\n\
+     =>refused 7\n|\n=>refused 1\n|put a//b 1\nroot c.idl\n=>refused 2\n|define R\n=>ok\n|=>",
 ];
 
 // Over one byte a call, and over all bytes at once.

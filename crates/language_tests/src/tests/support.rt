@@ -9,6 +9,11 @@ use std::alloc::{AllocError, AllocGlobal, Global};
 use std::process::Abort;
 use std::test::Fail;
 
+/// What runs a test.
+pub trait Host: Abort + AllocGlobal {}
+
+impl<T: Abort + AllocGlobal> Host for T {}
+
 /// The file of a text: its lines are parted by newlines, and an empty text has none.
 pub fn file_of(alloc: Global, text: &str) -> Result<File, AllocError> {
     let mut lines = Vec::new(alloc);
@@ -38,20 +43,12 @@ pub fn in_full(alloc: Global, text: &str) -> Result<String, AllocError> {
 
 fn push_times(text: &mut String, count: usize, piece: &str) -> Result<(), AllocError> {
     for n in 1..=count {
-        match piece.contains('@') {
-            false => text.push_str(piece)?,
-            true => push_numbered(text, n, piece)?,
+        for (i, part) in piece.split('@').enumerate() {
+            if i > 0 {
+                write!(text, "{n}")?;
+            }
+            text.push_str(part)?;
         }
-    }
-    Ok(())
-}
-
-fn push_numbered(text: &mut String, n: usize, piece: &str) -> Result<(), AllocError> {
-    for (i, part) in piece.split('@').enumerate() {
-        if i > 0 {
-            write!(text, "{n}")?;
-        }
-        text.push_str(part)?;
     }
     Ok(())
 }
@@ -63,50 +60,41 @@ pub trait Telling {
 
 /// In the rows what is told of texts stands behind them, with ` => ` between, and ` · ` between texts of which the same is
 /// told. ` ¶ ` stands between one such list and the next, and `` `3×a` `` for `aaa`.
-pub fn are_told<T: Telling>(rt: &(impl Abort + AllocGlobal), rows: &[&str]) -> Result<(), Fail> {
+pub fn are_told<T: Telling>(rt: &impl Host, rows: &[&str]) -> Result<(), Fail> {
     for row in rows {
         let row = in_full(rt.alloc(), row)?;
-        row_is_told::<T>(rt, row.as_str())?;
-    }
-    Ok(())
-}
-
-fn row_is_told<T: Telling>(rt: &(impl Abort + AllocGlobal), row: &str) -> Result<(), Fail> {
-    for list in row.split(" ¶ ") {
-        let (texts, want) = list.split_once(" => ").unwrap_or((list, ""));
-        for text in texts.split(" · ") {
-            is_told::<T>(rt, text, want)?;
+        for list in row.as_str().split(" ¶ ") {
+            let (texts, want) = list.split_once(" => ").unwrap_or((list, ""));
+            for text in texts.split(" · ") {
+                is_told::<T>(rt, text, want)?;
+            }
         }
     }
     Ok(())
 }
 
-fn is_told<T: Telling>(
-    rt: &(impl Abort + AllocGlobal),
-    text: &str,
-    want: &str,
-) -> Result<(), Fail> {
+fn is_told<T: Telling>(rt: &impl Host, text: &str, want: &str) -> Result<(), Fail> {
     let told = T::told(rt.alloc(), text)?;
     assert_eq!(rt; told.as_str(), want, "{text}");
     Ok(())
 }
 
-/// The lines that have no `=` before them, and the others without it. Each ends with a newline.
+/// The lines that are given, and those that are wanted, which have `=` before them, or `&` where they are given too. Each ends
+/// with a newline.
 pub fn parted(alloc: Global, text: &str) -> Result<(String, String), AllocError> {
     let mut given = String::new(alloc);
     let mut wanted = String::new(alloc);
     for line in in_full(alloc, text)?.as_str().split('\n') {
-        match line.strip_prefix('=') {
-            Some(line) => push_line(&mut wanted, line)?,
-            None => push_line(&mut given, line)?,
+        let both = line.strip_prefix('&');
+        match both.or(line.strip_prefix('=')) {
+            Some(line) => write!(wanted, "{line}\n")?,
+            None => write!(given, "{line}\n")?,
+        }
+        if let Some(line) = both {
+            write!(given, "{line}\n")?;
         }
     }
     Ok((given, wanted))
-}
-
-fn push_line(text: &mut String, line: &str) -> Result<(), AllocError> {
-    text.push_str(line)?;
-    text.push('\n')
 }
 
 /// The replies of a session to a script.
@@ -128,19 +116,14 @@ fn sink_of(alloc: Global, capacity: usize) -> Result<BufferSink, AllocError>
 }
 
 /// The session has these replies to a script.
-pub fn answers(
-    rt: &(impl Abort + AllocGlobal),
-    session: &mut Session,
-    script: &str,
-    want: &[u8],
-) -> Result<(), Fail> {
-    let found = replies(rt.alloc(), session, script)?;
-    assert_eq!(rt; found.as_bytes(), want, "{script}");
+pub fn answers(rt: &impl Host, session: &mut Session, given: &str, want: &str) -> Result<(), Fail> {
+    let found = replies(rt.alloc(), session, given)?;
+    assert_eq!(rt; found.as_bytes(), want.as_bytes(), "{given}");
     Ok(())
 }
 
-/// For each text, with ` ¶ ` between one and the next, a new session replies to the lines without `=` by the other lines.
-pub fn have_replies(rt: &(impl Abort + AllocGlobal), texts: &[&str]) -> Result<(), Fail> {
+/// For each text, with ` ¶ ` between one and the next, a new session replies to the given lines by the wanted ones.
+pub fn have_replies(rt: &impl Host, texts: &[&str]) -> Result<(), Fail> {
     for list in texts {
         for text in list.split(" ¶ ") {
             let (script, want) = parted(rt.alloc(), text)?;
@@ -150,13 +133,13 @@ pub fn have_replies(rt: &(impl Abort + AllocGlobal), texts: &[&str]) -> Result<(
     Ok(())
 }
 
-fn has_replies(rt: &(impl Abort + AllocGlobal), script: &str, want: &str) -> Result<(), Fail> {
+fn has_replies(rt: &impl Host, script: &str, want: &str) -> Result<(), Fail> {
     let mut session = Session::new(rt.alloc());
-    answers(rt, &mut session, script, want.as_bytes())
+    answers(rt, &mut session, script, want)
 }
 
-/// For each text, with ` ¶ ` between one and the next, a root `a` of the lines without `=` has the other lines as its rows.
-pub fn have_rows(rt: &(impl Abort + AllocGlobal), texts: &[&str]) -> Result<(), Fail> {
+/// For each text, with ` ¶ ` between one and the next, a root `a` of the given lines has the wanted ones as its rows.
+pub fn have_rows(rt: &impl Host, texts: &[&str]) -> Result<(), Fail> {
     for list in texts {
         for text in list.split(" ¶ ") {
             let (lines, rows) = parted(rt.alloc(), text)?;
@@ -167,23 +150,13 @@ pub fn have_rows(rt: &(impl Abort + AllocGlobal), texts: &[&str]) -> Result<(), 
 }
 
 /// A root `a` of these lines has these rows: diagnostics, which begin with its name, or else its dump.
-pub fn has_rows(rt: &(impl Abort + AllocGlobal), lines: &str, rows: &str) -> Result<(), Fail> {
-    let script = script_of(rt.alloc(), lines)?;
-    let want = lists_of(rt.alloc(), rows)?;
-    has_replies(rt, script.as_str(), want.as_str())
-}
-
-fn script_of(alloc: Global, text: &str) -> Result<String, AllocError> {
-    let count = text.lines().count();
-    format!(in alloc; "put a {count}\n{text}root a\ndiagnostics a\ndump a\n")
-}
-
-// The replies to that script.
-fn lists_of(alloc: Global, rows: &str) -> Result<String, AllocError> {
-    let count = rows.lines().count();
-    if rows.starts_with("a:") {
-        format!(in alloc; "ok\nok\nrows {count}\n{rows}rows 0\n")
+pub fn has_rows(rt: &impl Host, lines: &str, rows: &str) -> Result<(), Fail> {
+    let (count, told) = (lines.lines().count(), rows.lines().count());
+    let script = format!(in rt.alloc(); "put a {count}\n{lines}root a\ndiagnostics a\ndump a\n")?;
+    let want = if rows.starts_with("a:") {
+        format!(in rt.alloc(); "ok\nok\nrows {told}\n{rows}rows 0\n")?
     } else {
-        format!(in alloc; "ok\nok\nrows 0\nrows {count}\n{rows}")
-    }
+        format!(in rt.alloc(); "ok\nok\nrows 0\nrows {told}\n{rows}")?
+    };
+    has_replies(rt, script.as_str(), want.as_str())
 }

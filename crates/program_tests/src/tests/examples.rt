@@ -2,12 +2,11 @@
 
 ghost use Rattle.idl_program.specs.Holding.{Untold};
 
-use super::support::{Files, told};
+use super::support::{Files, Host, told};
 use idl_explain::{Explanation, Told, Topic, all_codes, all_refusals, explanation_of};
 use idl_program::{Loaded, Loader};
 use idl_source::{Name, Refusal};
-use std::alloc::{AllocError, AllocGlobal, Global};
-use std::process::Abort;
+use std::alloc::{AllocError, Global};
 use std::test::Fail;
 
 // An example is `a.idl`, and beside it there is `b.idl`.
@@ -62,7 +61,7 @@ fn each_example_has_its_row(rt: HostRuntime) -> Result<(), Fail> {
     Ok(())
 }
 
-fn has_its_row(rt: &(impl Abort + AllocGlobal), explanation: &Explanation) -> Result<(), Fail> {
+fn has_its_row(rt: &impl Host, explanation: &Explanation) -> Result<(), Fail> {
     let row = row(rt.alloc(), explanation.told)?;
     let status = if row.contains(": W") { 0 } else { 1 };
     let want = format!(in rt.alloc(); "{status} err {row} /")?;
@@ -71,7 +70,7 @@ fn has_its_row(rt: &(impl Abort + AllocGlobal), explanation: &Explanation) -> Re
 }
 
 // What the program gives of a file with this text.
-fn is_told(rt: &(impl Abort + AllocGlobal), text: &str, want: &str) -> Result<(), Fail> {
+fn is_told(rt: &impl Host, text: &str, want: &str) -> Result<(), Fail> {
     let got = compiled(rt.alloc(), text)?;
     assert_eq!(rt; got.as_str(), want, "{text}");
     Ok(())
@@ -91,7 +90,7 @@ fn each_example_is_refused(rt: HostRuntime) -> Result<(), Fail> {
     Ok(())
 }
 
-fn is_refused(rt: &(impl Abort + AllocGlobal), explanation: &Explanation) -> Result<(), Fail> {
+fn is_refused(rt: &impl Host, explanation: &Explanation) -> Result<(), Fail> {
     let row = row(rt.alloc(), explanation.told)?;
     let want = format!(in rt.alloc(); "{row} /")?;
     let got = replies(rt.alloc(), explanation.example)?;
@@ -126,7 +125,7 @@ fn a_refusal_says_what_explains_it(rt: HostRuntime) -> Result<(), Fail> {
     Ok(())
 }
 
-fn says_what_explains_it(rt: &(impl Abort + AllocGlobal), refusal: Refusal) -> Result<(), Fail> {
+fn says_what_explains_it(rt: &impl Host, refusal: Refusal) -> Result<(), Fail> {
     let mut words = Vec::new(rt.alloc());
     explanation_of(Topic::Refusal(refusal))
         .words

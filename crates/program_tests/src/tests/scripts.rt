@@ -2,17 +2,17 @@
 
 ghost use Rattle.std.specs.Prelude.{◌≡◌, IfOk};
 
+use super::support::Host;
 use idl_session::{Session, run};
 use idl_source::devices::{BufferSink, SliceSource};
-use std::alloc::{AllocError, AllocGlobal, Global};
-use std::process::Abort;
+use std::alloc::{AllocError, Global};
 use std::test::Fail;
 
 // Bytes that a sink takes.
 const ROOM: usize = 65_536;
 
 /// For each text, with ` ¶ ` between one and the next, a new session replies to the lines without `=` by the other lines.
-pub fn have_replies(rt: &(impl Abort + AllocGlobal), texts: &[&str]) -> Result<(), Fail> {
+pub fn have_replies(rt: &impl Host, texts: &[&str]) -> Result<(), Fail> {
     for list in texts {
         for text in list.split(" ¶ ") {
             has_replies(rt, text)?;
@@ -21,7 +21,7 @@ pub fn have_replies(rt: &(impl Abort + AllocGlobal), texts: &[&str]) -> Result<(
     Ok(())
 }
 
-fn has_replies(rt: &(impl Abort + AllocGlobal), text: &str) -> Result<(), Fail> {
+fn has_replies(rt: &impl Host, text: &str) -> Result<(), Fail> {
     let (script, want) = parted(rt.alloc(), text)?;
     let replies = replies(rt.alloc(), script.as_str())?;
     assert_eq!(rt; replies.as_bytes(), want.as_bytes(), "{script}");

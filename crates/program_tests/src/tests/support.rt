@@ -10,6 +10,11 @@ use std::alloc::{AllocError, AllocGlobal, Global};
 use std::process::Abort;
 use std::test::Fail;
 
+/// What runs a test.
+pub trait Host: Abort + AllocGlobal {}
+
+impl<T: Abort + AllocGlobal> Host for T {}
+
 // Bytes that each of the two sinks takes.
 const ROOM: usize = 100_000;
 
@@ -164,10 +169,7 @@ fn push_lines(text: &mut String, title: &str, bytes: &[u8]) -> Result<(), AllocE
 }
 
 /// Each row: words, files, and what the second program gives.
-pub fn are_tool_given(
-    rt: &(impl Abort + AllocGlobal),
-    rows: &[(&str, &str, &str)],
-) -> Result<(), Fail> {
+pub fn are_tool_given(rt: &impl Host, rows: &[(&str, &str, &str)]) -> Result<(), Fail> {
     for (words, files, want) in rows {
         let got = tool_given(rt.alloc(), words, files)?;
         assert_eq!(rt; got.as_str(), *want, "{words} over {files}");
@@ -176,10 +178,25 @@ pub fn are_tool_given(
 }
 
 /// Each row: words, files, and what the program gives.
-pub fn are_given(rt: &(impl Abort + AllocGlobal), rows: &[(&str, &str, &str)]) -> Result<(), Fail> {
+pub fn are_given(rt: &impl Host, rows: &[(&str, &str, &str)]) -> Result<(), Fail> {
     for (words, files, want) in rows {
         let got = given(rt.alloc(), words, files, "")?;
         assert_eq!(rt; got.as_str(), *want, "{words} over {files}");
     }
     Ok(())
+}
+
+/// The same of the second program, for each of these names with the name for each `@`.
+pub fn are_given_so(rt: &impl Host, names: &str, row: (&str, &str, &str)) -> Result<(), Fail> {
+    for name in names.split(' ') {
+        is_given_so(rt, name, row)?;
+    }
+    Ok(())
+}
+
+fn is_given_so(rt: &impl Host, name: &str, row: (&str, &str, &str)) -> Result<(), Fail> {
+    let words = row.0.replace(rt.alloc(), "@", name)?;
+    let files = row.1.replace(rt.alloc(), "@", name)?;
+    let want = row.2.replace(rt.alloc(), "@", name)?;
+    are_tool_given(rt, &[(words.as_str(), files.as_str(), want.as_str())])
 }

@@ -1,11 +1,9 @@
 //! What `idltool explain` answers, and words that the program doesn't take.
 
-use crate::tests::support::{Files, are_tool_given, tool_given};
+use crate::tests::support::{Files, Host, are_given_so, are_tool_given, tool_given};
 use idl_program::Status;
 use idl_session::BufferSink;
 use idl_tool::{Devices, run_tool};
-use std::alloc::AllocGlobal;
-use std::process::Abort;
 use std::test::Fail;
 
 const E35: &str =
@@ -27,28 +25,10 @@ fn a_word_is_explained(rt: HostRuntime) -> Result<(), Fail> {
                 "",
                 "0 out W80: warning: the interface `F` is declared forward and never defined /    interface F; /a.idl:1: W80 F      mended: /    interface F { }; /It may stay so: no code can call it through this file. Include the file that defines it. /",
             ),
-            (
-                "explain E99",
-                "",
-                "2 err idltool: E99: no code and no refusal /",
-            ),
-            (
-                "explain E3",
-                "",
-                "2 err idltool: E3: no code and no refusal /",
-            ),
-            (
-                "explain 11",
-                "",
-                "2 err idltool: 11: no code and no refusal /",
-            ),
-            (
-                "explain 07",
-                "",
-                "2 err idltool: 07: no code and no refusal /",
-            ),
         ],
-    )
+    )?;
+    let none = "2 err idltool: @: no code and no refusal /";
+    are_given_so(&rt, "E99 E3 11 07", ("explain @", "", none))
 }
 
 #[test]
@@ -82,7 +62,7 @@ fn wrong_words_are_told(rt: HostRuntime) -> Result<(), Fail> {
 }
 
 // What is given begins so, and tells how the program is used.
-fn tells_its_usage(rt: &(impl Abort + AllocGlobal), words: &str, begin: &str) -> Result<(), Fail> {
+fn tells_its_usage(rt: &impl Host, words: &str, begin: &str) -> Result<(), Fail> {
     let got = tool_given(rt.alloc(), words, "a.idl: typedef long T;")?;
     assert!(rt; got.starts_with(begin), "{words}: {got}");
     assert!(rt; got.contains("Usage: idltool"), "{words}: {got}");
@@ -97,7 +77,7 @@ fn a_closed_output_is_told(rt: HostRuntime) -> Result<(), Fail> {
 }
 
 // Where the output takes no more, the program fails, and says so.
-fn tells_a_closed_output(rt: &(impl Abort + AllocGlobal), words: &[&str]) -> Result<(), Fail> {
+fn tells_a_closed_output(rt: &impl Host, words: &[&str]) -> Result<(), Fail> {
     let mut devices = Devices {
         loader: Files::new(rt.alloc(), "a.idl: typedef long T;"),
         output: BufferSink::new(rt.alloc(), 4)?,

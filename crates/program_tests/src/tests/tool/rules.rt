@@ -1,8 +1,7 @@
 //! What `idltool deps` answers: rules of make, by the files that roots ask for.
 
-use crate::tests::support::are_tool_given;
-use std::alloc::{AllocError, AllocGlobal, Global};
-use std::process::Abort;
+use crate::tests::support::{are_given_so, are_tool_given};
+use std::alloc::{AllocError, Global};
 use std::test::Fail;
 
 static ROWS: [(&str, &str, &str); 13] = [
@@ -82,31 +81,12 @@ fn rules_are_told(rt: HostRuntime) -> Result<(), Fail> {
     are_tool_given(&rt, &ROWS)
 }
 
-// Names of which make would read something else; those of the second list no include can have.
-static OTHERS: [&str; 16] = [
-    "a:b",
-    "a=b",
-    "a;b",
-    "a(b",
-    "a)b",
-    "a*b",
-    "a?b",
-    "a|b",
-    "a\\b",
-    "a&b",
-    "a'b",
-    "a[b",
-    "~a",
-    "~/a",
-    ".PHONY",
-    ".ONE_SHELL",
-];
+// Names of which make would read something else; those of the second text no include can have.
+const OTHERS: &str = "a:b a=b a;b a(b a)b a*b a?b a|b a\\b a&b a'b a[b ~a ~/a .PHONY .ONE_SHELL";
 
-static QUOTES: [&str; 2] = ["a<b", "a\"b"];
+const QUOTES: &str = "a<b a\"b";
 
-static TAKEN: [&str; 11] = [
-    "a_b", "a.b", "a/b", "a+b", "a-b", "a,b", "a@b", "a!b", "a~b", ".a", "-a",
-];
+const TAKEN: &str = "a_b a.b a/b a+b a-b a,b a@b a!b a~b .a -a";
 
 // What is given for words and files, in which `@` stands for a name.
 const TROUBLE: &str = "2 err idltool: @: no name for make /";
@@ -114,46 +94,11 @@ const TROUBLE: &str = "2 err idltool: @: no name for make /";
 #[test]
 fn names_that_make_can_not_take_are_trouble(rt: HostRuntime) -> Result<(), Fail> {
     for row in [("deps @", "@", TROUBLE), ("deps -t @ h", "h", TROUBLE)] {
-        are_given_so(&rt, &OTHERS, row)?;
-        are_given_so(&rt, &QUOTES, row)?;
+        are_given_so(&rt, OTHERS, row)?;
+        are_given_so(&rt, QUOTES, row)?;
     }
-    are_given_so(&rt, &OTHERS, ("deps -I. r", "r: #include <@> ¶ @", TROUBLE))?;
-    are_given_so(&rt, &TAKEN, ("deps -- @", "@", "0 out @.listing: @ /"))
-}
-
-// The row for each of the names.
-fn are_given_so(
-    rt: &(impl Abort + AllocGlobal),
-    names: &[&str],
-    row: (&str, &str, &str),
-) -> Result<(), Fail> {
-    for name in names {
-        is_given_so(rt, name, row)?;
-    }
-    Ok(())
-}
-
-fn is_given_so(
-    rt: &(impl Abort + AllocGlobal),
-    name: &str,
-    row: (&str, &str, &str),
-) -> Result<(), Fail> {
-    let words = filled(rt.alloc(), row.0, name)?;
-    let files = filled(rt.alloc(), row.1, name)?;
-    let want = filled(rt.alloc(), row.2, name)?;
-    are_tool_given(rt, &[(words.as_str(), files.as_str(), want.as_str())])
-}
-
-// The text with a name for each `@`.
-fn filled(alloc: Global, text: &str, name: &str) -> Result<String, AllocError> {
-    let mut full = String::new(alloc);
-    for (i, part) in text.split('@').enumerate() {
-        if i > 0 {
-            full.push_str(name)?;
-        }
-        full.push_str(part)?;
-    }
-    Ok(full)
+    are_given_so(&rt, OTHERS, ("deps -I. r", "r: #include <@> ¶ @", TROUBLE))?;
+    are_given_so(&rt, TAKEN, ("deps -- @", "@", "0 out @.listing: @ /"))
 }
 
 #[test]
@@ -183,7 +128,7 @@ fn many(alloc: Global, text: &str) -> Result<String, AllocError> {
     let mut all = String::new(alloc);
     for i in 0..300 {
         let number = format!(in alloc; "{i}")?;
-        all.push_str(&filled(alloc, text, &number)?)?;
+        all.push_str(&text.replace(alloc, "@", &number)?)?;
     }
     Ok(all)
 }

@@ -1,13 +1,37 @@
-//! What no clause says of journals: which of them has a log to give back, and which has digests.
+//! What no clause says of exact data and of journals: that a copy hashes as its source does, which journal has a log to give
+//! back, and which has digests.
 
 use super::expansions::{Answers, answers_of};
+use super::support::Host;
+use idl_base::{Datum, Seq, Text};
 use idl_event::RootKey;
 use idl_fault::FileName;
 use idl_memo::{Journal, Log};
 use idl_source::Name;
-use std::alloc::{AllocError, AllocGlobal, Global};
-use std::process::Abort;
+use std::alloc::{AllocError, Global};
+use std::hash::{FoldHasher, Hash, Hasher};
 use std::test::Fail;
+
+fn digest<T: Hash>(value: &T) -> u64 {
+    let mut hasher = FoldHasher::default();
+    value.hash(&mut hasher);
+    hasher.finish()
+}
+
+// Whether a copy is equal to its source, and hashes as it does.
+fn is_copied_alike<T: Datum + Hash>(value: &T) -> Result<bool, AllocError> {
+    let copy = value.clone()?;
+    Ok(copy == *value && digest(&copy) == digest(value))
+}
+
+#[test]
+fn data_is_copied_alike(rt: HostRuntime) -> Result<(), Fail> {
+    assert!(rt; is_copied_alike(&(((), true), ('ß', i64::MIN)))?);
+    let mut items = Vec::new(rt.alloc());
+    items.push((7u8, Some(Text::from_slice(rt.alloc(), b"Foo")?)))?;
+    assert!(rt; is_copied_alike(&Seq::from_vec(items))?);
+    Ok(())
+}
 
 // A journal takes the log, and gives it back with what was asked.
 fn take(
@@ -48,17 +72,7 @@ fn noted(
     }
 }
 
-fn is_given_back(rt: &(impl Abort + AllocGlobal), name: &Name) -> Result<(), Fail> {
-    let bank = answers_of(rt.alloc(), name, "x")?;
-    let key = RootKey::File(FileName::new(rt.alloc(), name)?);
-    are_given_back(rt, &key, &bank)
-}
-
-fn are_given_back(
-    rt: &(impl Abort + AllocGlobal),
-    key: &RootKey,
-    bank: &Answers,
-) -> Result<(), Fail> {
+fn are_given_back(rt: &impl Host, key: &RootKey, bank: &Answers) -> Result<(), Fail> {
     assert_eq!(rt; given_back(rt.alloc(), key, bank)?, 1);
     assert_eq!(rt; noted(Journal::noting(rt.alloc()), key, bank)?, Some(1));
     assert_eq!(rt; noted(Journal::told(), key, bank)?, None);
@@ -69,8 +83,13 @@ fn are_given_back(
 // which contracts alone are told has neither.
 #[test]
 fn a_journal_gives_back_what_it_took_or_noted(rt: HostRuntime) -> Result<(), Fail> {
-    match Name::new(b"a.idl") {
-        Some(name) => is_given_back(&rt, &name),
-        None => Ok(()),
-    }
+    let Some(name) = Name::new(b"a.idl") else {
+        return Ok(());
+    };
+    let bank = answers_of(rt.alloc(), &name, "x")?;
+    are_given_back(
+        &rt,
+        &RootKey::File(FileName::new(rt.alloc(), &name)?),
+        &bank,
+    )
 }
