@@ -1,10 +1,12 @@
 //! Values that are shared.
 
 ghost use Rattle.std.specs.Option.{option_copied};
-ghost use Rattle.std.specs.Prelude.{◌≡◌, IfOk};
+ghost use Rattle.std.specs.Prelude.{◌≡◌, IfOk, Some, refl};
+ghost use Rattle.std.specs.Cmp.{partial_order_from_agreeing_total};
 
 use crate::datum::Datum;
 use std::alloc::{AllocError, Global};
+use std::cmp::Ordering;
 use std::marker::Model;
 use std::rc::Rc;
 
@@ -84,6 +86,32 @@ impl<T: Datum> PartialEq for Shared<T> {
 
 impl<T: Datum> Eq for Shared<T> {
     ghost laws = { T.Eq.laws };
+}
+
+impl<T: Datum + Ord> PartialOrd for Shared<T> {
+    ghost partial_cmp = { λ x y. Some (T.cmp x y) };
+
+    ghost laws = { partial_order_from_agreeing_total T.cmp T.total (λ x y. refl) T.matches_eq };
+
+    fn partial_cmp(&self, other: &Shared<T>) -> Option<Ordering> {
+        Some(self.cmp(other))
+    }
+}
+
+impl<T: Datum + Ord> Ord for Shared<T> {
+    ghost cmp = { T.cmp };
+
+    ghost total = { T.total };
+
+    ghost matches_partial_cmp = { λ x y. refl };
+
+    ghost matches_eq = { T.matches_eq };
+
+    fn cmp(&self, other: &Shared<T>) -> Ordering
+        ensures { result ≡ T.cmp self.now other.now }
+    {
+        self.get().cmp(other.get())
+    }
 }
 
 impl<T: Datum + Drop> Datum for Shared<T> {

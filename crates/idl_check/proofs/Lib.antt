@@ -1,13 +1,9 @@
 mod BaseLemmas
 pub mod Faults
-pub mod Fitting
-mod NamedTokens
-pub mod Nests
-mod PartLemmas
+mod HintLemmas
+pub mod PartLemmas
 pub mod PragmaLaws
-mod StandingLaws
 mod StandingLemmas
-mod TypeLemmas
-mod UseLaws
-mod UseLemmas
+pub mod TypeLemmas
+pub mod UseLemmas
 pub mod Visits

@@ -11,7 +11,6 @@ mod tables;
 mod told;
 mod walk;
 
-pub use walk::laws;
 pub use walk::scratch::Scratch;
-pub use walk::task::verdict_of;
+pub use walk::task::{DeclarationTask, verdict_of};
 pub use walk::verdict::Verdict;

@@ -1,7 +1,6 @@
 //! The walk over the sites of a unit, and its verdict.
 
 pub(crate) mod judge;
-pub mod laws;
 pub(crate) mod naming;
 pub(crate) mod placing;
 pub(crate) mod scratch;

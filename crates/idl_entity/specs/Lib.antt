@@ -4,6 +4,7 @@ pub mod Digest
 pub mod Entity
 pub mod Identity
 pub mod Kind
+pub mod Order
 pub mod Path
 pub mod SameIdentity
 pub mod Signature

@@ -11,7 +11,7 @@ use idl_value::ConstantType;
 use std::alloc::{AllocError, Global};
 
 /// What a type is of, without the sequences and arrays around it.
-#[derive(PartialEq, Eq)]
+#[derive(PartialEq, Eq, PartialOrd, Ord)]
 pub enum Element {
     /// A type of keywords of which there are constants.
     Constants(ConstantType),
@@ -22,7 +22,7 @@ pub enum Element {
 }
 
 /// What is around a type.
-#[derive(Clone, Copy, PartialEq, Eq)]
+#[derive(Clone, Copy, PartialEq, Eq, PartialOrd, Ord)]
 pub enum Layer {
     /// A sequence of it, with its bound, or 0 if it has none.
     Sequence(u32),
@@ -31,7 +31,7 @@ pub enum Layer {
 }
 
 /// A type: what it is of, and what is around that, the innermost first.
-#[derive(PartialEq, Eq)]
+#[derive(PartialEq, Eq, PartialOrd, Ord)]
 pub struct DataType {
     pub element: Element,
     pub layers: Seq<Layer>,

@@ -1,10 +1,13 @@
 //! Entities: what names are declared as.
 
-ghost use Rattle.std.specs.Prelude.{◌≡◌, [], IfOk, None, OnOk, Some};
-ghost use Rattle.std.specs.Cmp.Lexicographic.{pointwise};
-ghost use Rattle.std.specs.Option.{option_copied, option_eq};
+ghost use Rattle.std.specs.Prelude.{◌≡◌, [], IfOk, None, OnOk, Some, refl};
+ghost use Rattle.std.specs.Cmp.{partial_order_from_agreeing_total};
+ghost use Rattle.std.specs.Cmp.Lexicographic.{pointwise, slice_cmp};
+ghost use Rattle.std.specs.Option.{option_cmp, option_copied, option_eq};
 ghost use Rattle.idl_entity.specs.Entity.{declared_eq, entity_eq, entity_equiv, entity_per, is_operation, pathless_eq, rare_of};
+ghost use Rattle.idl_entity.specs.Order.{declared_cmp, entity_cmp, entity_ties, entity_total, nature_cmp, path_cmp};
 ghost use Rattle.idl_entity.specs.Path.{path_eq};
+ghost use Rattle.idl_map.specs.Order.{backwards_cmp};
 
 use crate::data_type::DataType;
 use crate::details::{Details, Rare};
@@ -15,6 +18,7 @@ use idl_base::{Bytes, Datum, Seq, Shared, copied_of};
 use idl_map::SharedList;
 use idl_value::Value;
 use std::alloc::{AllocError, Global};
+use std::cmp::Ordering;
 use std::marker::Model;
 use std::mem::size_of;
 
@@ -136,15 +140,18 @@ impl Entity {
         ensures { result ≡ pointwise path_eq self.now.operations other.now.operations }
     {
         let none = SharedList::new();
-        let mine = match &self.details {
+        *self.operations_or(&none) == *other.operations_or(&none)
+    }
+
+    // The paths of its operations and attributes; those that are lent where it has none.
+    fn operations_or<'a>(&'a self, none: &'a SharedList<Path>) -> &'a SharedList<Path>
+        requires { none.now ≡ [] }
+        ensures { result.now ≡ self.now.operations }
+    {
+        match &self.details {
             Details::Several(rare) => &rare.get().operations,
-            _ => &none,
-        };
-        let others = match &other.details {
-            Details::Several(rare) => &rare.get().operations,
-            _ => &none,
-        };
-        *mine == *others
+            _ => none,
+        }
     }
 }
 
@@ -161,6 +168,82 @@ fn are_one<T: Datum>(one: Option<&T>, other: Option<&T>) -> bool
 
 impl Eq for Entity {
     ghost laws = { entity_equiv };
+}
+
+impl PartialOrd for Entity {
+    ghost partial_cmp = { λ x y. Some (entity_cmp x y) };
+
+    ghost laws = { partial_order_from_agreeing_total entity_cmp entity_total (λ x y. refl) entity_ties };
+
+    fn partial_cmp(&self, other: &Entity) -> Option<Ordering> {
+        Some(self.cmp(other))
+    }
+}
+
+impl Ord for Entity {
+    ghost cmp = { entity_cmp };
+
+    ghost total = { entity_total };
+
+    ghost matches_partial_cmp = { λ x y. refl };
+
+    ghost matches_eq = { entity_ties };
+
+    fn cmp(&self, other: &Entity) -> Ordering
+        ensures { result ≡ entity_cmp self.now other.now }
+    {
+        self.path
+            .cmp(&other.path)
+            .then(self.nature_order(other))
+            .then(self.declared_order(other))
+    }
+}
+
+impl Entity {
+    // Which comes first by what it is declared as.
+    fn nature_order(&self, other: &Entity) -> Ordering
+        ensures { result ≡ nature_cmp self.now other.now }
+    {
+        self.kind()
+            .cmp(&other.kind())
+            .then(self.is_local().cmp(&other.is_local()))
+            .then(self.is_readonly().cmp(&other.is_readonly()))
+            .then(self.is_oneway().cmp(&other.is_oneway()))
+            .then(self.stage().cmp(&other.stage()))
+    }
+
+    // Which comes first by what it is declared with.
+    fn declared_order(&self, other: &Entity) -> Ordering
+        ensures { result ≡ declared_cmp self.now other.now }
+    {
+        self.data_type
+            .cmp(&other.data_type)
+            .then(self.bases().cmp(&other.bases()))
+            .then(self.operations_order(other))
+            .then(order_of(self.value(), other.value()))
+            .then(self.enumerators().cmp(&other.enumerators()))
+            .then(order_of(self.signature(), other.signature()))
+    }
+
+    // Which comes first by its operations and attributes.
+    fn operations_order(&self, other: &Entity) -> Ordering
+        ensures { result ≡ backwards_cmp path_cmp self.now.operations other.now.operations }
+    {
+        let none = SharedList::new();
+        self.operations_or(&none).cmp(other.operations_or(&none))
+    }
+}
+
+// Which comes first; nothing does before all.
+fn order_of<T: Datum + Ord>(one: Option<&T>, other: Option<&T>) -> Ordering
+    ensures { result ≡ option_cmp T.cmp (option_copied one.entry) (option_copied other.entry) }
+{
+    match (one, other) {
+        (Some(one), Some(other)) => one.cmp(other),
+        (None, None) => Ordering::Equal,
+        (None, Some(_)) => Ordering::Less,
+        (Some(_), None) => Ordering::Greater,
+    }
 }
 
 impl Datum for Entity {

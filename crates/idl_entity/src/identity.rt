@@ -14,14 +14,14 @@ use itoa::Buffer;
 use std::alloc::{AllocError, Global};
 
 /// A prefix of repository ids: its text, and the path of the scope in which it was met.
-#[derive(Clone, PartialEq, Eq)]
+#[derive(Clone, PartialEq, Eq, PartialOrd, Ord)]
 pub struct Prefix {
     pub text: Bytes,
     pub scope: Path,
 }
 
 /// What is fixed of an id, by a pragma or a typeid.
-#[derive(Clone, PartialEq, Eq)]
+#[derive(Clone, PartialEq, Eq, PartialOrd, Ord)]
 pub enum Fixed {
     /// Its version.
     Version(u16, u16),
@@ -40,7 +40,7 @@ pub struct Identity {
 }
 
 /// What identifies a name of whose id something was fixed.
-#[derive(Clone, PartialEq, Eq)]
+#[derive(Clone, PartialEq, Eq, PartialOrd, Ord)]
 pub struct FixedIdentity {
     /// The prefix that was in force where the name was declared first.
     pub prefix: Shared<Prefix>,

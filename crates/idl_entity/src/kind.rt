@@ -1,11 +1,13 @@
 //! What is declared, and how far its declaration has come.
 
-ghost use Rattle.std.specs.Prelude.{◌≡◌};
-ghost use Rattle.std.specs.Cmp.{on_equiv, on_per, partial_equiv_from_equiv, nat_eq_equiv};
+ghost use Rattle.std.specs.Prelude.{◌≡◌, Some, refl};
+ghost use Rattle.std.specs.Cmp.{nat_cmp_total, nat_eq_equiv, on_equiv, on_per, on_po, on_total, partial_equiv_from_equiv, unsigned_po, unsigned_ties};
+ghost use Rattle.std.specs.Ordering.{nat_cmp, on};
 ghost use Rattle.idl_entity.specs.declared.kind.Kind.TheVariants.{Interface};
 ghost use Rattle.idl_entity.specs.Kind.{kind_number, kind_eq, same_kind, stage_number, stage_eq, same_stage, has_bases, inherits, is_scope};
 
 use idl_base::Datum;
+use std::cmp::Ordering;
 
 /// What is declared, and what a scope is of. The global scope is a module, and it is no entity.
 #[derive(Clone, Copy)]
@@ -118,6 +120,30 @@ impl Eq for Kind {
     ghost laws = { on_equiv kind_number nat_eq_equiv };
 }
 
+impl PartialOrd for Kind {
+    ghost partial_cmp = { λ x y. Some (nat_cmp (kind_number x) (kind_number y)) };
+
+    ghost laws = { on_po kind_number unsigned_po };
+
+    fn partial_cmp(&self, other: &Kind) -> Option<Ordering> {
+        Some(self.cmp(other))
+    }
+}
+
+impl Ord for Kind {
+    ghost cmp = { on kind_number nat_cmp };
+
+    ghost total = { on_total kind_number nat_cmp_total };
+
+    ghost matches_partial_cmp = { λ x y. refl };
+
+    ghost matches_eq = { λ x y. unsigned_ties (kind_number x) (kind_number y) };
+
+    fn cmp(&self, other: &Kind) -> Ordering {
+        self.number().cmp(&other.number())
+    }
+}
+
 impl Datum for Kind {
     ghost same = { same_kind };
 
@@ -152,6 +178,30 @@ impl PartialEq for Stage {
 
 impl Eq for Stage {
     ghost laws = { on_equiv stage_number nat_eq_equiv };
+}
+
+impl PartialOrd for Stage {
+    ghost partial_cmp = { λ x y. Some (nat_cmp (stage_number x) (stage_number y)) };
+
+    ghost laws = { on_po stage_number unsigned_po };
+
+    fn partial_cmp(&self, other: &Stage) -> Option<Ordering> {
+        Some(self.cmp(other))
+    }
+}
+
+impl Ord for Stage {
+    ghost cmp = { on stage_number nat_cmp };
+
+    ghost total = { on_total stage_number nat_cmp_total };
+
+    ghost matches_partial_cmp = { λ x y. refl };
+
+    ghost matches_eq = { λ x y. unsigned_ties (stage_number x) (stage_number y) };
+
+    fn cmp(&self, other: &Stage) -> Ordering {
+        self.number().cmp(&other.number())
+    }
 }
 
 impl Datum for Stage {

@@ -9,7 +9,7 @@ use idl_value::Value;
 use std::alloc::AllocError;
 
 /// A member, or a parameter of an operation.
-#[derive(PartialEq, Eq)]
+#[derive(PartialEq, Eq, PartialOrd, Ord)]
 pub struct Member {
     pub name: Bytes,
     pub data_type: Option<Shared<DataType>>,
@@ -22,7 +22,7 @@ pub struct Member {
 }
 
 /// What a declared name shows behind itself.
-#[derive(PartialEq, Eq)]
+#[derive(PartialEq, Eq, PartialOrd, Ord)]
 pub struct Signature {
     /// The members, or the parameters of an operation, in order.
     pub members: Seq<Member>,

@@ -3,6 +3,7 @@ pub mod ApartLemmas
 pub mod DeclaredLemmas
 pub mod FirstLemmas
 pub mod MarkLemmas
+pub mod OrderLemmas
 pub mod Membership
 pub mod OutlineLemmas
 pub mod StoppedLemmas

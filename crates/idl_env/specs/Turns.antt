@@ -1,6 +1,6 @@
 -- How many turns facts need: a walk over bases enters each base that is named at most once, and a
 -- chain of typedefs that ends has each entity that is declared at most once.
-use Rattle.std.specs.Prelude.{ℕ, ◌+◌, ◌≤◌, List, [], ◌∷◌, flat_map, length}
+use Rattle.std.specs.Prelude.{ℕ, ◌+◌, ◌-◌, ◌^◌, ◌≤◌, List, [], ◌∷◌, flat_map, length}
 use Rattle.idl_env.specs.Facts.{UnitFacts}
 use Rattle.idl_env.specs.declared.additions.addition.Addition.{Addition}
 use Rattle.idl_env.specs.declared.additions.addition.Addition.TheVariants.{Declares, Uses, UsesFurther, Appears, Identifies, TypePrefixes}
@@ -50,3 +50,8 @@ turns_for facts = length (bases_named facts) + length (declared_named facts)
 -- so many turns are enough over these facts and additions
 abbrev pub HasTurnsFor : List UnitFacts → List Addition → ℕ → Type 0
 HasTurnsFor facts own turns = turns_for facts + turns_among own ≤ turns
+
+-- The turns that are enough over any facts that memory holds: each base that they name, and each
+-- entity that they declare, is counted by a word of 64 bits.
+unfoldable pub most_turns : ℕ
+most_turns = 2 ^ 64 - 1

@@ -4,7 +4,7 @@ ghost use Rattle.std.specs.Prelude.{◌≡◌, ◌∷◌, ◌++◌, [], ℕ, IfO
 ghost use Rattle.std.specs.Option.{option_copied};
 ghost use Rattle.idl_entity.specs.DataType.{plain_type};
 ghost use Rattle.idl_env.specs.Facts.{answers};
-ghost use Rattle.idl_env.specs.Turns.{declared_named};
+ghost use Rattle.idl_env.specs.Turns.{bases_among, declared_named, most_turns, turns_for};
 ghost use Rattle.idl_env.specs.declared.keys.key.Key.TheVariants.{Typeprefix};
 
 use crate::additions::facts::Facts;
@@ -27,7 +27,8 @@ use std::marker::Model;
 pub struct Env {
     alloc: Global,
     facts: GhostList<Facts>,
-    // No fewer than the facts and what they declare, since no count among the answers is larger, and no chain of typedefs longer.
+    // No fewer than the facts, the turns that they need and what they declare, since no count among the answers is larger, no walk
+    // takes more turns, and no chain of typedefs is longer.
     count: usize,
     // It stands apart, since an environment is handed on with each unit.
     state: Box<State>,
@@ -38,14 +39,14 @@ impl Model for Env {
     ghost use Rattle.std.specs.Prelude.{◌≡◌, ◌+◌, ◌≤◌, List, length};
     ghost use Rattle.idl_env.specs.Facts.{UnitFacts, world};
     ghost use Rattle.idl_env.specs.Held.{held};
-    ghost use Rattle.idl_env.specs.Turns.{declared_named};
+    ghost use Rattle.idl_env.specs.Turns.{turns_for};
 
     ghost Value = { List UnitFacts };
 
     ghost view = { λ env. env.facts };
 
     ghost invariant = { λ env.
-        (length env.facts + length (declared_named env.facts) ≤ env.count)
+        (length env.facts + turns_for env.facts ≤ env.count)
         × (held env.state.value ≡ world env.facts) };
 }
 
@@ -82,6 +83,16 @@ impl Env {
         ensures { length (declared_named self.now) ≤ result }
     {
         self.count
+    }
+
+    /// The law that no walk over the facts takes more turns than a word of 64 bits counts. It does nothing.
+    #[inline]
+    #[tactic(auto, unfolding(crate::specs::Turns::most_turns))]
+    pub fn bounds_turns(&self)
+        ensures { turns_for self.now ≤ most_turns }
+    {
+        // The count is a word of 64 bits.
+        let _count = self.count;
     }
 
     /// Whether a scope may have a typeprefix.
@@ -156,12 +167,16 @@ impl Env {
     }
 }
 
-// The count with these facts and what they add. One that is larger than memory can hold things is want of it.
+// The count with these facts, what they add and the bases that they name. One that is larger than memory can hold things is want
+// of it.
 fn counted(count: usize, facts: &Facts) -> Result<usize, AllocError>
-    ensures more { IfOk result (λ n. n ≡ count + length facts.now.additions + 1) }
+    ensures more { let added = facts.now.additions in
+        IfOk result (λ n. n ≡ count + length added + length (bases_among added) + 1) }
     ensures room { IfOk result (λ n. count < 18446744073709551615) }
 {
-    one_more(sum(count, facts.len())?)
+    let added = sum(count, facts.len())?;
+    let named = facts.bases()?;
+    one_more(sum(added, named)?)
 }
 
 impl Bank for Env {

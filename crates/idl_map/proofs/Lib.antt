@@ -1,4 +1,5 @@
 pub mod ListLemmas
+pub mod OrderLemmas
 pub mod PlaceLemmas
 pub mod BitLemmas
 pub mod LaneLemmas

@@ -1,16 +1,25 @@
 -- A table's entries by the index of their places.
 use Rattle.std.specs.Prelude.{IfSome, nat_lt, slice_get, slice_set, slice_index_or}
-use Rattle.std.proofs.Common.{◌≡◌, ◌≢◌, ◌↔◌, ◌+◌, ℕ, zero, suc, ◌<◌, Bool, true, false, not, cond, if◌then◌else◌, List, [], ◌∷◌, ◌++◌, Option, None, Some, is_some, length, ◌⊎◌, inl, inr, refl, sym, ap, ◌∙◌, arith, subst, true≢false}
+use Rattle.std.proofs.Common.{◌≡◌, ◌≢◌, ◌↔◌, ◌+◌, ℕ, zero, suc, ◌<◌, Bool, true, false, not, ◌||◌, cond, if◌then◌else◌, List, [], ◌∷◌, ◌++◌, Option, None, Some, is_some, length, ◌⊎◌, inl, inr, refl, sym, ap, ◌∙◌, arith, subst, true≢false}
 use Rattle.std.specs.Bool.{Decides}
-use Rattle.std.specs.List.{position, position_or_len}
+use Rattle.std.specs.List.{list_any, position, position_or_len}
 use Rattle.std.specs.Map.{lookup, keys_of}
 use Rattle.std.specs.Option.{option_to_list}
 use Rattle.std.proofs.lemmas.Bool.{lt-ltb}
-use Rattle.std.proofs.lemmas.Option.{same_Some, slice_get_within}
+use Rattle.std.proofs.lemmas.Option.{none-some, same_Some, slice_get_within}
 use Rattle.std.proofs.lemmas.List.{append-nil}
 use Rattle.std.proofs.lemmas.List.Quantifiers.{position-Some}
 use Rattle.std.proofs.lemmas.Map.Entries.{length-keys_of}
 use Rattle.idl_map.specs.Table.{insert_entry, AreDistinct, IsIndexOf, IsIndexed}
+
+or_some : {V : Type 0} (b : Bool) (v : V) (o : Option V) (r : Bool) → r ≡ is_some o → (b || r) ≡ is_some (cond b (Some v) o)
+or_some true v o r h = refl
+or_some false v o r h = h
+
+-- a key is among those of entries where it has a value
+pub among_keys : {K V : Type 0} (test : K → Bool) (es : List (K × V)) → list_any (λ e. test e.0) es ≡ is_some (lookup test es)
+among_keys test [] = refl
+among_keys test (e ∷ es) = or_some (test e.0) e.1 (lookup test es) (list_any (λ e. test e.0) es) (among_keys test es)
 
 -- what is not something is nothing
 pub nothing : {A : Type 0} (o : Option A) → is_some o ≡ false → o ≡ None
@@ -252,3 +261,29 @@ module _ {K : Type 0} (test : K → Bool) (k : K) (finds : (q : K) → Decides (
             | inl there ↦ old ∙ index q i there
             | inr here ↦ (let none : true ≡ false = sym ((finds q).1 here.1) ∙ t in cc)
           ]
+
+module _ {K V : Type 0} (eq : K → K → Bool) (exact : (x y : K) → Decides (eq x y) (x ≡ y)) where
+  -- a key that stands at a place has a value
+  pub value-at : (es : List (K × V)) (k : K) (i : ℕ) → slice_get (keys_of es) i ≡ Some k → is_some (lookup (eq k) es) ≡ true
+  value-at es k i at = by (is_some (lookup (eq k) es)) refl
+    where
+      by : (b : Bool) → is_some (lookup (eq k) es) ≡ b → is_some (lookup (eq k) es) ≡ true
+      by true t = t
+      by false t = absurd (nowhere-lookup eq exact es k (nothing (lookup (eq k) es) t) i at)
+
+  -- and one that stands nowhere has none
+  pub value-nowhere : (es : List (K × V)) (k : K) → ((j : ℕ) → slice_get (keys_of es) j ≢ Some k) → is_some (lookup (eq k) es) ≡ false
+  value-nowhere es k nowhere = ap is_some (lookup-nowhere eq exact es k nowhere)
+
+  -- whether a key stands at the place that an index has for it tells whether it has a value
+  pub lent-at : (es : List (K × V)) (places : K → Option ℕ) (k : K) (place : ℕ) (b : Bool) → IsIndexOf places (keys_of es) → places k ≡ Some place
+      → (b ≡ true) ↔ (slice_get (keys_of es) place ≡ Some k) → b ≡ is_some (lookup (eq k) es)
+  lent-at es places k place true index there at = sym (value-at es k place (at.0 refl))
+  lent-at es places k place false index there at =
+      sym (value-nowhere es k (λ j here.
+      let same = same_Some place j (sym there ∙ index k j here) in
+      true≢false (sym (at.1 (ap (slice_get (keys_of es)) same ∙ here)))))
+
+  -- and where the index has no place for it, it has none
+  pub lent-nowhere : (es : List (K × V)) (places : K → Option ℕ) (k : K) → IsIndexOf places (keys_of es) → places k ≡ None → false ≡ is_some (lookup (eq k) es)
+  lent-nowhere es places k index none = sym (value-nowhere es k (λ j here. none-some j (sym none ∙ index k j here)))

@@ -1,6 +1,7 @@
 -- A table: entries in the order in which their keys were first put in, and, where they are many, an
 -- index of their places by key.
-use Rattle.std.specs.Prelude.{◌≡◌, ℕ, Bool, List, [], ◌∷◌, Option, Some, IfSome, slice_get, if◌then◌else◌}
+use Rattle.std.specs.Prelude.{◌≡◌, ℕ, Bool, List, [], ◌∷◌, Option, None, Some, IfSome, slice_get, if◌then◌else◌}
+use Rattle.std.specs.Global.{Box}
 use Rattle.std.specs.Map.{lookup}
 
 -- the entries after a put: a key that is there keeps its place and takes the value, and a new key
@@ -25,3 +26,8 @@ AreDistinct keys = (k : _) (i j : ℕ) → slice_get keys i ≡ Some k → slice
 pub record IsIndexed {K : Type 0} (index : Option (K → Option ℕ)) (keys : List K) : Type 0 where
   pub distinct : AreDistinct keys
   pub places : IfSome index (λ places. IsIndexOf places keys)
+
+-- the entries of a table that is there only where it has some
+abbrev pub entries_in : {X : Type 0} → Option (Box (List X)) → List X
+entries_in None = []
+entries_in (Some table) = table.value

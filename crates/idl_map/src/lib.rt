@@ -11,6 +11,7 @@ mod lent;
 mod list;
 mod map;
 mod marks;
+mod rare_table;
 mod table;
 
 pub use digest::Digest;
@@ -18,4 +19,5 @@ pub use lent::Lent;
 pub use list::SharedList;
 pub use map::Map;
 pub use marks::Marks;
+pub use rare_table::RareTable;
 pub use table::Table;

@@ -1,12 +1,15 @@
 //! A list whose copies share their items.
 
-ghost use Rattle.std.specs.Prelude.{◌≡◌, ◌<◌, ◌↔◌, ◌++◌, ◌∷◌, [], IfOk, IfSome, IsNone, IsTrue, OnOk, OnErr, length};
+ghost use Rattle.std.specs.Prelude.{◌≡◌, ◌<◌, ◌↔◌, ◌++◌, ◌∷◌, [], IfOk, IfSome, IsNone, IsTrue, OnOk, OnErr, Some, length, refl};
+ghost use Rattle.std.specs.Cmp.{partial_order_from_agreeing_total};
 ghost use Rattle.std.specs.Cmp.Lexicographic.{pointwise, lists_per, lists_equiv};
 ghost use Rattle.idl_base.specs.Exact.{same_list};
 ghost use Rattle.idl_map.specs.Items.{items_of};
+ghost use Rattle.idl_map.specs.Order.{backwards_cmp, backwards_ties, backwards_total};
 
 use idl_base::Datum;
 use std::alloc::{AllocError, Global};
+use std::cmp::Ordering;
 use std::marker::Model;
 use std::rc::Rc;
 
@@ -192,6 +195,62 @@ fn are_one<T: Datum>(first: &Option<Rc<Node<T>>>, second: &Option<Rc<Node<T>>>) 
 
 impl<T: Datum> Eq for SharedList<T> {
     ghost laws = { lists_equiv T.Eq.laws };
+}
+
+// Which comes first, by the last items and then by those before them: a loop, as for `==`.
+#[tactic(auto, using(crate::proofs::OrderLemmas::tied_last, crate::proofs::OrderLemmas::other_last, crate::proofs::OrderLemmas::longer, crate::proofs::OrderLemmas::shorter))]
+fn order_of<T: Datum + Ord>(first: &Option<Rc<Node<T>>>, second: &Option<Rc<Node<T>>>) -> Ordering
+    ensures { result ≡ backwards_cmp T.cmp (items_of first.now) (items_of second.now) }
+{
+    let mut one = first;
+    let mut two = second;
+    while let Some(shared) = one {
+        let node: &Node<T> = shared;
+        let (before, item) = node.parts();
+        let Some(opposite) = two else {
+            return Ordering::Greater;
+        };
+        let opposite: &Node<T> = opposite;
+        let (others, other) = opposite.parts();
+        let order = item.cmp(other);
+        if order != Ordering::Equal {
+            return order;
+        }
+        one = before;
+        two = others;
+    }
+    let Some(more) = two else {
+        return Ordering::Equal;
+    };
+    let more: &Node<T> = more;
+    let _parts = more.parts();
+    Ordering::Less
+}
+
+impl<T: Datum + Ord> PartialOrd for SharedList<T> {
+    ghost partial_cmp = { λ x y. Some (backwards_cmp T.cmp x y) };
+
+    ghost laws = { partial_order_from_agreeing_total (backwards_cmp T.cmp) (backwards_total T.total) (λ x y. refl) (backwards_ties T.cmp T.matches_eq) };
+
+    fn partial_cmp(&self, other: &SharedList<T>) -> Option<Ordering> {
+        Some(self.cmp(other))
+    }
+}
+
+impl<T: Datum + Ord> Ord for SharedList<T> {
+    ghost cmp = { backwards_cmp T.cmp };
+
+    ghost total = { backwards_total T.total };
+
+    ghost matches_partial_cmp = { λ x y. refl };
+
+    ghost matches_eq = { backwards_ties T.cmp T.matches_eq };
+
+    fn cmp(&self, other: &SharedList<T>) -> Ordering
+        ensures { result ≡ backwards_cmp T.cmp self.now other.now }
+    {
+        order_of(&self.last, &other.last)
+    }
 }
 
 impl<T: Datum> Datum for SharedList<T> {

@@ -1,12 +1,13 @@
 //! A table of entries by their keys, in the order in which the keys were first put in.
 
 ghost use Rattle.std.specs.Prelude.{◌≡◌, ◌↔◌, ◌++◌, ◌∷◌, [], ℕ, Some, false, IfOk, IsTrue, IsNone, OnOk, OnErr, is_some, length, slice_get};
-ghost use Rattle.std.specs.List.{position};
+ghost use Rattle.std.specs.List.{list_any, position};
 ghost use Rattle.std.specs.Map.{keys_of, lookup};
 ghost use Rattle.std.specs.Option.{option_copied, option_map, option_to_list};
 ghost use Rattle.idl_map.specs.Table.{AreDistinct, IsIndexOf, insert_entry, places_in};
 
 use crate::digest::Digest;
+use crate::lent::Lent;
 use crate::map::Map;
 use std::alloc::{AllocError, Global};
 use std::marker::Model;
@@ -87,6 +88,16 @@ impl<K: Digest + Ord, V: Drop> Table<K, V> {
         self.get(key).is_some()
     }
 
+    /// Whether a key that is lent has an entry. It takes memory only where there are many entries and many keys choose one bucket.
+    pub fn contains_lent<L: Lent<K>>(&self, key: &L) -> Result<bool, AllocError>
+        ensures { IfOk result (λ there. there ≡ is_some (lookup (K.eq (L.key key.now)) self.now)) }
+    {
+        match &self.index {
+            Some(places) => is_lent_in(places, &self.entries, key),
+            None => Ok(is_lent_among(&self.entries, key)),
+        }
+    }
+
     /// The entry at a place in the order, or nothing past the last.
     pub fn get_index(&self, index: usize) -> Option<(&K, &V)>
         ensures { option_map (λ e. (e.0.now, e.1.now)) result ≡ slice_get self.now index }
@@ -138,6 +149,19 @@ impl<K: Digest + Ord, V: Drop> Table<K, V> {
         self.entries.pop()
     }
 
+    /// Moves all entries behind those of a list, in their order. The table keeps its room for others.
+    ///
+    /// Want of memory leaves both as they were.
+    pub fn move_into(&mut self, list: &mut Vec<(K, V)>) -> Result<(), AllocError>
+        ensures moved { OnOk result (list.new.items ≡ list.old.items ++ self.old) }
+        ensures none { OnOk result (self.new ≡ []) }
+        ensures err { OnErr result (self.new ≡ self.old) }
+    {
+        list.append(&mut self.entries)?;
+        self.index = None;
+        Ok(())
+    }
+
     // The place of a key among the entries, or nothing.
     fn place_of(&self, key: &K) -> Option<usize>
         ensures { (i : ℕ) → (result ≡ Some i) ↔ (slice_get (keys_of self.now) i ≡ Some key.now) }
@@ -175,6 +199,39 @@ fn place_in<K: Digest + Ord, V>(
         Some(place)
     } else {
         None
+    }
+}
+
+// Whether a key that is lent is among the keys of entries.
+fn is_lent_among<K: Digest + Ord, V, L: Lent<K>>(entries: &[(K, V)], key: &L) -> bool
+    ensures { result ≡ list_any (λ e. K.eq (L.key key.now) e.0) entries.now }
+{
+    entries.iter().any(|entry| key.is(&entry.0))
+}
+
+// Whether a key that is lent stands at the place that an index has for it.
+fn is_lent_in<K: Digest + Ord, V, L: Lent<K>>(
+    places: &Map<K, usize>,
+    entries: &[(K, V)],
+    key: &L,
+) -> Result<bool, AllocError>
+    requires { IsIndexOf (places_in K.eq places.now) (keys_of entries.now) }
+    ensures { IfOk result (λ there.
+        there ≡ is_some (lookup (K.eq (L.key key.now)) entries.now)) }
+{
+    match places.get_lent(key)? {
+        Some(place) => Ok(is_lent_at(entries, *place, key)),
+        None => Ok(false),
+    }
+}
+
+// Whether a key that is lent stands at a place.
+fn is_lent_at<K: Digest + Ord, V, L: Lent<K>>(entries: &[(K, V)], place: usize, key: &L) -> bool
+    ensures { IsTrue result ↔ (slice_get (keys_of entries.now) place ≡ Some (L.key key.now)) }
+{
+    match entries.get(place) {
+        Some(entry) => key.is(&entry.0),
+        None => false,
     }
 }
 

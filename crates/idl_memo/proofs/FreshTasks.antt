@@ -1,15 +1,17 @@
--- Fresh tasks, where no two places of a project have one text.
-use Rattle.std.proofs.Common.{◌≡◌, ℕ, ◌+◌, ◌≤◌, length, subst, Bool, true, false, ◌&&◌, ◌||◌, cond, ◌↔◌, All, Contains, Option, None, Some, List, [], ◌∷◌, ◌++◌, append_assoc, refl, sym, ap, ◌∙◌, arith, if◌then◌else◌}
-use Rattle.std.proofs.lemmas.List.{length-append}
+-- Places that are alike, and the fresh ones among them.
+use Rattle.std.proofs.Common.{◌≡◌, ℕ, ◌+◌, ◌≤◌, length, subst, Bool, true, false, ◌&&◌, ◌||◌, ◌↔◌, All, Contains, Option, None, Some, List, [], ◌∷◌, ◌++◌, append-nil, append_assoc, refl, sym, ap, ◌∙◌, arith, if◌then◌else◌}
+use Rattle.std.proofs.lemmas.List.{map-append}
 use Rattle.std.proofs.lemmas.List.Elements.{All-nil, All-cons, All-head, All-tail}
 use Rattle.std.proofs.lemmas.List.Folds.{list_any-append, list_any_at}
-use Rattle.std.proofs.lemmas.Map.Keys.{IsDistinct-head, IsDistinct-tail}
 use Rattle.std.specs.List.{list_all, list_any, AllByRecursion, IsDistinct}
 use Rattle.std.specs.Option.{option_eq}
-use Rattle.idl_base.proofs.Bools.{or-false}
+use Rattle.idl_base.proofs.Bools.{or-true}
 use Rattle.idl_base.specs.Exact.{both}
-use Rattle.idl_memo.specs.Query.{Query, asked, is_logged, noted, noted_all, Agree}
-use Rattle.idl_memo.specs.Fresh.{is_alike, fresh_behind, fresh_among, stale_among, asked_at, compared_among, asked_among, alike_among}
+use Rattle.idl_memo.specs.Classes.{new_among}
+use Rattle.idl_memo.specs.Query.{Query, asked, run, Agree, HoldsIn}
+use Rattle.idl_memo.specs.Fresh.{Place, places_over, is_alike, log_at, fresh_at, fresh_among, AreAmong, stale_among, asked_at, compared_among, asked_among}
+use Rattle.idl_memo.proofs.ClassLaws.{one_test, each_new, not_before, new-split, new-none, new-known, new-aside, new-turned, new-classes, new-distinct, new-fewer, new-most, HaveAlike-itself}
+use Rattle.idl_memo.proofs.QueryLaws.{IsLogOf-run, Agree-from_log, run-agree}
 
 -- an option is equal to itself where what it holds is
 pub option_eq-itself : {X : Type 0} (eq : X → X → Bool) → ((x : X) → eq x x ≡ true) → (o : Option X) → option_eq eq o o ≡ true
@@ -38,168 +40,185 @@ module _ {K V : Type 0} (answer_eq : V → V → Bool) (itself : (x : V) → ans
 
 module _ {K V X T O : Type 0} (text_eq : T → T → Bool) (text_itself : (x : T) → text_eq x x ≡ true) (text_turn : (x y : T) → text_eq x y ≡ text_eq y x) (text_same : (x y : T) → text_eq x y ≡ true → x ≡ y)
     (answer_eq : V → V → Bool) (itself : (x : V) → answer_eq x x ≡ true) (same : (x y : V) → answer_eq x y ≡ true → x ≡ y) (query : T → Query K V X O) where
+  abbrev alike : Place K V T → Place K V T → Bool
+  alike = is_alike text_eq answer_eq query
+
   -- whether each key that a task asked has the answer that it had
   abbrev answers : (K → V) → (K → V) → T → Bool
   answers old new task = list_all (λ k. answer_eq (new k) (old k)) (asked (query task) old)
 
   -- what it means to be alike
-  pub is_alike-means : (old new : K → V) (here task : T) → (is_alike text_eq answer_eq query old new here task ≡ true ↔ (here ≡ task) × Agree (asked (query task) old) old new)
-  is_alike-means old new here task = (
-    (λ h. let parts = both (text_eq here task) (answers old new task) h in (text_same here task parts.0, Agree-from_test answer_eq itself same old new (asked (query task) old) parts.1)),
-    (λ h. let text : text_eq here task ≡ true = ap (λ t. text_eq t task) h.0 ∙ text_itself task in
-        ap (λ b. b && answers old new task) text ∙ test-from_Agree answer_eq itself same old new (asked (query task) old) h.1),
+  pub is_alike-means : (here task : Place K V T) → (is_alike text_eq answer_eq query here task ≡ true ↔ (here.0 ≡ task.0) × Agree (asked (query task.0) task.1) task.1 here.1)
+  is_alike-means here task = (
+    (λ h. let parts = both (text_eq here.0 task.0) (answers task.1 here.1 task.0) h in (text_same here.0 task.0 parts.0, Agree-from_test answer_eq itself same task.1 here.1 (asked (query task.0) task.1) parts.1)),
+    (λ h. let text : text_eq here.0 task.0 ≡ true = ap (λ t. text_eq t task.0) h.0 ∙ text_itself task.0 in
+        ap (λ b. b && answers task.1 here.1 task.0) text ∙ test-from_Agree answer_eq itself same task.1 here.1 (asked (query task.0) task.1) h.1),
   )
 
   -- a task is alike at its own place where the answers are as they were
-  pub is_alike-itself : (old new : K → V) (task : T) → is_alike text_eq answer_eq query old new task task ≡ answers old new task
+  pub is_alike-itself : (old new : K → V) (task : T) → is_alike text_eq answer_eq query (task, new) (task, old) ≡ answers old new task
   is_alike-itself old new task = ap (λ b. b && answers old new task) (text_itself task)
 
   -- over one bank they are
   answers-here : (bank : K → V) (task : T) → answers bank bank task ≡ true
   answers-here bank task = test-from_Agree answer_eq itself same bank bank (asked (query task) bank) (λ k d below. refl)
 
-  -- a task is alike at a place if it has the text there, and the answers to what that text asks are as they were
-  any_alike : (old new : K → V) (here : T) (tasks : List T) → list_any (is_alike text_eq answer_eq query old new here) tasks ≡ (list_any (text_eq here) tasks && answers old new here)
-  any_alike old new here [] = refl
-  any_alike old new here (t ∷ ts) = by (text_eq here t) refl (any_alike old new here ts)
-    where
-      by : (b : Bool) → text_eq here t ≡ b → list_any (is_alike text_eq answer_eq query old new here) ts ≡ (list_any (text_eq here) ts && answers old new here)
-          → ((b && answers old new t) || list_any (is_alike text_eq answer_eq query old new here) ts) ≡ ((b || list_any (text_eq here) ts) && answers old new here)
-      by false other rest = rest
-      by true is rest =
-          let found = ap (λ x. answers old new x) (sym (text_same here t is)) in
-          ap (λ b. b || list_any (is_alike text_eq answer_eq query old new here) ts) found
-          ∙ ap (λ b. answers old new here || b) rest ∙ absorbed (answers old new here) (list_any (text_eq here) ts)
+  module _ (key_eq : K → K → Bool) (key_itself : (x : K) → key_eq x x ≡ true) (key_same : (x y : K) → key_eq x y ≡ true → x ≡ y) where
+    -- alike are those that have one text and one log
+    pub is_alike-class : (here task : Place K V T) → (is_alike text_eq answer_eq query here task ≡ true ↔ (here.0 ≡ task.0) × (log_at key_eq query here ≡ log_at key_eq query task))
+    is_alike-class here task = (
+      (λ h. let m = (is_alike-means here task).0 h in
+          (m.0, ap (λ t. (run key_eq (query t) here.1 []).1) m.0 ∙ ap (λ (r : O × List (K × V)). r.1) (run-agree key_eq (query task.0) task.1 here.1 [] m.1))),
+      (λ h. let there : HoldsIn here.1 (log_at key_eq query task) = subst (HoldsIn here.1) h.1 (IsLogOf-run key_eq key_itself key_same (query here.0) here.1).answers in
+          (is_alike-means here task).1 (h.0, Agree-from_log (asked (query task.0) task.1) task.1 here.1 (log_at key_eq query task) (IsLogOf-run key_eq key_itself key_same (query task.0) task.1) there)),
+    )
 
-  -- of distinct texts, one isn't among those before it
-  not_before : (earlier : List T) (here : T) (places : List T) → IsDistinct text_eq (earlier ++ here ∷ places) → list_any (text_eq here) earlier ≡ false
-  not_before [] here places distinct = refl
-  not_before (t ∷ ts) here places distinct =
-      ap (λ b. b || list_any (text_eq here) ts) (text_turn here t ∙ among ts (IsDistinct-head text_eq t (ts ++ here ∷ places) distinct))
-      ∙ not_before ts here places (IsDistinct-tail text_eq t (ts ++ here ∷ places) distinct)
-    where
-      among : (before : List T) → AllByRecursion (λ y. text_eq t y ≡ false) (before ++ here ∷ places) → text_eq t here ≡ false
-      among [] h = h.0
-      among (b ∷ bs) h = among bs h.1
+    -- so each is alike to itself, two are both ways, and likeness goes on
+    alike-itself : (x : Place K V T) → alike x x ≡ true
+    alike-itself x = (is_alike-class x x).1 (refl, refl)
 
-  module _ (old : K → V) (tasks : List T) (new : K → V) where
-    -- how many places have a text that no task of the old project has, or answers that aren't as they were
-    abbrev without : List T → ℕ
-    without [] = 0
-    without (here ∷ places) = (if list_any (text_eq here) tasks && answers old new here then 0 else 1) + without places
+    pub alike-turn : (x y : Place K V T) → alike x y ≡ alike y x
+    alike-turn x y = one_test (alike x y) (alike y x)
+        (λ h. let c = (is_alike-class x y).0 h in (is_alike-class y x).1 (sym c.0, sym c.1))
+        (λ h. let c = (is_alike-class y x).0 h in (is_alike-class x y).1 (sym c.0, sym c.1))
 
-    -- these are the fresh ones, where texts are distinct
-    fresh_behind-without : (earlier places : List T) → IsDistinct text_eq (earlier ++ places) → fresh_behind text_eq answer_eq query old tasks new earlier places ≡ without places
-    fresh_behind-without earlier [] distinct = refl
-    fresh_behind-without earlier (here ∷ places) distinct =
-        let before = any_alike new new here earlier ∙ ap (λ b. b && answers new new here) (not_before earlier here places distinct) in
-        let test : (list_any (is_alike text_eq answer_eq query old new here) tasks || list_any (is_alike text_eq answer_eq query new new here) earlier) ≡ (list_any (text_eq here) tasks && answers old new here) =
-        ap (λ b. list_any (is_alike text_eq answer_eq query old new here) tasks || b) before ∙ or-false (list_any (is_alike text_eq answer_eq query old new here) tasks) ∙ any_alike old new here tasks in
-        let later = fresh_behind-without (earlier ++ here ∷ []) places (rw append_assoc distinct) in
-        λ i. (if test i then 0 else 1) + later i
+    alike-chain : (x y z : Place K V T) → alike x y ≡ true → alike y z ≡ true → alike x z ≡ true
+    alike-chain x y z first second =
+        let c = (is_alike-class x y).0 first in
+        let d = (is_alike-class y z).0 second in
+        (is_alike-class x z).1 (c.0 ∙ d.0, c.1 ∙ d.1)
 
-    -- each of these texts is that of a task of the old project
-    abbrev pub AllThere : List T → Type 0
-    AllThere places = AllByRecursion (λ t. list_any (text_eq t) tasks ≡ true) places
+    abbrev fresh : List (Place K V T) → List (Place K V T) → ℕ
+    fresh = fresh_among text_eq answer_eq query
+
+    abbrev Among : List (Place K V T) → List (Place K V T) → Type 0
+    Among = AreAmong text_eq answer_eq query
+
+    pub fresh-none : (known : List (Place K V T)) → fresh known [] ≡ 0
+    unfolding fresh_among
+    fresh-none known = refl
+
+    pub fresh-one : (known : List (Place K V T)) (here : Place K V T) → fresh known (here ∷ []) ≡ fresh_at text_eq answer_eq query known here
+    unfolding fresh_among
+    fresh-one known here = omega arith
+
+    pub fresh-split : (old a b : List (Place K V T)) → fresh old (a ++ b) ≡ fresh old a + fresh (old ++ a) b
+    unfolding fresh_among
+    fresh-split = new-split alike
+
+    pub fresh-known : (a b new : List (Place K V T)) → Among a b → Among b a → fresh a new ≡ fresh b new
+    unfolding fresh_among
+    fresh-known = new-known alike alike-turn alike-chain
+
+    pub fresh-aside : (old front stay rest : List (Place K V T)) → Among stay old → fresh old (front ++ (stay ++ rest)) ≡ fresh old (front ++ rest)
+    unfolding fresh_among
+    fresh-aside = new-aside alike alike-turn alike-chain
+
+    pub fresh-turned : (old a b : List (Place K V T)) → fresh old (a ++ b) ≡ fresh old (b ++ a)
+    unfolding fresh_among
+    fresh-turned = new-turned alike alike-turn alike-chain
+
+    pub fresh-classes : (old a b : List (Place K V T)) → Among a (old ++ b) → Among b (old ++ a) → fresh old a ≡ fresh old b
+    unfolding fresh_among
+    fresh-classes = new-classes alike alike-turn alike-chain
+
+    pub fresh-gone : (old stay : List (Place K V T)) → Among stay old → fresh old stay ≡ 0
+    unfolding fresh_among
+    fresh-gone = new-none alike
+
+    pub fresh-fewer_classes : (old a b : List (Place K V T)) → Among a (old ++ b) → fresh old a ≤ fresh old b
+    unfolding fresh_among
+    fresh-fewer_classes = new-fewer alike alike-turn alike-chain
+
+    pub fresh-most : (old new : List (Place K V T)) → fresh old new ≤ length new
+    unfolding fresh_among
+    fresh-most = new-most alike
+
+    -- places that are there are among those
+    pub Among-there : (these those : List (Place K V T)) → All (Contains those) these → Among these those
+    Among-there [] those h = All-nil (λ p. list_any (alike p) those ≡ true)
+    Among-there (p ∷ these) those h =
+        let found : Contains those p = All-head (Contains those) p these h in
+        All-cons (λ p. list_any (alike p) those ≡ true) p these (list_any_at (alike p) those found.0 p found.1 (ap (alike p) found.2 ∙ alike-itself p)) (Among-there these those (All-tail (Contains those) p these h))
+
+    -- with the texts of one project over two banks
+
+    -- distinct texts make distinct places
+    IsDistinct-places : (bank : K → V) (texts : List T) → IsDistinct text_eq texts → IsDistinct alike (places_over bank texts)
+    unfolding IsDistinct
+    IsDistinct-places bank [] h = tt
+    IsDistinct-places bank (t ∷ texts) h = (apart texts h.0, IsDistinct-places bank texts h.1)
+      where
+        apart : (others : List T) → AllByRecursion (λ y. text_eq t y ≡ false) others → AllByRecursion (λ q. alike (t, bank) q ≡ false) (places_over bank others)
+        apart [] h = tt
+        apart (o ∷ others) h = (ap (λ b. b && answers bank bank o) h.0, apart others h.1)
+
+    -- a task is alike at a place if it has the text there, and the answers to what that text asks are as they were
+    any_alike : (old new : K → V) (here : T) (tasks : List T) → list_any (alike (here, new)) (places_over old tasks) ≡ (list_any (text_eq here) tasks && answers old new here)
+    any_alike old new here [] = refl
+    any_alike old new here (t ∷ ts) = by (text_eq here t) refl (any_alike old new here ts)
+      where
+        by : (b : Bool) → text_eq here t ≡ b → list_any (alike (here, new)) (places_over old ts) ≡ (list_any (text_eq here) ts && answers old new here)
+            → ((b && answers old new t) || list_any (alike (here, new)) (places_over old ts)) ≡ ((b || list_any (text_eq here) ts) && answers old new here)
+        by false other rest = rest
+        by true is rest =
+            let found = ap (λ x. answers old new x) (sym (text_same here t is)) in
+            ap (λ b. b || list_any (alike (here, new)) (places_over old ts)) found
+            ∙ ap (λ b. answers old new here || b) rest ∙ absorbed (answers old new here) (list_any (text_eq here) ts)
+
+    -- each of the last texts is one of all
+    all_there : (before texts : List T) → AllByRecursion (λ t. list_any (text_eq t) (before ++ texts) ≡ true) texts
+    all_there before [] = tt
+    all_there before (here ∷ texts) =
+        let found : list_any (text_eq here) (before ++ here ∷ texts) ≡ true =
+        list_any-append (text_eq here) before (here ∷ texts) ∙ ap (λ b. list_any (text_eq here) before || (b || list_any (text_eq here) texts)) (text_itself here) ∙ or-true (list_any (text_eq here) before) in
+        (found, rw append_assoc at (all_there (before ++ here ∷ []) texts))
 
     -- where each text is that of a task of the old project, those are fresh whose answers aren't as they were
-    without-there : (places : List T) → AllThere places → without places ≡ stale_among text_eq answer_eq query old new places
-    without-there [] there = refl
-    without-there (here ∷ places) there =
-        let test : (list_any (text_eq here) tasks && answers old new here) ≡ is_alike text_eq answer_eq query old new here here =
-        ap (λ b. b && answers old new here) (there.0 ∙ sym (text_itself here)) in
-        let later = without-there places there.1 in
+    each-there : (old new : K → V) (tasks texts : List T) → AllByRecursion (λ t. list_any (text_eq t) tasks ≡ true) texts → each_new alike (places_over old tasks) (places_over new texts) ≡ stale_among text_eq answer_eq query old new texts
+    each-there old new tasks [] there = refl
+    each-there old new tasks (here ∷ texts) there =
+        let test : list_any (alike (here, new)) (places_over old tasks) ≡ alike (here, new) (here, old) =
+        any_alike old new here tasks ∙ ap (λ b. b && answers old new here) (there.0 ∙ sym (text_itself here)) in
+        let later = each-there old new tasks texts there.1 in
         λ i. (if test i then 0 else 1) + later i
 
-  -- each of the last places is one of all
-  all_there : (before places : List T) → AllByRecursion (λ t. list_any (text_eq t) (before ++ places) ≡ true) places
-  all_there before [] = tt
-  all_there before (here ∷ places) =
-      let found : list_any (text_eq here) (before ++ here ∷ places) ≡ true =
-      list_any-append (text_eq here) before (here ∷ places) ∙ ap (λ b. list_any (text_eq here) before || (b || list_any (text_eq here) places)) (text_itself here) ∙ or_true (list_any (text_eq here) before) in
-      (found, rw append_assoc at (all_there (before ++ here ∷ []) places))
-    where
-      or_true : (b : Bool) → (b || true) ≡ true
-      or_true true = refl
-      or_true false = refl
+    -- with the same places, those are fresh whose answers aren't as they were
+    pub fresh-same_places : (old new : K → V) (texts : List T) → IsDistinct text_eq texts → fresh (places_over old texts) (places_over new texts) ≡ stale_among text_eq answer_eq query old new texts
+    unfolding fresh_among
+    fresh-same_places old new texts distinct =
+        let each : new_among alike (places_over old texts) (places_over new texts) ≡ each_new alike (places_over old texts) (places_over new texts) =
+        rw append-nil at (new-distinct alike alike-turn (places_over old texts) [] (places_over new texts) (IsDistinct-places new texts distinct)) in
+        each ∙ each-there old new texts texts (all_there [] texts)
 
-  -- with the same places, those are fresh whose answers aren't as they were
-  pub fresh-same_places : (old new : K → V) (places : List T) → IsDistinct text_eq places → fresh_among text_eq answer_eq query old places new places ≡ stale_among text_eq answer_eq query old new places
-  unfolding fresh_among
-  fresh-same_places old new places distinct = fresh_behind-without old places new [] places distinct ∙ without-there old places new places (all_there [] places)
+    -- texts that are there make places that are among those
+    Among-texts : (bank : K → V) (tasks texts : List T) → All (Contains tasks) texts → Among (places_over bank texts) (places_over bank tasks)
+    Among-texts bank tasks [] h = All-nil (λ p. list_any (alike p) (places_over bank tasks) ≡ true)
+    Among-texts bank tasks (here ∷ texts) h =
+        let found : Contains tasks here = All-head (Contains tasks) here texts h in
+        let text : list_any (text_eq here) tasks ≡ true = list_any_at (text_eq here) tasks found.0 here found.1 (ap (text_eq here) found.2 ∙ text_itself here) in
+        let test : list_any (alike (here, bank)) (places_over bank tasks) ≡ true = any_alike bank bank here tasks ∙ ap (λ b. b && answers bank bank here) text ∙ answers-here bank here in
+        All-cons (λ p. list_any (alike p) (places_over bank tasks) ≡ true) (here, bank) (places_over bank texts) test (Among-texts bank tasks texts (All-tail (Contains tasks) here texts h))
 
-  -- over one bank none is stale
-  none_stale : (bank : K → V) (places : List T) → stale_among text_eq answer_eq query bank bank places ≡ 0
-  none_stale bank [] = refl
-  none_stale bank (here ∷ places) = λ i. (if (is_alike-itself bank bank here ∙ answers-here bank here) i then 0 else 1) + none_stale bank places i
+    -- over one bank, places of the old project are not fresh
+    pub fresh-fewer : (bank : K → V) (tasks texts : List T) → All (Contains tasks) texts → fresh (places_over bank tasks) (places_over bank texts) ≡ 0
+    fresh-fewer bank tasks texts there = fresh-gone (places_over bank tasks) (places_over bank texts) (Among-texts bank tasks texts there)
 
-  -- texts that are among those of tasks
-  there_from : (tasks places : List T) → All (Contains tasks) places → AllByRecursion (λ t. list_any (text_eq t) tasks ≡ true) places
-  there_from tasks [] h = tt
-  there_from tasks (here ∷ places) h =
-      let found : Contains tasks here = All-head (Contains tasks) here places h in
-      (list_any_at (text_eq here) tasks found.0 here found.1 (ap (text_eq here) found.2 ∙ text_itself here), there_from tasks places (All-tail (Contains tasks) here places h))
-
-  -- over one bank, places of the old project are not fresh
-  pub fresh-fewer_places : (bank : K → V) (tasks places : List T) → IsDistinct text_eq places → All (Contains tasks) places → fresh_among text_eq answer_eq query bank tasks bank places ≡ 0
-  unfolding fresh_among
-  fresh-fewer_places bank tasks places distinct there =
-      fresh_behind-without bank tasks bank [] places distinct ∙ without-there bank tasks bank places (there_from tasks places there) ∙ none_stale bank places
-
-  without-append : (old : K → V) (tasks : List T) (new : K → V) (places more : List T) → without old tasks new (places ++ more) ≡ without old tasks new places + without old tasks new more
-  without-append old tasks new [] more = omega arith
-  without-append old tasks new (here ∷ places) more =
-      let later = without-append old tasks new places more in
-      omega (arith, later)
-
-  -- over one bank, one more place is fresh, and no other is
-  pub fresh-one_more : (bank : K → V) (places : List T) (here : T) → IsDistinct text_eq (places ++ here ∷ []) → fresh_among text_eq answer_eq query bank places bank (places ++ here ∷ []) ≡ 1
-  unfolding fresh_among
-  fresh-one_more bank places here distinct =
-      let last : (if list_any (text_eq here) places && answers bank bank here then 0 else 1) ≡ 1 = ap (λ b. if b && answers bank bank here then 0 else 1) (not_before places here [] distinct) in
-      let others = without-there bank places bank places (all_there [] places) ∙ none_stale bank places in
-      fresh_behind-without bank places bank [] (places ++ here ∷ []) distinct
-      ∙ without-append bank places bank places (here ∷ [])
-      ∙ (λ i. others i + (last i + 0))
+    -- over one bank, one more place is fresh, and no other is
+    pub fresh-one_more : (bank : K → V) (texts : List T) (here : T) → IsDistinct text_eq (texts ++ here ∷ []) → fresh (places_over bank texts) (places_over bank (texts ++ here ∷ [])) ≡ 1
+    fresh-one_more bank texts here distinct =
+        let old = places_over bank texts in
+        let last : Place K V T = (here, bank) in
+        let apart : list_any (alike last) old ≡ false = any_alike bank bank here texts ∙ ap (λ b. b && answers bank bank here) (not_before text_eq text_turn texts here [] distinct) in
+        let test : list_any (alike last) (old ++ old) ≡ false = list_any-append (alike last) old old ∙ ap (λ b. b || list_any (alike last) old) apart ∙ apart in
+        let at_last : fresh (old ++ old) (last ∷ []) ≡ 1 = fresh-one (old ++ old) last ∙ ap (λ b. if b then 0 else 1) test in
+        let stay : fresh old old ≡ 0 = fresh-gone old old (rw append-nil at (HaveAlike-itself alike alike-itself [] old [])) in
+        let split = fresh-split old old (last ∷ []) in
+        let sum : fresh old (old ++ last ∷ []) ≡ 1 = omega (arith, split, stay, at_last) in
+        let at_place : T → Place K V T = λ text. (text, bank) in
+        subst (λ (ps : List (Place K V T)). fresh old ps ≡ 1) (sym (map-append at_place texts (here ∷ []))) sum
 
   module _ (key_eq : K → K → Bool) where
-    noted-grows : (bank : K → V) (log : List (K × V)) (k : K) (b : Bool) → length log ≤ length (cond b log (log ++ (k, bank k) ∷ []))
-    noted-grows bank log k true = omega arith
-    noted-grows bank log k false = omega (arith, length-append log ((k, bank k) ∷ []))
-
-    -- a log grows with the keys noted
-    noted_all-grows : (bank : K → V) (log : List (K × V)) (ks : List K) → length log ≤ length (noted_all key_eq bank log ks)
-    noted_all-grows bank log [] = omega arith
-    noted_all-grows bank log (k ∷ ks) = omega (arith, noted-grows bank log k (is_logged key_eq log k), noted_all-grows bank (noted key_eq bank log k) ks)
-
-    by_test : (b : Bool) (n : ℕ) → 1 ≤ n → (if b then n else 1) ≤ n
-    by_test true n h = omega arith
-    by_test false n h = h
-
-    -- a task that isn't alike asked some key
-    cost_most : (bank : K → V) (test : K → Bool) (ks : List K) → (if list_all test ks then length (noted_all key_eq bank [] ks) else 1) ≤ length (noted_all key_eq bank [] ks)
-    cost_most bank test [] = omega arith
-    cost_most bank test (k ∷ ks) = by_test (list_all test (k ∷ ks)) (length (noted_all key_eq bank [] (k ∷ ks))) (noted_all-grows bank ((k, bank k) ∷ []) ks)
-
-    -- the keys compared are those asked at most
-    pub compared-most : (old new : K → V) (places : List T) → compared_among text_eq answer_eq query key_eq old new places ≤ asked_among text_eq answer_eq query key_eq old places
-    compared-most old new [] = omega arith
-    compared-most old new (here ∷ places) =
-        let n : ℕ = asked_at text_eq answer_eq query key_eq old here in
-        let cost : (if is_alike text_eq answer_eq query old new here here then n else 1) ≤ n =
-        subst (λ b. (if b then n else 1) ≤ n) (sym (is_alike-itself old new here)) (cost_most old (λ k. answer_eq (new k) (old k)) (asked (query here) old)) in
-        omega (arith, cost, compared-most old new places)
-
-    no_less : (b : Bool) (n : ℕ) → (if b then n else 0) ≤ (if b then n else 1)
-    no_less true n = omega arith
-    no_less false n = omega arith
-
-    -- and those at least that the alike ones asked
-    pub compared-least : (old new : K → V) (places : List T) → alike_among text_eq answer_eq query key_eq old new places ≤ compared_among text_eq answer_eq query key_eq old new places
-    compared-least old new [] = omega arith
-    compared-least old new (here ∷ places) =
-        omega (arith, no_less (is_alike text_eq answer_eq query old new here here) (asked_at text_eq answer_eq query key_eq old here), compared-least old new places)
-
     -- over one bank they are all that these tasks asked
     pub compared-stay : (bank : K → V) (places : List T) → compared_among text_eq answer_eq query key_eq bank bank places ≡ asked_among text_eq answer_eq query key_eq bank places
     compared-stay bank [] = refl

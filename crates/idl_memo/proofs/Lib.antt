@@ -1,10 +1,10 @@
-pub mod Bucketed
 pub mod Causes
-pub mod Digests
+pub mod ClassLaws
 pub mod FreshTasks
 pub mod Holding
-pub mod Lookup
 pub mod Noting
+pub mod PassLaws
+pub mod Placing
 pub mod ProgressLaws
 pub mod QueryLaws
 pub mod Telling

@@ -1,33 +1,47 @@
--- Which tasks of a project are fresh against those of another: the work that kept results don't
+-- Which places of a project are fresh against those of another: the work that kept results don't
 -- save.
-use Rattle.std.specs.Prelude.{ℕ, ◌+◌, Bool, ◌&&◌, ◌||◌, List, [], ◌∷◌, ◌++◌, length, if◌then◌else◌}
-use Rattle.std.specs.List.{list_all, list_any}
+use Rattle.std.specs.Prelude.{ℕ, ◌+◌, Bool, ◌&&◌, List, [], ◌∷◌, length, map, if◌then◌else◌}
+use Rattle.std.specs.List.{list_all}
+use Rattle.idl_memo.specs.Classes.{HaveAlike, new_among, new_at}
 use Rattle.idl_memo.specs.Query.{Query, asked, run}
+
+-- a task where it stands: its text, and the answers there
+abbrev pub Place : Type 0 → Type 0 → Type 0 → Type 0
+Place K V T = T × (K → V)
+
+-- tasks of these texts, all with the answers of one bank
+abbrev pub places_over : {K V T : Type 0} → (K → V) → List T → List (Place K V T)
+places_over bank texts = map (λ text. (text, bank)) texts
+
+-- the keys asked of a task where it stands, with their answers
+abbrev pub log_at : {K V X T O : Type 0} → (K → K → Bool) → (T → Query K V X O) → Place K V T
+    → List (K × V)
+log_at key_eq query place = (run key_eq (query place.0) place.1 []).1
 
 module _ {K V X T O : Type 0} (text_eq : T → T → Bool) (answer_eq : V → V → Bool)
     (query : T → Query K V X O) where
-  -- whether a task that ran over an old bank is alike at a place of a new one: it has the text of
-  -- the task there, and each key that it asked has there the answer that it had
-  abbrev pub is_alike : (K → V) → (K → V) → T → T → Bool
-  is_alike old new here task =
-      text_eq here task && list_all (λ k. answer_eq (new k) (old k)) (asked (query task) old)
+  -- whether a task is alike at a place: it has the text of the task there, and each key that it
+  -- asked has there the answer that it had
+  abbrev pub is_alike : Place K V T → Place K V T → Bool
+  is_alike here task =
+      text_eq here.0 task.0
+      && list_all (λ k. answer_eq (here.1 k) (task.1 k)) (asked (query task.0) task.1)
 
-  -- at how many places, behind the earlier ones, no task of the old project and none of an earlier
-  -- place is alike
-  abbrev pub fresh_behind : (K → V) → List T → (K → V) → List T → List T → ℕ
-  fresh_behind old tasks new earlier [] = 0
-  fresh_behind old tasks new earlier (here ∷ places) =
-      let kept = list_any (is_alike old new here) tasks in
-      let shared = list_any (is_alike new new here) earlier in
-      (if kept || shared then 0 else 1) + fresh_behind old tasks new (earlier ++ here ∷ []) places
+  -- nothing where a known task is alike at the place, and else one
+  abbrev pub fresh_at : List (Place K V T) → Place K V T → ℕ
+  fresh_at known here = new_at is_alike known here
 
-  -- at how many places no task of the old project and none of an earlier place is alike
-  unfoldable pub fresh_among : (K → V) → List T → (K → V) → List T → ℕ
-  fresh_among old tasks new places = fresh_behind old tasks new [] places
+  -- at how many places no known task and none of an earlier place is alike
+  unfoldable pub fresh_among : List (Place K V T) → List (Place K V T) → ℕ
+  fresh_among known places = new_among is_alike known places
+
+  -- each of these tasks is alike at a place of those
+  abbrev pub AreAmong : List (Place K V T) → List (Place K V T) → Type 0
+  AreAmong these those = HaveAlike is_alike these those
 
   -- one where a task isn't alike at its own place in the new project, and else nothing
   abbrev pub stale_at : (K → V) → (K → V) → T → ℕ
-  stale_at old new task = if is_alike old new task task then 0 else 1
+  stale_at old new task = if is_alike (task, new) (task, old) then 0 else 1
 
   -- how many tasks aren't alike at their own places in the new project
   abbrev pub stale_among : (K → V) → (K → V) → List T → ℕ
@@ -37,12 +51,12 @@ module _ {K V X T O : Type 0} (text_eq : T → T → Bool) (answer_eq : V → V 
   module _ (key_eq : K → K → Bool) (old : K → V) where
     -- how many keys a task asked
     abbrev pub asked_at : T → ℕ
-    asked_at task = length (run key_eq (query task) old []).1
+    asked_at task = length (log_at key_eq query (task, old))
 
     -- at how many keys a kept task is compared over an edit: where it is alike at its own place at
     -- all that it asked, and else at the one with another answer
     abbrev pub compared_at : (K → V) → T → ℕ
-    compared_at new task = if is_alike old new task task then asked_at task else 1
+    compared_at new task = if is_alike (task, new) (task, old) then asked_at task else 1
 
     -- at how many keys these kept tasks are compared over an edit
     abbrev pub compared_among : (K → V) → List T → ℕ
@@ -53,9 +67,3 @@ module _ {K V X T O : Type 0} (text_eq : T → T → Bool) (answer_eq : V → V 
     abbrev pub asked_among : List T → ℕ
     asked_among [] = 0
     asked_among (task ∷ tasks) = asked_at task + asked_among tasks
-
-    -- how many keys those of these tasks asked that are alike at their own places
-    abbrev pub alike_among : (K → V) → List T → ℕ
-    alike_among new [] = 0
-    alike_among new (task ∷ tasks) =
-        (if is_alike old new task task then asked_at task else 0) + alike_among new tasks

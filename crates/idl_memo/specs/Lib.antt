@@ -1,10 +1,10 @@
-pub mod Buckets
 pub mod Cause
+pub mod Classes
 pub mod Fresh
 pub mod Journal
 pub mod Kept
 pub mod Meter
-pub mod Obtained
+pub mod Passes
 pub mod Progress
 pub mod Query
 pub mod Renewal

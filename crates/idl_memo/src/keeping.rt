@@ -1,7 +1,8 @@
 //! Results that are kept.
 
+pub(crate) mod anew;
 pub(crate) mod edited;
 pub(crate) mod fresh;
 pub(crate) mod kept;
-pub(crate) mod kept_table;
-pub(crate) mod obtained;
+pub(crate) mod passes;
+pub(crate) mod places;

@@ -1,5 +1,5 @@
 -- What is kept of a root, over the answers before an edit and those after it.
-use Rattle.std.proofs.Common.{◌≡◌, ◌≤◌, arith, ℕ, ◌+◌, Bool, true, false, cond, List, [], ◌∷◌, ◌++◌, Option, None, length, subst, refl, sym, ap, ◌∙◌, if◌then◌else◌}
+use Rattle.std.proofs.Common.{◌≡◌, ◌≤◌, arith, ℕ, ◌+◌, Bool, true, false, cond, List, [], ◌∷◌, ◌++◌, Option, None, length, map, subst, refl, sym, ap, ◌∙◌, if◌then◌else◌}
 use Rattle.std.proofs.lemmas.List.Elements.{All-head, All-tail}
 use Rattle.std.specs.Map.{keys_of}
 use Rattle.std.specs.Option.{option_eq}
@@ -11,15 +11,22 @@ use Rattle.idl_event.specs.declared.asked.key.RootAnswer.{RootAnswer}
 use Rattle.idl_event.specs.declared.asked.key.RootAnswer.TheVariants as answer
 use Rattle.idl_event.specs.declared.asked.key.RootKey.{RootKey}
 use Rattle.idl_event.specs.declared.asked.key.RootKey.TheVariants as key
-use Rattle.idl_memo.specs.Fresh.{asked_among, compared_among, fresh_among, is_alike, stale_among, stale_at}
+use Rattle.idl_memo.specs.Fresh.{asked_among, compared_among, fresh_among, is_alike, places_over, stale_among, stale_at}
 use Rattle.idl_memo.specs.Meter.{ComparesOnly, compared_after}
 use Rattle.idl_memo.specs.Renewal.{IsTold}
 use Rattle.idl_memo.specs.declared.meter.Meter.{Meter}
 use Rattle.idl_memo.specs.Kept.{Kept, HoldsOver}
 use Rattle.idl_memo.specs.Query.{asked, is_logged, noted_all}
+use Rattle.idl_store.specs.Stored.{results_in}
 use Rattle.idl_prep.specs.Root.{absent_files, expanded, expansion, root}
 use Rattle.idl_root.specs.Compile.{compile}
+use Rattle.idl_root.specs.Places.{declarations_of, entries_of}
+use Rattle.idl_root.specs.Results.{DeclarationResult, EntryResult, IsDeclarationPass, IsEntryPass, IsKeptOf, declaration_result, entry_result, fresh_declarations, fresh_entries, root_marks, with_draft}
+use Rattle.idl_root.specs.declared.kept.keeper.Keeper.{Keeper}
+use Rattle.idl_root.specs.declared.kept.marks.Mark.{Mark}
 use Rattle.idl_project.specs.Compile.{compile_over, end_of, line_count}
+use Rattle.idl_project.specs.Renewed.{IsMade}
+use Rattle.idl_project.specs.Tasks.{declarations_among, declarations_at, entries_among, entries_at}
 use Rattle.idl_project.specs.UpToDate.{AreKept, IsKept, keys_asked}
 use Rattle.idl_project.specs.Work.{answer_eq, compared_keys, fresh_roots, staying, work_between}
 use Rattle.idl_project.specs.declared.kept_root.KeptRoot.{KeptRoot}
@@ -30,7 +37,7 @@ stale_roots old new roots = stale_among bytes_eq (option_eq answer_eq) expansion
 
 -- no more than one at a place
 pub stale_most : (old new : RootKey → Option RootAnswer) (name : List ℕ) → stale_at bytes_eq (option_eq answer_eq) expansion old new name ≤ 1
-stale_most old new name = by (is_alike bytes_eq (option_eq answer_eq) expansion old new name name)
+stale_most old new name = by (is_alike bytes_eq (option_eq answer_eq) expansion (name, new) (name, old))
   where
     by : (b : Bool) → (if b then 0 else 1) ≤ 1
     by true = omega arith
@@ -101,14 +108,51 @@ compile-again old new kept before after =
     ∙ ap (λ (a : Option RootAnswer). record { rows = compile (record { file = kept.text; line = line_count a }) kept.out; absent = absent_files kept.log }) file
     ∙ compile-kept new kept after
 
+-- and expands to the same
+pub expanded-again : (old new : RootKey → Option RootAnswer) (kept : Kept RootKey (Option RootAnswer) (List ℕ) (List Event)) → HoldsOver key_eq expansion old kept → HoldsOver key_eq expansion new kept
+    → (expanded kept.text new).0 ≡ (expanded kept.text old).0
+expanded-again old new kept before after = ap (λ (p : List Event × List (RootKey × Option RootAnswer)). p.0) (sym after ∙ before)
+
 -- what is kept of a root is still kept of it where its result holds
 pub IsKept-still : (old new : RootKey → Option RootAnswer) (kept copy : KeptRoot) → IsKept old (kept.result.value.text, kept)
-    → copy.result.value ≡ kept.result.value → copy.compiled.value ≡ kept.compiled.value → HoldsOver key_eq expansion new kept.result.value
+    → copy.result.value ≡ kept.result.value → copy.compiled.value ≡ kept.compiled.value → copy.marks.value ≡ kept.marks.value → HoldsOver key_eq expansion new kept.result.value
     → IsKept new (kept.result.value.text, copy)
-IsKept-still old new kept copy is result compiled over = record {
+IsKept-still old new kept copy is result compiled marks over = record {
   text = ap (λ (k : Kept RootKey (Option RootAnswer) (List ℕ) (List Event)). k.text) result;
   over = subst (λ (k : Kept RootKey (Option RootAnswer) (List ℕ) (List Event)). HoldsOver key_eq expansion new k) (sym result) over;
   rows = compiled ∙ is.rows ∙ compile-again old new kept.result.value is.over over;
+  marks = marks ∙ is.marks ∙ ap root_marks (sym (expanded-again old new kept.result.value is.over over));
+}
+
+-- what a root comes to, told of its events
+pub IsMade-from : (bank : RootKey → Option RootAnswer) (at : ℕ) (name : List ℕ) (events : List Event) (old new : Keeper) (before after : Meter) → events ≡ (expanded name bank).0
+    → new.declarations ≡ with_draft old.declarations at (map declaration_result (declarations_of events)) → new.entries ≡ with_draft old.entries at (map entry_result (entries_of events))
+    → IsDeclarationPass (declarations_of events) (results_in old.declarations) (results_in new.declarations) before.checked after.checked
+    → IsEntryPass (entries_of events) (results_in old.entries) (results_in new.entries) before.printed after.printed → IsMade bank at name old new before after
+IsMade-from bank at name events old new before after is declarations entries checked printed = record {
+  declarations = declarations ∙ ap (λ (es : List Event). with_draft old.declarations at (map declaration_result (declarations_of es))) is;
+  entries = entries ∙ ap (λ (es : List Event). with_draft old.entries at (map entry_result (entries_of es))) is;
+  checked = subst (λ (es : List Event). IsDeclarationPass (declarations_of es) (results_in old.declarations) (results_in new.declarations) before.checked after.checked) is checked;
+  printed = subst (λ (es : List Event). IsEntryPass (entries_of es) (results_in old.entries) (results_in new.entries) before.printed after.printed) is printed;
+}
+
+-- the same from meters with these counts
+pub IsMade-metered : (bank : RootKey → Option RootAnswer) (at : ℕ) (name : List ℕ) (old new : Keeper) (first before after : Meter) → before.checked ≡ first.checked → before.printed ≡ first.printed
+    → IsMade bank at name old new before after → IsMade bank at name old new first after
+IsMade-metered bank at name old new first before after checked printed made = record {
+  declarations = made.declarations;
+  entries = made.entries;
+  checked = subst (λ n. IsDeclarationPass (declarations_at bank name) (results_in old.declarations) (results_in new.declarations) n after.checked) checked made.checked;
+  printed = subst (λ n. IsEntryPass (entries_at bank name) (results_in old.entries) (results_in new.entries) n after.printed) printed made.printed;
+}
+
+-- of a root of which nothing is kept
+pub IsKeptOf-none : (declarations : List DeclarationResult) (entries : List EntryResult) (marks : List Mark) → IsKeptOf [] marks [] [] → declarations ≡ [] → entries ≡ []
+    → IsKeptOf [] marks declarations entries
+IsKeptOf-none declarations entries marks none no_declarations no_entries = record {
+  marks_are = none.marks_are;
+  declarations_are = no_declarations ∙ none.declarations_are;
+  entries_are = no_entries ∙ none.entries_are;
 }
 
 -- what is told of a kept result, by the test of equality of the answers
@@ -118,19 +162,21 @@ told-of old new kept holds told = subst (λ (e : RootAnswer → RootAnswer → B
 
 -- the meter where a result holds still
 pub meter-still : (old new : Meter) (stale cost keys : ℕ) → ComparesOnly old new → new.compared ≡ compared_after old.compared keys → stale ≡ 0 → cost ≡ keys
-    → new ≡ record old { expanded = old.expanded + stale; compared = compared_after old.compared cost }
+    → new ≡ record old { expanded = old.expanded + stale; checked = new.checked; printed = new.printed; compared = compared_after old.compared cost }
 meter-still old new stale cost keys only compared none same =
     let expanded : old.expanded ≡ old.expanded + stale = omega (arith, none) in
-    only ∙ (λ i. record old { expanded = expanded i; compared = (compared ∙ ap (compared_after old.compared) (sym same)) i })
+    let checked = ap (λ (m : Meter). m.checked) only in
+    let printed = ap (λ (m : Meter). m.printed) only in
+    only ∙ (λ i. record old { expanded = expanded i; checked = sym checked i; printed = sym printed i; compared = (compared ∙ ap (compared_after old.compared) (sym same)) i })
 
 -- the meter where it doesn't, and the root is expanded anew
 pub meter-anew : (old mid new : Meter) (stale cost keys : ℕ) → ComparesOnly old mid → mid.compared ≡ compared_after old.compared keys
-    → new ≡ record mid { expanded = mid.expanded + 1 } → stale ≡ 1 → cost ≡ keys
-    → new ≡ record old { expanded = old.expanded + stale; compared = compared_after old.compared cost }
+    → new ≡ record mid { expanded = mid.expanded + 1; checked = new.checked; printed = new.printed } → stale ≡ 1 → cost ≡ keys
+    → new ≡ record old { expanded = old.expanded + stale; checked = new.checked; printed = new.printed; compared = compared_after old.compared cost }
 meter-anew old mid new stale cost keys only compared more one same =
     let expanded : old.expanded + 1 ≡ old.expanded + stale = omega (arith, one) in
-    more ∙ ap (λ (m : Meter). record m { expanded = m.expanded + 1 }) only
-    ∙ (λ i. record old { expanded = expanded i; compared = (compared ∙ ap (compared_after old.compared) (sym same)) i })
+    more ∙ ap (λ (m : Meter). record m { expanded = m.expanded + 1; checked = new.checked; printed = new.printed }) only
+    ∙ (λ i. record old { expanded = expanded i; checked = new.checked; printed = new.printed; compared = (compared ∙ ap (compared_after old.compared) (sym same)) i })
 
 -- the keys that the roots asked are those of their results
 pub keys_asked-kept : (bank : RootKey → Option RootAnswer) (held : List (List ℕ × KeptRoot)) → AreKept bank held
@@ -143,32 +189,34 @@ keys_asked-kept bank (e ∷ es) h =
     (λ i. sym log i + keys_asked-kept bank es (All-tail (λ (root : List ℕ × KeptRoot). IsKept bank root) e es h) i)
 
 -- the work of an edit of the roots: so many are fresh, and those that stay are compared at all that they asked
-pub work-roots : (bank : RootKey → Option RootAnswer) (before places : List (List ℕ)) (held : List (List ℕ × KeptRoot)) (n : ℕ) → AreKept bank held → staying before places ≡ keys_of held
-    → fresh_among bytes_eq (option_eq ghosts.eq) expansion bank before bank places ≡ n
+pub work-roots : (bank : RootKey → Option RootAnswer) (before places : List (List ℕ)) (held : List (List ℕ × KeptRoot)) (n checked printed : ℕ) → AreKept bank held → staying before places ≡ keys_of held
+    → fresh_among bytes_eq (option_eq ghosts.eq) expansion (places_over bank before) (places_over bank places) ≡ n
     → compared_among bytes_eq (option_eq ghosts.eq) expansion key_eq bank bank (keys_of held) ≡ asked_among bytes_eq (option_eq ghosts.eq) expansion key_eq bank (keys_of held)
-    → record { expanded = n; checked = 0; printed = 0; compared = compared_after 0 (keys_asked held) } ≡ work_between bank before bank places
-work-roots bank before places held n are stay fresh all =
+    → checked ≡ fresh_declarations (declarations_among bank before) (declarations_among bank places) → printed ≡ fresh_entries (entries_among bank before) (entries_among bank places)
+    → record { expanded = n; checked = checked; printed = printed; compared = compared_after 0 (keys_asked held) } ≡ work_between bank before bank places
+work-roots bank before places held n checked printed are stay fresh all check print =
     let counted : fresh_roots bank before bank places ≡ n =
-    subst (λ (e : RootAnswer → RootAnswer → Bool). fresh_among bytes_eq (option_eq e) expansion bank before bank places ≡ n) answer_eq-derived fresh in
+    subst (λ (e : RootAnswer → RootAnswer → Bool). fresh_among bytes_eq (option_eq e) expansion (places_over bank before) (places_over bank places) ≡ n) answer_eq-derived fresh in
     let asked : compared_keys bank bank (keys_of held) ≡ asked_among bytes_eq (option_eq answer_eq) expansion key_eq bank (keys_of held) =
     subst
     (λ (e : RootAnswer → RootAnswer → Bool). compared_among bytes_eq (option_eq e) expansion key_eq bank bank (keys_of held) ≡ asked_among bytes_eq (option_eq e) expansion key_eq bank (keys_of held))
     answer_eq-derived all in
     let compared : keys_asked held ≡ compared_keys bank bank (staying before places) =
     sym (ap (compared_keys bank bank) stay ∙ asked ∙ keys_asked-kept bank held are) in
-    λ i. record { expanded = sym counted i; checked = 0; printed = 0; compared = compared_after 0 (compared i) }
+    λ i. record { expanded = sym counted i; checked = check i; printed = print i; compared = compared_after 0 (compared i) }
 
 -- the work of an edit that leaves the roots: those are fresh that aren't alike at their own places, and all stay
-pub work-same : (old new : RootKey → Option RootAnswer) (names : List (List ℕ)) (n m : ℕ) → staying names names ≡ names
-    → fresh_among bytes_eq (option_eq ghosts.eq) expansion old names new names ≡ stale_among bytes_eq (option_eq ghosts.eq) expansion old new names
+pub work-same : (old new : RootKey → Option RootAnswer) (names : List (List ℕ)) (n checked printed m : ℕ) → staying names names ≡ names
+    → fresh_among bytes_eq (option_eq ghosts.eq) expansion (places_over old names) (places_over new names) ≡ stale_among bytes_eq (option_eq ghosts.eq) expansion old new names
     → n ≡ stale_among bytes_eq (option_eq answer_eq) expansion old new names
     → m ≡ compared_after 0 (compared_keys old new names)
-    → record { expanded = n; checked = 0; printed = 0; compared = m } ≡ work_between old names new names
-work-same old new names n m stay fresh counted costs =
+    → checked ≡ fresh_declarations (declarations_among old names) (declarations_among new names) → printed ≡ fresh_entries (entries_among old names) (entries_among new names)
+    → record { expanded = n; checked = checked; printed = printed; compared = m } ≡ work_between old names new names
+work-same old new names n checked printed m stay fresh counted costs check print =
     let all : fresh_roots old names new names ≡ stale_among bytes_eq (option_eq answer_eq) expansion old new names =
     subst
-    (λ (e : RootAnswer → RootAnswer → Bool). fresh_among bytes_eq (option_eq e) expansion old names new names ≡ stale_among bytes_eq (option_eq e) expansion old new names)
+    (λ (e : RootAnswer → RootAnswer → Bool). fresh_among bytes_eq (option_eq e) expansion (places_over old names) (places_over new names) ≡ stale_among bytes_eq (option_eq e) expansion old new names)
     answer_eq-derived fresh in
     let cost : m ≡ compared_after 0 (compared_keys old new (staying names names)) =
     costs ∙ ap (λ (ns : List (List ℕ)). compared_after 0 (compared_keys old new ns)) (sym stay) in
-    λ i. record { expanded = (counted ∙ sym all) i; checked = 0; printed = 0; compared = cost i }
+    λ i. record { expanded = (counted ∙ sym all) i; checked = check i; printed = print i; compared = cost i }

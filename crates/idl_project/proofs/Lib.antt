@@ -6,3 +6,4 @@ pub mod FormLemmas
 pub mod KeptLemmas
 pub mod LimitLemmas
 pub mod RootLemmas
+pub mod StoreLemmas

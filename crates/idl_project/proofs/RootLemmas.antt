@@ -1,11 +1,12 @@
 -- The roots that are held: what is found among them, and what is held with one more or one less.
-use Rattle.std.proofs.Common.{◌≡◌, ℕ, Bool, true, false, cond, ◌||◌, List, [], ◌∷◌, ◌++◌, All, Contains, IsTrue, Option, None, Some, is_some, map-id, subst, refl, sym, ap, ◌∙◌, if◌then◌else◌}
-use Rattle.std.proofs.lemmas.Bool.{true≢false}
+use Rattle.std.proofs.Common.{◌≡◌, ℕ, Bool, true, false, cond, ◌||◌, List, [], ◌∷◌, ◌++◌, All, Contains, IsTrue, Option, None, Some, is_some, length, map, map-id, arith, subst, refl, sym, ap, ◌∙◌, if◌then◌else◌}
+use Rattle.std.proofs.lemmas.Bool.{le-ltb, true≢false}
 use Rattle.std.proofs.lemmas.Map.Keys.{IsDistinct-head, IsDistinct-tail}
 use Rattle.std.proofs.lemmas.Map.Made.{is_some-lookup}
-use Rattle.std.proofs.lemmas.List.{map-append, append-nil}
+use Rattle.std.proofs.lemmas.List.{append-nil, length-map, map-append}
 use Rattle.std.proofs.lemmas.List.Elements.{All-head, All-nil, All-tail, All-push, All-contains_itself}
 use Rattle.std.specs.List.{list_any, AllByRecursion, IsDistinct}
+use Rattle.std.specs.Prelude.{nat_lt, slice_set}
 use Rattle.std.specs.Map.{lookup, keys_of, remove_entry}
 use Rattle.std.specs.Option.{option_map}
 use Rattle.std.proofs.lemmas.Map.Views.{All-map-remove_entry, list_any-from_Contains}
@@ -15,11 +16,15 @@ use Rattle.idl_event.specs.Key.{key_eq}
 use Rattle.idl_event.specs.declared.asked.key.RootAnswer.{RootAnswer}
 use Rattle.idl_event.specs.declared.asked.key.RootKey.{RootKey}
 use Rattle.idl_memo.specs.Cause.{changed}
+use Rattle.idl_store.specs.Stored.{Stored, committed, discarded, nothing_stored}
+use Rattle.idl_root.specs.Results.{with_draft}
+use Rattle.idl_root.specs.declared.kept.keeper.Keeper.{Keeper}
 use Rattle.idl_source.specs.names.Name.{is_name}
 use Rattle.idl_project.specs.Compile.{compile_over}
 use Rattle.idl_project.specs.Bank.{bank_of}
 use Rattle.idl_project.specs.Project.{Inputs, Project, no_inputs}
-use Rattle.idl_project.specs.Renewed.{IsRenewed}
+use Rattle.idl_project.specs.Renewed.{AreListsLeft, IsKeeperLeft, IsRenewed}
+use Rattle.idl_project.specs.Tasks.{kept_declarations, kept_entries}
 use Rattle.idl_project.specs.UpToDate.{AreKept, IsKept, IsUpToDate, State, project_held}
 use Rattle.idl_project.specs.WellFormed.{IsWellFormed}
 use Rattle.idl_project.specs.Work.{staying, work_between, work_of}
@@ -81,21 +86,58 @@ lookup-absent held name new = none _ (is_some-lookup (bytes_eq name) held ∙ ne
     none (Some kept) h = absurd (true≢false h)
 
 -- nothing
-pub none-up_to_date : (inputs : Inputs) (held : List (List ℕ × KeptRoot)) → inputs ≡ no_inputs → held ≡ [] → IsUpToDate inputs held
-none-up_to_date inputs held no_input no_root = record {
+pub none-up_to_date : (inputs : Inputs) (held : List (List ℕ × KeptRoot)) (keeper : Keeper) → inputs ≡ no_inputs → held ≡ [] → keeper.declarations ≡ nothing_stored → keeper.entries ≡ nothing_stored
+    → IsUpToDate inputs held keeper
+none-up_to_date inputs held keeper no_input no_root no_declarations no_entries = record {
   formed = subst (λ (p : Project). IsWellFormed p) (λ i. project_held (sym no_input i) (sym no_root i)) none-formed;
   kept = subst (AreKept (bank_of inputs)) (sym no_root) (All-nil (λ (root : List ℕ × KeptRoot). IsKept (bank_of inputs) root));
+  declarations = no_declarations ∙ ap (λ (es : List (List ℕ × KeptRoot)). kept_declarations (bank_of inputs) (keys_of es)) (sym no_root);
+  entries = no_entries ∙ ap (λ (es : List (List ℕ × KeptRoot)). kept_entries (bank_of inputs) (keys_of es)) (sym no_root);
 }
 
 -- one more root, with what is kept of it
-pub IsUpToDate-push : (inputs : Inputs) (held : List (List ℕ × KeptRoot)) (name : List ℕ) (kept : KeptRoot) → AreKept (bank_of inputs) held → IsKept (bank_of inputs) (name, kept)
-    → IsWellFormed (record { inputs = inputs; roots = keys_of held ++ name ∷ [] }) → IsUpToDate inputs (held ++ (name, kept) ∷ [])
-IsUpToDate-push inputs held name kept are is formed =
+pub IsUpToDate-push : (inputs : Inputs) (held : List (List ℕ × KeptRoot)) (keeper : Keeper) (name : List ℕ) (kept : KeptRoot) → AreKept (bank_of inputs) held → IsKept (bank_of inputs) (name, kept)
+    → IsWellFormed (record { inputs = inputs; roots = keys_of held ++ name ∷ [] })
+    → keeper.declarations ≡ kept_declarations (bank_of inputs) (keys_of held ++ name ∷ []) → keeper.entries ≡ kept_entries (bank_of inputs) (keys_of held ++ name ∷ [])
+    → IsUpToDate inputs (held ++ (name, kept) ∷ []) keeper
+IsUpToDate-push inputs held keeper name kept are is formed declarations entries =
     let names : keys_of (held ++ (name, kept) ∷ []) ≡ keys_of held ++ name ∷ [] = map-append (λ (e : List ℕ × KeptRoot). e.0) held ((name, kept) ∷ []) in
     record {
       formed = subst (λ (ns : List (List ℕ)). IsWellFormed (record { inputs = inputs; roots = ns })) (sym names) formed;
       kept = All-push (λ (root : List ℕ × KeptRoot). IsKept (bank_of inputs) root) held (name, kept) are is;
+      declarations = declarations ∙ ap (λ (ns : List (List ℕ)). kept_declarations (bank_of inputs) ns) (sym names);
+      entries = entries ∙ ap (λ (ns : List (List ℕ)). kept_entries (bank_of inputs) ns) (sym names);
     }
+
+-- where nothing that is kept has become another, all stays
+pub IsUpToDate-left : (inputs : Inputs) (held : List (List ℕ × KeptRoot)) (old new : Keeper) → IsUpToDate inputs held old → IsKeeperLeft old new → IsUpToDate inputs held new
+IsUpToDate-left inputs held old new is left = record {
+  formed = is.formed;
+  kept = is.kept;
+  declarations = left.declarations ∙ is.declarations;
+  entries = left.entries ∙ is.entries;
+}
+
+-- what is discarded leaves what was there
+pub IsKeeperLeft-discarded : (old mid new : Keeper) → old.declarations.drafts ≡ [] → old.entries.drafts ≡ [] → AreListsLeft old mid
+    → new.declarations ≡ discarded mid.declarations → new.entries ≡ discarded mid.entries → IsKeeperLeft old new
+IsKeeperLeft-discarded old mid new no_declarations no_entries lists declarations entries = record {
+  declarations = declarations ∙ (λ i. record { lists = lists.declarations i; drafts = sym no_declarations i });
+  entries = entries ∙ (λ i. record { lists = lists.entries i; drafts = sym no_entries i });
+}
+
+-- what a root more adds to lists
+pub list-more : {P R : Type 0} (result : P → R) (at : List ℕ → List P) (names : List (List ℕ)) (name : List ℕ) (old new : Stored R)
+    → old ≡ record { lists = map (λ n. map result (at n)) names; drafts = [] } → new ≡ with_draft old (length names) (map result (at name))
+    → committed new ≡ record { lists = map (λ n. map result (at n)) (names ++ name ∷ []); drafts = [] }
+list-more {P} {R} result at names name old new is made =
+    let list : List ℕ → List R = λ n. map result (at n) in
+    let lists = map list names in
+    let whole : Stored R = record { lists = lists; drafts = [] } in
+    let last : nat_lt (length names) (length lists) ≡ false = ap (nat_lt (length names)) (length-map names list) ∙ le-ltb (length names) (length names) (omega arith) in
+    ap (λ (s : Stored R). committed s) made ∙ ap (λ (s : Stored R). committed (with_draft s (length names) (list name))) is
+    ∙ (λ i. record { lists = if last i then slice_set lists (length names) (list name) else lists ++ list name ∷ []; drafts = [] })
+    ∙ (λ i. record { lists = sym (map-append list names (name ∷ [])) i; drafts = [] })
 
 -- what is kept of all roots is kept of those that stay
 pub AreKept-remove : (bank : RootKey → Option RootAnswer) (held : List (List ℕ × KeptRoot)) (test : List ℕ → Bool) → AreKept bank held → AreKept bank (remove_entry test held)
@@ -108,28 +150,31 @@ pub remaining-there : (held : List (List ℕ × KeptRoot)) (test : List ℕ → 
 remaining-there held test = All-map-remove_entry test (λ (e : List ℕ × KeptRoot). e.0) (Contains (keys_of held)) held (All-contains_itself (keys_of held))
 
 -- After an edit that changes one answer: the same roots, with what is kept of them over the changed answers.
-pub IsUpToDate-edited : (state : State) (now new : Inputs) (held : List (List ℕ × KeptRoot)) (renewed : List (List ℕ × KeptRoot) × Work) (asked at : RootKey) (given answer : Option RootAnswer) (work : Work)
-    → record { project = record { inputs = now; roots = keys_of held }; work = work } ≡ state
-    → IsRenewed state.project asked given renewed
+pub IsUpToDate-edited : (now new : Inputs) (held : List (List ℕ × KeptRoot)) (renewed : List (List ℕ × KeptRoot) × Work) (keeper : Keeper) (asked at : RootKey) (given answer : Option RootAnswer)
+    → IsRenewed (project_held now held) asked given renewed
+    → keeper.declarations ≡ kept_declarations (changed key_eq (bank_of now) asked given) (keys_of held) → keeper.entries ≡ kept_entries (changed key_eq (bank_of now) asked given) (keys_of held)
     → asked ≡ at → given ≡ answer → bank_of new ≡ changed key_eq (bank_of now) at answer
-    → IsWellFormed (record { inputs = new; roots = keys_of renewed.0 }) → IsUpToDate new renewed.0
-IsUpToDate-edited state now new held renewed asked at given answer work is again asks gives changes formed = record {
-  formed = formed;
-  kept = subst (λ (bank : RootKey → Option RootAnswer). AreKept bank renewed.0)
-      (ap (λ (s : State). changed key_eq (bank_of s.project.inputs) asked given) (sym is) ∙ ap (λ (k : RootKey). changed key_eq (bank_of now) k given) asks ∙ ap (changed key_eq (bank_of now) at) gives ∙ sym changes)
-      again.kept;
-}
+    → IsWellFormed (record { inputs = new; roots = keys_of renewed.0 }) → IsUpToDate new renewed.0 keeper
+IsUpToDate-edited now new held renewed keeper asked at given answer again declarations entries asks gives changes formed =
+    let banks = ap (λ (k : RootKey). changed key_eq (bank_of now) k given) asks ∙ ap (changed key_eq (bank_of now) at) gives ∙ sym changes in
+    record {
+      formed = formed;
+      kept = subst (λ (bank : RootKey → Option RootAnswer). AreKept bank renewed.0) banks again.kept;
+      declarations = declarations ∙ (λ i. kept_declarations (banks i) (sym again.roots i));
+      entries = entries ∙ (λ i. kept_entries (banks i) (sym again.roots i));
+    }
 
 -- and the work is that between the two projects
 pub work-edited : (state : State) (now new : Inputs) (held : List (List ℕ × KeptRoot)) (renewed : List (List ℕ × KeptRoot) × Work) (asked at : RootKey) (given answer : Option RootAnswer) (work : Work)
     → record { project = record { inputs = now; roots = keys_of held }; work = work } ≡ state
-    → IsRenewed state.project asked given renewed
+    → IsRenewed (project_held now held) asked given renewed
     → asked ≡ at → given ≡ answer → bank_of new ≡ changed key_eq (bank_of now) at answer
     → renewed.1 ≡ work_of state.project (record { inputs = new; roots = keys_of renewed.0 })
 work-edited state now new held renewed asked at given answer work is again asks gives changes =
-    let banks : changed key_eq (bank_of state.project.inputs) asked given ≡ bank_of new =
-    ap (λ (s : State). changed key_eq (bank_of s.project.inputs) asked given) (sym is) ∙ ap (λ (k : RootKey). changed key_eq (bank_of now) k given) asks ∙ ap (changed key_eq (bank_of now) at) gives ∙ sym changes in
-    again.work ∙ (λ i. work_between (bank_of state.project.inputs) state.project.roots (banks i) (sym again.roots i))
+    let banks : changed key_eq (bank_of now) asked given ≡ bank_of new =
+    ap (λ (k : RootKey). changed key_eq (bank_of now) k given) asks ∙ ap (changed key_eq (bank_of now) at) gives ∙ sym changes in
+    again.work ∙ (λ i. work_between (bank_of now) (keys_of held) (banks i) (sym again.roots i))
+    ∙ ap (λ (s : State). work_of s.project (record { inputs = new; roots = keys_of renewed.0 })) is
 
 -- all of these were roots before, and stay
 pub staying-all : (before roots : List (List ℕ)) → All (Contains before) roots → staying before roots ≡ roots

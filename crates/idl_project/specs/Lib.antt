@@ -6,6 +6,7 @@ pub mod Edits
 pub mod Made
 pub mod Project
 pub mod Renewed
+pub mod Tasks
 pub mod UpToDate
 pub mod WellFormed
 pub mod WithinLimits

@@ -1,16 +1,59 @@
--- What is held of the roots after an edit of what they are answered.
-use Rattle.std.specs.Prelude.{◌≡◌, ℕ, List, Option}
+-- What becomes of the roots in an edit of what they are answered.
+use Rattle.std.specs.Prelude.{◌≡◌, ℕ, List, [], ◌∷◌, ◌++◌, Option}
 use Rattle.std.specs.Map.{keys_of}
 use Rattle.idl_event.specs.Key.{key_eq}
 use Rattle.idl_event.specs.declared.asked.key.RootAnswer.{RootAnswer}
 use Rattle.idl_event.specs.declared.asked.key.RootKey.{RootKey}
 use Rattle.idl_memo.specs.Cause.{changed}
+use Rattle.idl_store.specs.Stored.{results_in}
+use Rattle.idl_memo.specs.declared.meter.Meter.{Meter}
+use Rattle.idl_prep.specs.Root.{expanded}
+use Rattle.idl_root.specs.Results.{IsDeclarationPass, IsEntryPass, with_draft}
+use Rattle.idl_root.specs.declared.kept.keeper.Keeper.{Keeper}
 use Rattle.idl_project.specs.Bank.{bank_of}
-use Rattle.idl_project.specs.Project.{Project}
-use Rattle.idl_project.specs.UpToDate.{AreKept}
+use Rattle.idl_project.specs.Project.{Inputs, Project}
+use Rattle.idl_project.specs.Tasks.{declaration_list, declarations_at, entries_at, entry_list}
+use Rattle.idl_project.specs.UpToDate.{AreKept, IsKept}
 use Rattle.idl_project.specs.Work.{work_between}
 use Rattle.idl_project.specs.declared.kept_root.KeptRoot.{KeptRoot}
 use Rattle.idl_project.specs.declared.work.Work.{Work}
+
+-- a root at a place among all comes to what these answers make of it: its lists are in drafts, and
+-- the fresh tasks are counted
+pub record IsMade (bank : RootKey → Option RootAnswer) (at : ℕ) (root : List ℕ)
+    (old new : Keeper) (before after : Meter) : Type 0 where
+  pub declarations : new.declarations
+      ≡ with_draft old.declarations at (declaration_list bank root)
+  pub entries : new.entries ≡ with_draft old.entries at (entry_list bank root)
+  pub checked : IsDeclarationPass (declarations_at bank root) (results_in old.declarations)
+      (results_in new.declarations) before.checked after.checked
+  pub printed : IsEntryPass (entries_at bank root) (results_in old.entries)
+      (results_in new.entries) before.printed after.printed
+
+-- a root expands to what it did, and nothing is made of it
+pub record IsLeft (was bank : RootKey → Option RootAnswer) (root : List ℕ) (old new : Keeper)
+    (before after : Meter) : Type 0 where
+  pub same : (expanded root bank).0 ≡ (expanded root was).0
+  pub declarations : new.declarations ≡ old.declarations
+  pub entries : new.entries ≡ old.entries
+  pub checked : after.checked ≡ before.checked
+  pub printed : after.printed ≡ before.printed
+
+-- no list has become another
+pub record AreListsLeft (old new : Keeper) : Type 0 where
+  pub declarations : new.declarations.lists ≡ old.declarations.lists
+  pub entries : new.entries.lists ≡ old.entries.lists
+
+-- nothing that is kept has become another
+pub record IsKeeperLeft (old new : Keeper) : Type 0 where
+  pub declarations : new.declarations ≡ old.declarations
+  pub entries : new.entries ≡ old.entries
+
+-- a root more, the last one, with what is kept of it over these inputs
+pub record IsAdded (inputs : Inputs) (root : List ℕ) (old new : List (List ℕ × KeptRoot)) : Type 0 where
+  pub kept : KeptRoot
+  pub is_kept : IsKept (bank_of inputs) (root, kept)
+  pub last : new ≡ old ++ (root, kept) ∷ []
 
 -- the same roots, with what is kept of them once this key has another answer, and the work of that
 pub record IsRenewed (project : Project) (key : RootKey) (answer : Option RootAnswer)

@@ -7,11 +7,14 @@ use Rattle.idl_event.specs.declared.asked.key.RootAnswer.{RootAnswer}
 use Rattle.idl_event.specs.Key.{key_eq}
 use Rattle.idl_event.specs.declared.asked.key.RootKey.{RootKey}
 use Rattle.idl_memo.specs.Kept.{HoldsOver}
-use Rattle.idl_prep.specs.Root.{expansion}
+use Rattle.idl_prep.specs.Root.{expanded, expansion}
+use Rattle.idl_root.specs.Results.{root_marks}
 use Rattle.idl_root.specs.declared.compiling.finding.Finding.{Finding}
+use Rattle.idl_root.specs.declared.kept.keeper.Keeper.{Keeper}
 use Rattle.idl_project.specs.Bank.{bank_of}
 use Rattle.idl_project.specs.Compile.{compiled_root, compile_over}
 use Rattle.idl_project.specs.Project.{Inputs, Project, project_code, is_root}
+use Rattle.idl_project.specs.Tasks.{kept_declarations, kept_entries}
 use Rattle.idl_project.specs.WellFormed.{IsWellFormed}
 use Rattle.idl_project.specs.declared.compile.CompiledRoot.{CompiledRoot}
 use Rattle.idl_project.specs.declared.kept_root.KeptRoot.{KeptRoot}
@@ -51,12 +54,13 @@ is_faulty_of project name = option_map (λ root. root.rows.is_faulty) (compiled_
 abbrev pub absent_of : Project → List ℕ → Option (List (List ℕ))
 absent_of project name = option_map (λ root. root.absent) (compiled_of project name)
 
--- what is kept of a root is what its task over these answers leaves, and what compiling it over
--- them gives
+-- what is kept of a root is what its task over these answers leaves, what compiling it over them
+-- gives, and what its units are
 pub record IsKept (bank : RootKey → Option RootAnswer) (root : List ℕ × KeptRoot) : Type 0 where
   pub text : root.1.result.value.text ≡ root.0
   pub over : HoldsOver key_eq expansion bank root.1.result.value
   pub rows : root.1.compiled.value ≡ compile_over bank root.0
+  pub marks : root.1.marks.value ≡ root_marks (expanded root.0 bank).0
 
 -- that is so of each root
 abbrev pub AreKept : (RootKey → Option RootAnswer) → List (List ℕ × KeptRoot) → Type 0
@@ -66,10 +70,14 @@ AreKept bank held = All (λ root. IsKept bank root) held
 abbrev pub project_held : Inputs → List (List ℕ × KeptRoot) → Project
 project_held inputs held = record { inputs = inputs; roots = keys_of held }
 
--- what is held of a session: a well-formed project, and with each root what is kept of it
-pub record IsUpToDate (inputs : Inputs) (held : List (List ℕ × KeptRoot)) : Type 0 where
+-- what is held of a session: a well-formed project, with each root what is kept of it, and the
+-- results of the declarations and entries of all roots
+pub record IsUpToDate (inputs : Inputs) (held : List (List ℕ × KeptRoot)) (keeper : Keeper)
+    : Type 0 where
   pub formed : IsWellFormed (project_held inputs held)
   pub kept : AreKept (bank_of inputs) held
+  pub declarations : keeper.declarations ≡ kept_declarations (bank_of inputs) (keys_of held)
+  pub entries : keeper.entries ≡ kept_entries (bank_of inputs) (keys_of held)
 
 -- how many keys these roots asked
 abbrev pub keys_asked : List (List ℕ × KeptRoot) → ℕ

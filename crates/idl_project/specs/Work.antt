@@ -8,11 +8,13 @@ use Rattle.idl_event.specs.Key.{key_eq}
 use Rattle.idl_event.specs.declared.asked.key.RootAnswer.{RootAnswer}
 use Rattle.idl_event.specs.declared.asked.key.RootAnswer.TheVariants.{Macro, File, Search}
 use Rattle.idl_event.specs.declared.asked.key.RootKey.{RootKey}
-use Rattle.idl_memo.specs.Fresh.{compared_among, fresh_among}
+use Rattle.idl_memo.specs.Fresh.{compared_among, fresh_among, places_over}
 use Rattle.idl_memo.specs.Meter.{compared_after}
 use Rattle.idl_prep.specs.Root.{expansion}
+use Rattle.idl_root.specs.Results.{fresh_declarations, fresh_entries}
 use Rattle.idl_project.specs.Bank.{bank_of}
 use Rattle.idl_project.specs.Project.{Project}
+use Rattle.idl_project.specs.Tasks.{declarations_among, entries_among}
 use Rattle.idl_project.specs.declared.work.Work.{Work}
 
 -- no work
@@ -30,7 +32,8 @@ answer_eq answer other = false
 abbrev pub fresh_roots : (RootKey → Option RootAnswer) → List (List ℕ) → (RootKey → Option RootAnswer)
     → List (List ℕ) → ℕ
 fresh_roots old before new roots =
-    fresh_among bytes_eq (option_eq answer_eq) expansion old before new roots
+    fresh_among bytes_eq (option_eq answer_eq) expansion (places_over old before)
+    (places_over new roots)
 
 -- those of these roots that were roots before, in their order
 abbrev pub staying : List (List ℕ) → List (List ℕ) → List (List ℕ)
@@ -41,14 +44,14 @@ abbrev pub compared_keys : (RootKey → Option RootAnswer) → (RootKey → Opti
 compared_keys old new roots =
     compared_among bytes_eq (option_eq answer_eq) expansion key_eq old new roots
 
--- the work of an edit, by the answers and the roots before it and those after it: each root that
--- stays is compared, and as long as of roots alone results are kept nothing else is counted
+-- the work of an edit, by the answers and the roots before it and those after it: fresh tasks are
+-- counted, and each root that stays is compared
 abbrev pub work_between : (RootKey → Option RootAnswer) → List (List ℕ) → (RootKey → Option RootAnswer)
     → List (List ℕ) → Work
 work_between old before new roots = record {
   expanded = fresh_roots old before new roots;
-  checked = 0;
-  printed = 0;
+  checked = fresh_declarations (declarations_among old before) (declarations_among new roots);
+  printed = fresh_entries (entries_among old before) (entries_among new roots);
   compared = compared_after 0 (compared_keys old new (staying before roots));
 }
 

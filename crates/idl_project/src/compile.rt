@@ -1,15 +1,18 @@
 //! The compilation of a root.
 
-ghost use Rattle.std.specs.Prelude.{◌≡◌, ℕ, IfOk, List, map};
+ghost use Rattle.std.specs.Prelude.{◌≡◌, ℕ, IfOk, List, OnOk, map};
 ghost use Rattle.std.specs.Option.{option_copied, option_map};
 ghost use Rattle.idl_event.specs.Key.{key_eq};
+ghost use Rattle.idl_event.specs.declared.told.event.Event.{Event};
 ghost use Rattle.idl_memo.specs.Kept.{HoldsOver};
-ghost use Rattle.idl_prep.specs.Root.{expansion};
+ghost use Rattle.idl_prep.specs.Root.{expanded, expansion};
 ghost use Rattle.idl_root.specs.Findings.{finding_row};
+ghost use Rattle.idl_root.specs.Results.{ChecksAndPrintsOnly, IsKeptOf, list_at, root_marks};
 ghost use Rattle.idl_project.specs.Asked.{asked_over};
 ghost use Rattle.idl_project.specs.Bank.{bank_of};
 ghost use Rattle.idl_project.specs.Compile.{compile_over, compiled_root, end_of, line_count};
 ghost use Rattle.idl_project.specs.Project.{Project};
+ghost use Rattle.idl_project.specs.Renewed.{AreListsLeft, IsMade};
 ghost use Rattle.idl_project.specs.UpToDate.{diagnostics_of, findings_of};
 
 use crate::asked::asked;
@@ -19,7 +22,7 @@ use idl_event::{Expansion, RootAnswer, RootBank, RootKey};
 use idl_fault::{FileName, Place};
 use idl_memo::{Kept, Meter, run_anew};
 use idl_prep::{RootTask, absent};
-use idl_root::{Compiled, KeptUnits, Memory, Recompiled, telling};
+use idl_root::{Compiled, Keeper, KeptSource, Marks, Memory, Recompiled, telling};
 use idl_source::Name;
 use std::alloc::{AllocError, Global};
 
@@ -41,11 +44,20 @@ impl Drop for CompiledRoot {
     }
 }
 
-/// What a root compiles to, and what is kept of its units.
+/// What a root compiles to, and what its units are.
 #[derive(Drop)]
 pub struct CompiledAgain {
     pub compiled: CompiledRoot,
-    pub units: KeptUnits,
+    pub marks: Marks,
+}
+
+/// What a root is compiled from where its results are kept: the result of its task, its place among all roots, and what its units
+/// were when it was compiled last.
+#[derive(Clone, Copy)]
+pub struct KeptTask<'a> {
+    pub result: &'a KeptExpansion,
+    pub at: usize,
+    pub marks: &'a Marks,
 }
 
 /// Compiles a root over a bank, in which its own file may be absent. Nothing is kept of it.
@@ -93,28 +105,45 @@ pub fn compile<B: RootBank>(
     })
 }
 
-/// The same, and what is kept of the root's units for the next time, where this was kept of them the last time.
-pub fn compile_after<B: RootBank>(
-    memory: &mut Memory,
+/// The same, where the results of its declarations and entries are kept.
+///
+/// After want of memory nothing is said of the meter, and there may be drafts more.
+pub fn compile_kept<B: RootBank>(
+    keeper: &mut Keeper,
     bank: &B,
-    kept: &KeptExpansion,
-    earlier: &KeptUnits,
+    root: KeptTask<'_>,
+    meter: &mut Meter,
 ) -> Result<CompiledAgain, AllocError>
-    requires { HoldsOver key_eq expansion (B.at bank.now) kept.now }
-    ensures { IfOk result (λ root. root.compiled ≡ compile_over (B.at bank.now) kept.now.text) }
+    requires over { HoldsOver key_eq expansion (B.at bank.now) root.result.now }
+    requires kept { (events : List Event) × IsKeptOf events root.marks.now
+        (list_at keeper.old.declarations.lists root.at) (list_at keeper.old.entries.lists root.at) }
+    ensures compiled { let name = root.entry.result.now.text in
+        IfOk result (λ r. r.compiled ≡ compile_over (B.at bank.now) name) }
+    ensures marks { let name = root.entry.result.now.text in
+        IfOk result (λ r. r.marks ≡ root_marks (expanded name (B.at bank.now)).0) }
+    ensures made { OnOk result (IsMade (B.at bank.now) root.entry.at root.entry.result.now.text
+        keeper.old keeper.new meter.old meter.new) }
+    ensures lists { AreListsLeft keeper.old keeper.new }
+    ensures others { OnOk result (ChecksAndPrintsOnly meter.old meter.new) }
 {
-    let alloc = memory.alloc();
-    let end = end_of(alloc, bank, kept.text())?;
+    let alloc = keeper.alloc();
+    let end = end_of(alloc, bank, root.result.text())?;
+    let source = KeptSource {
+        at: root.at,
+        end: &end,
+        expansion: root.result.out(),
+        marks: root.marks,
+    };
     let Recompiled {
         compiled: rows,
-        units,
-    } = idl_root::compile_after(memory, &end, kept.out(), earlier)?;
-    let names = absent(alloc, kept.log())?;
+        marks,
+    } = idl_root::compile_kept(keeper, source, meter)?;
+    let names = absent(alloc, root.result.log())?;
     let compiled = CompiledRoot {
         rows,
         absent: Seq::from_vec(names),
     };
-    Ok(CompiledAgain { compiled, units })
+    Ok(CompiledAgain { compiled, marks })
 }
 
 /// The diagnostics that are answered for a name are the rows of what is found. This does nothing: it carries the law.

@@ -1,35 +1,39 @@
 //! What is kept of a root.
 
-ghost use Rattle.std.specs.Prelude.{◌≡◌, ◌+◌, ◌<◌, IfOk, OnOk, length};
+ghost use Rattle.std.specs.Prelude.{◌≡◌, ◌⊎◌, ◌+◌, ◌<◌, [], IfOk, List, OnOk, length};
 ghost use Rattle.std.specs.Option.{option_copied, option_eq};
 ghost use Rattle.std.specs.Str.{bytes_eq};
 ghost use Rattle.idl_event.specs.Key.{key_eq};
+ghost use Rattle.idl_event.specs.declared.told.event.Event.{Event};
 ghost use Rattle.idl_memo.specs.Cause.{IsCause, changed};
 ghost use Rattle.idl_memo.specs.Fresh.{compared_at, stale_at};
 ghost use Rattle.idl_memo.specs.Meter.{compared_after, most_compared};
 ghost use Rattle.idl_prep.specs.Root.{expansion};
+ghost use Rattle.idl_root.specs.Results.{IsKeptOf, list_at};
 ghost use Rattle.idl_project.specs.Asked.{asked_files};
 ghost use Rattle.idl_project.specs.Bank.{bank_of};
+ghost use Rattle.idl_project.specs.Renewed.{AreListsLeft, IsLeft, IsMade};
+ghost use Rattle.idl_project.specs.Tasks.{declaration_list, entry_list};
 ghost use Rattle.idl_project.specs.UpToDate.{IsKept};
 ghost use Rattle.idl_project.specs.Work.{answer_eq};
 
 use crate::asked::asked;
 use crate::bank::SessionBank;
-use crate::compile::{CompiledAgain, CompiledRoot, KeptExpansion, compile, compile_after};
+use crate::compile::{CompiledAgain, CompiledRoot, KeptExpansion, KeptTask, compile_kept};
 use idl_event::{RootBank, RootKey};
 use idl_memo::{Edited, Meter, run_anew};
 use idl_prep::RootTask;
-use idl_root::{KeptUnits, Memory};
+use idl_root::{Keeper, Marks};
 use idl_source::Name;
 use std::alloc::{AllocError, Global};
 use std::rc::Rc;
 
-/// What is kept of a root: the result of its task, what the root compiles to, and from its second compilation on what is kept of
-/// its units for the next one.
+/// What is kept of a root: the result of its task, what the root compiles to, and what its units are. The results of its
+/// declarations and entries are a keeper's, at the root's place among all.
 pub struct KeptRoot {
     result: Rc<KeptExpansion>,
     compiled: Rc<CompiledRoot>,
-    units: Rc<KeptUnits>,
+    marks: Rc<Marks>,
 }
 
 impl Drop for KeptRoot {
@@ -37,102 +41,102 @@ impl Drop for KeptRoot {
         let KeptRoot {
             result: _result,
             compiled: _compiled,
-            units: _units,
+            marks: _marks,
         } = self;
     }
 }
 
+/// An edit of what roots are answered, and its cause, if it has one: the key that has another answer than before.
+#[derive(Clone, Copy)]
+pub struct Change<'a> {
+    pub edited: &'a Edited<'a, SessionBank>,
+    pub cause: Option<&'a RootKey>,
+}
+
 impl KeptRoot {
-    /// What comes of the root of this name over a bank: it is expanded and compiled anew.
+    /// What comes of the root of this name over a bank, which will stand at this place among all: it is expanded and compiled.
     ///
-    /// After want of memory nothing is said of the meter.
+    /// After want of memory nothing is said of the meter, and there may be drafts more.
     pub fn anew<B: RootBank>(
-        memory: &mut Memory,
-        root: Name,
+        keeper: &mut Keeper,
+        root: (usize, Name),
         bank: &B,
         meter: &mut Meter,
     ) -> Result<KeptRoot, AllocError>
         requires room { meter.old.expanded < most_compared }
-        ensures kept { IfOk result (λ kept. IsKept (B.at bank.now) (root, kept)) }
-        ensures count { let expanded = meter.old.expanded + 1 in
-            OnOk result (meter.new ≡ record meter.old { expanded = expanded }) }
+        requires declarations { list_at keeper.old.declarations.lists root.0 ≡ [] }
+        requires entries { list_at keeper.old.entries.lists root.0 ≡ [] }
+        ensures kept { IfOk result (λ kept. IsKept (B.at bank.now) (root.1, kept)) }
+        ensures made { OnOk result (IsMade (B.at bank.now) root.0 root.1 keeper.old keeper.new
+            meter.old meter.new) }
+        ensures lists { AreListsLeft keeper.old keeper.new }
+        ensures counts { OnOk result (meter.new ≡ record meter.old {
+          expanded = meter.old.expanded + 1;
+          checked = meter.new.checked;
+          printed = meter.new.printed;
+        }) }
     {
-        let alloc = memory.alloc();
-        let task = RootTask::new(root);
-        let result = run_anew(alloc, &task, bank, meter)?;
-        let compiled = compile(memory, bank, &result)?;
-        Ok(KeptRoot {
-            result,
-            compiled: Rc::new(alloc, compiled)?,
-            units: Rc::new(alloc, KeptUnits::none(alloc))?,
-        })
+        let (at, name) = root;
+        let none = Marks::none(keeper.alloc());
+        Ok(expanded(keeper, (at, name, &none), bank, meter)?)
     }
 
-    /// What is kept of the root after an edit of the bank that has this cause: the same where its result holds still, and
-    /// else what comes of the root anew.
+    /// What is kept of the root at this place after an edit of the bank: the same where its result holds still, and else what
+    /// comes of the root anew.
     ///
-    /// After want of memory nothing is said of the meter.
-    pub fn renewed<'a>(
+    /// After want of memory nothing is said of the meter, and there may be drafts more.
+    pub fn renewed(
         &self,
-        memory: &mut Memory,
-        edited: &Edited<'a, SessionBank>,
-        cause: Option<&RootKey>,
+        keeper: &mut Keeper,
+        at: usize,
+        change: Change<'_>,
         meter: &mut Meter,
     ) -> Result<KeptRoot, AllocError>
-        requires kept { let before = bank_of edited.now.base.now in
+        requires kept { let before = bank_of change.edited.now.base.now in
             IsKept before (self.now.result.value.text, self.now) }
-        requires cause { let before = bank_of edited.now.base.now in
-            let after = changed key_eq before edited.now.key.now (option_copied edited.now.answer) in
-            IsCause before after (option_copied cause) }
+        requires declarations { let before = bank_of change.edited.now.base.now in
+            list_at keeper.old.declarations.lists at
+            ≡ declaration_list before self.now.result.value.text }
+        requires entries { let before = bank_of change.edited.now.base.now in
+            list_at keeper.old.entries.lists at ≡ entry_list before self.now.result.value.text }
+        requires cause { let edited = change.edited.now in
+            let before = bank_of edited.base.now in
+            let after = changed key_eq before edited.key.now (option_copied edited.answer) in
+            IsCause before after (option_copied change.cause) }
         requires room { meter.old.expanded < most_compared }
-        ensures kept { let before = bank_of edited.now.base.now in
-            let after = changed key_eq before edited.now.key.now (option_copied edited.now.answer) in
+        ensures kept { let edited = change.entry.edited.now in
+            let before = bank_of edited.base.now in
+            let after = changed key_eq before edited.key.now (option_copied edited.answer) in
             IfOk result (λ kept. IsKept after (self.now.result.value.text, kept)) }
-        ensures counts { let before = bank_of edited.now.base.now in
-            let after = changed key_eq before edited.now.key.now (option_copied edited.now.answer) in
+        ensures tasks { let edited = change.entry.edited.now in
+            let before = bank_of edited.base.now in
+            let after = changed key_eq before edited.key.now (option_copied edited.answer) in
+            let name = self.now.result.value.text in
+            OnOk result (IsLeft before after name keeper.old keeper.new meter.old meter.new
+            ⊎ IsMade after at name keeper.old keeper.new meter.old meter.new) }
+        ensures lists { AreListsLeft keeper.old keeper.new }
+        ensures counts { let edited = change.entry.edited.now in
+            let before = bank_of edited.base.now in
+            let after = changed key_eq before edited.key.now (option_copied edited.answer) in
             let name = self.now.result.value.text in
             let stale = stale_at bytes_eq (option_eq answer_eq) expansion before after name in
             let compared = compared_at bytes_eq (option_eq answer_eq) expansion key_eq before after name in
             OnOk result (meter.new ≡ record meter.old {
               expanded = meter.old.expanded + stale;
+              checked = meter.new.checked;
+              printed = meter.new.printed;
               compared = compared_after meter.old.compared compared;
             }) }
     {
-        if self.result.holds_after(cause, meter) {
+        if self.result.holds_after(change.cause, meter) {
             return Ok(KeptRoot {
                 result: self.result.clone()?,
                 compiled: self.compiled.clone()?,
-                units: self.units.clone()?,
+                marks: self.marks.clone()?,
             });
         }
-        Ok(self.again(memory, edited, meter)?)
-    }
-
-    // What comes of the root over another bank: it is expanded anew, and what is kept of its units goes into its compilation.
-    //
-    // After want of memory nothing is said of the meter.
-    fn again<B: RootBank>(
-        &self,
-        memory: &mut Memory,
-        bank: &B,
-        meter: &mut Meter,
-    ) -> Result<KeptRoot, AllocError>
-        requires room { meter.old.expanded < most_compared }
-        ensures kept { IfOk result (λ kept.
-            IsKept (B.at bank.now) (self.now.result.value.text, kept)) }
-        ensures count { let expanded = meter.old.expanded + 1 in
-            OnOk result (meter.new ≡ record meter.old { expanded = expanded }) }
-    {
-        let alloc = memory.alloc();
-        let task = RootTask::new(self.result.text().copied());
-        let result = run_anew(alloc, &task, bank, meter)?;
-        let root = compile_after(memory, bank, &result, &self.units)?;
-        let CompiledAgain { compiled, units } = root;
-        Ok(KeptRoot {
-            result,
-            compiled: Rc::new(alloc, compiled)?,
-            units: Rc::new(alloc, units)?,
-        })
+        let name = self.result.text().copied();
+        Ok(expanded(keeper, (at, name, &self.marks), change.edited, meter)?)
     }
 
     /// What the root compiles to.
@@ -155,4 +159,41 @@ impl KeptRoot {
     {
         self.result.log().len()
     }
+}
+
+// What comes of the root of this name over a bank, which stands at this place among all, where these were its units: it is expanded
+// and compiled.
+fn expanded<B: RootBank>(
+    keeper: &mut Keeper,
+    root: (usize, Name, &Marks),
+    bank: &B,
+    meter: &mut Meter,
+) -> Result<KeptRoot, AllocError>
+    requires room { meter.old.expanded < most_compared }
+    requires kept { (events : List Event) × IsKeptOf events root.2.now
+        (list_at keeper.old.declarations.lists root.0) (list_at keeper.old.entries.lists root.0) }
+    ensures kept { IfOk result (λ kept. IsKept (B.at bank.now) (root.entry.1, kept)) }
+    ensures made { OnOk result (IsMade (B.at bank.now) root.entry.0 root.entry.1 keeper.old keeper.new
+        meter.old meter.new) }
+    ensures lists { AreListsLeft keeper.old keeper.new }
+    ensures counts { OnOk result (meter.new ≡ record meter.old {
+      expanded = meter.old.expanded + 1;
+      checked = meter.new.checked;
+      printed = meter.new.printed;
+    }) }
+{
+    let alloc = keeper.alloc();
+    let (at, name, earlier) = root;
+    let result = run_anew(alloc, &RootTask::new(name), bank, meter)?;
+    let task = KeptTask {
+        result: &result,
+        at,
+        marks: earlier,
+    };
+    let CompiledAgain { compiled, marks } = compile_kept(keeper, bank, task, meter)?;
+    Ok(KeptRoot {
+        result,
+        compiled: Rc::new(alloc, compiled)?,
+        marks: Rc::new(alloc, marks)?,
+    })
 }

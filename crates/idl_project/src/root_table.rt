@@ -1,26 +1,28 @@
 //! Roots by name, each with what is kept of it.
 
-ghost use Rattle.std.specs.Prelude.{◌≡◌, ◌∷◌, ◌++◌, [], false, IfOk, OnOk, OnErr, length, nat_le};
-ghost use Rattle.std.specs.Option.{option_copied, option_map};
-ghost use Rattle.std.specs.List.{IsDistinct, list_any};
-ghost use Rattle.std.specs.Map.{lookup, keys_of, remove_entry};
-ghost use Rattle.std.specs.Str.{bytes_eq};
+ghost use Rattle.std.specs.Prelude.{◌≡◌, ◌+◌, ◌<◌, ◌∷◌, ◌++◌, [], false, IfOk, OnOk, OnErr, is_some, length, nat_le};
 ghost use Rattle.idl_event.specs.Key.{key_eq};
 ghost use Rattle.idl_memo.specs.Cause.{changed};
-ghost use Rattle.idl_memo.specs.Meter.{compared_after};
-ghost use Rattle.idl_source.specs.Limits.{most_roots};
+ghost use Rattle.idl_store.specs.Stored.{committed};
 ghost use Rattle.idl_project.specs.Bank.{bank_of};
-ghost use Rattle.idl_project.specs.UpToDate.{AreKept, keys_asked};
-ghost use Rattle.idl_project.specs.Work.{work_between};
+ghost use Rattle.idl_project.specs.Renewed.{AreListsLeft, IsAdded, IsKeeperLeft, IsMade, IsRenewed};
+ghost use Rattle.idl_project.specs.Tasks.{kept_declarations, kept_entries};
+ghost use Rattle.std.specs.Option.{option_copied, option_map};
+ghost use Rattle.std.specs.List.{IsDistinct, list_any, position};
+ghost use Rattle.std.specs.Map.{lookup, keys_of, remove_entry};
+ghost use Rattle.std.specs.Str.{bytes_eq};
+ghost use Rattle.idl_memo.specs.Meter.{compared_after, most_compared};
+ghost use Rattle.idl_source.specs.Limits.{most_roots};
+ghost use Rattle.idl_project.specs.UpToDate.{AreKept, keys_asked, project_held};
 
 use crate::bank::SessionBank;
 use crate::compile::CompiledRoot;
-use crate::kept_root::KeptRoot;
+use crate::kept_root::{Change, KeptRoot};
 use crate::limits::MAX_ROOTS;
 use crate::work::Work;
-use idl_memo::{Edited, Meter, freshness};
+use idl_memo::{Edited, Meter, one_bank};
 use idl_prep::RootTask;
-use idl_root::Memory;
+use idl_root::{Keeper, fresh_tasks};
 use idl_source::Name;
 use indexmap::IndexMap;
 use std::alloc::{AllocError, Global};
@@ -108,6 +110,47 @@ impl RootTable {
         Ok(())
     }
 
+    /// Adds a root that isn't there, at the end: it is expanded and compiled over this bank.
+    ///
+    /// What is made of it waits in the keeper to be put in place. Want of memory leaves the roots and the keeper as they were, and
+    /// nothing is said of the meter then.
+    pub fn add_anew(
+        &mut self,
+        keeper: &mut Keeper,
+        root: Name,
+        bank: &SessionBank,
+        meter: &mut Meter,
+    ) -> Result<(), AllocError>
+        requires new { list_any (bytes_eq root) (keys_of self.old) ≡ false }
+        requires room { meter.old.expanded < most_compared }
+        requires declarations { keeper.old.declarations
+            ≡ kept_declarations (bank_of bank.now) (keys_of self.old) }
+        requires entries { keeper.old.entries ≡ kept_entries (bank_of bank.now) (keys_of self.old) }
+        ensures added { OnOk result (IsAdded bank.now root self.old self.new) }
+        ensures tasks { OnOk result (IsMade (bank_of bank.now) (length self.old) root keeper.old
+            keeper.new meter.old meter.new) }
+        ensures counts { OnOk result (meter.new ≡ record meter.old {
+          expanded = meter.old.expanded + 1;
+          checked = meter.new.checked;
+          printed = meter.new.printed;
+        }) }
+        ensures err { OnErr result ((self.new ≡ self.old) × IsKeeperLeft keeper.old keeper.new) }
+    {
+        let last = (self.len(), root.copied());
+        let kept = match KeptRoot::anew(keeper, last, bank, meter) {
+            Ok(kept) => kept,
+            Err(refusal) => {
+                keeper.discard();
+                return Err(refusal);
+            }
+        };
+        if let Err(refusal) = self.add(root, kept) {
+            keeper.discard();
+            return Err(refusal);
+        }
+        Ok(())
+    }
+
     /// Drops the root of this name, if there is one. The others stay in their order.
     pub fn remove(&mut self, root: &Name)
         ensures left { self.new ≡ remove_entry (bytes_eq root.now) self.old }
@@ -118,32 +161,90 @@ impl RootTable {
 
     /// The same roots after an edit of the bank, each with what is kept of it, and the work of that: one look-up for each, and
     /// those that asked for what has changed are expanded and compiled anew.
+    ///
+    /// What is made of these waits in the keeper to be put in place. Want of memory leaves it as it was.
     pub fn renewed<'a>(
         &self,
-        memory: &mut Memory,
+        keeper: &mut Keeper,
         edited: &Edited<'a, SessionBank>,
     ) -> Result<(RootTable, Work), AllocError>
         requires distinct { IsDistinct bytes_eq (keys_of self.now) }
         requires kept { AreKept (bank_of edited.now.base.now) self.now }
-        ensures roots { IfOk result (λ renewed. keys_of renewed.0 ≡ keys_of self.now) }
-        ensures kept { let before = bank_of edited.now.base.now in
+        requires declarations { keeper.old.declarations
+            ≡ kept_declarations (bank_of edited.now.base.now) (keys_of self.now) }
+        requires entries { keeper.old.entries
+            ≡ kept_entries (bank_of edited.now.base.now) (keys_of self.now) }
+        ensures renewed { IfOk result (IsRenewed (project_held edited.now.base.now self.now)
+            edited.now.key.now (option_copied edited.now.answer)) }
+        ensures declarations { let before = bank_of edited.now.base.now in
             let after = changed key_eq before edited.now.key.now (option_copied edited.now.answer) in
-            IfOk result (λ renewed. AreKept after renewed.0) }
-        ensures work { let before = bank_of edited.now.base.now in
+            OnOk result (committed keeper.new.declarations
+            ≡ kept_declarations after (keys_of self.now)) }
+        ensures entries { let before = bank_of edited.now.base.now in
             let after = changed key_eq before edited.now.key.now (option_copied edited.now.answer) in
-            let roots = keys_of self.now in
-            IfOk result (λ renewed. renewed.1 ≡ work_between before roots after roots) }
+            OnOk result (committed keeper.new.entries ≡ kept_entries after (keys_of self.now)) }
+        ensures lists { AreListsLeft keeper.old keeper.new }
+        ensures err { OnErr result (IsKeeperLeft keeper.old keeper.new) }
     {
-        freshness::<SessionBank, RootTask>();
+        match self.all_renewed(keeper, edited) {
+            Ok(renewed) => Ok(renewed),
+            Err(refusal) => {
+                keeper.discard();
+                Err(refusal)
+            }
+        }
+    }
+
+    // The same. Where memory is refused there may be drafts more.
+    fn all_renewed<'a>(
+        &self,
+        keeper: &mut Keeper,
+        edited: &Edited<'a, SessionBank>,
+    ) -> Result<(RootTable, Work), AllocError>
+        requires distinct { IsDistinct bytes_eq (keys_of self.now) }
+        requires kept { AreKept (bank_of edited.now.base.now) self.now }
+        requires declarations { keeper.old.declarations
+            ≡ kept_declarations (bank_of edited.now.base.now) (keys_of self.now) }
+        requires entries { keeper.old.entries
+            ≡ kept_entries (bank_of edited.now.base.now) (keys_of self.now) }
+        ensures renewed { IfOk result (IsRenewed (project_held edited.now.base.now self.now)
+            edited.now.key.now (option_copied edited.now.answer)) }
+        ensures declarations { let before = bank_of edited.now.base.now in
+            let after = changed key_eq before edited.now.key.now (option_copied edited.now.answer) in
+            OnOk result (committed keeper.new.declarations
+            ≡ kept_declarations after (keys_of self.now)) }
+        ensures entries { let before = bank_of edited.now.base.now in
+            let after = changed key_eq before edited.now.key.now (option_copied edited.now.answer) in
+            OnOk result (committed keeper.new.entries ≡ kept_entries after (keys_of self.now)) }
+        ensures lists { AreListsLeft keeper.old keeper.new }
+    {
+        one_bank::<SessionBank, RootTask>();
+        fresh_tasks();
         let _room = self.roots.len();
         let mut meter = Meter::new();
         let cause = edited.cause();
-        let mut table = RootTable::new(memory.alloc());
+        let change = Change { edited, cause };
+        let mut table = RootTable::new(keeper.alloc());
         for (root, kept) in self.roots.iter() {
-            let next = kept.renewed(memory, edited, cause, &mut meter)?;
+            let next = kept.renewed(keeper, table.len(), change, &mut meter)?;
             table.add(root.copied(), next)?;
         }
         Ok((table, Work::counted(&meter)))
+    }
+
+    /// How many roots there are.
+    pub fn len(&self) -> usize
+        ensures { result ≡ length self.now }
+    {
+        self.roots.len()
+    }
+
+    /// The place of the root of this name among all, if it is there.
+    pub fn place_of(&self, root: &Name) -> Option<usize>
+        ensures index { result ≡ position (bytes_eq root.now) (keys_of self.now) }
+        ensures found { is_some result ≡ list_any (bytes_eq root.now) (keys_of self.now) }
+    {
+        self.roots.get_index_of(root)
     }
 
     /// How many keys all roots asked, as far as a count goes.

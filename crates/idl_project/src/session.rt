@@ -10,7 +10,6 @@ ghost use Rattle.idl_project.specs.Project.{no_project, with_files};
 ghost use Rattle.idl_project.specs.Work.{no_work};
 ghost use Rattle.idl_project.specs.Edited.{IsEdited, takes_memory};
 ghost use Rattle.idl_project.specs.Edits.{Edit, Put, Splice, Remove, Define, Undef, Search, AddRoot, DropRoot, after, are_too_long};
-ghost use Rattle.idl_project.specs.Renewed.{IsRenewed};
 ghost use Rattle.idl_project.specs.UpToDate.{compiled_of, diagnostics_of, findings_of, listing_of, dump_of, is_faulty_of, absent_of};
 ghost use Rattle.idl_project.specs.WellFormed.{IsWellFormed};
 
@@ -26,9 +25,9 @@ use idl_base::{Bytes, Seq};
 use idl_event::{RootAnswer, RootKey};
 use idl_fault::FileName;
 use idl_macro::is_macro_word;
-use idl_memo::{Edited, Meter, freshness};
+use idl_memo::{Edited, Meter, one_bank};
 use idl_prep::RootTask;
-use idl_root::{Finding, Memory, Row};
+use idl_root::{Finding, Keeper, Row, fresh_tasks};
 use idl_source::{Files, Line, Name, Refusal, Span};
 use std::alloc::{AllocError, Global};
 use std::marker::Model;
@@ -39,7 +38,7 @@ use std::marker::Model;
 /// changed. Queries take no memory, but that `asked` makes a list.
 #[derive(Drop)]
 pub struct Session {
-    memory: Memory,
+    keeper: Keeper,
     bank: SessionBank,
     roots: RootTable,
     work: Work,
@@ -58,7 +57,7 @@ impl Model for Session {
       work = session.work;
     } };
 
-    ghost invariant = { λ session. IsUpToDate session.bank session.roots };
+    ghost invariant = { λ session. IsUpToDate session.bank session.roots session.keeper };
 }
 
 impl Session {
@@ -67,7 +66,7 @@ impl Session {
         ensures { result ≡ record { project = no_project; work = no_work } }
     {
         Session {
-            memory: Memory::new(alloc),
+            keeper: Keeper::new(alloc),
             bank: SessionBank::new(alloc),
             roots: RootTable::new(alloc),
             work: Work::none(),
@@ -115,14 +114,25 @@ impl Session {
     pub fn define(&mut self, word: &[u8], body: Line) -> Result<Work, Refusal>
         ensures { IsEdited (Define word.now body) self.old self.new result }
     {
-        let word = spelled(self.memory.alloc(), word)?;
+        let word = spelled(self.keeper.alloc(), word)?;
         if let Some(refusal) = self.bank.refusal_of_define(&word, &body) {
             return Err(refusal);
         }
-        let body = MacroBody::new(self.memory.alloc(), body)?;
-        let renewed = self.renewed_with_macro(&word, Some(body.answer()))?;
-        self.bank.define(word, body)?;
+        let body = MacroBody::new(self.keeper.alloc(), body)?;
+        let key = RootKey::Macro(word.clone()?);
+        let answer = Some(body.answer());
+        let edited = Edited {
+            base: &self.bank,
+            key: &key,
+            answer,
+        };
+        let renewed = self.roots.renewed(&mut self.keeper, &edited)?;
+        if let Err(refusal) = self.bank.define(word, body) {
+            self.keeper.discard();
+            return Err(refusal.into());
+        }
         self.roots = renewed.0;
+        self.keeper.commit();
         self.work = renewed.1;
         Ok(self.work)
     }
@@ -136,10 +146,19 @@ impl Session {
         if !is_macro_word(word) {
             return Err(Refusal::BadMacro);
         }
-        let word = spelled(self.memory.alloc(), word)?;
-        let renewed = self.renewed_with_macro(&word, None)?;
+        let word = spelled(self.keeper.alloc(), word)?;
+        let key = RootKey::Macro(word.clone()?);
+        let none: Option<RootAnswer> = None;
+        let answer = none.as_ref();
+        let edited = Edited {
+            base: &self.bank,
+            key: &key,
+            answer,
+        };
+        let renewed = self.roots.renewed(&mut self.keeper, &edited)?;
         self.bank.undef(&word);
         self.roots = renewed.0;
+        self.keeper.commit();
         self.work = renewed.1;
         Ok(self.work)
     }
@@ -151,11 +170,18 @@ impl Session {
     pub fn search(&mut self, list: &[&[u8]]) -> Result<Work, Refusal>
         ensures { IsEdited (Search (map (λ bytes. bytes.now) list.now)) self.old self.new result }
     {
-        let list = directories(self.memory.alloc(), list)?;
+        let list = directories(self.keeper.alloc(), list)?;
         let search = RootAnswer::Search(Seq::from_vec(list));
-        let renewed = self.renewed_with(&RootKey::Search, Some(&search))?;
+        let answer = Some(&search);
+        let edited = Edited {
+            base: &self.bank,
+            key: &RootKey::Search,
+            answer,
+        };
+        let renewed = self.roots.renewed(&mut self.keeper, &edited)?;
         self.bank.set_search(search);
         self.roots = renewed.0;
+        self.keeper.commit();
         self.work = renewed.1;
         Ok(self.work)
     }
@@ -176,7 +202,8 @@ impl Session {
         if self.roots.is_full() {
             return Err(Refusal::OverLimit);
         }
-        freshness::<SessionBank, RootTask>();
+        one_bank::<SessionBank, RootTask>();
+        fresh_tasks();
         let mut meter = Meter {
             expanded: 0,
             checked: 0,
@@ -185,8 +212,9 @@ impl Session {
         };
         // First, so that no root is compiled where there is no room for it.
         self.roots.reserve_one()?;
-        let kept = KeptRoot::anew(&mut self.memory, root.copied(), &self.bank, &mut meter)?;
-        self.roots.add(root, kept)?;
+        self.roots
+            .add_anew(&mut self.keeper, root, &self.bank, &mut meter)?;
+        self.keeper.commit();
         self.work = Work::counted(&meter);
         Ok(self.work)
     }
@@ -200,10 +228,12 @@ impl Session {
         let Some(root) = Name::new(name) else {
             return Err(Refusal::BadName);
         };
-        if !self.roots.contains(&root) {
+        let Some(at) = self.roots.place_of(&root) else {
             return Err(Refusal::NoSuchRoot);
-        }
-        freshness::<SessionBank, RootTask>();
+        };
+        one_bank::<SessionBank, RootTask>();
+        fresh_tasks();
+        self.keeper.remove(at);
         self.roots.remove(&root);
         self.work = Work {
             expanded: 0,
@@ -281,8 +311,8 @@ impl Session {
         ensures { IfOk result (λ names. names.items ≡ asked_of self.now.project root.now) }
     {
         match self.kept(root) {
-            Some(kept) => Ok(kept.asked(self.memory.alloc())?),
-            None => Ok(Vec::new(self.memory.alloc())),
+            Some(kept) => Ok(kept.asked(self.keeper.alloc())?),
+            None => Ok(Vec::new(self.keeper.alloc())),
         }
     }
 
@@ -305,7 +335,7 @@ impl Session {
 
     /// Where the session's memory comes from, for what a caller has to hand in.
     pub fn allocator(&self) -> Global {
-        self.memory.alloc()
+        self.keeper.alloc()
     }
 
     /// Why lines that are too many or too long for any file aren't put under this name: the least refusal. It takes no memory.
@@ -365,44 +395,23 @@ impl Session {
             → after self.old.project edit ≡ Ok (with_files self.old.project files)
             → IsEdited edit self.old self.new result }
     {
-        let name = FileName::new(self.memory.alloc(), &Name::new(name).unwrap())?;
-        let answer = self.bank.file_answer(self.memory.alloc(), &files, &name)?;
-        let renewed = self.renewed_with(&RootKey::File(name.clone()?), answer.as_ref())?;
-        self.bank.set_files(name, files, answer)?;
-        self.roots = renewed.0;
-        self.work = renewed.1;
-        Ok(self.work)
-    }
-
-    // All roots as they are once the macro of this word has another answer, and the work of that.
-    fn renewed_with_macro(
-        &mut self,
-        word: &Bytes,
-        answer: Option<&RootAnswer>,
-    ) -> Result<(RootTable, Work), AllocError>
-        ensures renewed { IfOk result
-            (IsRenewed self.old.project (keys.Macro word.now) (option_copied answer.entry)) }
-        ensures same { self.new ≡ self.old }
-    {
-        let key = RootKey::Macro(word.clone()?);
-        Ok(self.renewed_with(&key, answer)?)
-    }
-
-    // All roots as they are once this key has another answer, and the work of that.
-    fn renewed_with(
-        &mut self,
-        key: &RootKey,
-        answer: Option<&RootAnswer>,
-    ) -> Result<(RootTable, Work), AllocError>
-        ensures renewed { IfOk result
-            (IsRenewed self.old.project key.now (option_copied answer.entry)) }
-        ensures same { self.new ≡ self.old }
-    {
+        let name = FileName::new(self.keeper.alloc(), &Name::new(name).unwrap())?;
+        let answer = self.bank.file_answer(self.keeper.alloc(), &files, &name)?;
+        let key = RootKey::File(name.clone()?);
+        let given = answer.as_ref();
         let edited = Edited {
             base: &self.bank,
-            key,
-            answer,
+            key: &key,
+            answer: given,
         };
-        Ok(self.roots.renewed(&mut self.memory, &edited)?)
+        let renewed = self.roots.renewed(&mut self.keeper, &edited)?;
+        if let Err(refusal) = self.bank.set_files(name, files, answer) {
+            self.keeper.discard();
+            return Err(refusal.into());
+        }
+        self.roots = renewed.0;
+        self.keeper.commit();
+        self.work = renewed.1;
+        Ok(self.work)
     }
 }

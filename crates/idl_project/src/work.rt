@@ -8,8 +8,7 @@ use idl_memo::Meter;
 /// How many roots an edit expanded, declarations it checked and entries of a listing it printed, through kept results, and
 /// at how many asked keys these were compared.
 ///
-/// As long as of roots alone results are kept, the second and the third are zero. The last stays at its greatest value once
-/// it is there.
+/// As long as of roots alone keys are compared, the last is of these. It stays at its greatest value once it is there.
 #[derive(Clone, Copy, Debug, PartialEq, Eq)]
 pub struct Work {
     pub expanded: u64,

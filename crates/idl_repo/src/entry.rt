@@ -15,9 +15,6 @@ use idl_fault::Code;
 use idl_memo::{Journal, Log, Task, TaskKind};
 use std::alloc::{AllocError, Global};
 
-// Most rows have no more bytes than these.
-const USUAL: usize = 120;
-
 /// The printing of a name, which has an id: of what is declared at this path.
 #[derive(Drop)]
 pub struct EntryTask {
@@ -68,11 +65,16 @@ impl Pushed {
 
 impl Task<Env> for EntryTask {
     ghost use Rattle.idl_memo.specs.declared.task.TaskKind.TheVariants.{Print};
+    ghost use Rattle.idl_entity.specs.Digest.{path_digest};
     ghost use Rattle.idl_repo.specs.Entry.{entry};
+    ghost use Rattle.idl_value.specs.Spelled.{scope_of};
 
     type Text = Path;
 
     type Out = Entry;
+
+    // The buffer in which a row is written before it is copied.
+    type Scratch = Vec<u8>;
 
     const KIND: TaskKind = TaskKind::Print;
 
@@ -82,14 +84,26 @@ impl Task<Env> for EntryTask {
 
     ghost query = { entry };
 
+    ghost hint_of = { λ path _. path_digest (scope_of path) };
+
+    // The scope around.
+    fn hint(&self, _bank: &Env) -> u64 {
+        self.path.around().digest()
+    }
+
     fn text(&self) -> &Path {
         &self.path
     }
 
-    fn run(&self, alloc: Global, bank: &Env, log: &mut Log<Env>) -> Result<Entry, AllocError> {
-        let mut buffer = Vec::with_capacity(alloc, USUAL)?;
+    fn run(
+        &self,
+        alloc: Global,
+        bank: &Env,
+        scratch: &mut Vec<u8>,
+        log: &mut Log<Env>,
+    ) -> Result<Entry, AllocError> {
         let mut journal = Journal::taking(alloc, log);
-        let entry = entry_at(&mut buffer, bank, &mut journal, &self.path);
+        let entry = entry_at(scratch, bank, &mut journal, &self.path);
         journal.give_back(log)?;
         entry
     }

@@ -1,8 +1,16 @@
 -- The facts of a root are told, each behind those before it.
-use Rattle.std.proofs.Common.{◌≡◌, ◌⊎◌, ◌∙◌, List, [], ◌∷◌, ◌++◌, refl, sym, ap, subst, inl, inr}
-use Rattle.idl_check.specs.walk.Closing.{AreTold, IsTold, IsTold as told}
-use Rattle.idl_root.specs.Judged.{added, facts_after}
-use Rattle.idl_env.specs.Facts.{UnitFacts}
+use Rattle.std.proofs.Common.{◌≡◌, ◌≤◌, ◌+◌, ◌-◌, ◌⊎◌, ◌∙◌, ℕ, List, [], ◌∷◌, ◌++◌, Option, arith, length, length-append, refl, sym, ap, subst, inl, inr}
+use Rattle.idl_check_laws.specs.Closing.{AreTold, IsTold, IsTold as told}
+use Rattle.idl_check.specs.walk.Verdict.{verdict}
+use Rattle.idl_check.specs.declared.walk.verdict.Verdict.{Verdict}
+use Rattle.idl_memo.specs.Query.{outcome, run}
+use Rattle.idl_root.specs.Judged.{added, facts_after, verdict_over}
+use Rattle.idl_env.specs.Facts.{UnitFacts, answers}
+use Rattle.idl_env.specs.Turns.{bases_among, bases_named, declared_among, declared_named, most_turns, turns_for}
+use Rattle.idl_env.specs.keys.Key.{key_eq}
+use Rattle.idl_env.specs.declared.answering.answer.Answer.{Answer}
+use Rattle.idl_env.specs.declared.keys.key.Key.{Key}
+use Rattle.idl_unit.specs.declared.unit.UnitText.{UnitText}
 use Rattle.idl_unit.specs.declared.unit.Unit.{Unit as RootUnit}
 use Rattle.idl_unit.specs.declared.unit.Unit.TheVariants as unit
 
@@ -29,24 +37,57 @@ one-more facts f h t front g back is = elim (last-or-before facts f front g back
   | inr before ↦ h front g before.0 before.1
 ]
 
-added-told : (facts : List UnitFacts) (u : RootUnit) → AreTold facts → AreTold (facts ++ added facts u)
-added-told facts (unit.Spelled text sites) h = one-more facts _ h (told.Unit text refl)
-added-told facts (unit.Entered file) h = one-more facts _ h (told.Entered refl)
-added-told facts (unit.Left file) h = one-more facts _ h (told.Left refl)
-added-told facts unit.End h = λ front g back is. h front g back (sym (none facts) ∙ is)
-  where
-    none : (fs : List UnitFacts) → fs ++ [] ≡ fs
-    none [] = refl
-    none (f ∷ fs) = ap (λ gs. f ∷ gs) (none fs)
-
-after-told : (units : List RootUnit) (facts : List UnitFacts) → AreTold facts → AreTold (facts_after facts units)
-unfolding facts_after
-after-told [] facts h = h
-after-told (u ∷ units) facts h = after-told units (facts ++ added facts u) (added-told facts u h)
-
 nothing : AreTold []
 nothing [] g back h = cc
 nothing (f ∷ front) g back h = cc
 
-pub facts-told : (units : List RootUnit) → AreTold (facts_after [] units)
-facts-told units = after-told units [] nothing
+-- facts need no fewer turns with others behind them
+turns-grow : (facts more : List UnitFacts) → turns_for facts ≤ turns_for (facts ++ more)
+turns-grow [] more = omega arith
+turns-grow (f ∷ facts) more =
+    let b = length-append (bases_among f.additions) (bases_named facts) in
+    let c = length-append (bases_among f.additions) (bases_named (facts ++ more)) in
+    let d = length-append (declared_among f.additions) (declared_named facts) in
+    let e = length-append (declared_among f.additions) (declared_named (facts ++ more)) in
+    let rest = turns-grow facts more in
+    omega (arith, b, c, d, e, rest)
+
+turns-after : (units : List RootUnit) (facts : List UnitFacts) → turns_for facts ≤ turns_for (facts_after facts units)
+unfolding facts_after
+turns-after [] facts = omega arith
+turns-after (u ∷ units) facts =
+    let one = turns-grow facts (added facts u) in
+    let rest = turns-after units (facts ++ added facts u) in
+    omega (arith, one, rest)
+
+module _
+    (more : (facts : List UnitFacts) (turns more : ℕ) (text : UnitText) (log : List (Key × Option Answer)) → turns_for facts ≤ turns
+    → run key_eq (verdict (turns + more) text) (answers facts) log ≡ run key_eq (verdict turns text) (answers facts) log)
+  where
+    -- a verdict is that with as many turns as the facts need
+    said-alike : (facts : List UnitFacts) (text : UnitText) → turns_for facts ≤ most_turns → verdict_over facts text ≡ outcome (verdict (turns_for facts) text) (answers facts)
+    said-alike facts text enough =
+        let rest = most_turns - turns_for facts in
+        let whole : turns_for facts + rest ≡ most_turns = omega (arith, enough) in
+        ap (λ t. outcome (verdict t text) (answers facts)) (sym whole) ∙ ap (λ p. p.0) (more facts (turns_for facts) rest text [] (omega arith))
+
+    added-told : (facts : List UnitFacts) (u : RootUnit) → turns_for facts ≤ most_turns → AreTold facts → AreTold (facts ++ added facts u)
+    added-told facts (unit.Spelled text sites) enough h = one-more facts _ h (told.Unit text (ap (λ (v : Verdict). v.writes) (said-alike facts text enough)))
+    added-told facts (unit.Entered file) enough h = one-more facts _ h (told.Entered refl)
+    added-told facts (unit.Left file) enough h = one-more facts _ h (told.Left refl)
+    added-told facts unit.End enough h = λ front g back is. h front g back (sym (none facts) ∙ is)
+      where
+        none : (fs : List UnitFacts) → fs ++ [] ≡ fs
+        none [] = refl
+        none (f ∷ fs) = ap (λ gs. f ∷ gs) (none fs)
+
+    after-told : (units : List RootUnit) (facts : List UnitFacts) → turns_for (facts_after facts units) ≤ most_turns → AreTold facts → AreTold (facts_after facts units)
+    unfolding facts_after
+    after-told [] facts enough h = h
+    after-told (u ∷ units) facts enough h =
+        let here = turns-grow facts (added facts u) in
+        let there = turns-after units (facts ++ added facts u) in
+        after-told units (facts ++ added facts u) enough (added-told facts u (omega (arith, here, there, enough)) h)
+
+    pub facts-told : (units : List RootUnit) → turns_for (facts_after [] units) ≤ most_turns → AreTold (facts_after [] units)
+    facts-told units enough = after-told units [] enough nothing

@@ -1,9 +1,16 @@
+mod AgainLemmas
 mod ChangedLemmas
+mod CompileLemmas
+mod DigestLemmas
 mod FactsTold
 mod FindingLemmas
 mod FollowingLemmas
 mod JudgingLemmas
+mod KeptLemmas
 mod NumberLemmas
 mod OrderLemmas
 mod PrintLemmas
+mod ResultLemmas
+mod StoredLemmas
+mod TakenLemmas
 mod ToldLemmas

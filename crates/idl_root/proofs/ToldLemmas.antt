@@ -16,7 +16,7 @@ use Rattle.idl_env.specs.Facts.{UnitFacts, answers}
 use Rattle.idl_env.specs.declared.additions.addition.Step.TheVariants.{Enters, Leaves}
 use Rattle.idl_env.specs.declared.answering.answer.Answer.{Answer}
 use Rattle.idl_env.specs.declared.keys.key.Key.{Key}
-use Rattle.idl_env.specs.Turns.{turns_for}
+use Rattle.idl_env.specs.Turns.{most_turns}
 use Rattle.idl_unit.specs.Cut.{parts}
 use Rattle.idl_unit.specs.TokenRules.{first}
 use Rattle.idl_unit.specs.Units.{spelled, stretch_ends, stretch_units, unit_in, units_of}
@@ -91,7 +91,7 @@ module _
   where
     there : (facts : List UnitFacts) (text : UnitText) (sites : List Site) → AreSited text sites → (fault : Fault) → (verdict_over facts text).fault ≡ Some fault
         → (site : Site) × (site_of text sites fault.index ≡ Some site)
-    there facts (Tokens tokens) sites are fault is = site-there sites fault.index (omega (arith, are.1, numbered (turns_for facts) tokens (answers facts) fault are.0 is))
+    there facts (Tokens tokens) sites are fault is = site-there sites fault.index (omega (arith, are.1, numbered most_turns tokens (answers facts) fault are.0 is))
     there facts (Pragma tokens inside) sites are fault is = first-there sites are
 
     judged-told : (facts : List UnitFacts) (units : List RootUnit) → AllByRecursion IsSited units → AllByRecursion IsTold (judged_after facts units)

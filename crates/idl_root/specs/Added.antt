@@ -8,4 +8,4 @@ use Rattle.idl_env.specs.Facts.{UnitFacts}
 abbrev pub told_by : Added → List UnitFacts
 told_by Nothing = []
 told_by (Given facts) = facts ∷ []
-told_by (Kept judgement) = judgement.value.verdict.writes ∷ []
+told_by (Kept declaration) = declaration.value.out.writes ∷ []

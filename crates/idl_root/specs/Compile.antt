@@ -69,17 +69,20 @@ all_findings end events o =
     (map (numbered events) (in_order o.found) ++ open_finding end (is_open o.facts))
     ++ map (numbered events) (flat_map (closing_finding o.facts) o.listed)
 
--- what is told of a root: what is found, a row each, and other rows where no error is among it
+-- what is found, a row each, and the rows of a listing and a dump where no error is among it
+abbrev pub compiled_of : List Finding → List (List ℕ) → List (List ℕ) → Compiled
+compiled_of findings listing dump = record {
+  findings = findings;
+  diagnostics = map finding_row findings;
+  listing = rows_beside (has_error findings) listing;
+  dump = rows_beside (has_error findings) dump;
+  is_faulty = has_error findings;
+}
+
+-- what is told of a root
 abbrev pub told : Place → List Event → Outcome → Compiled
 told end events o =
-    let findings = all_findings end events o in
-    record {
-      findings = findings;
-      diagnostics = map finding_row findings;
-      listing = rows_beside (has_error findings) (flat_map (entry_row o.facts) o.listed);
-      dump = rows_beside (has_error findings) o.rows;
-      is_faulty = has_error findings;
-    }
+    compiled_of (all_findings end events o) (flat_map (entry_row o.facts) o.listed) o.rows
 
 -- the rows of a root that expands to these events, and whose end is this place
 unfoldable pub compile : Place → List Event → Compiled

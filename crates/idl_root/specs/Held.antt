@@ -1,9 +1,13 @@
 -- What has come of a root so far, and what is still to come.
-use Rattle.std.specs.Prelude.{List, ◌++◌, flat_map, map}
-use Rattle.idl_root.specs.Compile.{Outcome, row_in}
-use Rattle.idl_root.specs.Findings.{unit_finding}
+use Rattle.std.specs.Prelude.{◌≡◌, List, ◌++◌, flat_map, map}
+use Rattle.idl_event.specs.declared.told.event.Event.{Event}
+use Rattle.idl_fault.specs.declared.place.Place.{Place}
+use Rattle.idl_root.specs.Compile.{Outcome, compiled_of, is_open, open_finding, row_in}
+use Rattle.idl_root.specs.Findings.{in_order, numbered, unit_finding}
 use Rattle.idl_root.specs.Judged.{Judged, facts_after, judged_after}
-use Rattle.idl_root.specs.Printed.{Listed, listed_in}
+use Rattle.idl_root.specs.Printed.{Listed, closing_finding, entry_row, listed_in}
+use Rattle.idl_root.specs.declared.compiling.compiled.Compiled.{Compiled}
+use Rattle.idl_root.specs.declared.compiling.judging.Ended.{Ended}
 use Rattle.idl_root.specs.declared.compiling.judging.Gathered.{Gathered as HeldGathered}
 use Rattle.idl_root.specs.declared.compiling.judging.Judging.{Judging}
 use Rattle.idl_root.specs.declared.compiling.printing.Listed.{Listed as HeldListed}
@@ -53,3 +57,17 @@ to_come o units =
       rows = o.rows ++ flat_map row_in judged;
       listed = o.listed ++ flat_map listed_in judged;
     }
+
+-- this has come of all units and names
+pub record IsEnded (ended : Ended) (o : Outcome) : Type 0 where
+  pub found : ended.findings.items ≡ o.found
+  pub rows : ended.rows.items ≡ o.rows
+  pub scopes : ended.is_open ≡ is_open o.facts
+  pub closing : ended.printed.findings.items ≡ flat_map (closing_finding o.facts) o.listed
+  pub listing : ended.printed.rows.items ≡ flat_map (entry_row o.facts) o.listed
+
+-- what is told of it
+abbrev pub told_of : Place → List Event → Ended → Compiled
+told_of end events e =
+    compiled_of ((map (numbered events) (in_order e.findings.items) ++ open_finding end e.is_open)
+    ++ map (numbered events) e.printed.findings.items) e.printed.rows.items e.rows.items

@@ -6,7 +6,7 @@ use Rattle.idl_check.specs.declared.walk.verdict.Verdict.{Verdict}
 use Rattle.idl_event.specs.declared.told.site.Site.{Site}
 use Rattle.idl_memo.specs.Query.{outcome}
 use Rattle.idl_env.specs.Facts.{UnitFacts, answers}
-use Rattle.idl_env.specs.Turns.{turns_for}
+use Rattle.idl_env.specs.Turns.{most_turns}
 use Rattle.idl_env.specs.declared.additions.addition.Step.{Step}
 use Rattle.idl_env.specs.declared.additions.addition.Step.TheVariants.{Enters, Leaves}
 use Rattle.idl_unit.specs.declared.unit.Unit.{Unit as RootUnit}
@@ -19,9 +19,9 @@ pub record Judged : Type 0 where
   pub sites : List Site
   pub verdict : Verdict
 
--- the verdict of a text over facts, with as many turns as these need
+-- the verdict of a text over facts
 abbrev pub verdict_over : List UnitFacts → UnitText → Verdict
-verdict_over facts text = outcome (verdict (turns_for facts) text) (answers facts)
+verdict_over facts text = outcome (verdict most_turns text) (answers facts)
 
 -- a unit over facts
 abbrev pub judged_over : List UnitFacts → UnitText → List Site → Judged

@@ -4,8 +4,9 @@ pub mod Number
 pub mod Findings
 pub mod Printed
 pub mod Compile
+pub mod Places
 pub mod Held
-pub mod Kept
+pub mod Results
 pub mod Followed
 pub mod Changed
 pub mod Told

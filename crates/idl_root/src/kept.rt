@@ -1,8 +1,12 @@
-//! What is kept of the units and the names of a root.
+//! What is kept of the units and the names of roots.
 
 pub(crate) mod added;
 pub(crate) mod changed;
+pub(crate) mod course;
 pub(crate) mod following;
+pub(crate) mod fresh;
+pub(crate) mod keeper;
 pub(crate) mod keeping;
-pub(crate) mod kept_units;
+pub(crate) mod marks;
+pub(crate) mod printing;
 pub(crate) mod reprinting;

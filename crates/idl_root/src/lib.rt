@@ -7,8 +7,10 @@
 mod compiling;
 mod kept;
 
-pub use compiling::compiled::{Compiled, Recompiled, Row, compile, compile_after};
+pub use compiling::compiled::{Compiled, KeptSource, Recompiled, Row, compile, compile_kept};
 pub use compiling::finding::Finding;
 pub use compiling::laws::{facts, ordering, telling};
 pub use compiling::memory::Memory;
-pub use kept::kept_units::KeptUnits;
+pub use kept::fresh::fresh_tasks;
+pub use kept::keeper::Keeper;
+pub use kept::marks::Marks;

@@ -12,7 +12,7 @@ use std::hash::Hash;
 use std::marker::Model;
 
 /// The tokens of a unit, wherever they stand. Two are equal where these are, and clones share them.
-#[derive(Clone, PartialEq, Eq, Hash, Drop)]
+#[derive(Clone, PartialEq, Eq, PartialOrd, Ord, Hash, Drop)]
 pub enum UnitText {
     /// Tokens of the text: an opening, a closing or a declaration.
     Tokens(TokenRange),

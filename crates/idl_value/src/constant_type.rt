@@ -10,7 +10,7 @@ use idl_tree::declarations::{DiscreteType, IntegerSize, SizedInteger};
 use std::alloc::AllocError;
 
 /// A type of which there are constants.
-#[derive(PartialEq, Eq)]
+#[derive(PartialEq, Eq, PartialOrd, Ord)]
 pub enum ConstantType {
     Integer(IntegerKind),
     Boolean,

@@ -1,11 +1,13 @@
 //! The integer types.
 
-ghost use Rattle.std.specs.Prelude.{◌≡◌};
-ghost use Rattle.std.specs.Cmp.{on_equiv, on_per, partial_equiv_from_equiv, nat_eq_equiv};
+ghost use Rattle.std.specs.Prelude.{◌≡◌, Some, refl};
+ghost use Rattle.std.specs.Cmp.{nat_cmp_total, nat_eq_equiv, on_equiv, on_per, on_po, on_total, partial_equiv_from_equiv, unsigned_po, unsigned_ties};
+ghost use Rattle.std.specs.Ordering.{nat_cmp, on};
 ghost use Rattle.idl_value.specs.integers.Integer.{greatest, holds, holds_part, is_signed, least, power, width};
 ghost use Rattle.idl_value.specs.integers.SameInteger.{integer_number, integer_eq, same_integer_kind};
 
 use idl_base::Datum;
+use std::cmp::Ordering;
 
 /// A type whose values are whole numbers.
 #[derive(Clone, Copy)]
@@ -124,6 +126,30 @@ impl PartialEq for IntegerKind {
 
 impl Eq for IntegerKind {
     ghost laws = { on_equiv integer_number nat_eq_equiv };
+}
+
+impl PartialOrd for IntegerKind {
+    ghost partial_cmp = { λ x y. Some (nat_cmp (integer_number x) (integer_number y)) };
+
+    ghost laws = { on_po integer_number unsigned_po };
+
+    fn partial_cmp(&self, other: &IntegerKind) -> Option<Ordering> {
+        Some(self.cmp(other))
+    }
+}
+
+impl Ord for IntegerKind {
+    ghost cmp = { on integer_number nat_cmp };
+
+    ghost total = { on_total integer_number nat_cmp_total };
+
+    ghost matches_partial_cmp = { λ x y. refl };
+
+    ghost matches_eq = { λ x y. unsigned_ties (integer_number x) (integer_number y) };
+
+    fn cmp(&self, other: &IntegerKind) -> Ordering {
+        self.number().cmp(&other.number())
+    }
 }
 
 impl Datum for IntegerKind {

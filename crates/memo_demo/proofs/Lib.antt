@@ -1,4 +1,5 @@
-pub mod Passing
+pub mod Growing
 pub mod References
 pub mod Renewing
 pub mod Steps
+pub mod Walking

@@ -1,52 +1,45 @@
--- What a pass over trails counts.
-use Rattle.std.specs.Prelude.{◌≡◌, ◌⊎◌, ℕ, ◌+◌, Bool, List, [], ◌∷◌, ◌++◌, Any, Contains}
-use Rattle.std.specs.Global.{Global}
-use Rattle.std.specs.declared.rc.Rc.{Rc}
-use Rattle.idl_memo.specs.Buckets.{AddsOne}
-use Rattle.idl_memo.specs.Kept.{Kept, IsAlike, NoneAlike, AreSound}
-use Rattle.idl_memo.specs.Query.{Query}
+-- What a pass over walks comes to.
+use Rattle.std.specs.Prelude.{◌≡◌, ℕ, ◌+◌, List, [], ◌∷◌, ◌++◌, Option, map, nat_eq}
+use Rattle.std.specs.Cmp.Lexicographic.{pointwise}
+use Rattle.std.specs.Option.{option_eq}
+use Rattle.idl_memo.specs.Fresh.{Place, fresh_among}
+use Rattle.idl_memo.specs.Kept.{Kept, result_over}
+use Rattle.idl_memo.specs.Passes.{IsPass}
+use Rattle.idl_store.specs.Stored.{Stored, results_in}
+use Rattle.memo_demo.specs.Library.{next_title}
+use Rattle.memo_demo.specs.Page.{page_eq}
+use Rattle.memo_demo.specs.Trail.{start_eq, trail_from}
+use Rattle.memo_demo.specs.declared.page.Page.{Page}
+use Rattle.memo_demo.specs.declared.passes.Walk.{Walk}
+use Rattle.memo_demo.specs.declared.trail.Start.{Start}
 
--- one of the kept results is alike
-abbrev pub SomeAlike : {K V T O : Type 0} → T → (K → V) → List (Rc (Kept K V T O) Global) → Type 0
-SomeAlike text bank kept = Any (λ k. IsAlike text bank k.value) kept
+-- a trail where it stands: its start, and where pages lead there
+abbrev pub TrailPlace : Type 0
+TrailPlace = Place Page (Option (List ℕ)) Start
 
--- of these texts so many are fresh: no kept result was alike at first, and the text did not come
--- before
-pub data CountsFresh {K V T O : Type 0} (bank : K → V) (kept : List (Rc (Kept K V T O) Global))
-    : List T → ℕ → Type 0 where
-  none : CountsFresh bank kept [] 0
-  fresh : {ts : List T} {n : ℕ} (t : T) → CountsFresh bank kept ts n → NoneAlike t bank kept
-      → ¬ Contains ts t → CountsFresh bank kept (ts ++ t ∷ []) (n + 1)
-  again : {ts : List T} {n : ℕ} (t : T) → CountsFresh bank kept ts n
-      → SomeAlike t bank kept ⊎ Contains ts t → CountsFresh bank kept (ts ++ t ∷ []) n
+-- where a walk stands
+abbrev pub place_of : Walk → TrailPlace
+place_of walk = (walk.trail.now.start, next_title walk.library.now.references.items)
 
--- a kept result was alike: nothing was put in or counted
-pub record WasKept {K V T O : Type 0} (text : T) (bank : K → V)
-    (old new : List (Rc (Kept K V T O) Global)) (before after : ℕ) : Type 0 where
-  pub some : SomeAlike text bank old
-  pub same : new ≡ old
-  pub count : after ≡ before
+-- what a trail comes to: its titles, and where the pages led that it came to
+abbrev pub TrailResult : Type 0
+TrailResult = Kept Page (Option (List ℕ)) Start (List (List ℕ))
 
--- none was alike: a result that is alike was put in, and counted
-pub record WasFresh {K V T O : Type 0} (text : T) (bank : K → V)
-    (old new : List (Rc (Kept K V T O) Global)) (before after : ℕ) : Type 0 where
-  pub none : NoneAlike text bank old
-  pub item : Rc (Kept K V T O) Global
-  pub alike : IsAlike text bank item.value
-  pub adds : AddsOne old new item
-  pub count : after ≡ before + 1
+-- what the trails at these places come to
+abbrev pub results_of : List TrailPlace → List TrailResult
+results_of places = map (λ p. result_over page_eq trail_from p) places
 
--- a text has a kept result that is alike at last just where it had one at first or is among these
-pub record HoldsAll {K V T O : Type 0} (bank : K → V) (old : List (Rc (Kept K V T O) Global))
-    (texts : List T) (new : List (Rc (Kept K V T O) Global)) : Type 0 where
-  pub stays : (t : T) → SomeAlike t bank old → SomeAlike t bank new
-  pub holds : (t : T) → Contains texts t → SomeAlike t bank new
-  pub only : (t : T) → SomeAlike t bank new → SomeAlike t bank old ⊎ Contains texts t
+-- how many of these places are fresh against the known ones
+abbrev pub fresh_trails : List TrailPlace → List TrailPlace → ℕ
+fresh_trails known places =
+    fresh_among start_eq (option_eq (pointwise nat_eq)) trail_from known places
 
--- a pass over these texts: the table is sound after it, so many of them were fresh and counted, and
--- each has a kept result that is alike
-pub record IsPass {K V X T O : Type 0} (eq : K → K → Bool) (query : T → Query K V X O)
-    (bank : K → V) (texts : List T) (old new : List (Rc (Kept K V T O) Global)) (before after : ℕ) : Type 0 where
-  pub sound : AreSound eq query new
-  pub fresh : (n : ℕ) × CountsFresh bank old texts n × (after ≡ before + n)
-  pub held : HoldsAll bank old texts new
+-- trails at these places are walked, beside these results, and their own are put behind them
+abbrev pub AreWalked : List TrailPlace → List TrailResult → List TrailResult → ℕ → ℕ → Type 0
+AreWalked places old new before after =
+    IsPass page_eq start_eq (option_eq (pointwise nat_eq)) trail_from places old new before after
+
+-- the lists with one more, of what the trails at these places come to
+abbrev pub with_list : Stored TrailResult → List TrailPlace → Stored TrailResult
+with_list stored places =
+    record { lists = stored.lists ++ results_of places ∷ []; drafts = [] }

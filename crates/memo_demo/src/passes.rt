@@ -1,86 +1,85 @@
-//! Passes over trails, each of which is walked only where no kept result is alike.
+//! Passes over walks, each of which is done only where no kept result is alike.
 
-ghost use Rattle.std.specs.Prelude.{◌≡◌, ◌⊎◌, ◌+◌, ◌<◌, IfOk, OnOk, length, map};
-ghost use Rattle.idl_memo.specs.Kept.{AreSound};
+ghost use Rattle.std.specs.Prelude.{◌≡◌, ◌+◌, ◌<◌, [], IfOk, OnErr, OnOk, length, map};
 ghost use Rattle.idl_memo.specs.Meter.{most_compared};
-ghost use Rattle.memo_demo.specs.Library.{next_title};
-ghost use Rattle.memo_demo.specs.Page.{page_eq};
-ghost use Rattle.memo_demo.specs.Passes.{IsPass, WasFresh, WasKept};
-ghost use Rattle.memo_demo.specs.Trail.{titles_from, trail_from};
+ghost use Rattle.idl_store.specs.Stored.{begun, discarded, grown, results_in};
+ghost use Rattle.memo_demo.specs.Passes.{AreWalked, fresh_trails, place_of, results_of, with_list};
 
 use crate::library::Library;
-use crate::trail::{Start, Trail};
-use idl_base::{Seq, Text};
-use idl_memo::{Kept, KeptTable, Meter, obtain, reliance};
+use crate::trail::Trail;
+use idl_memo::{Meter, freshness, passing};
+use idl_store::{Store, storing};
 use std::alloc::{AllocError, Global};
-use std::rc::Rc;
 
-/// What came of a trail: a kept result, or one that goes into the table from now on.
-///
-/// After want of memory nothing is said of the table and the meter.
-pub fn follow(
-    alloc: Global,
-    trail: &Trail,
-    table: &mut KeptTable<Library, Start, Seq<Text>>,
-    library: &Library,
-    meter: &mut Meter,
-) -> Result<Rc<Kept<Library, Start, Seq<Text>>>, AllocError>
-    requires sound { AreSound page_eq trail_from table.old }
-    requires room { meter.old.checked < most_compared }
-    ensures titles { IfOk result (λ found. found.value.out
-        ≡ titles_from (next_title library.now.references.items) trail.now.start) }
-    ensures sound { OnOk result (AreSound page_eq trail_from table.new) }
-    ensures either { OnOk result (let bank = next_title library.now.references.items in
-        WasKept trail.now.start bank table.old table.new meter.old.checked meter.new.checked
-        ⊎ WasFresh trail.now.start bank table.old table.new meter.old.checked
-        meter.new.checked) }
-{
-    reliance::<Library, Trail>();
-    let before = meter.checked;
-    let kept = obtain(alloc, trail, table, library, meter)?;
-    if meter.checked == before {
-        return Ok(kept);
-    }
-    table.add(alloc, kept.clone()?)?;
-    Ok(kept)
+/// A trail, and the library through which it leads.
+#[derive(Clone, Copy)]
+pub struct Walk<'a> {
+    pub trail: &'a Trail,
+    pub library: &'a Library,
 }
 
-/// What came of each trail, in order: the titles are those of walking it from scratch, and the meter counts the fresh ones.
+/// A list more of what the walks come to, in order; the meter counts the fresh ones.
 ///
-/// After want of memory nothing is said of the table and the meter.
-pub fn pass(
-    alloc: Global,
-    trails: &[Trail],
-    table: &mut KeptTable<Library, Start, Seq<Text>>,
-    library: &Library,
+/// Each walk may lead through a library of its own. Want of memory leaves the store as it was; nothing is said of the meter
+/// then.
+pub fn pass<'a>(
+    walks: &[Walk<'a>],
+    store: &mut Store<Library, Trail>,
     meter: &mut Meter,
-) -> Result<Vec<Rc<Kept<Library, Start, Seq<Text>>>>, AllocError>
-    requires sound { AreSound page_eq trail_from table.old }
-    requires room { meter.old.checked + length trails.now < most_compared }
-    ensures titles { let bank = next_title library.now.references.items in
-        IfOk result (λ found. map (λ k. k.value.out) found.items
-        ≡ map (λ t. titles_from bank t.start) trails.now) }
-    ensures pass { OnOk result (let bank = next_title library.now.references.items in
-        IsPass page_eq trail_from bank (map (λ t. t.start) trails.now) table.old table.new
-        meter.old.checked meter.new.checked) }
+) -> Result<(), AllocError>
+    requires done { store.old.drafts ≡ [] }
+    requires room { meter.old.checked + length walks.now < most_compared }
+    ensures lists { OnOk result (store.new ≡ with_list store.old (map place_of walks.now)) }
+    ensures count { OnOk result (AreWalked (map place_of walks.now) (results_in store.old)
+        (results_in store.new) meter.old.checked meter.new.checked) }
+    ensures err { OnErr result (store.new ≡ store.old) }
 {
-    let mut found = Vec::new(alloc);
-    for trail in trails {
-        let kept = follow(alloc, trail, table, library, meter)?;
-        found.push(kept)?;
+    storing::<Library, Trail>();
+    match walk_all(walks, store, meter) {
+        Ok(()) => {
+            store.commit();
+            Ok(())
+        }
+        Err(refusal) => {
+            store.discard();
+            Err(refusal)
+        }
     }
-    Ok(found)
 }
 
-/// How many trails a second pass over the same library walks: none.
-pub fn walked_again(alloc: Global, trails: &[Trail], library: &Library) -> Result<u64, AllocError>
-    requires { length trails.now < most_compared }
+// What the walks come to, in a draft of a list more.
+fn walk_all<'a>(
+    walks: &[Walk<'a>],
+    store: &mut Store<Library, Trail>,
+    meter: &mut Meter,
+) -> Result<(), AllocError>
+    requires done { store.old.drafts ≡ [] }
+    requires room { meter.old.checked + length walks.now < most_compared }
+    ensures drafted { OnOk result (store.new ≡ grown (begun store.old (length store.old.lists))
+        (results_of (map place_of walks.now))) }
+    ensures count { OnOk result (AreWalked (map place_of walks.now) (results_in store.old)
+        (results_in store.new) meter.old.checked meter.new.checked) }
+    ensures err { OnErr result (discarded store.new ≡ store.old) }
+{
+    passing::<Library, Trail>();
+    storing::<Library, Trail>();
+    store.begin(store.len())?;
+    for walk in walks {
+        store.obtain(walk.trail, walk.library, &mut (), meter)?;
+    }
+    Ok(())
+}
+
+/// How many of the walks a second pass does: none.
+pub fn walked_again<'a>(alloc: Global, walks: &[Walk<'a>]) -> Result<u64, AllocError>
+    requires { length walks.now < most_compared }
     ensures { IfOk result (λ walked. walked ≡ 0) }
 {
-    let mut table = KeptTable::new(alloc);
+    freshness::<Library, Trail>();
+    let mut store = Store::new(alloc);
     let mut first = Meter::new();
-    pass(alloc, trails, &mut table, library, &mut first)?;
+    pass(walks, &mut store, &mut first)?;
     let mut second = Meter::new();
-    pass(alloc, trails, &mut table, library, &mut second)?;
+    pass(walks, &mut store, &mut second)?;
     Ok(second.checked)
 }

@@ -176,7 +176,8 @@ impl Values {
     /// It is for this, and has this value.
     #[tactic(auto, using(idl_value::specs::Exact::copied_value))]
     pub fn end_with(&mut self, way: Purpose, value: &Value) -> Result<(), AllocError>
-        ensures { OnOk result (held_values self.new ≡ with_value way value.now (held_values self.old)) }
+        ensures { OnOk result
+            (held_values self.new ≡ with_value way value.now (held_values self.old)) }
     {
         self.begin = None;
         self.add_told(value.clone()?)?;

@@ -202,7 +202,8 @@ impl<'t> Sited<'t> {
             (v, log.new)
             ≡ run key_eq
             (and_then (walk turns (items (unit_parts self.entry.tree.now)) (held walker.old))
-            (λ w. judged self.entry.judge.tokens.now self.entry.judge.scopes.now self.entry.tree.now w))
+            (λ w. judged self.entry.judge.tokens.now self.entry.judge.scopes.now
+            self.entry.tree.now w))
             (answers self.entry.judge.env.now) log.old) }
     {
         walker.walk(log, self.sites)?;

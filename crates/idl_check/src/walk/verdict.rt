@@ -3,7 +3,7 @@
 ghost use Rattle.std.specs.Prelude.{◌≡◌, [], IfOk, None};
 
 use idl_base::Bytes;
-use idl_env::{Facts, Step, Writes};
+use idl_env::{Facts, Room, Step, Writes};
 use idl_unit::Fault;
 use std::alloc::{AllocError, Global};
 
@@ -38,6 +38,17 @@ impl Verdict {
             row: _row,
         } = self;
         writes
+    }
+}
+
+impl Verdict {
+    /// The same in no more memory than it needs. What it had is room for others.
+    pub fn fitted(self, room: &mut Room) -> Result<Verdict, AllocError>
+        ensures { IfOk result (λ verdict. verdict ≡ self) }
+    {
+        let Verdict { fault, writes, row } = self;
+        let writes = writes.fitted(room)?;
+        Ok(Verdict { fault, writes, row })
     }
 }
 

@@ -3,6 +3,7 @@
 ghost use Rattle.std.specs.Prelude.{◌≡◌, ◌∷◌, [], IfOk, IfSome, IsTrue, None};
 ghost use Rattle.idl_env.specs.Differing.{is_alike};
 ghost use Rattle.idl_env.specs.Facts.{answer_of, key_of, operations_among};
+ghost use Rattle.idl_env.specs.Turns.{bases_in};
 ghost use Rattle.idl_env.specs.keys.HeldKey.{key_in};
 ghost use Rattle.idl_env.specs.keys.Key.{key_digest, key_eq};
 
@@ -163,6 +164,16 @@ impl Addition {
             ) => *path == *same,
             (Addition::TypePrefixes(path, _), Addition::TypePrefixes(same, _)) => *path == *same,
             _ => false,
+        }
+    }
+
+    /// The paths of the bases that it names.
+    pub(crate) fn bases(&self) -> &[Path]
+        ensures { result.now ≡ bases_in self.now }
+    {
+        match self {
+            Addition::Declares(entity) => entity.get().bases(),
+            _ => &[],
         }
     }
 

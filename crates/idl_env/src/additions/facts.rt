@@ -6,6 +6,7 @@ ghost use Rattle.std.specs.Option.{option_copied};
 ghost use Rattle.idl_map.specs.Marks.{AreMarked};
 ghost use Rattle.idl_env.specs.Differing.{has_alike};
 ghost use Rattle.idl_env.specs.Facts.{addition_at, key_of, operations_among, with_addition};
+ghost use Rattle.idl_env.specs.Turns.{bases_among};
 ghost use Rattle.idl_env.specs.keys.Key.{key_digest, key_eq};
 ghost use Rattle.idl_env.specs.declared.additions.addition.Step.TheVariants.{Stays};
 ghost use Rattle.idl_env.specs.declared.additions.facts.TheConstants.{FEW};
@@ -15,9 +16,10 @@ use crate::additions::digested_addition::{
     DigestedAddition, asked_among, is_digest_among, is_operation_among, place_among,
 };
 use crate::additions::room::Room;
+use crate::answering::count::sum;
 use crate::keys::digested::DigestedKey;
 use crate::keys::lent_key::LentKey;
-use idl_map::{Lent, Marks, Table};
+use idl_map::{Lent, Marks, RareTable};
 use std::alloc::{AllocError, Global};
 use std::marker::Model;
 use std::mem::replace;
@@ -37,7 +39,7 @@ pub struct Facts {
     first: Vec<DigestedAddition>,
     // The marks of the digests of all keys: where a digest's is not among them, no addition is at such a key.
     marks: Marks<1>,
-    others: Table<DigestedKey, DigestedAddition>,
+    others: RareTable<DigestedKey, DigestedAddition>,
     // How many there are of both.
     count: usize,
     step: Step,
@@ -101,7 +103,7 @@ impl Facts {
             alloc,
             first,
             marks: Marks::new(),
-            others: Table::new(alloc),
+            others: RareTable::new(),
             count: 0,
             step: Step::Stays,
         }
@@ -150,7 +152,7 @@ impl Facts {
         }
         let key = addition.key(self.alloc)?;
         let is_new = !self.others.contains(&key);
-        self.others.insert(key, addition)?;
+        self.others.insert(self.alloc, key, addition)?;
         if is_new {
             self.count = count;
         }
@@ -216,6 +218,20 @@ impl Facts {
         self.count
     }
 
+    /// How many bases the additions name. More than memory can hold are want of it.
+    pub(crate) fn bases(&self) -> Result<usize, AllocError>
+        ensures { IfOk result (λ n. n ≡ length (bases_among self.now.additions)) }
+    {
+        let mut bases = 0usize;
+        for index in 0..self.len() {
+            let Some(addition) = self.addition(index) else {
+                continue;
+            };
+            bases = sum(bases, addition.bases().len())?;
+        }
+        Ok(bases)
+    }
+
     /// The addition at a place in their order, or nothing past the last.
     pub fn addition(&self, index: usize) -> Option<&Addition>
         ensures { option_copied result ≡ slice_get self.now.additions index }
@@ -252,6 +268,24 @@ impl Facts {
         }
         self.count = 0;
         Some(replace(&mut self.first, Vec::new(self.alloc)))
+    }
+
+    /// These facts, in no more memory than they need; none are left here.
+    pub(crate) fn taken(&mut self) -> Result<Facts, AllocError>
+        ensures { IfOk result (λ facts. facts ≡ self.old) }
+    {
+        let mut first = Vec::with_capacity(self.alloc, self.first.len())?;
+        first.append(&mut self.first)?;
+        let all = self.count;
+        self.count = 0;
+        Ok(Facts {
+            alloc: self.alloc,
+            first,
+            marks: replace(&mut self.marks, Marks::new()),
+            others: replace(&mut self.others, RareTable::new()),
+            count: all,
+            step: replace(&mut self.step, Step::Stays),
+        })
     }
 
     /// A list without additions, taken out if there is none in it.
@@ -298,7 +332,10 @@ fn push(first: &mut Vec<DigestedAddition>, addition: DigestedAddition) -> Result
 }
 
 // Whether one more goes to the first additions.
-fn has_room(first: &Vec<DigestedAddition>, others: &Table<DigestedKey, DigestedAddition>) -> bool
+fn has_room(
+    first: &Vec<DigestedAddition>,
+    others: &RareTable<DigestedKey, DigestedAddition>,
+) -> bool
     ensures few { IsTrue result → length first.now.items < FEW }
     ensures none { IsTrue result → others.now ≡ [] }
 {
@@ -307,7 +344,7 @@ fn has_room(first: &Vec<DigestedAddition>, others: &Table<DigestedKey, DigestedA
 
 // The addition at a key among those behind the first ones.
 fn behind<'a>(
-    others: &'a Table<DigestedKey, DigestedAddition>,
+    others: &'a RareTable<DigestedKey, DigestedAddition>,
     key: &LentKey<'_>,
 ) -> Result<Option<&'a Addition>, AllocError>
     ensures { IfOk result (λ a. option_copied a ≡ lookup (key_eq key.now) others.now) }
@@ -325,7 +362,7 @@ fn behind<'a>(
 // The one at the key of another among those behind the first ones.
 fn behind_at<'a>(
     alloc: Global,
-    others: &'a Table<DigestedKey, DigestedAddition>,
+    others: &'a RareTable<DigestedKey, DigestedAddition>,
     other: &DigestedAddition,
 ) -> Result<Option<&'a Addition>, AllocError>
     ensures { IfOk result (λ a.

@@ -46,6 +46,19 @@ impl Writes {
     }
 }
 
+impl Writes {
+    /// The same in no more memory than they need. What they had is room for others.
+    pub fn fitted(self, room: &mut Room) -> Result<Writes, AllocError>
+        ensures { IfOk result (λ writes. writes ≡ self) }
+    {
+        let mut wide = self;
+        let facts = wide.inner.taken()?;
+        let fitted = Writes::new(room.alloc, facts)?;
+        room.give(wide);
+        Ok(fitted)
+    }
+}
+
 impl Room {
     /// No room so far. It takes no memory.
     pub fn new(alloc: Global) -> Room {

@@ -13,7 +13,7 @@ use std::alloc::AllocError;
 
 /// An open scope: its path, what it is of, and which of its bodies this is. The one body of the global scope has the number 0,
 /// and those of others are counted from 1.
-#[derive(Clone, PartialEq, Eq, Drop)]
+#[derive(Clone, PartialEq, Eq, PartialOrd, Ord, Drop)]
 pub struct Scope {
     pub path: Path,
     pub kind: Kind,
@@ -21,7 +21,7 @@ pub struct Scope {
 }
 
 /// What an environment answers.
-#[derive(Clone, PartialEq, Eq)]
+#[derive(Clone, PartialEq, Eq, PartialOrd, Ord)]
 pub enum Answer {
     /// These scopes are open, the innermost first and the global one last.
     Open(OpenScopes),

@@ -1,18 +1,22 @@
 //! The scopes that are open.
 
-ghost use Rattle.std.specs.Prelude.{◌≡◌, ◌<◌, ◌∷◌, [], IfOk, IfSome, None, length, slice_get};
+ghost use Rattle.std.specs.Prelude.{◌≡◌, ◌<◌, ◌∷◌, [], IfOk, IfSome, None, Some, length, refl, slice_get};
 ghost use Rattle.std.specs.Option.{option_copied};
-ghost use Rattle.std.specs.Cmp.Lexicographic.{lists_equiv, lists_per, pointwise};
+ghost use Rattle.std.specs.Cmp.{partial_order_from_agreeing_total};
+ghost use Rattle.std.specs.Cmp.Lexicographic.{lists_equiv, lists_per, lists_ties, lists_total, pointwise, slice_cmp};
 ghost use Rattle.idl_base.specs.Exact.{same_list};
 ghost use Rattle.idl_env.specs.answering.Scope.{same_scope, scope_eq};
 ghost use Rattle.idl_env.specs.answering.OpenScopes.{scopes_of};
 ghost use Rattle.idl_env.specs.contracts.answering.answer.ScopeEq.TheImpl.Laws.{laws-law as scope_equiv};
+ghost use Rattle.idl_env.specs.contracts.answering.answer.ScopeOrd.TheImpl.{ghosts as scopes};
+ghost use Rattle.idl_env.specs.contracts.answering.answer.ScopeOrd.TheImpl.Laws.{matches_eq-law as scope_ties, total-law as scope_total};
 ghost use Rattle.idl_env.specs.contracts.answering.answer.ScopePartialEq.TheImpl.Laws.{laws-law as scope_per};
 
 use crate::answering::answer::Scope;
 use crate::answering::count::one_more;
 use idl_base::Datum;
 use std::alloc::{AllocError, Global};
+use std::cmp::Ordering;
 use std::marker::Model;
 use std::rc::Rc;
 
@@ -189,6 +193,50 @@ impl PartialEq for OpenScopes {
 
 impl Eq for OpenScopes {
     ghost laws = { lists_equiv scope_equiv };
+}
+
+impl PartialOrd for OpenScopes {
+    ghost partial_cmp = { λ x y. Some (slice_cmp scopes.cmp x y) };
+
+    ghost laws = { partial_order_from_agreeing_total (slice_cmp scopes.cmp) (lists_total scope_total) (λ x y. refl) (lists_ties scopes.cmp scope_ties) };
+
+    fn partial_cmp(&self, other: &OpenScopes) -> Option<Ordering> {
+        Some(self.cmp(other))
+    }
+}
+
+impl Ord for OpenScopes {
+    ghost cmp = { slice_cmp scopes.cmp };
+
+    ghost total = { lists_total scope_total };
+
+    ghost matches_partial_cmp = { λ x y. refl };
+
+    ghost matches_eq = { lists_ties scopes.cmp scope_ties };
+
+    #[tactic(auto, using(crate::proofs::OrderLemmas::tied_first, crate::proofs::OrderLemmas::other_first))]
+    fn cmp(&self, other: &OpenScopes) -> Ordering
+        ensures { result ≡ slice_cmp scopes.cmp self.now other.now }
+    {
+        let mut mine = self;
+        let mut theirs = other;
+        'scopes: while let Some((scope, outer)) = mine.split_first() {
+            let Some((beside, others)) = theirs.split_first() else {
+                return Ordering::Greater;
+            };
+            let order = scope.cmp(beside);
+            if order != Ordering::Equal {
+                return order;
+            }
+            mine = outer;
+            theirs = others;
+        }
+        if theirs.len() == 0 {
+            Ordering::Equal
+        } else {
+            Ordering::Less
+        }
+    }
 }
 
 impl Datum for OpenScopes {

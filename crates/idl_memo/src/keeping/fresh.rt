@@ -1,41 +1,82 @@
 //! The laws of fresh tasks.
 
-ghost use Rattle.std.specs.Prelude.{◌≡◌, ◌↔◌, ◌≤◌, ◌++◌, ◌∷◌, [], List, Option, All, Contains, true};
+ghost use Rattle.std.specs.Prelude.{◌≡◌, ◌↔◌, ◌+◌, ◌≤◌, ◌++◌, ◌∷◌, [], List, Option, All, Contains, length, true};
 ghost use Rattle.std.specs.List.{IsDistinct};
 ghost use Rattle.std.specs.Option.{option_eq};
-ghost use Rattle.idl_memo.specs.Fresh.{alike_among, asked_among, compared_among, fresh_among, is_alike, stale_among};
-ghost use Rattle.idl_memo.specs.Query.{Agree, asked};
+ghost use Rattle.idl_memo.specs.Fresh.{AreAmong, Place, asked_among, compared_among, fresh_among, fresh_at, is_alike, log_at, places_over, stale_among};
 
 use crate::bank::Bank;
 use crate::task::Task;
 
-/// How many tasks are fresh, where no two places of a project have one text.
+/// How many places are fresh against others.
 ///
-/// A task is alike at a place if it has the text of the task there and each key that it asked has there the answer that it
-/// had. With the same places, those tasks are fresh that aren't alike at their own. Over the same bank a place more is
-/// fresh, and a place less makes none so. What is compared over an edit is at least what the alike ones asked, at most
-/// what all asked, and over the same bank it is that.
+/// Alike are places of one text and one log, so that "alike" is an equality: the count is that of the classes that the new
+/// places have and the known ones have not. It is a sum over parts; it depends on the classes of the known places, and on
+/// those of the new ones; and places that are known may be left out.
 pub fn freshness<B: Bank, T: Task<B>>()
-    ensures alike { (old new : B.Key → Option B.Answer) (here task : T.Text)
-        → (is_alike T.Text.eq (option_eq B.Answer.eq) T.query old new here task ≡ true
-        ↔ (here ≡ task) × Agree (asked (T.query task) old) old new) }
+    ensures class { (here task : Place B.Key (Option B.Answer) T.Text)
+        → (is_alike T.Text.eq (option_eq B.Answer.eq) T.query here task ≡ true
+        ↔ (here.0 ≡ task.0)
+        × (log_at B.Key.eq T.query here ≡ log_at B.Key.eq T.query task)) }
+    ensures none { (known : List (Place B.Key (Option B.Answer) T.Text))
+        → fresh_among T.Text.eq (option_eq B.Answer.eq) T.query known [] ≡ 0 }
+    ensures one { (known : List (Place B.Key (Option B.Answer) T.Text))
+        (here : Place B.Key (Option B.Answer) T.Text)
+        → fresh_among T.Text.eq (option_eq B.Answer.eq) T.query known (here ∷ [])
+        ≡ fresh_at T.Text.eq (option_eq B.Answer.eq) T.query known here }
+    ensures split { (old a b : List (Place B.Key (Option B.Answer) T.Text))
+        → fresh_among T.Text.eq (option_eq B.Answer.eq) T.query old (a ++ b)
+        ≡ fresh_among T.Text.eq (option_eq B.Answer.eq) T.query old a
+        + fresh_among T.Text.eq (option_eq B.Answer.eq) T.query (old ++ a) b }
+    ensures known { (a b new : List (Place B.Key (Option B.Answer) T.Text))
+        → AreAmong T.Text.eq (option_eq B.Answer.eq) T.query a b
+        → AreAmong T.Text.eq (option_eq B.Answer.eq) T.query b a
+        → fresh_among T.Text.eq (option_eq B.Answer.eq) T.query a new
+        ≡ fresh_among T.Text.eq (option_eq B.Answer.eq) T.query b new }
+    ensures classes { (old a b : List (Place B.Key (Option B.Answer) T.Text))
+        → AreAmong T.Text.eq (option_eq B.Answer.eq) T.query a (old ++ b)
+        → AreAmong T.Text.eq (option_eq B.Answer.eq) T.query b (old ++ a)
+        → fresh_among T.Text.eq (option_eq B.Answer.eq) T.query old a
+        ≡ fresh_among T.Text.eq (option_eq B.Answer.eq) T.query old b }
+    ensures fewer { (old a b : List (Place B.Key (Option B.Answer) T.Text))
+        → AreAmong T.Text.eq (option_eq B.Answer.eq) T.query a (old ++ b)
+        → fresh_among T.Text.eq (option_eq B.Answer.eq) T.query old a
+        ≤ fresh_among T.Text.eq (option_eq B.Answer.eq) T.query old b }
+    ensures most { (old new : List (Place B.Key (Option B.Answer) T.Text))
+        → fresh_among T.Text.eq (option_eq B.Answer.eq) T.query old new ≤ length new }
+    ensures aside { (old front stay rest : List (Place B.Key (Option B.Answer) T.Text))
+        → AreAmong T.Text.eq (option_eq B.Answer.eq) T.query stay old
+        → fresh_among T.Text.eq (option_eq B.Answer.eq) T.query old (front ++ (stay ++ rest))
+        ≡ fresh_among T.Text.eq (option_eq B.Answer.eq) T.query old (front ++ rest) }
+    ensures turned { (old a b : List (Place B.Key (Option B.Answer) T.Text))
+        → fresh_among T.Text.eq (option_eq B.Answer.eq) T.query old (a ++ b)
+        ≡ fresh_among T.Text.eq (option_eq B.Answer.eq) T.query old (b ++ a) }
+    ensures gone { (old stay : List (Place B.Key (Option B.Answer) T.Text))
+        → AreAmong T.Text.eq (option_eq B.Answer.eq) T.query stay old
+        → fresh_among T.Text.eq (option_eq B.Answer.eq) T.query old stay ≡ 0 }
+    ensures there { (these those : List (Place B.Key (Option B.Answer) T.Text))
+        → All (Contains those) these
+        → AreAmong T.Text.eq (option_eq B.Answer.eq) T.query these those }
+{}
+
+/// How many tasks are fresh in a project with one bank for all, where no two places have one text.
+///
+/// With the same places, those tasks are fresh that aren't alike at their own. Over the same bank a place more is fresh,
+/// a place less makes none so, and what is compared is all that was asked.
+pub fn one_bank<B: Bank, T: Task<B>>()
     ensures same_places { (old new : B.Key → Option B.Answer) (places : List T.Text)
         → IsDistinct T.Text.eq places
-        → fresh_among T.Text.eq (option_eq B.Answer.eq) T.query old places new places
+        → fresh_among T.Text.eq (option_eq B.Answer.eq) T.query (places_over old places)
+        (places_over new places)
         ≡ stale_among T.Text.eq (option_eq B.Answer.eq) T.query old new places }
     ensures one_more { (bank : B.Key → Option B.Answer) (places : List T.Text) (here : T.Text)
         → IsDistinct T.Text.eq (places ++ here ∷ [])
-        → fresh_among T.Text.eq (option_eq B.Answer.eq) T.query bank places bank
-        (places ++ here ∷ []) ≡ 1 }
+        → fresh_among T.Text.eq (option_eq B.Answer.eq) T.query (places_over bank places)
+        (places_over bank (places ++ here ∷ [])) ≡ 1 }
     ensures fewer { (bank : B.Key → Option B.Answer) (tasks places : List T.Text)
-        → IsDistinct T.Text.eq places → All (Contains tasks) places
-        → fresh_among T.Text.eq (option_eq B.Answer.eq) T.query bank tasks bank places ≡ 0 }
-    ensures least { (old new : B.Key → Option B.Answer) (places : List T.Text)
-        → alike_among T.Text.eq (option_eq B.Answer.eq) T.query B.Key.eq old new places
-        ≤ compared_among T.Text.eq (option_eq B.Answer.eq) T.query B.Key.eq old new places }
-    ensures most { (old new : B.Key → Option B.Answer) (places : List T.Text)
-        → compared_among T.Text.eq (option_eq B.Answer.eq) T.query B.Key.eq old new places
-        ≤ asked_among T.Text.eq (option_eq B.Answer.eq) T.query B.Key.eq old places }
+        → All (Contains tasks) places
+        → fresh_among T.Text.eq (option_eq B.Answer.eq) T.query (places_over bank tasks)
+        (places_over bank places) ≡ 0 }
     ensures stay { (bank : B.Key → Option B.Answer) (places : List T.Text)
         → compared_among T.Text.eq (option_eq B.Answer.eq) T.query B.Key.eq bank bank places
         ≡ asked_among T.Text.eq (option_eq B.Answer.eq) T.query B.Key.eq bank places }

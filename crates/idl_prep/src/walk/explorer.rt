@@ -293,8 +293,8 @@ fn ask<'b, B: RootBank>(
     let alloc = root.allocator();
     let mut progress = Progress::new(alloc, Log::new(alloc));
     let found = find(site.file, operand, site.bank, &mut progress)?;
-    let (_events, log) = progress.into_parts();
-    let absent = absent(alloc, &log)?;
+    let (_events, mut log) = progress.into_parts();
+    let absent = absent(alloc, &log.kept::<B>(alloc)?)?;
     Ok(Asked { absent, found })
 }
 

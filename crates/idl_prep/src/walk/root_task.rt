@@ -17,7 +17,7 @@ use crate::walk::root::Root;
 use crate::walk::walked_file::WalkedFile;
 use idl_event::{Expansion, RootBank, RootKey};
 use idl_fault::{Code, FileName, Place};
-use idl_memo::{Log, Task, TaskKind};
+use idl_memo::{KeptLog, Log, Task, TaskKind};
 use idl_source::Name;
 use std::alloc::{AllocError, Global};
 use std::mem::replace;
@@ -46,6 +46,8 @@ impl<B: RootBank> Task<B> for RootTask {
 
     type Out = Expansion;
 
+    type Scratch = ();
+
     const KIND: TaskKind = TaskKind::Expand;
 
     ghost KIND = { Expand };
@@ -54,11 +56,23 @@ impl<B: RootBank> Task<B> for RootTask {
 
     ghost query = { expansion };
 
+    ghost hint_of = { λ _ _. 0 };
+
     fn text(&self) -> &Name {
         &self.name
     }
 
-    fn run(&self, alloc: Global, bank: &B, log: &mut Log<B>) -> Result<Expansion, AllocError> {
+    fn hint(&self, _bank: &B) -> u64 {
+        0
+    }
+
+    fn run(
+        &self,
+        alloc: Global,
+        bank: &B,
+        _scratch: &mut (),
+        log: &mut Log<B>,
+    ) -> Result<Expansion, AllocError> {
         let file = FileName::new(alloc, &self.name)?;
         let before = replace(log, Log::new(alloc));
         let mut root = Root::new(alloc, before);
@@ -103,7 +117,7 @@ fn fault_absent<B: RootBank>(root: &mut Root<B>, file: &FileName) -> Result<(), 
 }
 
 /// The files that a root asked for and that aren't there, in the order in which they were first asked.
-pub fn absent<B: RootBank>(alloc: Global, log: &Log<B>) -> Result<Vec<Name>, AllocError>
+pub fn absent<B: RootBank>(alloc: Global, log: &KeptLog<B>) -> Result<Vec<Name>, AllocError>
     ensures { IfOk result (λ names. names.items ≡ absent_files log.now) }
 {
     let mut names = Vec::new(alloc);
@@ -117,7 +131,7 @@ pub fn absent<B: RootBank>(alloc: Global, log: &Log<B>) -> Result<Vec<Name>, All
 }
 
 // The file of an entry that isn't there, if the entry is of one.
-fn absent_at<B: RootBank>(log: &Log<B>, index: usize) -> Option<&FileName>
+fn absent_at<B: RootBank>(log: &KeptLog<B>, index: usize) -> Option<&FileName>
     ensures { option_to_list (option_copied result)
         ≡ flat_map spec.absent_file (option_to_list (slice_get log.now index)) }
 {

@@ -1,21 +1,29 @@
 //! The compilation of a root.
 
-ghost use Rattle.std.specs.Prelude.{◌≡◌, ◌++◌, [], IfOk, IfSome, OnOk};
-ghost use Rattle.idl_root.specs.Compile.{compile, rows_beside, open_finding, told};
-ghost use Rattle.idl_root.specs.Followed.{IsKeeping};
-ghost use Rattle.idl_root.specs.Held.{held};
+ghost use Rattle.std.specs.Prelude.{◌≡◌, ◌++◌, IfOk, List, OnOk, map};
+ghost use Rattle.idl_event.specs.declared.told.event.Event.{Event};
+ghost use Rattle.idl_store.specs.Stored.{results_in};
+ghost use Rattle.idl_root.specs.Compile.{compile, open_finding, rows_beside};
+ghost use Rattle.idl_root.specs.Held.{told_of};
+ghost use Rattle.idl_root.specs.Places.{declarations_of, entries_of};
+ghost use Rattle.idl_root.specs.Results.{ChecksAndPrintsOnly, IsDeclarationPass, IsEntryPass, IsKeptOf, declaration_result, entry_result, list_at, marks_of, with_draft};
+ghost use Rattle.idl_unit.specs.Units.{units_of};
 
 use crate::compiling::finding::{
     Finding, event_findings, has_error, in_order, push_numbered, rows_of,
 };
 use crate::compiling::judging::{Ended, Judging};
 use crate::compiling::memory::Memory;
-use crate::compiling::printing::Printed;
+use crate::compiling::printing::{Printed, print_all};
+use crate::kept::course::Course;
+use crate::kept::keeper::Keeper;
 use crate::kept::keeping::Keeping;
-use crate::kept::kept_units::KeptUnits;
+use crate::kept::marks::Marks;
+use crate::kept::printing::Printing;
 use idl_base::{Bytes, Seq};
 use idl_event::Expansion;
 use idl_fault::{Code, Place};
+use idl_memo::Meter;
 use idl_unit::split;
 use std::alloc::{AllocError, Global};
 
@@ -45,18 +53,29 @@ impl Drop for Compiled {
     }
 }
 
-/// What compiling a root gives, and what is kept of its units.
+/// A root that is compiled, whose results are kept: its place among all roots, its last line, what it expands to, and what its
+/// units were when it was compiled last.
+#[derive(Clone, Copy)]
+pub struct KeptSource<'a> {
+    pub at: usize,
+    pub end: &'a Place,
+    pub expansion: &'a Expansion,
+    pub marks: &'a Marks,
+}
+
+/// What compiling a root gives, and what its units are.
 #[derive(Drop)]
 pub struct Recompiled {
     pub compiled: Compiled,
-    pub units: KeptUnits,
+    pub marks: Marks,
 }
 
-/// Compiles what a root expands to, where its last line is this place.
+/// Compiles what a root expands to, where its last line is this place. Nothing is kept.
 ///
 /// The diagnostics stand in the order of the events that they name: a fault of the preprocessor has one, and so has a unit
 /// with a fault, at the token where it is decided. Behind them stands E23 where a scope is open at the end, and then what is
 /// declared ahead and never defined, in the order of the listing.
+#[tactic(auto, unfolding(crate::specs::Compile::compile))]
 pub fn compile(
     memory: &mut Memory,
     end: &Place,
@@ -64,104 +83,108 @@ pub fn compile(
 ) -> Result<Compiled, AllocError>
     ensures { IfOk result (λ compiled. compiled ≡ compile end.now expansion.now) }
 {
-    let (compiled, _kept) = compile_with(memory, end, expansion, None)?;
-    Ok(compiled)
-}
-
-/// The same, and what is kept of the root's units, for the next time. Of what was kept the last time that is taken over whose
-/// keys are answered as they were.
-pub fn compile_after(
-    memory: &mut Memory,
-    end: &Place,
-    expansion: &Expansion,
-    earlier: &KeptUnits,
-) -> Result<Recompiled, AllocError>
-    ensures { IfOk result (λ root. root.compiled ≡ compile end.now expansion.now) }
-{
-    let (compiled, kept) = compile_with(memory, end, expansion, Some(earlier))?;
-    let units = match kept {
-        Some(units) => units,
-        None => KeptUnits::none(memory.alloc()),
-    };
-    Ok(Recompiled { compiled, units })
-}
-
-// The same, where something is kept if something was.
-#[tactic(auto, unfolding(crate::specs::Compile::compile))]
-fn compile_with(
-    memory: &mut Memory,
-    end: &Place,
-    expansion: &Expansion,
-    earlier: Option<&KeptUnits>,
-) -> Result<(Compiled, Option<KeptUnits>), AllocError>
-    ensures { IfOk result (λ root. root.0 ≡ compile end.now expansion.now) }
-{
     memory.clear();
     let alloc = memory.alloc();
     let units = split(alloc, expansion)?;
     let findings = event_findings(alloc, expansion)?;
-    let count = units.as_slice().len();
-    let keeping = keeping(alloc, earlier, count.saturating_sub(1))?;
-    let first = Judging::new(alloc, findings, count, keeping)?;
+    let first = Judging::new(alloc, findings, units.as_slice().len())?;
     let judging = first.with_all(alloc, units.as_slice())?;
-    Ok(told(memory, end, expansion, judging)?)
+    let printed = print_all(alloc, &judging.env, judging.gathered.listed.as_slice())?;
+    told(alloc, end, expansion, judging.ended(memory, printed))
 }
 
-// Before the first of so many units, where this was kept, if anything is kept.
-fn keeping<'k>(
-    alloc: Global,
-    earlier: Option<&'k KeptUnits>,
-    count: usize,
-) -> Result<Option<Keeping<'k>>, AllocError>
-    ensures { IfOk result (λ found. IfSome found (λ keeping. IsKeeping keeping [])) }
+/// The same, where the results of the declarations and the entries are kept: those that hold are taken again, and what is made of
+/// the root waits to be put in place.
+///
+/// After want of memory nothing is said of the meter, and there may be drafts more.
+#[tactic(auto, unfolding(crate::specs::Compile::compile))]
+pub fn compile_kept(
+    keeper: &mut Keeper,
+    root: KeptSource<'_>,
+    meter: &mut Meter,
+) -> Result<Recompiled, AllocError>
+    requires { (events : List Event) × IsKeptOf events root.marks.now
+        (list_at keeper.old.declarations.lists root.at) (list_at keeper.old.entries.lists root.at) }
+    ensures compiled { IfOk result (λ r.
+        r.compiled ≡ compile root.entry.end.now root.entry.expansion.now) }
+    ensures marks { IfOk result (λ r. r.marks ≡ marks_of (units_of root.entry.expansion.now)) }
+    ensures declarations { let places = declarations_of root.entry.expansion.now in
+        OnOk result (keeper.new.declarations
+        ≡ with_draft keeper.old.declarations root.entry.at (map declaration_result places)) }
+    ensures entries { let places = entries_of root.entry.expansion.now in
+        OnOk result (keeper.new.entries
+        ≡ with_draft keeper.old.entries root.entry.at (map entry_result places)) }
+    ensures declaration_lists { keeper.new.declarations.lists ≡ keeper.old.declarations.lists }
+    ensures entry_lists { keeper.new.entries.lists ≡ keeper.old.entries.lists }
+    ensures checked { OnOk result (IsDeclarationPass (declarations_of root.entry.expansion.now)
+        (results_in keeper.old.declarations) (results_in keeper.new.declarations)
+        meter.old.checked meter.new.checked) }
+    ensures printed { OnOk result (IsEntryPass (entries_of root.entry.expansion.now)
+        (results_in keeper.old.entries) (results_in keeper.new.entries)
+        meter.old.printed meter.new.printed) }
+    ensures others { OnOk result (ChecksAndPrintsOnly meter.old meter.new) }
 {
-    match earlier {
-        Some(earlier) => Ok(Some(Keeping::new(alloc, earlier, count)?)),
-        None => Ok(None),
-    }
+    keeper.memory.clear();
+    let alloc = keeper.alloc();
+    let units = split(alloc, root.expansion)?;
+    let count = units.as_slice().len().saturating_sub(1);
+    let findings = event_findings(alloc, root.expansion)?;
+    let first = Judging::new(alloc, findings, count)?;
+    let earlier = Course::new(root.at, root.marks);
+    let mut keeping = Keeping::new(alloc, earlier, count, *meter)?;
+    keeper.declarations.begin(root.at)?;
+    let judging = first.with_all_kept(&mut keeping, &mut keeper.declarations, units.as_slice())?;
+    keeper.entries.begin(root.at)?;
+    let counted = keeping.meter;
+    let before = keeper.entries.results(root.at);
+    let (marks, reprinting) = keeping.ended(before, judging.gathered.listed.len());
+    let mut printing = Printing::new(alloc, reprinting, counted);
+    let listed = judging.gathered.listed.as_slice();
+    let printed = printing.printed(&mut keeper.entries, &judging.env, listed)?;
+    *meter = printing.meter;
+    let ended = judging.ended(&mut keeper.memory, printed);
+    let compiled = told(alloc, root.end, root.expansion, ended)?;
+    Ok(Recompiled { compiled, marks })
 }
 
-// The rows of a root whose units are all judged, and what is kept of it.
+// The rows of a root whose units and names are all done.
 fn told(
-    memory: &mut Memory,
+    alloc: Global,
     end: &Place,
     expansion: &Expansion,
-    judging: Judging,
-) -> Result<(Compiled, Option<KeptUnits>), AllocError>
-    requires { IfSome judging.gathered.keeping (λ k. IsKeeping k judging.env) }
-    ensures { IfOk result (λ root. root.0 ≡ told end.now expansion.now (held judging.entry)) }
+    ended: Ended,
+) -> Result<Compiled, AllocError>
+    ensures { IfOk result (λ compiled. compiled ≡ told_of end.now expansion.now ended) }
 {
-    let alloc = memory.alloc();
-    let is_open = judging.is_open();
-    let Printed {
-        findings: closing,
-        rows: listing,
-        entries,
-    } = judging.printed(alloc)?;
     let Ended {
         findings: found,
         rows,
-        kept,
-    } = judging.ended(memory, entries);
+        is_open,
+        printed,
+    } = ended;
+    let Printed {
+        findings: closing,
+        rows: listing,
+    } = printed;
     let mut findings = Vec::new(alloc);
     push_numbered(alloc, &mut findings, expansion, &in_order(found)?)?;
     push_open(&mut findings, end, is_open)?;
     push_numbered(alloc, &mut findings, expansion, &closing)?;
     let is_faulty = has_error(&findings);
     let diagnostics = rows_of(alloc, &findings)?;
-    let compiled = Compiled {
+    Ok(Compiled {
         findings: Seq::from_vec(findings),
         diagnostics: Seq::from_vec(diagnostics),
         listing: rows_beside(alloc, is_faulty, listing),
         dump: rows_beside(alloc, is_faulty, rows),
         is_faulty,
-    };
-    Ok((compiled, kept))
+    })
 }
 
 // Puts in that a scope is open at the end, if one is.
 fn push_open(findings: &mut Vec<Finding>, end: &Place, is_open: bool) -> Result<(), AllocError>
-    ensures { OnOk result (findings.new.items ≡ findings.old.items ++ open_finding end.now is_open) }
+    ensures { OnOk result
+        (findings.new.items ≡ findings.old.items ++ open_finding end.now is_open) }
 {
     if is_open {
         findings.push(Finding {

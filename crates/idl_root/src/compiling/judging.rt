@@ -1,26 +1,28 @@
 //! The verdicts of a root's units.
 
-ghost use Rattle.std.specs.Prelude.{◌≡◌, ◌++◌, ◌∷◌, [], All, IfOk, IfSome, List, OnOk, flat_map, option_to_list};
+ghost use Rattle.std.specs.Prelude.{◌≡◌, ◌++◌, ◌∷◌, [], IfOk, List, OnOk, flat_map, map, option_to_list};
+ghost use Rattle.idl_env.specs.Facts.{UnitFacts};
+ghost use Rattle.idl_store.specs.Stored.{grown, results_in};
 ghost use Rattle.idl_root.specs.Added.{told_by};
 ghost use Rattle.idl_root.specs.Compile.{is_open};
-ghost use Rattle.idl_root.specs.Followed.{IsKeeping};
-ghost use Rattle.idl_root.specs.Kept.{IsBoundary, IsPrinted, added_by};
+ghost use Rattle.idl_root.specs.Followed.{IsBoundary, IsJudgedAt, IsKeeping, added_by};
+ghost use Rattle.idl_root.specs.Held.{IsEnded, held, to_come, with_gathered, with_judged, with_units};
+ghost use Rattle.idl_root.specs.Judged.{added, boundary, judged_at, verdict_over};
+ghost use Rattle.idl_root.specs.Places.{declaration_at, declarations_after};
 ghost use Rattle.idl_root.specs.Printed.{closing_finding, entry_row};
-ghost use Rattle.idl_root.specs.Held.{held, to_come, with_gathered, with_judged, with_units};
-ghost use Rattle.idl_root.specs.Judged.{added, boundary, judged_at, judged_over, verdict_over};
-ghost use Rattle.idl_env.specs.Facts.{UnitFacts};
+ghost use Rattle.idl_root.specs.Results.{ChecksOnly, DeclarationResult, HasDraft, IsDeclarationPass, declaration_result, mark_at, marks_of};
 
 use crate::compiling::compiled::Row;
 use crate::compiling::finding::{EventFinding, Spelled, push_fault};
 use crate::compiling::memory::Memory;
-use crate::compiling::printing::{Listed, Printed, print_all, print_kept, push_listed};
+use crate::compiling::printing::{Listed, Printed, push_listed};
 use crate::kept::added::Added;
+use crate::kept::keeper::Declarations;
 use crate::kept::keeping::Keeping;
-use crate::kept::kept_units::{KeptEntry, KeptUnit, KeptUnits};
-use idl_base::Shared;
-use idl_check::{Scratch, Verdict, verdict_of};
+use crate::kept::marks::Mark;
+use idl_check::{DeclarationTask, Scratch, Verdict, verdict_of};
 use idl_env::{DigestedKey, Env, Facts, OpenScopes, Step, Writes, scopes_in};
-use idl_memo::{Bank, Journal};
+use idl_memo::{Bank, Journal, passing};
 use idl_unit::{Unit, UnitText};
 use std::alloc::{AllocError, Global};
 
@@ -37,18 +39,16 @@ pub struct Gathered<'a> {
     pub rows: Vec<Row>,
     /// The names that have an id, in the order in which they were declared first.
     pub listed: Vec<Listed<'a>>,
-    /// What is kept of the units, if anything is.
-    pub keeping: Option<Keeping<'a>>,
-    /// In which verdicts are made.
-    pub scratch: Scratch,
 }
 
-/// What came of all units.
+/// What came of all units and names.
 #[derive(Drop)]
 pub struct Ended {
     pub findings: Vec<EventFinding>,
     pub rows: Vec<Row>,
-    pub kept: Option<KeptUnits>,
+    /// Whether a scope beside the global one is open.
+    pub is_open: bool,
+    pub printed: Printed,
 }
 
 impl<'a> Drop for Judging<'a> {
@@ -66,8 +66,6 @@ impl<'a> Drop for Gathered<'a> {
             findings: _findings,
             rows: _rows,
             listed: _listed,
-            keeping: _keeping,
-            scratch: _scratch,
         } = self;
     }
 }
@@ -78,12 +76,10 @@ impl<'a> Judging<'a> {
         alloc: Global,
         findings: Vec<EventFinding>,
         count: usize,
-        keeping: Option<Keeping<'a>>,
     ) -> Result<Judging<'a>, AllocError>
-        ensures held { IfOk result (λ judging.
+        ensures { IfOk result (λ judging.
             held judging
             ≡ record { facts = []; found = findings.items; rows = []; listed = [] }) }
-        ensures keeping { IfOk result (λ judging. judging.gathered.keeping ≡ keeping.entry) }
     {
         let rows = Vec::with_capacity(alloc, count)?;
         let listed = Vec::with_capacity(alloc, count)?;
@@ -94,161 +90,152 @@ impl<'a> Judging<'a> {
                 findings,
                 rows,
                 listed,
-                keeping,
-                scratch: Scratch::new(alloc),
             },
         })
     }
 
-    /// After these units.
+    /// After these units, of which nothing is kept.
     pub fn with_all(self, alloc: Global, units: &'a [Unit]) -> Result<Judging<'a>, AllocError>
-        requires { IfSome self.gathered.keeping (λ k. IsKeeping k self.env) }
-        ensures held { IfOk result (λ judging. held judging ≡ to_come (held self.entry) units.now) }
-        ensures kept { IfOk result (λ judging.
-            IfSome judging.gathered.keeping (λ k. IsKeeping k judging.env)) }
+        ensures { IfOk result (λ judging. held judging ≡ to_come (held self.entry) units.now) }
     {
         let Judging {
             mut env,
             mut gathered,
         } = self;
+        let mut scratch = Scratch::new(alloc);
         for unit in units {
-            let added = gathered.add(alloc, &env, unit)?;
-            env = added.behind(env, &mut gathered.scratch.room)?;
+            let added = gathered.add(alloc, &mut scratch, &env, unit)?;
+            env = added.behind(env, &mut scratch.room)?;
         }
         Ok(Judging { env, gathered })
     }
 
-    /// Whether a scope beside the global one is open.
-    pub fn is_open(&self) -> bool
-        ensures { result ≡ is_open self.now.env }
+    /// After these units, whose results are kept.
+    pub fn with_all_kept(
+        self,
+        keeping: &mut Keeping<'_>,
+        kept: &mut Declarations,
+        units: &'a [Unit],
+    ) -> Result<Judging<'a>, AllocError>
+        requires { IsKeeping kept.old.lists keeping.old self.env }
+        ensures held { IfOk result (λ judging. held judging ≡ to_come (held self.entry) units.now) }
+        ensures kept { let places = declarations_after self.entry.env units.now in
+            OnOk result (kept.new ≡ grown kept.old (map declaration_result places)) }
+        ensures lists { kept.new.lists ≡ kept.old.lists }
+        ensures marks { OnOk result (keeping.new.marks ≡ keeping.old.marks ++ marks_of units.now) }
+        ensures keeping { IfOk result (λ judging.
+            IsKeeping kept.new.lists keeping.new judging.env) }
+        ensures earlier { keeping.new.earlier ≡ keeping.old.earlier }
+        ensures counts { let places = declarations_after self.entry.env units.now in
+            OnOk result (HasDraft kept.old → IsDeclarationPass places (results_in kept.old)
+            (results_in kept.new) keeping.old.meter.checked keeping.new.meter.checked) }
+        ensures others { OnOk result (ChecksOnly keeping.old.meter keeping.new.meter) }
     {
-        let none = OpenScopes::none();
-        scopes_in(self.env.answer(&DigestedKey::cursor()), &none).len() > 1
-    }
-
-    /// What comes of the names that have an id, over all that was added.
-    pub fn printed(&self, alloc: Global) -> Result<Printed, AllocError>
-        requires { IfSome self.now.gathered.keeping (λ k. IsKeeping k self.now.env) }
-        ensures findings { IfOk result (λ printed. printed.findings.items
-            ≡ flat_map (closing_finding self.now.env) (held self.now).listed) }
-        ensures rows { IfOk result (λ printed. printed.rows.items
-            ≡ flat_map (entry_row self.now.env) (held self.now).listed) }
-        ensures entries { IfOk result (λ printed.
-            All (IsPrinted self.now.env) printed.entries.items) }
-    {
-        let listed = self.gathered.listed.as_slice();
-        match &self.gathered.keeping {
-            Some(keeping) => {
-                let earlier = keeping.reprinting(listed.len());
-                print_kept(alloc, &self.env, listed, earlier)
-            }
-            None => print_all(alloc, &self.env, listed),
+        passing::<Env, DeclarationTask>();
+        let Judging {
+            mut env,
+            mut gathered,
+        } = self;
+        for unit in units {
+            let added = gathered.add_kept(keeping, kept, &env, unit)?;
+            env = added.behind(env, &mut keeping.scratch.room)?;
         }
+        Ok(Judging { env, gathered })
     }
 
-    /// What was found, the rows of the dump, and what is kept, with these entries. Its environment is held for now.
-    pub fn ended(self, memory: &mut Memory, entries: Vec<Shared<KeptEntry>>) -> Ended
-        requires keeping { IfSome self.gathered.keeping (λ k. IsKeeping k self.env) }
-        requires entries { All (IsPrinted self.env) entries.items }
-        ensures found { result.findings ≡ self.entry.gathered.findings }
-        ensures rows { result.rows ≡ self.entry.gathered.rows }
+    /// What came of all units, and of their names. Its environment is held for now.
+    pub fn ended(self, memory: &mut Memory, printed: Printed) -> Ended
+        requires findings { printed.findings.items
+            ≡ flat_map (closing_finding self.env) (held self).listed }
+        requires rows { printed.rows.items ≡ flat_map (entry_row self.env) (held self).listed }
+        ensures { IsEnded result (held self.entry) }
     {
         let Judging { env, gathered } = self;
+        let is_open = is_open(&env);
         memory.hold(env);
-        gathered.ended(entries)
+        gathered.ended(is_open, printed)
     }
 }
 
 impl<'a> Gathered<'a> {
-    // What was found, the rows, and what is kept.
-    fn ended(self, entries: Vec<Shared<KeptEntry>>) -> Ended
-        requires { (facts : List UnitFacts)
-            × (IfSome self.keeping (λ k. IsKeeping k facts)
-            × All (IsPrinted facts) entries.items) }
+    // What came of all units, with that of their names.
+    fn ended(self, is_open: bool, printed: Printed) -> Ended
         ensures found { result.findings ≡ self.entry.findings }
         ensures rows { result.rows ≡ self.entry.rows }
+        ensures scopes { result.is_open ≡ is_open }
+        ensures printed { result.printed ≡ printed }
     {
         let Gathered {
             findings,
             rows,
             listed: _listed,
-            keeping,
-            scratch: _scratch,
         } = self;
-        let kept = match keeping {
-            Some(keeping) => Some(keeping.ended(entries)),
-            None => None,
-        };
         Ended {
             findings,
             rows,
-            kept,
+            is_open,
+            printed,
         }
     }
 
     // Puts in what comes of one unit more over these facts; what it adds to them.
-    fn add(&mut self, alloc: Global, env: &Env, unit: &'a Unit) -> Result<Added, AllocError>
-        requires { IfSome self.old.keeping (λ k. IsKeeping k env.now) }
+    fn add(
+        &mut self,
+        alloc: Global,
+        scratch: &mut Scratch,
+        env: &Env,
+        unit: &'a Unit,
+    ) -> Result<Added, AllocError>
         ensures added { IfOk result (λ a. told_by a ≡ added env.now unit.now) }
         ensures gathered { OnOk result ((facts : List UnitFacts)
             → with_gathered facts self.new
             ≡ with_units (with_gathered facts self.old) (judged_at env.now unit.now)) }
-        ensures kept { IfOk result (λ a.
-            IfSome self.new.keeping (λ k. IsKeeping k (env.now ++ told_by a))) }
     {
         match unit {
             Unit::Spelled(text, sites) => {
-                let unit = Spelled { text, sites };
-                self.add_spelled(alloc, env, unit)
+                let verdict = verdict_over(scratch, env, text)?;
+                self.add_verdict(alloc, Spelled { text, sites }, &verdict)?;
+                Ok(Added::Given(verdict.into_writes()))
             }
-            Unit::Entered(_file) => Ok(self.cross(alloc, env, KeptUnit::Entered)?),
-            Unit::Left(_file) => Ok(self.cross(alloc, env, KeptUnit::Left)?),
+            Unit::Entered(_file) => Ok(Added::Given(boundary(alloc, Mark::Entered)?)),
+            Unit::Left(_file) => Ok(Added::Given(boundary(alloc, Mark::Left)?)),
             Unit::End => Ok(Added::Nothing),
         }
     }
 
-    // The same of a unit with tokens.
-    fn add_spelled(
+    // The same, where its result is kept.
+    fn add_kept(
         &mut self,
-        alloc: Global,
+        keeping: &mut Keeping<'_>,
+        kept: &mut Declarations,
         env: &Env,
-        unit: Spelled<'a>,
+        unit: &'a Unit,
     ) -> Result<Added, AllocError>
-        requires { IfSome self.old.keeping (λ k. IsKeeping k env.now) }
-        ensures added { IfOk result (λ a.
-            told_by a ≡ (verdict_over env.now unit.entry.text.now).writes ∷ []) }
+        requires { IsKeeping kept.old.lists keeping.old env.now }
+        ensures added { IfOk result (λ a. told_by a ≡ added env.now unit.now) }
         ensures gathered { OnOk result ((facts : List UnitFacts)
             → with_gathered facts self.new
-            ≡ with_judged (with_gathered facts self.old)
-            (judged_over env.now unit.entry.text.now unit.entry.sites.now)) }
-        ensures kept { IfOk result (λ a.
-            IfSome self.new.keeping (λ k. IsKeeping k (env.now ++ told_by a))) }
+            ≡ with_units (with_gathered facts self.old) (judged_at env.now unit.now)) }
+        ensures kept { let places = declaration_at env.now unit.now in
+            OnOk result (kept.new ≡ grown kept.old (map declaration_result places)) }
+        ensures lists { kept.new.lists ≡ kept.old.lists }
+        ensures marks { OnOk result (keeping.new.marks ≡ keeping.old.marks ++ mark_at unit.now) }
+        ensures keeping { OnOk result
+            (IsKeeping kept.new.lists keeping.new (env.now ++ added env.now unit.now)) }
+        ensures earlier { keeping.new.earlier ≡ keeping.old.earlier }
+        ensures counts { OnOk result (IsJudgedAt (declaration_at env.now unit.now) (results_in kept.old)
+            keeping.old.meter keeping.new.meter) }
     {
-        let Some(keeping) = &mut self.keeping else {
-            let verdict = verdict_over(&mut self.scratch, env, unit.text)?;
-            self.add_verdict(alloc, unit, &verdict)?;
-            return Ok(Added::Given(verdict.into_writes()));
-        };
-        let judgement = keeping.judge(&mut self.scratch, env, unit.text)?;
-        self.add_verdict(alloc, unit, &judgement.verdict)?;
-        Ok(Added::Kept(judgement))
-    }
-
-    // The same of a file boundary.
-    fn cross(&mut self, alloc: Global, env: &Env, unit: KeptUnit) -> Result<Added, AllocError>
-        requires boundary { IsBoundary unit }
-        requires kept { IfSome self.old.keeping (λ k. IsKeeping k env.now) }
-        ensures added { IfOk result (λ a. told_by a ≡ added_by unit ∷ []) }
-        ensures gathered { (facts : List UnitFacts)
-            → with_gathered facts self.new ≡ with_gathered facts self.old }
-        ensures kept { IfOk result (λ a.
-            IfSome self.new.keeping (λ k. IsKeeping k (env.now ++ told_by a))) }
-    {
-        let facts = boundary(alloc, step_of(&unit))?;
-        if let Some(keeping) = &mut self.keeping {
-            keeping.cross(env, unit, facts.get())?;
+        match unit {
+            Unit::Spelled(text, sites) => {
+                let declaration = keeping.judge(kept, env, text)?;
+                self.add_verdict(env.alloc(), Spelled { text, sites }, declaration.out())?;
+                Ok(Added::Kept(declaration))
+            }
+            Unit::Entered(_file) => Ok(crossed(keeping, env, Mark::Entered)?),
+            Unit::Left(_file) => Ok(crossed(keeping, env, Mark::Left)?),
+            Unit::End => Ok(Added::Nothing),
         }
-        Ok(Added::Given(facts))
     }
 
     // Puts in what comes of a unit with this verdict.
@@ -259,14 +246,13 @@ impl<'a> Gathered<'a> {
         unit: Spelled<'a>,
         verdict: &Verdict,
     ) -> Result<(), AllocError>
-        ensures gathered { OnOk result ((facts : List UnitFacts)
+        ensures { OnOk result ((facts : List UnitFacts)
             → with_gathered facts self.new
             ≡ with_judged (with_gathered facts self.old) (record {
               text = unit.entry.text.now;
               sites = unit.entry.sites.now;
               verdict = verdict.now;
             })) }
-        ensures keeping { self.new.keeping ≡ self.old.keeping }
     {
         push_fault(alloc, &mut self.findings, unit, verdict.fault)?;
         push_row(&mut self.rows, &verdict.row)?;
@@ -275,24 +261,49 @@ impl<'a> Gathered<'a> {
     }
 }
 
-// How a file boundary changes the files entered.
-fn step_of(unit: &KeptUnit) -> Step
-    requires { IsBoundary unit.now }
-    ensures { added_by unit.now ≡ boundary result }
+// Whether a scope beside the global one is open.
+fn is_open(env: &Env) -> bool
+    ensures { result ≡ is_open env.now }
 {
-    match unit {
-        KeptUnit::Left => Step::Leaves,
-        _ => Step::Enters,
-    }
+    let none = OpenScopes::none();
+    scopes_in(env.answer(&DigestedKey::cursor()), &none).len() > 1
+}
+
+// What a file boundary adds, beside what was kept.
+fn crossed(keeping: &mut Keeping<'_>, env: &Env, mark: Mark) -> Result<Added, AllocError>
+    requires { IsBoundary mark }
+    ensures added { IfOk result (λ a. told_by a ≡ added_by (mark ∷ []) []) }
+    ensures keeping { IfOk result (λ a. (lists : List (List DeclarationResult))
+        → IsKeeping lists keeping.old env.now
+        → IsKeeping lists keeping.new (env.now ++ added_by (mark ∷ []) [])) }
+    ensures marks { OnOk result (keeping.new.marks ≡ keeping.old.marks ++ mark ∷ []) }
+    ensures earlier { keeping.new.earlier ≡ keeping.old.earlier }
+    ensures meter { keeping.new.meter ≡ keeping.old.meter }
+{
+    let facts = boundary(env.alloc(), mark)?;
+    keeping.cross(env, mark, facts.get())?;
+    Ok(Added::Given(facts))
 }
 
 // What a file boundary adds.
-fn boundary(alloc: Global, step: Step) -> Result<Writes, AllocError>
-    ensures { IfOk result (λ writes. writes ≡ boundary step) }
+fn boundary(alloc: Global, mark: Mark) -> Result<Writes, AllocError>
+    requires { IsBoundary mark }
+    ensures { IfOk result (λ writes. added_by (mark ∷ []) [] ≡ writes ∷ []) }
 {
     let mut facts = Facts::new(alloc);
-    facts.then(step);
+    facts.then(step_of(mark));
     Writes::new(alloc, facts)
+}
+
+// How a file boundary changes the files entered.
+fn step_of(mark: Mark) -> Step
+    requires { IsBoundary mark }
+    ensures { added_by (mark ∷ []) [] ≡ boundary result ∷ [] }
+{
+    match mark {
+        Mark::Left => Step::Leaves,
+        Mark::Entered | Mark::Judged => Step::Enters,
+    }
 }
 
 // The verdict of a text over facts. What it asks is not kept.

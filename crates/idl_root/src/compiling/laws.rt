@@ -1,9 +1,10 @@
 //! The laws of what is told.
 
-ghost use Rattle.std.specs.Prelude.{◌≡◌, [], ℕ, All, List, filter, map, nat_eq};
+ghost use Rattle.std.specs.Prelude.{◌≡◌, ◌≤◌, [], ℕ, All, List, filter, map, nat_eq};
 ghost use Rattle.idl_event.specs.declared.told.event.Event.{Event};
 ghost use Rattle.idl_fault.specs.declared.place.Place.{Place};
-ghost use Rattle.idl_check.specs.walk.Closing.{AreTold};
+ghost use Rattle.idl_check_laws.specs.Closing.{AreTold};
+ghost use Rattle.idl_env.specs.Turns.{most_turns, turns_for};
 ghost use Rattle.idl_root.specs.Compile.{compile};
 ghost use Rattle.idl_root.specs.Judged.{facts_after, judged_after};
 ghost use Rattle.idl_unit.specs.declared.unit.Unit.{Unit as RootUnit};
@@ -13,12 +14,13 @@ ghost use Rattle.std.specs.List.Sorted.{IsNonDecreasingBy};
 ghost use Rattle.idl_root.specs.Findings.{finding_row, in_order};
 ghost use Rattle.idl_root.specs.declared.compiling.finding.EventFinding.{EventFinding};
 
-use idl_check::laws::numbering;
+use idl_check_laws::{more_turns, numbering};
 
 /// What is found is told in the order of events: no finding names an event before that of an earlier one, and each event has
 /// the findings that it had, in their order. This does nothing: it carries the law.
 pub fn ordering()
-    ensures order { (found : List EventFinding) → IsNonDecreasingBy (λ f. f.event) (in_order found) }
+    ensures order { (found : List EventFinding)
+        → IsNonDecreasingBy (λ f. f.event) (in_order found) }
     ensures kept { (found : List EventFinding) (n : ℕ)
         → filter (λ f. nat_eq n f.event) (in_order found) ≡ filter (λ f. nat_eq n f.event) found }
 {}
@@ -35,7 +37,11 @@ pub fn telling()
 }
 
 /// The facts of a root are what verdicts tell, each over those before it: of them the law of closed interfaces speaks
-/// (`inheriting` of `idl_check`). This does nothing: it carries the law.
+/// (`inheriting` of `idl_check`). They are such as memory holds. This does nothing: it carries the law.
 pub fn facts()
-    ensures { (units : List RootUnit) → AreTold (facts_after [] units) }
-{}
+    ensures { (units : List RootUnit) → turns_for (facts_after [] units) ≤ most_turns
+        → AreTold (facts_after [] units) }
+{
+    // It does nothing: it carries a law of verdicts.
+    more_turns();
+}

@@ -4,17 +4,13 @@ ghost use Rattle.std.specs.Prelude.{◌≡◌, ◌∷◌, ◌++◌, [], All, IfO
 ghost use Rattle.std.specs.Option.{option_copied, option_map};
 ghost use Rattle.idl_base.specs.Spans.{AreWithin, pieces};
 ghost use Rattle.idl_root.specs.Findings.{fault_finding};
-ghost use Rattle.idl_root.specs.Followed.{AreBeside};
 ghost use Rattle.idl_root.specs.Held.{listed_at};
-ghost use Rattle.idl_root.specs.Kept.{IsPrinted};
 ghost use Rattle.idl_root.specs.Printed.{closing_finding, entry_over, entry_row, first_paths, listed_with, name_index, sought_finding, sought_row};
 ghost use Rattle.idl_unit.specs.TokenRules.{fault_at};
 
 use crate::compiling::compiled::Row;
 use crate::compiling::finding::{EventFinding, Spelled, push_fault};
-use crate::kept::kept_units::KeptEntry;
-use crate::kept::reprinting::Reprinting;
-use idl_base::{ByteRange, Shared, push_texts};
+use idl_base::{ByteRange, push_texts};
 use idl_entity::Path;
 use idl_env::{Addition, Env, Facts};
 use idl_fault::Code;
@@ -33,8 +29,6 @@ pub struct Listed<'a> {
 pub struct Printed {
     pub findings: Vec<EventFinding>,
     pub rows: Vec<Row>,
-    /// What is kept of the names, if anything is.
-    pub entries: Vec<Shared<KeptEntry>>,
 }
 
 impl<'a> Drop for Listed<'a> {
@@ -127,7 +121,6 @@ pub fn print_all(alloc: Global, env: &Env, listed: &[Listed<'_>]) -> Result<Prin
         ≡ flat_map (closing_finding env.now) (map listed_at listed.now)) }
     ensures rows { IfOk result (λ printed. printed.rows.items
         ≡ flat_map (entry_row env.now) (map listed_at listed.now)) }
-    ensures entries { IfOk result (λ printed. printed.entries.items ≡ []) }
 {
     let mut printed = Printed::new(alloc, listed.len())?;
     let mut written = Written::new(alloc)?;
@@ -142,75 +135,15 @@ pub fn print_all(alloc: Global, env: &Env, listed: &[Listed<'_>]) -> Result<Prin
     Ok(printed)
 }
 
-/// The same, where something was kept of names, if it may be taken over, and something is kept of these.
-pub fn print_kept(
-    alloc: Global,
-    env: &Env,
-    listed: &[Listed<'_>],
-    earlier: Option<Reprinting<'_>>,
-) -> Result<Printed, AllocError>
-    requires { IfSome earlier (λ r. AreBeside r env.now) }
-    ensures findings { IfOk result (λ printed. printed.findings.items
-        ≡ flat_map (closing_finding env.now) (map listed_at listed.now)) }
-    ensures rows { IfOk result (λ printed. printed.rows.items
-        ≡ flat_map (entry_row env.now) (map listed_at listed.now)) }
-    ensures entries { IfOk result (λ printed.
-        All (IsPrinted env.now) printed.entries.items) }
-{
-    let mut earlier = earlier;
-    let mut printed = Printed::new(alloc, listed.len())?;
-    let mut buffer = Vec::new(alloc);
-    for name in listed {
-        let kept = kept_entry(&mut earlier, &mut buffer, env, &name.path)?;
-        let entry = &kept.get().entry;
-        let row = shared_row(entry)?;
-        printed.add(alloc, name.unit, entry.fault, row)?;
-        printed.entries.push(kept)?;
-    }
-    Ok(printed)
-}
-
-// What is kept of the name at a path over facts: what was, if it may be taken over.
-fn kept_entry(
-    earlier: &mut Option<Reprinting<'_>>,
-    buffer: &mut Vec<u8>,
-    env: &Env,
-    path: &Path,
-) -> Result<Shared<KeptEntry>, AllocError>
-    requires { IfSome earlier.old (λ r. AreBeside r env.now) }
-    ensures entry { IfOk result (λ kept. kept.entry ≡ entry_over env.now path.now) }
-    ensures printed { IfOk result (λ kept. IsPrinted env.now kept) }
-    ensures rest { IfSome earlier.new (λ r. AreBeside r env.now) }
-{
-    if let Some(reprinting) = earlier {
-        if let Some(kept) = reprinting.entry(path) {
-            return Ok(kept.clone()?);
-        }
-    }
-    Ok(KeptEntry::new(buffer, env, path)?)
-}
-
-// The row of an entry, shared with it.
-fn shared_row(entry: &Entry) -> Result<Option<Row>, AllocError>
-    ensures { IfOk result (λ row. row ≡ entry.now.row) }
-{
-    match &entry.row {
-        Some(row) => Ok(Some(row.clone()?)),
-        None => Ok(None),
-    }
-}
-
 impl Printed {
     // Before the first of so many names.
-    fn new(alloc: Global, count: usize) -> Result<Printed, AllocError>
+    pub(crate) fn new(alloc: Global, count: usize) -> Result<Printed, AllocError>
         ensures findings { IfOk result (λ printed. printed.findings.items ≡ []) }
         ensures rows { IfOk result (λ printed. printed.rows.items ≡ []) }
-        ensures entries { IfOk result (λ printed. printed.entries.items ≡ []) }
     {
         Ok(Printed {
             findings: Vec::new(alloc),
             rows: Vec::with_capacity(alloc, count)?,
-            entries: Vec::new(alloc),
         })
     }
 
@@ -227,7 +160,6 @@ impl Printed {
         ensures rows { OnOk result
             (self.new.rows.items ++ flat_map sought_row sought.new.items
             ≡ self.old.rows.items ++ flat_map sought_row sought.old.items) }
-        ensures entries { OnOk result (self.new.entries ≡ self.old.entries) }
     {
         if sought.len() >= AHEAD {
             self.add_all(alloc, written, sought)?;
@@ -248,7 +180,6 @@ impl Printed {
             ≡ self.old.findings.items ++ flat_map sought_finding sought.now) }
         ensures rows { OnOk result
             (self.new.rows.items ≡ self.old.rows.items ++ flat_map sought_row sought.now) }
-        ensures entries { OnOk result (self.new.entries ≡ self.old.entries) }
     {
         written.clear(room_of(sought))?;
         for name in sought {
@@ -258,26 +189,24 @@ impl Printed {
         push_texts(&mut self.rows, &written.bytes, &written.spans)
     }
 
-    // What comes of one name more, which that unit declares first: this row, and this is wrong with it.
-    fn add(
+    // What comes of one name more, which that unit declares first.
+    pub(crate) fn add(
         &mut self,
         alloc: Global,
         unit: Spelled<'_>,
-        fault: Option<Code>,
-        row: Option<Row>,
+        entry: &Entry,
     ) -> Result<(), AllocError>
         ensures findings { OnOk result
             (self.new.findings.items
             ≡ self.old.findings.items
             ++ fault_finding unit.entry.text.now unit.entry.sites.now
-            (option_map (fault_at (name_index unit.entry.text.now)) fault)) }
+            (option_map (fault_at (name_index unit.entry.text.now)) entry.now.fault)) }
         ensures rows { OnOk result
-            (self.new.rows.items ≡ self.old.rows.items ++ option_to_list row) }
-        ensures entries { self.new.entries ≡ self.old.entries }
+            (self.new.rows.items ≡ self.old.rows.items ++ option_to_list entry.now.row) }
     {
-        push_closing(alloc, &mut self.findings, unit, fault)?;
-        if let Some(row) = row {
-            self.rows.push(row)?;
+        push_closing(alloc, &mut self.findings, unit, entry.fault)?;
+        if let Some(row) = &entry.row {
+            self.rows.push(row.clone()?)?;
         }
         Ok(())
     }

@@ -3,7 +3,7 @@
 ghost use Rattle.std.specs.Prelude.{◌≡◌, ◌++◌, IfOk};
 ghost use Rattle.idl_root.specs.Added.{told_by};
 
-use crate::kept::kept_units::Judgement;
+use crate::kept::keeper::KeptDeclaration;
 use idl_env::{Env, Room, Writes};
 use std::alloc::AllocError;
 use std::rc::Rc;
@@ -15,8 +15,8 @@ pub enum Added {
     Nothing,
     /// These facts, which are given up to the environment.
     Given(Writes),
-    /// The facts of what is judged of it, which is kept.
-    Kept(Rc<Judgement>),
+    /// The facts of a result that is kept.
+    Kept(Rc<KeptDeclaration>),
 }
 
 impl Added {
@@ -27,7 +27,7 @@ impl Added {
         match self {
             Added::Nothing => Ok(env),
             Added::Given(facts) => env.add_own(facts, room),
-            Added::Kept(judgement) => env.add(judgement.verdict.writes.get()),
+            Added::Kept(declaration) => env.add(declaration.out().writes.get()),
         }
     }
 }

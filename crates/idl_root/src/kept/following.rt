@@ -1,18 +1,21 @@
 //! What was kept of a root's units, gone through beside the units that stand there now.
 
-ghost use Rattle.std.specs.Prelude.{◌≡◌, ◌-◌, ◌∷◌, ◌++◌, [], false, IfOk, IfSome, IsFalse, IsTrue, List};
-ghost use Rattle.idl_root.specs.Followed.{AreBeside, IsFollowed, IsNext, LookElsewhere, StayAlike};
-ghost use Rattle.idl_root.specs.Kept.{IsJudged, added_by};
-ghost use Rattle.idl_root.specs.declared.kept.kept_units.KeptUnit.{KeptUnit as RootKeptUnit};
-ghost use Rattle.idl_root.specs.declared.kept.kept_units.KeptUnit.TheVariants.{Judged};
-ghost use Rattle.idl_env.specs.Facts.{UnitFacts, operations_among};
+ghost use Rattle.std.specs.Prelude.{◌≡◌, ◌-◌, ◌∷◌, ◌++◌, [], false, IfNone, IfOk, IfSome, IsFalse, IsTrue, List, OnErr};
+ghost use Rattle.idl_env.specs.Facts.{UnitFacts, answers, operations_among};
 ghost use Rattle.idl_env.specs.declared.additions.addition.Step.TheVariants.{Closes, Stays};
+ghost use Rattle.idl_root.specs.Followed.{AreBeside, ArePrinted, IsAgain, IsFollowed, IsNext, IsTakenAgain, LookElsewhere, StayAlike, WereThere, added_by, facts_of, results_from};
+ghost use Rattle.idl_root.specs.Places.{DeclarationPlace};
+ghost use Rattle.idl_root.specs.Results.{DeclarationResult, EntryResult, declaration_result, list_at};
+ghost use Rattle.idl_root.specs.declared.kept.course.Course.{Course as RootCourse};
 
 use crate::kept::changed::Changed;
-use crate::kept::kept_units::{Judgement, KeptUnit, KeptUnits};
+use crate::kept::course::Course;
+use crate::kept::keeper::{Declarations, KeptDeclaration};
+use crate::kept::marks::Mark;
 use crate::kept::reprinting::Reprinting;
-use idl_check::Verdict;
-use idl_env::{Answer, DigestedKey, Env, Facts, Step};
+use idl_check::DeclarationTask;
+use idl_env::{Env, Facts, Step};
+use idl_memo::reliance;
 use idl_scope::laws::{adding, agreeing_around, exchanging};
 use idl_unit::UnitText;
 use std::alloc::{AllocError, Global};
@@ -21,12 +24,10 @@ use std::rc::Rc;
 // So many keys may be answered otherwise than before, until nothing is taken over any more.
 const MOST: usize = 256;
 
-/// The units kept that are still to come, beside the facts so far.
+/// The units as they were that are still to come, beside the facts so far.
 pub struct Following<'k> {
     alloc: Global,
-    // All that was kept of the root.
-    earlier: &'k KeptUnits,
-    kept: &'k [KeptUnit],
+    course: Course<'k>,
     // Digests of the keys that may be answered otherwise than they were before what is kept.
     changed: Changed,
     // Whether the innermost of the open scopes may have other operations than it had then.
@@ -40,8 +41,7 @@ impl<'k> Drop for Following<'k> {
     fn drop(self) {
         let Following {
             alloc: _alloc,
-            earlier: _earlier,
-            kept: _kept,
+            course: _course,
             changed: _changed,
             is_around: _is_around,
             less: _less,
@@ -52,61 +52,73 @@ impl<'k> Drop for Following<'k> {
 
 impl<'k> Following<'k> {
     /// Before the first of so many units.
-    pub fn new(
-        alloc: Global,
-        earlier: &'k KeptUnits,
-        count: usize,
-    ) -> Result<Following<'k>, AllocError>
-        ensures { IfOk result (λ following. IsFollowed following []) }
+    pub fn new(alloc: Global, course: Course<'k>, count: usize) -> Result<Following<'k>, AllocError>
+        ensures { IfOk result (λ following. (lists : List (List DeclarationResult))
+            → WereThere [] course.entry.marks.now (results_from lists course.entry)
+            → IsFollowed lists course.entry following []) }
     {
-        let kept = earlier.units();
         Ok(Following {
             alloc,
-            earlier,
-            kept,
+            course,
             changed: Changed::new(alloc)?,
             is_around: false,
-            less: kept.len().saturating_sub(count),
-            more: count.saturating_sub(kept.len()),
+            less: course.len().saturating_sub(count),
+            more: count.saturating_sub(course.len()),
         })
     }
 
-    /// What was judged of the next unit, if it is of this text and nothing that it asked has changed.
-    pub fn judgement(&self, text: &UnitText) -> Option<&'k Rc<Judgement>>
-        ensures next { IfSome result (λ j. IsNext (Judged text.now j.now) self.now.kept.now) }
-        ensures judged { (facts : List UnitFacts) → IsFollowed self.now facts
-            → IfSome result (λ j. IsJudged facts text.now j.now.value) }
+    /// The result of the next unit, if it is of this text and nothing that it asked has changed. It goes into the last draft too.
+    ///
+    /// Want of memory leaves what is kept as it was.
+    pub fn take_again(
+        &self,
+        kept: &mut Declarations,
+        text: &UnitText,
+    ) -> Result<Option<Rc<KeptDeclaration>>, AllocError>
+        ensures none { IfOk result (λ found. IfNone found (kept.new ≡ kept.old)) }
+        ensures next { IfOk result (λ found. IfSome found (λ k.
+            IsNext kept.old.lists k.value.out.writes self.now.course)) }
+        ensures again { IfOk result (λ found. IfSome found (λ k.
+            (earlier : RootCourse) (facts : List UnitFacts)
+            → IsFollowed kept.old.lists earlier self.now facts
+            → let here : DeclarationPlace = (text.now, answers facts) in
+            IsTakenAgain here (declaration_result here) kept.old kept.new k.value)) }
+        ensures err { OnErr result (kept.new ≡ kept.old) }
     {
-        idl_scope::laws::reliance();
-        idl_check::laws::more_turns();
-        idl_memo::query::agreement::<DigestedKey, Option<Answer>, (), Verdict>();
-        idl_memo::query::logging::<DigestedKey, Option<Answer>, (), Verdict>();
-        let judgement = self.next_of(text)?;
-        if !self.changed.shares_none(judgement.asked.as_slice()) {
-            return None;
+        reliance::<Env, DeclarationTask>();
+        match self.place_of(kept, text) {
+            Some((list, place)) => kept.take_again(list, place),
+            None => Ok(None),
         }
-        Some(judgement)
     }
 
-    // What was judged of the next unit, if it is of this text.
-    fn next_of(&self, text: &UnitText) -> Option<&'k Rc<Judgement>>
-        ensures { IfSome result (λ j. IsNext (Judged text.now j.now) self.now.kept.now) }
+    // Where the result of the next unit stands, if it is of this text and nothing that it asked has changed.
+    fn place_of(&self, kept: &Declarations, text: &UnitText) -> Option<(usize, usize)>
+        ensures { IfSome result (λ place. IsAgain kept.now self.now text.now place) }
     {
-        let (kept, judgement, _rest) = judged_first(self.kept)?;
-        if *kept == *text {
-            return Some(judgement);
+        idl_scope::laws::reliance();
+        reliance::<Env, DeclarationTask>();
+        let declaration = self.course.first_of(kept, text)?;
+        if !self.changed.shares_none_of(declaration.log()) {
+            return None;
         }
-        None
+        Some(self.course.place())
     }
 
     /// Behind the units that are no longer there, if the next one isn't of this text.
-    pub fn caught_up(self, text: &UnitText) -> Result<Option<Following<'k>>, AllocError>
+    pub fn caught_up(
+        self,
+        kept: &Declarations,
+        text: &UnitText,
+    ) -> Result<Option<Following<'k>>, AllocError>
         ensures { IfOk result (λ found. IfSome found (λ f.
-            (facts : List UnitFacts) → IsFollowed self.entry facts → IsFollowed f facts)) }
+            (earlier : RootCourse) (facts : List UnitFacts)
+            → IsFollowed kept.now.lists earlier self.entry facts
+            → IsFollowed kept.now.lists earlier f facts)) }
     {
         let mut following = self;
-        while following.less > 0 && following.next_of(text).is_none() {
-            let Some(next) = following.without_next()? else {
+        while following.less > 0 && following.course.first_of(kept, text).is_none() {
+            let Some(next) = following.without_next(kept)? else {
                 return Ok(None);
             };
             following = next;
@@ -115,9 +127,11 @@ impl<'k> Following<'k> {
     }
 
     // Behind the next unit, which is no longer there.
-    fn without_next(self) -> Result<Option<Following<'k>>, AllocError>
+    fn without_next(self, kept: &Declarations) -> Result<Option<Following<'k>>, AllocError>
         ensures followed { IfOk result (λ found. IfSome found (λ f.
-            (facts : List UnitFacts) → IsFollowed self.entry facts → IsFollowed f facts)) }
+            (earlier : RootCourse) (facts : List UnitFacts)
+            → IsFollowed kept.now.lists earlier self.entry facts
+            → IsFollowed kept.now.lists earlier f facts)) }
         ensures less { IfOk result (λ found. IfSome found (λ f. f.less ≡ self.entry.less - 1)) }
     {
         adding();
@@ -125,17 +139,19 @@ impl<'k> Following<'k> {
         agreeing_around();
         let Following {
             alloc,
-            earlier,
-            kept,
+            course,
             changed,
             is_around,
             less,
             more,
         } = self;
-        let Some((_text, judgement, rest)) = judged_first(kept) else {
+        let Some(declaration) = course.first(kept) else {
             return Ok(None);
         };
-        let facts = judgement.verdict.writes.get();
+        let Some(course) = course.behind_first() else {
+            return Ok(None);
+        };
+        let facts = declaration.out().writes.get();
         let none = Facts::new(alloc);
         if !facts.is_same_step(&none) {
             return Ok(None);
@@ -146,8 +162,7 @@ impl<'k> Following<'k> {
         }
         Ok(Some(Following {
             alloc,
-            earlier,
-            kept: rest,
+            course,
             changed,
             is_around: may_differ(is_around, facts, &none),
             less: less.saturating_sub(1),
@@ -157,9 +172,11 @@ impl<'k> Following<'k> {
 
     /// Behind the next unit, where this one adds what it added.
     pub fn with_same(self, env: &Env, facts: &Facts) -> Result<Option<Following<'k>>, AllocError>
-        requires { (k : RootKeptUnit) → IsNext k self.kept.now → added_by k ≡ facts.now }
         ensures { IfOk result (λ found. IfSome found (λ f.
-            IsFollowed self.entry env.now → IsFollowed f (env.now ++ facts.now ∷ []))) }
+            (lists : List (List DeclarationResult)) (earlier : RootCourse)
+            → IsNext lists facts.now self.entry.course
+            → IsFollowed lists earlier self.entry env.now
+            → IsFollowed lists earlier f (env.now ++ facts.now ∷ []))) }
     {
         if stay_alike(self.is_around, env, &self.changed, facts)? {
             return Ok(self.with_alike(env, facts));
@@ -169,28 +186,27 @@ impl<'k> Following<'k> {
 
     // The same, where nothing that these facts look at may be answered otherwise.
     fn with_alike(self, env: &Env, facts: &Facts) -> Option<Following<'k>>
-        requires adds { (k : RootKeptUnit) → IsNext k self.kept.now → added_by k ≡ facts.now }
-        requires alike { StayAlike self.is_around env.now self.changed facts.now }
+        requires { StayAlike self.is_around env.now self.changed facts.now }
         ensures { IfSome result (λ f.
-            IsFollowed self.entry env.now → IsFollowed f (env.now ++ facts.now ∷ [])) }
+            (lists : List (List DeclarationResult)) (earlier : RootCourse)
+            → IsNext lists facts.now self.entry.course
+            → IsFollowed lists earlier self.entry env.now
+            → IsFollowed lists earlier f (env.now ++ facts.now ∷ [])) }
     {
         adding();
         exchanging();
         agreeing_around();
         let Following {
             alloc,
-            earlier,
-            kept,
+            course,
             changed,
             is_around,
             less,
             more,
         } = self;
-        let (_next, rest) = kept.split_first()?;
         Some(Following {
             alloc,
-            earlier,
-            kept: rest,
+            course: course.behind_first()?,
             changed,
             is_around,
             less,
@@ -200,22 +216,23 @@ impl<'k> Following<'k> {
 
     // The same, where the innermost scope is closed: what it declared and inherited may be answered otherwise from then on.
     fn with_closing(self, env: &Env, facts: &Facts) -> Result<Option<Following<'k>>, AllocError>
-        requires { (k : RootKeptUnit) → IsNext k self.kept.now → added_by k ≡ facts.now }
         ensures { IfOk result (λ found. IfSome found (λ f.
-            IsFollowed self.entry env.now → IsFollowed f (env.now ++ facts.now ∷ []))) }
+            (lists : List (List DeclarationResult)) (earlier : RootCourse)
+            → IsNext lists facts.now self.entry.course
+            → IsFollowed lists earlier self.entry env.now
+            → IsFollowed lists earlier f (env.now ++ facts.now ∷ []))) }
     {
         adding();
         agreeing_around();
         let Following {
             alloc,
-            earlier,
-            kept,
+            course,
             mut changed,
             is_around: _is_around,
             less,
             more,
         } = self;
-        let Some((_next, rest)) = kept.split_first() else {
+        let Some(course) = course.behind_first() else {
             return Ok(None);
         };
         let Some((cursor, entity)) = env.digests_of_innermost() else {
@@ -227,8 +244,7 @@ impl<'k> Following<'k> {
         changed.push(entity)?;
         Ok(Some(Following {
             alloc,
-            earlier,
-            kept: rest,
+            course,
             changed,
             is_around: false,
             less,
@@ -239,40 +255,50 @@ impl<'k> Following<'k> {
     /// Behind the next unit, or before it, where one of this text adds that.
     pub fn with_other(
         self,
+        kept: &Declarations,
         env: &Env,
         text: &UnitText,
         facts: &Facts,
     ) -> Result<Option<Following<'k>>, AllocError>
-        ensures { IfOk result (λ found. IfSome found (λ f.
-            IsFollowed self.entry env.now → IsFollowed f (env.now ++ facts.now ∷ []))) }
+        ensures { IfOk result (λ found. IfSome found (λ f. (earlier : RootCourse)
+            → IsFollowed kept.now.lists earlier self.entry env.now
+            → IsFollowed kept.now.lists earlier f (env.now ++ facts.now ∷ []))) }
     {
-        if self.more > 0 && self.next_of(text).is_none() {
+        if self.more > 0 && self.course.first_of(kept, text).is_none() {
             return Ok(self.with_more(facts)?);
         }
-        Ok(self.exchanged(env, facts)?)
+        Ok(self.exchanged(kept, env, facts)?)
     }
 
     // Behind the next unit, in whose place one adds that.
-    fn exchanged(self, env: &Env, facts: &Facts) -> Result<Option<Following<'k>>, AllocError>
-        ensures { IfOk result (λ found. IfSome found (λ f.
-            IsFollowed self.entry env.now → IsFollowed f (env.now ++ facts.now ∷ []))) }
+    fn exchanged(
+        self,
+        kept: &Declarations,
+        env: &Env,
+        facts: &Facts,
+    ) -> Result<Option<Following<'k>>, AllocError>
+        ensures { IfOk result (λ found. IfSome found (λ f. (earlier : RootCourse)
+            → IsFollowed kept.now.lists earlier self.entry env.now
+            → IsFollowed kept.now.lists earlier f (env.now ++ facts.now ∷ []))) }
     {
         adding();
         exchanging();
         agreeing_around();
         let Following {
             alloc,
-            earlier,
-            kept,
+            course,
             changed,
             is_around,
             less,
             more,
         } = self;
-        let Some((_text, judgement, rest)) = judged_first(kept) else {
+        let Some(declaration) = course.first(kept) else {
             return Ok(None);
         };
-        let before = judgement.verdict.writes.get();
+        let Some(course) = course.behind_first() else {
+            return Ok(None);
+        };
+        let before = declaration.out().writes.get();
         if !before.is_same_step(facts) {
             return Ok(None);
         }
@@ -283,8 +309,7 @@ impl<'k> Following<'k> {
         }
         Ok(Some(Following {
             alloc,
-            earlier,
-            kept: rest,
+            course,
             changed,
             is_around,
             less,
@@ -294,16 +319,17 @@ impl<'k> Following<'k> {
 
     // Before the next unit, where one more adds that.
     fn with_more(self, facts: &Facts) -> Result<Option<Following<'k>>, AllocError>
-        ensures { IfOk result (λ found. IfSome found (λ f. (here : List UnitFacts)
-            → IsFollowed self.entry here → IsFollowed f (here ++ facts.now ∷ []))) }
+        ensures { IfOk result (λ found. IfSome found (λ f.
+            (lists : List (List DeclarationResult)) (earlier : RootCourse) (here : List UnitFacts)
+            → IsFollowed lists earlier self.entry here
+            → IsFollowed lists earlier f (here ++ facts.now ∷ []))) }
     {
         adding();
         exchanging();
         agreeing_around();
         let Following {
             alloc,
-            earlier,
-            kept,
+            course,
             changed,
             is_around,
             less,
@@ -319,8 +345,7 @@ impl<'k> Following<'k> {
         }
         Ok(Some(Following {
             alloc,
-            earlier,
-            kept,
+            course,
             changed,
             is_around: may_differ(is_around, facts, &none),
             less,
@@ -332,53 +357,44 @@ impl<'k> Following<'k> {
     pub fn across(
         self,
         env: &Env,
-        boundary: &KeptUnit,
+        boundary: Mark,
         facts: &Facts,
     ) -> Result<Option<Following<'k>>, AllocError>
-        requires { added_by boundary.now ≡ facts.now }
+        requires { added_by (boundary ∷ []) [] ≡ facts.now ∷ [] }
         ensures { IfOk result (λ found. IfSome found (λ f.
-            IsFollowed self.entry env.now → IsFollowed f (env.now ++ facts.now ∷ []))) }
+            (lists : List (List DeclarationResult)) (earlier : RootCourse)
+            → IsFollowed lists earlier self.entry env.now
+            → IsFollowed lists earlier f (env.now ++ facts.now ∷ []))) }
     {
-        if !is_next(self.kept, boundary) {
+        if !self.course.begins_with(boundary) {
             return Ok(None);
         }
         Ok(self.with_same(env, facts)?)
     }
 
-    /// What was kept of the root's names, if nothing is still to come: before the first of so many names.
-    pub fn reprinting(&self, count: usize) -> Option<Reprinting<'_>>
-        ensures { (facts : List UnitFacts) → IsFollowed self.now facts
-            → IfSome result (λ r. AreBeside r facts) }
+    /// Beside the root's names as they were, if no unit is still to come: before the first of so many names, of which there were so
+    /// many.
+    pub fn reprinting(self, before: usize, count: usize) -> Option<Reprinting>
+        ensures { IfSome result (λ r. (lists : List (List DeclarationResult)) (earlier : RootCourse)
+            (facts : List UnitFacts) (entries : List (List EntryResult))
+            → IsFollowed lists earlier self.entry facts
+            → ArePrinted (facts_of lists earlier) (list_at entries earlier.list)
+            → AreBeside entries r facts) }
     {
         agreeing_around();
-        if !self.kept.is_empty() {
+        let Following {
+            alloc: _alloc,
+            course,
+            changed,
+            is_around: _is_around,
+            less: _less,
+            more: _more,
+        } = self;
+        if !course.is_empty() {
             return None;
         }
-        let entries = self.earlier.entries();
-        Some(Reprinting::new(entries, &self.changed, count))
-    }
-}
-
-// What is judged of the first of them, if it has tokens, and the others.
-fn judged_first<'k>(
-    kept: &'k [KeptUnit],
-) -> Option<(&'k UnitText, &'k Rc<Judgement>, &'k [KeptUnit])>
-    ensures { IfSome result (λ p. kept.now ≡ Judged p.0.now p.1.now ∷ p.2.now) }
-{
-    match kept.split_first()? {
-        (KeptUnit::Judged(text, judgement), rest) => Some((text, judgement, rest)),
-        _ => None,
-    }
-}
-
-// Whether the first of them is this boundary.
-fn is_next(kept: &[KeptUnit], boundary: &KeptUnit) -> bool
-    ensures { IsTrue result → (k : RootKeptUnit) → IsNext k kept.now → added_by k ≡ added_by boundary.now }
-{
-    match (kept, boundary) {
-        ([KeptUnit::Entered, ..], KeptUnit::Entered) => true,
-        ([KeptUnit::Left, ..], KeptUnit::Left) => true,
-        _ => false,
+        let (list, _place) = course.place();
+        Some(Reprinting::new(list, changed, before, count))
     }
 }
 

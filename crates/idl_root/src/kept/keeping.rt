@@ -1,164 +1,265 @@
-//! The judging of units of which something is kept.
+//! The judging of units whose results are kept.
 
-ghost use Rattle.std.specs.Prelude.{◌≡◌, ◌∷◌, ◌++◌, [], All, IfOk, IfSome, List, None, OnOk};
-ghost use Rattle.idl_root.specs.Followed.{AreBeside, IsFollowed, IsKeeping};
-ghost use Rattle.idl_root.specs.Kept.{IsJudged, IsKept, IsPrinted, added_by};
-ghost use Rattle.idl_env.specs.Facts.{UnitFacts};
+ghost use Rattle.std.specs.Prelude.{◌≡◌, ◌∷◌, ◌++◌, [], IfOk, IfSome, List, None, OnOk};
+ghost use Rattle.idl_env.specs.Facts.{UnitFacts, answers};
+ghost use Rattle.idl_store.specs.Obtained.{IsObtained};
+ghost use Rattle.idl_store.specs.Stored.{grown, results_in};
+ghost use Rattle.idl_memo.specs.declared.task.TaskKind.TheVariants.{Check};
+ghost use Rattle.idl_root.specs.Followed.{AreBeside, ArePrinted, IsFollowed, IsKeeping, WereThere, added_by, facts_of, results_from};
+ghost use Rattle.idl_root.specs.Judged.{verdict_over};
+ghost use Rattle.idl_root.specs.Results.{DeclarationResult, EntryResult, declaration_result, list_at};
+ghost use Rattle.idl_root.specs.declared.kept.course.Course.{Course as RootCourse};
+ghost use Rattle.idl_root.specs.declared.kept.marks.Mark.TheVariants.{Judged};
 
+use crate::kept::course::Course;
 use crate::kept::following::Following;
-use crate::kept::kept_units::{Judgement, KeptEntry, KeptUnit, KeptUnits};
+use crate::kept::keeper::{Declarations, KeptDeclaration};
+use crate::kept::marks::{Mark, Marks};
 use crate::kept::reprinting::Reprinting;
-use idl_base::Shared;
-use idl_check::Scratch;
+use idl_check::{DeclarationTask, Scratch};
 use idl_env::{Env, Facts};
+use idl_memo::Meter;
 use idl_unit::UnitText;
 use std::alloc::{AllocError, Global};
 use std::mem::replace;
 use std::rc::Rc;
 
-/// What is kept of the units so far, and what was kept of the root before.
+/// The judging of a root's units so far: what they were, and those of before that are still to come, as far as they tell anything.
 pub struct Keeping<'k> {
-    kept: Vec<KeptUnit>,
+    marks: Marks,
+    // The root's units as they were when it was compiled last.
+    earlier: Course<'k>,
     following: Option<Following<'k>>,
+    /// In which verdicts are made.
+    pub scratch: Scratch,
+    /// What was run, this root's declarations among it.
+    pub meter: Meter,
 }
 
 impl<'k> Drop for Keeping<'k> {
     fn drop(self) {
         let Keeping {
-            kept: _kept,
+            marks: _marks,
+            earlier: _earlier,
             following: _following,
+            scratch: _scratch,
+            meter: _meter,
         } = self;
     }
 }
 
 impl<'k> Keeping<'k> {
-    /// Before the first of so many units, where this was kept of the root before.
+    /// Before the first of so many units, where these were there before.
     pub fn new(
         alloc: Global,
-        earlier: &'k KeptUnits,
+        earlier: Course<'k>,
         count: usize,
+        meter: Meter,
     ) -> Result<Keeping<'k>, AllocError>
-        ensures { IfOk result (λ keeping. IsKeeping keeping []) }
+        ensures marks { IfOk result (λ keeping. keeping.marks ≡ []) }
+        ensures earlier { IfOk result (λ keeping. keeping.earlier ≡ earlier.entry) }
+        ensures keeping { IfOk result (λ keeping. (lists : List (List DeclarationResult))
+            → WereThere [] earlier.entry.marks.now (results_from lists earlier.entry)
+            → IsKeeping lists keeping []) }
+        ensures meter { IfOk result (λ keeping. keeping.meter ≡ meter) }
     {
-        let kept = Vec::with_capacity(alloc, count)?;
+        let marks = Marks::with_room(alloc, count)?;
         let following = Following::new(alloc, earlier, count)?;
         Ok(Keeping {
-            kept,
+            marks,
+            earlier,
             following: Some(following),
+            scratch: Scratch::new(alloc),
+            meter,
         })
     }
 
-    /// What is judged of a text over the facts so far, to which its verdict's are added next.
+    /// What is kept of a text over the facts so far, to which its verdict's are added next. It goes last into what is made of the
+    /// root.
     pub fn judge(
         &mut self,
-        scratch: &mut Scratch,
+        kept: &mut Declarations,
         env: &Env,
         text: &UnitText,
-    ) -> Result<Rc<Judgement>, AllocError>
-        requires { IsKeeping self.old env.now }
-        ensures judged { IfOk result (λ judgement. IsJudged env.now text.now judgement.value) }
-        ensures kept { IfOk result (λ judgement.
-            IsKeeping self.new (env.now ++ judgement.value.verdict.writes ∷ [])) }
+    ) -> Result<Rc<KeptDeclaration>, AllocError>
+        requires { IsKeeping kept.old.lists self.old env.now }
+        ensures result { IfOk result (λ declaration.
+            declaration.value ≡ declaration_result (text.now, answers env.now)) }
+        ensures kept { OnOk result
+            (kept.new ≡ grown kept.old (declaration_result (text.now, answers env.now) ∷ [])) }
+        ensures lists { kept.new.lists ≡ kept.old.lists }
+        ensures marks { OnOk result (self.new.marks ≡ self.old.marks ++ Judged ∷ []) }
+        ensures meter { OnOk result (IsObtained (text.now, answers env.now) Check
+            (results_in kept.old) self.old.meter self.new.meter) }
+        ensures keeping { OnOk result (IsKeeping kept.new.lists self.new
+            (env.now ++ (verdict_over env.now text.now).writes ∷ [])) }
+        ensures earlier { self.new.earlier ≡ self.old.earlier }
     {
-        let following = replace(&mut self.following, None);
-        let (judgement, next) = judged(scratch, env, text, following)?;
-        self.following = next;
-        let unit = KeptUnit::Judged(text.clone()?, judgement.clone()?);
-        self.kept.push(unit)?;
-        Ok(judgement)
-    }
-
-    /// A file boundary, which adds this next.
-    pub fn cross(&mut self, env: &Env, boundary: KeptUnit, facts: &Facts) -> Result<(), AllocError>
-        requires kept { IsKeeping self.old env.now }
-        requires boundary { IsKept env.now boundary }
-        requires adds { added_by boundary ≡ facts.now }
-        ensures { OnOk result (IsKeeping self.new (env.now ++ facts.now ∷ [])) }
-    {
-        let following = replace(&mut self.following, None);
-        self.following = crossed(following, env, &boundary, facts)?;
-        self.kept.push(boundary)?;
-        Ok(())
-    }
-
-    /// What was kept of the root's names, if it may be taken over: before the first of so many names.
-    pub fn reprinting(&self, count: usize) -> Option<Reprinting<'_>>
-        ensures { (facts : List UnitFacts) → IsKeeping self.now facts
-            → IfSome result (λ r. AreBeside r facts) }
-    {
-        match &self.following {
-            Some(following) => following.reprinting(count),
-            None => None,
+        self.marks.push(Mark::Judged)?;
+        match self.caught_up(kept, text)? {
+            Some(following) => self.judged(following, kept, env, text),
+            None => self.obtained(kept, env, text),
         }
     }
 
-    /// What is kept of all units, with these entries over what they add.
-    pub fn ended(self, entries: Vec<Shared<KeptEntry>>) -> KeptUnits
-        requires { (facts : List UnitFacts)
-            × (IsKeeping self facts × All (IsPrinted facts) entries.items) }
+    // The same beside what is followed.
+    fn judged(
+        &mut self,
+        following: Following<'k>,
+        kept: &mut Declarations,
+        env: &Env,
+        text: &UnitText,
+    ) -> Result<Rc<KeptDeclaration>, AllocError>
+        requires { IsFollowed kept.old.lists self.old.earlier following env.now }
+        ensures result { IfOk result (λ declaration.
+            declaration.value ≡ declaration_result (text.now, answers env.now)) }
+        ensures kept { OnOk result
+            (kept.new ≡ grown kept.old (declaration_result (text.now, answers env.now) ∷ [])) }
+        ensures lists { kept.new.lists ≡ kept.old.lists }
+        ensures marks { self.new.marks ≡ self.old.marks }
+        ensures meter { OnOk result (IsObtained (text.now, answers env.now) Check
+            (results_in kept.old) self.old.meter self.new.meter) }
+        ensures keeping { OnOk result (IsKeeping kept.new.lists self.new
+            (env.now ++ (verdict_over env.now text.now).writes ∷ [])) }
+        ensures earlier { self.new.earlier ≡ self.old.earlier }
+    {
+        match following.take_again(kept, text)? {
+            Some(declaration) => {
+                self.following = following.with_same(env, declaration.out().writes.get())?;
+                Ok(declaration)
+            }
+            None => self.judged_anew(following, kept, env, text),
+        }
+    }
+
+    // The same, where the next unit's result isn't taken again.
+    fn judged_anew(
+        &mut self,
+        following: Following<'k>,
+        kept: &mut Declarations,
+        env: &Env,
+        text: &UnitText,
+    ) -> Result<Rc<KeptDeclaration>, AllocError>
+        requires { IsFollowed kept.old.lists self.old.earlier following env.now }
+        ensures result { IfOk result (λ declaration.
+            declaration.value ≡ declaration_result (text.now, answers env.now)) }
+        ensures kept { OnOk result
+            (kept.new ≡ grown kept.old (declaration_result (text.now, answers env.now) ∷ [])) }
+        ensures lists { kept.new.lists ≡ kept.old.lists }
+        ensures marks { self.new.marks ≡ self.old.marks }
+        ensures meter { OnOk result (IsObtained (text.now, answers env.now) Check
+            (results_in kept.old) self.old.meter self.new.meter) }
+        ensures keeping { OnOk result (IsKeeping kept.new.lists self.new
+            (env.now ++ (verdict_over env.now text.now).writes ∷ [])) }
+        ensures earlier { self.new.earlier ≡ self.old.earlier }
+    {
+        let declaration = self.obtained(kept, env, text)?;
+        let facts = declaration.out().writes.get();
+        self.following = following.with_other(kept, env, text, facts)?;
+        Ok(declaration)
+    }
+
+    // A result that is kept and alike, or what a run gives. Where no count can say that one more was run, memory is wanting first.
+    fn obtained(
+        &mut self,
+        kept: &mut Declarations,
+        env: &Env,
+        text: &UnitText,
+    ) -> Result<Rc<KeptDeclaration>, AllocError>
+        ensures result { IfOk result (λ declaration.
+            declaration.value ≡ declaration_result (text.now, answers env.now)) }
+        ensures kept { OnOk result
+            (kept.new ≡ grown kept.old (declaration_result (text.now, answers env.now) ∷ [])) }
+        ensures lists { kept.new.lists ≡ kept.old.lists }
+        ensures marks { self.new.marks ≡ self.old.marks }
+        ensures earlier { self.new.earlier ≡ self.old.earlier }
+        ensures following { self.new.following ≡ self.old.following }
+        ensures meter { OnOk result (IsObtained (text.now, answers env.now) Check
+            (results_in kept.old) self.old.meter self.new.meter) }
+    {
+        if self.meter.checked == u64::MAX {
+            return Err(AllocError);
+        }
+        let task = DeclarationTask {
+            text: text.clone()?,
+        };
+        kept.obtain(&task, env, &mut self.scratch, &mut self.meter)
+    }
+
+    // What is followed, behind the units that are no longer there: taken out, until it is put back behind this unit.
+    fn caught_up(
+        &mut self,
+        kept: &Declarations,
+        text: &UnitText,
+    ) -> Result<Option<Following<'k>>, AllocError>
+        ensures followed { IfOk result (λ found. IfSome found (λ f. (facts : List UnitFacts)
+            → IsKeeping kept.now.lists self.old facts
+            → IsFollowed kept.now.lists self.old.earlier f facts)) }
+        ensures none { self.new.following ≡ None }
+        ensures marks { self.new.marks ≡ self.old.marks }
+        ensures earlier { self.new.earlier ≡ self.old.earlier }
+        ensures meter { self.new.meter ≡ self.old.meter }
+    {
+        match replace(&mut self.following, None) {
+            Some(following) => following.caught_up(kept, text),
+            None => Ok(None),
+        }
+    }
+
+    /// A file boundary, which adds this next.
+    pub fn cross(&mut self, env: &Env, mark: Mark, facts: &Facts) -> Result<(), AllocError>
+        requires { added_by (mark ∷ []) [] ≡ facts.now ∷ [] }
+        ensures keeping { OnOk result ((lists : List (List DeclarationResult))
+            → IsKeeping lists self.old env.now
+            → IsKeeping lists self.new (env.now ++ facts.now ∷ [])) }
+        ensures marks { OnOk result (self.new.marks ≡ self.old.marks ++ mark ∷ []) }
+        ensures earlier { self.new.earlier ≡ self.old.earlier }
+        ensures meter { self.new.meter ≡ self.old.meter }
+    {
+        self.marks.push(mark)?;
+        let following = replace(&mut self.following, None);
+        self.following = across(following, env, mark, facts)?;
+        Ok(())
+    }
+
+    /// What the units were, and what is followed of the root's names, of which there were so many and are so many.
+    pub fn ended(self, before: usize, count: usize) -> (Marks, Option<Reprinting>)
+        ensures marks { result.0 ≡ self.entry.marks }
+        ensures reprinting { IfSome result.1 (λ r. (lists : List (List DeclarationResult))
+            (facts : List UnitFacts) (entries : List (List EntryResult))
+            → IsKeeping lists self.entry facts
+            → ArePrinted (facts_of lists self.entry.earlier)
+            (list_at entries self.entry.earlier.list)
+            → AreBeside entries r facts) }
     {
         let Keeping {
-            kept,
-            following: _following,
+            marks,
+            earlier: _earlier,
+            following,
+            scratch: _scratch,
+            meter: _meter,
         } = self;
-        KeptUnits::of(kept, entries)
+        match following {
+            Some(following) => (marks, following.reprinting(before, count)),
+            None => (marks, None),
+        }
     }
-}
-
-// What is judged of a text, and what is followed behind it.
-fn judged<'k>(
-    scratch: &mut Scratch,
-    env: &Env,
-    text: &UnitText,
-    following: Option<Following<'k>>,
-) -> Result<(Rc<Judgement>, Option<Following<'k>>), AllocError>
-    requires { IfSome following (λ f. IsFollowed f env.now) }
-    ensures judged { IfOk result (λ r. IsJudged env.now text.now r.0.value) }
-    ensures followed { IfOk result (λ r.
-        IfSome r.1 (λ f. IsFollowed f (env.now ++ r.0.value.verdict.writes ∷ []))) }
-{
-    let Some(before) = following else {
-        return Ok(judged_anew(scratch, env, text)?);
-    };
-    let Some(following) = before.caught_up(text)? else {
-        return Ok(judged_anew(scratch, env, text)?);
-    };
-    if let Some(judgement) = following.judgement(text) {
-        let judgement = judgement.clone()?;
-        let next = following.with_same(env, judgement.verdict.writes.get())?;
-        return Ok((judgement, next));
-    }
-    let judgement = Judgement::new(scratch, env, text)?;
-    let next = following.with_other(env, text, judgement.verdict.writes.get())?;
-    Ok((judgement, next))
 }
 
 // What is followed behind a file boundary that adds that.
-fn crossed<'k>(
+fn across<'k>(
     following: Option<Following<'k>>,
     env: &Env,
-    boundary: &KeptUnit,
+    mark: Mark,
     facts: &Facts,
 ) -> Result<Option<Following<'k>>, AllocError>
-    requires adds { added_by boundary.now ≡ facts.now }
-    requires followed { IfSome following (λ f. IsFollowed f env.now) }
-    ensures { IfOk result (λ found.
-        IfSome found (λ f. IsFollowed f (env.now ++ facts.now ∷ []))) }
+    requires { added_by (mark ∷ []) [] ≡ facts.now ∷ [] }
+    ensures { IfOk result (λ found. (lists : List (List DeclarationResult)) (earlier : RootCourse)
+        → IfSome following.entry (λ f. IsFollowed lists earlier f env.now)
+        → IfSome found (λ f. IsFollowed lists earlier f (env.now ++ facts.now ∷ []))) }
 {
     match following {
-        Some(following) => Ok(following.across(env, boundary, facts)?),
+        Some(following) => following.across(env, mark, facts),
         None => Ok(None),
     }
-}
-
-// What is judged of a text, where nothing is followed any more.
-fn judged_anew<'k>(
-    scratch: &mut Scratch,
-    env: &Env,
-    text: &UnitText,
-) -> Result<(Rc<Judgement>, Option<Following<'k>>), AllocError>
-    ensures judged { IfOk result (λ r. IsJudged env.now text.now r.0.value) }
-    ensures followed { IfOk result (λ r. r.1 ≡ None) }
-{
-    Ok((Judgement::new(scratch, env, text)?, None))
 }

@@ -1,31 +1,38 @@
 //! What was kept of the names of a root, gone through beside the names that are listed now.
 
-ghost use Rattle.std.specs.Prelude.{◌≡◌, All, IfSome, List};
-ghost use Rattle.idl_root.specs.Followed.{AreBeside, ArePrinted};
-ghost use Rattle.idl_root.specs.Kept.{IsPrinted};
-ghost use Rattle.idl_env.specs.Facts.{UnitFacts};
+ghost use Rattle.std.specs.Prelude.{◌≡◌, ℕ, IfNone, IfOk, IfSome, List, OnErr, Some};
+ghost use Rattle.idl_env.specs.Facts.{UnitFacts, answers};
+ghost use Rattle.idl_store.specs.Stored.{result_at};
+ghost use Rattle.idl_root.specs.Followed.{AreBeside, IsPrintedAt, IsTakenAgain};
+ghost use Rattle.idl_root.specs.Places.{EntryPlace};
+ghost use Rattle.idl_root.specs.Results.{EntryResult, entry_result};
 
 use crate::kept::changed::Changed;
-use crate::kept::kept_units::KeptEntry;
-use idl_base::Shared;
+use crate::kept::keeper::{Entries, KeptEntry};
 use idl_entity::Path;
 use idl_env::Env;
+use idl_memo::reliance;
 use idl_repo::EntryTask;
+use std::alloc::AllocError;
+use std::rc::Rc;
 
-/// The entries kept that are still to come, behind all units.
-pub struct Reprinting<'k> {
-    entries: &'k [Shared<KeptEntry>],
+/// The names as they were that are still to come, behind all units.
+pub struct Reprinting {
+    // The list of the root, and the place in it of the next of them.
+    list: usize,
+    place: usize,
     // Digests of the keys that may be answered otherwise than they were over the facts of before.
-    changed: &'k Changed,
+    changed: Changed,
     // How many more names there were, and how many more there are.
     less: usize,
     more: usize,
 }
 
-impl<'k> Drop for Reprinting<'k> {
+impl Drop for Reprinting {
     fn drop(self) {
         let Reprinting {
-            entries: _entries,
+            list: _list,
+            place: _place,
             changed: _changed,
             less: _less,
             more: _more,
@@ -33,75 +40,102 @@ impl<'k> Drop for Reprinting<'k> {
     }
 }
 
-impl<'k> Reprinting<'k> {
-    /// Before the first of so many names, where these entries were kept of those of before.
-    pub fn new(
-        entries: &'k [Shared<KeptEntry>],
-        changed: &'k Changed,
-        count: usize,
-    ) -> Reprinting<'k>
-        ensures entries { result.entries.now ≡ entries.now }
-        ensures changed { result.changed.now ≡ changed.now }
+impl Reprinting {
+    /// Before the first of so many names, where there were so many, which are kept in this list.
+    pub fn new(list: usize, changed: Changed, before: usize, count: usize) -> Reprinting
+        ensures list { result.list ≡ list }
+        ensures changed { result.changed ≡ changed }
     {
         Reprinting {
-            entries,
+            list,
+            place: 0,
             changed,
-            less: entries.len().saturating_sub(count),
-            more: count.saturating_sub(entries.len()),
+            less: before.saturating_sub(count),
+            more: count.saturating_sub(before),
         }
     }
 
-    /// What was kept of the name at a path, which is listed next, if nothing that its entry asked has changed.
-    pub fn entry(&mut self, path: &Path) -> Option<&'k Shared<KeptEntry>>
-        ensures printed { (facts : List UnitFacts) → AreBeside self.old facts
-            → IfSome result (λ kept. IsPrinted facts kept.now) }
-        ensures path { IfSome result (λ kept. kept.now.path ≡ path.now) }
-        ensures rest { (facts : List UnitFacts) → AreBeside self.old facts
-            → AreBeside self.new facts }
+    /// The entry of the name at a path, which is listed next, if nothing that it asked has changed. It goes into the last draft too.
+    ///
+    /// Want of memory leaves what is kept as it was.
+    pub fn take_again(
+        &mut self,
+        kept: &mut Entries,
+        path: &Path,
+    ) -> Result<Option<Rc<KeptEntry>>, AllocError>
+        ensures none { IfOk result (λ found. IfNone found (kept.new ≡ kept.old)) }
+        ensures again { IfOk result (λ found. IfSome found (λ k. (facts : List UnitFacts)
+            → AreBeside kept.old.lists self.old facts
+            → let here : EntryPlace = (path.now, answers facts) in
+            IsTakenAgain here (entry_result here) kept.old kept.new k.value)) }
+        ensures rest { (lists : List (List EntryResult)) (facts : List UnitFacts)
+            → AreBeside lists self.old facts → AreBeside lists self.new facts }
+        ensures err { OnErr result (kept.new ≡ kept.old) }
     {
-        idl_scope::laws::reliance();
-        idl_memo::reliance::<Env, EntryTask>();
-        let kept = self.next_at(path)?;
-        if !self.changed.shares_none(kept.get().asked.as_slice()) {
-            return None;
+        reliance::<Env, EntryTask>();
+        match self.place_of(kept, path) {
+            Some((list, place)) => kept.take_again(list, place),
+            None => Ok(None),
         }
-        Some(kept)
     }
 
-    // What was kept of the name at a path, which is listed next.
-    fn next_at(&mut self, path: &Path) -> Option<&'k Shared<KeptEntry>>
-        ensures found { (before : List UnitFacts) → ArePrinted before self.old
-            → IfSome result (λ kept. IsPrinted before kept.now) }
-        ensures rest { (before : List UnitFacts) → ArePrinted before self.old
-            → ArePrinted before self.new }
-        ensures path { IfSome result (λ kept. kept.now.path ≡ path.now) }
+    // Where the entry of the name at a path stands, which is listed next, if nothing that it asked has changed.
+    fn place_of(&mut self, kept: &Entries, path: &Path) -> Option<(usize, usize)>
+        ensures printed { IfSome result (λ place. IsPrintedAt kept.now self.old path.now place) }
+        ensures list { self.new.list ≡ self.old.list }
         ensures changed { self.new.changed ≡ self.old.changed }
     {
-        while let Some((first, rest)) = self.entries.split_first() {
-            if first.get().path == *path {
-                self.entries = rest;
-                return Some(first);
+        idl_scope::laws::reliance();
+        reliance::<Env, EntryTask>();
+        let place = self.next_at(kept, path)?;
+        let entry = kept.get(self.list, place)?;
+        if !self.changed.shares_none_of(entry.log()) {
+            return None;
+        }
+        Some((self.list, place))
+    }
+
+    // The place of the name at a path, which is listed next.
+    fn next_at(&mut self, kept: &Entries, path: &Path) -> Option<usize>
+        ensures found { IfSome result (λ place. (k : EntryResult)
+            × ((result_at kept.now self.old.list place ≡ Some k) × (k.text ≡ path.now))) }
+        ensures list { self.new.list ≡ self.old.list }
+        ensures changed { self.new.changed ≡ self.old.changed }
+    {
+        while let Some(first) = kept.get(self.list, self.place) {
+            let place = self.place;
+            if *first.text() == *path {
+                self.pass();
+                return Some(place);
             }
             if self.less == 0 {
-                self.pass(rest);
+                self.pass_other();
                 return None;
             }
             self.less -= 1;
-            self.entries = rest;
+            self.pass();
         }
         None
     }
 
+    // Behind the next name.
+    fn pass(&mut self)
+        ensures list { self.new.list ≡ self.old.list }
+        ensures changed { self.new.changed ≡ self.old.changed }
+        ensures less { self.new.less ≡ self.old.less }
+    {
+        self.place = self.place.saturating_add(1);
+    }
+
     // Behind a name of which nothing was kept: it is one more, or has taken another one's place.
-    fn pass(&mut self, rest: &'k [Shared<KeptEntry>])
-        ensures rest { (before : List UnitFacts) → ArePrinted before self.old
-            → All (IsPrinted before) rest.now → ArePrinted before self.new }
+    fn pass_other(&mut self)
+        ensures list { self.new.list ≡ self.old.list }
         ensures changed { self.new.changed ≡ self.old.changed }
     {
         if self.more > 0 {
             self.more -= 1;
         } else {
-            self.entries = rest;
+            self.pass();
         }
     }
 }

@@ -1,9 +1,10 @@
 //! Tokens of a file that are shared.
 
-ghost use Rattle.std.specs.Prelude.{◌≡◌, ◌≤◌, ◌<◌, ◌↔◌, [], IsTrue, flat_map, length, refl, IfOk, OnErr, OnOk, slice_range};
-ghost use Rattle.std.specs.Cmp.{partial_equiv_from_equiv};
-ghost use Rattle.std.specs.Cmp.Lexicographic.{bytes_decides, lists_equiv, lists_per, nat_list_eq_equiv, pointwise, pointwise_decides};
+ghost use Rattle.std.specs.Prelude.{◌≡◌, ◌≤◌, ◌<◌, ◌↔◌, [], IsTrue, Some, flat_map, length, refl, IfOk, OnErr, OnOk, slice_range};
+ghost use Rattle.std.specs.Cmp.{partial_equiv_from_equiv, partial_order_from_agreeing_total};
+ghost use Rattle.std.specs.Cmp.Lexicographic.{bytes_decides, lists_equiv, lists_per, lists_ties, lists_total, nat_list_cmp_total, nat_list_eq_equiv, pointwise, pointwise_decides, slice_cmp, texts_ties};
 ghost use Rattle.std.specs.Hash as fed;
+ghost use Rattle.std.specs.Ordering.{nat_cmp};
 ghost use Rattle.std.specs.Str.{bytes_eq};
 ghost use Rattle.std.proofs.Common.{ap};
 ghost use Rattle.idl_lex.specs.tokens.Tokens.{tokens_in, tokens_of};
@@ -13,6 +14,7 @@ use idl_base::Datum;
 use idl_lex::Token;
 use idl_source::Line;
 use std::alloc::{AllocError, Global};
+use std::cmp::Ordering;
 use std::hash::{Hash, Hasher};
 use std::marker::Model;
 use std::mem::replace;
@@ -149,6 +151,32 @@ impl PartialEq for TokenRange {
 
 impl Eq for TokenRange {
     ghost laws = { lists_equiv nat_list_eq_equiv };
+}
+
+impl PartialOrd for TokenRange {
+    ghost partial_cmp = { λ x y. Some (slice_cmp (slice_cmp nat_cmp) x y) };
+
+    ghost laws = { partial_order_from_agreeing_total (slice_cmp (slice_cmp nat_cmp)) (lists_total nat_list_cmp_total) (λ x y. refl) (lists_ties (slice_cmp nat_cmp) texts_ties) };
+
+    fn partial_cmp(&self, other: &TokenRange) -> Option<Ordering> {
+        Some(self.cmp(other))
+    }
+}
+
+impl Ord for TokenRange {
+    ghost cmp = { slice_cmp (slice_cmp nat_cmp) };
+
+    ghost total = { lists_total nat_list_cmp_total };
+
+    ghost matches_partial_cmp = { λ x y. refl };
+
+    ghost matches_eq = { lists_ties (slice_cmp nat_cmp) texts_ties };
+
+    fn cmp(&self, other: &TokenRange) -> Ordering
+        ensures { result ≡ slice_cmp (slice_cmp nat_cmp) self.now other.now }
+    {
+        self.as_slice().cmp(&other.as_slice())
+    }
 }
 
 impl Hash for TokenRange {

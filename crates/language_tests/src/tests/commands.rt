@@ -108,12 +108,12 @@ const QUERIES: &str =
 
 // Edits, with ` ¶ ` between one and the next, each with its work behind `=`.
 const EDITS: &str =
-    "put a.idl 3\n#include <b.idl>\ntypedef T X;\n#pragma once\n=work 0 0 0\n ¶ root a.idl\n=work 1 0 0\n ¶ root b.idl\n\
-     =work 1 0 0\n ¶ define T long\n=work 1 0 0\n ¶ search d .\n=work 1 0 0\n ¶ put b.idl 8\nmodule M {\nstruct S;\n\
+    "put a.idl 3\n#include <b.idl>\ntypedef T X;\n#pragma once\n=work 0 0 0\n ¶ root a.idl\n=work 1 1 0\n ¶ root b.idl\n\
+     =work 1 0 0\n ¶ define T long\n=work 1 1 1\n ¶ search d .\n=work 1 0 0\n ¶ put b.idl 8\nmodule M {\nstruct S;\n\
      interface I { void f(in T x); };\ninterface J : I { };\nconst long C = 2 * 3;\nunion V switch (long) { case C: T x; };\n\
-     };\ntypedef M::V Z;\n=work 2 0 0\n ¶ splice b.idl 4 1 1\ninterface J : I, K { S g(); };\n=work 2 0 0\n ¶ define T \
-     short\n=work 2 0 0\n ¶ define U T T\n=work 0 0 0\n ¶ put d/b.idl 4\n#if defined T && T2\n#error x\n#endif\n\
-     #define T2 1\n=work 1 0 0\n ¶ undef T\n=work 2 0 0\n ¶ remove d/b.idl\n=work 1 0 0\n ¶ splice a.idl 2 1 0\n\
+     };\ntypedef M::V Z;\n=work 2 11 8\n ¶ splice b.idl 4 1 1\ninterface J : I, K { S g(); };\n=work 2 3 0\n ¶ define T \
+     short\n=work 2 4 3\n ¶ define U T T\n=work 0 0 0\n ¶ put d/b.idl 4\n#if defined T && T2\n#error x\n#endif\n\
+     #define T2 1\n=work 1 0 0\n ¶ undef T\n=work 2 5 1\n ¶ remove d/b.idl\n=work 1 0 0\n ¶ splice a.idl 2 1 0\n\
      =work 1 0 0\n ¶ remove b.idl\n=work 2 0 0\n ¶ search\n=work 1 0 0\n ¶ unroot b.idl\n=work 0 0 0\n";
 
 // Run with each allocation refused in turn, too: a refused edit changes nothing, and is accepted when it is asked again.

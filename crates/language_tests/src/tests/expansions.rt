@@ -50,7 +50,7 @@ pub fn expansion_of(alloc: Global, text: &str) -> Result<Expansion, AllocError> 
     };
     let bank = answers_of(alloc, &name, text)?;
     let mut log = Log::new(alloc);
-    RootTask::new(name).run(alloc, &bank, &mut log)
+    RootTask::new(name).run(alloc, &bank, &mut (), &mut log)
 }
 
 /// The one file of this name and text.

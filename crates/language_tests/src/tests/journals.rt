@@ -1,5 +1,5 @@
 //! What no clause says of exact data and of journals: that a copy hashes as its source does, which journal has a log to give
-//! back, and which has digests.
+//! back.
 
 use super::expansions::{Answers, answers_of};
 use super::support::Host;
@@ -58,31 +58,14 @@ fn given_back(alloc: Global, key: &RootKey, bank: &Answers) -> Result<usize, All
     }
 }
 
-// How many digests a journal has that was asked, if it notes them.
-fn noted(
-    journal: Journal<Answers>,
-    key: &RootKey,
-    bank: &Answers,
-) -> Result<Option<usize>, AllocError> {
-    let mut journal = journal;
-    journal.ask(key, bank)?;
-    match journal.digests() {
-        Some(digests) => Ok(Some(digests.len())),
-        None => Ok(None),
-    }
-}
-
 fn are_given_back(rt: &impl Host, key: &RootKey, bank: &Answers) -> Result<(), Fail> {
     assert_eq!(rt; given_back(rt.alloc(), key, bank)?, 1);
-    assert_eq!(rt; noted(Journal::noting(rt.alloc()), key, bank)?, Some(1));
-    assert_eq!(rt; noted(Journal::told(), key, bank)?, None);
     Ok(())
 }
 
-// One that took a log gives it back with what was asked, and one that notes digests has that of a key that was asked; one of
-// which contracts alone are told has neither.
+// One that took a log gives it back with what was asked; one of which contracts alone are told has none.
 #[test]
-fn a_journal_gives_back_what_it_took_or_noted(rt: HostRuntime) -> Result<(), Fail> {
+fn a_journal_gives_back_what_it_took(rt: HostRuntime) -> Result<(), Fail> {
     let Some(name) = Name::new(b"a.idl") else {
         return Ok(());
     };

@@ -45,9 +45,9 @@ fn scripts_have_these_replies(rt: HostRuntime) -> Result<(), Fail> {
     have_replies(&rt, &SCRIPTS)
 }
 
-// What edits cost: the roots that were expanded.
-static WORK: [&str; 5] = [
-    "work\n=work 0 0 0\nput a.idl 2\ntypedef long X;\ntypedef long X;\n=ok\nroot a.idl\n=ok\nwork\n=work 1 0 0\n\
+// What edits cost: roots expanded, declarations checked, entries printed.
+static WORK: [&str; 6] = [
+    "work\n=work 0 0 0\nput a.idl 2\ntypedef long X;\ntypedef long X;\n=ok\nroot a.idl\n=ok\nwork\n=work 1 2 1\n\
      splice a.idl 1 0 1\n\n=ok\nwork\n=work 1 0 0\ndiagnostics a.idl\n=rows 1\n=a.idl:3: E33 X\nsplice a.idl 1 1 0\n\
      =ok\nsplice a.idl 1 1 0\n=ok\ndiagnostics a.idl\n=rows 0",
     "put a.idl 2\ntypedef long X;\ntypedef long X;\n=ok\nroot a.idl\n=ok\nsplice a.idl 1 1 0\n=ok\n\
@@ -55,13 +55,35 @@ static WORK: [&str; 5] = [
     // A macro that the root doesn't ask, and one that it asks.
     "put a.idl 1\ntypedef long X;\n=ok\nroot a.idl\n=ok\ndefine Z 1\n=ok\nwork\n=work 0 0 0 ¶ put a.idl 3\n#ifndef Z\n\
      typedef long X;\n#endif\n=ok\nroot a.idl\n=ok\ndump a.idl\n=rows 1\n=typedef long X;\ndefine Z 1\n=ok\nwork\n\
-     =work 1 0 0\ndump a.idl\n=rows 0\nundef Z\n=ok\nwork\n=work 1 0 0\ndump a.idl\n=rows 1\n=typedef long X;",
+     =work 1 0 0\ndump a.idl\n=rows 0\nundef Z\n=ok\nwork\n=work 1 1 1\ndump a.idl\n=rows 1\n=typedef long X;",
     // A search list that isn't asked, and files that come and go.
     "put r.idl 1\n#include \"b.idl\"\n=ok\nput b.idl 1\ntypedef long B;\n=ok\nroot r.idl\n=ok\nsearch inc\n=ok\n\
      work\n=work 0 0 0\nput inc/b.idl 0\n=ok\nwork\n=work 0 0 0\nremove b.idl\n=ok\nwork\n=work 1 0 0\n\
      absent r.idl\n=rows 1\n=b.idl\nput b.idl 0\n=ok\nwork\n=work 1 0 0\nabsent r.idl\n=rows 0",
     // A refusal leaves the work as it was.
     "root a.idl\n=ok\nroot a.idl\n=refused 8\nwork\n=work 1 0 0\nunroot a.idl\n=ok\nwork\n=work 0 0 0",
+    // One file in two roots; an entry of a base; a text put away and back; a pragma that moves; a name that changes its meaning.
+    "put c.idl 1\ntypedef long X;\n=ok\nput r.idl 1\n#include \"c.idl\"\n=ok\nput s.idl 1\n#include \"c.idl\"\n=ok\n\
+     root r.idl\n=ok\nroot s.idl\n=ok\nwork\n=work 1 0 0 ¶ put d.idl 5\ninterface A {\n};\ninterface B : A {\n\
+     attribute long x;\n};\n=ok\nroot d.idl\n=ok\ndiagnostics d.idl\n=rows 0\nsplice d.idl 2 0 1\nattribute long X;\n\
+     =ok\ndiagnostics d.idl\n=rows 1\n=d.idl:5: E42 x\nsplice d.idl 2 1 0\n=ok\ndiagnostics d.idl\n=rows 0 ¶ \
+     put a.idl 2\ntypedef long X;\ntypedef long Z;\n=ok\nroot a.idl\n=ok\nput a.idl 1\ntypedef long Y;\n=ok\nwork\n\
+     =work 1 1 1\nput a.idl 2\ntypedef long X;\ntypedef long Z;\n=ok\nwork\n=work 1 2 2 ¶ put e.idl 4\nstruct S {\n\
+     long a;\n};\n#pragma prefix \"P\"\n=ok\nroot e.idl\n=ok\ndiagnostics e.idl\n=rows 0\nput e.idl 4\nstruct S {\n\
+     #pragma prefix \"P\"\nlong a;\n};\n=ok\ndiagnostics e.idl\n=rows 1\n=e.idl:2: E25 pragma\nwork\n=work 1 1 0 ¶ \
+     put h.idl 4\ntypedef long T;\ninterface C { typedef short T; };\ninterface B : C { };\n\
+     interface I : B { attribute T x; };\n=ok\nroot h.idl\n=ok\nlisting h.idl\n=rows 6\n\
+     =alias T IDL:T:1.0 tk_alias(IDL:T:1.0,T,tk_long)\n=interface C IDL:C:1.0 tk_objref(IDL:C:1.0,C) bases()\n\
+     =alias C::T IDL:C/T:1.0 tk_alias(IDL:C/T:1.0,T,tk_short)\n\
+     =interface B IDL:B:1.0 tk_objref(IDL:B:1.0,B) bases(@IDL:C:1.0)\n\
+     =interface I IDL:I:1.0 tk_objref(IDL:I:1.0,I) bases(@IDL:B:1.0)\n\
+     =attribute I::x IDL:I/x:1.0 @IDL:C/T:1.0 get() set()\nsplice h.idl 3 1 1\ninterface B { };\n=ok\nlisting h.idl\n\
+     =rows 6\n=alias T IDL:T:1.0 tk_alias(IDL:T:1.0,T,tk_long)\n\
+     =interface C IDL:C:1.0 tk_objref(IDL:C:1.0,C) bases()\n\
+     =alias C::T IDL:C/T:1.0 tk_alias(IDL:C/T:1.0,T,tk_short)\n\
+     =interface B IDL:B:1.0 tk_objref(IDL:B:1.0,B) bases()\n\
+     =interface I IDL:I:1.0 tk_objref(IDL:I:1.0,I) bases(@IDL:B:1.0)\n\
+     =attribute I::x IDL:I/x:1.0 @IDL:T:1.0 get() set()\nwork\n=work 1 3 2",
 ];
 
 #[test]

@@ -1,6 +1,7 @@
 use Rattle.std.proofs.Common.{◌+◌, ◌<◌, ◌∷◌, ◌++◌, [], length, sym, ap, ◌∙◌, arith}
 use Rattle.idl_env.specs.Facts.{World, after, count_in, world}
 use Rattle.idl_env.specs.Held.{held}
+use Rattle.idl_env.specs.Turns.{bases_among}
 use Rattle.idl_env.proofs.AnswerLaws.CountLemmas.{count-world, world-push}
 use Rattle.idl_env.proofs.DeclaredLemmas.{counted-after}
 use Rattle.idl_env.proofs.env.Env.add_own.Goals as goal
@@ -18,7 +19,7 @@ invariant_of-result c =
     let before = c.self.inside.facts in
     let f = c.args.facts in
     let past = c.and-after.ensures ∙ ap (λ g. before ++ g ∷ []) c.get-2.ensures in (
-      counted-after c.self.inside.count c.in_ok-count.count before f _ c.self.invariant.0 (c.in_ok-count.ensures.more ∙ ap (λ g. c.self.inside.count + length g.additions + 1) c.get.ensures) past,
+      counted-after c.self.inside.count c.in_ok-count.count before f _ c.self.invariant.0 (c.in_ok-count.ensures.more ∙ ap (λ g. c.self.inside.count + length g.additions + length (bases_among g.additions) + 1) c.get.ensures) past,
       c.in_ok-add_own.ensures
           ∙ (λ i. after (held (c.deref_mut.ensures.value i)) ((c.deref_mut-2.ensures.value ∙ c.facts-2.view_is) i))
           ∙ ap (λ (w : World). after w f) c.self.invariant.1

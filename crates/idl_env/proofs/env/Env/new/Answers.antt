@@ -1,12 +1,12 @@
 use Rattle.std.proofs.Common.{length, sym, ap, ◌∙◌, arith}
 use Rattle.idl_env.specs.Facts.{world}
 use Rattle.idl_env.specs.Held.{held}
-use Rattle.idl_env.specs.Turns.{declared_named}
+use Rattle.idl_env.specs.Turns.{turns_for}
 use Rattle.idl_env.proofs.AnswerLaws.CountLemmas.{world-none}
 use Rattle.idl_env.proofs.env.Env.new.Goals as goal
 
 pub invariant_of-result : goal.invariant_of-result
 invariant_of-result c = (
-  omega (arith, ap length c.new-4.ensures, ap (λ facts. length (declared_named facts)) c.new-4.ensures),
+  omega (arith, ap length c.new-4.ensures, ap turns_for c.new-4.ensures),
   ap held c.in_ok-state.ensures.ok ∙ c.in_ok-new.ensures ∙ sym (ap world c.new-4.ensures ∙ world-none),
 )

@@ -1,46 +1,88 @@
 use Rattle.std.specs.Option.{option_eq}
 use Rattle.idl_base.specs.Exact.{same_option}
-use Rattle.idl_memo.proofs.FreshTasks.{option_eq-itself, is_alike-means, fresh-same_places, fresh-one_more, fresh-fewer_places, compared-least, compared-most, compared-stay}
+use Rattle.idl_memo.proofs.FreshTasks.{option_eq-itself, is_alike-class, fresh-none, fresh-one, fresh-split, fresh-known, fresh-classes, fresh-fewer_classes, fresh-most, fresh-aside, fresh-turned, fresh-gone, Among-there}
 use Rattle.idl_memo.proofs.keeping.fresh.freshness.Goals as goal
 
-pub returns-clause-alike : goal.returns-clause-alike
-returns-clause-alike g c =
+pub returns-clause-class : goal.returns-clause-class
+returns-clause-class g c =
     let eq = g.B.Answer.PartialEq.eq in
-    is_alike-means g.T.Text.PartialEq.eq g.met.T.Text.Eq.laws.refl g.met.T.Text.Eq.laws.symm g.met.T.Text.Datum.same
+    is_alike-class g.T.Text.PartialEq.eq g.met.T.Text.Eq.laws.refl g.met.T.Text.Eq.laws.symm g.met.T.Text.Datum.same
     (option_eq eq) (option_eq-itself eq g.met.B.Answer.Eq.laws.refl) (same_option eq g.met.B.Answer.Datum.same) g.T.Task.query
+    g.B.Key.PartialEq.eq g.met.B.Key.Eq.laws.refl g.met.B.Key.Datum.same
 
-pub returns-clause-same_places : goal.returns-clause-same_places
-returns-clause-same_places g c =
+pub returns-clause-none : goal.returns-clause-none
+returns-clause-none g c =
     let eq = g.B.Answer.PartialEq.eq in
-    fresh-same_places g.T.Text.PartialEq.eq g.met.T.Text.Eq.laws.refl g.met.T.Text.Eq.laws.symm g.met.T.Text.Datum.same
+    fresh-none g.T.Text.PartialEq.eq g.met.T.Text.Eq.laws.refl g.met.T.Text.Eq.laws.symm g.met.T.Text.Datum.same
     (option_eq eq) (option_eq-itself eq g.met.B.Answer.Eq.laws.refl) (same_option eq g.met.B.Answer.Datum.same) g.T.Task.query
+    g.B.Key.PartialEq.eq g.met.B.Key.Eq.laws.refl g.met.B.Key.Datum.same
 
-pub returns-clause-one_more : goal.returns-clause-one_more
-returns-clause-one_more g c =
+pub returns-clause-one : goal.returns-clause-one
+returns-clause-one g c =
     let eq = g.B.Answer.PartialEq.eq in
-    fresh-one_more g.T.Text.PartialEq.eq g.met.T.Text.Eq.laws.refl g.met.T.Text.Eq.laws.symm g.met.T.Text.Datum.same
+    fresh-one g.T.Text.PartialEq.eq g.met.T.Text.Eq.laws.refl g.met.T.Text.Eq.laws.symm g.met.T.Text.Datum.same
     (option_eq eq) (option_eq-itself eq g.met.B.Answer.Eq.laws.refl) (same_option eq g.met.B.Answer.Datum.same) g.T.Task.query
+    g.B.Key.PartialEq.eq g.met.B.Key.Eq.laws.refl g.met.B.Key.Datum.same
+
+pub returns-clause-split : goal.returns-clause-split
+returns-clause-split g c =
+    let eq = g.B.Answer.PartialEq.eq in
+    fresh-split g.T.Text.PartialEq.eq g.met.T.Text.Eq.laws.refl g.met.T.Text.Eq.laws.symm g.met.T.Text.Datum.same
+    (option_eq eq) (option_eq-itself eq g.met.B.Answer.Eq.laws.refl) (same_option eq g.met.B.Answer.Datum.same) g.T.Task.query
+    g.B.Key.PartialEq.eq g.met.B.Key.Eq.laws.refl g.met.B.Key.Datum.same
+
+pub returns-clause-known : goal.returns-clause-known
+returns-clause-known g c =
+    let eq = g.B.Answer.PartialEq.eq in
+    fresh-known g.T.Text.PartialEq.eq g.met.T.Text.Eq.laws.refl g.met.T.Text.Eq.laws.symm g.met.T.Text.Datum.same
+    (option_eq eq) (option_eq-itself eq g.met.B.Answer.Eq.laws.refl) (same_option eq g.met.B.Answer.Datum.same) g.T.Task.query
+    g.B.Key.PartialEq.eq g.met.B.Key.Eq.laws.refl g.met.B.Key.Datum.same
+
+pub returns-clause-classes : goal.returns-clause-classes
+returns-clause-classes g c =
+    let eq = g.B.Answer.PartialEq.eq in
+    fresh-classes g.T.Text.PartialEq.eq g.met.T.Text.Eq.laws.refl g.met.T.Text.Eq.laws.symm g.met.T.Text.Datum.same
+    (option_eq eq) (option_eq-itself eq g.met.B.Answer.Eq.laws.refl) (same_option eq g.met.B.Answer.Datum.same) g.T.Task.query
+    g.B.Key.PartialEq.eq g.met.B.Key.Eq.laws.refl g.met.B.Key.Datum.same
 
 pub returns-clause-fewer : goal.returns-clause-fewer
 returns-clause-fewer g c =
     let eq = g.B.Answer.PartialEq.eq in
-    fresh-fewer_places g.T.Text.PartialEq.eq g.met.T.Text.Eq.laws.refl g.met.T.Text.Eq.laws.symm g.met.T.Text.Datum.same
+    fresh-fewer_classes g.T.Text.PartialEq.eq g.met.T.Text.Eq.laws.refl g.met.T.Text.Eq.laws.symm g.met.T.Text.Datum.same
     (option_eq eq) (option_eq-itself eq g.met.B.Answer.Eq.laws.refl) (same_option eq g.met.B.Answer.Datum.same) g.T.Task.query
-
-pub returns-clause-least : goal.returns-clause-least
-returns-clause-least g c =
-    let eq = g.B.Answer.PartialEq.eq in
-    compared-least g.T.Text.PartialEq.eq g.met.T.Text.Eq.laws.refl g.met.T.Text.Eq.laws.symm g.met.T.Text.Datum.same
-    (option_eq eq) (option_eq-itself eq g.met.B.Answer.Eq.laws.refl) (same_option eq g.met.B.Answer.Datum.same) g.T.Task.query g.B.Key.PartialEq.eq
+    g.B.Key.PartialEq.eq g.met.B.Key.Eq.laws.refl g.met.B.Key.Datum.same
 
 pub returns-clause-most : goal.returns-clause-most
 returns-clause-most g c =
     let eq = g.B.Answer.PartialEq.eq in
-    compared-most g.T.Text.PartialEq.eq g.met.T.Text.Eq.laws.refl g.met.T.Text.Eq.laws.symm g.met.T.Text.Datum.same
-    (option_eq eq) (option_eq-itself eq g.met.B.Answer.Eq.laws.refl) (same_option eq g.met.B.Answer.Datum.same) g.T.Task.query g.B.Key.PartialEq.eq
+    fresh-most g.T.Text.PartialEq.eq g.met.T.Text.Eq.laws.refl g.met.T.Text.Eq.laws.symm g.met.T.Text.Datum.same
+    (option_eq eq) (option_eq-itself eq g.met.B.Answer.Eq.laws.refl) (same_option eq g.met.B.Answer.Datum.same) g.T.Task.query
+    g.B.Key.PartialEq.eq g.met.B.Key.Eq.laws.refl g.met.B.Key.Datum.same
 
-pub returns-clause-stay : goal.returns-clause-stay
-returns-clause-stay g c =
+pub returns-clause-aside : goal.returns-clause-aside
+returns-clause-aside g c =
     let eq = g.B.Answer.PartialEq.eq in
-    compared-stay g.T.Text.PartialEq.eq g.met.T.Text.Eq.laws.refl g.met.T.Text.Eq.laws.symm g.met.T.Text.Datum.same
-    (option_eq eq) (option_eq-itself eq g.met.B.Answer.Eq.laws.refl) (same_option eq g.met.B.Answer.Datum.same) g.T.Task.query g.B.Key.PartialEq.eq
+    fresh-aside g.T.Text.PartialEq.eq g.met.T.Text.Eq.laws.refl g.met.T.Text.Eq.laws.symm g.met.T.Text.Datum.same
+    (option_eq eq) (option_eq-itself eq g.met.B.Answer.Eq.laws.refl) (same_option eq g.met.B.Answer.Datum.same) g.T.Task.query
+    g.B.Key.PartialEq.eq g.met.B.Key.Eq.laws.refl g.met.B.Key.Datum.same
+
+pub returns-clause-turned : goal.returns-clause-turned
+returns-clause-turned g c =
+    let eq = g.B.Answer.PartialEq.eq in
+    fresh-turned g.T.Text.PartialEq.eq g.met.T.Text.Eq.laws.refl g.met.T.Text.Eq.laws.symm g.met.T.Text.Datum.same
+    (option_eq eq) (option_eq-itself eq g.met.B.Answer.Eq.laws.refl) (same_option eq g.met.B.Answer.Datum.same) g.T.Task.query
+    g.B.Key.PartialEq.eq g.met.B.Key.Eq.laws.refl g.met.B.Key.Datum.same
+
+pub returns-clause-gone : goal.returns-clause-gone
+returns-clause-gone g c =
+    let eq = g.B.Answer.PartialEq.eq in
+    fresh-gone g.T.Text.PartialEq.eq g.met.T.Text.Eq.laws.refl g.met.T.Text.Eq.laws.symm g.met.T.Text.Datum.same
+    (option_eq eq) (option_eq-itself eq g.met.B.Answer.Eq.laws.refl) (same_option eq g.met.B.Answer.Datum.same) g.T.Task.query
+    g.B.Key.PartialEq.eq g.met.B.Key.Eq.laws.refl g.met.B.Key.Datum.same
+
+pub returns-clause-there : goal.returns-clause-there
+returns-clause-there g c =
+    let eq = g.B.Answer.PartialEq.eq in
+    Among-there g.T.Text.PartialEq.eq g.met.T.Text.Eq.laws.refl g.met.T.Text.Eq.laws.symm g.met.T.Text.Datum.same
+    (option_eq eq) (option_eq-itself eq g.met.B.Answer.Eq.laws.refl) (same_option eq g.met.B.Answer.Datum.same) g.T.Task.query
+    g.B.Key.PartialEq.eq g.met.B.Key.Eq.laws.refl g.met.B.Key.Datum.same

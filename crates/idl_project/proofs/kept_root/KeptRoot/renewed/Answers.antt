@@ -1,5 +1,5 @@
 -- The result holds still, and all stays; or it is stale, and the root is expanded anew.
-use Rattle.std.proofs.Common.{◌≡◌, ◌∙◌, ℕ, List, Option, Bool, arith, ap, subst}
+use Rattle.std.proofs.Common.{◌≡◌, ◌∙◌, ℕ, List, Option, Bool, inl, inr, arith, ap, refl, subst}
 use Rattle.std.specs.Prelude.{if◌then◌else◌}
 use Rattle.std.specs.Option.{option_copied, option_eq}
 use Rattle.std.specs.Str.{bytes_eq}
@@ -14,16 +14,17 @@ use Rattle.idl_memo.specs.Kept.{Kept, HoldsOver}
 use Rattle.idl_memo.specs.Meter.{compared_after}
 use Rattle.idl_memo.specs.Renewal.{IsTold, keys_compared}
 use Rattle.idl_memo.specs.declared.meter.Meter.{Meter}
-use Rattle.idl_prep.specs.Root.{expansion}
+use Rattle.idl_prep.specs.Root.{expanded, expansion}
 use Rattle.idl_project.specs.Bank.{bank_of}
+use Rattle.idl_project.specs.Renewed.{IsMade}
 use Rattle.idl_project.specs.Work.{answer_eq}
-use Rattle.idl_project.proofs.KeptLemmas.{IsKept-still, meter-anew, meter-still, told-of}
+use Rattle.idl_project.proofs.KeptLemmas.{IsKept-still, IsMade-metered, expanded-again, meter-anew, meter-still, told-of}
 use Rattle.idl_project.proofs.kept_root.KeptRoot.renewed.Goals as goal
 
 pub returns-then-holds_after-clause-kept : goal.returns-then-holds_after-clause-kept
 returns-then-holds_after-clause-kept c =
-    let before = bank_of c.args.edited.now.base.now in
-    let after = changed key_eq before c.args.edited.now.key.now (option_copied c.args.edited.now.answer) in
+    let before = bank_of c.args.change.edited.now.base.now in
+    let after = changed key_eq before c.args.change.edited.now.key.now (option_copied c.args.change.edited.now.answer) in
     let kept : Kept RootKey (Option RootAnswer) (List ℕ) (List Event) = c.args.self.now.result.value in
     let told : IsTold bytes_eq (option_eq answer_eq) key_eq expansion before after kept c.holds_after.result =
     told-of before after kept c.holds_after.result
@@ -31,12 +32,29 @@ returns-then-holds_after-clause-kept c =
     c.deref.ensures (c.holds_after.ensures.told expansion before after c.requires.cause) c.requires.kept.over) in
     let keys : c.holds_after.new.meter.compared ≡ compared_after c.args.meter.now.compared (keys_compared kept c.holds_after.result) =
     c.holds_after.ensures.compared ∙ ap (λ (k : Kept RootKey (Option RootAnswer) (List ℕ) (List Event)). compared_after c.args.meter.now.compared (keys_compared k c.holds_after.result)) c.deref.ensures in
-    IsKept-still before after c.args.self.now _ c.requires.kept c.in_ok-clone.ensures.cases c.in_ok-clone-2.ensures.cases (told.over.0 c.if-holds_after.true)
+    IsKept-still before after c.args.self.now _ c.requires.kept c.in_ok-clone.ensures.cases c.in_ok-clone-2.ensures.cases c.in_ok-clone-3.ensures.cases (told.over.0 c.if-holds_after.true)
+
+pub returns-then-holds_after-clause-tasks : goal.returns-then-holds_after-clause-tasks
+returns-then-holds_after-clause-tasks c =
+    let before = bank_of c.args.change.edited.now.base.now in
+    let after = changed key_eq before c.args.change.edited.now.key.now (option_copied c.args.change.edited.now.answer) in
+    let kept : Kept RootKey (Option RootAnswer) (List ℕ) (List Event) = c.args.self.now.result.value in
+    let told : IsTold bytes_eq (option_eq answer_eq) key_eq expansion before after kept c.holds_after.result =
+    told-of before after kept c.holds_after.result
+    (subst (λ (k : Kept RootKey (Option RootAnswer) (List ℕ) (List Event)). HoldsOver key_eq expansion before k → IsTold bytes_eq (option_eq ghosts.eq) key_eq expansion before after k c.holds_after.result)
+    c.deref.ensures (c.holds_after.ensures.told expansion before after c.requires.cause) c.requires.kept.over) in
+    inl (record {
+      same = expanded-again before after kept c.requires.kept.over (told.over.0 c.if-holds_after.true);
+      declarations = refl;
+      entries = refl;
+      checked = ap (λ (m : Meter). m.checked) c.holds_after.ensures.counts;
+      printed = ap (λ (m : Meter). m.printed) c.holds_after.ensures.counts;
+    })
 
 pub returns-then-holds_after-clause-counts : goal.returns-then-holds_after-clause-counts
 returns-then-holds_after-clause-counts c =
-    let before = bank_of c.args.edited.now.base.now in
-    let after = changed key_eq before c.args.edited.now.key.now (option_copied c.args.edited.now.answer) in
+    let before = bank_of c.args.change.edited.now.base.now in
+    let after = changed key_eq before c.args.change.edited.now.key.now (option_copied c.args.change.edited.now.answer) in
     let kept : Kept RootKey (Option RootAnswer) (List ℕ) (List Event) = c.args.self.now.result.value in
     let told : IsTold bytes_eq (option_eq answer_eq) key_eq expansion before after kept c.holds_after.result =
     told-of before after kept c.holds_after.result
@@ -49,13 +67,29 @@ returns-then-holds_after-clause-counts c =
     (compared_at bytes_eq (option_eq answer_eq) expansion key_eq before after kept.text) (keys_compared kept c.holds_after.result)
     c.holds_after.ensures.counts keys stale told.compared
 
-pub again-requires : goal.again-requires
-again-requires c = omega (arith, c.requires.room, ap (λ (m : Meter). m.expanded) c.holds_after.ensures.counts)
+pub expanded-requires-clause-room : goal.expanded-requires-clause-room
+expanded-requires-clause-room c = omega (arith, c.requires.room, ap (λ (m : Meter). m.expanded) c.holds_after.ensures.counts)
+
+pub expanded-requires-clause-kept : goal.expanded-requires-clause-kept
+expanded-requires-clause-kept c = (
+  (expanded c.args.self.now.result.value.text (bank_of c.args.change.edited.now.base.now)).0,
+  record { marks_are = c.deref-3.ensures ∙ c.requires.kept.marks; declarations_are = c.requires.declarations; entries_are = c.requires.entries },
+)
+
+pub returns-clause-tasks : goal.returns-clause-tasks
+returns-clause-tasks c =
+    let before = bank_of c.args.change.edited.now.base.now in
+    let after = changed key_eq before c.args.change.edited.now.key.now (option_copied c.args.change.edited.now.answer) in
+    let name : c.copied-name.result ≡ c.args.self.now.result.value.text =
+    c.copied-name.ensures ∙ c.text.ensures ∙ ap (λ (k : Kept RootKey (Option RootAnswer) (List ℕ) (List Event)). k.text) c.deref-2.ensures in
+    let made = subst (λ (n : List ℕ). IsMade after c.args.at n c.args.keeper.now c.expanded.new.keeper c.holds_after.new.meter c.expanded.new.meter) name c.in_ok-expanded.ensures.made in
+    inr (IsMade-metered after c.args.at c.args.self.now.result.value.text c.args.keeper.now c.expanded.new.keeper c.args.meter.now c.holds_after.new.meter c.expanded.new.meter
+    (ap (λ (m : Meter). m.checked) c.holds_after.ensures.counts) (ap (λ (m : Meter). m.printed) c.holds_after.ensures.counts) made)
 
 pub returns-clause-counts : goal.returns-clause-counts
 returns-clause-counts c =
-    let before = bank_of c.args.edited.now.base.now in
-    let after = changed key_eq before c.args.edited.now.key.now (option_copied c.args.edited.now.answer) in
+    let before = bank_of c.args.change.edited.now.base.now in
+    let after = changed key_eq before c.args.change.edited.now.key.now (option_copied c.args.change.edited.now.answer) in
     let kept : Kept RootKey (Option RootAnswer) (List ℕ) (List Event) = c.args.self.now.result.value in
     let told : IsTold bytes_eq (option_eq answer_eq) key_eq expansion before after kept c.holds_after.result =
     told-of before after kept c.holds_after.result
@@ -64,6 +98,6 @@ returns-clause-counts c =
     let keys : c.holds_after.new.meter.compared ≡ compared_after c.args.meter.now.compared (keys_compared kept c.holds_after.result) =
     c.holds_after.ensures.compared ∙ ap (λ (k : Kept RootKey (Option RootAnswer) (List ℕ) (List Event)). compared_after c.args.meter.now.compared (keys_compared k c.holds_after.result)) c.deref.ensures in
     let stale : stale_at bytes_eq (option_eq answer_eq) expansion before after kept.text ≡ 1 = told.stale ∙ ap (λ (b : Bool). if b then 0 else 1) c.if-holds_after.false in
-    meter-anew c.args.meter.now c.holds_after.new.meter c.again.new.meter (stale_at bytes_eq (option_eq answer_eq) expansion before after kept.text)
+    meter-anew c.args.meter.now c.holds_after.new.meter c.expanded.new.meter (stale_at bytes_eq (option_eq answer_eq) expansion before after kept.text)
     (compared_at bytes_eq (option_eq answer_eq) expansion key_eq before after kept.text) (keys_compared kept c.holds_after.result)
-    c.holds_after.ensures.counts keys c.in_ok-again.ensures.count stale told.compared
+    c.holds_after.ensures.counts keys c.in_ok-expanded.ensures.counts stale told.compared

@@ -9,14 +9,16 @@ use Rattle.std.specs.Option.{option_eq}
 use Rattle.std.specs.Prelude.{nat_le}
 use Rattle.std.specs.Str.{bytes_eq}
 use Rattle.idl_event.specs.contracts.asked.key.RootAnswerPartialEq.TheImpl.{ghosts}
-use Rattle.idl_memo.specs.Fresh.{fresh_among}
+use Rattle.idl_memo.specs.Fresh.{fresh_among, places_over}
 use Rattle.idl_memo.specs.declared.meter.Meter.{Meter}
 use Rattle.idl_prep.specs.Root.{expansion}
 use Rattle.idl_source.specs.Limits.{most_roots}
 use Rattle.idl_source.specs.names.Name.{is_name}
 use Rattle.idl_source.specs.declared.refusal.Refusal.{Refusal}
 use Rattle.idl_source.specs.declared.refusal.Refusal.TheVariants.{BadName, OverLimit, RootThere}
+use Rattle.idl_root.specs.Results.{declaration_result, entry_result, fresh_declarations, fresh_entries, with_draft}
 use Rattle.idl_project.specs.Bank.{bank_of}
+use Rattle.idl_project.specs.Tasks.{declaration_list, declarations_among, declarations_at, entries_among, entries_at, entry_list}
 use Rattle.idl_project.specs.Edits.{AddRoot, after, result_map, roots_with}
 use Rattle.idl_project.specs.Project.{Project, is_root, with_roots}
 use Rattle.idl_project.specs.UpToDate.{IsUpToDate, State}
@@ -25,7 +27,8 @@ use Rattle.idl_project.specs.declared.kept_root.KeptRoot.{KeptRoot}
 use Rattle.idl_project.specs.declared.work.Work.{Work}
 use Rattle.idl_project.proofs.FormLemmas.{after-formed}
 use Rattle.idl_project.proofs.KeptLemmas.{work-roots}
-use Rattle.idl_project.proofs.RootLemmas.{IsUpToDate-push, staying-push}
+use Rattle.idl_project.proofs.RootLemmas.{IsUpToDate-left, IsUpToDate-push, list-more, staying-push}
+use Rattle.idl_project.proofs.StoreLemmas.{fresh-more}
 use Rattle.idl_project.proofs.session.Session.add_root.Goals as goal
 
 -- a root that isn't refused
@@ -41,9 +44,20 @@ added project name root roots same allowed new room made =
     ∙ ap (λ (n : List ℕ). Ok (project.roots ++ n ∷ [])) (sym same)
     ∙ ap Ok (sym made)
 
+-- what was reserved stays, and where nothing more came of it all stays
+pub invariant_of-self : goal.invariant_of-self
+invariant_of-self c = subst (λ (roots : List (List ℕ × KeptRoot)). IsUpToDate c.self.inside.bank roots c.self.inside.keeper) (sym c.reserve_one.ensures) c.self.invariant
+
+pub invariant_of-self-in_err-add_anew : goal.invariant_of-self-in_err-add_anew
+invariant_of-self-in_err-add_anew c =
+    let roots = c.in_err-add_anew.ensures.err.0 ∙ c.reserve_one.ensures in
+    subst (λ (roots : List (List ℕ × KeptRoot)). IsUpToDate c.self.inside.bank roots c.add_anew.new.keeper) (sym roots)
+    (IsUpToDate-left c.self.inside.bank c.self.inside.roots c.self.inside.keeper c.add_anew.new.keeper c.self.invariant c.in_err-add_anew.ensures.err.1)
+
 pub invariant_of-self-2 : goal.invariant_of-self-2
 invariant_of-self-2 c =
     let inputs = c.self.inside.bank in
+    let bank = bank_of inputs in
     let held = c.self.inside.roots in
     let root = c.in-Some.root in
     let project : Project = record { inputs = inputs; roots = keys_of held } in
@@ -52,28 +66,42 @@ invariant_of-self-2 c =
     let is : after project (AddRoot c.args.name.now) ≡ Ok new =
     ap (λ (r : Result (List (List ℕ)) Refusal). result_map (with_roots project) r)
     (added project c.args.name.now root new.roots c.in-Some.ensures.same (c.in-Some.ensures.allowed.0 refl) (sym c.contains.ensures ∙ c.if-contains.false) room refl) in
-    let kept = c.in_ok-kept.ensures.kept in
-    let grown : c.add.new.self ≡ held ++ (root, c.in_ok-kept.kept) ∷ [] =
-    c.in_ok-add.ensures.ok ∙ ap (λ (rs : List (List ℕ × KeptRoot)). rs ++ (root, c.in_ok-kept.kept) ∷ []) c.reserve_one.ensures in
-    subst (λ (more : List (List ℕ × KeptRoot)). IsUpToDate inputs more) (sym grown)
-    (IsUpToDate-push inputs held root c.in_ok-kept.kept c.self.invariant.kept (rw c.copied.ensures at kept) (after-formed project new (AddRoot c.args.name.now) c.self.invariant.formed is))
+    let one = c.in_ok-add_anew.ensures.added in
+    let grown : c.add_anew.new.self ≡ held ++ (root, one.kept) ∷ [] = one.last ∙ ap (λ (rs : List (List ℕ × KeptRoot)). rs ++ (root, one.kept) ∷ []) c.reserve_one.ensures in
+    let place : length c.reserve_one.new.self ≡ length (keys_of held) = ap (λ (rs : List (List ℕ × KeptRoot)). length rs) c.reserve_one.ensures ∙ sym (length-keys_of held) in
+    let tasks = c.in_ok-add_anew.ensures.tasks in
+    let declarations = c.commit.ensures.declarations
+    ∙ list-more declaration_result (declarations_at bank) (keys_of held) root c.self.inside.keeper.declarations c.add_anew.new.keeper.declarations c.self.invariant.declarations
+    (tasks.declarations ∙ ap (λ n. with_draft c.self.inside.keeper.declarations n (declaration_list bank root)) place) in
+    let entries = c.commit.ensures.entries
+    ∙ list-more entry_result (entries_at bank) (keys_of held) root c.self.inside.keeper.entries c.add_anew.new.keeper.entries c.self.invariant.entries
+    (tasks.entries ∙ ap (λ n. with_draft c.self.inside.keeper.entries n (entry_list bank root)) place) in
+    subst (λ (more : List (List ℕ × KeptRoot)). IsUpToDate inputs more c.commit.new.self) (sym grown)
+    (IsUpToDate-push inputs held c.commit.new.self root one.kept c.self.invariant.kept one.is_kept (after-formed project new (AddRoot c.args.name.now) c.self.invariant.formed is) declarations entries)
 
 pub returns : goal.returns
 returns c =
     let held = c.self.inside.roots in
     let root = c.in-Some.root in
     let bank = bank_of c.self.inside.bank in
-    let more : List (List ℕ × KeptRoot) = c.add.new.self in
+    let more : List (List ℕ × KeptRoot) = c.add_anew.new.self in
     let project : Project = record { inputs = c.self.inside.bank; roots = keys_of held } in
     let after_add : Project = record { inputs = c.self.inside.bank; roots = keys_of more } in
     let new : list_any (bytes_eq root) (keys_of held) ≡ false = sym c.contains.ensures ∙ c.if-contains.false in
-    let grown : more ≡ held ++ (root, c.in_ok-kept.kept) ∷ [] =
-    c.in_ok-add.ensures.ok ∙ ap (λ (rs : List (List ℕ × KeptRoot)). rs ++ (root, c.in_ok-kept.kept) ∷ []) c.reserve_one.ensures in
+    let made = c.in_ok-add_anew.ensures.added in
+    let grown : more ≡ held ++ (root, made.kept) ∷ [] = made.last ∙ ap (λ (rs : List (List ℕ × KeptRoot)). rs ++ (root, made.kept) ∷ []) c.reserve_one.ensures in
     let names : keys_of more ≡ keys_of held ++ root ∷ [] =
-    ap (λ (es : List (List ℕ × KeptRoot)). keys_of es) grown ∙ map-append (λ (e : List ℕ × KeptRoot). e.0) held ((root, c.in_ok-kept.kept) ∷ []) in
+    ap (λ (es : List (List ℕ × KeptRoot)). keys_of es) grown ∙ map-append (λ (e : List ℕ × KeptRoot). e.0) held ((root, made.kept) ∷ []) in
     let stay : staying (keys_of held) (keys_of more) ≡ keys_of held = ap (staying (keys_of held)) names ∙ staying-push (keys_of held) root new in
-    let one = c.freshness.ensures.one_more bank (keys_of held) root (IsDistinct-push nat_list_eq_equiv (keys_of held) root c.self.invariant.formed.roots_once new) in
-    let fresh = subst (λ (ns : List (List ℕ)). fresh_among bytes_eq (option_eq ghosts.eq) expansion bank (keys_of held) bank ns ≡ 1) (sym names) one in
+    let one = c.one_bank.ensures.one_more bank (keys_of held) root (IsDistinct-push nat_list_eq_equiv (keys_of held) root c.self.invariant.formed.roots_once new) in
+    let fresh = subst (λ (ns : List (List ℕ)). fresh_among bytes_eq (option_eq ghosts.eq) expansion (places_over bank (keys_of held)) (places_over bank ns) ≡ 1) (sym names) one in
+    let tasks = c.in_ok-add_anew.ensures.tasks in
+    let checked : c.add_anew.new.meter.checked ≡ fresh_declarations (declarations_among bank (keys_of held)) (declarations_among bank (keys_of more)) =
+    fresh-more declaration_result (declarations_at bank) fresh_declarations c.fresh_tasks.ensures.declarations_aside (keys_of held) root c.self.inside.keeper.declarations 0 c.add_anew.new.meter.checked c.self.invariant.declarations refl tasks.checked.count
+    ∙ ap (λ (ns : List (List ℕ)). fresh_declarations (declarations_among bank (keys_of held)) (declarations_among bank ns)) (sym names) in
+    let printed : c.add_anew.new.meter.printed ≡ fresh_entries (entries_among bank (keys_of held)) (entries_among bank (keys_of more)) =
+    fresh-more entry_result (entries_at bank) fresh_entries c.fresh_tasks.ensures.entries_aside (keys_of held) root c.self.inside.keeper.entries 0 c.add_anew.new.meter.printed c.self.invariant.entries refl tasks.printed.count
+    ∙ ap (λ (ns : List (List ℕ)). fresh_entries (entries_among bank (keys_of held)) (entries_among bank ns)) (sym names) in
     let room : nat_le most_roots (length (keys_of held)) ≡ false = ap (nat_le most_roots) (length-keys_of held) ∙ sym c.is_full.ensures ∙ c.if-is_full.false in
     let counts : Meter → Work = λ m. record { expanded = m.expanded; checked = m.checked; printed = m.printed; compared = m.compared } in
     record {
@@ -84,8 +112,8 @@ returns c =
       kept = refl;
       told =
           c.counted-self-inside.ensures
-          ∙ ap counts c.in_ok-kept.ensures.count
-          ∙ (λ i. record { expanded = 1; checked = 0; printed = 0; compared = c.keys_asked.ensures i })
-          ∙ work-roots bank (keys_of held) (keys_of more) held 1 c.self.invariant.kept stay fresh (c.freshness.ensures.stay bank (keys_of held))
+          ∙ ap counts c.in_ok-add_anew.ensures.counts
+          ∙ (λ i. record { expanded = 1; checked = c.add_anew.new.meter.checked; printed = c.add_anew.new.meter.printed; compared = c.keys_asked.ensures i })
+          ∙ work-roots bank (keys_of held) (keys_of more) held 1 c.add_anew.new.meter.checked c.add_anew.new.meter.printed c.self.invariant.kept stay fresh (c.one_bank.ensures.stay bank (keys_of held)) checked printed
           ∙ ap (λ (state : State). work_of state.project after_add) c.self.view_is;
     }

@@ -6,11 +6,13 @@ use Rattle.indexmap.specs.IndexMap.{insert_entry}
 use Rattle.idl_event.specs.declared.asked.key.RootAnswer.TheVariants as answers
 use Rattle.idl_event.specs.declared.asked.key.RootKey.TheVariants as keys
 use Rattle.idl_project.specs.Edits.{Define, after, macros_with}
-use Rattle.idl_project.specs.Project.{Project}
-use Rattle.idl_project.specs.UpToDate.{State}
+use Rattle.idl_store.specs.Stored.{Stored}
+use Rattle.idl_root.specs.Results.{DeclarationResult, EntryResult}
+use Rattle.idl_project.specs.Project.{Inputs, Project}
+use Rattle.idl_project.specs.UpToDate.{IsUpToDate, State}
 use Rattle.idl_project.proofs.EditLemmas.{define-accepted, define-refused}
 use Rattle.idl_project.proofs.FormLemmas.{after-formed}
-use Rattle.idl_project.proofs.RootLemmas.{IsUpToDate-edited, work-edited}
+use Rattle.idl_project.proofs.RootLemmas.{IsKeeperLeft-discarded, IsUpToDate-edited, IsUpToDate-left, work-edited}
 use Rattle.idl_project.proofs.session.Session.define.Goals as goal
 
 pub returns-in-Some : goal.returns-in-Some
@@ -26,39 +28,46 @@ returns-in-Some c =
       memory = λ is. refl;
     }
 
+pub invariant_of-self : goal.invariant_of-self
+invariant_of-self c = IsUpToDate-left c.self.inside.bank c.self.inside.roots c.self.inside.keeper c.renewed.new.keeper c.self.invariant c.in_err-renewed.ensures.err
+
+pub invariant_of-self-in-Err : goal.invariant_of-self-in-Err
+invariant_of-self-in-Err c =
+    let left = IsKeeperLeft-discarded c.self.inside.keeper c.renewed.new.keeper c.discard.new.self
+    (ap (λ (s : Stored DeclarationResult). s.drafts) c.self.invariant.declarations) (ap (λ (s : Stored EntryResult). s.drafts) c.self.invariant.entries)
+    c.renewed.ensures.lists c.discard.ensures.declarations c.discard.ensures.entries in
+    subst (λ (inputs : Inputs). IsUpToDate inputs c.self.inside.roots c.discard.new.self) (sym c.in-Err.ensures.err)
+    (IsUpToDate-left c.self.inside.bank c.self.inside.roots c.self.inside.keeper c.discard.new.self c.self.invariant left)
+
 pub invariant_of-self-2 : goal.invariant_of-self-2
 invariant_of-self-2 c =
-    let project : Project = record { inputs = c.self-2.inside.bank; roots = keys_of c.self-2.inside.roots } in
+    let project : Project = record { inputs = c.self.inside.bank; roots = keys_of c.self.inside.roots } in
     let new : Project = record { inputs = c.define.new.self; roots = keys_of c.in_ok-renewed.renewed.0 } in
     let word = c.in_ok-word.word in
-    let none : None ≡ result_err (macros_with project.inputs.macros word c.args.body) =
-    subst (λ (state : State). None ≡ result_err (macros_with state.project.inputs.macros word c.args.body)) (c.self.view_is ∙ sym (c.self-2.view_is ∙ c.in_ok-renewed.ensures.same))
-    c.in_default.ensures in
+    let none : None ≡ result_err (macros_with project.inputs.macros word c.args.body) = c.in_default.ensures in
     let is = define-accepted project word c.args.body c.define.new.self new.roots none
-    (c.in_ok-define.ensures.ok ∙ ap (λ (b : List ℕ). record project.inputs { macros = insert_entry bytes_eq project.inputs.macros word b }) c.in_ok-body.ensures)
-    (c.in_ok-renewed.ensures.renewed.roots ∙ ap (λ (state : State). state.project.roots) (sym (c.self-2.view_is ∙ c.in_ok-renewed.ensures.same))) in
-    IsUpToDate-edited c.args.self.now c.self-2.inside.bank c.define.new.self c.self-2.inside.roots c.in_ok-renewed.renewed (keys.Macro word) (keys.Macro word)
-    (Some c.answer.result.now) (Some (answers.Macro (c.in_ok-body.body ∷ []))) c.self-2.inside.work
-    (c.self-2.view_is ∙ c.in_ok-renewed.ensures.same) c.in_ok-renewed.ensures.renewed refl (ap Some c.answer.ensures) c.in_ok-define.ensures.bank
-    (after-formed project new (Define word c.args.body) c.self-2.invariant.formed is)
+    (c.in_default-define.ensures.ok ∙ ap (λ (b : List ℕ). record project.inputs { macros = insert_entry bytes_eq project.inputs.macros word b }) c.in_ok-body.ensures)
+    c.in_ok-renewed.ensures.renewed.roots in
+    IsUpToDate-edited c.self.inside.bank c.define.new.self c.self.inside.roots c.in_ok-renewed.renewed c.commit.new.self _ (keys.Macro word)
+    (Some c.answer.result.now) (Some (answers.Macro (c.in_ok-body.body ∷ [])))
+    c.in_ok-renewed.ensures.renewed (c.commit.ensures.declarations ∙ c.in_ok-renewed.ensures.declarations) (c.commit.ensures.entries ∙ c.in_ok-renewed.ensures.entries) (ap keys.Macro c.in_ok-clone.ensures.cases) (ap Some c.answer.ensures) c.in_default-define.ensures.bank
+    (after-formed project new (Define word c.args.body) c.self.invariant.formed is)
 
 pub returns : goal.returns
 returns c =
-    let project : Project = record { inputs = c.self-2.inside.bank; roots = keys_of c.self-2.inside.roots } in
+    let project : Project = record { inputs = c.self.inside.bank; roots = keys_of c.self.inside.roots } in
     let word = c.in_ok-word.word in
-    let none : None ≡ result_err (macros_with project.inputs.macros word c.args.body) =
-    subst (λ (state : State). None ≡ result_err (macros_with state.project.inputs.macros word c.args.body)) (c.self.view_is ∙ sym (c.self-2.view_is ∙ c.in_ok-renewed.ensures.same))
-    c.in_default.ensures in
+    let none : None ≡ result_err (macros_with project.inputs.macros word c.args.body) = c.in_default.ensures in
     record {
       project =
-          ap (λ (state : State). after state.project (Define c.args.word.now c.args.body)) (sym (c.self-2.view_is ∙ c.in_ok-renewed.ensures.same))
+          ap (λ (state : State). after state.project (Define c.args.word.now c.args.body)) (sym c.self.view_is)
           ∙ ap (λ w. after project (Define w c.args.body)) (sym c.in_ok-word.ensures)
           ∙ define-accepted project word c.args.body c.define.new.self (keys_of c.in_ok-renewed.renewed.0) none
-          (c.in_ok-define.ensures.ok ∙ ap (λ (b : List ℕ). record project.inputs { macros = insert_entry bytes_eq project.inputs.macros word b }) c.in_ok-body.ensures)
-          (c.in_ok-renewed.ensures.renewed.roots ∙ ap (λ (state : State). state.project.roots) (sym (c.self-2.view_is ∙ c.in_ok-renewed.ensures.same)));
+          (c.in_default-define.ensures.ok ∙ ap (λ (b : List ℕ). record project.inputs { macros = insert_entry bytes_eq project.inputs.macros word b }) c.in_ok-body.ensures)
+          c.in_ok-renewed.ensures.renewed.roots;
       kept = refl;
       told =
-          work-edited c.args.self.now c.self-2.inside.bank c.define.new.self c.self-2.inside.roots c.in_ok-renewed.renewed (keys.Macro word) (keys.Macro word)
-          (Some c.answer.result.now) (Some (answers.Macro (c.in_ok-body.body ∷ []))) c.self-2.inside.work
-          (c.self-2.view_is ∙ c.in_ok-renewed.ensures.same) c.in_ok-renewed.ensures.renewed refl (ap Some c.answer.ensures) c.in_ok-define.ensures.bank;
+          work-edited c.args.self.now c.self.inside.bank c.define.new.self c.self.inside.roots c.in_ok-renewed.renewed _ (keys.Macro word)
+          (Some c.answer.result.now) (Some (answers.Macro (c.in_ok-body.body ∷ []))) c.self.inside.work
+          c.self.view_is c.in_ok-renewed.ensures.renewed (ap keys.Macro c.in_ok-clone.ensures.cases) (ap Some c.answer.ensures) c.in_default-define.ensures.bank;
     }

@@ -5,8 +5,8 @@ use Rattle.std.proofs.lemmas.Option.{same_Some}
 use Rattle.std.specs.Option.{option_copied}
 use Rattle.idl_event.proofs.SitesLemmas.{copied-get}
 use Rattle.idl_event.specs.Apart.{Numbered, others_in, sites_in}
-use Rattle.idl_memo.proofs.Bucketed.{none_weaker, some_weaker}
 use Rattle.idl_root.proofs.NumberLemmas.{found-here, is-nothing, is-other, is-token, partitioned, split-here}
+use Rattle.idl_root.proofs.TakenLemmas.{none-weaker, some-weaker}
 use Rattle.idl_root.proofs.compiling.number.token_place.Goals as goal
 use Rattle.idl_root.proofs.compiling.number.token_place.Goals.{in_default-via-in-Some+else-number-event, in_default-via-in_default}
 
@@ -49,7 +49,7 @@ returns-in_default-clause-some c =
     ] in
     let sites = sites_in (enumerate_from 0 events) in
     let sites_is : c.deref.result.now ≡ sites = c.deref.ensures ∙ c.sites.ensures in
-    some_weaker c.place_at.result _ _
+    some-weaker c.place_at.result _ _
     (λ l stands. is-token sites others p n (slice_get events n) (record { file = l.0.now; line = l.1 }) s differs stands)
     (rw c.saturating_sub.ensures at (rw sites_is at c.place_at.ensures.some))
 
@@ -66,5 +66,5 @@ returns-in_default-clause-none c =
     let s = found-here events n p bound point in
     let sites = sites_in (enumerate_from 0 events) in
     let sites_is : c.deref.result.now ≡ sites = c.deref.ensures ∙ c.sites.ensures in
-    none_weaker c.place_at.result (λ none. is-nothing sites others p n (slice_get events n) s none)
+    none-weaker c.place_at.result (λ none. is-nothing sites others p n (slice_get events n) s none)
     (rw c.saturating_sub.ensures at (rw sites_is at c.place_at.ensures.none))

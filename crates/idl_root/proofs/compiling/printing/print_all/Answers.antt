@@ -18,5 +18,4 @@ loop-name-preserved c =
     let rows = c.in_ok-add_full.ensures.rows ∙ ap (λ s. printed.rows.items ++ flat_map sought_row s) more ∙ sought-more sought_row printed.rows.items before one ∙ ap (λ a. (printed.rows.items ++ flat_map sought_row before) ++ sought_row (known a)) c.in_ok-answered.ensures in (
       printed-more (closing_finding env) (printed.findings.items ++ flat_map sought_finding before) (c.add_full.new.self.findings.items ++ flat_map sought_finding c.add_full.new.sought.items) c.args.listed.now c.loop-name.name-index name c.loop-name-test.true c.name-item.is findings ∙ c.loop-name.invariant.0,
       printed-more (entry_row env) (printed.rows.items ++ flat_map sought_row before) (c.add_full.new.self.rows.items ++ flat_map sought_row c.add_full.new.sought.items) c.args.listed.now c.loop-name.name-index name c.loop-name-test.true c.name-item.is rows ∙ c.loop-name.invariant.1,
-      search rules,
     )

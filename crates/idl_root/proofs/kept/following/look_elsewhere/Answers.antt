@@ -1,6 +1,6 @@
 use Rattle.std.proofs.Common.{rules, subst}
-use Rattle.idl_root.specs.Followed.{ShareNone}
-use Rattle.idl_root.specs.Kept.{AreNoted}
+use Rattle.idl_root.specs.Changed.{ShareNone}
+use Rattle.idl_root.specs.Followed.{AreNoted}
 use Rattle.idl_env.specs.Facts.{world}
 use Rattle.idl_env.specs.Outside.{looked_at_by}
 use Rattle.idl_root.proofs.kept.following.look_elsewhere.Goals as goal

@@ -1,10 +1,6 @@
 use Rattle.std.proofs.Common.{◌≡◌, drop}
-use Rattle.std.specs.Prelude.{IfSome}
-use Rattle.idl_root.specs.Followed.{IsKeeping}
 use Rattle.idl_root.specs.Held.{held, to_come, with_gathered}
 use Rattle.idl_root.proofs.compiling.judging.Judging.with_all.Given as goal
 
 abbrev pub invariant-loop-unit : goal.invariant-loop-unit
-invariant-loop-unit l =
-    (to_come (with_gathered l.env l.gathered) (drop l.unit-index l.units) ≡ to_come (held l.fn.self) l.units)
-    × IfSome l.gathered.keeping (λ k. IsKeeping k l.env)
+invariant-loop-unit l = to_come (with_gathered l.env l.gathered) (drop l.unit-index l.units) ≡ to_come (held l.fn.self) l.units

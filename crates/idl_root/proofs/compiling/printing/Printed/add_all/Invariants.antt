@@ -9,5 +9,4 @@ invariant-loop-name l =
     (l.self.findings.items ++ flat_map sought_finding (drop l.name-index l.sought) ≡ l.fn.self.findings.items ++ flat_map sought_finding l.sought)
     × (pieces l.written.bytes.items l.written.spans.items ++ flat_map sought_row (drop l.name-index l.sought) ≡ flat_map sought_row l.sought)
     × (l.self.rows ≡ l.fn.self.rows)
-    × (l.self.entries ≡ l.fn.self.entries)
     × AreWithin l.written.bytes.items l.written.spans.items

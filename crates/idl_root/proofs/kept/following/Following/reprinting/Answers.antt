@@ -1,19 +1,19 @@
-use Rattle.std.proofs.Common.{◌≡◌, [], length, map, rules, subst, sym, true}
-use Rattle.std.proofs.lemmas.List.{nil_from_length}
-use Rattle.std.specs.Prelude.{All}
-use Rattle.idl_root.specs.Followed.{AgreeBut}
-use Rattle.idl_root.specs.Kept.{IsPrinted, added_by}
+use Rattle.std.proofs.Common.{◌≡◌, ◌∙◌, [], ap, rules, subst, sym, true}
+use Rattle.idl_root.specs.Followed.{AgreeBut, ArePrinted, facts_of, results_from}
+use Rattle.idl_root.specs.Results.{list_at}
 use Rattle.idl_root.proofs.FollowingLemmas.{beside-end}
 use Rattle.idl_root.proofs.kept.following.Following.reprinting.Goals as goal
 
 pub returns : goal.returns
-returns c = λ facts b.
-    let all = map added_by c.args.self.now.earlier.now.0 in
-    let empty : length c.args.self.now.kept.now ≡ 0 = search rules in
-    let none : c.args.self.now.kept.now ≡ [] = nil_from_length c.args.self.now.kept.now empty in
-    let but : AgreeBut true c.args.self.now.changed all facts = beside-end c.agreeing_around.ensures.wider all c.args.self.now.is_around c.args.self.now.changed c.args.self.now.kept.now facts none b in
+returns c = λ lists earlier facts entries b printed.
+    let course = c.args.self.course in
+    let all = facts_of lists earlier in
+    let none : course.marks.now ≡ [] = search rules in
+    let but : AgreeBut true c.args.self.changed all facts =
+    beside-end c.agreeing_around.ensures.wider all c.args.self.is_around c.args.self.changed course.marks.now (results_from lists course) facts none b.beside in
+    let list : c.new.result.list ≡ earlier.list = c.new.ensures.list ∙ ap (λ p. p.0) c.place-list.ensures ∙ b.list in
     record {
       before = all;
-      entries = subst (All (IsPrinted all)) (sym c.new.ensures.entries) c.entries-entries.ensures.kept;
+      entries = subst (λ at. ArePrinted all (list_at entries at)) (sym list) printed;
       but = subst (λ changed. AgreeBut true changed all facts) (sym c.new.ensures.changed) but;
     }

@@ -1,7 +1,9 @@
-use Rattle.idl_root.proofs.FollowingLemmas.{keeping-more}
+use Rattle.std.proofs.Common.{subst, sym}
+use Rattle.std.specs.Prelude.{IfSome}
+use Rattle.idl_root.specs.Followed.{IsFollowed}
 use Rattle.idl_root.proofs.kept.keeping.Keeping.cross.Goals as goal
 
-pub returns : goal.returns
-returns c =
-    keeping-more c.args.self.now c.args.env.now c.args.boundary c.push.new.self c.in_ok-self.field-0 c.args.facts.now
-    c.requires.kept c.in_ok-push.ensures.items c.requires.boundary c.requires.adds c.in_ok-self.ensures
+pub returns-clause-keeping : goal.returns-clause-keeping
+returns-clause-keeping c = λ lists k.
+    let earlier = c.args.self.now.earlier in
+    c.in_ok-self.ensures lists earlier (subst (λ o. IfSome o (λ f. IsFollowed lists earlier f c.args.env.now)) (sym c.replace-following.ensures.value) k)

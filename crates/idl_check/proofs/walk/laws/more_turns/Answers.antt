@@ -1,5 +1,0 @@
-use Rattle.idl_check.proofs.Visits.MoreTurns.{verdict-same}
-use Rattle.idl_check.proofs.walk.laws.more_turns.Goals as goal
-
-pub returns : goal.returns
-returns c = λ facts turns more text log enough. verdict-same facts turns enough more text log

@@ -1,8 +1,0 @@
-use Rattle.idl_check.proofs.Visits.SpokenLaws.{id-said, spoken-alone}
-use Rattle.idl_check.proofs.walk.laws.speaking.Goals as goal
-
-pub returns-clause-id : goal.returns-clause-id
-returns-clause-id c = id-said
-
-pub returns-clause-alone : goal.returns-clause-alone
-returns-clause-alone c = spoken-alone

@@ -1,9 +1,0 @@
-use Rattle.idl_check.proofs.Visits.RowLaws.{unit-blank, walked-found}
-use Rattle.idl_check.proofs.Visits.WholeLaws.{whole-none}
-use Rattle.idl_check.proofs.walk.laws.wording.Goals as goal
-
-pub returns-clause-found : goal.returns-clause-found
-returns-clause-found c = λ turns answers sites w h. walked-found turns answers sites w (whole-none turns answers sites w h)
-
-pub returns-clause-blank : goal.returns-clause-blank
-returns-clause-blank c = unit-blank

@@ -1,0 +1,11 @@
+//! The laws of verdicts, of which `idl_check` gives the definition.
+//!
+//! They hold over any answers, and for any number of turns. Nothing here runs.
+#![tactic(auto)]
+
+mod laws;
+
+pub use laws::{
+    acceptance, bracketing, denoting, evaluating, fitting, identification, inheriting, least,
+    more_turns, numbering, questions, refusal, speaking, stopping, wording,
+};

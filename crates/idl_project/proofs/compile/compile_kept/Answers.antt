@@ -1,0 +1,31 @@
+-- What comes of a root is that of the events that its result is.
+use Rattle.std.proofs.Common.{◌≡◌, ◌∙◌, List, Option, ap}
+use Rattle.idl_event.specs.declared.asked.key.RootAnswer.{RootAnswer}
+use Rattle.idl_event.specs.declared.asked.key.RootKey.{RootKey}
+use Rattle.idl_event.specs.declared.told.event.Event.{Event}
+use Rattle.idl_prep.specs.Root.{absent_files, expanded}
+use Rattle.idl_root.specs.Compile.{compile}
+use Rattle.idl_root.specs.Results.{root_marks}
+use Rattle.idl_project.specs.Compile.{end_of}
+use Rattle.idl_project.proofs.KeptLemmas.{IsMade-from, compile-kept}
+use Rattle.idl_project.proofs.compile.compile_kept.Goals as goal
+
+pub returns-clause-compiled : goal.returns-clause-compiled
+returns-clause-compiled g c =
+    let bank = g.B.Bank.at c.args.bank.now in
+    let kept = c.args.root.result.now in
+    let rows : c.in_ok-rows.field-0.compiled ≡ compile (end_of bank kept.text) kept.out =
+    c.in_ok-rows.ensures.compiled ∙ (λ i. compile ((c.in_ok-end.ensures ∙ ap (end_of bank) c.text.ensures) i) (c.out.ensures i)) in
+    let names : c.from_vec.result ≡ absent_files kept.log = c.from_vec.ensures ∙ c.in_ok-names.ensures ∙ ap absent_files c.log.ensures in
+    (λ i. record { rows = rows i; absent = names i }) ∙ compile-kept bank kept c.requires.over
+
+pub returns-clause-marks : goal.returns-clause-marks
+returns-clause-marks g c =
+    let is = c.out.ensures ∙ ap (λ (p : List Event × List (RootKey × Option RootAnswer)). p.0) c.requires.over in
+    c.in_ok-rows.ensures.marks ∙ ap root_marks is
+
+pub returns-clause-made : goal.returns-clause-made
+returns-clause-made g c =
+    let is = c.out.ensures ∙ ap (λ (p : List Event × List (RootKey × Option RootAnswer)). p.0) c.requires.over in
+    IsMade-from (g.B.Bank.at c.args.bank.now) c.args.root.at c.args.root.result.now.text c.out.result.now c.args.keeper.now c.compile_kept.new.keeper c.args.meter.now c.compile_kept.new.meter is
+    c.in_ok-rows.ensures.declarations c.in_ok-rows.ensures.entries c.in_ok-rows.ensures.checked c.in_ok-rows.ensures.printed

@@ -1,0 +1,117 @@
+-- A root from its beginning to its end, where results are kept.
+use Rattle.std.proofs.Common.{◌≡◌, ◌∙◌, ℕ, List, [], ap, drop, flat_map, map, subst, sym}
+use Rattle.std.specs.List.{enumerate_from}
+use Rattle.idl_env.specs.Facts.{UnitFacts}
+use Rattle.idl_event.specs.declared.told.event.Event.{Event}
+use Rattle.idl_store.specs.Stored.{Stored, begun, grown, results_in}
+use Rattle.idl_memo.specs.declared.meter.Meter.{Meter}
+use Rattle.idl_root.specs.Compile.{Outcome, outcome_of}
+use Rattle.idl_root.specs.Findings.{event_finding}
+use Rattle.idl_root.specs.Followed.{ArePrinted, IsKeeping, WereThere, added_by, facts_of, results_from}
+use Rattle.idl_root.specs.Held.{to_come}
+use Rattle.idl_root.specs.Places.{declarations_after, declarations_of, entries_of, entries_over}
+use Rattle.idl_root.specs.Results.{ChecksAndPrintsOnly, ChecksOnly, DeclarationResult, EntryResult, IsDeclarationPass, IsEntryPass, IsKeptOf, PrintsOnly, declaration_result, entry_result, list_at, with_draft}
+use Rattle.idl_root.specs.declared.compiling.finding.EventFinding.{EventFinding}
+use Rattle.idl_root.specs.declared.kept.course.Course.{Course}
+use Rattle.idl_root.specs.declared.kept.keeping.Keeping.{Keeping}
+use Rattle.idl_root.specs.declared.kept.marks.Mark.{Mark}
+use Rattle.idl_root.proofs.JudgingLemmas.{to_come-start}
+use Rattle.idl_root.proofs.ResultLemmas.{kept-printed, kept-there}
+use Rattle.idl_root.proofs.StoredLemmas.{begun-results, grown-begun}
+use Rattle.idl_unit.specs.Units.{units_of}
+use Rattle.idl_unit.specs.declared.unit.Unit.{Unit as RootUnit}
+
+-- ---- at first
+
+module _ (lists : List (List DeclarationResult)) (course : Course) (at : ℕ) (marks : List Mark) (list : course.list ≡ at) (place : course.place ≡ 0) (own : course.marks.now ≡ marks) where
+  start-results : results_from lists course ≡ list_at lists at
+  start-results = λ i. drop (place i) (list_at lists (list i))
+
+  -- the units were there
+  pub start-there : (events : List Event) (entries : List EntryResult) → IsKeptOf events marks (list_at lists at) entries → WereThere [] course.marks.now (results_from lists course)
+  start-there events entries is =
+      subst (λ ms. WereThere [] ms (results_from lists course)) (sym own)
+      (subst (λ rs. WereThere [] marks rs) (sym start-results) (kept-there events marks (list_at lists at) entries is))
+
+  -- and so were the entries over all that they added
+  pub start-printed : (events : List Event) (entries : List EntryResult) → IsKeptOf events marks (list_at lists at) entries → ArePrinted (facts_of lists course) entries
+  start-printed events entries is =
+      let facts : facts_of lists course ≡ added_by marks (list_at lists at) = λ i. added_by (own i) (start-results i) in
+      subst (λ fs. ArePrinted fs entries) (sym facts) (kept-printed events marks (list_at lists at) entries is)
+
+-- the judging begins, behind a draft more
+pub start-keeping : (old new : Stored DeclarationResult) (at : ℕ) (keeping : Keeping) (facts : List UnitFacts) → new ≡ begun old at → facts ≡ [] → IsKeeping old.lists keeping []
+    → IsKeeping new.lists keeping facts
+start-keeping old new at keeping facts begins none k =
+    subst (λ (s : Stored DeclarationResult). IsKeeping s.lists keeping facts) (sym begins) (subst (λ fs. IsKeeping old.lists keeping fs) (sym none) k)
+
+-- ---- at the end
+
+-- the draft of the declarations
+pub declarations-drafted : (events : List Event) (old between new : Stored DeclarationResult) (at : ℕ) (facts : List UnitFacts) (units : List RootUnit) → between ≡ begun old at → facts ≡ []
+    → units ≡ units_of events → new ≡ grown between (map declaration_result (declarations_after facts units))
+    → new ≡ with_draft old at (map declaration_result (declarations_of events))
+unfolding declarations_of
+declarations-drafted events old between new at facts units begins none are grows =
+    grows
+    ∙ (λ i. grown (begins i) (map declaration_result (declarations_after (none i) (are i))))
+    ∙ grown-begun old at (map declaration_result (declarations_after [] (units_of events)))
+
+pub declarations-passed : (events : List Event) (old between new : Stored DeclarationResult) (at : ℕ) (facts : List UnitFacts) (units : List RootUnit) (a b c d : ℕ) → between ≡ begun old at
+    → facts ≡ [] → units ≡ units_of events → a ≡ c → b ≡ d
+    → IsDeclarationPass (declarations_after facts units) (results_in between) (results_in new) a b
+    → IsDeclarationPass (declarations_of events) (results_in old) (results_in new) c d
+unfolding declarations_of
+declarations-passed events old between new at facts units a b c d begins none are before after pass =
+    let results : results_in between ≡ results_in old = ap (λ (s : Stored DeclarationResult). results_in s) begins ∙ begun-results old at in
+    subst (λ n. IsDeclarationPass (declarations_after [] (units_of events)) (results_in old) (results_in new) c n) after
+    (subst (λ n. IsDeclarationPass (declarations_after [] (units_of events)) (results_in old) (results_in new) n b) before
+    (subst (λ rs. IsDeclarationPass (declarations_after [] (units_of events)) rs (results_in new) a b) results
+    (subst (λ us. IsDeclarationPass (declarations_after [] us) (results_in between) (results_in new) a b) are
+    (subst (λ fs. IsDeclarationPass (declarations_after fs units) (results_in between) (results_in new) a b) none pass))))
+
+-- the places of the entries
+entries-are : (events : List Event) (o : Outcome) → o ≡ outcome_of events → entries_over o.facts o.listed ≡ entries_of events
+unfolding entries_of
+entries-are events o is = ap (λ (p : Outcome). entries_over p.facts p.listed) is
+
+pub entries-drafted : (events : List Event) (o : Outcome) (old between new : Stored EntryResult) (at : ℕ) → o ≡ outcome_of events → between ≡ begun old at
+    → new ≡ grown between (map entry_result (entries_over o.facts o.listed)) → new ≡ with_draft old at (map entry_result (entries_of events))
+entries-drafted events o old between new at is begins grows =
+    grows
+    ∙ ap (λ (s : Stored EntryResult). grown s (map entry_result (entries_over o.facts o.listed))) begins
+    ∙ grown-begun old at (map entry_result (entries_over o.facts o.listed))
+    ∙ ap (λ places. with_draft old at (map entry_result places)) (entries-are events o is)
+
+pub entries-passed : (events : List Event) (o : Outcome) (old between new : Stored EntryResult) (at : ℕ) (a b c d : ℕ) → o ≡ outcome_of events → between ≡ begun old at → a ≡ c → b ≡ d
+    → IsEntryPass (entries_over o.facts o.listed) (results_in between) (results_in new) a b → IsEntryPass (entries_of events) (results_in old) (results_in new) c d
+entries-passed events o old between new at a b c d is begins before after pass =
+    let results : results_in between ≡ results_in old = ap (λ (s : Stored EntryResult). results_in s) begins ∙ begun-results old at in
+    subst (λ n. IsEntryPass (entries_of events) (results_in old) (results_in new) c n) after
+    (subst (λ n. IsEntryPass (entries_of events) (results_in old) (results_in new) n b) before
+    (subst (λ rs. IsEntryPass (entries_of events) rs (results_in new) a b) results
+    (subst (λ places. IsEntryPass places (results_in between) (results_in new) a b) (entries-are events o is) pass)))
+
+-- the counts
+pub counts-both : (old start judged printed : Meter) → start ≡ old → ChecksOnly start judged → PrintsOnly judged printed → ChecksAndPrintsOnly old printed
+counts-both old start judged printed same checks prints =
+    let own : judged.checked ≡ printed.checked = sym (ap (λ (m : Meter). m.checked) prints) in
+    prints
+    ∙ ap (λ (m : Meter). record m { printed = printed.printed }) (checks ∙ ap (λ (m : Meter). record m { checked = judged.checked }) same)
+    ∙ ap (λ n. record old { checked = n; printed = printed.printed }) own
+
+-- what was printed was so over all that was added before
+pub printed-there : (lists others : List (List DeclarationResult)) (earlier course : Course) (at : ℕ) (entries before : List (List EntryResult)) → lists ≡ others → earlier ≡ course → course.list ≡ at
+    → entries ≡ before → ArePrinted (facts_of others course) (list_at before at) → ArePrinted (facts_of lists earlier) (list_at entries earlier.list)
+printed-there lists others earlier course at entries before l e a b h =
+    subst (λ ls. ArePrinted (facts_of ls earlier) (list_at entries earlier.list)) (sym l)
+    (subst (λ (k : Course). ArePrinted (facts_of others k) (list_at entries k.list)) (sym e)
+    (subst (λ es. ArePrinted (facts_of others course) (list_at es course.list)) (sym b)
+    (subst (λ n. ArePrinted (facts_of others course) (list_at before n)) (sym a) h)))
+
+-- all that comes of a root
+pub judged-all : (events : List Event) (units : List RootUnit) (found : List EventFinding) (first judging : Outcome) → units ≡ units_of events
+    → found ≡ flat_map event_finding (enumerate_from 0 events) → first ≡ record { facts = []; found = found; rows = []; listed = [] } → judging ≡ to_come first units → judging ≡ outcome_of events
+judged-all events units found first judging are finds start all =
+    all ∙ ap (to_come first) are
+    ∙ to_come-start events first (start ∙ ap (λ (fs : List EventFinding). record { facts = []; found = fs; rows = []; listed = [] }) finds)

@@ -1,0 +1,49 @@
+-- Results of lists that go into the last draft too.
+use Rattle.std.proofs.Common.{◌≡◌, List, [], ◌∷◌, Option, None, Some, ap, subst, sym, ◌∙◌}
+use Rattle.std.specs.Option.{option_map}
+use Rattle.std.specs.Prelude.{IfNone, IfOk, IfSome, OnErr, OnOk, Result, Ok, Err, option_to_list}
+use Rattle.std.proofs.lemmas.Option.{same_Some}
+use Rattle.idl_store.specs.Stored.{Stored, grown}
+use Rattle.idl_root.proofs.StoredLemmas.{grown-none}
+
+module _ {X R E : Type 0} (value : R → X) (old new : Stored X) where
+  -- where there is none, nothing happens
+  pub none-taken : (result : Result (Option R) E) (at : Option X) → IfOk result (λ found. option_map value found ≡ at) → OnOk result (new ≡ grown old (option_to_list at))
+      → IfOk result (λ found. IfNone found (new ≡ old))
+  none-taken (Ok None) at is grows = grows ∙ ap (λ a. grown old (option_to_list a)) (sym is) ∙ grown-none old
+  none-taken (Ok (Some r)) at is grows = tt
+  none-taken (Err e) at is grows = tt
+
+  -- where there is one, it goes there
+  pub some-taken : (result : Result (Option R) E) (at : Option X) (k : X) → at ≡ Some k → IfOk result (λ found. option_map value found ≡ at) → OnOk result (new ≡ grown old (option_to_list at))
+      → IfOk result (λ found. IfSome found (λ r. (value r ≡ k) × (new ≡ grown old (k ∷ []))))
+  some-taken (Ok None) at k one is grows = tt
+  some-taken (Ok (Some r)) at k one is grows = (same_Some (value r) k (is ∙ one), grows ∙ ap (λ a. grown old (option_to_list a)) one)
+  some-taken (Err e) at k one is grows = tt
+
+-- of what is found
+pub found-weaker : {R E : Type 0} (result : Result (Option R) E) (P Q : R → Type 0) → ((r : R) → P r → Q r) → IfOk result (λ found. IfSome found P) → IfOk result (λ found. IfSome found Q)
+found-weaker (Ok None) P Q more is = tt
+found-weaker (Ok (Some r)) P Q more is = more r is
+found-weaker (Err e) P Q more is = tt
+
+pub some-weaker : {R : Type 0} (found : Option R) (P Q : R → Type 0) → ((r : R) → P r → Q r) → IfSome found P → IfSome found Q
+some-weaker None P Q more is = tt
+some-weaker (Some r) P Q more is = more r is
+
+-- of what isn't found
+pub none-weaker : {R P Q : Type 0} (found : Option R) → (P → Q) → IfNone found P → IfNone found Q
+none-weaker None more is = more is
+none-weaker (Some r) more is = tt
+
+-- of the one that is found, and where none is
+pub at-some : {R : Type 0} (found : Option R) (r : R) (P : R → Type 0) → found ≡ Some r → IfSome found P → P r
+at-some found r P is h = subst (λ o. IfSome o P) is h
+
+pub at-none : {R : Type 0} (found : Option R) (P : Type 0) → found ≡ None → IfNone found P → P
+at-none found P is h = subst (λ o. IfNone o P) is h
+
+-- the lists stay as they are
+pub lists-kept : {X T E : Type 0} (result : Result T E) (old new : Stored X) (more : List X) → OnOk result (new ≡ grown old more) → OnErr result (new ≡ old) → new.lists ≡ old.lists
+lists-kept (Ok t) old new more ok err = λ i. (ok i).lists
+lists-kept (Err e) old new more ok err = λ i. (err i).lists

@@ -1,0 +1,262 @@
+-- A store whose lists or drafts change.
+use Rattle.std.proofs.Common.{◌≡◌, ◌≢◌, ◌⊎◌, ◌↔◌, ℕ, suc, ◌+◌, ◌<◌, ◌≤◌, Bool, true, false, List, [], ◌∷◌, ◌++◌, Option, Some, None, cond, refl, sym, ap, ◌∙◌, subst, arith, inl, inr, length, get_or, take, drop, Vec, Result, Ok, Err, OnErr, OnOk}
+use Rattle.std.specs.Prelude.{All, Any, Contains, IsSome}
+use Rattle.std.specs.Global.{Global}
+use Rattle.std.specs.List.{cons_option, filter_map, flat_map, remove}
+use Rattle.std.specs.Option.{option_map}
+use Rattle.std.specs.declared.rc.Rc.{Rc}
+use Rattle.std.proofs.lemmas.Bool.{cases_eq}
+use Rattle.std.proofs.lemmas.Grind.{flat_map-append}
+use Rattle.std.proofs.lemmas.List.{append-nil, drop-map, get_or-map, length-map, map-append, take-map}
+use Rattle.std.proofs.lemmas.List.Elements.{All-append, All-cons, All-contains, All-contains_itself, All-nil, All-same, All-weaker}
+use Rattle.slab.specs.Slab.{Slab, get}
+use Rattle.idl_store.specs.Buckets.{AddsOne}
+use Rattle.idl_memo.specs.Kept.{Kept, IsSound}
+use Rattle.idl_store.specs.Numbers.{AreFewer, AreMore, AreUsed, IsIndexOf, IsPlaced, IsPut, IsStored, joined, kept_at, lists_of, placed_of, result_of, shown, times, uses_of, valued, with_bucket}
+use Rattle.idl_memo.specs.Query.{Query}
+use Rattle.idl_store.specs.Stored.{Stored, begun, grown, results_in, results_of_drafts, with_results}
+use Rattle.idl_store.specs.declared.numbers.Used.{Used}
+use Rattle.idl_store.proofs.Shown.{results_in-shown, shown-same}
+use Rattle.idl_store.proofs.Times.{times-append, times-remove, times-with_results, times_first}
+use Rattle.idl_store.proofs.Using.{added_cases, all-fewer, indexed-put, indexed-same, times_one, times_other}
+
+-- what is used is kept
+some_used : {R : Type 0} (o : Option (Used R)) → 0 < elim o [ None ↦ 0 | Some u ↦ u.uses ] → IsSome o
+some_used None h = absurd (omega arith)
+some_used (Some u) h = refl
+
+-- what stands for numbers, one after another
+module _ {X : Type 0} (of : ℕ → Option X) (P : X → Type 0) where
+  pub shown-all : (ns : List ℕ) → ((n : ℕ) (x : X) → 0 < times n ns → of n ≡ Some x → P x) → All P (filter_map of ns)
+  shown-all [] h = All-nil P
+  shown-all (n ∷ ns) h = by (of n) refl (shown-all ns (λ m x there. h m x (omega (arith, there))))
+    where
+      by : (o : Option X) → of n ≡ o → All P (filter_map of ns) → All P (cons_option o (filter_map of ns))
+      by None e rest = rest
+      by (Some x) e rest = All-cons P x (filter_map of ns) (h n x (omega (arith, times_first n ns)) e) rest
+
+module _ {X : Type 0} (of : ℕ → Option X) where
+  pub shown-contains : (ns : List ℕ) (n : ℕ) (x : X) → 0 < times n ns → of n ≡ Some x → Contains (filter_map of ns) x
+  shown-contains [] n x there h = absurd (omega arith)
+  shown-contains (m ∷ ns) n x there h = by (cases_eq n m) (λ later. shown-contains ns n x later h)
+    where
+      first : (xs : List X) → Contains (x ∷ xs) x
+      first xs = (0, omega arith, refl)
+
+      behind : (o : Option X) (xs : List X) → Contains xs x → Contains (cons_option o xs) x
+      behind None xs c = c
+      behind (Some y) xs c = (suc c.0, omega (arith, c.1), c.2)
+
+      by : (n ≡ m) ⊎ (n ≢ m) → (0 < times n ns → Contains (filter_map of ns) x) → Contains (cons_option (of m) (filter_map of ns)) x
+      by (inl e) later = rw (sym (ap of e) ∙ h) (first (filter_map of ns))
+      by (inr e) later = behind (of m) (filter_map of ns) (later (omega (arith, there, times_other n m e, times-append n (m ∷ []) ns)))
+
+module _ {K V T O X : Type 0} (eq : K → K → Bool) (query : T → Query K V X O) (bucket : Kept K V T O → ℕ) (used : Slab (Used (Rc (Kept K V T O) Global))) (index : List ((Kept K V T O × ℕ) × ℕ)) (numbers : Stored ℕ) (stored : IsStored eq query bucket used index numbers) where
+  -- a number of the lists and drafts is taken
+  pub taken : (n : ℕ) → 0 < times n (results_in numbers) → IsSome (get used n)
+  taken n there = some_used (get used n) (omega (arith, there, stored.counted n))
+
+  -- and so it stands for a result
+  pub stands-for : (n : ℕ) → 0 < times n (results_in numbers) → IsSome (result_of used n)
+  stands-for n there = by (get used n) (taken n there)
+    where
+      by : (o : Option (Used (Rc (Kept K V T O) Global))) → IsSome o → IsSome (option_map (λ (r : Rc (Kept K V T O) Global × ℕ). r.0.value) (option_map with_bucket o))
+      by None some = absurd (cc)
+      by (Some u) some = refl
+
+  -- what stands for a number that has a place
+  placed-result : (n : ℕ) (k : Kept K V T O × ℕ) → placed_of used n ≡ Some k → result_of used n ≡ Some k.0
+  placed-result n k h = by (kept_at used n) h
+    where
+      by : (o : Option (Rc (Kept K V T O) Global × ℕ)) → option_map valued o ≡ Some k → option_map (λ (r : Rc (Kept K V T O) Global × ℕ). r.0.value) o ≡ Some k.0
+      by None h = absurd (cc)
+      by (Some r) h = ap (option_map (λ (k : Kept K V T O × ℕ). k.0)) h
+
+  -- a result that is found is among them
+  pub found-in : (e : (Kept K V T O × ℕ) × ℕ) → Contains index e → Contains (results_in (shown (result_of used) numbers)) e.0.0
+  found-in e c =
+      let at : placed_of used e.1 ≡ Some e.0 = (stored.indexed e.1 e.0).0 c in
+      let there : 0 < times e.1 (results_in numbers) = omega (arith, stored.counted e.1, stored.needed e.1 (is_taken (get used e.1) at)) in
+      subst (λ xs. Contains xs e.0.0) (sym (results_in-shown (result_of used) numbers)) (shown-contains (result_of used) (results_in numbers) e.1 e.0.0 there (placed-result e.1 e.0 at))
+    where
+      is_taken : {k : Kept K V T O × ℕ} (o : Option (Used (Rc (Kept K V T O) Global))) → option_map valued (option_map with_bucket o) ≡ Some k → IsSome o
+      is_taken None h = absurd (cc)
+      is_taken (Some u) h = refl
+
+  -- what is found under a number stands for it
+  pub found-result : (e : (Kept K V T O × ℕ) × ℕ) → Contains index e → result_of used e.1 ≡ Some e.0.0
+  found-result e c = placed-result e.1 e.0 ((stored.indexed e.1 e.0).0 c)
+
+  -- what holds of all that the index has holds of all results
+  pub all-in : (P : Kept K V T O → Type 0) → All (λ e. P e.0.0) index → All P (results_in (shown (result_of used) numbers))
+  all-in P all =
+      All-same P (results_in (shown (result_of used) numbers)) (filter_map (result_of used) (results_in numbers)) (results_in-shown (result_of used) numbers)
+      (shown-all (result_of used) P (results_in numbers) (λ n x there at. by n x (kept_at used n) refl at))
+    where
+      by : (n : ℕ) (x : Kept K V T O) (o : Option (Rc (Kept K V T O) Global × ℕ)) → kept_at used n ≡ o → option_map (λ (r : Rc (Kept K V T O) Global × ℕ). r.0.value) (kept_at used n) ≡ Some x → P x
+      by n x None e h =
+          let none : option_map (λ (r : Rc (Kept K V T O) Global × ℕ). r.0.value) (kept_at used n) ≡ None = ap (option_map (λ (r : Rc (Kept K V T O) Global × ℕ). r.0.value)) e in
+          absurd (cc)
+      by n x (Some r) e h =
+          let k : Kept K V T O × ℕ = (r.0.value, r.1) in
+          let at : placed_of used n ≡ Some k = ap (option_map valued) e in
+          let same : Some r.0.value ≡ Some x = sym (ap (option_map (λ (r : Rc (Kept K V T O) Global × ℕ). r.0.value)) e) ∙ h in
+          let is : r.0.value ≡ x = cc in
+          subst P is (All-contains (λ e. P e.0.0) index (k, n) all ((stored.indexed n k).1 at))
+
+  -- a draft more without results
+  pub stored-begun : (at : ℕ) → IsStored eq query bucket used index (begun numbers at)
+  stored-begun at = record {
+    counted = λ n. stored.counted n ∙ ap (λ xs. times n (joined numbers.lists ++ xs)) (sym more);
+    needed = stored.needed;
+    indexed = stored.indexed;
+    placed = stored.placed;
+  }
+    where
+      more : results_of_drafts (numbers.drafts ++ (at, []) ∷ []) ≡ results_of_drafts numbers.drafts
+      more = flat_map-append (λ d. d.1) numbers.drafts ((at, []) ∷ []) ∙ append-nil (results_of_drafts numbers.drafts)
+
+  module _ (new : Slab (Used (Rc (Kept K V T O) Global))) where
+    -- a number more of a result that is kept
+    pub stored-again : (n : ℕ) → AreMore used new (results_of_drafts numbers.drafts) (results_of_drafts (with_results numbers.drafts (n ∷ []))) → IsStored eq query bucket new index (grown numbers (n ∷ []))
+    stored-again n more = record {
+      counted = λ m. omega (arith, more.uses m, stored.counted m, times-append m (joined numbers.lists) (results_of_drafts numbers.drafts), times-append m (joined numbers.lists) (results_of_drafts (with_results numbers.drafts (n ∷ []))));
+      needed = λ m some. needed_by m some;
+      indexed = indexed-same used new index more.kept stored.indexed;
+      placed = stored.placed;
+    }
+      where
+        grows : (m : ℕ) (ds : List (ℕ × List ℕ)) → times m (results_of_drafts ds) ≤ times m (results_of_drafts (with_results ds (n ∷ [])))
+        grows m [] = omega arith
+        grows m (d ∷ ds) = omega (arith, times-with_results m (d ∷ ds) (n ∷ []) (omega arith))
+
+        taken_by : (m : ℕ) (o p : Option (Used (Rc (Kept K V T O) Global))) → option_map with_bucket o ≡ option_map with_bucket p → IsSome o → IsSome p
+        taken_by m None p same some = absurd (cc)
+        taken_by m (Some u) None same some = absurd (cc)
+        taken_by m (Some u) (Some v) same some = refl
+
+        needed_by : (m : ℕ) → IsSome (get new m) → 0 < uses_of new m
+        needed_by m some =
+            let was = taken_by m (get new m) (get used m) (more.kept m) some in
+            omega (arith, more.uses m, stored.needed m was, grows m numbers.drafts)
+
+    -- the same, whichever way the step ends
+    pub stored-used : {Y Z : Type 0} (r : Result Y Z) (n : ℕ) (drafts : List (ℕ × List ℕ)) → OnOk r (drafts ≡ with_results numbers.drafts (n ∷ [])) → OnOk r (AreMore used new (results_of_drafts numbers.drafts) (results_of_drafts drafts)) → OnErr r ((new ≡ used) × (drafts ≡ numbers.drafts)) → IsStored eq query bucket new index (record { lists = numbers.lists; drafts = drafts })
+    stored-used (Ok y) n drafts is more err =
+        subst (λ (ds : List (ℕ × List ℕ)). IsStored eq query bucket new index (record { lists = numbers.lists; drafts = ds })) (sym is)
+        (stored-again n (subst (λ (ds : List (ℕ × List ℕ)). AreMore used new (results_of_drafts numbers.drafts) (results_of_drafts ds)) is more))
+    stored-used (Err z) n drafts is more err =
+        subst (λ (u : Slab (Used (Rc (Kept K V T O) Global))). IsStored eq query bucket u index (record { lists = numbers.lists; drafts = drafts })) (sym err.0)
+        (subst (λ (ds : List (ℕ × List ℕ)). IsStored eq query bucket used index (record { lists = numbers.lists; drafts = ds })) (sym err.1) stored)
+
+    -- what is kept is what it was
+    module _ (same : (n : ℕ) → get new n ≡ get used n) where
+      pub stored-still : IsStored eq query bucket new index numbers
+      stored-still = record {
+        counted = λ n. ap (λ o. elim o [ None ↦ 0 | Some u ↦ u.uses ]) (same n) ∙ stored.counted n;
+        needed = λ n some. needed_by n some;
+        indexed = indexed-same used new index (λ n. ap (option_map with_bucket) (same n)) stored.indexed;
+        placed = stored.placed;
+      }
+        where
+          needed_by : (n : ℕ) → IsSome (get new n) → 0 < uses_of new n
+          needed_by n some =
+              let was : uses_of new n ≡ uses_of used n = ap (λ o. elim o [ None ↦ 0 | Some u ↦ u.uses ]) (same n) in
+              omega (arith, was, stored.needed n (subst IsSome (same n) some))
+
+      -- whatever else is the same
+      pub stored-kept : (after : List ((Kept K V T O × ℕ) × ℕ)) (drafts : List (ℕ × List ℕ)) → drafts ≡ numbers.drafts → after ≡ index → IsStored eq query bucket new after (record { lists = numbers.lists; drafts = drafts })
+      stored-kept after drafts same_drafts same_index =
+          subst (λ (ds : List (ℕ × List ℕ)). IsStored eq query bucket new after (record { lists = numbers.lists; drafts = ds })) (sym same_drafts)
+          (subst (λ (es : List ((Kept K V T O × ℕ) × ℕ)). IsStored eq query bucket new es numbers) (sym same_index) stored-still)
+
+      pub shown-still : shown (result_of new) numbers ≡ shown (result_of used) numbers
+      shown-still = shown-same (result_of used) (result_of new) numbers (λ n there. ap (λ o. option_map (λ (r : Rc (Kept K V T O) Global × ℕ). r.0.value) (option_map with_bucket o)) (same n))
+
+    module _ (after : List ((Kept K V T O × ℕ) × ℕ)) where
+      -- a new result under a number that was free
+      pub stored-put : (r : Rc (Kept K V T O) Global) (n : ℕ) → 0 < length numbers.drafts → IsPut used new r (bucket r.value) n → AddsOne index after ((r.value, bucket r.value), n) → IsSound eq query r.value → IsStored eq query bucket new after (grown numbers (n ∷ []))
+      stored-put r n some put adds sound = record {
+        counted = λ m. counted_by m (cases_eq m n);
+        needed = λ m there. needed_by m there (cases_eq m n);
+        indexed = indexed-put used new index after n (r.value, bucket r.value) put.others free here adds stored.indexed;
+        placed = All-weaker (Contains after) (λ e. IsPlaced eq query bucket e.0) (λ e c. placed_by e (added_cases adds e c)) after (All-contains_itself after);
+      }
+        where
+          free : placed_of used n ≡ None
+          free = ap (λ o. option_map valued (option_map with_bucket o)) put.free
+
+          here : placed_of new n ≡ Some (r.value, bucket r.value)
+          here = ap (λ o. option_map valued (option_map with_bucket o)) put.changed
+
+          uses_at : Option (Used (Rc (Kept K V T O) Global)) → ℕ
+          uses_at o = elim o [ None ↦ 0 | Some u ↦ u.uses ]
+
+          all_times : (m : ℕ) → times m (results_in (grown numbers (n ∷ []))) ≡ times m (results_in numbers) + times m (n ∷ [])
+          all_times m = omega (arith, times-append m (joined numbers.lists) (results_of_drafts numbers.drafts), times-append m (joined numbers.lists) (results_of_drafts (with_results numbers.drafts (n ∷ []))), times-with_results m numbers.drafts (n ∷ []) some)
+
+          counted_by : (m : ℕ) → (m ≡ n) ⊎ (m ≢ n) → uses_of new m ≡ times m (results_in (grown numbers (n ∷ [])))
+          counted_by m (inl e) =
+              let none : uses_of used n ≡ 0 = ap (λ o. elim o [ None ↦ 0 | Some u ↦ u.uses ]) put.free in
+              let one : uses_of new n ≡ 1 = ap (λ o. elim o [ None ↦ 0 | Some u ↦ u.uses ]) put.changed in
+              rw e (omega (arith, none, one, stored.counted n, all_times n, times_one n))
+          counted_by m (inr e) =
+              let was : uses_of new m ≡ uses_of used m = ap (λ o. elim o [ None ↦ 0 | Some u ↦ u.uses ]) (put.others m e) in
+              omega (arith, was, stored.counted m, all_times m, times_other m n e)
+
+          needed_by : (m : ℕ) → IsSome (get new m) → (m ≡ n) ⊎ (m ≢ n) → 0 < uses_of new m
+          needed_by m there (inl e) =
+              let one : uses_of new n ≡ 1 = ap (λ o. elim o [ None ↦ 0 | Some u ↦ u.uses ]) put.changed in
+              rw e (omega (arith, one))
+          needed_by m there (inr e) =
+              let was : uses_of new m ≡ uses_of used m = ap (λ o. elim o [ None ↦ 0 | Some u ↦ u.uses ]) (put.others m e) in
+              omega (arith, was, stored.needed m (subst IsSome (put.others m e) there))
+
+          placed_by : (e : (Kept K V T O × ℕ) × ℕ) → (◌≡◌ {A = (Kept K V T O × ℕ) × ℕ} e ((r.value, bucket r.value), n)) ⊎ Contains index e → IsPlaced eq query bucket e.0
+          placed_by e (inl h) = subst (λ (k : Kept K V T O × ℕ). IsPlaced eq query bucket k) (sym (ap (λ x. x.0) h)) (record { sound = sound; at = refl })
+          placed_by e (inr c) = All-contains (λ e. IsPlaced eq query bucket e.0) index e stored.placed c
+
+      -- numbers less
+      pub stored-fewer : (rest : Stored ℕ) (gone : List ℕ) → ((n : ℕ) → times n (results_in numbers) ≡ times n (results_in rest) + times n gone) → AreFewer used new gone → AreUsed new → IsIndexOf new after → IsStored eq query bucket new after rest
+      stored-fewer rest gone parts fewer needed indexed = record {
+        counted = λ n. omega (arith, fewer.uses n, stored.counted n, parts n);
+        needed = needed;
+        indexed = indexed;
+        placed = all-fewer used new (IsPlaced eq query bucket) index after gone fewer needed stored.indexed indexed stored.placed;
+      }
+
+      -- and what the others stand for is what it was
+      pub shown-fewer : (rest : Stored ℕ) (gone : List ℕ) → ((n : ℕ) → times n (results_in numbers) ≡ times n (results_in rest) + times n gone) → AreFewer used new gone → shown (result_of new) rest ≡ shown (result_of used) rest
+      shown-fewer rest gone parts fewer =
+          shown-same (result_of used) (result_of new) rest
+          (λ n there. ap (option_map (λ (r : Rc (Kept K V T O) Global × ℕ). r.0.value)) (fewer.kept n (omega (arith, fewer.uses n, stored.counted n, parts n, there))))
+
+-- ---- lists and drafts that go
+
+-- drafts
+pub parts-drafts : (n : ℕ) (lists : List (List ℕ)) (drafts : List (ℕ × List ℕ)) → times n (results_in (record { lists = lists; drafts = drafts })) ≡ times n (results_in (record { lists = lists; drafts = [] })) + times n (results_of_drafts drafts)
+parts-drafts n lists drafts = omega (arith, times-append n (joined lists) (results_of_drafts drafts), times-append n (joined lists) [])
+
+-- drafts, where those took the places of lists
+pub parts-exchanged : (n : ℕ) (lists lists' : List (List ℕ)) (drafts drafts' : List (ℕ × List ℕ))
+    → times n (joined lists') + times n (results_of_drafts drafts') ≡ times n (joined lists) + times n (results_of_drafts drafts)
+    → times n (results_in (record { lists = lists; drafts = drafts })) ≡ times n (results_in (record { lists = lists'; drafts = [] })) + times n (results_of_drafts drafts')
+parts-exchanged n lists lists' drafts drafts' h = omega (arith, h, times-append n (joined lists) (results_of_drafts drafts), times-append n (joined lists') [])
+
+-- a list
+pub parts-removed : (n : ℕ) (lists : List (List ℕ)) (drafts : List (ℕ × List ℕ)) (list : ℕ) (d : List ℕ) → list < length lists → times n (results_in (record { lists = lists; drafts = drafts })) ≡ times n (results_in (record { lists = remove lists list; drafts = drafts })) + times n (get_or lists list d)
+parts-removed n lists drafts list d below =
+    omega (arith, times-remove n lists list d below, times-append n (joined lists) (results_of_drafts drafts), times-append n (joined (remove lists list)) (results_of_drafts drafts))
+
+-- a list of vectors less
+pub lists-removed : (lists : List (Vec ℕ Global)) (list : ℕ) → lists_of (remove lists list) ≡ remove (lists_of lists) list
+lists-removed lists list =
+    map-append (λ (l : Vec ℕ Global). l.items) (take list lists) (drop (suc list) lists)
+    ∙ (λ i. sym (take-map (λ (l : Vec ℕ Global). l.items) list lists) i ++ sym (drop-map (λ (l : Vec ℕ Global). l.items) (suc list) lists) i)
+
+-- and its numbers
+pub parts-taken : (n : ℕ) (lists : List (Vec ℕ Global)) (drafts : List (ℕ × List ℕ)) (list : ℕ) (v : Vec ℕ Global) → list < length lists → v ≡ get_or lists list v → times n (results_in (record { lists = lists_of lists; drafts = drafts })) ≡ times n (results_in (record { lists = remove (lists_of lists) list; drafts = drafts })) + times n v.items
+parts-taken n lists drafts list v below is =
+    let there : list < length (lists_of lists) = omega (arith, below, length-map lists (λ (l : Vec ℕ Global). l.items)) in
+    let was : times n (get_or (lists_of lists) list v.items) ≡ times n v.items = ap (times n) (get_or-map (λ (l : Vec ℕ Global). l.items) lists list v v.items below ∙ ap (λ (l : Vec ℕ Global). l.items) (sym is)) in
+    omega (arith, parts-removed n (lists_of lists) drafts list v.items there, was)

@@ -1,0 +1,116 @@
+-- What stands in one bucket, among the results of all.
+use Rattle.std.proofs.Common.{◌≡◌, ◌≢◌, ℕ, ◌<◌, Bool, List, [], ◌∷◌, None, Some, ap, arith, get_or, length, refl, subst, sym, Vec}
+use Rattle.std.specs.Prelude.{All, Any, Contains, IfNone, Option}
+use Rattle.std.specs.BTreeMap.{BTreeMap, IsOrdered, get, insert_entry, is_at}
+use Rattle.std.specs.Global.{Global}
+use Rattle.std.specs.List.{HoldsAt}
+use Rattle.std.specs.Map.{remove_entry, set_value}
+use Rattle.std.specs.Ordering.{nat_cmp}
+use Rattle.std.specs.declared.cmp.Ordering.{Ordering}
+use Rattle.std.specs.declared.cmp.Ordering.TheVariants.{Less, Equal}
+use Rattle.std.specs.declared.rc.Rc.{Rc}
+use Rattle.std.proofs.lemmas.List.Elements.{All-contains, All-nil, All-weaker}
+use Rattle.idl_memo.specs.Kept.{Kept, IsAlike, IsSound}
+use Rattle.idl_memo.specs.Query.{Query}
+use Rattle.idl_store.specs.Buckets.{AddsOne}
+use Rattle.idl_store.specs.Index.{AreInOrder, IsInOrder, numbered, numbered_cmp, numbered_in}
+use Rattle.idl_store.specs.declared.index.Numbered.{Numbered}
+use Rattle.idl_store.proofs.Indexing.{all-removed}
+use Rattle.idl_store.proofs.Bucketed.{all-in_bucket, all-with_number, all_insert, all_set, found_bucket, in_all, in_bucket, in_none, none-with_number, takes-in_bucket, without-empty}
+
+-- a clause on what was not found, from its fact
+pub if_none : {X P : Type 0} (r : Option X) → P → IfNone r P
+if_none None p = p
+if_none (Some x) p = tt
+
+module _ {K V T O : Type 0} (m : BTreeMap ℕ (Vec (Numbered (Rc (Kept K V T O) Global)) Global)) (d : ℕ) (v : Vec (Numbered (Rc (Kept K V T O) Global)) Global) (at : get nat_cmp m d ≡ Some v) where
+  -- the bucket is in order, as all are
+  pub order-within : (cmp : Numbered (Rc (Kept K V T O) Global) → Numbered (Rc (Kept K V T O) Global) → Ordering) → All (λ e. AreInOrder cmp e.1.items) m.entries → AreInOrder cmp v.items
+  order-within cmp sorted = All-contains (λ e. AreInOrder cmp e.1.items) m.entries (d, v) sorted (found_bucket d m.entries v at)
+
+  -- its results came of their tasks, as all did
+  pub sound-within : {X : Type 0} (eq : K → K → Bool) (query : T → Query K V X O) → All (λ e. IsSound eq query e.0.0) (numbered_in m.entries) → All (λ one. IsSound eq query one.result.value) v.items
+  sound-within eq query sound = all-in_bucket numbered (λ e. IsSound eq query e.0.0) d m.entries v at sound
+
+  -- none of its results has the order of one that none has
+  pub apart-within : (R : Kept K V T O → Kept K V T O → Ordering) (kept : Kept K V T O) → All (λ e. e.0.1 ≡ d → R e.0.0 kept ≢ Equal) (numbered_in m.entries) → All (λ one. R one.result.value kept ≢ Equal) v.items
+  apart-within R kept apart =
+      All-weaker (λ one. d ≡ d → R one.result.value kept ≢ Equal) (λ one. R one.result.value kept ≢ Equal) (λ one h. h refl) v.items
+      (all-in_bucket numbered (λ e. e.0.1 ≡ d → R e.0.0 kept ≢ Equal) d m.entries v at apart)
+
+  -- a result of it that is alike is one of all
+  pub found-within : (text : T) (bank : K → V) (place : ℕ) (one : Numbered (Rc (Kept K V T O) Global)) → place < length v.items → get_or v.items place one ≡ one → HoldsAt (λ one. IsAlike text bank one.result.value) v.items place → Any (λ e. IsAlike text bank e.0.0 × (e.1 ≡ one.number)) (numbered_in m.entries)
+  found-within text bank place one below is holds =
+      let alike : IsAlike text bank one.result.value = subst (λ (o : Numbered (Rc (Kept K V T O) Global)). IsAlike text bank o.result.value) is (holds one) in
+      let among : Contains v.items one = (place, below, is) in
+      let c = in_all numbered m.entries (d, v) one (found_bucket d m.entries v at) among in
+      (c.0, numbered d one, c.1, c.2, (alike, refl))
+
+  -- with the bucket written anew, all are in order still
+  pub order-set : (text_cmp : T → T → Ordering) (answer_cmp : V → V → Ordering) (n : BTreeMap ℕ (Vec (Numbered (Rc (Kept K V T O) Global)) Global)) (w : Vec (Numbered (Rc (Kept K V T O) Global)) Global)
+      → n.entries ≡ set_value (is_at (nat_cmp d)) m.entries w → IsOrdered nat_cmp n → AreInOrder (numbered_cmp text_cmp answer_cmp) w.items → IsInOrder text_cmp answer_cmp m → IsInOrder text_cmp answer_cmp n
+  order-set text_cmp answer_cmp n w is ordered sorted old = record {
+    ordered = ordered;
+    sorted = subst (All (λ e. AreInOrder (numbered_cmp text_cmp answer_cmp) e.1.items)) (sym is)
+        (all_set (λ e. AreInOrder (numbered_cmp text_cmp answer_cmp) e.1.items) (is_at (nat_cmp d)) m.entries v w at (λ k here was. sorted) old.sorted);
+  }
+
+  -- and where it goes then
+  pub order-removed : (text_cmp : T → T → Ordering) (answer_cmp : V → V → Ordering) (n : BTreeMap ℕ (Vec (Numbered (Rc (Kept K V T O) Global)) Global)) (w : Vec (Numbered (Rc (Kept K V T O) Global)) Global)
+      → n.entries ≡ remove_entry (is_at (nat_cmp d)) (set_value (is_at (nat_cmp d)) m.entries w) → IsOrdered nat_cmp n → AreInOrder (numbered_cmp text_cmp answer_cmp) w.items → IsInOrder text_cmp answer_cmp m → IsInOrder text_cmp answer_cmp n
+  order-removed text_cmp answer_cmp n w is ordered sorted old = record {
+    ordered = ordered;
+    sorted = subst (All (λ e. AreInOrder (numbered_cmp text_cmp answer_cmp) e.1.items)) (sym is)
+        (all-removed (is_at (nat_cmp d)) (λ e. AreInOrder (numbered_cmp text_cmp answer_cmp) e.1.items) (set_value (is_at (nat_cmp d)) m.entries w)
+        (all_set (λ e. AreInOrder (numbered_cmp text_cmp answer_cmp) e.1.items) (is_at (nat_cmp d)) m.entries v w at (λ k here was. sorted) old.sorted));
+  }
+
+  module _ (ordered : IsOrdered nat_cmp m) where
+    -- where none of it is alike, none of all with its number is
+    pub none-within : (text : T) (bank : K → V) → All (λ one. ¬ IsAlike text bank one.result.value) v.items → All (λ e. e.0.1 ≡ d → ¬ IsAlike text bank e.0.0) (numbered_in m.entries)
+    none-within text bank none = all-with_number numbered (λ e. e.0.1) (λ k x. refl) m ordered d (λ e. ¬ IsAlike text bank e.0.0) v at none
+
+    -- a result goes from all as it went from its bucket
+    pub taken-within : (w : Vec (Numbered (Rc (Kept K V T O) Global)) Global) (kept : Kept K V T O) → ((item : Numbered (Rc (Kept K V T O) Global)) → item.result.value ≡ kept → Contains v.items item → AddsOne w.items v.items item)
+        → (number : ℕ) → Contains (numbered_in m.entries) ((kept, d), number) → AddsOne (numbered_in (set_value (is_at (nat_cmp d)) m.entries w)) (numbered_in m.entries) ((kept, d), number)
+    taken-within w kept goes number c =
+        let b = in_bucket numbered (λ e. e.0.1) (λ k x. refl) m ordered d v at ((kept, d), number) c refl in
+        let value : b.0.result.value ≡ kept = ap (λ (e : (Kept K V T O × ℕ) × ℕ). e.0.0) (sym b.2) in
+        subst (AddsOne (numbered_in (set_value (is_at (nat_cmp d)) m.entries w)) (numbered_in m.entries)) (sym b.2)
+        (takes-in_bucket numbered d m.entries v w b.0 at (goes b.0 value b.1))
+
+    -- and so where its bucket goes too, as it is left empty
+    pub taken-whole : (w : Vec (Numbered (Rc (Kept K V T O) Global)) Global) (kept : Kept K V T O) → length w.items ≡ 0 → ((item : Numbered (Rc (Kept K V T O) Global)) → item.result.value ≡ kept → Contains v.items item → AddsOne w.items v.items item)
+        → (number : ℕ) → Contains (numbered_in m.entries) ((kept, d), number) → AddsOne (numbered_in (remove_entry (is_at (nat_cmp d)) (set_value (is_at (nat_cmp d)) m.entries w))) (numbered_in m.entries) ((kept, d), number)
+    taken-whole w kept empty goes number c =
+        subst (λ ys. AddsOne ys (numbered_in m.entries) ((kept, d), number)) (sym (without-empty numbered d m.entries v w at (none_left w.items empty)))
+        (taken-within w kept goes number c)
+      where
+        none_left : (xs : List (Numbered (Rc (Kept K V T O) Global))) → length xs ≡ 0 → xs ≡ []
+        none_left [] h = refl
+        none_left (x ∷ xs) h = absurd (omega (arith, h))
+
+    -- what is not in its bucket is nowhere
+    pub gone-within : (kept : Kept K V T O) → All (λ one. one.result.value ≢ kept) v.items → (number : ℕ) → ¬ Contains (numbered_in m.entries) ((kept, d), number)
+    gone-within kept gone number c =
+        let b = in_bucket numbered (λ e. e.0.1) (λ k x. refl) m ordered d v at ((kept, d), number) c refl in
+        All-contains (λ one. one.result.value ≢ kept) v.items b.0 gone b.1 (ap (λ (e : (Kept K V T O × ℕ) × ℕ). e.0.0) (sym b.2))
+
+-- where there is no bucket of this number
+module _ {K V T O : Type 0} (m : BTreeMap ℕ (Vec (Numbered (Rc (Kept K V T O) Global)) Global)) (ordered : IsOrdered nat_cmp m) (d : ℕ) (none : get nat_cmp m d ≡ None) where
+  -- a new one of one result leaves all in order
+  pub order-new : (text_cmp : T → T → Ordering) (answer_cmp : V → V → Ordering) (n : BTreeMap ℕ (Vec (Numbered (Rc (Kept K V T O) Global)) Global)) (w : Vec (Numbered (Rc (Kept K V T O) Global)) Global) (one : Numbered (Rc (Kept K V T O) Global))
+      → n.entries ≡ insert_entry nat_cmp m.entries d w → IsOrdered nat_cmp n → w.items ≡ one ∷ [] → IsInOrder text_cmp answer_cmp m → IsInOrder text_cmp answer_cmp n
+  order-new text_cmp answer_cmp n w one is ordered alone old =
+      let alone_sorted : AreInOrder (numbered_cmp text_cmp answer_cmp) (one ∷ []) = (All-nil (λ y. numbered_cmp text_cmp answer_cmp one y ≡ Less), tt) in
+      record {
+        ordered = ordered;
+        sorted = subst (All (λ e. AreInOrder (numbered_cmp text_cmp answer_cmp) e.1.items)) (sym is)
+            (all_insert (λ e. AreInOrder (numbered_cmp text_cmp answer_cmp) e.1.items) d m.entries w none (subst (AreInOrder (numbered_cmp text_cmp answer_cmp)) (sym alone) alone_sorted) old.sorted);
+      }
+
+  pub none-without : (text : T) (bank : K → V) → All (λ e. e.0.1 ≡ d → ¬ IsAlike text bank e.0.0) (numbered_in m.entries)
+  none-without text bank = none-with_number numbered (λ e. e.0.1) (λ k x. refl) m ordered d (λ e. ¬ IsAlike text bank e.0.0) none
+
+  pub gone-without : (kept : Kept K V T O) (number : ℕ) → ¬ Contains (numbered_in m.entries) ((kept, d), number)
+  gone-without kept number c = in_none numbered (λ e. e.0.1) (λ k x. refl) m ordered d none ((kept, d), number) c refl

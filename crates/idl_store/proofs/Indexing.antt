@@ -1,0 +1,275 @@
+-- An index in which a result comes or goes.
+use Rattle.std.proofs.Common.{◌≡◌, ◌≢◌, ◌⊎◌, ℕ, zero, suc, ◌+◌, ◌<◌, ◌≤◌, Bool, true, false, List, [], ◌∷◌, ◌++◌, Some, None, cond, refl, sym, ap, ◌∙◌, subst, arith, inl, inr, length, get_or, map, take, drop, Vec, append_assoc}
+use Rattle.std.specs.Prelude.{All, Contains, Result, Ok, Err, IfOk, IfErr}
+use Rattle.std.specs.Cmp.{IsTotalOrder}
+use Rattle.std.specs.Global.{Global}
+use Rattle.std.specs.BTreeMap.{insert_entry, is_at}
+use Rattle.std.specs.List.{AllWithin, HoldsAt, flat_map, remove}
+use Rattle.std.specs.List.Sorted.{IsBinarySearchResult, IsNonDecreasingBy, IsSearchInRange}
+use Rattle.std.specs.Map.{lookup, remove_entry, set_value}
+use Rattle.std.specs.Ordering.{is_eq, match_ordering, nat_cmp, ordering_index, ordering_reverse}
+use Rattle.std.specs.declared.cmp.Ordering.{Ordering}
+use Rattle.std.specs.declared.cmp.Ordering.TheVariants.{Less, Equal, Greater}
+use Rattle.std.proofs.lemmas.Cmp.{alike_right, tied_back, tied_itself}
+use Rattle.std.proofs.lemmas.List.{get_or-drop, get_or-take, length-drop, length-take-le, map-append, take-append-drop, take_more}
+use Rattle.std.proofs.lemmas.List.Elements.{All-append, All-cons, All-contains, All-head, All-nil, All-same, All-tail, All-weaker, Contains-append_cases}
+use Rattle.idl_store.specs.Buckets.{AddsOne}
+use Rattle.idl_store.specs.Index.{AreInOrder, IsGap}
+
+-- ---- lists in order
+
+module _ {X : Type 0} (P : X → Type 0) where
+  pub all-front : (front rest : List X) → All P (front ++ rest) → All P front
+  all-front [] rest h = All-nil P
+  all-front (y ∷ front) rest h = All-cons P y front (All-head P y (front ++ rest) h) (all-front front rest (All-tail P y (front ++ rest) h))
+
+  pub all-rest : (front rest : List X) → All P (front ++ rest) → All P rest
+  all-rest [] rest h = h
+  all-rest (y ∷ front) rest h = all-rest front rest (All-tail P y (front ++ rest) h)
+
+module _ {X : Type 0} (cmp : X → X → Ordering) (total : IsTotalOrder cmp) where
+  before : (x y : X) → cmp y x ≡ Greater → cmp x y ≡ Less
+  before x y h = total.antisymm x y ∙ ap ordering_reverse h
+
+  behind : (x y : X) → cmp x y ≡ Less → cmp y x ≢ Equal
+  behind x y h e =
+      let turned : cmp y x ≡ Greater = total.antisymm y x ∙ ap ordering_reverse h in
+      cc
+
+  all_before : (x : X) (rest : List X) → All (λ y. cmp y x ≡ Greater) rest → All (λ y. cmp x y ≡ Less) rest
+  all_before x rest h k d below = before x (get_or rest k d) (h k d below)
+
+  -- an item more, where its order wants it
+  pub order-insert : (x : X) (front rest : List X) → AreInOrder cmp (front ++ rest) → All (λ y. cmp y x ≡ Less) front → All (λ y. cmp y x ≡ Greater) rest → AreInOrder cmp (front ++ x ∷ rest)
+  order-insert x [] rest h less more = (all_before x rest more, h)
+  order-insert x (y ∷ front) rest h less more =
+      let P : X → Type 0 = λ z. cmp y z ≡ Less in
+      let here : cmp y x ≡ Less = All-head (λ y. cmp y x ≡ Less) y front less in (
+        All-append P front (x ∷ rest) (all-front P front rest h.0) (All-cons P x rest here (all-rest P front rest h.0)),
+        order-insert x front rest h.1 (All-tail (λ y. cmp y x ≡ Less) y front less) more,
+      )
+
+  -- an item less
+  pub order-remove : (x : X) (front rest : List X) → AreInOrder cmp (front ++ x ∷ rest) → AreInOrder cmp (front ++ rest)
+  order-remove x [] rest h = h.1
+  order-remove x (y ∷ front) rest h =
+      let P : X → Type 0 = λ z. cmp y z ≡ Less in (
+        All-append P front rest (all-front P front (x ∷ rest) h.0) (All-tail P x rest (all-rest P front (x ∷ rest) h.0)),
+        order-remove x front rest h.1,
+      )
+
+  -- no other item has its order
+  pub order-apart : (x : X) (front rest : List X) → AreInOrder cmp (front ++ x ∷ rest) → All (λ y. cmp y x ≢ Equal) (front ++ rest)
+  order-apart x [] rest h = λ k d below. behind x (get_or rest k d) (h.0 k d below)
+  order-apart x (y ∷ front) rest h =
+      let less : cmp y x ≡ Less = All-head (λ z. cmp y z ≡ Less) x rest (all-rest (λ z. cmp y z ≡ Less) front (x ∷ rest) h.0) in
+      All-cons (λ y. cmp y x ≢ Equal) y (front ++ rest) (λ e. cc) (order-apart x front rest h.1)
+
+module _ {K : Type 0} (R : K → K → Ordering) (total : IsTotalOrder R) where
+  -- against anything in the order, what comes first is not behind
+  rises : (y z t : K) → R y z ≡ Less → ordering_index (R y t) ≤ ordering_index (R z t)
+  rises y z t h = by (R z t) refl
+    where
+      most : (o : Ordering) → ordering_index o ≤ 2
+      most Less = omega arith
+      most Equal = omega arith
+      most Greater = omega arith
+
+      by : (o : Ordering) → R z t ≡ o → ordering_index (R y t) ≤ ordering_index (R z t)
+      by Less e = rw (total.trans y z t h e) (omega arith)
+      by Equal e = rw (sym (alike_right total z t y e) ∙ h) (omega arith)
+      by Greater e = rw e (most (R y t))
+
+  module _ {X : Type 0} (h : X → K) where
+    abbrev cmp : X → X → Ordering
+    cmp x y = R (h x) (h y)
+
+    pub order-rises : (t : K) (xs : List X) → AreInOrder cmp xs → IsNonDecreasingBy (λ y. ordering_index (R (h y) t)) xs
+    order-rises t [] o i j d le below = absurd (omega (arith, below))
+    order-rises t (x ∷ xs) o zero zero d le below = omega arith
+    order-rises t (x ∷ xs) o zero (suc j) d le below = rises (h x) (h (get_or xs j d)) t (o.0 j d (omega (arith, below)))
+    order-rises t (x ∷ xs) o (suc i) zero d le below = absurd (omega (arith, le))
+    order-rises t (x ∷ xs) o (suc i) (suc j) d le below = order-rises t xs o.1 i j d (omega (arith, le)) (omega (arith, below))
+
+    -- no other item of a list in order has the order of one of them
+    order-only : (total' : IsTotalOrder cmp) (x : X) (front rest : List X) → AreInOrder cmp (front ++ x ∷ rest) → (t : K) → R (h x) t ≡ Equal → All (λ y. h y ≢ t) (front ++ rest)
+    order-only total' x front rest ordered t at =
+        All-weaker (λ y. cmp y x ≢ Equal) (λ y. h y ≢ t) (λ y apart is. apart (ap (λ k. R k (h x)) is ∙ tied_back total (h x) t at)) (front ++ rest) (order-apart cmp total' x front rest ordered)
+
+    -- an item whose order was found goes
+    pub found-goes : (total' : IsTotalOrder cmp) (xs : List X) (i : ℕ) → i < length xs → AreInOrder cmp xs → (t : K) → ((d : X) → R (h (get_or xs i d)) t ≡ Equal)
+        → AreInOrder cmp (remove xs i) × All (λ y. h y ≢ t) (remove xs i) × ((item : X) → h item ≡ t → Contains xs item → AddsOne (remove xs i) xs item)
+    found-goes total' xs i below ordered t at = by xs i below ordered at
+      where
+        by : (xs : List X) (i : ℕ) → i < length xs → AreInOrder cmp xs → ((d : X) → R (h (get_or xs i d)) t ≡ Equal)
+            → AreInOrder cmp (remove xs i) × All (λ y. h y ≢ t) (remove xs i) × ((item : X) → h item ≡ t → Contains xs item → AddsOne (remove xs i) xs item)
+        by [] i below ordered at = absurd (omega (arith, below))
+        by (x ∷ xs) i below ordered at = parted (take i (x ∷ xs)) (get_or (x ∷ xs) i x) (drop (suc i) (x ∷ xs)) whole (at x)
+          where
+            whole : x ∷ xs ≡ take i (x ∷ xs) ++ get_or (x ∷ xs) i x ∷ drop (suc i) (x ∷ xs)
+            whole =
+                let step : i + 1 ≡ suc i = omega arith in
+                sym (take-append-drop (i + 1) (x ∷ xs))
+                ∙ ap (λ ys. ys ++ drop (i + 1) (x ∷ xs)) (take_more (x ∷ xs) i x below)
+                ∙ append_assoc (take i (x ∷ xs)) (get_or (x ∷ xs) i x ∷ []) (drop (i + 1) (x ∷ xs))
+                ∙ ap (λ k. take i (x ∷ xs) ++ get_or (x ∷ xs) i x ∷ drop k (x ∷ xs)) step
+
+            among_is : (front : List X) (y : X) (rest : List X) (item : X) → All (λ y. h y ≢ t) (front ++ rest) → h item ≡ t → Contains (front ++ y ∷ rest) item → item ≡ y
+            among_is front y rest item only eq c = cases (Contains-append_cases front (y ∷ rest) item c)
+              where
+                alone : Contains (y ∷ []) item → item ≡ y
+                alone e = All-contains (λ z. z ≡ y) (y ∷ []) item (All-cons (λ z. z ≡ y) y [] refl (All-nil (λ z. z ≡ y))) e
+
+                behind_front : Contains (y ∷ []) item ⊎ Contains rest item → item ≡ y
+                behind_front (inl e) = alone e
+                behind_front (inr e) = absurd (All-contains (λ z. h z ≢ t) rest item (all-rest (λ z. h z ≢ t) front rest only) e eq)
+
+                cases : Contains front item ⊎ Contains (y ∷ rest) item → item ≡ y
+                cases (inl e) = absurd (All-contains (λ z. h z ≢ t) front item (all-front (λ z. h z ≢ t) front rest only) e eq)
+                cases (inr e) = behind_front (Contains-append_cases (y ∷ []) rest item e)
+
+            parted : (front : List X) (y : X) (rest : List X) → x ∷ xs ≡ front ++ y ∷ rest → R (h y) t ≡ Equal
+                → AreInOrder cmp (front ++ rest) × All (λ y. h y ≢ t) (front ++ rest) × ((item : X) → h item ≡ t → Contains (x ∷ xs) item → AddsOne (front ++ rest) (x ∷ xs) item)
+            parted front y rest is tie =
+                let in_parts : AreInOrder cmp (front ++ y ∷ rest) = subst (AreInOrder cmp) is ordered in
+                let only = order-only total' y front rest in_parts t tie in (
+                  order-remove cmp total' y front rest in_parts,
+                  only,
+                  λ item eq among.
+                      let same : item ≡ y = among_is front y rest item only eq (subst (λ zs. Contains zs item) is among) in
+                      record { front = front; rest = rest; old_is = refl; new_is = is ∙ ap (λ z. front ++ z ∷ rest) (sym same) },
+                )
+
+    -- in a gap nothing has the order that was looked for
+    pub gap-none : (xs : List X) (i : ℕ) (t : K) → IsGap (λ y. R (h y) t) xs i → All (λ y. h y ≢ t) xs
+    gap-none xs i t gap =
+        All-same (λ y. h y ≢ t) xs (take i xs ++ drop i xs) (sym (take-append-drop i xs))
+        (All-append (λ y. h y ≢ t) (take i xs) (drop i xs)
+        (All-weaker (λ y. R (h y) t ≡ Less) (λ y. h y ≢ t) (λ y less is. (let tie = tied_at y is in cc)) (take i xs) gap.before)
+        (All-weaker (λ y. R (h y) t ≡ Greater) (λ y. h y ≢ t) (λ y more is. (let tie = tied_at y is in cc)) (drop i xs) gap.behind))
+      where
+        tied_at : (y : X) → h y ≡ t → R (h y) t ≡ Equal
+        tied_at y is = ap (R (h y)) (sym is) ∙ tied_itself total (h y)
+
+-- where a search ended that found nothing
+pub gap-from_search : {X : Type 0} (f : X → Ordering) (xs : List X) (i : ℕ) → i ≤ length xs → AllWithin (λ y. f y ≡ Less) xs 0 i → AllWithin (λ y. f y ≡ Greater) xs i (length xs) → IsGap f xs i
+gap-from_search f xs i within less more = record {
+  within = within;
+  before = λ k d below.
+      let at : k < i = omega (arith, below, length-take-le i xs within) in
+      rw (get_or-take i xs k d at) (less k d (omega arith) at);
+  behind = λ k d below.
+      rw (get_or-drop i xs k d) (more (i + k) d (omega arith) (omega (arith, below, length-drop i xs, within)));
+}
+
+-- what a search found
+pub search-from : {X : Type 0} (f : X → Ordering) (xs : List X) (r : Result ℕ ℕ) → IsSearchInRange r (length xs) → IsBinarySearchResult f xs r → IsNonDecreasingBy (λ y. ordering_index (f y)) xs
+    → IfOk r (HoldsAt (λ y. f y ≡ Equal) xs) × IfErr r (IsGap f xs)
+search-from f xs (Ok i) within found rises = (found, tt)
+search-from f xs (Err i) within found rises = let parts = found rises in (tt, gap-from_search f xs i within parts.0 parts.1)
+
+-- in a gap nothing is as what was looked for
+pub gap-apart : {X : Type 0} (f : X → Ordering) (P : X → Type 0) → ((y : X) → P y → f y ≡ Equal) → (xs : List X) (i : ℕ) → IsGap f xs i → All (λ y. ¬ P y) xs
+gap-apart f P equal xs i gap =
+    All-same (λ y. ¬ P y) xs (take i xs ++ drop i xs) (sym (take-append-drop i xs))
+    (All-append (λ y. ¬ P y) (take i xs) (drop i xs)
+    (All-weaker (λ y. f y ≡ Less) (λ y. ¬ P y) (λ y less p. (let tie = equal y p in cc)) (take i xs) gap.before)
+    (All-weaker (λ y. f y ≡ Greater) (λ y. ¬ P y) (λ y more p. (let tie = equal y p in cc)) (drop i xs) gap.behind))
+
+-- what rises does so however it is told
+pub rises-same : {X : Type 0} (f g : X → Ordering) (xs : List X) → All (λ y. f y ≡ g y) xs → IsNonDecreasingBy (λ y. ordering_index (g y)) xs → IsNonDecreasingBy (λ y. ordering_index (f y)) xs
+rises-same f g xs same rises i j d le below = rw (same i d (omega (arith, le, below)), same j d below) (rises i j d le below)
+
+-- ---- items among others
+
+-- within others
+pub adds-within : {X : Type 0} {p q : List X} {x : X} (front rest : List X) → AddsOne p q x → AddsOne (front ++ (p ++ rest)) (front ++ (q ++ rest)) x
+adds-within {X} {p} {q} {x} front rest a = record {
+  front = front ++ a.front;
+  rest = a.rest ++ rest;
+  old_is = ap (λ xs. front ++ (xs ++ rest)) a.old_is ∙ ap (λ xs. front ++ xs) (append_assoc a.front a.rest rest) ∙ sym (append_assoc front a.front (a.rest ++ rest));
+  new_is = ap (λ xs. front ++ (xs ++ rest)) a.new_is ∙ ap (λ xs. front ++ xs) (append_assoc a.front (x ∷ a.rest) rest) ∙ sym (append_assoc front a.front (x ∷ (a.rest ++ rest)));
+}
+
+-- seen otherwise
+pub adds-map : {X Y : Type 0} {p q : List X} {x : X} (f : X → Y) → AddsOne p q x → AddsOne (map f p) (map f q) (f x)
+adds-map {X} {Y} {p} {q} {x} f a = record {
+  front = map f a.front;
+  rest = map f a.rest;
+  old_is = ap (map f) a.old_is ∙ map-append f a.front a.rest;
+  new_is = ap (map f) a.new_is ∙ map-append f a.front (x ∷ a.rest);
+}
+
+-- ---- buckets
+
+module _ {X Y : Type 0} (f : ℕ × Vec X Global → List Y) where
+  module _ (test : ℕ → Bool) where
+    -- what stands before and behind the items of a bucket, whatever those are
+    pub around : (es : List (ℕ × Vec X Global)) (v : Vec X Global) → lookup test es ≡ Some v
+        → (k : ℕ) × (test k ≡ true) × (front : List Y) × (rest : List Y) × (flat_map f es ≡ front ++ (f (k, v) ++ rest)) × ((w : Vec X Global) → flat_map f (set_value test es w) ≡ front ++ (f (k, w) ++ rest))
+    around [] v h = absurd (cc)
+    around (e ∷ es) v h = by (test e.0) refl h (λ r. around es v r)
+      where
+        by : (b : Bool) → test e.0 ≡ b → cond b (Some e.1) (lookup test es) ≡ Some v
+            → (lookup test es ≡ Some v → (k : ℕ) × (test k ≡ true) × (front : List Y) × (rest : List Y) × (flat_map f es ≡ front ++ (f (k, v) ++ rest)) × ((w : Vec X Global) → flat_map f (set_value test es w) ≡ front ++ (f (k, w) ++ rest)))
+            → (k : ℕ) × (test k ≡ true) × (front : List Y) × (rest : List Y) × (f e ++ flat_map f es ≡ front ++ (f (k, v) ++ rest)) × ((w : Vec X Global) → flat_map f (cond (test e.0) ((e.0, w) ∷ es) (e ∷ set_value test es w)) ≡ front ++ (f (k, w) ++ rest))
+        by true at h later =
+            let same : e.1 ≡ v = cc in
+            (e.0, at, [], flat_map f es, ap (λ (u : Vec X Global). f (e.0, u) ++ flat_map f es) same, λ w. ap (λ b. flat_map f (cond b ((e.0, w) ∷ es) (e ∷ set_value test es w))) at)
+        by false at h later =
+            let a = later h in
+            (a.0, a.1, f e ++ a.2, a.3, ap (λ xs. f e ++ xs) a.4 ∙ sym (append_assoc (f e) a.2 (f (a.0, v) ++ a.3)), λ w. ap (λ b. flat_map f (cond b ((e.0, w) ∷ es) (e ∷ set_value test es w))) at ∙ ap (λ xs. f e ++ xs) (a.5 w) ∙ sym (append_assoc (f e) a.2 (f (a.0, w) ++ a.3)))
+
+    -- an empty bucket that goes takes nothing along
+    pub emptied : (es : List (ℕ × Vec X Global)) (v : Vec X Global) → lookup test es ≡ Some v → ((k : ℕ) → f (k, v) ≡ []) → flat_map f (remove_entry test es) ≡ flat_map f es
+    emptied [] v h none = refl
+    emptied (e ∷ es) v h none = by (test e.0) h (λ r. emptied es v r none)
+      where
+        by : (b : Bool) → cond b (Some e.1) (lookup test es) ≡ Some v → (lookup test es ≡ Some v → flat_map f (remove_entry test es) ≡ flat_map f es) → flat_map f (cond b es (e ∷ remove_entry test es)) ≡ f e ++ flat_map f es
+        by true h later =
+            let same : v ≡ e.1 = cc in
+            ap (λ xs. xs ++ flat_map f es) (sym (none e.0) ∙ ap (λ (u : Vec X Global). f (e.0, u)) same)
+        by false h later = ap (λ xs. f e ++ xs) (later h)
+
+  -- a new bucket brings its items
+  pub around-new : (d : ℕ) (es : List (ℕ × Vec X Global)) (w : Vec X Global) → lookup (is_at (nat_cmp d)) es ≡ None → (front : List Y) × (rest : List Y) × (flat_map f es ≡ front ++ rest) × (flat_map f (insert_entry nat_cmp es d w) ≡ front ++ (f (d, w) ++ rest))
+  around-new d [] w h = ([], [], refl, refl)
+  around-new d (e ∷ es) w h = by (nat_cmp d e.0) h (λ r. around-new d es w r)
+    where
+      by : (o : Ordering) → cond (is_eq o) (Some e.1) (lookup (is_at (nat_cmp d)) es) ≡ None
+          → (lookup (is_at (nat_cmp d)) es ≡ None → (front : List Y) × (rest : List Y) × (flat_map f es ≡ front ++ rest) × (flat_map f (insert_entry nat_cmp es d w) ≡ front ++ (f (d, w) ++ rest)))
+          → (front : List Y) × (rest : List Y) × (f e ++ flat_map f es ≡ front ++ rest) × (flat_map f (match_ordering o ((d, w) ∷ e ∷ es) ((e.0, w) ∷ es) (e ∷ insert_entry nat_cmp es d w)) ≡ front ++ (f (d, w) ++ rest))
+      by Less h later = ([], f e ++ flat_map f es, refl, refl)
+      by Equal h later = absurd (cc)
+      by Greater h later =
+          let a = later h in
+          (f e ++ a.0, a.1, ap (λ xs. f e ++ xs) a.2 ∙ sym (append_assoc (f e) a.0 a.1), ap (λ xs. f e ++ xs) a.3 ∙ sym (append_assoc (f e) a.0 (f (d, w) ++ a.1)))
+
+module _ {X : Type 0} (test : ℕ → Bool) where
+  -- what a look-up finds is a bucket of which what holds of all holds
+  pub all-found : (P : ℕ × Vec X Global → Type 0) (es : List (ℕ × Vec X Global)) (v : Vec X Global) → lookup test es ≡ Some v → All P es → (k : ℕ) × (test k ≡ true) × P (k, v)
+  all-found P [] v h all = absurd (cc)
+  all-found P (e ∷ es) v h all = by (test e.0) refl h (λ r. all-found P es v r (All-tail P e es all))
+    where
+      by : (b : Bool) → test e.0 ≡ b → cond b (Some e.1) (lookup test es) ≡ Some v → (lookup test es ≡ Some v → (k : ℕ) × (test k ≡ true) × P (k, v)) → (k : ℕ) × (test k ≡ true) × P (k, v)
+      by true at h later =
+          let same : e.1 ≡ v = cc in
+          (e.0, at, subst (λ (u : Vec X Global). P (e.0, u)) same (All-head P e es all))
+      by false at h later = later h
+
+  -- a bucket that is written is found as it was written
+  pub lookup-set : (es : List (ℕ × Vec X Global)) (v w : Vec X Global) → lookup test es ≡ Some v → lookup test (set_value test es w) ≡ Some w
+  lookup-set [] v w h = absurd (cc)
+  lookup-set (e ∷ es) v w h = by (test e.0) refl h (λ r. lookup-set es v w r)
+    where
+      by : (b : Bool) → test e.0 ≡ b → cond b (Some e.1) (lookup test es) ≡ Some v → (lookup test es ≡ Some v → lookup test (set_value test es w) ≡ Some w) → lookup test (cond b ((e.0, w) ∷ es) (e ∷ set_value test es w)) ≡ Some w
+      by true at h later = ap (λ b. cond b (Some w) (lookup test es)) at
+      by false at h later = ap (λ b. cond b (Some e.1) (lookup test (set_value test es w))) at ∙ later h
+
+  pub all-removed : (P : ℕ × Vec X Global → Type 0) (es : List (ℕ × Vec X Global)) → All P es → All P (remove_entry test es)
+  all-removed P [] all = all
+  all-removed P (e ∷ es) all = by (test e.0) (all-removed P es (All-tail P e es all))
+    where
+      by : (b : Bool) → All P (remove_entry test es) → All P (cond b es (e ∷ remove_entry test es))
+      by true rest = All-tail P e es all
+      by false rest = All-cons P e (remove_entry test es) (All-head P e es all) rest

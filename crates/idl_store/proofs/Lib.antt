@@ -1,0 +1,16 @@
+pub mod Bucketed
+pub mod Changing
+pub mod Comparing
+pub mod Drafting
+pub mod Exactness
+pub mod Finding
+pub mod Hinting
+pub mod Indexing
+pub mod Obtaining
+pub mod Ordered
+pub mod Reading
+pub mod Searching
+pub mod Shown
+pub mod StoredLaws
+pub mod Times
+pub mod Using

@@ -1,0 +1,267 @@
+-- Results under numbers: one that is used less, goes or comes.
+use Rattle.std.proofs.Common.{◌≡◌, ◌≢◌, ◌⊎◌, ◌↔◌, ℕ, ◌+◌, ◌<◌, ◌≤◌, Bool, true, false, List, [], ◌∷◌, ◌++◌, Option, Some, None, cond, refl, sym, ap, ◌∙◌, subst, arith, inl, inr, nat_eq, length, add-zero, drop, get_or, take}
+use Rattle.std.specs.Prelude.{All, Contains, IsSome, is_some}
+use Rattle.std.specs.Global.{Global}
+use Rattle.std.specs.Option.{option_map}
+use Rattle.std.specs.declared.rc.Rc.{Rc}
+use Rattle.std.proofs.lemmas.Bool.{cases_eq}
+use Rattle.std.proofs.lemmas.Bool.Decides.{eqb_tells}
+use Rattle.std.proofs.lemmas.List.Elements.{All-append, All-cons, All-contains, All-contains_itself, All-weaker, All-head, All-tail, Contains-append_cases, Contains-append_left, Contains-append_right}
+use Rattle.std.proofs.lemmas.Grind.{flat_map-append}
+use Rattle.std.proofs.lemmas.List.{append-nil, take-append-drop, take_more}
+use Rattle.idl_store.specs.Stored.{results_of_drafts}
+use Rattle.slab.specs.Slab.{Slab, Updates, get, with_value}
+use Rattle.slab.proofs.SlabLemmas.{Updates-with_value}
+use Rattle.idl_store.specs.Buckets.{AddsOne}
+use Rattle.idl_memo.specs.Kept.{Kept}
+use Rattle.idl_store.specs.Numbers.{AreFewer, AreMore, AreUsed, IsIndexOf, IsPut, kept_at, placed_of, times, uses_of, valued, with_bucket}
+use Rattle.idl_memo.specs.Query.{Query}
+use Rattle.idl_store.specs.declared.numbers.Used.{Used}
+use Rattle.idl_store.proofs.Times.{times-append}
+
+-- another number alone is no time there
+pub times_other : (n m : ℕ) → n ≢ m → times n (m ∷ []) ≡ 0
+times_other n m differ = by (eqb_tells n m)
+  where
+    by : ((nat_eq n m ≡ true) × (n ≡ m)) ⊎ ((nat_eq n m ≡ false) × (n ≢ m)) → times n (m ∷ []) ≡ 0
+    by (inl h) = absurd (differ h.1)
+    by (inr h) = ap (λ b. cond b 1 0 + 0) h.0
+
+-- and the number itself once
+pub times_one : (n : ℕ) → times n (n ∷ []) ≡ 1
+times_one n = by (eqb_tells n n)
+  where
+    by : ((nat_eq n n ≡ true) × (n ≡ n)) ⊎ ((nat_eq n n ≡ false) × (n ≢ n)) → times n (n ∷ []) ≡ 1
+    by (inl h) = ap (λ b. cond b 1 0 + 0) h.0
+    by (inr h) = absurd (h.1 refl)
+
+-- what is there after one came is that or was there
+pub added_cases : {X : Type 0} {old new : List X} {item : X} → AddsOne old new item → (x : X) → Contains new x → (x ≡ item) ⊎ Contains old x
+added_cases {X} {old} {new} {item} adds x c = by (Contains-append_cases adds.front (item ∷ adds.rest) x (subst (λ (xs : List X). Contains xs x) adds.new_is c))
+  where
+    behind : Contains (item ∷ adds.rest) x → (x ≡ item) ⊎ Contains old x
+    behind d = by_place (Contains-append_cases (item ∷ []) adds.rest x d)
+      where
+        by_place : Contains (item ∷ []) x ⊎ Contains adds.rest x → (x ≡ item) ⊎ Contains old x
+        by_place (inl e) = inl (alone e)
+          where
+            alone : Contains (item ∷ []) x → x ≡ item
+            alone e = All-contains (λ y. y ≡ item) (item ∷ []) x (All-cons (λ y. y ≡ item) item [] refl (λ i d below. absurd (omega arith))) e
+        by_place (inr e) = inr (subst (λ (xs : List X). Contains xs x) (sym adds.old_is) (Contains-append_right adds.front adds.rest x e))
+
+    by : Contains adds.front x ⊎ Contains (item ∷ adds.rest) x → (x ≡ item) ⊎ Contains old x
+    by (inl d) = inr (subst (λ (xs : List X). Contains xs x) (sym adds.old_is) (Contains-append_left adds.front adds.rest x d))
+    by (inr d) = behind d
+
+-- what was there is there still
+pub added_stays : {X : Type 0} {old new : List X} {item : X} → AddsOne old new item → (x : X) → Contains old x → Contains new x
+added_stays {X} {old} {new} {item} adds x c = subst (λ (xs : List X). Contains xs x) (sym adds.new_is) (by (Contains-append_cases adds.front adds.rest x (subst (λ (xs : List X). Contains xs x) adds.old_is c)))
+  where
+    by : Contains adds.front x ⊎ Contains adds.rest x → Contains (adds.front ++ item ∷ adds.rest) x
+    by (inl d) = Contains-append_left adds.front (item ∷ adds.rest) x d
+    by (inr d) = Contains-append_right adds.front (item ∷ adds.rest) x (Contains-append_right (item ∷ []) adds.rest x d)
+
+-- and so is the item
+pub added_item : {X : Type 0} {old new : List X} {item : X} → AddsOne old new item → Contains new item
+added_item {X} {old} {new} {item} adds = subst (λ (xs : List X). Contains xs item) (sym adds.new_is) (Contains-append_right adds.front (item ∷ adds.rest) item (0, omega arith, refl))
+
+module _ {R : Type 0} (old new : Slab (Used R)) (number : ℕ) (u : Used R) (here : get old number ≡ Some u) (others : (n : ℕ) → n ≢ number → get new n ≡ get old n) where
+  abbrev uses_at : Option (Used R) → ℕ
+  uses_at o = elim o [ None ↦ 0 | Some u ↦ u.uses ]
+
+  -- a use less
+  module _ (m : ℕ) (left : get new number ≡ Some (record { result = u.result; uses = m; bucket = u.bucket })) where
+    kept_left : (n : ℕ) → kept_at new n ≡ kept_at old n
+    kept_left n = by (cases_eq n number)
+      where
+        by : (n ≡ number) ⊎ (n ≢ number) → kept_at new n ≡ kept_at old n
+        by (inl e) = rw e (ap (option_map with_bucket) left ∙ sym (ap (option_map with_bucket) here))
+        by (inr e) = ap (option_map with_bucket) (others n e)
+
+    pub fewer_left : m + 1 ≡ u.uses → AreFewer old new (number ∷ [])
+    fewer_left less = record { uses = λ n. by n (cases_eq n number); kept = λ n some. kept_left n }
+      where
+        by : (n : ℕ) → (n ≡ number) ⊎ (n ≢ number) → uses_of new n + times n (number ∷ []) ≡ uses_of old n
+        by n (inl e) = rw e (omega (arith, ap uses_at left, ap uses_at here, times_one number, less))
+        by n (inr e) = omega (arith, ap uses_at (others n e), times_other n number e)
+
+    pub used_left : 0 < m → AreUsed old → AreUsed new
+    used_left some used n there = by (cases_eq n number)
+      where
+        by : (n ≡ number) ⊎ (n ≢ number) → 0 < uses_of new n
+        by (inl e) = rw e (omega (arith, ap uses_at left, some))
+        by (inr e) =
+            let was : IsSome (get old n) = subst IsSome (others n e) there in
+            omega (arith, ap uses_at (others n e), used n was)
+
+  -- the last use
+  module _ (gone : get new number ≡ None) where
+    pub fewer_gone : u.uses ≡ 1 → AreFewer old new (number ∷ [])
+    fewer_gone one = record { uses = λ n. by n (cases_eq n number); kept = λ n some. kept_by n some (cases_eq n number) }
+      where
+        by : (n : ℕ) → (n ≡ number) ⊎ (n ≢ number) → uses_of new n + times n (number ∷ []) ≡ uses_of old n
+        by n (inl e) = rw e (omega (arith, ap uses_at gone, ap uses_at here, times_one number, one))
+        by n (inr e) = omega (arith, ap uses_at (others n e), times_other n number e)
+
+        kept_by : (n : ℕ) → 0 < uses_of new n → (n ≡ number) ⊎ (n ≢ number) → kept_at new n ≡ kept_at old n
+        kept_by n some (inl e) =
+            let none : uses_of new n ≡ 0 = rw e (ap uses_at gone) in
+            absurd (omega (arith, none, some))
+        kept_by n some (inr e) = ap (option_map with_bucket) (others n e)
+
+    pub used_gone : AreUsed old → AreUsed new
+    used_gone used n there = by (cases_eq n number)
+      where
+        by : (n ≡ number) ⊎ (n ≢ number) → 0 < uses_of new n
+        by (inl e) =
+            let none : get new n ≡ None = rw e gone in
+            absurd (cc)
+        by (inr e) =
+            let was : IsSome (get old n) = subst IsSome (others n e) there in
+            omega (arith, ap uses_at (others n e), used n was)
+
+module _ {K V T O : Type 0} (old new : Slab (Used (Rc (Kept K V T O) Global))) where
+  -- what is kept is found still
+  pub indexed-same : (index : List ((Kept K V T O × ℕ) × ℕ)) → ((n : ℕ) → kept_at new n ≡ kept_at old n) → IsIndexOf old index → IsIndexOf new index
+  indexed-same index same indexed n kept =
+      subst (λ o. Contains index (kept, n) ↔ (option_map valued o ≡ Some kept)) (sym (same n)) (indexed n kept)
+
+  module _ (before after : List ((Kept K V T O × ℕ) × ℕ)) (number : ℕ) (k : Kept K V T O × ℕ) (others : (n : ℕ) → n ≢ number → get new n ≡ get old n) where
+    placed_other : (n : ℕ) → n ≢ number → placed_of new n ≡ placed_of old n
+    placed_other n e = ap (λ o. option_map valued (option_map with_bucket o)) (others n e)
+
+    -- one that goes is found no more
+    pub indexed-gone : placed_of old number ≡ Some k → get new number ≡ None → AddsOne after before (k, number) → ¬ Contains after (k, number) → IsIndexOf old before → IsIndexOf new after
+    indexed-gone here gone adds out indexed n kept = (to (cases_eq n number), from (cases_eq n number))
+      where
+        none : placed_of new number ≡ None
+        none = ap (λ o. option_map valued (option_map with_bucket o)) gone
+
+        to : (n ≡ number) ⊎ (n ≢ number) → Contains after (kept, n) → placed_of new n ≡ Some kept
+        to (inl e) c =
+            let was : placed_of old n ≡ Some kept = (indexed n kept).0 (added_stays adds (kept, n) c) in
+            let at : placed_of old n ≡ Some k = rw e here in
+            let same : kept ≡ k = cc in
+            absurd (out (subst (λ (x : (Kept K V T O × ℕ) × ℕ). Contains after x) (λ i. (same i, e i)) c))
+        to (inr e) c = placed_other n e ∙ (indexed n kept).0 (added_stays adds (kept, n) c)
+
+        from : (n ≡ number) ⊎ (n ≢ number) → placed_of new n ≡ Some kept → Contains after (kept, n)
+        from (inl e) h =
+            let nothing : placed_of new n ≡ None = rw e none in
+            absurd (cc)
+        from (inr e) h = left (added_cases adds (kept, n) ((indexed n kept).1 (sym (placed_other n e) ∙ h)))
+          where
+            left : (◌≡◌ {A = (Kept K V T O × ℕ) × ℕ} (kept, n) (k, number)) ⊎ Contains after (kept, n) → Contains after (kept, n)
+            left (inl same) = absurd (e (ap (λ x. x.1) same))
+            left (inr c) = c
+
+    -- one that comes is found
+    pub indexed-put : placed_of old number ≡ None → placed_of new number ≡ Some k → AddsOne before after (k, number) → IsIndexOf old before → IsIndexOf new after
+    indexed-put free here adds indexed n kept = (to (cases_eq n number), from (cases_eq n number))
+      where
+        to : (n ≡ number) ⊎ (n ≢ number) → Contains after (kept, n) → placed_of new n ≡ Some kept
+        to o c = by o (added_cases adds (kept, n) c)
+          where
+            by : (n ≡ number) ⊎ (n ≢ number) → (◌≡◌ {A = (Kept K V T O × ℕ) × ℕ} (kept, n) (k, number)) ⊎ Contains before (kept, n) → placed_of new n ≡ Some kept
+            by o (inl same) = ap (placed_of new) (ap (λ x. x.1) same) ∙ here ∙ ap (λ x. Some x.0) (sym same)
+            by (inl e) (inr c) =
+                let was : placed_of old n ≡ Some kept = (indexed n kept).0 c in
+                let nothing : placed_of old n ≡ None = rw e free in
+                absurd (cc)
+            by (inr e) (inr c) = placed_other n e ∙ (indexed n kept).0 c
+
+        from : (n ≡ number) ⊎ (n ≢ number) → placed_of new n ≡ Some kept → Contains after (kept, n)
+        from (inl e) h =
+            let at : placed_of new n ≡ Some k = rw e here in
+            let same : k ≡ kept = cc in
+            subst (λ (x : (Kept K V T O × ℕ) × ℕ). Contains after x) (λ i. (same i, sym e i)) (added_item adds)
+        from (inr e) h = added_stays adds (kept, n) ((indexed n kept).1 (sym (placed_other n e) ∙ h))
+
+  -- the same by what was kept
+  pub indexed-removed : (before after : List ((Kept K V T O × ℕ) × ℕ)) (number : ℕ) (last : Used (Rc (Kept K V T O) Global)) (value : Kept K V T O) → value ≡ last.result.value → get old number ≡ Some last → Updates old new number None → (Contains before ((value, last.bucket), number) → AddsOne after before ((value, last.bucket), number)) → ¬ Contains after ((value, last.bucket), number) → IsIndexOf old before → IsIndexOf new after
+  indexed-removed before after number last value is was updates adds out indexed =
+      let k : Kept K V T O × ℕ = (value, last.bucket) in
+      let here : placed_of old number ≡ Some k = ap (λ o. option_map valued (option_map with_bucket o)) was ∙ ap (λ (v : Kept K V T O). Some (v, last.bucket)) (sym is) in
+      indexed-gone before after number k updates.others here updates.changed (adds ((indexed number k).1 here)) out indexed
+
+  -- what holds of all that was found holds of what is found after some went
+  pub all-fewer : (P : Kept K V T O × ℕ → Type 0) (before after : List ((Kept K V T O × ℕ) × ℕ)) (gone : List ℕ) → AreFewer old new gone → AreUsed new → IsIndexOf old before → IsIndexOf new after → All (λ e. P e.0) before → All (λ e. P e.0) after
+  all-fewer P before after gone fewer used indexed indexed' all =
+      All-weaker (Contains after) (λ e. P e.0) (λ e c.
+      let now : placed_of new e.1 ≡ Some e.0 = (indexed' e.1 e.0).0 c in
+      let taken : IsSome (get new e.1) = is_taken (get new e.1) now in
+      let same : placed_of new e.1 ≡ placed_of old e.1 = ap (option_map valued) (fewer.kept e.1 (used e.1 taken)) in
+      All-contains (λ e. P e.0) before e all ((indexed e.1 e.0).1 (sym same ∙ now))) after (All-contains_itself after)
+    where
+      is_taken : {k : Kept K V T O × ℕ} (o : Option (Used (Rc (Kept K V T O) Global))) → option_map valued (option_map with_bucket o) ≡ Some k → IsSome o
+      is_taken None h = absurd (cc)
+      is_taken (Some u) h = refl
+
+-- ---- uses given up one after another
+
+module _ {R : Type 0} where
+  -- none
+  pub fewer-none : (used : Slab (Used R)) → AreFewer used used []
+  fewer-none used = record { uses = λ n. add-zero (uses_of used n); kept = λ n some. refl }
+
+  -- and more
+  pub fewer-then : (old mid new : Slab (Used R)) (first second : List ℕ) → AreFewer old mid first → AreFewer mid new second → AreFewer old new (first ++ second)
+  fewer-then old mid new first second before after = record {
+    uses = λ n. omega (arith, before.uses n, after.uses n, times-append n first second);
+    kept = λ n some. after.kept n some ∙ before.kept n (omega (arith, after.uses n, some));
+  }
+
+-- the next of some numbers has a use still
+pub next-used : (numbers : List ℕ) (i d used left : ℕ) → i < length numbers → left + times (get_or numbers i d) (take i numbers) ≡ used → times (get_or numbers i d) numbers ≤ used → 0 < left
+next-used numbers i d used left below so all =
+    let number = get_or numbers i d in
+    let whole : times number numbers ≡ times number (take (i + 1) numbers) + times number (drop (i + 1) numbers) =
+    ap (times number) (sym (take-append-drop (i + 1) numbers)) ∙ times-append number (take (i + 1) numbers) (drop (i + 1) numbers) in
+    let more : times number (take (i + 1) numbers) ≡ times number (take i numbers) + times number (number ∷ []) =
+    ap (times number) (take_more numbers i d below) ∙ times-append number (take i numbers) (number ∷ []) in
+    omega (arith, whole, more, times_one number, so, all)
+
+-- other uses are written
+pub kept-written : {R : Type 0} (old : Slab (Used R)) (number : ℕ) (u : Used R) (uses : ℕ) → get old number ≡ Some u → (n : ℕ) → kept_at (with_value old number (record { result = u.result; uses = uses; bucket = u.bucket })) n ≡ kept_at old n
+kept-written {R} old number u uses here n = by (cases_eq n number)
+  where
+    updates : Updates old (with_value old number (record { result = u.result; uses = uses; bucket = u.bucket })) number (Some (record { result = u.result; uses = uses; bucket = u.bucket }))
+    updates = Updates-with_value old number (record { result = u.result; uses = uses; bucket = u.bucket }) (ap is_some here)
+
+    by : (n ≡ number) ⊎ (n ≢ number) → kept_at (with_value old number (record { result = u.result; uses = uses; bucket = u.bucket })) n ≡ kept_at old n
+    by (inl e) = rw e (ap (option_map with_bucket) updates.changed ∙ sym (ap (option_map with_bucket) here))
+    by (inr e) = ap (option_map with_bucket) (updates.others n e)
+
+-- a use more is written
+pub more-written : {R : Type 0} (old : Slab (Used R)) (number : ℕ) (u : Used R) (uses : ℕ) (before after : List ℕ) → get old number ≡ Some u → uses ≡ u.uses + 1 → ((n : ℕ) → times n after ≡ times n before + times n (number ∷ [])) → AreMore old (with_value old number (record { result = u.result; uses = uses; bucket = u.bucket })) before after
+more-written {R} old number u uses before after here more parts = record { uses = λ n. uses_by n (cases_eq n number); kept = λ n. kept_by n (cases_eq n number) }
+  where
+    updates : Updates old (with_value old number (record { result = u.result; uses = uses; bucket = u.bucket })) number (Some (record { result = u.result; uses = uses; bucket = u.bucket }))
+    updates = Updates-with_value old number (record { result = u.result; uses = uses; bucket = u.bucket }) (ap is_some here)
+
+    uses_by : (n : ℕ) → (n ≡ number) ⊎ (n ≢ number) → uses_of (with_value old number (record { result = u.result; uses = uses; bucket = u.bucket })) n + times n before ≡ uses_of old n + times n after
+    uses_by n (inl e) =
+        let now : uses_of (with_value old number (record { result = u.result; uses = uses; bucket = u.bucket })) number ≡ uses = ap (λ o. elim o [ None ↦ 0 | Some u ↦ u.uses ]) updates.changed in
+        let was : uses_of old number ≡ u.uses = ap (λ o. elim o [ None ↦ 0 | Some u ↦ u.uses ]) here in
+        rw e (omega (arith, now, was, more, parts number, times_one number))
+    uses_by n (inr e) =
+        let same : uses_of (with_value old number (record { result = u.result; uses = uses; bucket = u.bucket })) n ≡ uses_of old n = ap (λ o. elim o [ None ↦ 0 | Some u ↦ u.uses ]) (updates.others n e) in
+        omega (arith, same, parts n, times_other n number e)
+
+    kept_by : (n : ℕ) → (n ≡ number) ⊎ (n ≢ number) → kept_at (with_value old number (record { result = u.result; uses = uses; bucket = u.bucket })) n ≡ kept_at old n
+    kept_by n (inl e) = rw e (ap (option_map with_bucket) updates.changed ∙ sym (ap (option_map with_bucket) here))
+    kept_by n (inr e) = ap (option_map with_bucket) (updates.others n e)
+
+-- the results of drafts, and of the next one
+pub drafted-more : (ds : List (ℕ × List ℕ)) (i : ℕ) (d : ℕ × List ℕ) → i < length ds → d ≡ get_or ds i d → results_of_drafts (take (i + 1) ds) ≡ results_of_drafts (take i ds) ++ d.1
+drafted-more ds i d below is =
+    ap results_of_drafts (take_more ds i d below) ∙ flat_map-append (λ d. d.1) (take i ds) (get_or ds i d ∷ [])
+    ∙ ap (λ xs. results_of_drafts (take i ds) ++ xs) (append-nil (get_or ds i d).1 ∙ ap (λ (e : ℕ × List ℕ). e.1) (sym is))
+
+-- the numbers of the next of some drafts have their uses still
+pub next-drafted : (ds : List (ℕ × List ℕ)) (i n used left : ℕ) (d : ℕ × List ℕ) → i < length ds → d ≡ get_or ds i d → left + times n (results_of_drafts (take i ds)) ≡ used → times n (results_of_drafts ds) ≤ used → times n d.1 ≤ left
+next-drafted ds i n used left d below is so all =
+    let whole : times n (results_of_drafts ds) ≡ times n (results_of_drafts (take (i + 1) ds)) + times n (results_of_drafts (drop (i + 1) ds)) =
+    ap (λ ds. times n (results_of_drafts ds)) (sym (take-append-drop (i + 1) ds)) ∙ ap (times n) (flat_map-append (λ d. d.1) (take (i + 1) ds) (drop (i + 1) ds)) ∙ times-append n (results_of_drafts (take (i + 1) ds)) (results_of_drafts (drop (i + 1) ds)) in
+    let more : times n (results_of_drafts (take (i + 1) ds)) ≡ times n (results_of_drafts (take i ds)) + times n d.1 = ap (times n) (drafted-more ds i d below is) ∙ times-append n (results_of_drafts (take i ds)) d.1 in
+    omega (arith, whole, more, so, all)

@@ -1,0 +1,232 @@
+-- What a look-up finds is the result there, and where it finds none, a run gives it.
+use Rattle.std.proofs.Common.{◌≡◌, ◌∷◌, ◌<◌, ◌∙◌, [], ap, arith, inl, inr, length, refl, subst, sym}
+use Rattle.std.specs.Cmp.Lexicographic.{options_total}
+use Rattle.std.specs.Option.{option_cmp}
+use Rattle.std.specs.Prelude.{Any}
+use Rattle.idl_memo.specs.Kept.{IsAlike, NoneAlikeAt, SomeAlikeAt, result_over}
+use Rattle.idl_memo.specs.Meter.{raised}
+use Rattle.idl_store.specs.Buckets.{bucket_at, bucket_of}
+use Rattle.idl_store.specs.Numbers.{drafts_of, lists_of, numbers_of, result_of, shown}
+use Rattle.idl_store.specs.Stored.{grown, results_in}
+use Rattle.idl_store.proofs.Bucketed.{on_err}
+use Rattle.idl_store.proofs.Changing.{shown-still, stored-kept, stored-used}
+use Rattle.idl_store.proofs.Drafting.{length-drafts, some-unless}
+use Rattle.idl_store.proofs.Exactness.{exact_by, exact_options}
+use Rattle.idl_store.proofs.Hinting.{bucket-result, none-equal, none-found}
+use Rattle.idl_store.proofs.Obtaining.{found-alike, found-taken, grown-found, on_ok, result-found, run-alike, run-shown, run-stored}
+use Rattle.idl_store.proofs.store.Store.obtain.Goals as goal
+
+pub use_again-requires : goal.use_again-requires
+use_again-requires g c =
+    let eq = g.B.Key.PartialEq.eq in
+    let itself = g.met.B.Key.Eq.laws.refl in
+    let same = g.met.B.Key.Datum.same in
+    let query = g.T.Task.query in
+    let input = g.T.Text.Hash.hash_input in
+    let hint = g.T.Task.hint_of in
+    let used = c.self.inside.used in
+    let index = c.self.inside.index in
+    let numbers = numbers_of c.self.inside.lists.items c.self.inside.drafts.items in
+    let stored = c.self.invariant.0 in
+    let text = g.T.Task.text_of c.args.task.now in
+    let bank = g.B.Bank.at c.args.bank.now in
+    let found = subst (λ t. Any (λ e. IsAlike t bank e.0.0 × (e.1 ≡ c.in-Some.number)) index) c.text-2.ensures c.in-Some.ensures.some in
+    found-taken eq itself same query (bucket_of input hint) used index numbers stored text bank c.in-Some.number found
+
+pub invariant_of-self : goal.invariant_of-self
+invariant_of-self g c =
+    let eq = g.B.Key.PartialEq.eq in
+    let query = g.T.Task.query in
+    let input = g.T.Text.Hash.hash_input in
+    let hint = g.T.Task.hint_of in
+    let used = c.self.inside.used in
+    let index = c.self.inside.index in
+    let numbers = numbers_of c.self.inside.lists.items c.self.inside.drafts.items in
+    let stored = c.self.invariant.0 in (
+      stored-used eq query (bucket_of input hint) used index numbers stored c.use_again.new.used c.use_again.result c.in-Some.number (drafts_of c.use_again.new.drafts.items) c.use_again.ensures.drafts c.use_again.ensures.uses c.use_again.ensures.err,
+      omega (arith, c.self.invariant.1, c.use_again.ensures.count),
+    )
+
+pub returns-in-Some-clause-result : goal.returns-in-Some-clause-result
+returns-in-Some-clause-result g c =
+    let eq = g.B.Key.PartialEq.eq in
+    let itself = g.met.B.Key.Eq.laws.refl in
+    let same = g.met.B.Key.Datum.same in
+    let query = g.T.Task.query in
+    let input = g.T.Text.Hash.hash_input in
+    let hint = g.T.Task.hint_of in
+    let used = c.self.inside.used in
+    let index = c.self.inside.index in
+    let numbers = numbers_of c.self.inside.lists.items c.self.inside.drafts.items in
+    let stored = c.self.invariant.0 in
+    let text = g.T.Task.text_of c.args.task.now in
+    let bank = g.B.Bank.at c.args.bank.now in
+    let found = subst (λ t. Any (λ e. IsAlike t bank e.0.0 × (e.1 ≡ c.in-Some.number)) index) c.text-2.ensures c.in-Some.ensures.some in
+    result-found eq itself same query (bucket_of input hint) used index numbers stored text bank c.in-Some.number found c.use_again.result c.use_again.ensures.kept
+
+pub returns-in-Some-clause-ok : goal.returns-in-Some-clause-ok
+returns-in-Some-clause-ok g c =
+    let eq = g.B.Key.PartialEq.eq in
+    let itself = g.met.B.Key.Eq.laws.refl in
+    let same = g.met.B.Key.Datum.same in
+    let query = g.T.Task.query in
+    let input = g.T.Text.Hash.hash_input in
+    let hint = g.T.Task.hint_of in
+    let used = c.self.inside.used in
+    let index = c.self.inside.index in
+    let numbers = numbers_of c.self.inside.lists.items c.self.inside.drafts.items in
+    let stored = c.self.invariant.0 in
+    let text = g.T.Task.text_of c.args.task.now in
+    let bank = g.B.Bank.at c.args.bank.now in
+    let found = subst (λ t. Any (λ e. IsAlike t bank e.0.0 × (e.1 ≡ c.in-Some.number)) index) c.text-2.ensures c.in-Some.ensures.some in
+    grown-found eq itself same query (bucket_of input hint) used index numbers stored text bank c.in-Some.number found c.use_again.result c.use_again.new.used (drafts_of c.use_again.new.drafts.items) c.args.self.now c.self.view_is c.use_again.ensures.drafts c.use_again.ensures.uses
+
+pub returns-in-Some-clause-meter : goal.returns-in-Some-clause-meter
+returns-in-Some-clause-meter g c =
+    let eq = g.B.Key.PartialEq.eq in
+    let itself = g.met.B.Key.Eq.laws.refl in
+    let same = g.met.B.Key.Datum.same in
+    let query = g.T.Task.query in
+    let input = g.T.Text.Hash.hash_input in
+    let hint = g.T.Task.hint_of in
+    let used = c.self.inside.used in
+    let index = c.self.inside.index in
+    let numbers = numbers_of c.self.inside.lists.items c.self.inside.drafts.items in
+    let stored = c.self.invariant.0 in
+    let text = g.T.Task.text_of c.args.task.now in
+    let bank = g.B.Bank.at c.args.bank.now in
+    let found = subst (λ t. Any (λ e. IsAlike t bank e.0.0 × (e.1 ≡ c.in-Some.number)) index) c.text-2.ensures c.in-Some.ensures.some in
+    on_ok c.use_again.result (inl (subst (λ s. SomeAlikeAt (text, bank) (results_in s)) c.self.view_is (found-alike eq itself same query (bucket_of input hint) used index numbers stored text bank c.in-Some.number found), refl))
+
+pub returns-then-is_empty-clause-meter : goal.returns-then-is_empty-clause-meter
+returns-then-is_empty-clause-meter g c =
+    let eq = g.B.Key.PartialEq.eq in
+    let itself = g.met.B.Key.Eq.laws.refl in
+    let same = g.met.B.Key.Datum.same in
+    let query = g.T.Task.query in
+    let input = g.T.Text.Hash.hash_input in
+    let hint = g.T.Task.hint_of in
+    let used = c.self.inside.used in
+    let index = c.self.inside.index in
+    let numbers = numbers_of c.self.inside.lists.items c.self.inside.drafts.items in
+    let stored = c.self.invariant.0 in
+    let text = g.T.Task.text_of c.args.task.now in
+    let bank = g.B.Bank.at c.args.bank.now in
+    let at = c.bucket_of-bucket.ensures ∙ (λ i. bucket_at input (c.text.ensures i) (c.hint.ensures i)) in
+    let none = none-found eq itself same query input hint text bank index stored.placed c.text-2.result.now c.text-2.ensures c.bucket_of-bucket.result at (c.in_default.ensures.none query) in
+    inr (subst (λ s. NoneAlikeAt (text, bank) (results_in s)) c.self.view_is (run-alike eq itself same query (bucket_of input hint) used index numbers stored text bank none), c.raise.ensures ∙ ap (λ kind. raised kind c.args.meter.now) c.KIND.ensures)
+
+pub put-requires-clause-apart : goal.put-requires-clause-apart
+put-requires-clause-apart g c =
+    let eq = g.B.Key.PartialEq.eq in
+    let itself = g.met.B.Key.Eq.laws.refl in
+    let same = g.met.B.Key.Datum.same in
+    let query = g.T.Task.query in
+    let input = g.T.Text.Hash.hash_input in
+    let hint = g.T.Task.hint_of in
+    let index = c.self.inside.index in
+    let stored = c.self.invariant.0 in
+    let text = g.T.Task.text_of c.args.task.now in
+    let bank = g.B.Bank.at c.args.bank.now in
+    let at = c.bucket_of-bucket.ensures ∙ (λ i. bucket_at input (c.text.ensures i) (c.hint.ensures i)) in
+    let none = none-found eq itself same query input hint text bank index stored.placed c.text-2.result.now c.text-2.ensures c.bucket_of-bucket.result at (c.in_default.ensures.none query) in
+    let answers = options_total g.met.B.Answer.Ord.total in
+    let text_exact = exact_by g.T.Text.Ord.cmp g.T.Text.PartialEq.eq g.met.T.Text.Ord.matches_eq g.met.T.Text.Datum.same in
+    let answer_exact = exact_options g.B.Answer.Ord.cmp (exact_by g.B.Answer.Ord.cmp g.B.Answer.PartialEq.eq g.met.B.Answer.Ord.matches_eq g.met.B.Answer.Datum.same) in
+    let is = c.in_ok-again.ensures.cases ∙ c.in_ok-kept.ensures in
+    none-equal eq itself same query input hint text bank index stored.placed g.T.Text.Ord.cmp (option_cmp g.B.Answer.Ord.cmp) g.met.T.Text.Ord.total answers text_exact answer_exact c.bucket_of-bucket.result c.in_ok-again.again.value is none
+
+pub invariant_of-self-in_err-put : goal.invariant_of-self-in_err-put
+invariant_of-self-in_err-put g c =
+    let eq = g.B.Key.PartialEq.eq in
+    let query = g.T.Task.query in
+    let input = g.T.Text.Hash.hash_input in
+    let hint = g.T.Task.hint_of in
+    let used = c.self.inside.used in
+    let index = c.self.inside.index in
+    let numbers = numbers_of c.self.inside.lists.items c.self.inside.drafts.items in
+    let stored = c.self.invariant.0 in
+    let err = c.in_err-put.ensures.err in (
+      stored-kept eq query (bucket_of input hint) used index numbers stored c.put.new.used err.0 c.put.new.index (drafts_of c.put.new.drafts.items) err.1 err.2,
+      omega (arith, c.self.invariant.1, c.put.ensures.count),
+    )
+
+pub returns-in_err-put-clause-err : goal.returns-in_err-put-clause-err
+returns-in_err-put-clause-err g c =
+    let eq = g.B.Key.PartialEq.eq in
+    let query = g.T.Task.query in
+    let input = g.T.Text.Hash.hash_input in
+    let hint = g.T.Task.hint_of in
+    let used = c.self.inside.used in
+    let index = c.self.inside.index in
+    let numbers = numbers_of c.self.inside.lists.items c.self.inside.drafts.items in
+    let stored = c.self.invariant.0 in
+    let err = c.in_err-put.ensures.err in
+    let new = c.put.new.used in
+    on_err _ (ap (λ ds. shown (result_of new) (record { lists = lists_of c.self.inside.lists.items; drafts = ds })) err.1
+    ∙ shown-still eq query (bucket_of input hint) used index numbers stored new err.0
+    ∙ c.self.view_is)
+
+pub invariant_of-self-2 : goal.invariant_of-self-2
+invariant_of-self-2 g c =
+    let eq = g.B.Key.PartialEq.eq in
+    let itself = g.met.B.Key.Eq.laws.refl in
+    let same = g.met.B.Key.Datum.same in
+    let query = g.T.Task.query in
+    let input = g.T.Text.Hash.hash_input in
+    let hint = g.T.Task.hint_of in
+    let used = c.self.inside.used in
+    let index = c.self.inside.index in
+    let numbers = numbers_of c.self.inside.lists.items c.self.inside.drafts.items in
+    let stored = c.self.invariant.0 in
+    let text = g.T.Task.text_of c.args.task.now in
+    let bank = g.B.Bank.at c.args.bank.now in
+    let at = c.bucket_of-bucket.ensures ∙ (λ i. bucket_at input (c.text.ensures i) (c.hint.ensures i)) in
+    let none = none-found eq itself same query input hint text bank index stored.placed c.text-2.result.now c.text-2.ensures c.bucket_of-bucket.result at (c.in_default.ensures.none query) in
+    let ok = c.in_ok-put.ensures.ok in
+    let is = c.in_ok-again.ensures.cases ∙ c.in_ok-kept.ensures in
+    let here = at ∙ sym (bucket-result eq itself same query input hint text bank) in
+    let there : 0 < length c.self.inside.drafts.items = omega (arith, c.self.inside.drafts.ok.0, some-unless _ (sym c.is_empty.ensures ∙ c.if-is_empty.false)) in
+    let some : 0 < length numbers.drafts = omega (arith, there, length-drafts c.self.inside.drafts.items) in (
+      run-stored eq itself same query (bucket_of input hint) used index numbers stored text bank none c.put.new.used c.put.new.index c.in_ok-again.again c.bucket_of-bucket.result ok.0 (drafts_of c.put.new.drafts.items) is here ok.1 ok.2 some ok.3,
+      omega (arith, c.self.invariant.1, c.put.ensures.count),
+    )
+
+pub returns-clause-ok : goal.returns-clause-ok
+returns-clause-ok g c =
+    let eq = g.B.Key.PartialEq.eq in
+    let itself = g.met.B.Key.Eq.laws.refl in
+    let same = g.met.B.Key.Datum.same in
+    let query = g.T.Task.query in
+    let input = g.T.Text.Hash.hash_input in
+    let hint = g.T.Task.hint_of in
+    let used = c.self.inside.used in
+    let index = c.self.inside.index in
+    let numbers = numbers_of c.self.inside.lists.items c.self.inside.drafts.items in
+    let stored = c.self.invariant.0 in
+    let text = g.T.Task.text_of c.args.task.now in
+    let bank = g.B.Bank.at c.args.bank.now in
+    let at = c.bucket_of-bucket.ensures ∙ (λ i. bucket_at input (c.text.ensures i) (c.hint.ensures i)) in
+    let none = none-found eq itself same query input hint text bank index stored.placed c.text-2.result.now c.text-2.ensures c.bucket_of-bucket.result at (c.in_default.ensures.none query) in
+    let ok = c.in_ok-put.ensures.ok in
+    let is = c.in_ok-again.ensures.cases ∙ c.in_ok-kept.ensures in
+    let here = at ∙ sym (bucket-result eq itself same query input hint text bank) in
+    run-shown eq itself same query (bucket_of input hint) used index numbers stored text bank none c.put.new.used c.put.new.index c.in_ok-again.again c.bucket_of-bucket.result ok.0 (drafts_of c.put.new.drafts.items) is here ok.1 ok.2 ∙ ap (λ s. grown s (result_over eq query (text, bank) ∷ [])) c.self.view_is
+
+pub returns-clause-meter : goal.returns-clause-meter
+returns-clause-meter g c =
+    let eq = g.B.Key.PartialEq.eq in
+    let itself = g.met.B.Key.Eq.laws.refl in
+    let same = g.met.B.Key.Datum.same in
+    let query = g.T.Task.query in
+    let input = g.T.Text.Hash.hash_input in
+    let hint = g.T.Task.hint_of in
+    let used = c.self.inside.used in
+    let index = c.self.inside.index in
+    let numbers = numbers_of c.self.inside.lists.items c.self.inside.drafts.items in
+    let stored = c.self.invariant.0 in
+    let text = g.T.Task.text_of c.args.task.now in
+    let bank = g.B.Bank.at c.args.bank.now in
+    let at = c.bucket_of-bucket.ensures ∙ (λ i. bucket_at input (c.text.ensures i) (c.hint.ensures i)) in
+    let none = none-found eq itself same query input hint text bank index stored.placed c.text-2.result.now c.text-2.ensures c.bucket_of-bucket.result at (c.in_default.ensures.none query) in
+    inr (subst (λ s. NoneAlikeAt (text, bank) (results_in s)) c.self.view_is (run-alike eq itself same query (bucket_of input hint) used index numbers stored text bank none), c.raise.ensures ∙ ap (λ kind. raised kind c.args.meter.now) c.KIND.ensures)

@@ -1,0 +1,51 @@
+-- Kept results with their numbers, in buckets, and in order in each bucket.
+use Rattle.std.specs.Prelude.{◌≡◌, ◌≤◌, ℕ, List, [], ◌∷◌, All, Vec, map, length, take, drop}
+use Rattle.std.specs.BTreeMap.{BTreeMap, IsOrdered}
+use Rattle.std.specs.Global.{Global}
+use Rattle.std.specs.List.{flat_map}
+use Rattle.std.specs.Ordering.{nat_cmp}
+use Rattle.std.specs.declared.cmp.Ordering.{Ordering}
+use Rattle.std.specs.declared.cmp.Ordering.TheVariants.{Less, Greater}
+use Rattle.std.specs.declared.rc.Rc.{Rc}
+use Rattle.idl_memo.specs.Kept.{Kept}
+use Rattle.idl_store.specs.Order.{results_cmp}
+use Rattle.idl_store.specs.declared.index.Numbered.{Numbered}
+
+-- each item comes before all behind it
+abbrev pub AreInOrder : {X : Type 0} → (X → X → Ordering) → List X → Type 0
+AreInOrder cmp [] = Unit {0}
+AreInOrder cmp (x ∷ xs) = All (λ y. cmp x y ≡ Less) xs × AreInOrder cmp xs
+
+-- a place among items: those before it come before what is looked for, and the others behind it
+pub record IsGap {X : Type 0} (order : X → Ordering) (items : List X) (place : ℕ) : Type 0 where
+  pub within : place ≤ length items
+  pub before : All (λ y. order y ≡ Less) (take place items)
+  pub behind : All (λ y. order y ≡ Greater) (drop place items)
+
+module _ {K V T O : Type 0} where
+  -- a kept result in the bucket of this number, with its own number
+  abbrev pub numbered : ℕ → Numbered (Rc (Kept K V T O) Global) → (Kept K V T O × ℕ) × ℕ
+  numbered bucket one = ((one.result.value, bucket), one.number)
+
+  -- those of a bucket
+  abbrev pub numbered_at : ℕ × Vec (Numbered (Rc (Kept K V T O) Global)) Global
+      → List ((Kept K V T O × ℕ) × ℕ)
+  numbered_at bucket = map (numbered bucket.0) bucket.1.items
+
+  -- those of all buckets, one bucket after another
+  abbrev pub numbered_in : List (ℕ × Vec (Numbered (Rc (Kept K V T O) Global)) Global)
+      → List ((Kept K V T O × ℕ) × ℕ)
+  numbered_in buckets = flat_map numbered_at buckets
+
+  -- the order of results, whatever their numbers
+  abbrev pub numbered_cmp : (T → T → Ordering) → (V → V → Ordering)
+      → Numbered (Rc (Kept K V T O) Global) → Numbered (Rc (Kept K V T O) Global) → Ordering
+  numbered_cmp text_cmp answer_cmp one other =
+      results_cmp text_cmp answer_cmp one.result.value other.result.value
+
+  -- the buckets are in the order of their numbers, and the results of each are in their order
+  pub record IsInOrder (text_cmp : T → T → Ordering) (answer_cmp : V → V → Ordering)
+      (buckets : BTreeMap ℕ (Vec (Numbered (Rc (Kept K V T O) Global)) Global)) : Type 0 where
+    pub ordered : IsOrdered nat_cmp buckets
+    pub sorted :
+        All (λ e. AreInOrder (numbered_cmp text_cmp answer_cmp) e.1.items) buckets.entries

@@ -1,0 +1,6 @@
+pub mod Buckets
+pub mod Index
+pub mod Numbers
+pub mod Obtained
+pub mod Order
+pub mod Stored

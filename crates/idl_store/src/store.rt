@@ -1,0 +1,233 @@
+//! The results of a kind of task, as the roots of a project have them.
+
+ghost use Rattle.std.specs.Prelude.{◌≡◌, ◌<◌, ◌∷◌, [], IfOk, OnErr, OnOk, Option, length, slice_get};
+ghost use Rattle.std.specs.Option.{option_copied, option_map, option_to_list};
+ghost use Rattle.idl_memo.specs.Kept.{result_over};
+ghost use Rattle.idl_memo.specs.Meter.{count_of, most_compared};
+ghost use Rattle.idl_store.specs.Obtained.{IsObtained};
+ghost use Rattle.idl_store.specs.Stored.{begun, committed, discarded, grown, list_at, nothing_stored, removed, result_at, results_in};
+
+use crate::index::{Index, bucket_of};
+use crate::numbers::{Draft, Used, exchange, number_at};
+use crate::uses::{put, release, release_drafts, use_again};
+use idl_memo::{Bank, Kept, Log, Meter, Task, keep};
+use slab::Slab;
+use std::alloc::{AllocError, Global};
+use std::marker::Model;
+use std::rc::Rc;
+
+/// Lists of kept results, one for each root, and the drafts of those that an edit makes.
+///
+/// To every contract it is these lists. A result is kept once, under a number, as long as a list or a draft has it, and a
+/// look-up finds it as long: so nothing that was run and is held is run again, and nothing else is held.
+pub struct Store<B: Bank, T: Task<B>>
+where
+    B::Answer: Ord,
+    T::Text: Ord,
+{
+    used: Slab<Used<Rc<Kept<B, T::Text, T::Out>>>>,
+    index: Index<B, T::Text, T::Out>,
+    lists: Vec<Vec<usize>>,
+    drafts: Vec<Draft>,
+    // What a task asks while it runs.
+    log: Log<B>,
+}
+
+impl<B: Bank, T: Task<B>> Model for Store<B, T>
+where
+    B::Answer: Ord,
+    T::Text: Ord,
+{
+    ghost use Rattle.std.specs.Prelude.{◌+◌, ◌≤◌, Option, vec_capacity, vec_len};
+    ghost use Rattle.idl_memo.specs.Kept.{Kept as Seen};
+    ghost use Rattle.idl_store.specs.Stored.{Stored};
+
+    ghost Value = { Stored (Seen B.Key (Option B.Answer) T.Text T.Out) };
+
+    ghost use Rattle.idl_store.specs.Buckets.{bucket_of};
+    ghost use Rattle.idl_store.specs.Numbers.{IsStored, numbers_of, result_of, shown};
+
+    ghost view = { λ store.
+        shown (result_of store.used) (numbers_of store.lists.items store.drafts.items) };
+
+    ghost invariant = { λ store.
+        IsStored B.Key.eq T.query (bucket_of T.Text.hash_input T.hint_of) store.used store.index
+        (numbers_of store.lists.items store.drafts.items)
+        × (vec_len store.lists + vec_len store.drafts ≤ vec_capacity store.lists) };
+}
+
+impl<B: Bank, T: Task<B>> Drop for Store<B, T>
+where
+    B::Answer: Ord,
+    T::Text: Ord,
+{
+    fn drop(self) {
+        let Store {
+            used: _used,
+            index: _index,
+            lists: _lists,
+            drafts: _drafts,
+            log: _log,
+        } = self;
+    }
+}
+
+impl<B: Bank, T: Task<B>> Store<B, T>
+where
+    B::Answer: Ord,
+    T::Text: Ord,
+{
+    /// The store without lists. It takes no memory.
+    pub fn new(alloc: Global) -> Store<B, T>
+        ensures { result ≡ nothing_stored }
+    {
+        Store {
+            used: Slab::new(alloc),
+            index: Index::new(alloc),
+            lists: Vec::new(alloc),
+            drafts: Vec::new(alloc),
+            log: Log::new(alloc),
+        }
+    }
+
+    /// How many lists there are.
+    pub fn len(&self) -> usize
+        ensures { result ≡ length self.now.lists }
+    {
+        self.lists.len()
+    }
+
+    /// How many results a list has. One that isn't there has none.
+    pub fn results(&self, list: usize) -> usize
+        ensures { result ≡ length (list_at self.now list) }
+    {
+        match self.lists.get(list) {
+            Some(numbers) => numbers.len(),
+            None => 0,
+        }
+    }
+
+    /// The result at a place of a list, or nothing where there is none.
+    pub fn get(&self, list: usize, place: usize) -> Option<&Kept<B, T::Text, T::Out>>
+        ensures { option_copied result ≡ result_at self.now list place }
+    {
+        match number_at(&self.lists, list, place) {
+            Some(number) => Some(&self.used[number].result),
+            None => None,
+        }
+    }
+
+    /// Begins a draft, without results, of a list: of one that is there, or else of a new last one.
+    ///
+    /// Want of memory leaves the store as it was.
+    pub fn begin(&mut self, at: usize) -> Result<(), AllocError>
+        ensures ok { OnOk result (self.new ≡ begun self.old at) }
+        ensures err { OnErr result (self.new ≡ self.old) }
+    {
+        let numbers = Vec::new(*self.lists.allocator());
+        self.lists.reserve(self.drafts.len() + 1)?;
+        self.drafts.push(Draft { at, numbers })?;
+        Ok(())
+    }
+
+    /// The result at a place of a list goes into the last draft too. Nothing happens where there is none.
+    ///
+    /// Want of memory leaves the store as it was.
+    pub fn take_again(
+        &mut self,
+        list: usize,
+        place: usize,
+    ) -> Result<Option<Rc<Kept<B, T::Text, T::Out>>>, AllocError>
+        ensures found { IfOk result (λ found.
+            option_map (λ r. r.value) found ≡ result_at self.old list place) }
+        ensures ok { OnOk result
+            (self.new ≡ grown self.old (option_to_list (result_at self.old list place))) }
+        ensures err { OnErr result (self.new ≡ self.old) }
+    {
+        match number_at(&self.lists, list, place) {
+            Some(number) => Ok(Some(use_again(&mut self.used, &mut self.drafts, number)?)),
+            None => Ok(None),
+        }
+    }
+
+    /// The result of the task over this bank: a kept one that is alike, or what a run gives. It goes into the last draft.
+    ///
+    /// Want of memory leaves the store as it was. Nothing is said of the meter then.
+    pub fn obtain(
+        &mut self,
+        task: &T,
+        bank: &B,
+        scratch: &mut T::Scratch,
+        meter: &mut Meter,
+    ) -> Result<Rc<Kept<B, T::Text, T::Out>>, AllocError>
+        requires room { count_of T.KIND meter.old < most_compared }
+        ensures result { IfOk result (λ found. found.value
+            ≡ result_over B.Key.eq T.query (T.text_of task.now, B.at bank.now)) }
+        ensures ok { OnOk result (self.new ≡ grown self.old
+            (result_over B.Key.eq T.query (T.text_of task.now, B.at bank.now) ∷ [])) }
+        ensures meter { OnOk result (IsObtained (T.text_of task.now, B.at bank.now) T.KIND
+            (results_in self.old) meter.old meter.new) }
+        ensures err { OnErr result (self.new ≡ self.old) }
+    {
+        let bucket = bucket_of(task.text(), task.hint(bank));
+        if let Some(number) = self.index.find(bucket, task.text(), bank) {
+            return use_again(&mut self.used, &mut self.drafts, number);
+        }
+        let kept = run_in(&mut self.log, task, bank, scratch, *self.lists.allocator())?;
+        meter.raise(T::KIND);
+        if self.drafts.is_empty() {
+            return Ok(kept);
+        }
+        let again = kept.clone()?;
+        put(
+            &mut self.used,
+            &mut self.index,
+            &mut self.drafts,
+            again,
+            bucket,
+        )?;
+        Ok(kept)
+    }
+
+    /// Each draft takes the place of its list, or is a new last one. It takes no memory.
+    pub fn commit(&mut self)
+        ensures { self.new ≡ committed self.old }
+    {
+        exchange(&mut self.lists, &mut self.drafts);
+        release_drafts(&mut self.used, &mut self.index, &mut self.drafts);
+    }
+
+    /// No draft is left. It takes no memory.
+    pub fn discard(&mut self)
+        ensures { self.new ≡ discarded self.old }
+    {
+        release_drafts(&mut self.used, &mut self.index, &mut self.drafts);
+    }
+
+    /// Takes a list out; those behind it move up. It takes no memory.
+    pub fn remove(&mut self, list: usize)
+        ensures { self.new ≡ removed self.old list }
+    {
+        if list < self.lists.len() {
+            let numbers = self.lists.remove(list);
+            release(&mut self.used, &mut self.index, &numbers);
+        }
+    }
+}
+
+// What a run of the task gives over this bank. What it asks goes through a log in which it leaves nothing of use.
+fn run_in<B: Bank, T: Task<B>>(
+    log: &mut Log<B>,
+    task: &T,
+    bank: &B,
+    scratch: &mut T::Scratch,
+    alloc: Global,
+) -> Result<Rc<Kept<B, T::Text, T::Out>>, AllocError>
+    ensures { IfOk result (λ kept. kept.value
+        ≡ result_over B.Key.eq T.query (T.text_of task.now, B.at bank.now)) }
+{
+    log.clear(alloc);
+    let out = task.run(alloc, bank, scratch, log)?;
+    let entries = log.kept(alloc)?;
+    keep(alloc, task.text(), entries, out)
+}

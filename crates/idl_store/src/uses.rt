@@ -1,0 +1,154 @@
+//! What a look-up finds and a run leaves goes into drafts, and what is used no more goes.
+
+ghost use Rattle.std.specs.Prelude.{◌≡◌, ◌≢◌, ◌<◌, ◌≤◌, ◌∷◌, [], ℕ, All, IfOk, IsSome, OnErr, OnOk, Some, vec_len};
+ghost use Rattle.std.specs.declared.cmp.Ordering.TheVariants.{Equal};
+ghost use Rattle.std.specs.Option.{option_cmp};
+ghost use Rattle.slab.specs.Slab.{get};
+ghost use Rattle.idl_store.specs.Buckets.{AddsOne};
+ghost use Rattle.idl_store.specs.Numbers.{AreFewer, AreMore, AreUsed, IsIndexOf, IsPut, drafts_of, result_of, times, uses_of};
+ghost use Rattle.idl_store.specs.Order.{results_cmp};
+ghost use Rattle.idl_store.specs.Stored.{results_of_drafts, with_results};
+
+use crate::index::Index;
+use crate::numbers::{Draft, Used, push_number};
+use idl_base::Datum;
+use idl_memo::{Bank, Kept};
+use slab::Slab;
+use std::alloc::AllocError;
+use std::hash::Hash;
+use std::rc::Rc;
+
+// The result of this number goes into the last draft too; where there is none, it goes nowhere.
+//
+// Want of memory leaves all as it was.
+pub(crate) fn use_again<B: Bank, X: Datum, O: Drop>(
+    used: &mut Slab<Used<Rc<Kept<B, X, O>>>>,
+    drafts: &mut Vec<Draft>,
+    number: usize,
+) -> Result<Rc<Kept<B, X, O>>, AllocError>
+    requires { IsSome (get used.old number) }
+    ensures kept { IfOk result (λ kept. result_of used.old number ≡ Some kept.value) }
+    ensures drafts { OnOk result (drafts_of drafts.new.items
+        ≡ with_results (drafts_of drafts.old.items) (number ∷ [])) }
+    ensures uses { OnOk result (AreMore used.old used.new
+        (results_of_drafts (drafts_of drafts.old.items))
+        (results_of_drafts (drafts_of drafts.new.items))) }
+    ensures err { OnErr result ((used.new ≡ used.old)
+        × (drafts_of drafts.new.items ≡ drafts_of drafts.old.items)) }
+    ensures count { vec_len drafts.new ≡ vec_len drafts.old }
+{
+    let kept = used[number].result.clone()?;
+    if drafts.is_empty() {
+        return Ok(kept);
+    }
+    let uses = used[number].uses.checked_add(1).ok_or(AllocError)?;
+    push_number(drafts, number)?;
+    used[number].uses = uses;
+    Ok(kept)
+}
+
+// A new result goes into the last draft.
+//
+// Want of memory leaves all as it was.
+pub(crate) fn put<B: Bank, X: Datum + Hash + Ord, O: Drop>(
+    used: &mut Slab<Used<Rc<Kept<B, X, O>>>>,
+    index: &mut Index<B, X, O>,
+    drafts: &mut Vec<Draft>,
+    kept: Rc<Kept<B, X, O>>,
+    bucket: u64,
+) -> Result<(), AllocError>
+where
+    B::Answer: Ord,
+    requires some { 0 < vec_len drafts.old }
+    requires apart { All (λ e. e.0.1 ≡ bucket
+        → results_cmp X.cmp (option_cmp B.Answer.cmp) e.0.0 kept.value ≢ Equal) index.old }
+    ensures ok { OnOk result ((number : ℕ) × IsPut used.old used.new kept bucket number
+        × (drafts_of drafts.new.items ≡ with_results (drafts_of drafts.old.items) (number ∷ []))
+        × AddsOne index.old index.new ((kept.value, bucket), number)) }
+    ensures err { OnErr result (((n : ℕ) → get used.new n ≡ get used.old n)
+        × (drafts_of drafts.new.items ≡ drafts_of drafts.old.items)
+        × (index.new ≡ index.old)) }
+    ensures count { vec_len drafts.new ≡ vec_len drafts.old }
+{
+    let Some(draft) = drafts.last_mut() else {
+        return Ok(());
+    };
+    draft.numbers.reserve(1)?;
+    used.reserve(1)?;
+    let number = used.vacant_key();
+    index.insert(bucket, kept.clone()?, number, *draft.numbers.allocator())?;
+    used.insert_reserved(Used {
+        result: kept,
+        uses: 1,
+        bucket,
+    });
+    draft.numbers.push_reserved(number);
+    Ok(())
+}
+
+// The uses of these drafts are given up, and they are left out. It takes no memory.
+pub(crate) fn release_drafts<B: Bank, X: Datum + Hash + Ord, O: Drop>(
+    used: &mut Slab<Used<Rc<Kept<B, X, O>>>>,
+    index: &mut Index<B, X, O>,
+    drafts: &mut Vec<Draft>,
+)
+where
+    B::Answer: Ord,
+    requires uses { (n : ℕ)
+        → times n (results_of_drafts (drafts_of drafts.old.items)) ≤ uses_of used.old n }
+    requires used { AreUsed used.old }
+    requires indexed { IsIndexOf used.old index.old }
+    ensures drafts { drafts.new.items ≡ [] }
+    ensures fewer { AreFewer used.old used.new (results_of_drafts (drafts_of drafts.old.items)) }
+    ensures used { AreUsed used.new }
+    ensures indexed { IsIndexOf used.new index.new }
+{
+    for draft in drafts.as_slice() {
+        release(used, index, &draft.numbers);
+    }
+    drafts.clear();
+}
+
+// These uses are given up, and each result that has no other goes. It takes no memory.
+pub(crate) fn release<B: Bank, X: Datum + Hash + Ord, O: Drop>(
+    used: &mut Slab<Used<Rc<Kept<B, X, O>>>>,
+    index: &mut Index<B, X, O>,
+    numbers: &[usize],
+)
+where
+    B::Answer: Ord,
+    requires uses { (n : ℕ) → times n numbers.now ≤ uses_of used.old n }
+    requires used { AreUsed used.old }
+    requires indexed { IsIndexOf used.old index.old }
+    ensures fewer { AreFewer used.old used.new numbers.now }
+    ensures used { AreUsed used.new }
+    ensures indexed { IsIndexOf used.new index.new }
+{
+    for number in numbers {
+        release_one(used, index, *number);
+    }
+}
+
+// A use of the result of this number is given up. If it has no other, the result goes.
+fn release_one<B: Bank, X: Datum + Hash + Ord, O: Drop>(
+    used: &mut Slab<Used<Rc<Kept<B, X, O>>>>,
+    index: &mut Index<B, X, O>,
+    number: usize,
+)
+where
+    B::Answer: Ord,
+    requires one { 0 < uses_of used.old number }
+    requires used { AreUsed used.old }
+    requires indexed { IsIndexOf used.old index.old }
+    ensures fewer { AreFewer used.old used.new (number ∷ []) }
+    ensures used { AreUsed used.new }
+    ensures indexed { IsIndexOf used.new index.new }
+{
+    let uses = used[number].uses;
+    if uses > 1 {
+        used[number].uses = uses - 1;
+        return;
+    }
+    let last = used.remove(number);
+    index.remove(last.bucket, &last.result);
+}
