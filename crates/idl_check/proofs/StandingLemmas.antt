@@ -52,15 +52,15 @@ module _ (own : List Addition) (bank : Key → Option Answer) where
   ids_with answer before = Some (record { prefix = prefix_in answer; before = before })
 
   abbrev ids_if : Option Entity → Entity → Bool → Lookup (Option Ids)
-  ids_if there e b = cond b (Ask PrefixKey (λ answer. and_then (id_before there e) (λ before. Done (ids_with answer before)))) (Done None)
+  ids_if there e b = cond b (Ask PrefixKey (λ answer. and_then (id_before there) (λ before. Done (ids_with answer before)))) (Done None)
 
   -- what an entity that has an id is told of ids
   pub ids_by : (there : Option Entity) (e : Entity) (log : List (Key × Option Answer)) (before : Option Identity) (after : List (Key × Option Answer)) → has_id e.kind ≡ true
-      → (before, after) ≡ runs own bank (id_before there e) (noted key_eq bank log PrefixKey)
+      → (before, after) ≡ runs own bank (id_before there) (noted key_eq bank log PrefixKey)
       → runs own bank (ids_of there e) log ≡ (ids_with (seen_at own bank PrefixKey) before, after)
   ids_by there e log before after h gives =
       ap (λ b. runs own bank (ids_if there e b) log) h
-      ∙ runs-and_then own bank (id_before there e) (λ before. Done (ids_with (seen_at own bank PrefixKey) before)) (noted key_eq bank log PrefixKey) before after gives
+      ∙ runs-and_then own bank (id_before there) (λ before. Done (ids_with (seen_at own bank PrefixKey) before)) (noted key_eq bank log PrefixKey) before after gives
 
   -- all that stands under the name of an entity
   pub standing_by : (turns : ℕ) (s : Scope) (e : Entity) (log : List (Key × Option Answer)) (b : Bool × Bool) (middle : List (Key × Option Answer)) (ids : Option Ids) (after : List (Key × Option Answer))

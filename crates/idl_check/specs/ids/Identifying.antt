@@ -18,17 +18,16 @@ use Rattle.idl_env.specs.declared.keys.key.Key.TheVariants.{Prefix as PrefixKey}
 abbrev pub changed : Fixed → Identity → FixedIdentity
 changed change d = record { prefix = d.prefix; by = change }
 
--- the id of a name that was declared before as this, which may have been ahead
-abbrev pub id_before : Option Entity → Entity → Lookup (Option Identity)
-id_before None e = Done None
-id_before (Some old) e =
-    if may_be_ahead old.kind then known e.path else Done None
+-- the id of what was declared before and may have been ahead, under the name by which it was
+abbrev pub id_before : Option Entity → Lookup (Option Identity)
+id_before None = Done None
+id_before (Some old) = if may_be_ahead old.kind then known old.path else Done None
 
 -- what a declared name that has an id is told of ids: the prefix in force, and its own id
 abbrev pub ids_of : Option Entity → Entity → Lookup (Option Ids)
 ids_of there e =
     if has_id e.kind
-    then Ask PrefixKey (λ answer. and_then (id_before there e)
+    then Ask PrefixKey (λ answer. and_then (id_before there)
     (λ before. Done (Some (record { prefix = prefix_in answer; before = before }))))
     else Done None
 

@@ -80,24 +80,23 @@ pub fn ids_of(
         return Ok(None);
     }
     let prefix = view.prefix(log)?;
-    let before = id_before(view, log, there, new)?;
+    let before = id_before(view, log, there)?;
     Ok(Some(Ids { prefix, before }))
 }
 
-// Its id, if it was declared before and may have been declared ahead.
+// The id of what was declared before under its name, if that may have been declared ahead.
 fn id_before(
     view: View<'_>,
     log: &mut Journal<Env>,
     there: &Option<Shared<Entity>>,
-    new: &Entity,
 ) -> Result<Option<Identity>, AllocError>
     ensures { IfOk result (λ d.
         (d, log.new)
-        ≡ run key_eq (under view.entry.own.now.additions (id_before there.now new.now))
+        ≡ run key_eq (under view.entry.own.now.additions (id_before there.now))
         (answers view.entry.env.now) log.old) }
 {
     match there {
-        Some(old) if may_be_ahead(old.get().kind()) => { view.known(log, new.path()) }
+        Some(old) if may_be_ahead(old.get().kind()) => { view.known(log, old.get().path()) }
         _ => Ok(None),
     }
 }

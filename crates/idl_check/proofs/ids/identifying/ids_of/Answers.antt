@@ -15,6 +15,6 @@ returns c =
     let before = c.in_ok-before.before in
     let after = c.id_before.new.log in
     let is = ap has_id (sym c.kind.ensures) ∙ sym c.has_id.ensures ∙ c.if-not-has_id.false in
-    let found = c.in_ok-before.ensures ∙ ap (runs own bank (id_before there e)) c.in_ok-prefix.ensures.logged in
+    let found = c.in_ok-before.ensures ∙ ap (runs own bank (id_before there)) c.in_ok-prefix.ensures.logged in
     (λ i. (Some (record { prefix = c.in_ok-prefix.ensures.prefix i; before = before }), after))
     ∙ sym (ids_by own bank there e c.args.log.now before after is found)
