@@ -3,7 +3,7 @@ use Rattle.idl_check.specs.declared.walk.verdict.Verdict.{Verdict}
 use Rattle.idl_store.specs.Stored.{grown, results_in}
 use Rattle.idl_root.specs.Followed.{IsJudgedAt, IsKeeping}
 use Rattle.idl_root.specs.Held.{with_gathered, with_judged, with_units}
-use Rattle.idl_root.specs.Judged.{added, boundary, judged_at, judged_over}
+use Rattle.idl_root.specs.Judged.{added, judged_at, judged_over}
 use Rattle.idl_root.specs.Places.{declaration_at}
 use Rattle.idl_root.specs.Results.{DeclarationResult, declaration_result, mark_at}
 use Rattle.idl_root.proofs.JudgingLemmas.{with-none, with-one}

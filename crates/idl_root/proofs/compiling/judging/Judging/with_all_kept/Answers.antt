@@ -1,9 +1,9 @@
-use Rattle.std.proofs.Common.{◌≡◌, ◌∙◌, ◌+◌, ◌∷◌, ◌++◌, List, [], ap, append-nil, drop, map, subst, sym}
+use Rattle.std.proofs.Common.{◌≡◌, ◌∙◌, ◌+◌, ◌∷◌, ◌++◌, List, ap, append-nil, drop, map, subst, sym}
 use Rattle.std.proofs.lemmas.List.{at_drop_all, at_drop_more}
 use Rattle.idl_store.specs.Stored.{grown, results_in}
 use Rattle.idl_root.specs.Added.{told_by}
 use Rattle.idl_root.specs.Followed.{IsKeeping}
-use Rattle.idl_root.specs.Held.{held, to_come, with_gathered}
+use Rattle.idl_root.specs.Held.{to_come, with_gathered}
 use Rattle.idl_root.specs.Judged.{added}
 use Rattle.idl_root.specs.Places.{declarations_after}
 use Rattle.idl_root.specs.Results.{HasDraft, IsDeclarationPass, declaration_result, marks_of}
