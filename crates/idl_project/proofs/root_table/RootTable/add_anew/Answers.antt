@@ -1,5 +1,5 @@
 -- It has no list yet; and what is discarded leaves what was there.
-use Rattle.std.proofs.Common.{◌≡◌, ◌∙◌, List, ℕ, length, map, ap, refl, sym}
+use Rattle.std.proofs.Common.{◌∙◌, map, ap, refl, sym}
 use Rattle.std.proofs.lemmas.List.{length-map}
 use Rattle.std.proofs.lemmas.Map.Entries.{length-keys_of}
 use Rattle.std.specs.Map.{keys_of}

@@ -1,4 +1,4 @@
-use Rattle.std.proofs.Common.{◌≡◌, ◌∙◌, ap, refl, sym}
+use Rattle.std.proofs.Common.{◌∙◌, ap, refl, sym}
 use Rattle.idl_macro.specs.Words.{is_macro_word}
 use Rattle.idl_project.specs.Edits.{Undef}
 use Rattle.idl_project.specs.Made.{rootless}
