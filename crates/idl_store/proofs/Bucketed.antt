@@ -1,15 +1,19 @@
 -- Lemmas on buckets: what one holds is among the items of all, and what holds of each stays so.
-use Rattle.std.proofs.Common.{◌≡◌, List, [], ◌∷◌, ◌++◌, Bool, true, false, cond, ℕ, Option, Some, None, length, map, refl, sym, ap, ◌∙◌, subst, arith, Vec, Ordering, ⊎_elim, Result, Ok, Err}
+use Rattle.std.proofs.Common.{◌≡◌, List, [], ◌∷◌, ◌++◌, Bool, true, false, cond, ℕ, Option, Some, None, length, map, refl, sym, ap, ◌∙◌, subst, arith, filter, nat_eq, Vec, Ordering, ⊎_elim, Result, Ok, Err}
 use Rattle.std.specs.Prelude.{All, Contains, OnErr, OnOk}
 use Rattle.std.specs.Global.{Global}
 use Rattle.std.specs.BTreeMap.{BTreeMap, is_at, insert_entry, get, IsOrdered}
-use Rattle.std.specs.List.{flat_map}
-use Rattle.std.specs.Map.{lookup, remove_entry, set_value}
+use Rattle.std.specs.List.{AllByRecursion, flat_map}
+use Rattle.std.specs.List.Sorted.{IsStrictlySortedBy}
+use Rattle.std.specs.Map.{keys_of, lookup, remove_entry, set_value}
 use Rattle.std.specs.Ordering.{nat_cmp, is_eq, match_ordering}
 use Rattle.std.specs.declared.cmp.Ordering.TheVariants.{Less, Equal, Greater}
-use Rattle.std.proofs.lemmas.Cmp.{nat_cmp_total}
-use Rattle.std.proofs.lemmas.List.Elements.{All-contains, All-contains_itself, All-head, All-map, All-tail, All-cons, All-nil, All-weaker, Contains-append_left, Contains-append_right, Contains-append_cases}
+use Rattle.std.proofs.lemmas.Bool.{eq-eqb, ne_eqb}
+use Rattle.std.proofs.lemmas.Cmp.{nat_cmp_total, tied_itself}
+use Rattle.std.proofs.lemmas.List.{append-nil}
+use Rattle.std.proofs.lemmas.List.Elements.{All-contains, All-contains_itself, All-head, All-map, All-tail, All-cons, All-nil, All-weaker, Contains-append_left, Contains-append_right, Contains-append_cases, filter-append}
 use Rattle.std.proofs.lemmas.Map.Entries.{btree_map_get_place}
+use Rattle.std.proofs.lemmas.Map.Keys.{sorted_head, sorted_tail}
 use Rattle.std.proofs.lemmas.Map.Lookups.{exact_unsigned}
 use Rattle.std.proofs.lemmas.Option.{slice_get_read}
 use Rattle.idl_store.specs.Buckets.{AddsOne}
@@ -87,14 +91,19 @@ module _ {X : Type 0} where
   all_set P test [] v w h step all = cc
   all_set P test (e ∷ es) v w h step all = all_set_by P test e es (set_value test es w) v w (lookup test es) (test e.0) refl h step all (λ r. all_set P test es v w r step (All-tail P e es all))
 
-  all_insert_by : (P : ℕ × Vec X Global → Type 0) (d : ℕ) (e : ℕ × Vec X Global) (es fs : List (ℕ × Vec X Global)) (w : Vec X Global) (rest : Option (Vec X Global)) (o : Ordering) → cond (is_eq o) (Some e.1) rest ≡ None → P (d, w) → All P (e ∷ es) → (rest ≡ None → All P fs) → All P (match_ordering o ((d, w) ∷ e ∷ es) ((e.0, w) ∷ es) (e ∷ fs))
-  all_insert_by P d e es fs w rest Less h p all later = All-cons P (d, w) (e ∷ es) p all
-  all_insert_by P d e es fs w rest Equal h p all later = cc
-  all_insert_by P d e es fs w rest Greater h p all later = All-cons P e fs (All-head P e es all) (later h)
+  all_insert_by : (P : ℕ × Vec X Global → Type 0) (d : ℕ) (e : ℕ × Vec X Global) (es fs : List (ℕ × Vec X Global)) (w : Vec X Global) (o : Ordering) → ((k : ℕ) → P (k, w)) → All P (e ∷ es) → All P fs → All P (match_ordering o ((d, w) ∷ e ∷ es) ((e.0, w) ∷ es) (e ∷ fs))
+  all_insert_by P d e es fs w Less p all later = All-cons P (d, w) (e ∷ es) (p d) all
+  all_insert_by P d e es fs w Equal p all later = All-cons P (e.0, w) es (p e.0) (All-tail P e es all)
+  all_insert_by P d e es fs w Greater p all later = All-cons P e fs (All-head P e es all) later
 
-  pub all_insert : (P : ℕ × Vec X Global → Type 0) (d : ℕ) (es : List (ℕ × Vec X Global)) (w : Vec X Global) → lookup (is_at (nat_cmp d)) es ≡ None → P (d, w) → All P es → All P (insert_entry nat_cmp es d w)
-  all_insert P d [] w h p all = All-cons P (d, w) [] p (All-nil P)
-  all_insert P d (e ∷ es) w h p all = all_insert_by P d e es (insert_entry nat_cmp es d w) w (lookup (is_at (nat_cmp d)) es) (nat_cmp d e.0) h p all (λ r. all_insert P d es w r p (All-tail P e es all))
+  pub all_insert : (P : ℕ × Vec X Global → Type 0) (d : ℕ) (es : List (ℕ × Vec X Global)) (w : Vec X Global) → ((k : ℕ) → P (k, w)) → All P es → All P (insert_entry nat_cmp es d w)
+  all_insert P d [] w p all = All-cons P (d, w) [] (p d) (All-nil P)
+  all_insert P d (e ∷ es) w p all = all_insert_by P d e es (insert_entry nat_cmp es d w) w (nat_cmp d e.0) p all (all_insert P d es w p (All-tail P e es all))
+
+  -- a bucket behind another is not the one of that number
+  none_above : (d : ℕ) (es : List (ℕ × Vec X Global)) → AllByRecursion (λ k. nat_cmp d k ≡ Less) (keys_of es) → lookup (is_at (nat_cmp d)) es ≡ None
+  none_above d [] above = refl
+  none_above d (e ∷ es) above = ap (λ o. cond (is_eq o) (Some e.1) (lookup (is_at (nat_cmp d)) es)) above.0 ∙ none_above d es above.1
 
 -- items that are seen with the numbers of their buckets
 module _ {X Y : Type 0} (g : ℕ → X → Y) where
@@ -142,16 +151,67 @@ module _ {X Y : Type 0} (g : ℕ → X → Y) where
       let p = around items_at (is_at (nat_cmp d)) es v h in
       p.5 w ∙ ap (λ xs. p.2 ++ (map (g p.0) xs ++ p.3)) is ∙ sym p.4
 
-  -- a bucket more, with one item
-  pub adds-new_bucket : (d : ℕ) (es : List (ℕ × Vec X Global)) (w : Vec X Global) (x : X) → lookup (is_at (nat_cmp d)) es ≡ None → w.items ≡ x ∷ [] → AddsOne (items_in es) (items_in (insert_entry nat_cmp es d w)) (g d x)
+  -- a bucket more, with one item, in the place of an empty one where there is one
+  pub adds-new_bucket : (d : ℕ) (es : List (ℕ × Vec X Global)) (w : Vec X Global) (x : X) → ((v : Vec X Global) → lookup (is_at (nat_cmp d)) es ≡ Some v → v.items ≡ []) → w.items ≡ x ∷ [] → AddsOne (items_in es) (items_in (insert_entry nat_cmp es d w)) (g d x)
   adds-new_bucket d es w x h is =
-      let p = around-new items_at d es w h in
+      let p = around-new items_at d es w (λ v at k. ap (map (g k)) (h v at)) in
       record { front = p.0; rest = p.1; old_is = p.2; new_is = p.3 ∙ ap (λ xs. p.0 ++ (map (g d) xs ++ p.1)) is }
 
   -- a bucket less, that was left empty
   pub without-empty : (d : ℕ) (es : List (ℕ × Vec X Global)) (v w : Vec X Global) → lookup (is_at (nat_cmp d)) es ≡ Some v → w.items ≡ [] → items_in (remove_entry (is_at (nat_cmp d)) (set_value (is_at (nat_cmp d)) es w)) ≡ items_in (set_value (is_at (nat_cmp d)) es w)
   without-empty d es v w h is =
       emptied items_at (is_at (nat_cmp d)) (set_value (is_at (nat_cmp d)) es w) w (lookup-set (is_at (nat_cmp d)) es v w h) (λ k. ap (map (g k)) is)
+
+  -- the items of one bucket, among those of all
+  module _ (number : Y → ℕ) (numbered : (k : ℕ) (x : X) → number (g k x) ≡ k) (d : ℕ) where
+    abbrev those : List Y → List Y
+    those ys = filter (λ y. nat_eq (number y) d) ys
+
+    those_own : (k : ℕ) (xs : List X) → k ≡ d → those (map (g k) xs) ≡ map (g k) xs
+    those_own k [] is = refl
+    those_own k (x ∷ xs) is =
+        ap (λ b. cond b (g k x ∷ those (map (g k) xs)) (those (map (g k) xs))) (eq-eqb (number (g k x)) d (numbered k x ∙ is))
+        ∙ ap (λ ys. g k x ∷ ys) (those_own k xs is)
+
+    those_other : (k : ℕ) (xs : List X) → ¬ (k ≡ d) → those (map (g k) xs) ≡ []
+    those_other k [] other = refl
+    those_other k (x ∷ xs) other =
+        ap (λ b. cond b (g k x ∷ those (map (g k) xs)) (those (map (g k) xs))) (ne_eqb (number (g k x)) d (λ is. other (sym (numbered k x) ∙ is)))
+        ∙ those_other k xs other
+
+    another : (k : ℕ) → is_at (nat_cmp d) k ≡ false → ¬ (k ≡ d)
+    another k h is =
+        let tie : nat_cmp d k ≡ Equal = ap (nat_cmp d) is ∙ tied_itself nat_cmp_total d in
+        let found : is_at (nat_cmp d) k ≡ true = ap is_eq tie in
+        cc
+
+    none_of : (es : List (ℕ × Vec X Global)) → lookup (is_at (nat_cmp d)) es ≡ None → those (items_in es) ≡ []
+    none_of [] h = refl
+    none_of (e ∷ es) h = by (is_at (nat_cmp d) e.0) refl h (λ r. none_of es r)
+      where
+        by : (b : Bool) → is_at (nat_cmp d) e.0 ≡ b → cond b (Some e.1) (lookup (is_at (nat_cmp d)) es) ≡ None → (lookup (is_at (nat_cmp d)) es ≡ None → those (items_in es) ≡ []) → those (items_at e ++ items_in es) ≡ []
+        by true at h later = absurd (cc)
+        by false at h later =
+            filter-append (λ y. nat_eq (number y) d) (items_at e) (items_in es)
+            ∙ ap (λ ys. ys ++ those (items_in es)) (those_other e.0 e.1.items (another e.0 at)) ∙ later h
+
+    pub those-bucket : (es : List (ℕ × Vec X Global)) (v : Vec X Global) → IsStrictlySortedBy nat_cmp (keys_of es) → lookup (is_at (nat_cmp d)) es ≡ Some v → those (items_in es) ≡ map (g d) v.items
+    those-bucket [] v sorted h = absurd (cc)
+    those-bucket (e ∷ es) v sorted h = by (is_at (nat_cmp d) e.0) refl h (λ r. those-bucket es v (sorted_tail nat_cmp e.0 (keys_of es) sorted) r)
+      where
+        by : (b : Bool) → is_at (nat_cmp d) e.0 ≡ b → cond b (Some e.1) (lookup (is_at (nat_cmp d)) es) ≡ Some v → (lookup (is_at (nat_cmp d)) es ≡ Some v → those (items_in es) ≡ map (g d) v.items) → those (items_at e ++ items_in es) ≡ map (g d) v.items
+        by true at h later =
+            let is : e.0 ≡ d = number_is d e.0 at in
+            let same : e.1 ≡ v = cc in
+            let above = subst (λ k. AllByRecursion (λ j. nat_cmp k j ≡ Less) (keys_of es)) is (sorted_head nat_cmp e.0 (keys_of es) sorted) in
+            filter-append (λ y. nat_eq (number y) d) (items_at e) (items_in es)
+            ∙ ap (λ ys. those (items_at e) ++ ys) (none_of es (none_above d es above))
+            ∙ append-nil (those (items_at e))
+            ∙ those_own e.0 e.1.items is
+            ∙ (λ i. map (g (is i)) (same i).items)
+        by false at h later =
+            filter-append (λ y. nat_eq (number y) d) (items_at e) (items_in es)
+            ∙ ap (λ ys. ys ++ those (items_in es)) (those_other e.0 e.1.items (another e.0 at)) ∙ later h
 
   module _ (number : Y → ℕ) (numbered : (k : ℕ) (x : X) → number (g k x) ≡ k) (m : BTreeMap ℕ (Vec X Global)) (ordered : IsOrdered nat_cmp m) (d : ℕ) where
     -- an item with the number of a bucket is in this one

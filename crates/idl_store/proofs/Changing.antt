@@ -1,14 +1,14 @@
 -- A store whose lists or drafts change.
-use Rattle.std.proofs.Common.{◌≡◌, ◌≢◌, ◌⊎◌, ◌↔◌, ℕ, suc, ◌+◌, ◌<◌, ◌≤◌, Bool, true, false, List, [], ◌∷◌, ◌++◌, Option, Some, None, cond, refl, sym, ap, ◌∙◌, subst, arith, inl, inr, length, get_or, take, drop, Vec, Result, Ok, Err, OnErr, OnOk}
-use Rattle.std.specs.Prelude.{All, Any, Contains, IsSome}
+use Rattle.std.proofs.Common.{◌≡◌, ◌≢◌, ◌⊎◌, ℕ, suc, ◌+◌, ◌<◌, ◌≤◌, Bool, List, [], ◌∷◌, ◌++◌, Option, Some, None, refl, sym, ap, ◌∙◌, subst, arith, inl, inr, length, get_or, take, drop, Vec, Result, Ok, Err, OnErr, OnOk}
+use Rattle.std.specs.Prelude.{All, Contains, IsSome}
 use Rattle.std.specs.Global.{Global}
-use Rattle.std.specs.List.{cons_option, filter_map, flat_map, remove}
+use Rattle.std.specs.List.{cons_option, filter_map, remove}
 use Rattle.std.specs.Option.{option_map}
 use Rattle.std.specs.declared.rc.Rc.{Rc}
 use Rattle.std.proofs.lemmas.Bool.{cases_eq}
 use Rattle.std.proofs.lemmas.Grind.{flat_map-append}
 use Rattle.std.proofs.lemmas.List.{append-nil, drop-map, get_or-map, length-map, map-append, take-map}
-use Rattle.std.proofs.lemmas.List.Elements.{All-append, All-cons, All-contains, All-contains_itself, All-nil, All-same, All-weaker}
+use Rattle.std.proofs.lemmas.List.Elements.{All-cons, All-contains, All-contains_itself, All-nil, All-same, All-weaker}
 use Rattle.slab.specs.Slab.{Slab, get}
 use Rattle.idl_store.specs.Buckets.{AddsOne}
 use Rattle.idl_memo.specs.Kept.{Kept, IsSound}

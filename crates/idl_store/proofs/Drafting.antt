@@ -1,5 +1,5 @@
 -- Drafts, of which the last one changes.
-use Rattle.std.proofs.Common.{◌≡◌, ℕ, ◌-◌, ◌+◌, ◌<◌, List, [], ◌∷◌, ◌++◌, Vec, refl, sym, ap, ◌∙◌, arith, map, length, get_or, set, take, drop, zero, suc, add-zero, false}
+use Rattle.std.proofs.Common.{◌≡◌, ℕ, ◌-◌, ◌+◌, ◌<◌, List, [], ◌∷◌, ◌++◌, Vec, refl, sym, ap, ◌∙◌, arith, length, get_or, set, take, drop, zero, suc, add-zero, false}
 use Rattle.std.proofs.lemmas.List.{get_or-drop, length-take-le, map-append, take_all, take_more}
 use Rattle.std.proofs.Math.Seq.{set-append_seam}
 use Rattle.std.specs.Bool.{◌==◌}

@@ -1,27 +1,22 @@
 -- What stands in one bucket, among the results of all.
-use Rattle.std.proofs.Common.{◌≡◌, ◌≢◌, ℕ, ◌<◌, Bool, List, [], ◌∷◌, None, Some, ap, arith, get_or, length, refl, subst, sym, Vec}
-use Rattle.std.specs.Prelude.{All, Any, Contains, IfNone, Option}
+use Rattle.std.proofs.Common.{◌≡◌, ◌≢◌, ℕ, ◌<◌, Bool, List, [], ◌∷◌, None, Some, ap, arith, get_or, length, map, refl, subst, sym, Vec}
+use Rattle.std.specs.Prelude.{All, Any, Contains, IfSome, Option}
 use Rattle.std.specs.BTreeMap.{BTreeMap, IsOrdered, get, insert_entry, is_at}
 use Rattle.std.specs.Global.{Global}
 use Rattle.std.specs.List.{HoldsAt}
 use Rattle.std.specs.Map.{remove_entry, set_value}
 use Rattle.std.specs.Ordering.{nat_cmp}
 use Rattle.std.specs.declared.cmp.Ordering.{Ordering}
-use Rattle.std.specs.declared.cmp.Ordering.TheVariants.{Less, Equal}
+use Rattle.std.specs.declared.cmp.Ordering.TheVariants.{Less}
 use Rattle.std.specs.declared.rc.Rc.{Rc}
-use Rattle.std.proofs.lemmas.List.Elements.{All-contains, All-nil, All-weaker}
+use Rattle.std.proofs.lemmas.List.Elements.{All-contains, All-head, All-nil}
 use Rattle.idl_memo.specs.Kept.{Kept, IsAlike, IsSound}
 use Rattle.idl_memo.specs.Query.{Query}
 use Rattle.idl_store.specs.Buckets.{AddsOne}
-use Rattle.idl_store.specs.Index.{AreInOrder, IsInOrder, numbered, numbered_cmp, numbered_in}
+use Rattle.idl_store.specs.Index.{AreInOrder, IsGap, IsGapAmong, IsInOrder, numbered, numbered_cmp, numbered_in, those_of}
 use Rattle.idl_store.specs.declared.index.Numbered.{Numbered}
-use Rattle.idl_store.proofs.Indexing.{all-removed}
-use Rattle.idl_store.proofs.Bucketed.{all-in_bucket, all-with_number, all_insert, all_set, found_bucket, in_all, in_bucket, in_none, none-with_number, takes-in_bucket, without-empty}
-
--- a clause on what was not found, from its fact
-pub if_none : {X P : Type 0} (r : Option X) → P → IfNone r P
-if_none None p = p
-if_none (Some x) p = tt
+use Rattle.idl_store.proofs.Indexing.{all-removed, gap-map, gap-mapped}
+use Rattle.idl_store.proofs.Bucketed.{all-in_bucket, all-with_number, all_insert, all_set, found_bucket, in_all, in_bucket, in_none, none-with_number, takes-in_bucket, those-bucket, without-empty}
 
 module _ {K V T O : Type 0} (m : BTreeMap ℕ (Vec (Numbered (Rc (Kept K V T O) Global)) Global)) (d : ℕ) (v : Vec (Numbered (Rc (Kept K V T O) Global)) Global) (at : get nat_cmp m d ≡ Some v) where
   -- the bucket is in order, as all are
@@ -32,11 +27,12 @@ module _ {K V T O : Type 0} (m : BTreeMap ℕ (Vec (Numbered (Rc (Kept K V T O) 
   pub sound-within : {X : Type 0} (eq : K → K → Bool) (query : T → Query K V X O) → All (λ e. IsSound eq query e.0.0) (numbered_in m.entries) → All (λ one. IsSound eq query one.result.value) v.items
   sound-within eq query sound = all-in_bucket numbered (λ e. IsSound eq query e.0.0) d m.entries v at sound
 
-  -- none of its results has the order of one that none has
-  pub apart-within : (R : Kept K V T O → Kept K V T O → Ordering) (kept : Kept K V T O) → All (λ e. e.0.1 ≡ d → R e.0.0 kept ≢ Equal) (numbered_in m.entries) → All (λ one. R one.result.value kept ≢ Equal) v.items
-  apart-within R kept apart =
-      All-weaker (λ one. d ≡ d → R one.result.value kept ≢ Equal) (λ one. R one.result.value kept ≢ Equal) (λ one h. h refl) v.items
-      (all-in_bucket numbered (λ e. e.0.1 ≡ d → R e.0.0 kept ≢ Equal) d m.entries v at apart)
+  -- its numbers are those of one result each, as all are
+  pub alone-within : (number : ℕ) → ((e f : (Kept K V T O × ℕ) × ℕ) → Contains (numbered_in m.entries) e → Contains (numbered_in m.entries) f → e.1 ≡ number → f.1 ≡ number → e ≡ f)
+      → (one other : Numbered (Rc (Kept K V T O) Global)) → Contains v.items one → Contains v.items other → one.number ≡ number → other.number ≡ number → one.result.value ≡ other.result.value
+  alone-within number alone one other c c' is is' =
+      let there = found_bucket d m.entries v at in
+      ap (λ (e : (Kept K V T O × ℕ) × ℕ). e.0.0) (alone (numbered d one) (numbered d other) (in_all numbered m.entries (d, v) one there c) (in_all numbered m.entries (d, v) other there c') is is')
 
   -- a result of it that is alike is one of all
   pub found-within : (text : T) (bank : K → V) (place : ℕ) (one : Numbered (Rc (Kept K V T O) Global)) → place < length v.items → get_or v.items place one ≡ one → HoldsAt (λ one. IsAlike text bank one.result.value) v.items place → Any (λ e. IsAlike text bank e.0.0 × (e.1 ≡ one.number)) (numbered_in m.entries)
@@ -70,35 +66,58 @@ module _ {K V T O : Type 0} (m : BTreeMap ℕ (Vec (Numbered (Rc (Kept K V T O) 
     pub none-within : (text : T) (bank : K → V) → All (λ one. ¬ IsAlike text bank one.result.value) v.items → All (λ e. e.0.1 ≡ d → ¬ IsAlike text bank e.0.0) (numbered_in m.entries)
     none-within text bank none = all-with_number numbered (λ e. e.0.1) (λ k x. refl) m ordered d (λ e. ¬ IsAlike text bank e.0.0) v at none
 
-    -- a result goes from all as it went from its bucket
-    pub taken-within : (w : Vec (Numbered (Rc (Kept K V T O) Global)) Global) (kept : Kept K V T O) → ((item : Numbered (Rc (Kept K V T O) Global)) → item.result.value ≡ kept → Contains v.items item → AddsOne w.items v.items item)
-        → (number : ℕ) → Contains (numbered_in m.entries) ((kept, d), number) → AddsOne (numbered_in (set_value (is_at (nat_cmp d)) m.entries w)) (numbered_in m.entries) ((kept, d), number)
-    taken-within w kept goes number c =
+    -- its results are those of all with its number
+    own : those_of d (numbered_in m.entries) ≡ map (numbered d) v.items
+    own = those-bucket numbered (λ e. e.0.1) (λ k x. refl) d m.entries v ordered at
+
+    -- a gap of it is one among all
+    pub gap-among : (order : Kept K V T O → Ordering) (place : ℕ) → IsGap (λ one. order one.result.value) v.items place → IsGapAmong order (numbered_in m.entries) (record { bucket = d; place = Some place })
+    gap-among order place gap = record {
+      within = subst (λ es. IsGap (λ e. order e.0.0) es place) (sym own) (gap-map (numbered d) (λ e. order e.0.0) v.items place gap);
+      apart = tt;
+    }
+
+    -- and back
+    pub gap-within : (order : Kept K V T O → Ordering) (p : Option ℕ) (place : ℕ) → p ≡ Some place → IfSome p (IsGap (λ e. order e.0.0) (those_of d (numbered_in m.entries))) → IsGap (λ one. order one.result.value) v.items place
+    gap-within order p place is gap =
+        gap-mapped (numbered d) (λ e. order e.0.0) v.items place
+        (subst (λ es. IsGap (λ e. order e.0.0) es place) own (subst (λ p. IfSome p (IsGap (λ e. order e.0.0) (those_of d (numbered_in m.entries)))) is gap))
+
+    -- the result of a number goes from all as it went from its bucket
+    pub taken-within : (w : Vec (Numbered (Rc (Kept K V T O) Global)) Global) (number : ℕ) → ((item : Numbered (Rc (Kept K V T O) Global)) → item.number ≡ number → Contains v.items item → AddsOne w.items v.items item)
+        → (kept : Kept K V T O) → Contains (numbered_in m.entries) ((kept, d), number) → AddsOne (numbered_in (set_value (is_at (nat_cmp d)) m.entries w)) (numbered_in m.entries) ((kept, d), number)
+    taken-within w number goes kept c =
         let b = in_bucket numbered (λ e. e.0.1) (λ k x. refl) m ordered d v at ((kept, d), number) c refl in
-        let value : b.0.result.value ≡ kept = ap (λ (e : (Kept K V T O × ℕ) × ℕ). e.0.0) (sym b.2) in
+        let is : b.0.number ≡ number = ap (λ (e : (Kept K V T O × ℕ) × ℕ). e.1) (sym b.2) in
         subst (AddsOne (numbered_in (set_value (is_at (nat_cmp d)) m.entries w)) (numbered_in m.entries)) (sym b.2)
-        (takes-in_bucket numbered d m.entries v w b.0 at (goes b.0 value b.1))
+        (takes-in_bucket numbered d m.entries v w b.0 at (goes b.0 is b.1))
 
     -- and so where its bucket goes too, as it is left empty
-    pub taken-whole : (w : Vec (Numbered (Rc (Kept K V T O) Global)) Global) (kept : Kept K V T O) → length w.items ≡ 0 → ((item : Numbered (Rc (Kept K V T O) Global)) → item.result.value ≡ kept → Contains v.items item → AddsOne w.items v.items item)
-        → (number : ℕ) → Contains (numbered_in m.entries) ((kept, d), number) → AddsOne (numbered_in (remove_entry (is_at (nat_cmp d)) (set_value (is_at (nat_cmp d)) m.entries w))) (numbered_in m.entries) ((kept, d), number)
-    taken-whole w kept empty goes number c =
+    pub taken-whole : (w : Vec (Numbered (Rc (Kept K V T O) Global)) Global) (number : ℕ) → length w.items ≡ 0 → ((item : Numbered (Rc (Kept K V T O) Global)) → item.number ≡ number → Contains v.items item → AddsOne w.items v.items item)
+        → (kept : Kept K V T O) → Contains (numbered_in m.entries) ((kept, d), number) → AddsOne (numbered_in (remove_entry (is_at (nat_cmp d)) (set_value (is_at (nat_cmp d)) m.entries w))) (numbered_in m.entries) ((kept, d), number)
+    taken-whole w number empty goes kept c =
         subst (λ ys. AddsOne ys (numbered_in m.entries) ((kept, d), number)) (sym (without-empty numbered d m.entries v w at (none_left w.items empty)))
-        (taken-within w kept goes number c)
+        (taken-within w number goes kept c)
       where
         none_left : (xs : List (Numbered (Rc (Kept K V T O) Global))) → length xs ≡ 0 → xs ≡ []
         none_left [] h = refl
         none_left (x ∷ xs) h = absurd (omega (arith, h))
 
     -- what is not in its bucket is nowhere
-    pub gone-within : (kept : Kept K V T O) → All (λ one. one.result.value ≢ kept) v.items → (number : ℕ) → ¬ Contains (numbered_in m.entries) ((kept, d), number)
-    gone-within kept gone number c =
+    pub gone-within : (number : ℕ) → All (λ one. one.number ≢ number) v.items → (kept : Kept K V T O) → ¬ Contains (numbered_in m.entries) ((kept, d), number)
+    gone-within number gone kept c =
         let b = in_bucket numbered (λ e. e.0.1) (λ k x. refl) m ordered d v at ((kept, d), number) c refl in
-        All-contains (λ one. one.result.value ≢ kept) v.items b.0 gone b.1 (ap (λ (e : (Kept K V T O × ℕ) × ℕ). e.0.0) (sym b.2))
+        All-contains (λ one. one.number ≢ number) v.items b.0 gone b.1 (ap (λ (e : (Kept K V T O × ℕ) × ℕ). e.1) (sym b.2))
 
--- where there is no bucket of this number
-module _ {K V T O : Type 0} (m : BTreeMap ℕ (Vec (Numbered (Rc (Kept K V T O) Global)) Global)) (ordered : IsOrdered nat_cmp m) (d : ℕ) (none : get nat_cmp m d ≡ None) where
-  -- a new one of one result leaves all in order
+-- where no result has the number of a bucket, a bucket of one result leaves all in order
+module _ {K V T O : Type 0} (m : BTreeMap ℕ (Vec (Numbered (Rc (Kept K V T O) Global)) Global)) (d : ℕ) where
+  pub empty-within : All (λ e. e.0.1 ≢ d) (numbered_in m.entries) → (v : Vec (Numbered (Rc (Kept K V T O) Global)) Global) → get nat_cmp m d ≡ Some v → v.items ≡ []
+  empty-within apart v at = by v.items (all-in_bucket numbered (λ e. e.0.1 ≢ d) d m.entries v at apart)
+    where
+      by : (xs : List (Numbered (Rc (Kept K V T O) Global))) → All (λ x. d ≢ d) xs → xs ≡ []
+      by [] all = refl
+      by (x ∷ xs) all = absurd (All-head (λ x. d ≢ d) x xs all refl)
+
   pub order-new : (text_cmp : T → T → Ordering) (answer_cmp : V → V → Ordering) (n : BTreeMap ℕ (Vec (Numbered (Rc (Kept K V T O) Global)) Global)) (w : Vec (Numbered (Rc (Kept K V T O) Global)) Global) (one : Numbered (Rc (Kept K V T O) Global))
       → n.entries ≡ insert_entry nat_cmp m.entries d w → IsOrdered nat_cmp n → w.items ≡ one ∷ [] → IsInOrder text_cmp answer_cmp m → IsInOrder text_cmp answer_cmp n
   order-new text_cmp answer_cmp n w one is ordered alone old =
@@ -106,11 +125,19 @@ module _ {K V T O : Type 0} (m : BTreeMap ℕ (Vec (Numbered (Rc (Kept K V T O) 
       record {
         ordered = ordered;
         sorted = subst (All (λ e. AreInOrder (numbered_cmp text_cmp answer_cmp) e.1.items)) (sym is)
-            (all_insert (λ e. AreInOrder (numbered_cmp text_cmp answer_cmp) e.1.items) d m.entries w none (subst (AreInOrder (numbered_cmp text_cmp answer_cmp)) (sym alone) alone_sorted) old.sorted);
+            (all_insert (λ e. AreInOrder (numbered_cmp text_cmp answer_cmp) e.1.items) d m.entries w (λ k. subst (AreInOrder (numbered_cmp text_cmp answer_cmp)) (sym alone) alone_sorted) old.sorted);
       }
 
+-- where there is no bucket of this number
+module _ {K V T O : Type 0} (m : BTreeMap ℕ (Vec (Numbered (Rc (Kept K V T O) Global)) Global)) (ordered : IsOrdered nat_cmp m) (d : ℕ) (none : get nat_cmp m d ≡ None) where
   pub none-without : (text : T) (bank : K → V) → All (λ e. e.0.1 ≡ d → ¬ IsAlike text bank e.0.0) (numbered_in m.entries)
   none-without text bank = none-with_number numbered (λ e. e.0.1) (λ k x. refl) m ordered d (λ e. ¬ IsAlike text bank e.0.0) none
 
-  pub gone-without : (kept : Kept K V T O) (number : ℕ) → ¬ Contains (numbered_in m.entries) ((kept, d), number)
-  gone-without kept number c = in_none numbered (λ e. e.0.1) (λ k x. refl) m ordered d none ((kept, d), number) c refl
+  pub apart-without : All (λ e. e.0.1 ≢ d) (numbered_in m.entries)
+  apart-without = none-with_number numbered (λ e. e.0.1) (λ k x. refl) m ordered d (λ e. ⊥) none
+
+  pub gap-without : (order : Kept K V T O → Ordering) → IsGapAmong order (numbered_in m.entries) (record { bucket = d; place = None })
+  gap-without order = record { within = tt; apart = apart-without }
+
+  pub gone-without : (number : ℕ) (kept : Kept K V T O) → ¬ Contains (numbered_in m.entries) ((kept, d), number)
+  gone-without number kept c = in_none numbered (λ e. e.0.1) (λ k x. refl) m ordered d none ((kept, d), number) c refl

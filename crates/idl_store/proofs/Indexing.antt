@@ -1,18 +1,22 @@
 -- An index in which a result comes or goes.
-use Rattle.std.proofs.Common.{◌≡◌, ◌≢◌, ◌⊎◌, ℕ, zero, suc, ◌+◌, ◌<◌, ◌≤◌, Bool, true, false, List, [], ◌∷◌, ◌++◌, Some, None, cond, refl, sym, ap, ◌∙◌, subst, arith, inl, inr, length, get_or, map, take, drop, Vec, append_assoc}
+use Rattle.std.proofs.Common.{◌≡◌, ◌≢◌, ◌⊎◌, ℕ, zero, suc, ◌+◌, ◌<◌, ◌≤◌, Bool, true, false, List, [], ◌∷◌, ◌++◌, Some, None, cond, refl, sym, ap, ◌∙◌, subst, arith, inl, inr, length, get_or, map, take, drop, Vec, append_assoc, nat_eq, nat_lt, ⊎_elim}
 use Rattle.std.specs.Prelude.{All, Contains, Result, Ok, Err, IfOk, IfErr}
 use Rattle.std.specs.Cmp.{IsTotalOrder}
 use Rattle.std.specs.Global.{Global}
 use Rattle.std.specs.BTreeMap.{insert_entry, is_at}
-use Rattle.std.specs.List.{AllWithin, HoldsAt, flat_map, remove}
+use Rattle.std.specs.List.{AllWithin, HoldsAt, flat_map, position, position_or_len, remove}
 use Rattle.std.specs.List.Sorted.{IsBinarySearchResult, IsNonDecreasingBy, IsSearchInRange}
 use Rattle.std.specs.Map.{lookup, remove_entry, set_value}
 use Rattle.std.specs.Ordering.{is_eq, match_ordering, nat_cmp, ordering_index, ordering_reverse}
 use Rattle.std.specs.declared.cmp.Ordering.{Ordering}
 use Rattle.std.specs.declared.cmp.Ordering.TheVariants.{Less, Equal, Greater}
-use Rattle.std.proofs.lemmas.Cmp.{alike_right, tied_back, tied_itself}
-use Rattle.std.proofs.lemmas.List.{get_or-drop, get_or-take, length-drop, length-take-le, map-append, take-append-drop, take_more}
-use Rattle.std.proofs.lemmas.List.Elements.{All-append, All-cons, All-contains, All-head, All-nil, All-same, All-tail, All-weaker, Contains-append_cases}
+use Rattle.std.proofs.lemmas.Bool.{eqb-false, eqb-true, ltb-false}
+use Rattle.std.proofs.lemmas.Cmp.{alike_right}
+use Rattle.std.proofs.lemmas.List.Quantifiers.{position-Some}
+use Rattle.std.proofs.lemmas.List.Sums.{fails_before_first}
+use Rattle.std.proofs.lemmas.Map.Lookups.{exact_unsigned}
+use Rattle.std.proofs.lemmas.List.{drop-map, get_or-drop, get_or-map, get_or-take, length-drop, length-map, length-take-le, map-append, take-append-drop, take-map, take_more}
+use Rattle.std.proofs.lemmas.List.Elements.{All-append, All-cons, All-contains, All-contains_itself, All-head, All-map, All-nil, All-same, All-tail, All-weaker, Contains-append_cases, Contains-append_left, Contains-append_right}
 use Rattle.idl_store.specs.Buckets.{AddsOne}
 use Rattle.idl_store.specs.Index.{AreInOrder, IsGap}
 
@@ -91,65 +95,71 @@ module _ {K : Type 0} (R : K → K → Ordering) (total : IsTotalOrder R) where
     order-rises t (x ∷ xs) o (suc i) zero d le below = absurd (omega (arith, le))
     order-rises t (x ∷ xs) o (suc i) (suc j) d le below = order-rises t xs o.1 i j d (omega (arith, le)) (omega (arith, below))
 
-    -- no other item of a list in order has the order of one of them
-    order-only : (total' : IsTotalOrder cmp) (x : X) (front rest : List X) → AreInOrder cmp (front ++ x ∷ rest) → (t : K) → R (h x) t ≡ Equal → All (λ y. h y ≢ t) (front ++ rest)
-    order-only total' x front rest ordered t at =
-        All-weaker (λ y. cmp y x ≢ Equal) (λ y. h y ≢ t) (λ y apart is. apart (ap (λ k. R k (h x)) is ∙ tied_back total (h x) t at)) (front ++ rest) (order-apart cmp total' x front rest ordered)
+-- an item goes that alone has its number
+module _ {X : Type 0} (cmp : X → X → Ordering) (total : IsTotalOrder cmp) (number : X → ℕ) (n : ℕ) where
+  pub found-goes : (xs : List X) (i : ℕ) → i < length xs → AreInOrder cmp xs → ((d : X) → number (get_or xs i d) ≡ n) → ((y z : X) → Contains xs y → Contains xs z → number y ≡ n → number z ≡ n → cmp y z ≡ Equal)
+      → AreInOrder cmp (remove xs i) × All (λ y. number y ≢ n) (remove xs i) × ((item : X) → number item ≡ n → Contains xs item → AddsOne (remove xs i) xs item)
+  found-goes [] i below ordered at alone = absurd (omega (arith, below))
+  found-goes (x ∷ xs) i below ordered at alone = parted (take i (x ∷ xs)) (get_or (x ∷ xs) i x) (drop (suc i) (x ∷ xs)) whole (at x)
+    where
+      whole : x ∷ xs ≡ take i (x ∷ xs) ++ get_or (x ∷ xs) i x ∷ drop (suc i) (x ∷ xs)
+      whole =
+          let step : i + 1 ≡ suc i = omega arith in
+          sym (take-append-drop (i + 1) (x ∷ xs))
+          ∙ ap (λ ys. ys ++ drop (i + 1) (x ∷ xs)) (take_more (x ∷ xs) i x below)
+          ∙ append_assoc (take i (x ∷ xs)) (get_or (x ∷ xs) i x ∷ []) (drop (i + 1) (x ∷ xs))
+          ∙ ap (λ k. take i (x ∷ xs) ++ get_or (x ∷ xs) i x ∷ drop k (x ∷ xs)) step
 
-    -- an item whose order was found goes
-    pub found-goes : (total' : IsTotalOrder cmp) (xs : List X) (i : ℕ) → i < length xs → AreInOrder cmp xs → (t : K) → ((d : X) → R (h (get_or xs i d)) t ≡ Equal)
-        → AreInOrder cmp (remove xs i) × All (λ y. h y ≢ t) (remove xs i) × ((item : X) → h item ≡ t → Contains xs item → AddsOne (remove xs i) xs item)
-    found-goes total' xs i below ordered t at = by xs i below ordered at
-      where
-        by : (xs : List X) (i : ℕ) → i < length xs → AreInOrder cmp xs → ((d : X) → R (h (get_or xs i d)) t ≡ Equal)
-            → AreInOrder cmp (remove xs i) × All (λ y. h y ≢ t) (remove xs i) × ((item : X) → h item ≡ t → Contains xs item → AddsOne (remove xs i) xs item)
-        by [] i below ordered at = absurd (omega (arith, below))
-        by (x ∷ xs) i below ordered at = parted (take i (x ∷ xs)) (get_or (x ∷ xs) i x) (drop (suc i) (x ∷ xs)) whole (at x)
-          where
-            whole : x ∷ xs ≡ take i (x ∷ xs) ++ get_or (x ∷ xs) i x ∷ drop (suc i) (x ∷ xs)
-            whole =
-                let step : i + 1 ≡ suc i = omega arith in
-                sym (take-append-drop (i + 1) (x ∷ xs))
-                ∙ ap (λ ys. ys ++ drop (i + 1) (x ∷ xs)) (take_more (x ∷ xs) i x below)
-                ∙ append_assoc (take i (x ∷ xs)) (get_or (x ∷ xs) i x ∷ []) (drop (i + 1) (x ∷ xs))
-                ∙ ap (λ k. take i (x ∷ xs) ++ get_or (x ∷ xs) i x ∷ drop k (x ∷ xs)) step
+      stays : (front : List X) (y : X) (rest : List X) (z : X) → Contains (front ++ rest) z → Contains (front ++ y ∷ rest) z
+      stays front y rest z c = ⊎_elim
+          (λ h. Contains-append_left front (y ∷ rest) z h)
+          (λ h. Contains-append_right front (y ∷ rest) z (Contains-append_right (y ∷ []) rest z h))
+          (Contains-append_cases front rest z c)
 
-            among_is : (front : List X) (y : X) (rest : List X) (item : X) → All (λ y. h y ≢ t) (front ++ rest) → h item ≡ t → Contains (front ++ y ∷ rest) item → item ≡ y
-            among_is front y rest item only eq c = cases (Contains-append_cases front (y ∷ rest) item c)
-              where
-                alone : Contains (y ∷ []) item → item ≡ y
-                alone e = All-contains (λ z. z ≡ y) (y ∷ []) item (All-cons (λ z. z ≡ y) y [] refl (All-nil (λ z. z ≡ y))) e
+      is_it : (front : List X) (y : X) (rest : List X) (item : X) → All (λ y. number y ≢ n) (front ++ rest) → number item ≡ n → Contains (front ++ y ∷ rest) item → item ≡ y
+      is_it front y rest item only eq c = ⊎_elim
+          (λ h. absurd (All-contains (λ z. number z ≢ n) front item (all-front (λ z. number z ≢ n) front rest only) h eq))
+          (λ h. behind_front (Contains-append_cases (y ∷ []) rest item h))
+          (Contains-append_cases front (y ∷ rest) item c)
+        where
+          behind_front : Contains (y ∷ []) item ⊎ Contains rest item → item ≡ y
+          behind_front (inl e) = All-contains (λ z. z ≡ y) (y ∷ []) item (All-cons (λ z. z ≡ y) y [] refl (All-nil (λ z. z ≡ y))) e
+          behind_front (inr e) = absurd (All-contains (λ z. number z ≢ n) rest item (all-rest (λ z. number z ≢ n) front rest only) e eq)
 
-                behind_front : Contains (y ∷ []) item ⊎ Contains rest item → item ≡ y
-                behind_front (inl e) = alone e
-                behind_front (inr e) = absurd (All-contains (λ z. h z ≢ t) rest item (all-rest (λ z. h z ≢ t) front rest only) e eq)
+      parted : (front : List X) (y : X) (rest : List X) → x ∷ xs ≡ front ++ y ∷ rest → number y ≡ n
+          → AreInOrder cmp (front ++ rest) × All (λ y. number y ≢ n) (front ++ rest) × ((item : X) → number item ≡ n → Contains (x ∷ xs) item → AddsOne (front ++ rest) (x ∷ xs) item)
+      parted front y rest is here =
+          let in_parts : AreInOrder cmp (front ++ y ∷ rest) = subst (AreInOrder cmp) is ordered in
+          let among : Contains (x ∷ xs) y = subst (λ zs. Contains zs y) (sym is) (Contains-append_right front (y ∷ rest) y (0, omega arith, refl)) in
+          let only : All (λ z. number z ≢ n) (front ++ rest) =
+          All-weaker (Contains (front ++ rest)) (λ z. number z ≢ n) (λ z c same.
+          All-contains (λ z. cmp z y ≢ Equal) (front ++ rest) z (order-apart cmp total y front rest in_parts) c (alone z y (subst (λ zs. Contains zs z) (sym is) (stays front y rest z c)) among same here))
+          (front ++ rest) (All-contains_itself (front ++ rest)) in (
+            order-remove cmp total y front rest in_parts,
+            only,
+            λ item eq c.
+                let same : item ≡ y = is_it front y rest item only eq (subst (λ zs. Contains zs item) is c) in
+                record { front = front; rest = rest; old_is = refl; new_is = is ∙ ap (λ z. front ++ z ∷ rest) (sym same) },
+          )
 
-                cases : Contains front item ⊎ Contains (y ∷ rest) item → item ≡ y
-                cases (inl e) = absurd (All-contains (λ z. h z ≢ t) front item (all-front (λ z. h z ≢ t) front rest only) e eq)
-                cases (inr e) = behind_front (Contains-append_cases (y ∷ []) rest item e)
+  -- the first of the number goes
+  pub first-goes : (xs : List X) (i : ℕ) → position (λ y. nat_eq (number y) n) xs ≡ Some i → AreInOrder cmp xs → ((y z : X) → Contains xs y → Contains xs z → number y ≡ n → number z ≡ n → cmp y z ≡ Equal)
+      → AreInOrder cmp (remove xs i) × All (λ y. number y ≢ n) (remove xs i) × ((item : X) → number item ≡ n → Contains xs item → AddsOne (remove xs i) xs item)
+  first-goes [] i at ordered alone = absurd (cc)
+  first-goes (x ∷ xs) i at ordered alone =
+      let first = λ (d : X). position-Some (λ y. nat_eq (number y) n) (x ∷ xs) i d at in
+      found-goes (x ∷ xs) i (first x).0 ordered (λ d. eqb-true (number (get_or (x ∷ xs) i d)) n (first d).1) alone
 
-            parted : (front : List X) (y : X) (rest : List X) → x ∷ xs ≡ front ++ y ∷ rest → R (h y) t ≡ Equal
-                → AreInOrder cmp (front ++ rest) × All (λ y. h y ≢ t) (front ++ rest) × ((item : X) → h item ≡ t → Contains (x ∷ xs) item → AddsOne (front ++ rest) (x ∷ xs) item)
-            parted front y rest is tie =
-                let in_parts : AreInOrder cmp (front ++ y ∷ rest) = subst (AreInOrder cmp) is ordered in
-                let only = order-only total' y front rest in_parts t tie in (
-                  order-remove cmp total' y front rest in_parts,
-                  only,
-                  λ item eq among.
-                      let same : item ≡ y = among_is front y rest item only eq (subst (λ zs. Contains zs item) is among) in
-                      record { front = front; rest = rest; old_is = refl; new_is = is ∙ ap (λ z. front ++ z ∷ rest) (sym same) },
-                )
+-- none has a number of which there is no first
+pub none-first : {X : Type 0} (number : X → ℕ) (n : ℕ) (xs : List X) → position (λ y. nat_eq (number y) n) xs ≡ None → All (λ y. number y ≢ n) xs
+none-first {X} number n xs h = λ k d below. eqb-false (number (get_or xs k d)) n (fails_before_first test xs k d (omega (arith, below, past (nat_lt (position_or_len test xs) (length xs)) refl h)))
+  where
+    test : X → Bool
+    test y = nat_eq (number y) n
 
-    -- in a gap nothing has the order that was looked for
-    pub gap-none : (xs : List X) (i : ℕ) (t : K) → IsGap (λ y. R (h y) t) xs i → All (λ y. h y ≢ t) xs
-    gap-none xs i t gap =
-        All-same (λ y. h y ≢ t) xs (take i xs ++ drop i xs) (sym (take-append-drop i xs))
-        (All-append (λ y. h y ≢ t) (take i xs) (drop i xs)
-        (All-weaker (λ y. R (h y) t ≡ Less) (λ y. h y ≢ t) (λ y less is. (let tie = tied_at y is in cc)) (take i xs) gap.before)
-        (All-weaker (λ y. R (h y) t ≡ Greater) (λ y. h y ≢ t) (λ y more is. (let tie = tied_at y is in cc)) (drop i xs) gap.behind))
-      where
-        tied_at : (y : X) → h y ≡ t → R (h y) t ≡ Equal
-        tied_at y is = ap (R (h y)) (sym is) ∙ tied_itself total (h y)
+    past : (b : Bool) → nat_lt (position_or_len test xs) (length xs) ≡ b → cond b (Some (position_or_len test xs)) None ≡ None → length xs ≤ position_or_len test xs
+    past true e h = absurd (cc)
+    past false e h = ltb-false (position_or_len test xs) (length xs) e
 
 -- where a search ended that found nothing
 pub gap-from_search : {X : Type 0} (f : X → Ordering) (xs : List X) (i : ℕ) → i ≤ length xs → AllWithin (λ y. f y ≡ Less) xs 0 i → AllWithin (λ y. f y ≡ Greater) xs i (length xs) → IsGap f xs i
@@ -167,6 +177,41 @@ pub search-from : {X : Type 0} (f : X → Ordering) (xs : List X) (r : Result �
     → IfOk r (HoldsAt (λ y. f y ≡ Equal) xs) × IfErr r (IsGap f xs)
 search-from f xs (Ok i) within found rises = (found, tt)
 search-from f xs (Err i) within found rises = let parts = found rises in (tt, gap-from_search f xs i within parts.0 parts.1)
+
+pub search-found : {X : Type 0} (f : X → Ordering) (P : X → Type 0) → ((y : X) → f y ≡ Equal → P y) → (xs : List X) (r : Result ℕ ℕ) → IsBinarySearchResult f xs r → IfOk r (HoldsAt P xs)
+search-found f P equal xs (Ok i) found = λ d. equal (get_or xs i d) (found d)
+search-found f P equal xs (Err i) found = tt
+
+-- a gap among items that are seen otherwise
+module _ {X Y : Type 0} (h : X → Y) (order : Y → Ordering) (xs : List X) (i : ℕ) where
+  pub gap-map : IsGap (λ x. order (h x)) xs i → IsGap order (map h xs) i
+  gap-map gap = record {
+    within = omega (arith, gap.within, length-map xs h);
+    before = All-same (λ y. order y ≡ Less) (take i (map h xs)) (map h (take i xs)) (take-map h i xs) (All-map (λ y. order y ≡ Less) h (take i xs) gap.before);
+    behind = All-same (λ y. order y ≡ Greater) (drop i (map h xs)) (map h (drop i xs)) (drop-map h i xs) (All-map (λ y. order y ≡ Greater) h (drop i xs) gap.behind);
+  }
+
+  all-mapped : (P : Y → Type 0) (ys : List X) → All P (map h ys) → All (λ x. P (h x)) ys
+  all-mapped P ys all k d below = subst P (get_or-map h ys k d (h d) below) (all k (h d) (omega (arith, below, length-map ys h)))
+
+  pub gap-mapped : IsGap order (map h xs) i → IsGap (λ x. order (h x)) xs i
+  gap-mapped gap = record {
+    within = omega (arith, gap.within, length-map xs h);
+    before = all-mapped (λ y. order y ≡ Less) (take i xs) (All-same (λ y. order y ≡ Less) (map h (take i xs)) (take i (map h xs)) (sym (take-map h i xs)) gap.before);
+    behind = all-mapped (λ y. order y ≡ Greater) (drop i xs) (All-same (λ y. order y ≡ Greater) (map h (drop i xs)) (drop i (map h xs)) (sym (drop-map h i xs)) gap.behind);
+  }
+
+-- or in an order that is told otherwise
+pub gap-same : {X : Type 0} (f g : X → Ordering) (xs : List X) (i : ℕ) → All (λ y. f y ≡ g y) xs → IsGap f xs i → IsGap g xs i
+gap-same f g xs i same gap =
+    let parts = All-same (λ y. f y ≡ g y) (take i xs ++ drop i xs) xs (take-append-drop i xs) same in
+    let front = all-front (λ y. f y ≡ g y) (take i xs) (drop i xs) parts in
+    let rest = all-rest (λ y. f y ≡ g y) (take i xs) (drop i xs) parts in
+    record {
+      within = gap.within;
+      before = λ k d below. sym (front k d below) ∙ gap.before k d below;
+      behind = λ k d below. sym (rest k d below) ∙ gap.behind k d below;
+    }
 
 -- in a gap nothing is as what was looked for
 pub gap-apart : {X : Type 0} (f : X → Ordering) (P : X → Type 0) → ((y : X) → P y → f y ≡ Equal) → (xs : List X) (i : ℕ) → IsGap f xs i → All (λ y. ¬ P y) xs
@@ -231,17 +276,18 @@ module _ {X Y : Type 0} (f : ℕ × Vec X Global → List Y) where
             ap (λ xs. xs ++ flat_map f es) (sym (none e.0) ∙ ap (λ (u : Vec X Global). f (e.0, u)) same)
         by false h later = ap (λ xs. f e ++ xs) (later h)
 
-  -- a new bucket brings its items
-  pub around-new : (d : ℕ) (es : List (ℕ × Vec X Global)) (w : Vec X Global) → lookup (is_at (nat_cmp d)) es ≡ None → (front : List Y) × (rest : List Y) × (flat_map f es ≡ front ++ rest) × (flat_map f (insert_entry nat_cmp es d w) ≡ front ++ (f (d, w) ++ rest))
+  -- a new bucket brings its items, in the place of an empty one where there is one
+  pub around-new : (d : ℕ) (es : List (ℕ × Vec X Global)) (w : Vec X Global) → ((v : Vec X Global) → lookup (is_at (nat_cmp d)) es ≡ Some v → (k : ℕ) → f (k, v) ≡ []) → (front : List Y) × (rest : List Y) × (flat_map f es ≡ front ++ rest) × (flat_map f (insert_entry nat_cmp es d w) ≡ front ++ (f (d, w) ++ rest))
   around-new d [] w h = ([], [], refl, refl)
-  around-new d (e ∷ es) w h = by (nat_cmp d e.0) h (λ r. around-new d es w r)
+  around-new d (e ∷ es) w h = by (nat_cmp d e.0) refl h (λ r. around-new d es w r)
     where
-      by : (o : Ordering) → cond (is_eq o) (Some e.1) (lookup (is_at (nat_cmp d)) es) ≡ None
-          → (lookup (is_at (nat_cmp d)) es ≡ None → (front : List Y) × (rest : List Y) × (flat_map f es ≡ front ++ rest) × (flat_map f (insert_entry nat_cmp es d w) ≡ front ++ (f (d, w) ++ rest)))
+      by : (o : Ordering) → nat_cmp d e.0 ≡ o → ((v : Vec X Global) → cond (is_eq o) (Some e.1) (lookup (is_at (nat_cmp d)) es) ≡ Some v → (k : ℕ) → f (k, v) ≡ [])
+          → (((v : Vec X Global) → lookup (is_at (nat_cmp d)) es ≡ Some v → (k : ℕ) → f (k, v) ≡ []) → (front : List Y) × (rest : List Y) × (flat_map f es ≡ front ++ rest) × (flat_map f (insert_entry nat_cmp es d w) ≡ front ++ (f (d, w) ++ rest)))
           → (front : List Y) × (rest : List Y) × (f e ++ flat_map f es ≡ front ++ rest) × (flat_map f (match_ordering o ((d, w) ∷ e ∷ es) ((e.0, w) ∷ es) (e ∷ insert_entry nat_cmp es d w)) ≡ front ++ (f (d, w) ++ rest))
-      by Less h later = ([], f e ++ flat_map f es, refl, refl)
-      by Equal h later = absurd (cc)
-      by Greater h later =
+      by Less at h later = ([], f e ++ flat_map f es, refl, refl)
+      by Equal at h later =
+          ([], flat_map f es, ap (λ xs. xs ++ flat_map f es) (h e.1 refl e.0), ap (λ k. f (k, w) ++ flat_map f es) (sym (exact_unsigned d e.0 at)))
+      by Greater at h later =
           let a = later h in
           (f e ++ a.0, a.1, ap (λ xs. f e ++ xs) a.2 ∙ sym (append_assoc (f e) a.0 a.1), ap (λ xs. f e ++ xs) a.3 ∙ sym (append_assoc (f e) a.0 (f (d, w) ++ a.1)))
 

@@ -1,9 +1,8 @@
 -- Lists and drafts of numbers, seen as what the numbers stand for.
-use Rattle.std.proofs.Common.{◌≡◌, ℕ, zero, suc, ◌+◌, ◌<◌, Bool, true, false, List, [], ◌∷◌, ◌++◌, Option, Some, None, cond, refl, sym, ap, ◌∙◌, arith, map, length, set, take, drop, nat_lt}
-use Rattle.std.proofs.lemmas.Grind.{flat_map-append}
+use Rattle.std.proofs.Common.{◌≡◌, ℕ, zero, suc, ◌<◌, Bool, true, false, List, [], ◌∷◌, ◌++◌, Option, Some, None, cond, refl, sym, ap, ◌∙◌, arith, map, length, set, take, drop, nat_lt}
 use Rattle.std.proofs.lemmas.List.{length-map, map-append, map-set}
 use Rattle.std.proofs.lemmas.List.Elements.{filter_map-append}
-use Rattle.std.specs.List.{cons_option, filter_map, flat_map, fold, remove, slice_get}
+use Rattle.std.specs.List.{cons_option, filter_map, flat_map, fold, slice_get}
 use Rattle.std.specs.Prelude.{IsSome, is_some}
 use Rattle.idl_store.specs.Numbers.{joined, shown, times}
 use Rattle.idl_store.specs.Stored.{Stored, begun, committed, grown, item_at, placed, removed, results_in, results_of_drafts, with_results}

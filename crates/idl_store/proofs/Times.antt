@@ -1,5 +1,5 @@
 -- How often numbers are among others.
-use Rattle.std.proofs.Common.{◌≡◌, ℕ, zero, suc, ◌+◌, ◌<◌, List, [], ◌∷◌, ◌++◌, Option, Some, None, cond, refl, sym, ap, ◌∙◌, arith, nat_eq, length, zero-add, get_or, set, Vec}
+use Rattle.std.proofs.Common.{◌≡◌, ℕ, zero, suc, ◌+◌, ◌<◌, List, [], ◌∷◌, ◌++◌, Some, cond, refl, sym, ap, ◌∙◌, arith, length, zero-add, get_or, set, Vec}
 use Rattle.std.proofs.lemmas.Bool.{eq-eqb, lt-ltb}
 use Rattle.std.proofs.lemmas.List.{append-nil, get_or-map, length-map, map-append, map-set}
 use Rattle.std.specs.Global.{Global}

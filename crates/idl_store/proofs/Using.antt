@@ -1,12 +1,12 @@
 -- Results under numbers: one that is used less, goes or comes.
-use Rattle.std.proofs.Common.{◌≡◌, ◌≢◌, ◌⊎◌, ◌↔◌, ℕ, ◌+◌, ◌<◌, ◌≤◌, Bool, true, false, List, [], ◌∷◌, ◌++◌, Option, Some, None, cond, refl, sym, ap, ◌∙◌, subst, arith, inl, inr, nat_eq, length, add-zero, drop, get_or, take}
+use Rattle.std.proofs.Common.{◌≡◌, ◌≢◌, ◌⊎◌, ◌↔◌, ℕ, ◌+◌, ◌<◌, ◌≤◌, true, false, List, [], ◌∷◌, ◌++◌, Option, Some, None, cond, refl, sym, ap, ◌∙◌, subst, arith, inl, inr, nat_eq, length, add-zero, drop, get_or, take}
 use Rattle.std.specs.Prelude.{All, Contains, IsSome, is_some}
 use Rattle.std.specs.Global.{Global}
 use Rattle.std.specs.Option.{option_map}
 use Rattle.std.specs.declared.rc.Rc.{Rc}
 use Rattle.std.proofs.lemmas.Bool.{cases_eq}
 use Rattle.std.proofs.lemmas.Bool.Decides.{eqb_tells}
-use Rattle.std.proofs.lemmas.List.Elements.{All-append, All-cons, All-contains, All-contains_itself, All-weaker, All-head, All-tail, Contains-append_cases, Contains-append_left, Contains-append_right}
+use Rattle.std.proofs.lemmas.List.Elements.{All-cons, All-contains, All-contains_itself, All-weaker, Contains-append_cases, Contains-append_left, Contains-append_right}
 use Rattle.std.proofs.lemmas.Grind.{flat_map-append}
 use Rattle.std.proofs.lemmas.List.{append-nil, take-append-drop, take_more}
 use Rattle.idl_store.specs.Stored.{results_of_drafts}
@@ -14,8 +14,7 @@ use Rattle.slab.specs.Slab.{Slab, Updates, get, with_value}
 use Rattle.slab.proofs.SlabLemmas.{Updates-with_value}
 use Rattle.idl_store.specs.Buckets.{AddsOne}
 use Rattle.idl_memo.specs.Kept.{Kept}
-use Rattle.idl_store.specs.Numbers.{AreFewer, AreMore, AreUsed, IsIndexOf, IsPut, kept_at, placed_of, times, uses_of, valued, with_bucket}
-use Rattle.idl_memo.specs.Query.{Query}
+use Rattle.idl_store.specs.Numbers.{AreFewer, AreMore, AreUsed, IsIndexOf, kept_at, placed_of, times, uses_of, valued, with_bucket}
 use Rattle.idl_store.specs.declared.numbers.Used.{Used}
 use Rattle.idl_store.proofs.Times.{times-append}
 
@@ -120,6 +119,14 @@ module _ {R : Type 0} (old new : Slab (Used R)) (number : ℕ) (u : Used R) (her
             let was : IsSome (get old n) = subst IsSome (others n e) there in
             omega (arith, ap uses_at (others n e), used n was)
 
+-- a number is that of one result
+pub indexed-alone : {K V T O : Type 0} (used : Slab (Used (Rc (Kept K V T O) Global))) (index : List ((Kept K V T O × ℕ) × ℕ)) (number : ℕ) → IsIndexOf used index → (e f : (Kept K V T O × ℕ) × ℕ) → Contains index e → Contains index f → e.1 ≡ number → f.1 ≡ number → e ≡ f
+indexed-alone used index number indexed e f c d is is' =
+    let one : e.1 ≡ f.1 = is ∙ sym is' in
+    let both : Some e.0 ≡ Some f.0 = sym ((indexed e.1 e.0).0 c) ∙ ap (placed_of used) one ∙ (indexed f.1 f.0).0 d in
+    let same : e.0 ≡ f.0 = cc in
+    (λ i. (same i, one i))
+
 module _ {K V T O : Type 0} (old new : Slab (Used (Rc (Kept K V T O) Global))) where
   -- what is kept is found still
   pub indexed-same : (index : List ((Kept K V T O × ℕ) × ℕ)) → ((n : ℕ) → kept_at new n ≡ kept_at old n) → IsIndexOf old index → IsIndexOf new index
@@ -178,11 +185,11 @@ module _ {K V T O : Type 0} (old new : Slab (Used (Rc (Kept K V T O) Global))) w
         from (inr e) h = added_stays adds (kept, n) ((indexed n kept).1 (sym (placed_other n e) ∙ h))
 
   -- the same by what was kept
-  pub indexed-removed : (before after : List ((Kept K V T O × ℕ) × ℕ)) (number : ℕ) (last : Used (Rc (Kept K V T O) Global)) (value : Kept K V T O) → value ≡ last.result.value → get old number ≡ Some last → Updates old new number None → (Contains before ((value, last.bucket), number) → AddsOne after before ((value, last.bucket), number)) → ¬ Contains after ((value, last.bucket), number) → IsIndexOf old before → IsIndexOf new after
-  indexed-removed before after number last value is was updates adds out indexed =
-      let k : Kept K V T O × ℕ = (value, last.bucket) in
-      let here : placed_of old number ≡ Some k = ap (λ o. option_map valued (option_map with_bucket o)) was ∙ ap (λ (v : Kept K V T O). Some (v, last.bucket)) (sym is) in
-      indexed-gone before after number k updates.others here updates.changed (adds ((indexed number k).1 here)) out indexed
+  pub indexed-removed : (before after : List ((Kept K V T O × ℕ) × ℕ)) (number : ℕ) (last : Used (Rc (Kept K V T O) Global)) → get old number ≡ Some last → Updates old new number None → ((kept : Kept K V T O) → Contains before ((kept, last.bucket), number) → AddsOne after before ((kept, last.bucket), number)) → ((kept : Kept K V T O) → ¬ Contains after ((kept, last.bucket), number)) → IsIndexOf old before → IsIndexOf new after
+  indexed-removed before after number last was updates adds out indexed =
+      let k : Kept K V T O × ℕ = (last.result.value, last.bucket) in
+      let here : placed_of old number ≡ Some k = ap (λ o. option_map valued (option_map with_bucket o)) was in
+      indexed-gone before after number k updates.others here updates.changed (adds k.0 ((indexed number k).1 here)) (out k.0) indexed
 
   -- what holds of all that was found holds of what is found after some went
   pub all-fewer : (P : Kept K V T O × ℕ → Type 0) (before after : List ((Kept K V T O × ℕ) × ℕ)) (gone : List ℕ) → AreFewer old new gone → AreUsed new → IsIndexOf old before → IsIndexOf new after → All (λ e. P e.0) before → All (λ e. P e.0) after

@@ -1,5 +1,5 @@
 -- Kept results with their numbers, in buckets, and in order in each bucket.
-use Rattle.std.specs.Prelude.{◌≡◌, ◌≤◌, ℕ, List, [], ◌∷◌, All, Vec, map, length, take, drop}
+use Rattle.std.specs.Prelude.{◌≡◌, ◌≢◌, ◌≤◌, ℕ, List, [], ◌∷◌, All, IfNone, IfSome, Vec, filter, map, length, nat_eq, take, drop}
 use Rattle.std.specs.BTreeMap.{BTreeMap, IsOrdered}
 use Rattle.std.specs.Global.{Global}
 use Rattle.std.specs.List.{flat_map}
@@ -9,6 +9,7 @@ use Rattle.std.specs.declared.cmp.Ordering.TheVariants.{Less, Greater}
 use Rattle.std.specs.declared.rc.Rc.{Rc}
 use Rattle.idl_memo.specs.Kept.{Kept}
 use Rattle.idl_store.specs.Order.{results_cmp}
+use Rattle.idl_store.specs.declared.index.Gap.{Gap}
 use Rattle.idl_store.specs.declared.index.Numbered.{Numbered}
 
 -- each item comes before all behind it
@@ -49,3 +50,14 @@ module _ {K V T O : Type 0} where
     pub ordered : IsOrdered nat_cmp buckets
     pub sorted :
         All (λ e. AreInOrder (numbered_cmp text_cmp answer_cmp) e.1.items) buckets.entries
+
+  -- those of a bucket among the results of all, in their order
+  abbrev pub those_of : ℕ → List ((Kept K V T O × ℕ) × ℕ) → List ((Kept K V T O × ℕ) × ℕ)
+  those_of bucket results = filter (λ e. nat_eq e.0.1 bucket) results
+
+  -- where a result of this order would go among others: between those of its bucket, or into a
+  -- bucket of its own where there are none
+  pub record IsGapAmong (order : Kept K V T O → Ordering)
+      (results : List ((Kept K V T O × ℕ) × ℕ)) (gap : Gap) : Type 0 where
+    pub within : IfSome gap.place (IsGap (λ e. order e.0.0) (those_of gap.bucket results))
+    pub apart : IfNone gap.place (All (λ e. e.0.1 ≢ gap.bucket) results)

@@ -1,20 +1,19 @@
 //! Where kept results are found: by their texts, and by what they were answered.
 
-ghost use Rattle.std.specs.Prelude.{◌≡◌, ◌≢◌, ◌<◌, [], ℕ, All, Any, Contains, IfErr, IfNone, IfOk, IfSome, OnErr, OnOk, Option, length};
+ghost use Rattle.std.specs.Prelude.{◌≡◌, ◌≢◌, ◌<◌, [], ℕ, All, Any, Contains, IfErr, IfOk, OnErr, OnOk, Option, length, nat_eq, position};
 ghost use Rattle.std.specs.List.{HoldsAt};
 ghost use Rattle.std.specs.List.Sorted.{IsSearchInRange};
-ghost use Rattle.std.specs.declared.cmp.Ordering.TheVariants.{Equal};
 ghost use Rattle.std.specs.Option.{option_cmp};
 ghost use Rattle.idl_store.specs.Buckets.{AddsOne, bucket_at};
 ghost use Rattle.idl_memo.specs.Kept.{Kept as Seen, IsAlike, IsSound};
 ghost use Rattle.idl_store.specs.declared.index.Numbered.{Numbered};
 ghost use Rattle.std.specs.Global.{Global};
 ghost use Rattle.std.specs.declared.rc.Rc.{Rc};
-ghost use Rattle.idl_store.specs.Index.{AreInOrder, IsGap, IsInOrder, numbered, numbered_cmp, numbered_in};
+ghost use Rattle.idl_store.specs.Index.{AreInOrder, IsGap, IsGapAmong, IsInOrder, numbered, numbered_cmp, numbered_in};
 ghost use Rattle.idl_store.specs.Order.{place_cmp, results_cmp};
 ghost use Rattle.idl_memo.specs.Query.{Query};
 
-use crate::order::{order_at, order_of};
+use crate::order::order_at;
 use idl_base::Datum;
 use idl_memo::{Bank, Kept};
 use std::alloc::{AllocError, Global};
@@ -31,6 +30,13 @@ const HALF: u64 = 1 << 32;
 pub(crate) struct Numbered<R> {
     pub(crate) result: R,
     pub(crate) number: usize,
+}
+
+/// Where a result would go: before the one at a place of a bucket, or behind its last one, or into a bucket that isn't there.
+#[derive(Clone, Copy)]
+pub(crate) struct Gap {
+    pub(crate) bucket: u64,
+    pub(crate) place: Option<usize>,
 }
 
 /// Kept results with their numbers, in buckets, and those of one bucket in their order. To every contract it is the list of
@@ -82,56 +88,103 @@ where
         }
     }
 
-    // The number of a result of this bucket that is alike at the place, or nothing where there is none. It takes no memory.
-    pub(crate) fn find(&self, bucket: u64, text: &X, bank: &B) -> Option<usize>
-        ensures some { IfSome result (λ number.
+    // The number of a result of this bucket that is alike at the place, or the gap where one would go. It takes no memory.
+    pub(crate) fn find(&self, bucket: u64, text: &X, bank: &B) -> Result<usize, Gap>
+        ensures found { IfOk result (λ number.
             Any (λ e. IsAlike text.now (B.at bank.now) e.0.0 × (e.1 ≡ number)) self.now) }
-        ensures none { (query : X → Query B.Key (Option B.Answer) (Unit {0}) O)
+        ensures absent { (query : X → Query B.Key (Option B.Answer) (Unit {0}) O)
             → All (λ e. IsSound B.Key.eq query e.0.0) self.now
-            → IfNone result
-            (All (λ e. e.0.1 ≡ bucket → ¬ IsAlike text.now (B.at bank.now) e.0.0) self.now) }
+            → IfErr result (λ gap.
+            All (λ e. e.0.1 ≡ bucket → ¬ IsAlike text.now (B.at bank.now) e.0.0) self.now) }
+        ensures gap { (query : X → Query B.Key (Option B.Answer) (Unit {0}) O)
+            → All (λ e. IsSound B.Key.eq query e.0.0) self.now
+            → IfErr result (IsGapAmong (λ kept.
+            place_cmp X.cmp (option_cmp B.Answer.cmp) kept text.now (B.at bank.now)) self.now) }
+        ensures bucket { IfErr result (λ gap. gap.bucket ≡ bucket) }
     {
-        let results = self.buckets.get(&bucket)?;
-        let place = place_at(results, text, bank)?;
-        Some(results[place].number)
+        let Some(results) = self.buckets.get(&bucket) else {
+            return Err(Gap {
+                bucket,
+                place: None,
+            });
+        };
+        match place_at(results, text, bank) {
+            Ok(place) => Ok(results[place].number),
+            Err(place) => Err(Gap {
+                bucket,
+                place: Some(place),
+            }),
+        }
     }
 
-    // Puts a result into a bucket in which none has its text and its answers.
+    // Puts a result into the gap where one of its order would go.
     //
     // Want of memory leaves the index as it was.
     pub(crate) fn insert(
         &mut self,
-        bucket: u64,
+        gap: Gap,
         kept: Rc<Kept<B, X, O>>,
         number: usize,
         alloc: Global,
     ) -> Result<(), AllocError>
-        requires { All (λ e. e.0.1 ≡ bucket
-            → results_cmp X.cmp (option_cmp B.Answer.cmp) e.0.0 kept.value ≢ Equal) self.old }
-        ensures ok { OnOk result (AddsOne self.old self.new ((kept.value, bucket), number)) }
+        requires { IsGapAmong (λ other.
+            results_cmp X.cmp (option_cmp B.Answer.cmp) other kept.value) self.old gap }
+        ensures ok { OnOk result (AddsOne self.old self.new ((kept.value, gap.bucket), number)) }
         ensures err { OnErr result (self.new ≡ self.old) }
     {
         let item = Numbered {
             result: kept,
             number,
         };
-        insert_at(&mut self.buckets, bucket, item, alloc)
+        insert_at(&mut self.buckets, gap, item, alloc)
     }
 
-    // Takes a result out of a bucket. It takes no memory.
-    pub(crate) fn remove(&mut self, bucket: u64, kept: &Kept<B, X, O>)
-        ensures one { (number : ℕ) → Contains self.old ((kept.now, bucket), number)
-            → AddsOne self.new self.old ((kept.now, bucket), number) }
-        ensures gone { (number : ℕ) → ¬ Contains self.new ((kept.now, bucket), number) }
+    // Takes the result of a number out of its bucket. It takes no memory.
+    pub(crate) fn remove(&mut self, bucket: u64, number: usize)
+        requires { (e f : (Seen B.Key (Option B.Answer) X O × ℕ) × ℕ) → Contains self.old e
+            → Contains self.old f → e.1 ≡ number → f.1 ≡ number → e ≡ f }
+        ensures one { (kept : Seen B.Key (Option B.Answer) X O)
+            → Contains self.old ((kept, bucket), number)
+            → AddsOne self.new self.old ((kept, bucket), number) }
+        ensures gone { (kept : Seen B.Key (Option B.Answer) X O)
+            → ¬ Contains self.new ((kept, bucket), number) }
     {
-        remove_at(&mut self.buckets, bucket, kept);
+        remove_at(&mut self.buckets, bucket, number);
     }
 }
 
-// Puts an item into a bucket.
+// Puts an item into a gap.
 //
 // Want of memory leaves each bucket with the items that it had.
 fn insert_at<B: Bank, X: Datum + Ord, O: Drop>(
+    buckets: &mut BTreeMap<u64, Vec<Numbered<Rc<Kept<B, X, O>>>>>,
+    gap: Gap,
+    item: Numbered<Rc<Kept<B, X, O>>>,
+    alloc: Global,
+) -> Result<(), AllocError>
+where
+    B::Answer: Ord,
+    requires order { IsInOrder X.cmp (option_cmp B.Answer.cmp) buckets.old }
+    requires gap { IsGapAmong (λ other.
+        results_cmp X.cmp (option_cmp B.Answer.cmp) other item.result.value)
+        (numbered_in buckets.old.entries) gap }
+    ensures ok { OnOk result (AddsOne (numbered_in buckets.old.entries)
+        (numbered_in buckets.new.entries) (numbered gap.bucket item)) }
+    ensures err { OnErr result
+        (numbered_in buckets.new.entries ≡ numbered_in buckets.old.entries) }
+    ensures order { IsInOrder X.cmp (option_cmp B.Answer.cmp) buckets.new }
+{
+    let Some(place) = gap.place else {
+        return insert_alone(buckets, gap.bucket, item, alloc);
+    };
+    if let Some(results) = buckets.get_mut(&gap.bucket) {
+        return insert_in(results, place, item);
+    }
+    insert_alone(buckets, gap.bucket, item, alloc)
+}
+
+// Puts an item into a bucket of its own.
+fn insert_alone<B: Bank, X: Datum + Ord, O: Drop>(
     buckets: &mut BTreeMap<u64, Vec<Numbered<Rc<Kept<B, X, O>>>>>,
     bucket: u64,
     item: Numbered<Rc<Kept<B, X, O>>>,
@@ -140,143 +193,121 @@ fn insert_at<B: Bank, X: Datum + Ord, O: Drop>(
 where
     B::Answer: Ord,
     requires order { IsInOrder X.cmp (option_cmp B.Answer.cmp) buckets.old }
-    requires apart { All (λ e. e.0.1 ≡ bucket
-        → results_cmp X.cmp (option_cmp B.Answer.cmp) e.0.0 item.result.value ≢ Equal)
-        (numbered_in buckets.old.entries) }
+    requires apart { All (λ e. e.0.1 ≢ bucket) (numbered_in buckets.old.entries) }
     ensures ok { OnOk result (AddsOne (numbered_in buckets.old.entries)
         (numbered_in buckets.new.entries) (numbered bucket item)) }
     ensures err { OnErr result
         (numbered_in buckets.new.entries ≡ numbered_in buckets.old.entries) }
     ensures order { IsInOrder X.cmp (option_cmp B.Answer.cmp) buckets.new }
 {
-    if let Some(results) = buckets.get_mut(&bucket) {
-        return insert_in(results, item);
-    }
     let mut results = Vec::with_capacity(alloc, 1)?;
     results.push(item)?;
     buckets.insert(bucket, results)?;
     Ok(())
 }
 
-// Takes the item of a result out of a bucket, and a bucket that is left empty too.
-fn remove_at<B: Bank, X: Datum + Ord, O: Drop>(
-    buckets: &mut BTreeMap<u64, Vec<Numbered<Rc<Kept<B, X, O>>>>>,
-    bucket: u64,
-    kept: &Kept<B, X, O>,
-)
-where
-    B::Answer: Ord,
-    requires order { IsInOrder X.cmp (option_cmp B.Answer.cmp) buckets.old }
-    ensures one { (number : ℕ)
-        → Contains (numbered_in buckets.old.entries) ((kept.now, bucket), number)
-        → AddsOne (numbered_in buckets.new.entries) (numbered_in buckets.old.entries)
-        ((kept.now, bucket), number) }
-    ensures gone { (number : ℕ)
-        → ¬ Contains (numbered_in buckets.new.entries) ((kept.now, bucket), number) }
-    ensures order { IsInOrder X.cmp (option_cmp B.Answer.cmp) buckets.new }
-{
-    let Some(results) = buckets.get_mut(&bucket) else {
-        return;
-    };
-    remove_in(results, kept);
-    if results.is_empty() {
-        buckets.remove(&bucket);
-    }
-}
-
-// Puts an item in where its order wants it.
+// Puts an item into a gap of its bucket.
 fn insert_in<B: Bank, X: Datum + Ord, O: Drop>(
     bucket: &mut Vec<Numbered<Rc<Kept<B, X, O>>>>,
+    place: usize,
     item: Numbered<Rc<Kept<B, X, O>>>,
 ) -> Result<(), AllocError>
 where
     B::Answer: Ord,
     requires order { AreInOrder (numbered_cmp X.cmp (option_cmp B.Answer.cmp)) bucket.old.items }
-    requires apart { All (λ one.
-        numbered_cmp X.cmp (option_cmp B.Answer.cmp) one item ≢ Equal) bucket.old.items }
+    requires gap { IsGap (λ one. numbered_cmp X.cmp (option_cmp B.Answer.cmp) one item)
+        bucket.old.items place }
     ensures ok { OnOk result (AddsOne bucket.old.items bucket.new.items item) }
     ensures err { OnErr result (bucket.new.items ≡ bucket.old.items) }
     ensures order { AreInOrder (numbered_cmp X.cmp (option_cmp B.Answer.cmp)) bucket.new.items }
 {
-    match search(bucket, &item.result) {
-        Err(place) => Ok(bucket.insert(place, item)?),
-        Ok(_place) => Ok(()),
+    bucket.insert(place, item)?;
+    Ok(())
+}
+
+// Takes the item of a number out of a bucket, and a bucket that is left empty too.
+fn remove_at<B: Bank, X: Datum + Ord, O: Drop>(
+    buckets: &mut BTreeMap<u64, Vec<Numbered<Rc<Kept<B, X, O>>>>>,
+    bucket: u64,
+    number: usize,
+)
+where
+    B::Answer: Ord,
+    requires order { IsInOrder X.cmp (option_cmp B.Answer.cmp) buckets.old }
+    requires alone { (e f : (Seen B.Key (Option B.Answer) X O × ℕ) × ℕ)
+        → Contains (numbered_in buckets.old.entries) e
+        → Contains (numbered_in buckets.old.entries) f → e.1 ≡ number → f.1 ≡ number → e ≡ f }
+    ensures one { (kept : Seen B.Key (Option B.Answer) X O)
+        → Contains (numbered_in buckets.old.entries) ((kept, bucket), number)
+        → AddsOne (numbered_in buckets.new.entries) (numbered_in buckets.old.entries)
+        ((kept, bucket), number) }
+    ensures gone { (kept : Seen B.Key (Option B.Answer) X O)
+        → ¬ Contains (numbered_in buckets.new.entries) ((kept, bucket), number) }
+    ensures order { IsInOrder X.cmp (option_cmp B.Answer.cmp) buckets.new }
+{
+    let Some(results) = buckets.get_mut(&bucket) else {
+        return;
+    };
+    remove_in(results, number);
+    if results.is_empty() {
+        buckets.remove(&bucket);
     }
 }
 
-// Takes out the item of a result, where there is one.
+// Takes out the item of a number, where there is one.
 fn remove_in<B: Bank, X: Datum + Ord, O: Drop>(
     bucket: &mut Vec<Numbered<Rc<Kept<B, X, O>>>>,
-    kept: &Kept<B, X, O>,
+    number: usize,
 )
 where
     B::Answer: Ord,
     requires order { AreInOrder (numbered_cmp X.cmp (option_cmp B.Answer.cmp)) bucket.old.items }
+    requires alone { (one other : Numbered (Rc (Seen B.Key (Option B.Answer) X O) Global))
+        → Contains bucket.old.items one → Contains bucket.old.items other
+        → one.number ≡ number → other.number ≡ number
+        → one.result.value ≡ other.result.value }
     ensures one { (item : Numbered (Rc (Seen B.Key (Option B.Answer) X O) Global))
-        → item.result.value ≡ kept.now → Contains bucket.old.items item
+        → item.number ≡ number → Contains bucket.old.items item
         → AddsOne bucket.new.items bucket.old.items item }
-    ensures gone { All (λ one. one.result.value ≢ kept.now) bucket.new.items }
+    ensures gone { All (λ one. one.number ≢ number) bucket.new.items }
     ensures order { AreInOrder (numbered_cmp X.cmp (option_cmp B.Answer.cmp)) bucket.new.items }
 {
-    match search(bucket, kept) {
-        Ok(place) => {
-            bucket.remove(place);
-        }
-        Err(_place) => {}
+    if let Some(place) = place_of(bucket, number) {
+        bucket.remove(place);
     }
 }
 
-// Where a result stands among others in their order, or where it would go.
-fn search<B: Bank, X: Datum + Ord, O>(
+// The place of the first item of a number, or nothing.
+fn place_of<R>(bucket: &[Numbered<R>], number: usize) -> Option<usize>
+    ensures { result ≡ position (λ one. nat_eq one.number number) bucket.now }
+{
+    bucket.iter().position(|one| one.number == number)
+}
+
+// Where the result stands that is alike at a place, or the gap where one would go.
+fn place_at<B: Bank, X: Datum + Ord, O>(
     bucket: &[Numbered<Rc<Kept<B, X, O>>>],
-    kept: &Kept<B, X, O>,
+    text: &X,
+    bank: &B,
 ) -> Result<usize, usize>
 where
     B::Answer: Ord,
     requires { AreInOrder (numbered_cmp X.cmp (option_cmp B.Answer.cmp)) bucket.now }
     ensures within { IsSearchInRange result (length bucket.now) }
-    ensures found { IfOk result (HoldsAt (λ one.
-        results_cmp X.cmp (option_cmp B.Answer.cmp) one.result.value kept.now ≡ Equal)
-        bucket.now) }
-    ensures absent { IfErr result (IsGap (λ one.
-        results_cmp X.cmp (option_cmp B.Answer.cmp) one.result.value kept.now) bucket.now) }
+    ensures found { IfOk result
+        (HoldsAt (λ one. IsAlike text.now (B.at bank.now) one.result.value) bucket.now) }
+    ensures absent { (query : X → Query B.Key (Option B.Answer) (Unit {0}) O)
+        → All (λ one. IsSound B.Key.eq query one.result.value) bucket.now
+        → IfErr result (IsGap (λ one. place_cmp X.cmp (option_cmp B.Answer.cmp)
+        one.result.value text.now (B.at bank.now)) bucket.now) }
 {
     bucket.binary_search_by(
-        |one|
-            ensures { result
-                ≡ results_cmp X.cmp (option_cmp B.Answer.cmp) one.now.result.value kept.entry.now }
-        { order_of(&one.result, kept) },
-    )
-}
-
-// Where the result stands that is alike at a place, or nothing where there is none.
-fn place_at<B: Bank, X: Datum + Ord, O>(
-    bucket: &[Numbered<Rc<Kept<B, X, O>>>],
-    text: &X,
-    bank: &B,
-) -> Option<usize>
-where
-    B::Answer: Ord,
-    requires { AreInOrder (numbered_cmp X.cmp (option_cmp B.Answer.cmp)) bucket.now }
-    ensures within { IfSome result (λ place. place < length bucket.now) }
-    ensures some { IfSome result
-        (HoldsAt (λ one. IsAlike text.now (B.at bank.now) one.result.value) bucket.now) }
-    ensures none { (query : X → Query B.Key (Option B.Answer) (Unit {0}) O)
-        → All (λ one. IsSound B.Key.eq query one.result.value) bucket.now
-        → IfNone result (All (λ one. ¬ IsAlike text.now (B.at bank.now) one.result.value)
-        bucket.now) }
-{
-    let found = bucket.binary_search_by(
         |one|
             ensures { result
                 ≡ place_cmp X.cmp (option_cmp B.Answer.cmp) one.now.result.value text.entry.now
                 (B.at bank.entry.now) }
         { order_at(&one.result, text, bank) },
-    );
-    match found {
-        Ok(place) => Some(place),
-        Err(_gap) => None,
-    }
+    )
 }
 
 // The number of the bucket of a text under a hint. Those of one hint stand side by side, as they are looked up one after another.

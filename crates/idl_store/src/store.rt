@@ -170,9 +170,10 @@ where
         ensures err { OnErr result (self.new ≡ self.old) }
     {
         let bucket = bucket_of(task.text(), task.hint(bank));
-        if let Some(number) = self.index.find(bucket, task.text(), bank) {
-            return use_again(&mut self.used, &mut self.drafts, number);
-        }
+        let gap = match self.index.find(bucket, task.text(), bank) {
+            Ok(number) => return use_again(&mut self.used, &mut self.drafts, number),
+            Err(gap) => gap,
+        };
         let kept = run_in(&mut self.log, task, bank, scratch, *self.lists.allocator())?;
         meter.raise(T::KIND);
         if self.drafts.is_empty() {
@@ -184,7 +185,7 @@ where
             &mut self.index,
             &mut self.drafts,
             again,
-            bucket,
+            gap,
         )?;
         Ok(kept)
     }

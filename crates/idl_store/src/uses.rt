@@ -1,15 +1,15 @@
 //! What a look-up finds and a run leaves goes into drafts, and what is used no more goes.
 
-ghost use Rattle.std.specs.Prelude.{◌≡◌, ◌≢◌, ◌<◌, ◌≤◌, ◌∷◌, [], ℕ, All, IfOk, IsSome, OnErr, OnOk, Some, vec_len};
-ghost use Rattle.std.specs.declared.cmp.Ordering.TheVariants.{Equal};
+ghost use Rattle.std.specs.Prelude.{◌≡◌, ◌<◌, ◌≤◌, ◌∷◌, [], ℕ, IfOk, IsSome, OnErr, OnOk, Some, vec_len};
 ghost use Rattle.std.specs.Option.{option_cmp};
 ghost use Rattle.slab.specs.Slab.{get};
 ghost use Rattle.idl_store.specs.Buckets.{AddsOne};
+ghost use Rattle.idl_store.specs.Index.{IsGapAmong};
 ghost use Rattle.idl_store.specs.Numbers.{AreFewer, AreMore, AreUsed, IsIndexOf, IsPut, drafts_of, result_of, times, uses_of};
 ghost use Rattle.idl_store.specs.Order.{results_cmp};
 ghost use Rattle.idl_store.specs.Stored.{results_of_drafts, with_results};
 
-use crate::index::Index;
+use crate::index::{Gap, Index};
 use crate::numbers::{Draft, Used, push_number};
 use idl_base::Datum;
 use idl_memo::{Bank, Kept};
@@ -47,7 +47,7 @@ pub(crate) fn use_again<B: Bank, X: Datum, O: Drop>(
     Ok(kept)
 }
 
-// A new result goes into the last draft.
+// A new result goes into the last draft, and into the gap that was found for it.
 //
 // Want of memory leaves all as it was.
 pub(crate) fn put<B: Bank, X: Datum + Hash + Ord, O: Drop>(
@@ -55,16 +55,16 @@ pub(crate) fn put<B: Bank, X: Datum + Hash + Ord, O: Drop>(
     index: &mut Index<B, X, O>,
     drafts: &mut Vec<Draft>,
     kept: Rc<Kept<B, X, O>>,
-    bucket: u64,
+    gap: Gap,
 ) -> Result<(), AllocError>
 where
     B::Answer: Ord,
     requires some { 0 < vec_len drafts.old }
-    requires apart { All (λ e. e.0.1 ≡ bucket
-        → results_cmp X.cmp (option_cmp B.Answer.cmp) e.0.0 kept.value ≢ Equal) index.old }
-    ensures ok { OnOk result ((number : ℕ) × IsPut used.old used.new kept bucket number
+    requires gap { IsGapAmong (λ other.
+        results_cmp X.cmp (option_cmp B.Answer.cmp) other kept.value) index.old gap }
+    ensures ok { OnOk result ((number : ℕ) × IsPut used.old used.new kept gap.bucket number
         × (drafts_of drafts.new.items ≡ with_results (drafts_of drafts.old.items) (number ∷ []))
-        × AddsOne index.old index.new ((kept.value, bucket), number)) }
+        × AddsOne index.old index.new ((kept.value, gap.bucket), number)) }
     ensures err { OnErr result (((n : ℕ) → get used.new n ≡ get used.old n)
         × (drafts_of drafts.new.items ≡ drafts_of drafts.old.items)
         × (index.new ≡ index.old)) }
@@ -76,11 +76,11 @@ where
     draft.numbers.reserve(1)?;
     used.reserve(1)?;
     let number = used.vacant_key();
-    index.insert(bucket, kept.clone()?, number, *draft.numbers.allocator())?;
+    index.insert(gap, kept.clone()?, number, *draft.numbers.allocator())?;
     used.insert_reserved(Used {
         result: kept,
         uses: 1,
-        bucket,
+        bucket: gap.bucket,
     });
     draft.numbers.push_reserved(number);
     Ok(())
@@ -150,5 +150,5 @@ where
         return;
     }
     let last = used.remove(number);
-    index.remove(last.bucket, &last.result);
+    index.remove(last.bucket, number);
 }

@@ -1,60 +1,58 @@
--- The item whose order was found goes, and no other has that order; where a gap was found, none had.
-use Rattle.std.proofs.Common.{◌≢◌, ◌<◌, length, subst, sym}
+-- The item of the number goes, and no other has it; where there is none, none had it.
+use Rattle.std.proofs.Common.{◌≡◌, ◌≢◌, ◌∙◌, Some, None, ap, subst, sym}
 use Rattle.std.specs.Cmp.Lexicographic.{options_total}
 use Rattle.std.specs.Option.{option_cmp}
-use Rattle.std.specs.Prelude.{All}
-use Rattle.std.proofs.lemmas.Cmp.{on_total}
+use Rattle.std.specs.Prelude.{All, nat_eq, position}
+use Rattle.std.proofs.lemmas.Cmp.{on_total, tied_itself}
 use Rattle.std.proofs.lemmas.List.Elements.{All-contains}
 use Rattle.idl_store.specs.Buckets.{AddsOne}
 use Rattle.idl_store.specs.Index.{AreInOrder, numbered_cmp}
 use Rattle.idl_store.specs.Order.{results_cmp}
-use Rattle.idl_store.proofs.Indexing.{found-goes, gap-none}
+use Rattle.idl_store.proofs.Indexing.{first-goes, none-first}
 use Rattle.idl_store.proofs.Searching.{results_total}
 use Rattle.idl_store.proofs.index.remove_in.Goals as goal
 
-pub returns-in-Ok-clause-one : goal.returns-in-Ok-clause-one
-returns-in-Ok-clause-one g c = λ item is among.
+pub returns-in-Some-clause-one : goal.returns-in-Some-clause-one
+returns-in-Some-clause-one g c = λ item is among.
     let R = results_cmp g.X.Ord.cmp (option_cmp g.B.Answer.Ord.cmp) in
+    let cmp = numbered_cmp g.X.Ord.cmp (option_cmp g.B.Answer.Ord.cmp) in
     let total = results_total g.X.Ord.cmp (option_cmp g.B.Answer.Ord.cmp) g.met.X.Ord.total (options_total g.met.B.Answer.Ord.total) in
     let items = c.args.bucket.now.items in
-    let kept = c.args.kept.now in
-    let below : c.in-Ok.place < length items = rw c.deref.ensures.value at c.in-Ok.ensures.within in
-    let goes = found-goes R total (λ one. one.result.value) (on_total (λ one. one.result.value) total) items c.in-Ok.place below c.requires.order kept (rw c.deref.ensures.value at c.in-Ok.ensures.found) in
+    let place = c.in-Some.place in
+    let at : position (λ one. nat_eq one.number c.args.number) items ≡ Some place = ap (position (λ one. nat_eq one.number c.args.number)) (sym c.deref.ensures.value) ∙ sym c.in-Some.ensures in
+    let goes = first-goes cmp (on_total (λ one. one.result.value) total) (λ one. one.number) c.args.number items place at c.requires.order (λ one other o p q r. ap (R one.result.value) (sym (c.requires.alone one other o p q r)) ∙ tied_itself total one.result.value) in
     subst (λ xs. AddsOne xs items item) (sym c.remove.ensures.items) (goes.2 item is among)
 
-pub returns-in-Ok-clause-gone : goal.returns-in-Ok-clause-gone
-returns-in-Ok-clause-gone g c =
+pub returns-in-Some-clause-gone : goal.returns-in-Some-clause-gone
+returns-in-Some-clause-gone g c =
     let R = results_cmp g.X.Ord.cmp (option_cmp g.B.Answer.Ord.cmp) in
+    let cmp = numbered_cmp g.X.Ord.cmp (option_cmp g.B.Answer.Ord.cmp) in
     let total = results_total g.X.Ord.cmp (option_cmp g.B.Answer.Ord.cmp) g.met.X.Ord.total (options_total g.met.B.Answer.Ord.total) in
     let items = c.args.bucket.now.items in
-    let kept = c.args.kept.now in
-    let below : c.in-Ok.place < length items = rw c.deref.ensures.value at c.in-Ok.ensures.within in
-    let goes = found-goes R total (λ one. one.result.value) (on_total (λ one. one.result.value) total) items c.in-Ok.place below c.requires.order kept (rw c.deref.ensures.value at c.in-Ok.ensures.found) in
-    subst (All (λ one. one.result.value ≢ kept)) (sym c.remove.ensures.items) goes.1
+    let place = c.in-Some.place in
+    let at : position (λ one. nat_eq one.number c.args.number) items ≡ Some place = ap (position (λ one. nat_eq one.number c.args.number)) (sym c.deref.ensures.value) ∙ sym c.in-Some.ensures in
+    let goes = first-goes cmp (on_total (λ one. one.result.value) total) (λ one. one.number) c.args.number items place at c.requires.order (λ one other o p q r. ap (R one.result.value) (sym (c.requires.alone one other o p q r)) ∙ tied_itself total one.result.value) in
+    subst (All (λ one. one.number ≢ c.args.number)) (sym c.remove.ensures.items) goes.1
 
-pub returns-in-Ok-clause-order : goal.returns-in-Ok-clause-order
-returns-in-Ok-clause-order g c =
+pub returns-in-Some-clause-order : goal.returns-in-Some-clause-order
+returns-in-Some-clause-order g c =
     let R = results_cmp g.X.Ord.cmp (option_cmp g.B.Answer.Ord.cmp) in
+    let cmp = numbered_cmp g.X.Ord.cmp (option_cmp g.B.Answer.Ord.cmp) in
     let total = results_total g.X.Ord.cmp (option_cmp g.B.Answer.Ord.cmp) g.met.X.Ord.total (options_total g.met.B.Answer.Ord.total) in
     let items = c.args.bucket.now.items in
-    let kept = c.args.kept.now in
-    let below : c.in-Ok.place < length items = rw c.deref.ensures.value at c.in-Ok.ensures.within in
-    let goes = found-goes R total (λ one. one.result.value) (on_total (λ one. one.result.value) total) items c.in-Ok.place below c.requires.order kept (rw c.deref.ensures.value at c.in-Ok.ensures.found) in
-    subst (AreInOrder (numbered_cmp g.X.Ord.cmp (option_cmp g.B.Answer.Ord.cmp))) (sym c.remove.ensures.items) goes.0
+    let place = c.in-Some.place in
+    let at : position (λ one. nat_eq one.number c.args.number) items ≡ Some place = ap (position (λ one. nat_eq one.number c.args.number)) (sym c.deref.ensures.value) ∙ sym c.in-Some.ensures in
+    let goes = first-goes cmp (on_total (λ one. one.result.value) total) (λ one. one.number) c.args.number items place at c.requires.order (λ one other o p q r. ap (R one.result.value) (sym (c.requires.alone one other o p q r)) ∙ tied_itself total one.result.value) in
+    subst (AreInOrder cmp) (sym c.remove.ensures.items) goes.0
 
-pub returns-in-Err-clause-one : goal.returns-in-Err-clause-one
-returns-in-Err-clause-one g c = λ item is among.
-    let R = results_cmp g.X.Ord.cmp (option_cmp g.B.Answer.Ord.cmp) in
-    let total = results_total g.X.Ord.cmp (option_cmp g.B.Answer.Ord.cmp) g.met.X.Ord.total (options_total g.met.B.Answer.Ord.total) in
+pub returns-in_default-clause-one : goal.returns-in_default-clause-one
+returns-in_default-clause-one g c = λ item is among.
     let items = c.args.bucket.now.items in
-    let kept = c.args.kept.now in
-    let none = gap-none R total (λ one. one.result.value) items _ kept (rw c.deref.ensures.value at c.in-Err.ensures.absent) in
-    absurd (All-contains (λ one. one.result.value ≢ kept) items item none among is)
+    let at : position (λ one. nat_eq one.number c.args.number) items ≡ None = ap (position (λ one. nat_eq one.number c.args.number)) (sym c.deref.ensures.value) ∙ sym c.in_default.ensures in
+    absurd (All-contains (λ one. one.number ≢ c.args.number) items item (none-first (λ one. one.number) c.args.number items at) among is)
 
-pub returns-in-Err-clause-gone : goal.returns-in-Err-clause-gone
-returns-in-Err-clause-gone g c =
-    let R = results_cmp g.X.Ord.cmp (option_cmp g.B.Answer.Ord.cmp) in
-    let total = results_total g.X.Ord.cmp (option_cmp g.B.Answer.Ord.cmp) g.met.X.Ord.total (options_total g.met.B.Answer.Ord.total) in
+pub returns-in_default-clause-gone : goal.returns-in_default-clause-gone
+returns-in_default-clause-gone g c =
     let items = c.args.bucket.now.items in
-    let kept = c.args.kept.now in
-    gap-none R total (λ one. one.result.value) items _ kept (rw c.deref.ensures.value at c.in-Err.ensures.absent)
+    let at : position (λ one. nat_eq one.number c.args.number) items ≡ None = ap (position (λ one. nat_eq one.number c.args.number)) (sym c.deref.ensures.value) ∙ sym c.in_default.ensures in
+    none-first (λ one. one.number) c.args.number items at

@@ -1,8 +1,8 @@
 -- One draft more is in its place.
-use Rattle.std.proofs.Common.{◌≡◌, ◌+◌, ◌<◌, ℕ, List, ap, arith, drop, fold, get_or, length, map, set, sym, take, ◌∙◌}
+use Rattle.std.proofs.Common.{◌≡◌, ◌+◌, ◌<◌, ℕ, List, ap, arith, drop, fold, get_or, length, set, sym, take, ◌∙◌}
 use Rattle.std.proofs.lemmas.List.{drop-set-lt, get_or-map, map-set}
 use Rattle.std.proofs.lemmas.List.Sums.{fold_more}
-use Rattle.idl_store.specs.Numbers.{drafts_of, joined, lists_of, times}
+use Rattle.idl_store.specs.Numbers.{drafts_of, lists_of, times}
 use Rattle.idl_store.specs.Stored.{placed, results_of_drafts}
 use Rattle.idl_store.specs.declared.numbers.Draft.{Draft}
 use Rattle.idl_store.proofs.Drafting.{length-drafts, same-next, same-rest}

@@ -1,5 +1,5 @@
 -- The draft's numbers come to the list's place, or behind all, and what stood there goes into the draft.
-use Rattle.std.proofs.Common.{◌<◌, ◌∷◌, ◌++◌, [], length, ap, ◌∙◌, arith, set}
+use Rattle.std.proofs.Common.{◌<◌, length, ap, ◌∙◌, arith, set}
 use Rattle.idl_store.specs.Numbers.{lists_of}
 use Rattle.idl_store.proofs.Times.{placed-there, times-behind, times-there}
 use Rattle.idl_store.proofs.numbers.exchange_one.Goals as goal

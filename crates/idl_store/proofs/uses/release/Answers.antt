@@ -1,5 +1,5 @@
 -- The uses are given up one after another.
-use Rattle.std.proofs.Common.{◌≡◌, ◌≤◌, ◌+◌, ◌∷◌, ◌++◌, [], arith, get_or, length, subst, sym, take}
+use Rattle.std.proofs.Common.{◌≤◌, ◌∷◌, [], arith, get_or, length, subst, sym, take}
 use Rattle.std.proofs.lemmas.List.{take_all, take_more}
 use Rattle.idl_store.specs.Numbers.{AreFewer, uses_of}
 use Rattle.idl_store.proofs.Using.{fewer-then, next-used}

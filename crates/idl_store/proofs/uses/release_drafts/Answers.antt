@@ -1,5 +1,5 @@
 -- The uses of one draft after another are given up.
-use Rattle.std.proofs.Common.{◌≡◌, ◌≤◌, ◌<◌, ◌+◌, ◌++◌, ◌∙◌, ℕ, List, ap, arith, length, get_or, subst, sym, take}
+use Rattle.std.proofs.Common.{◌≡◌, ◌<◌, ◌∙◌, ℕ, List, ap, arith, length, get_or, subst, sym, take}
 use Rattle.std.proofs.lemmas.List.{get_or-map}
 use Rattle.idl_store.specs.Numbers.{AreFewer, drafts_of, times, uses_of}
 use Rattle.idl_store.specs.Stored.{results_of_drafts}

@@ -1,6 +1,6 @@
 -- What is kept still is found still, and what went is found no more.
 use Rattle.std.proofs.Common.{◌-◌}
-use Rattle.idl_store.proofs.Using.{indexed-removed, indexed-same, kept-written}
+use Rattle.idl_store.proofs.Using.{indexed-alone, indexed-removed, indexed-same, kept-written}
 use Rattle.slab.specs.Slab.{with_value}
 use Rattle.idl_store.proofs.uses.release_one.Goals as goal
 
@@ -10,7 +10,9 @@ returns-then-uses-gt1-clause-indexed g c =
     indexed-same c.args.used.now (with_value c.args.used.now c.args.number (record { result = u.result; uses = c.index.result.now.uses - 1; bucket = u.bucket })) c.args.index.now
     (kept-written c.args.used.now c.args.number u (c.index.result.now.uses - 1) c.index_mut.ensures.value) c.requires.indexed
 
+pub remove-requires : goal.remove-requires
+remove-requires g c = indexed-alone c.args.used.now c.args.index.now c.args.number c.requires.indexed
+
 pub returns-clause-indexed : goal.returns-clause-indexed
 returns-clause-indexed g c =
-    let last = c.remove-last.result in
-    indexed-removed c.args.used.now c.remove-last.new.self c.args.index.now c.remove.new.self c.args.number last c.deref.result.now c.deref.ensures c.remove-last.ensures.value c.remove-last.ensures.updates (c.remove.ensures.one c.args.number) (c.remove.ensures.gone c.args.number) c.requires.indexed
+    indexed-removed c.args.used.now c.remove-last.new.self c.args.index.now c.remove.new.self c.args.number c.remove-last.result c.remove-last.ensures.value c.remove-last.ensures.updates c.remove.ensures.one c.remove.ensures.gone c.requires.indexed

@@ -12,7 +12,7 @@ use Rattle.idl_store.proofs.Bucketed.{on_err}
 use Rattle.idl_store.proofs.Changing.{shown-still, stored-kept, stored-used}
 use Rattle.idl_store.proofs.Drafting.{length-drafts, some-unless}
 use Rattle.idl_store.proofs.Exactness.{exact_by, exact_options}
-use Rattle.idl_store.proofs.Hinting.{bucket-result, none-equal, none-found}
+use Rattle.idl_store.proofs.Hinting.{bucket-result, gap-found, none-found}
 use Rattle.idl_store.proofs.Obtaining.{found-alike, found-taken, grown-found, on_ok, result-found, run-alike, run-shown, run-stored}
 use Rattle.idl_store.proofs.store.Store.obtain.Goals as goal
 
@@ -30,8 +30,8 @@ use_again-requires g c =
     let stored = c.self.invariant.0 in
     let text = g.T.Task.text_of c.args.task.now in
     let bank = g.B.Bank.at c.args.bank.now in
-    let found = subst (λ t. Any (λ e. IsAlike t bank e.0.0 × (e.1 ≡ c.in-Some.number)) index) c.text-2.ensures c.in-Some.ensures.some in
-    found-taken eq itself same query (bucket_of input hint) used index numbers stored text bank c.in-Some.number found
+    let found = subst (λ t. Any (λ e. IsAlike t bank e.0.0 × (e.1 ≡ c.in-Ok.number)) index) c.text-2.ensures c.in-Ok.ensures.found in
+    found-taken eq itself same query (bucket_of input hint) used index numbers stored text bank c.in-Ok.number found
 
 pub invariant_of-self : goal.invariant_of-self
 invariant_of-self g c =
@@ -43,12 +43,12 @@ invariant_of-self g c =
     let index = c.self.inside.index in
     let numbers = numbers_of c.self.inside.lists.items c.self.inside.drafts.items in
     let stored = c.self.invariant.0 in (
-      stored-used eq query (bucket_of input hint) used index numbers stored c.use_again.new.used c.use_again.result c.in-Some.number (drafts_of c.use_again.new.drafts.items) c.use_again.ensures.drafts c.use_again.ensures.uses c.use_again.ensures.err,
+      stored-used eq query (bucket_of input hint) used index numbers stored c.use_again.new.used c.use_again.result c.in-Ok.number (drafts_of c.use_again.new.drafts.items) c.use_again.ensures.drafts c.use_again.ensures.uses c.use_again.ensures.err,
       omega (arith, c.self.invariant.1, c.use_again.ensures.count),
     )
 
-pub returns-in-Some-clause-result : goal.returns-in-Some-clause-result
-returns-in-Some-clause-result g c =
+pub returns-in-Ok-clause-result : goal.returns-in-Ok-clause-result
+returns-in-Ok-clause-result g c =
     let eq = g.B.Key.PartialEq.eq in
     let itself = g.met.B.Key.Eq.laws.refl in
     let same = g.met.B.Key.Datum.same in
@@ -61,11 +61,11 @@ returns-in-Some-clause-result g c =
     let stored = c.self.invariant.0 in
     let text = g.T.Task.text_of c.args.task.now in
     let bank = g.B.Bank.at c.args.bank.now in
-    let found = subst (λ t. Any (λ e. IsAlike t bank e.0.0 × (e.1 ≡ c.in-Some.number)) index) c.text-2.ensures c.in-Some.ensures.some in
-    result-found eq itself same query (bucket_of input hint) used index numbers stored text bank c.in-Some.number found c.use_again.result c.use_again.ensures.kept
+    let found = subst (λ t. Any (λ e. IsAlike t bank e.0.0 × (e.1 ≡ c.in-Ok.number)) index) c.text-2.ensures c.in-Ok.ensures.found in
+    result-found eq itself same query (bucket_of input hint) used index numbers stored text bank c.in-Ok.number found c.use_again.result c.use_again.ensures.kept
 
-pub returns-in-Some-clause-ok : goal.returns-in-Some-clause-ok
-returns-in-Some-clause-ok g c =
+pub returns-in-Ok-clause-ok : goal.returns-in-Ok-clause-ok
+returns-in-Ok-clause-ok g c =
     let eq = g.B.Key.PartialEq.eq in
     let itself = g.met.B.Key.Eq.laws.refl in
     let same = g.met.B.Key.Datum.same in
@@ -78,11 +78,11 @@ returns-in-Some-clause-ok g c =
     let stored = c.self.invariant.0 in
     let text = g.T.Task.text_of c.args.task.now in
     let bank = g.B.Bank.at c.args.bank.now in
-    let found = subst (λ t. Any (λ e. IsAlike t bank e.0.0 × (e.1 ≡ c.in-Some.number)) index) c.text-2.ensures c.in-Some.ensures.some in
-    grown-found eq itself same query (bucket_of input hint) used index numbers stored text bank c.in-Some.number found c.use_again.result c.use_again.new.used (drafts_of c.use_again.new.drafts.items) c.args.self.now c.self.view_is c.use_again.ensures.drafts c.use_again.ensures.uses
+    let found = subst (λ t. Any (λ e. IsAlike t bank e.0.0 × (e.1 ≡ c.in-Ok.number)) index) c.text-2.ensures c.in-Ok.ensures.found in
+    grown-found eq itself same query (bucket_of input hint) used index numbers stored text bank c.in-Ok.number found c.use_again.result c.use_again.new.used (drafts_of c.use_again.new.drafts.items) c.args.self.now c.self.view_is c.use_again.ensures.drafts c.use_again.ensures.uses
 
-pub returns-in-Some-clause-meter : goal.returns-in-Some-clause-meter
-returns-in-Some-clause-meter g c =
+pub returns-in-Ok-clause-meter : goal.returns-in-Ok-clause-meter
+returns-in-Ok-clause-meter g c =
     let eq = g.B.Key.PartialEq.eq in
     let itself = g.met.B.Key.Eq.laws.refl in
     let same = g.met.B.Key.Datum.same in
@@ -95,8 +95,8 @@ returns-in-Some-clause-meter g c =
     let stored = c.self.invariant.0 in
     let text = g.T.Task.text_of c.args.task.now in
     let bank = g.B.Bank.at c.args.bank.now in
-    let found = subst (λ t. Any (λ e. IsAlike t bank e.0.0 × (e.1 ≡ c.in-Some.number)) index) c.text-2.ensures c.in-Some.ensures.some in
-    on_ok c.use_again.result (inl (subst (λ s. SomeAlikeAt (text, bank) (results_in s)) c.self.view_is (found-alike eq itself same query (bucket_of input hint) used index numbers stored text bank c.in-Some.number found), refl))
+    let found = subst (λ t. Any (λ e. IsAlike t bank e.0.0 × (e.1 ≡ c.in-Ok.number)) index) c.text-2.ensures c.in-Ok.ensures.found in
+    on_ok c.use_again.result (inl (subst (λ s. SomeAlikeAt (text, bank) (results_in s)) c.self.view_is (found-alike eq itself same query (bucket_of input hint) used index numbers stored text bank c.in-Ok.number found), refl))
 
 pub returns-then-is_empty-clause-meter : goal.returns-then-is_empty-clause-meter
 returns-then-is_empty-clause-meter g c =
@@ -113,11 +113,11 @@ returns-then-is_empty-clause-meter g c =
     let text = g.T.Task.text_of c.args.task.now in
     let bank = g.B.Bank.at c.args.bank.now in
     let at = c.bucket_of-bucket.ensures ∙ (λ i. bucket_at input (c.text.ensures i) (c.hint.ensures i)) in
-    let none = none-found eq itself same query input hint text bank index stored.placed c.text-2.result.now c.text-2.ensures c.bucket_of-bucket.result at (c.in_default.ensures.none query) in
+    let none = none-found eq itself same query input hint text bank index stored.placed c.text-2.result.now c.text-2.ensures c.bucket_of-bucket.result at (c.in-Err.ensures.absent query) in
     inr (subst (λ s. NoneAlikeAt (text, bank) (results_in s)) c.self.view_is (run-alike eq itself same query (bucket_of input hint) used index numbers stored text bank none), c.raise.ensures ∙ ap (λ kind. raised kind c.args.meter.now) c.KIND.ensures)
 
-pub put-requires-clause-apart : goal.put-requires-clause-apart
-put-requires-clause-apart g c =
+pub put-requires-clause-gap : goal.put-requires-clause-gap
+put-requires-clause-gap g c =
     let eq = g.B.Key.PartialEq.eq in
     let itself = g.met.B.Key.Eq.laws.refl in
     let same = g.met.B.Key.Datum.same in
@@ -128,13 +128,11 @@ put-requires-clause-apart g c =
     let stored = c.self.invariant.0 in
     let text = g.T.Task.text_of c.args.task.now in
     let bank = g.B.Bank.at c.args.bank.now in
-    let at = c.bucket_of-bucket.ensures ∙ (λ i. bucket_at input (c.text.ensures i) (c.hint.ensures i)) in
-    let none = none-found eq itself same query input hint text bank index stored.placed c.text-2.result.now c.text-2.ensures c.bucket_of-bucket.result at (c.in_default.ensures.none query) in
     let answers = options_total g.met.B.Answer.Ord.total in
     let text_exact = exact_by g.T.Text.Ord.cmp g.T.Text.PartialEq.eq g.met.T.Text.Ord.matches_eq g.met.T.Text.Datum.same in
     let answer_exact = exact_options g.B.Answer.Ord.cmp (exact_by g.B.Answer.Ord.cmp g.B.Answer.PartialEq.eq g.met.B.Answer.Ord.matches_eq g.met.B.Answer.Datum.same) in
     let is = c.in_ok-again.ensures.cases ∙ c.in_ok-kept.ensures in
-    none-equal eq itself same query input hint text bank index stored.placed g.T.Text.Ord.cmp (option_cmp g.B.Answer.Ord.cmp) g.met.T.Text.Ord.total answers text_exact answer_exact c.bucket_of-bucket.result c.in_ok-again.again.value is none
+    gap-found eq itself same query input hint text bank index stored.placed g.T.Text.Ord.cmp (option_cmp g.B.Answer.Ord.cmp) g.met.T.Text.Ord.total answers text_exact answer_exact c.text-2.result.now c.text-2.ensures c.in-Err.gap c.in_ok-again.again.value is (c.in-Err.ensures.gap query)
 
 pub invariant_of-self-in_err-put : goal.invariant_of-self-in_err-put
 invariant_of-self-in_err-put g c =
@@ -182,13 +180,13 @@ invariant_of-self-2 g c =
     let text = g.T.Task.text_of c.args.task.now in
     let bank = g.B.Bank.at c.args.bank.now in
     let at = c.bucket_of-bucket.ensures ∙ (λ i. bucket_at input (c.text.ensures i) (c.hint.ensures i)) in
-    let none = none-found eq itself same query input hint text bank index stored.placed c.text-2.result.now c.text-2.ensures c.bucket_of-bucket.result at (c.in_default.ensures.none query) in
+    let none = none-found eq itself same query input hint text bank index stored.placed c.text-2.result.now c.text-2.ensures c.bucket_of-bucket.result at (c.in-Err.ensures.absent query) in
     let ok = c.in_ok-put.ensures.ok in
     let is = c.in_ok-again.ensures.cases ∙ c.in_ok-kept.ensures in
-    let here = at ∙ sym (bucket-result eq itself same query input hint text bank) in
+    let here = c.in-Err.ensures.bucket ∙ at ∙ sym (bucket-result eq itself same query input hint text bank) in
     let there : 0 < length c.self.inside.drafts.items = omega (arith, c.self.inside.drafts.ok.0, some-unless _ (sym c.is_empty.ensures ∙ c.if-is_empty.false)) in
     let some : 0 < length numbers.drafts = omega (arith, there, length-drafts c.self.inside.drafts.items) in (
-      run-stored eq itself same query (bucket_of input hint) used index numbers stored text bank none c.put.new.used c.put.new.index c.in_ok-again.again c.bucket_of-bucket.result ok.0 (drafts_of c.put.new.drafts.items) is here ok.1 ok.2 some ok.3,
+      run-stored eq itself same query (bucket_of input hint) used index numbers stored text bank none c.put.new.used c.put.new.index c.in_ok-again.again c.in-Err.gap.bucket ok.0 (drafts_of c.put.new.drafts.items) is here ok.1 ok.2 some ok.3,
       omega (arith, c.self.invariant.1, c.put.ensures.count),
     )
 
@@ -207,11 +205,11 @@ returns-clause-ok g c =
     let text = g.T.Task.text_of c.args.task.now in
     let bank = g.B.Bank.at c.args.bank.now in
     let at = c.bucket_of-bucket.ensures ∙ (λ i. bucket_at input (c.text.ensures i) (c.hint.ensures i)) in
-    let none = none-found eq itself same query input hint text bank index stored.placed c.text-2.result.now c.text-2.ensures c.bucket_of-bucket.result at (c.in_default.ensures.none query) in
+    let none = none-found eq itself same query input hint text bank index stored.placed c.text-2.result.now c.text-2.ensures c.bucket_of-bucket.result at (c.in-Err.ensures.absent query) in
     let ok = c.in_ok-put.ensures.ok in
     let is = c.in_ok-again.ensures.cases ∙ c.in_ok-kept.ensures in
-    let here = at ∙ sym (bucket-result eq itself same query input hint text bank) in
-    run-shown eq itself same query (bucket_of input hint) used index numbers stored text bank none c.put.new.used c.put.new.index c.in_ok-again.again c.bucket_of-bucket.result ok.0 (drafts_of c.put.new.drafts.items) is here ok.1 ok.2 ∙ ap (λ s. grown s (result_over eq query (text, bank) ∷ [])) c.self.view_is
+    let here = c.in-Err.ensures.bucket ∙ at ∙ sym (bucket-result eq itself same query input hint text bank) in
+    run-shown eq itself same query (bucket_of input hint) used index numbers stored text bank none c.put.new.used c.put.new.index c.in_ok-again.again c.in-Err.gap.bucket ok.0 (drafts_of c.put.new.drafts.items) is here ok.1 ok.2 ∙ ap (λ s. grown s (result_over eq query (text, bank) ∷ [])) c.self.view_is
 
 pub returns-clause-meter : goal.returns-clause-meter
 returns-clause-meter g c =
@@ -228,5 +226,5 @@ returns-clause-meter g c =
     let text = g.T.Task.text_of c.args.task.now in
     let bank = g.B.Bank.at c.args.bank.now in
     let at = c.bucket_of-bucket.ensures ∙ (λ i. bucket_at input (c.text.ensures i) (c.hint.ensures i)) in
-    let none = none-found eq itself same query input hint text bank index stored.placed c.text-2.result.now c.text-2.ensures c.bucket_of-bucket.result at (c.in_default.ensures.none query) in
+    let none = none-found eq itself same query input hint text bank index stored.placed c.text-2.result.now c.text-2.ensures c.bucket_of-bucket.result at (c.in-Err.ensures.absent query) in
     inr (subst (λ s. NoneAlikeAt (text, bank) (results_in s)) c.self.view_is (run-alike eq itself same query (bucket_of input hint) used index numbers stored text bank none), c.raise.ensures ∙ ap (λ kind. raised kind c.args.meter.now) c.KIND.ensures)
