@@ -12,7 +12,7 @@ use Rattle.std.proofs.lemmas.List.Elements.{All-cons, All-contains, All-contains
 use Rattle.slab.specs.Slab.{Slab, get}
 use Rattle.idl_store.specs.Buckets.{AddsOne}
 use Rattle.idl_memo.specs.Kept.{Kept, IsSound}
-use Rattle.idl_store.specs.Numbers.{AreFewer, AreMore, AreUsed, IsIndexOf, IsPlaced, IsPut, IsStored, joined, kept_at, lists_of, placed_of, result_of, shown, times, uses_of, valued, with_bucket}
+use Rattle.idl_store.specs.Numbers.{AreFewer, AreMore, AreUsed, IsIndexOf, IsSoundAt, IsPut, IsStored, joined, kept_at, lists_of, valued_at, result_of, shown, times, uses_of, valued, with_bucket}
 use Rattle.idl_memo.specs.Query.{Query}
 use Rattle.idl_store.specs.Stored.{Stored, begun, grown, results_in, results_of_drafts, with_results}
 use Rattle.idl_store.specs.declared.numbers.Used.{Used}
@@ -51,7 +51,7 @@ module _ {X : Type 0} (of : ℕ → Option X) where
       by (inl e) later = rw (sym (ap of e) ∙ h) (first (filter_map of ns))
       by (inr e) later = behind (of m) (filter_map of ns) (later (omega (arith, there, times_other n m e, times-append n (m ∷ []) ns)))
 
-module _ {K V T O X : Type 0} (eq : K → K → Bool) (query : T → Query K V X O) (bucket : Kept K V T O → ℕ) (used : Slab (Used (Rc (Kept K V T O) Global))) (index : List ((Kept K V T O × ℕ) × ℕ)) (numbers : Stored ℕ) (stored : IsStored eq query bucket used index numbers) where
+module _ {K V T O X : Type 0} {eq : K → K → Bool} {query : T → Query K V X O} {bucket : Kept K V T O → ℕ} {used : Slab (Used (Rc (Kept K V T O) Global))} {index : List ((Kept K V T O × ℕ) × ℕ)} {numbers : Stored ℕ} (stored : IsStored eq query bucket used index numbers) where
   -- a number of the lists and drafts is taken
   pub taken : (n : ℕ) → 0 < times n (results_in numbers) → IsSome (get used n)
   taken n there = some_used (get used n) (omega (arith, there, stored.counted n))
@@ -65,7 +65,7 @@ module _ {K V T O X : Type 0} (eq : K → K → Bool) (query : T → Query K V X
       by (Some u) some = refl
 
   -- what stands for a number that has a place
-  placed-result : (n : ℕ) (k : Kept K V T O × ℕ) → placed_of used n ≡ Some k → result_of used n ≡ Some k.0
+  placed-result : (n : ℕ) (k : Kept K V T O × ℕ) → valued_at used n ≡ Some k → result_of used n ≡ Some k.0
   placed-result n k h = by (kept_at used n) h
     where
       by : (o : Option (Rc (Kept K V T O) Global × ℕ)) → option_map valued o ≡ Some k → option_map (λ (r : Rc (Kept K V T O) Global × ℕ). r.0.value) o ≡ Some k.0
@@ -75,7 +75,7 @@ module _ {K V T O X : Type 0} (eq : K → K → Bool) (query : T → Query K V X
   -- a result that is found is among them
   pub found-in : (e : (Kept K V T O × ℕ) × ℕ) → Contains index e → Contains (results_in (shown (result_of used) numbers)) e.0.0
   found-in e c =
-      let at : placed_of used e.1 ≡ Some e.0 = (stored.indexed e.1 e.0).0 c in
+      let at : valued_at used e.1 ≡ Some e.0 = (stored.indexed e.1 e.0).0 c in
       let there : 0 < times e.1 (results_in numbers) = omega (arith, stored.counted e.1, stored.needed e.1 (is_taken (get used e.1) at)) in
       subst (λ xs. Contains xs e.0.0) (sym (results_in-shown (result_of used) numbers)) (shown-contains (result_of used) (results_in numbers) e.1 e.0.0 there (placed-result e.1 e.0 at))
     where
@@ -99,7 +99,7 @@ module _ {K V T O X : Type 0} (eq : K → K → Bool) (query : T → Query K V X
           absurd (cc)
       by n x (Some r) e h =
           let k : Kept K V T O × ℕ = (r.0.value, r.1) in
-          let at : placed_of used n ≡ Some k = ap (option_map valued) e in
+          let at : valued_at used n ≡ Some k = ap (option_map valued) e in
           let same : Some r.0.value ≡ Some x = sym (ap (option_map (λ (r : Rc (Kept K V T O) Global × ℕ). r.0.value)) e) ∙ h in
           let is : r.0.value ≡ x = cc in
           subst P is (All-contains (λ e. P e.0.0) index (k, n) all ((stored.indexed n k).1 at))
@@ -110,7 +110,7 @@ module _ {K V T O X : Type 0} (eq : K → K → Bool) (query : T → Query K V X
     counted = λ n. stored.counted n ∙ ap (λ xs. times n (joined numbers.lists ++ xs)) (sym more);
     needed = stored.needed;
     indexed = stored.indexed;
-    placed = stored.placed;
+    sound = stored.sound;
   }
     where
       more : results_of_drafts (numbers.drafts ++ (at, []) ∷ []) ≡ results_of_drafts numbers.drafts
@@ -123,7 +123,7 @@ module _ {K V T O X : Type 0} (eq : K → K → Bool) (query : T → Query K V X
       counted = λ m. omega (arith, more.uses m, stored.counted m, times-append m (joined numbers.lists) (results_of_drafts numbers.drafts), times-append m (joined numbers.lists) (results_of_drafts (with_results numbers.drafts (n ∷ []))));
       needed = λ m some. needed_by m some;
       indexed = indexed-same used new index more.kept stored.indexed;
-      placed = stored.placed;
+      sound = stored.sound;
     }
       where
         grows : (m : ℕ) (ds : List (ℕ × List ℕ)) → times m (results_of_drafts ds) ≤ times m (results_of_drafts (with_results ds (n ∷ [])))
@@ -156,7 +156,7 @@ module _ {K V T O X : Type 0} (eq : K → K → Bool) (query : T → Query K V X
         counted = λ n. ap (λ o. elim o [ None ↦ 0 | Some u ↦ u.uses ]) (same n) ∙ stored.counted n;
         needed = λ n some. needed_by n some;
         indexed = indexed-same used new index (λ n. ap (option_map with_bucket) (same n)) stored.indexed;
-        placed = stored.placed;
+        sound = stored.sound;
       }
         where
           needed_by : (n : ℕ) → IsSome (get new n) → 0 < uses_of new n
@@ -180,13 +180,13 @@ module _ {K V T O X : Type 0} (eq : K → K → Bool) (query : T → Query K V X
         counted = λ m. counted_by m (cases_eq m n);
         needed = λ m there. needed_by m there (cases_eq m n);
         indexed = indexed-put used new index after n (r.value, bucket r.value) put.others free here adds stored.indexed;
-        placed = All-weaker (Contains after) (λ e. IsPlaced eq query bucket e.0) (λ e c. placed_by e (added_cases adds e c)) after (All-contains_itself after);
+        sound = All-weaker (Contains after) (λ e. IsSoundAt eq query bucket e.0) (λ e c. placed_by e (added_cases adds e c)) after (All-contains_itself after);
       }
         where
-          free : placed_of used n ≡ None
+          free : valued_at used n ≡ None
           free = ap (λ o. option_map valued (option_map with_bucket o)) put.free
 
-          here : placed_of new n ≡ Some (r.value, bucket r.value)
+          here : valued_at new n ≡ Some (r.value, bucket r.value)
           here = ap (λ o. option_map valued (option_map with_bucket o)) put.changed
 
           uses_at : Option (Used (Rc (Kept K V T O) Global)) → ℕ
@@ -212,9 +212,9 @@ module _ {K V T O X : Type 0} (eq : K → K → Bool) (query : T → Query K V X
               let was : uses_of new m ≡ uses_of used m = ap (λ o. elim o [ None ↦ 0 | Some u ↦ u.uses ]) (put.others m e) in
               omega (arith, was, stored.needed m (subst IsSome (put.others m e) there))
 
-          placed_by : (e : (Kept K V T O × ℕ) × ℕ) → (◌≡◌ {A = (Kept K V T O × ℕ) × ℕ} e ((r.value, bucket r.value), n)) ⊎ Contains index e → IsPlaced eq query bucket e.0
-          placed_by e (inl h) = subst (λ (k : Kept K V T O × ℕ). IsPlaced eq query bucket k) (sym (ap (λ x. x.0) h)) (record { sound = sound; at = refl })
-          placed_by e (inr c) = All-contains (λ e. IsPlaced eq query bucket e.0) index e stored.placed c
+          placed_by : (e : (Kept K V T O × ℕ) × ℕ) → (◌≡◌ {A = (Kept K V T O × ℕ) × ℕ} e ((r.value, bucket r.value), n)) ⊎ Contains index e → IsSoundAt eq query bucket e.0
+          placed_by e (inl h) = subst (λ (k : Kept K V T O × ℕ). IsSoundAt eq query bucket k) (sym (ap (λ x. x.0) h)) (record { sound = sound; at = refl })
+          placed_by e (inr c) = All-contains (λ e. IsSoundAt eq query bucket e.0) index e stored.sound c
 
       -- numbers less
       pub stored-fewer : (rest : Stored ℕ) (gone : List ℕ) → ((n : ℕ) → times n (results_in numbers) ≡ times n (results_in rest) + times n gone) → AreFewer used new gone → AreUsed new → IsIndexOf new after → IsStored eq query bucket new after rest
@@ -222,7 +222,7 @@ module _ {K V T O X : Type 0} (eq : K → K → Bool) (query : T → Query K V X
         counted = λ n. omega (arith, fewer.uses n, stored.counted n, parts n);
         needed = needed;
         indexed = indexed;
-        placed = all-fewer used new (IsPlaced eq query bucket) index after gone fewer needed stored.indexed indexed stored.placed;
+        sound = all-fewer used new (IsSoundAt eq query bucket) index after gone fewer needed stored.indexed indexed stored.sound;
       }
 
       -- and what the others stand for is what it was

@@ -8,7 +8,7 @@ use Rattle.std.specs.declared.cmp.Ordering.TheVariants.{Equal}
 use Rattle.std.proofs.lemmas.List.Elements.{All-contains, All-contains_itself, All-filter, All-weaker}
 use Rattle.idl_store.specs.Buckets.{bucket_at, bucket_of}
 use Rattle.idl_memo.specs.Kept.{Kept, IsAlike, IsSound, result_over}
-use Rattle.idl_store.specs.Numbers.{IsPlaced}
+use Rattle.idl_store.specs.Numbers.{IsSoundAt}
 use Rattle.idl_store.specs.Index.{IsGap, IsGapAmong, those_of}
 use Rattle.idl_store.specs.Order.{place_cmp, results_cmp}
 use Rattle.idl_store.specs.declared.index.Gap.{Gap}
@@ -34,20 +34,20 @@ module _ {K V T O X : Type 0} (eq : K → K → Bool) (itself : (x : K) → eq x
   bucket-result = ap (λ e. bucket_at input text (hint text e)) (first-run eq (query text) bank)
 
   -- and so is whatever is alike there
-  pub bucket-alike : (kept : Kept K V T O × ℕ) → IsPlaced eq query (bucket_of input hint) kept → IsAlike text bank kept.0 → kept.1 ≡ bucket
+  pub bucket-alike : (kept : Kept K V T O × ℕ) → IsSoundAt eq query (bucket_of input hint) kept → IsAlike text bank kept.0 → kept.1 ≡ bucket
   bucket-alike kept placed alike =
       placed.at ∙ ap (bucket_of input hint) (result_over-alike eq query itself same (text, bank) kept.0 placed.sound alike) ∙ bucket-result
 
-  module _ (index : List ((Kept K V T O × ℕ) × ℕ)) (placed : All (λ e. IsPlaced eq query (bucket_of input hint) e.0) index) where
+  module _ (index : List ((Kept K V T O × ℕ) × ℕ)) (placed : All (λ e. IsSoundAt eq query (bucket_of input hint) e.0) index) where
     pub all-sound : All (λ e. IsSound eq query e.0.0) index
-    all-sound = All-weaker (λ e. IsPlaced eq query (bucket_of input hint) e.0) (λ e. IsSound eq query e.0.0) (λ e p. p.sound) index placed
+    all-sound = All-weaker (λ e. IsSoundAt eq query (bucket_of input hint) e.0) (λ e. IsSound eq query e.0.0) (λ e p. p.sound) index placed
 
     -- where none is alike in the bucket, none is
     pub none-alike : (b : ℕ) → b ≡ bucket → All (λ e. e.0.1 ≡ b → ¬ IsAlike text bank e.0.0) index → All (λ e. ¬ IsAlike text bank e.0.0) index
     none-alike b is none =
         All-weaker (Contains index) (λ e. ¬ IsAlike text bank e.0.0) (λ e c alike.
         All-contains (λ e. e.0.1 ≡ b → ¬ IsAlike text bank e.0.0) index e none c
-        (bucket-alike e.0 (All-contains (λ e. IsPlaced eq query (bucket_of input hint) e.0) index e placed c) alike ∙ sym is) alike) index (All-contains_itself index)
+        (bucket-alike e.0 (All-contains (λ e. IsSoundAt eq query (bucket_of input hint) e.0) index e placed c) alike ∙ sym is) alike) index (All-contains_itself index)
 
     -- the same by what a look-up in the bucket tells
     pub none-found : (t : T) → t ≡ text → (b : ℕ) → b ≡ bucket → (All (λ e. IsSound eq query e.0.0) index → All (λ e. e.0.1 ≡ b → ¬ IsAlike t bank e.0.0) index) → All (λ e. ¬ IsAlike text bank e.0.0) index

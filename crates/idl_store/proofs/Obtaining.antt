@@ -8,7 +8,7 @@ use Rattle.std.proofs.lemmas.List.Elements.{All-contains}
 use Rattle.slab.specs.Slab.{Slab, get}
 use Rattle.idl_store.specs.Buckets.{AddsOne}
 use Rattle.idl_memo.specs.Kept.{Kept, IsAlike, IsSound, NoneAlikeAt, SomeAlikeAt, result_over}
-use Rattle.idl_store.specs.Numbers.{AreMore, IsPlaced, IsPut, IsStored, result_of, shown, times, uses_of, with_bucket}
+use Rattle.idl_store.specs.Numbers.{AreMore, IsSoundAt, IsPut, IsStored, result_of, shown, times, uses_of, with_bucket}
 use Rattle.idl_memo.specs.Query.{Query}
 use Rattle.idl_store.specs.Stored.{Stored, grown, results_in, results_of_drafts, with_results}
 use Rattle.idl_store.specs.declared.numbers.Used.{Used}
@@ -21,8 +21,8 @@ pub on_ok : {X Y P : Type 0} (r : Result X Y) → P → OnOk r P
 on_ok (Ok x) p = p
 on_ok (Err y) p = tt
 
-module _ {K V T O X : Type 0} (eq : K → K → Bool) (itself : (x : K) → eq x x ≡ true) (same : (x y : K) → eq x y ≡ true → x ≡ y) (query : T → Query K V X O) (bucket : Kept K V T O → ℕ)
-    (used : Slab (Used (Rc (Kept K V T O) Global))) (index : List ((Kept K V T O × ℕ) × ℕ)) (numbers : Stored ℕ) (stored : IsStored eq query bucket used index numbers) (text : T) (bank : K → V) where
+module _ {K V T O X : Type 0} {eq : K → K → Bool} (itself : (x : K) → eq x x ≡ true) (same : (x y : K) → eq x y ≡ true → x ≡ y) {query : T → Query K V X O} {bucket : Kept K V T O → ℕ}
+    {used : Slab (Used (Rc (Kept K V T O) Global))} {index : List ((Kept K V T O × ℕ) × ℕ)} {numbers : Stored ℕ} (stored : IsStored eq query bucket used index numbers) (text : T) (bank : K → V) where
   abbrev here : Kept K V T O
   here = result_over eq query (text, bank)
 
@@ -37,11 +37,11 @@ module _ {K V T O X : Type 0} (eq : K → K → Bool) (itself : (x : K) → eq x
 
     is_here : one.0.0 ≡ here
     is_here =
-        let placed = All-contains (λ e. IsPlaced eq query bucket e.0) index one stored.placed among in
+        let placed = All-contains (λ e. IsSoundAt eq query bucket e.0) index one stored.sound among in
         result_over-alike eq query itself same (text, bank) one.0.0 placed.sound found.4.0
 
     pub found-here : result_of used number ≡ Some here
-    found-here = ap (result_of used) (sym found.4.1) ∙ found-result eq query bucket used index numbers stored one among ∙ ap Some is_here
+    found-here = ap (result_of used) (sym found.4.1) ∙ found-result stored one among ∙ ap Some is_here
 
     pub found-taken : IsSome (get used number)
     found-taken = by (get used number) refl
@@ -55,12 +55,12 @@ module _ {K V T O X : Type 0} (eq : K → K → Bool) (itself : (x : K) → eq x
 
     pub found-alike : SomeAlikeAt (text, bank) (results_in (shown (result_of used) numbers))
     found-alike =
-        let c = found-in eq query bucket used index numbers stored one among in
+        let c = found-in stored one among in
         (c.0, one.0.0, c.1, c.2, found.4.0)
 
     module _ (new : Slab (Used (Rc (Kept K V T O) Global))) (more : AreMore used new (results_of_drafts numbers.drafts) (results_of_drafts (with_results numbers.drafts (number ∷ [])))) where
       pub found-stored : IsStored eq query bucket new index (grown numbers (number ∷ []))
-      found-stored = stored-again eq query bucket used index numbers stored new number more
+      found-stored = stored-again stored new number more
 
       pub found-shown : shown (result_of new) (grown numbers (number ∷ [])) ≡ grown (shown (result_of used) numbers) (here ∷ [])
       found-shown =
@@ -85,7 +85,7 @@ module _ {K V T O X : Type 0} (eq : K → K → Bool) (itself : (x : K) → eq x
 
   module _ (none : All (λ e. ¬ IsAlike text bank e.0.0) index) where
     pub run-alike : NoneAlikeAt (text, bank) (results_in (shown (result_of used) numbers))
-    run-alike = all-in eq query bucket used index numbers stored (λ k. ¬ IsAlike text bank k) none
+    run-alike = all-in stored (λ k. ¬ IsAlike text bank k) none
 
     module _ (new : Slab (Used (Rc (Kept K V T O) Global))) (r : Rc (Kept K V T O) Global) (n : ℕ) (is : r.value ≡ here) (put : IsPut used new r (bucket r.value) n) where
       pub put-shown : shown (result_of new) (grown numbers (n ∷ [])) ≡ grown (shown (result_of used) numbers) (here ∷ [])
@@ -117,7 +117,7 @@ module _ {K V T O X : Type 0} (eq : K → K → Bool) (itself : (x : K) → eq x
       run-stored some adds =
           let sound : IsSound eq query r.value = subst (λ (k : Kept K V T O). IsSound eq query k) (sym is) (bank, refl) in
           subst (λ (ds : List (ℕ × List ℕ)). IsStored eq query bucket new after (record { lists = numbers.lists; drafts = ds })) (sym drafts_are)
-          (stored-put eq query bucket used index numbers stored new after r n some put_there (subst (λ (m : ℕ). AddsOne index after ((r.value, m), n)) b_is adds) sound)
+          (stored-put stored new after r n some put_there (subst (λ (m : ℕ). AddsOne index after ((r.value, m), n)) b_is adds) sound)
 
       pub run-shown : shown (result_of new) (record { lists = numbers.lists; drafts = drafts }) ≡ grown (shown (result_of used) numbers) (here ∷ [])
       run-shown = ap (λ (ds : List (ℕ × List ℕ)). shown (result_of new) (record { lists = numbers.lists; drafts = ds })) drafts_are ∙ put-shown new r n is put_there

@@ -1,10 +1,10 @@
 -- What stands at a place of a list of a store.
-use Rattle.std.proofs.Common.{◌≡◌, ℕ, ◌<◌, Bool, List, [], ◌∷◌, Some, None, Vec, ap, arith, length, refl, sym, ◌∙◌}
+use Rattle.std.proofs.Common.{◌≡◌, ℕ, ◌<◌, Bool, List, [], ◌∷◌, Option, Some, None, Vec, ap, arith, length, refl, sym, ◌∙◌}
 use Rattle.std.specs.Global.{Global}
 use Rattle.std.specs.List.{slice_get}
-use Rattle.std.specs.Option.{option_map, option_to_list}
+use Rattle.std.specs.Option.{option_map, option_to_list, unwrap_or}
 use Rattle.std.proofs.lemmas.List.{append-nil}
-use Rattle.std.proofs.lemmas.Option.{slice_get-map}
+use Rattle.std.proofs.lemmas.Option.{slice_get-map, unwrap_or-slice_get}
 use Rattle.std.specs.Prelude.{IsSome}
 use Rattle.std.specs.declared.rc.Rc.{Rc}
 use Rattle.slab.specs.Slab.{Slab, get}
@@ -21,14 +21,11 @@ use Rattle.idl_store.proofs.Times.{times-append, times_at}
 pub result-under : {K V T O : Type 0} (used : Slab (Used (Rc (Kept K V T O) Global))) (n : ℕ) (u : Used (Rc (Kept K V T O) Global)) → get used n ≡ Some u → result_of used n ≡ Some u.result.value
 result-under {K} {V} {T} {O} used n u h = ap (λ o. option_map (λ (r : Rc (Kept K V T O) Global × ℕ). r.0.value) (option_map with_bucket o)) h
 
--- how many are in a list of vectors
-pub length-there : (lists : List (Vec ℕ Global)) (drafts : List (ℕ × List ℕ)) (list : ℕ) (v : Vec ℕ Global) → slice_get lists list ≡ Some v → length (list_at (record { lists = lists_of lists; drafts = drafts }) list) ≡ length v.items
-length-there lists drafts list v h =
-    ap (λ o. length {A = ℕ} (elim o [ None ↦ [] | Some numbers ↦ numbers ])) (slice_get-map (λ (l : Vec ℕ Global). l.items) lists list ∙ ap (option_map (λ (l : Vec ℕ Global). l.items)) h)
-
-pub length-absent : (lists : List (Vec ℕ Global)) (drafts : List (ℕ × List ℕ)) (list : ℕ) → slice_get lists list ≡ None → length (list_at (record { lists = lists_of lists; drafts = drafts }) list) ≡ 0
-length-absent lists drafts list h =
-    ap (λ o. length {A = ℕ} (elim o [ None ↦ [] | Some numbers ↦ numbers ])) (slice_get-map (λ (l : Vec ℕ Global). l.items) lists list ∙ ap (option_map (λ (l : Vec ℕ Global). l.items)) h)
+-- the numbers of a list of vectors
+pub list_at-vector : (lists : List (Vec ℕ Global)) (list : ℕ) (found : Option (Vec ℕ Global)) → slice_get lists list ≡ found → list_at (lists_of lists) list ≡ unwrap_or (option_map (λ (l : Vec ℕ Global). l.items) found) []
+list_at-vector lists list found h =
+    sym (unwrap_or-slice_get (lists_of lists) list [])
+    ∙ ap (λ (o : Option (List ℕ)). unwrap_or o []) (slice_get-map (λ (l : Vec ℕ Global). l.items) lists list ∙ ap (option_map (λ (l : Vec ℕ Global). l.items)) h)
 
 -- nothing more
 with_results-none : {X : Type 0} (ds : List (ℕ × List X)) → with_results ds [] ≡ ds
@@ -39,24 +36,24 @@ with_results-none (d ∷ e ∷ ds) = ap (λ ds. d ∷ ds) (with_results-none (e 
 pub grown-nothing : {X : Type 0} (s : Stored X) → grown s [] ≡ s
 grown-nothing s = ap (λ ds. record { lists = s.lists; drafts = ds }) (with_results-none s.drafts)
 
-module _ {K V T O X : Type 0} (eq : K → K → Bool) (query : T → Query K V X O) (bucket : Kept K V T O → ℕ) (used : Slab (Used (Rc (Kept K V T O) Global))) (index : List ((Kept K V T O × ℕ) × ℕ)) (numbers : Stored ℕ) (stored : IsStored eq query bucket used index numbers) where
+module _ {K V T O X : Type 0} {eq : K → K → Bool} {query : T → Query K V X O} {bucket : Kept K V T O → ℕ} {used : Slab (Used (Rc (Kept K V T O) Global))} {index : List ((Kept K V T O × ℕ) × ℕ)} {numbers : Stored ℕ} (stored : IsStored eq query bucket used index numbers) where
   in_all : (n : ℕ) → 0 < times n (joined numbers.lists) → 0 < times n (results_in numbers)
   in_all n there = omega (arith, there, times-append n (joined numbers.lists) (results_of_drafts numbers.drafts))
 
   all_stand : (n : ℕ) → 0 < times n (joined numbers.lists) → IsSome (result_of used n)
-  all_stand n there = stands-for eq query bucket used index numbers stored n (in_all n there)
+  all_stand n there = stands-for stored n (in_all n there)
 
   -- the result there is what its number stands for
   pub result-read : (list place : ℕ) → result_at (shown (result_of used) numbers) list place ≡ elim (item_at numbers.lists list place) [ None ↦ None | Some n ↦ result_of used n ]
   result-read list place = item_at-shown (result_of used) numbers.lists list place all_stand
 
   -- so many there are
-  pub length-read : (list : ℕ) → length (list_at (shown (result_of used) numbers) list) ≡ length (list_at numbers list)
+  pub length-read : (list : ℕ) → length (list_at (shown (result_of used) numbers).lists list) ≡ length (list_at numbers.lists list)
   length-read list = list_at-shown (result_of used) numbers.lists list all_stand
 
   -- the number there is taken
   pub taken-read : (list place n : ℕ) → item_at numbers.lists list place ≡ Some n → IsSome (get used n)
-  taken-read list place n h = taken eq query bucket used index numbers stored n (in_all n (times_at n numbers.lists list place h))
+  taken-read list place n h = taken stored n (in_all n (times_at n numbers.lists list place h))
 
   -- and stands for the result there
   pub result-at_number : (list place n : ℕ) → item_at numbers.lists list place ≡ Some n → result_at (shown (result_of used) numbers) list place ≡ result_of used n

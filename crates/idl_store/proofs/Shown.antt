@@ -5,7 +5,7 @@ use Rattle.std.proofs.lemmas.List.Elements.{filter_map-append}
 use Rattle.std.specs.List.{cons_option, filter_map, flat_map, fold, slice_get}
 use Rattle.std.specs.Prelude.{IsSome, is_some}
 use Rattle.idl_store.specs.Numbers.{joined, shown, times}
-use Rattle.idl_store.specs.Stored.{Stored, begun, committed, grown, item_at, placed, removed, results_in, results_of_drafts, with_results}
+use Rattle.idl_store.specs.Stored.{Stored, begun, committed, grown, item_at, list_at, placed, removed, results_in, results_of_drafts, with_results}
 use Rattle.idl_store.proofs.Times.{times-append, times_first}
 
 module _ {X : Type 0} (of : ℕ → Option X) where
@@ -144,7 +144,7 @@ module _ {X : Type 0} (of : ℕ → Option X) where
   item_at-shown (l ∷ lists) (suc list) place h = item_at-shown lists list place (λ n there. h n (omega (arith, there, times-append n l (joined lists))))
 
   -- so many are in a list
-  pub list_at-shown : (lists : List (List ℕ)) (list : ℕ) → ((n : ℕ) → 0 < times n (joined lists) → IsSome (of n)) → length {A = X} (elim (slice_get (map (filter_map of) lists) list) [ None ↦ [] | Some results ↦ results ]) ≡ length {A = ℕ} (elim (slice_get lists list) [ None ↦ [] | Some numbers ↦ numbers ])
+  pub list_at-shown : (lists : List (List ℕ)) (list : ℕ) → ((n : ℕ) → 0 < times n (joined lists) → IsSome (of n)) → length (list_at (map (filter_map of) lists) list) ≡ length (list_at lists list)
   list_at-shown [] list h = refl
   list_at-shown (l ∷ lists) zero h = length-shown l (λ n there. h n (omega (arith, there, times-append n l (joined lists))))
   list_at-shown (l ∷ lists) (suc list) h = list_at-shown lists list (λ n there. h n (omega (arith, there, times-append n l (joined lists))))

@@ -14,7 +14,7 @@ use Rattle.slab.specs.Slab.{Slab, Updates, get, with_value}
 use Rattle.slab.proofs.SlabLemmas.{Updates-with_value}
 use Rattle.idl_store.specs.Buckets.{AddsOne}
 use Rattle.idl_memo.specs.Kept.{Kept}
-use Rattle.idl_store.specs.Numbers.{AreFewer, AreMore, AreUsed, IsIndexOf, kept_at, placed_of, times, uses_of, valued, with_bucket}
+use Rattle.idl_store.specs.Numbers.{AreFewer, AreMore, AreUsed, IsIndexOf, kept_at, valued_at, times, uses_of, valued, with_bucket}
 use Rattle.idl_store.specs.declared.numbers.Used.{Used}
 use Rattle.idl_store.proofs.Times.{times-append}
 
@@ -123,7 +123,7 @@ module _ {R : Type 0} (old new : Slab (Used R)) (number : ℕ) (u : Used R) (her
 pub indexed-alone : {K V T O : Type 0} (used : Slab (Used (Rc (Kept K V T O) Global))) (index : List ((Kept K V T O × ℕ) × ℕ)) (number : ℕ) → IsIndexOf used index → (e f : (Kept K V T O × ℕ) × ℕ) → Contains index e → Contains index f → e.1 ≡ number → f.1 ≡ number → e ≡ f
 indexed-alone used index number indexed e f c d is is' =
     let one : e.1 ≡ f.1 = is ∙ sym is' in
-    let both : Some e.0 ≡ Some f.0 = sym ((indexed e.1 e.0).0 c) ∙ ap (placed_of used) one ∙ (indexed f.1 f.0).0 d in
+    let both : Some e.0 ≡ Some f.0 = sym ((indexed e.1 e.0).0 c) ∙ ap (valued_at used) one ∙ (indexed f.1 f.0).0 d in
     let same : e.0 ≡ f.0 = cc in
     (λ i. (same i, one i))
 
@@ -134,27 +134,27 @@ module _ {K V T O : Type 0} (old new : Slab (Used (Rc (Kept K V T O) Global))) w
       subst (λ o. Contains index (kept, n) ↔ (option_map valued o ≡ Some kept)) (sym (same n)) (indexed n kept)
 
   module _ (before after : List ((Kept K V T O × ℕ) × ℕ)) (number : ℕ) (k : Kept K V T O × ℕ) (others : (n : ℕ) → n ≢ number → get new n ≡ get old n) where
-    placed_other : (n : ℕ) → n ≢ number → placed_of new n ≡ placed_of old n
+    placed_other : (n : ℕ) → n ≢ number → valued_at new n ≡ valued_at old n
     placed_other n e = ap (λ o. option_map valued (option_map with_bucket o)) (others n e)
 
     -- one that goes is found no more
-    pub indexed-gone : placed_of old number ≡ Some k → get new number ≡ None → AddsOne after before (k, number) → ¬ Contains after (k, number) → IsIndexOf old before → IsIndexOf new after
+    pub indexed-gone : valued_at old number ≡ Some k → get new number ≡ None → AddsOne after before (k, number) → ¬ Contains after (k, number) → IsIndexOf old before → IsIndexOf new after
     indexed-gone here gone adds out indexed n kept = (to (cases_eq n number), from (cases_eq n number))
       where
-        none : placed_of new number ≡ None
+        none : valued_at new number ≡ None
         none = ap (λ o. option_map valued (option_map with_bucket o)) gone
 
-        to : (n ≡ number) ⊎ (n ≢ number) → Contains after (kept, n) → placed_of new n ≡ Some kept
+        to : (n ≡ number) ⊎ (n ≢ number) → Contains after (kept, n) → valued_at new n ≡ Some kept
         to (inl e) c =
-            let was : placed_of old n ≡ Some kept = (indexed n kept).0 (added_stays adds (kept, n) c) in
-            let at : placed_of old n ≡ Some k = rw e here in
+            let was : valued_at old n ≡ Some kept = (indexed n kept).0 (added_stays adds (kept, n) c) in
+            let at : valued_at old n ≡ Some k = rw e here in
             let same : kept ≡ k = cc in
             absurd (out (subst (λ (x : (Kept K V T O × ℕ) × ℕ). Contains after x) (λ i. (same i, e i)) c))
         to (inr e) c = placed_other n e ∙ (indexed n kept).0 (added_stays adds (kept, n) c)
 
-        from : (n ≡ number) ⊎ (n ≢ number) → placed_of new n ≡ Some kept → Contains after (kept, n)
+        from : (n ≡ number) ⊎ (n ≢ number) → valued_at new n ≡ Some kept → Contains after (kept, n)
         from (inl e) h =
-            let nothing : placed_of new n ≡ None = rw e none in
+            let nothing : valued_at new n ≡ None = rw e none in
             absurd (cc)
         from (inr e) h = left (added_cases adds (kept, n) ((indexed n kept).1 (sym (placed_other n e) ∙ h)))
           where
@@ -163,23 +163,23 @@ module _ {K V T O : Type 0} (old new : Slab (Used (Rc (Kept K V T O) Global))) w
             left (inr c) = c
 
     -- one that comes is found
-    pub indexed-put : placed_of old number ≡ None → placed_of new number ≡ Some k → AddsOne before after (k, number) → IsIndexOf old before → IsIndexOf new after
+    pub indexed-put : valued_at old number ≡ None → valued_at new number ≡ Some k → AddsOne before after (k, number) → IsIndexOf old before → IsIndexOf new after
     indexed-put free here adds indexed n kept = (to (cases_eq n number), from (cases_eq n number))
       where
-        to : (n ≡ number) ⊎ (n ≢ number) → Contains after (kept, n) → placed_of new n ≡ Some kept
+        to : (n ≡ number) ⊎ (n ≢ number) → Contains after (kept, n) → valued_at new n ≡ Some kept
         to o c = by o (added_cases adds (kept, n) c)
           where
-            by : (n ≡ number) ⊎ (n ≢ number) → (◌≡◌ {A = (Kept K V T O × ℕ) × ℕ} (kept, n) (k, number)) ⊎ Contains before (kept, n) → placed_of new n ≡ Some kept
-            by o (inl same) = ap (placed_of new) (ap (λ x. x.1) same) ∙ here ∙ ap (λ x. Some x.0) (sym same)
+            by : (n ≡ number) ⊎ (n ≢ number) → (◌≡◌ {A = (Kept K V T O × ℕ) × ℕ} (kept, n) (k, number)) ⊎ Contains before (kept, n) → valued_at new n ≡ Some kept
+            by o (inl same) = ap (valued_at new) (ap (λ x. x.1) same) ∙ here ∙ ap (λ x. Some x.0) (sym same)
             by (inl e) (inr c) =
-                let was : placed_of old n ≡ Some kept = (indexed n kept).0 c in
-                let nothing : placed_of old n ≡ None = rw e free in
+                let was : valued_at old n ≡ Some kept = (indexed n kept).0 c in
+                let nothing : valued_at old n ≡ None = rw e free in
                 absurd (cc)
             by (inr e) (inr c) = placed_other n e ∙ (indexed n kept).0 c
 
-        from : (n ≡ number) ⊎ (n ≢ number) → placed_of new n ≡ Some kept → Contains after (kept, n)
+        from : (n ≡ number) ⊎ (n ≢ number) → valued_at new n ≡ Some kept → Contains after (kept, n)
         from (inl e) h =
-            let at : placed_of new n ≡ Some k = rw e here in
+            let at : valued_at new n ≡ Some k = rw e here in
             let same : k ≡ kept = cc in
             subst (λ (x : (Kept K V T O × ℕ) × ℕ). Contains after x) (λ i. (same i, sym e i)) (added_item adds)
         from (inr e) h = added_stays adds (kept, n) ((indexed n kept).1 (sym (placed_other n e) ∙ h))
@@ -188,16 +188,16 @@ module _ {K V T O : Type 0} (old new : Slab (Used (Rc (Kept K V T O) Global))) w
   pub indexed-removed : (before after : List ((Kept K V T O × ℕ) × ℕ)) (number : ℕ) (last : Used (Rc (Kept K V T O) Global)) → get old number ≡ Some last → Updates old new number None → ((kept : Kept K V T O) → Contains before ((kept, last.bucket), number) → AddsOne after before ((kept, last.bucket), number)) → ((kept : Kept K V T O) → ¬ Contains after ((kept, last.bucket), number)) → IsIndexOf old before → IsIndexOf new after
   indexed-removed before after number last was updates adds out indexed =
       let k : Kept K V T O × ℕ = (last.result.value, last.bucket) in
-      let here : placed_of old number ≡ Some k = ap (λ o. option_map valued (option_map with_bucket o)) was in
+      let here : valued_at old number ≡ Some k = ap (λ o. option_map valued (option_map with_bucket o)) was in
       indexed-gone before after number k updates.others here updates.changed (adds k.0 ((indexed number k).1 here)) (out k.0) indexed
 
   -- what holds of all that was found holds of what is found after some went
   pub all-fewer : (P : Kept K V T O × ℕ → Type 0) (before after : List ((Kept K V T O × ℕ) × ℕ)) (gone : List ℕ) → AreFewer old new gone → AreUsed new → IsIndexOf old before → IsIndexOf new after → All (λ e. P e.0) before → All (λ e. P e.0) after
   all-fewer P before after gone fewer used indexed indexed' all =
       All-weaker (Contains after) (λ e. P e.0) (λ e c.
-      let now : placed_of new e.1 ≡ Some e.0 = (indexed' e.1 e.0).0 c in
+      let now : valued_at new e.1 ≡ Some e.0 = (indexed' e.1 e.0).0 c in
       let taken : IsSome (get new e.1) = is_taken (get new e.1) now in
-      let same : placed_of new e.1 ≡ placed_of old e.1 = ap (option_map valued) (fewer.kept e.1 (used e.1 taken)) in
+      let same : valued_at new e.1 ≡ valued_at old e.1 = ap (option_map valued) (fewer.kept e.1 (used e.1 taken)) in
       All-contains (λ e. P e.0) before e all ((indexed e.1 e.0).1 (sym same ∙ now))) after (All-contains_itself after)
     where
       is_taken : {k : Kept K V T O × ℕ} (o : Option (Used (Rc (Kept K V T O) Global))) → option_map valued (option_map with_bucket o) ≡ Some k → IsSome o

@@ -83,18 +83,18 @@ module _ {K V T O : Type 0} where
   result_of used n = option_map (λ (r : Rc (Kept K V T O) Global × ℕ). r.0.value) (kept_at used n)
 
   -- the result with the number of its bucket
-  abbrev pub placed_of : Slab (Used (Rc (Kept K V T O) Global)) → ℕ → Option (Kept K V T O × ℕ)
-  placed_of used n = option_map valued (kept_at used n)
+  abbrev pub valued_at : Slab (Used (Rc (Kept K V T O) Global)) → ℕ → Option (Kept K V T O × ℕ)
+  valued_at used n = option_map valued (kept_at used n)
 
   -- the index has each result that is kept, in its bucket, with its number, and no other
   abbrev pub IsIndexOf : Slab (Used (Rc (Kept K V T O) Global)) → List ((Kept K V T O × ℕ) × ℕ)
       → Type 0
   IsIndexOf used index =
       (n : ℕ) (kept : Kept K V T O × ℕ)
-      → Contains index (kept, n) ↔ (placed_of used n ≡ Some kept)
+      → Contains index (kept, n) ↔ (valued_at used n ≡ Some kept)
 
   -- it is what a task gave, and in the bucket of its text and hint
-  pub record IsPlaced {X : Type 0} (eq : K → K → Bool) (query : T → Query K V X O)
+  pub record IsSoundAt {X : Type 0} (eq : K → K → Bool) (query : T → Query K V X O)
       (bucket : Kept K V T O → ℕ) (kept : Kept K V T O × ℕ) : Type 0 where
     pub sound : IsSound eq query kept.0
     pub at : kept.1 ≡ bucket kept.0
@@ -108,4 +108,4 @@ module _ {K V T O : Type 0} where
       pub counted : (n : ℕ) → uses_of used n ≡ times n (results_in numbers)
       pub needed : AreUsed used
       pub indexed : IsIndexOf used index
-      pub placed : All (λ e. IsPlaced eq query bucket e.0) index
+      pub sound : All (λ e. IsSoundAt eq query bucket e.0) index

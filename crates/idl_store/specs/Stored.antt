@@ -1,5 +1,5 @@
 -- Lists of results, one for each root, and the drafts of those that an edit makes.
-use Rattle.std.specs.Prelude.{ℕ, List, [], ◌∷◌, ◌++◌, Option, None, Some, if◌then◌else◌, length, fold, slice_get, slice_set, nat_lt}
+use Rattle.std.specs.Prelude.{ℕ, List, [], ◌∷◌, ◌++◌, Option, if◌then◌else◌, length, fold, slice_get, slice_index_or, slice_set, nat_lt}
 use Rattle.std.specs.List.{flat_map, remove}
 
 -- the lists, and the drafts in the order in which they were begun, each with the place of the list
@@ -21,22 +21,25 @@ module _ {X : Type 0} where
   abbrev pub results_in : Stored X → List X
   results_in stored = flat_map (λ list. list) stored.lists ++ results_of_drafts stored.drafts
 
-  -- the results of a list; one that isn't there has none
-  abbrev pub list_at : Stored X → ℕ → List X
-  list_at stored list = elim (slice_get stored.lists list) [ None ↦ [] | Some results ↦ results ]
+  -- the items of a list; one that isn't there has none
+  abbrev pub list_at : List (List X) → ℕ → List X
+  list_at lists list = slice_index_or lists list []
 
   -- what stands at a place of a list, or nothing where nothing does
   abbrev pub item_at : List (List X) → ℕ → ℕ → Option X
-  item_at lists list place =
-      elim (slice_get lists list) [ None ↦ None | Some items ↦ slice_get items place ]
+  item_at lists list place = slice_get (list_at lists list) place
 
   -- the result at a place of a list, or nothing where there is none
   abbrev pub result_at : Stored X → ℕ → ℕ → Option X
   result_at stored list place = item_at stored.lists list place
 
+  -- a draft more, of these results
+  abbrev pub with_draft : Stored X → ℕ → List X → Stored X
+  with_draft stored at results = record stored { drafts = stored.drafts ++ (at, results) ∷ [] }
+
   -- a draft more, without results
   abbrev pub begun : Stored X → ℕ → Stored X
-  begun stored at = record stored { drafts = stored.drafts ++ (at, []) ∷ [] }
+  begun stored at = with_draft stored at []
 
   -- drafts with more results at the end of the last one
   abbrev pub with_results : List (ℕ × List X) → List X → List (ℕ × List X)
@@ -44,7 +47,7 @@ module _ {X : Type 0} where
   with_results (d ∷ []) more = (d.0, d.1 ++ more) ∷ []
   with_results (d ∷ e ∷ ds) more = d ∷ with_results (e ∷ ds) more
 
-  -- more results at the end of the last draft
+  -- more results at the end of the last draft, if there is one
   abbrev pub grown : Stored X → List X → Stored X
   grown stored more = record stored { drafts = with_results stored.drafts more }
 

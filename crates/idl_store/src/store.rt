@@ -99,7 +99,7 @@ where
 
     /// How many results a list has. One that isn't there has none.
     pub fn results(&self, list: usize) -> usize
-        ensures { result ≡ length (list_at self.now list) }
+        ensures { result ≡ length (list_at self.now.lists list) }
     {
         match self.lists.get(list) {
             Some(numbers) => numbers.len(),
@@ -130,7 +130,8 @@ where
         Ok(())
     }
 
-    /// The result at a place of a list goes into the last draft too. Nothing happens where there is none.
+    /// The result at a place of a list, which goes into the last draft too. Nothing goes anywhere where there is no such result, or no
+    /// draft.
     ///
     /// Want of memory leaves the store as it was.
     pub fn take_again(
@@ -150,7 +151,8 @@ where
         }
     }
 
-    /// The result of the task over this bank: a kept one that is alike, or what a run gives. It goes into the last draft.
+    /// The result of the task over this bank: a kept one that is alike, or what a run gives. It goes into the last draft; where there
+    /// is none, it is kept nowhere.
     ///
     /// Want of memory leaves the store as it was. Nothing is said of the meter then.
     pub fn obtain(

@@ -31,15 +31,12 @@ invariant_of-self g c =
     let fewer = subst (AreFewer c.self.inside.used new) c.deref.ensures.value c.release.ensures.fewer in
     let after = c.release.new.index in
     let left : lists_of c.remove-numbers.new.self.items ≡ remove (lists_of lists) c.args.list = ap lists_of c.remove-numbers.ensures.items ∙ lists-removed lists c.args.list in (
-      subst (λ ls. IsStored eq query bucket new after (record { lists = ls; drafts = drafts })) (sym left) (stored-fewer eq query bucket c.self.inside.used c.self.inside.index numbers c.self.invariant.0 new after rest gone parts fewer c.release.ensures.used c.release.ensures.indexed),
+      subst (λ ls. IsStored eq query bucket new after (record { lists = ls; drafts = drafts })) (sym left) (stored-fewer c.self.invariant.0 new after rest gone parts fewer c.release.ensures.used c.release.ensures.indexed),
       omega (arith, c.self.invariant.1, c.remove-numbers.ensures.len, c.remove-numbers.ensures.capacity),
     )
 
 pub returns-then-list-len : goal.returns-then-list-len
 returns-then-list-len g c =
-    let eq = g.B.Key.PartialEq.eq in
-    let query = g.T.Task.query in
-    let bucket = bucket_of g.T.Text.Hash.hash_input g.T.Task.hint_of in
     let lists = c.self.inside.lists.items in
     let drafts = drafts_of c.self.inside.drafts.items in
     let numbers : Stored ℕ = record { lists = lists_of lists; drafts = drafts } in
@@ -51,6 +48,6 @@ returns-then-list-len g c =
     let fewer = subst (AreFewer c.self.inside.used new) c.deref.ensures.value c.release.ensures.fewer in
     let left : lists_of c.remove-numbers.new.self.items ≡ remove (lists_of lists) c.args.list = ap lists_of c.remove-numbers.ensures.items ∙ lists-removed lists c.args.list in
     ap (λ ls. shown (result_of new) (record { lists = ls; drafts = drafts })) left
-    ∙ shown-fewer eq query bucket c.self.inside.used c.self.inside.index numbers c.self.invariant.0 new c.release.new.index rest gone parts fewer
+    ∙ shown-fewer c.self.invariant.0 new c.release.new.index rest gone parts fewer
     ∙ shown-removed (result_of c.self.inside.used) numbers c.args.list
     ∙ ap (λ s. removed s c.args.list) c.self.view_is
