@@ -18,7 +18,7 @@ use Rattle.idl_store.specs.Stored.{Stored, begun, grown, results_in, results_of_
 use Rattle.idl_store.specs.declared.numbers.Used.{Used}
 use Rattle.idl_store.proofs.Shown.{results_in-shown, shown-same}
 use Rattle.idl_store.proofs.Times.{times-append, times-remove, times-with_results, times_first}
-use Rattle.idl_store.proofs.Using.{added_cases, all-fewer, indexed-put, indexed-same, times_one, times_other}
+use Rattle.idl_store.proofs.Using.{all-fewer, indexed-put, indexed-same, times_one, times_other}
 
 -- what is used is kept
 some_used : {R : Type 0} (o : Option (Used R)) → 0 < elim o [ None ↦ 0 | Some u ↦ u.uses ] → IsSome o
@@ -180,7 +180,7 @@ module _ {K V T O X : Type 0} {eq : K → K → Bool} {query : T → Query K V X
         counted = λ m. counted_by m (cases_eq m n);
         needed = λ m there. needed_by m there (cases_eq m n);
         indexed = indexed-put used new index after n (r.value, bucket r.value) put.others free here adds stored.indexed;
-        sound = All-weaker (Contains after) (λ e. IsSoundAt eq query bucket e.0) (λ e c. placed_by e (added_cases adds e c)) after (All-contains_itself after);
+        sound = All-weaker (Contains after) (λ e. IsSoundAt eq query bucket e.0) (λ e c. placed_by e ((adds.has e).0 c)) after (All-contains_itself after);
       }
         where
           free : valued_at used n ≡ None

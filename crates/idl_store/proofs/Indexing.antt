@@ -3,19 +3,17 @@ use Rattle.std.proofs.Common.{◌≡◌, ◌≢◌, ◌⊎◌, ℕ, zero, suc, �
 use Rattle.std.specs.Prelude.{All, Contains, Result, Ok, Err, IfOk, IfErr}
 use Rattle.std.specs.Cmp.{IsTotalOrder}
 use Rattle.std.specs.Global.{Global}
-use Rattle.std.specs.BTreeMap.{insert_entry, is_at}
 use Rattle.std.specs.List.{AllWithin, HoldsAt, flat_map, position, position_or_len, remove}
 use Rattle.std.specs.List.Sorted.{IsBinarySearchResult, IsNonDecreasingBy, IsSearchInRange}
 use Rattle.std.specs.Map.{lookup, remove_entry, set_value}
-use Rattle.std.specs.Ordering.{is_eq, match_ordering, nat_cmp, ordering_index, ordering_reverse}
+use Rattle.std.specs.Ordering.{ordering_index, ordering_reverse}
 use Rattle.std.specs.declared.cmp.Ordering.{Ordering}
 use Rattle.std.specs.declared.cmp.Ordering.TheVariants.{Less, Equal, Greater}
 use Rattle.std.proofs.lemmas.Bool.{eqb-false, eqb-true, ltb-false}
 use Rattle.std.proofs.lemmas.Cmp.{alike_right}
 use Rattle.std.proofs.lemmas.List.Quantifiers.{position-Some}
 use Rattle.std.proofs.lemmas.List.Sums.{fails_before_first}
-use Rattle.std.proofs.lemmas.Map.Lookups.{exact_unsigned}
-use Rattle.std.proofs.lemmas.List.{drop-map, get_or-drop, get_or-map, get_or-take, length-drop, length-map, length-take-le, map-append, take-append-drop, take-map, take_more}
+use Rattle.std.proofs.lemmas.List.{drop-map, get_or-drop, get_or-map, get_or-take, length-drop, length-map, length-take-le, take-append-drop, take-map, take_more}
 use Rattle.std.proofs.lemmas.List.Elements.{All-append, All-cons, All-contains, All-contains_itself, All-head, All-map, All-nil, All-same, All-tail, All-weaker, Contains-append_cases, Contains-append_left, Contains-append_right}
 use Rattle.idl_store.specs.Buckets.{AddsOne}
 use Rattle.idl_store.specs.Index.{AreInOrder, IsGap}
@@ -95,6 +93,64 @@ module _ {K : Type 0} (R : K → K → Ordering) (total : IsTotalOrder R) where
     order-rises t (x ∷ xs) o (suc i) zero d le below = absurd (omega (arith, le))
     order-rises t (x ∷ xs) o (suc i) (suc j) d le below = order-rises t xs o.1 i j d (omega (arith, le)) (omega (arith, below))
 
+-- ---- items among others
+
+-- an item put among others
+pub adds-item : {X : Type 0} (front rest : List X) (item : X) → AddsOne (front ++ rest) (front ++ item ∷ rest) item
+adds-item {X} front rest item = record { has = λ x. (to x, from x) }
+  where
+    alone : (x : X) → Contains (item ∷ []) x → x ≡ item
+    alone x c = All-contains (λ y. y ≡ item) (item ∷ []) x (All-cons (λ y. y ≡ item) item [] refl (All-nil (λ y. y ≡ item))) c
+
+    behind : (x : X) → Contains (item ∷ []) x ⊎ Contains rest x → (x ≡ item) ⊎ Contains (front ++ rest) x
+    behind x (inl c) = inl (alone x c)
+    behind x (inr c) = inr (Contains-append_right front rest x c)
+
+    split : (x : X) → Contains front x ⊎ Contains (item ∷ rest) x → (x ≡ item) ⊎ Contains (front ++ rest) x
+    split x (inl c) = inr (Contains-append_left front rest x c)
+    split x (inr c) = behind x (Contains-append_cases (item ∷ []) rest x c)
+
+    to : (x : X) → Contains (front ++ item ∷ rest) x → (x ≡ item) ⊎ Contains (front ++ rest) x
+    to x c = split x (Contains-append_cases front (item ∷ rest) x c)
+
+    join : (x : X) → Contains front x ⊎ Contains rest x → Contains (front ++ item ∷ rest) x
+    join x (inl c) = Contains-append_left front (item ∷ rest) x c
+    join x (inr c) = Contains-append_right front (item ∷ rest) x (Contains-append_right (item ∷ []) rest x c)
+
+    from : (x : X) → (x ≡ item) ⊎ Contains (front ++ rest) x → Contains (front ++ item ∷ rest) x
+    from x (inl is) = subst (Contains (front ++ item ∷ rest)) (sym is) (Contains-append_right front (item ∷ rest) item (0, omega arith, refl))
+    from x (inr c) = join x (Contains-append_cases front rest x c)
+
+-- within others
+pub adds-within : {X : Type 0} (p q : List X) (item : X) (front rest : List X) → AddsOne p q item → AddsOne (front ++ (p ++ rest)) (front ++ (q ++ rest)) item
+adds-within {X} p q item front rest adds = record { has = λ x. (to x, from x) }
+  where
+    inner : (x : X) → Contains q x ⊎ Contains rest x → (x ≡ item) ⊎ Contains (front ++ (p ++ rest)) x
+    inner x (inl c) = ⊎_elim (λ is. inl is) (λ d. inr (Contains-append_right front (p ++ rest) x (Contains-append_left p rest x d))) ((adds.has x).0 c)
+    inner x (inr c) = inr (Contains-append_right front (p ++ rest) x (Contains-append_right p rest x c))
+
+    split : (x : X) → Contains front x ⊎ Contains (q ++ rest) x → (x ≡ item) ⊎ Contains (front ++ (p ++ rest)) x
+    split x (inl c) = inr (Contains-append_left front (p ++ rest) x c)
+    split x (inr c) = inner x (Contains-append_cases q rest x c)
+
+    to : (x : X) → Contains (front ++ (q ++ rest)) x → (x ≡ item) ⊎ Contains (front ++ (p ++ rest)) x
+    to x c = split x (Contains-append_cases front (q ++ rest) x c)
+
+    inside : (x : X) → Contains q x → Contains (front ++ (q ++ rest)) x
+    inside x c = Contains-append_right front (q ++ rest) x (Contains-append_left q rest x c)
+
+    old : (x : X) → Contains p x ⊎ Contains rest x → Contains (front ++ (q ++ rest)) x
+    old x (inl c) = inside x ((adds.has x).1 (inr c))
+    old x (inr c) = Contains-append_right front (q ++ rest) x (Contains-append_right q rest x c)
+
+    join : (x : X) → Contains front x ⊎ Contains (p ++ rest) x → Contains (front ++ (q ++ rest)) x
+    join x (inl c) = Contains-append_left front (q ++ rest) x c
+    join x (inr c) = old x (Contains-append_cases p rest x c)
+
+    from : (x : X) → (x ≡ item) ⊎ Contains (front ++ (p ++ rest)) x → Contains (front ++ (q ++ rest)) x
+    from x (inl is) = inside x ((adds.has x).1 (inl is))
+    from x (inr c) = join x (Contains-append_cases front (p ++ rest) x c)
+
 -- an item goes that alone has its number
 module _ {X : Type 0} (cmp : X → X → Ordering) (total : IsTotalOrder cmp) (number : X → ℕ) (n : ℕ) where
   pub found-goes : (xs : List X) (i : ℕ) → i < length xs → AreInOrder cmp xs → ((d : X) → number (get_or xs i d) ≡ n) → ((y z : X) → Contains xs y → Contains xs z → number y ≡ n → number z ≡ n → cmp y z ≡ Equal)
@@ -139,7 +195,7 @@ module _ {X : Type 0} (cmp : X → X → Ordering) (total : IsTotalOrder cmp) (n
             only,
             λ item eq c.
                 let same : item ≡ y = is_it front y rest item only eq (subst (λ zs. Contains zs item) is c) in
-                record { front = front; rest = rest; old_is = refl; new_is = is ∙ ap (λ z. front ++ z ∷ rest) (sym same) },
+                subst (λ z. AddsOne (front ++ rest) (x ∷ xs) z) (sym same) (subst (λ zs. AddsOne (front ++ rest) zs y) (sym is) (adds-item front rest y)),
           )
 
   -- the first of the number goes
@@ -225,26 +281,6 @@ gap-apart f P equal xs i gap =
 pub rises-same : {X : Type 0} (f g : X → Ordering) (xs : List X) → All (λ y. f y ≡ g y) xs → IsNonDecreasingBy (λ y. ordering_index (g y)) xs → IsNonDecreasingBy (λ y. ordering_index (f y)) xs
 rises-same f g xs same rises i j d le below = rw (same i d (omega (arith, le, below)), same j d below) (rises i j d le below)
 
--- ---- items among others
-
--- within others
-pub adds-within : {X : Type 0} {p q : List X} {x : X} (front rest : List X) → AddsOne p q x → AddsOne (front ++ (p ++ rest)) (front ++ (q ++ rest)) x
-adds-within {X} {p} {q} {x} front rest a = record {
-  front = front ++ a.front;
-  rest = a.rest ++ rest;
-  old_is = ap (λ xs. front ++ (xs ++ rest)) a.old_is ∙ ap (λ xs. front ++ xs) (append_assoc a.front a.rest rest) ∙ sym (append_assoc front a.front (a.rest ++ rest));
-  new_is = ap (λ xs. front ++ (xs ++ rest)) a.new_is ∙ ap (λ xs. front ++ xs) (append_assoc a.front (x ∷ a.rest) rest) ∙ sym (append_assoc front a.front (x ∷ (a.rest ++ rest)));
-}
-
--- seen otherwise
-pub adds-map : {X Y : Type 0} {p q : List X} {x : X} (f : X → Y) → AddsOne p q x → AddsOne (map f p) (map f q) (f x)
-adds-map {X} {Y} {p} {q} {x} f a = record {
-  front = map f a.front;
-  rest = map f a.rest;
-  old_is = ap (map f) a.old_is ∙ map-append f a.front a.rest;
-  new_is = ap (map f) a.new_is ∙ map-append f a.front (x ∷ a.rest);
-}
-
 -- ---- buckets
 
 module _ {X Y : Type 0} (f : ℕ × Vec X Global → List Y) where
@@ -275,21 +311,6 @@ module _ {X Y : Type 0} (f : ℕ × Vec X Global → List Y) where
             let same : v ≡ e.1 = cc in
             ap (λ xs. xs ++ flat_map f es) (sym (none e.0) ∙ ap (λ (u : Vec X Global). f (e.0, u)) same)
         by false h later = ap (λ xs. f e ++ xs) (later h)
-
-  -- a new bucket brings its items, in the place of an empty one where there is one
-  pub around-new : (d : ℕ) (es : List (ℕ × Vec X Global)) (w : Vec X Global) → ((v : Vec X Global) → lookup (is_at (nat_cmp d)) es ≡ Some v → (k : ℕ) → f (k, v) ≡ []) → (front : List Y) × (rest : List Y) × (flat_map f es ≡ front ++ rest) × (flat_map f (insert_entry nat_cmp es d w) ≡ front ++ (f (d, w) ++ rest))
-  around-new d [] w h = ([], [], refl, refl)
-  around-new d (e ∷ es) w h = by (nat_cmp d e.0) refl h (λ r. around-new d es w r)
-    where
-      by : (o : Ordering) → nat_cmp d e.0 ≡ o → ((v : Vec X Global) → cond (is_eq o) (Some e.1) (lookup (is_at (nat_cmp d)) es) ≡ Some v → (k : ℕ) → f (k, v) ≡ [])
-          → (((v : Vec X Global) → lookup (is_at (nat_cmp d)) es ≡ Some v → (k : ℕ) → f (k, v) ≡ []) → (front : List Y) × (rest : List Y) × (flat_map f es ≡ front ++ rest) × (flat_map f (insert_entry nat_cmp es d w) ≡ front ++ (f (d, w) ++ rest)))
-          → (front : List Y) × (rest : List Y) × (f e ++ flat_map f es ≡ front ++ rest) × (flat_map f (match_ordering o ((d, w) ∷ e ∷ es) ((e.0, w) ∷ es) (e ∷ insert_entry nat_cmp es d w)) ≡ front ++ (f (d, w) ++ rest))
-      by Less at h later = ([], f e ++ flat_map f es, refl, refl)
-      by Equal at h later =
-          ([], flat_map f es, ap (λ xs. xs ++ flat_map f es) (h e.1 refl e.0), ap (λ k. f (k, w) ++ flat_map f es) (sym (exact_unsigned d e.0 at)))
-      by Greater at h later =
-          let a = later h in
-          (f e ++ a.0, a.1, ap (λ xs. f e ++ xs) a.2 ∙ sym (append_assoc (f e) a.0 a.1), ap (λ xs. f e ++ xs) a.3 ∙ sym (append_assoc (f e) a.0 (f (d, w) ++ a.1)))
 
 module _ {X : Type 0} (test : ℕ → Bool) where
   -- what a look-up finds is a bucket of which what holds of all holds

@@ -6,7 +6,7 @@ use Rattle.std.specs.Option.{option_map}
 use Rattle.std.specs.declared.rc.Rc.{Rc}
 use Rattle.std.proofs.lemmas.Bool.{cases_eq}
 use Rattle.std.proofs.lemmas.Bool.Decides.{eqb_tells}
-use Rattle.std.proofs.lemmas.List.Elements.{All-cons, All-contains, All-contains_itself, All-weaker, Contains-append_cases, Contains-append_left, Contains-append_right}
+use Rattle.std.proofs.lemmas.List.Elements.{All-contains, All-contains_itself, All-weaker}
 use Rattle.std.proofs.lemmas.Grind.{flat_map-append}
 use Rattle.std.proofs.lemmas.List.{append-nil, take-append-drop, take_more}
 use Rattle.idl_store.specs.Stored.{results_of_drafts}
@@ -33,36 +33,6 @@ times_one n = by (eqb_tells n n)
     by : ((nat_eq n n ≡ true) × (n ≡ n)) ⊎ ((nat_eq n n ≡ false) × (n ≢ n)) → times n (n ∷ []) ≡ 1
     by (inl h) = ap (λ b. cond b 1 0 + 0) h.0
     by (inr h) = absurd (h.1 refl)
-
--- what is there after one came is that or was there
-pub added_cases : {X : Type 0} {old new : List X} {item : X} → AddsOne old new item → (x : X) → Contains new x → (x ≡ item) ⊎ Contains old x
-added_cases {X} {old} {new} {item} adds x c = by (Contains-append_cases adds.front (item ∷ adds.rest) x (subst (λ (xs : List X). Contains xs x) adds.new_is c))
-  where
-    behind : Contains (item ∷ adds.rest) x → (x ≡ item) ⊎ Contains old x
-    behind d = by_place (Contains-append_cases (item ∷ []) adds.rest x d)
-      where
-        by_place : Contains (item ∷ []) x ⊎ Contains adds.rest x → (x ≡ item) ⊎ Contains old x
-        by_place (inl e) = inl (alone e)
-          where
-            alone : Contains (item ∷ []) x → x ≡ item
-            alone e = All-contains (λ y. y ≡ item) (item ∷ []) x (All-cons (λ y. y ≡ item) item [] refl (λ i d below. absurd (omega arith))) e
-        by_place (inr e) = inr (subst (λ (xs : List X). Contains xs x) (sym adds.old_is) (Contains-append_right adds.front adds.rest x e))
-
-    by : Contains adds.front x ⊎ Contains (item ∷ adds.rest) x → (x ≡ item) ⊎ Contains old x
-    by (inl d) = inr (subst (λ (xs : List X). Contains xs x) (sym adds.old_is) (Contains-append_left adds.front adds.rest x d))
-    by (inr d) = behind d
-
--- what was there is there still
-pub added_stays : {X : Type 0} {old new : List X} {item : X} → AddsOne old new item → (x : X) → Contains old x → Contains new x
-added_stays {X} {old} {new} {item} adds x c = subst (λ (xs : List X). Contains xs x) (sym adds.new_is) (by (Contains-append_cases adds.front adds.rest x (subst (λ (xs : List X). Contains xs x) adds.old_is c)))
-  where
-    by : Contains adds.front x ⊎ Contains adds.rest x → Contains (adds.front ++ item ∷ adds.rest) x
-    by (inl d) = Contains-append_left adds.front (item ∷ adds.rest) x d
-    by (inr d) = Contains-append_right adds.front (item ∷ adds.rest) x (Contains-append_right (item ∷ []) adds.rest x d)
-
--- and so is the item
-pub added_item : {X : Type 0} {old new : List X} {item : X} → AddsOne old new item → Contains new item
-added_item {X} {old} {new} {item} adds = subst (λ (xs : List X). Contains xs item) (sym adds.new_is) (Contains-append_right adds.front (item ∷ adds.rest) item (0, omega arith, refl))
 
 module _ {R : Type 0} (old new : Slab (Used R)) (number : ℕ) (u : Used R) (here : get old number ≡ Some u) (others : (n : ℕ) → n ≢ number → get new n ≡ get old n) where
   abbrev uses_at : Option (Used R) → ℕ
@@ -146,17 +116,17 @@ module _ {K V T O : Type 0} (old new : Slab (Used (Rc (Kept K V T O) Global))) w
 
         to : (n ≡ number) ⊎ (n ≢ number) → Contains after (kept, n) → valued_at new n ≡ Some kept
         to (inl e) c =
-            let was : valued_at old n ≡ Some kept = (indexed n kept).0 (added_stays adds (kept, n) c) in
+            let was : valued_at old n ≡ Some kept = (indexed n kept).0 ((adds.has (kept, n)).1 (inr c)) in
             let at : valued_at old n ≡ Some k = rw e here in
             let same : kept ≡ k = cc in
             absurd (out (subst (λ (x : (Kept K V T O × ℕ) × ℕ). Contains after x) (λ i. (same i, e i)) c))
-        to (inr e) c = placed_other n e ∙ (indexed n kept).0 (added_stays adds (kept, n) c)
+        to (inr e) c = placed_other n e ∙ (indexed n kept).0 ((adds.has (kept, n)).1 (inr c))
 
         from : (n ≡ number) ⊎ (n ≢ number) → valued_at new n ≡ Some kept → Contains after (kept, n)
         from (inl e) h =
             let nothing : valued_at new n ≡ None = rw e none in
             absurd (cc)
-        from (inr e) h = left (added_cases adds (kept, n) ((indexed n kept).1 (sym (placed_other n e) ∙ h)))
+        from (inr e) h = left ((adds.has (kept, n)).0 ((indexed n kept).1 (sym (placed_other n e) ∙ h)))
           where
             left : (◌≡◌ {A = (Kept K V T O × ℕ) × ℕ} (kept, n) (k, number)) ⊎ Contains after (kept, n) → Contains after (kept, n)
             left (inl same) = absurd (e (ap (λ x. x.1) same))
@@ -167,7 +137,7 @@ module _ {K V T O : Type 0} (old new : Slab (Used (Rc (Kept K V T O) Global))) w
     indexed-put free here adds indexed n kept = (to (cases_eq n number), from (cases_eq n number))
       where
         to : (n ≡ number) ⊎ (n ≢ number) → Contains after (kept, n) → valued_at new n ≡ Some kept
-        to o c = by o (added_cases adds (kept, n) c)
+        to o c = by o ((adds.has (kept, n)).0 c)
           where
             by : (n ≡ number) ⊎ (n ≢ number) → (◌≡◌ {A = (Kept K V T O × ℕ) × ℕ} (kept, n) (k, number)) ⊎ Contains before (kept, n) → valued_at new n ≡ Some kept
             by o (inl same) = ap (valued_at new) (ap (λ x. x.1) same) ∙ here ∙ ap (λ x. Some x.0) (sym same)
@@ -181,8 +151,8 @@ module _ {K V T O : Type 0} (old new : Slab (Used (Rc (Kept K V T O) Global))) w
         from (inl e) h =
             let at : valued_at new n ≡ Some k = rw e here in
             let same : k ≡ kept = cc in
-            subst (λ (x : (Kept K V T O × ℕ) × ℕ). Contains after x) (λ i. (same i, sym e i)) (added_item adds)
-        from (inr e) h = added_stays adds (kept, n) ((indexed n kept).1 (sym (placed_other n e) ∙ h))
+            subst (λ (x : (Kept K V T O × ℕ) × ℕ). Contains after x) (λ i. (same i, sym e i)) ((adds.has (k, number)).1 (inl refl))
+        from (inr e) h = (adds.has (kept, n)).1 (inr ((indexed n kept).1 (sym (placed_other n e) ∙ h)))
 
   -- the same by what was kept
   pub indexed-removed : (before after : List ((Kept K V T O × ℕ) × ℕ)) (number : ℕ) (last : Used (Rc (Kept K V T O) Global)) → get old number ≡ Some last → Updates old new number None → ((kept : Kept K V T O) → Contains before ((kept, last.bucket), number) → AddsOne after before ((kept, last.bucket), number)) → ((kept : Kept K V T O) → ¬ Contains after ((kept, last.bucket), number)) → IsIndexOf old before → IsIndexOf new after

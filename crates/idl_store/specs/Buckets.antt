@@ -1,5 +1,5 @@
 -- The buckets in which kept results are found.
-use Rattle.std.specs.Prelude.{◌≡◌, ℕ, ◌+◌, ◌*◌, ◌/◌, ◌^◌, List, ◌∷◌, ◌++◌, Option, fold, slice_get}
+use Rattle.std.specs.Prelude.{◌≡◌, ◌↔◌, ◌⊎◌, ℕ, ◌+◌, ◌*◌, ◌/◌, ◌^◌, List, Option, Contains, fold, slice_get}
 use Rattle.std.specs.Hash.FoldHasher as folding
 use Rattle.idl_memo.specs.Kept.{Kept}
 
@@ -16,9 +16,6 @@ abbrev pub bucket_of : {K V T O : Type 0} → (T → List (List ℕ))
     → (T → Option (K × V) → ℕ) → Kept K V T O → ℕ
 bucket_of input hint kept = bucket_at input kept.text (hint kept.text (slice_get kept.log 0))
 
--- the new list is the old one with the item put in somewhere
+-- the new list has what the old one has, and the item
 pub record AddsOne {X : Type 0} (old new : List X) (item : X) : Type 0 where
-  pub front : List X
-  pub rest : List X
-  pub old_is : old ≡ front ++ rest
-  pub new_is : new ≡ front ++ item ∷ rest
+  pub has : (x : X) → Contains new x ↔ ((x ≡ item) ⊎ Contains old x)

@@ -1,9 +1,8 @@
 -- Kept results with their numbers, in buckets, and in order in each bucket.
 use Rattle.std.specs.Prelude.{◌≡◌, ◌≢◌, ◌≤◌, ℕ, List, [], ◌∷◌, All, IfNone, IfSome, Vec, filter, map, length, nat_eq, take, drop}
-use Rattle.std.specs.BTreeMap.{BTreeMap, IsOrdered}
 use Rattle.std.specs.Global.{Global}
+use Rattle.std.specs.HashMap.{HashMap, IsUnique}
 use Rattle.std.specs.List.{flat_map}
-use Rattle.std.specs.Ordering.{nat_cmp}
 use Rattle.std.specs.declared.cmp.Ordering.{Ordering}
 use Rattle.std.specs.declared.cmp.Ordering.TheVariants.{Less, Greater}
 use Rattle.std.specs.declared.rc.Rc.{Rc}
@@ -44,10 +43,10 @@ module _ {K V T O : Type 0} where
   numbered_cmp text_cmp answer_cmp one other =
       results_cmp text_cmp answer_cmp one.result.value other.result.value
 
-  -- the buckets are in the order of their numbers, and the results of each are in their order
-  pub record IsInOrder (text_cmp : T → T → Ordering) (answer_cmp : V → V → Ordering)
-      (buckets : BTreeMap ℕ (Vec (Numbered (Rc (Kept K V T O) Global)) Global)) : Type 0 where
-    pub ordered : IsOrdered nat_cmp buckets
+  -- each bucket has a number of its own, and its results are in their order
+  pub record IsInOrder {S : Type 0} (text_cmp : T → T → Ordering) (answer_cmp : V → V → Ordering)
+      (buckets : HashMap ℕ (Vec (Numbered (Rc (Kept K V T O) Global)) Global) S) : Type 0 where
+    pub unique : IsUnique nat_eq buckets
     pub sorted :
         All (λ e. AreInOrder (numbered_cmp text_cmp answer_cmp) e.1.items) buckets.entries
 

@@ -17,7 +17,7 @@ use crate::order::order_at;
 use idl_base::Datum;
 use idl_memo::{Bank, Kept};
 use std::alloc::{AllocError, Global};
-use std::collections::BTreeMap;
+use std::collections::HashMap;
 use std::hash::{FoldHasher, Hash, Hasher};
 use std::marker::Model;
 use std::rc::Rc;
@@ -47,7 +47,7 @@ pub(crate) struct Index<B: Bank, X: Datum + Ord, O>
 where
     B::Answer: Ord,
 {
-    buckets: BTreeMap<u64, Vec<Numbered<Rc<Kept<B, X, O>>>>>,
+    buckets: HashMap<u64, Vec<Numbered<Rc<Kept<B, X, O>>>>>,
 }
 
 impl<B: Bank, X: Datum + Ord, O> Model for Index<B, X, O>
@@ -84,7 +84,7 @@ where
         ensures { result ≡ [] }
     {
         Index {
-            buckets: BTreeMap::new(alloc),
+            buckets: HashMap::new(alloc),
         }
     }
 
@@ -157,7 +157,7 @@ where
 //
 // Want of memory leaves each bucket with the items that it had.
 fn insert_at<B: Bank, X: Datum + Ord, O: Drop>(
-    buckets: &mut BTreeMap<u64, Vec<Numbered<Rc<Kept<B, X, O>>>>>,
+    buckets: &mut HashMap<u64, Vec<Numbered<Rc<Kept<B, X, O>>>>>,
     gap: Gap,
     item: Numbered<Rc<Kept<B, X, O>>>,
     alloc: Global,
@@ -185,7 +185,7 @@ where
 
 // Puts an item into a bucket of its own.
 fn insert_alone<B: Bank, X: Datum + Ord, O: Drop>(
-    buckets: &mut BTreeMap<u64, Vec<Numbered<Rc<Kept<B, X, O>>>>>,
+    buckets: &mut HashMap<u64, Vec<Numbered<Rc<Kept<B, X, O>>>>>,
     bucket: u64,
     item: Numbered<Rc<Kept<B, X, O>>>,
     alloc: Global,
@@ -227,7 +227,7 @@ where
 
 // Takes the item of a number out of a bucket, and a bucket that is left empty too.
 fn remove_at<B: Bank, X: Datum + Ord, O: Drop>(
-    buckets: &mut BTreeMap<u64, Vec<Numbered<Rc<Kept<B, X, O>>>>>,
+    buckets: &mut HashMap<u64, Vec<Numbered<Rc<Kept<B, X, O>>>>>,
     bucket: u64,
     number: usize,
 )
@@ -310,7 +310,7 @@ where
     )
 }
 
-// The number of the bucket of a text under a hint. Those of one hint stand side by side, as they are looked up one after another.
+// The number of the bucket of a text under a hint.
 #[tactic(auto, unfolding(crate::specs::Buckets::digest))]
 pub(crate) fn bucket_of<T: Hash>(text: &T, hint: u64) -> u64
     ensures { result ≡ bucket_at T.hash_input text.now hint }

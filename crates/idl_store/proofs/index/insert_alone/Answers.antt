@@ -1,8 +1,8 @@
 -- The item is the only one of its bucket.
-use Rattle.std.proofs.Common.{◌≡◌, ◌∷◌, ◌++◌, [], ap, subst, sym, ◌∙◌}
+use Rattle.std.proofs.Common.{◌≡◌, ◌∷◌, ◌++◌, [], ap, nat_eq, subst, ◌∙◌}
+use Rattle.std.specs.HashMap.{PutsEntry}
 use Rattle.std.specs.Option.{option_cmp}
-use Rattle.idl_store.specs.Buckets.{AddsOne}
-use Rattle.idl_store.specs.Index.{numbered, numbered_in}
+use Rattle.idl_store.specs.Index.{numbered}
 use Rattle.idl_store.proofs.Bucketed.{adds-new_bucket}
 use Rattle.idl_store.proofs.Finding.{empty-within, order-new}
 use Rattle.idl_store.proofs.index.insert_alone.Goals as goal
@@ -10,13 +10,17 @@ use Rattle.idl_store.proofs.index.insert_alone.Goals as goal
 pub returns-clause-ok : goal.returns-clause-ok
 returns-clause-ok g c =
     let m = c.args.buckets.now in
+    let n = c.insert.new.self in
     let w = c.push.new.self in
     let alone : w.items ≡ c.args.item ∷ [] = c.in_ok-push.ensures.items ∙ ap (λ items. items ++ c.args.item ∷ []) c.in_ok-results.ensures.items in
-    subst (λ new. AddsOne (numbered_in m.entries) (numbered_in new) (numbered c.args.bucket c.args.item)) (sym c.in_ok-insert.ensures.entries)
-    (adds-new_bucket numbered c.args.bucket m.entries w c.args.item (empty-within m c.args.bucket c.requires.apart) alone)
+    let puts = subst (PutsEntry nat_eq m n c.args.bucket w) c.in_ok-insert.ensures.old c.in_ok-insert.ensures.entries in
+    adds-new_bucket numbered c.args.bucket m n w c.args.item (empty-within m c.args.bucket c.requires.apart) alone puts
 
 pub returns-clause-order : goal.returns-clause-order
 returns-clause-order g c =
+    let m = c.args.buckets.now in
+    let n = c.insert.new.self in
     let w = c.push.new.self in
     let alone : w.items ≡ c.args.item ∷ [] = c.in_ok-push.ensures.items ∙ ap (λ items. items ++ c.args.item ∷ []) c.in_ok-results.ensures.items in
-    order-new c.args.buckets.now c.args.bucket g.X.Ord.cmp (option_cmp g.B.Answer.Ord.cmp) c.insert.new.self w c.args.item c.in_ok-insert.ensures.entries c.insert.ensures.ordered alone c.requires.order
+    let puts = subst (PutsEntry nat_eq m n c.args.bucket w) c.in_ok-insert.ensures.old c.in_ok-insert.ensures.entries in
+    order-new m c.args.bucket g.X.Ord.cmp (option_cmp g.B.Answer.Ord.cmp) n w c.args.item puts c.insert.ensures.unique alone c.requires.order

@@ -14,7 +14,7 @@ insert_in-requires-clause-order g c =
 
 pub insert_in-requires-clause-gap : goal.insert_in-requires-clause-gap
 insert_in-requires-clause-gap g c =
-    gap-within c.args.buckets.now c.args.gap.bucket c.in-Some-get_mut.results.now (sym c.in-Some-get_mut.ensures.value) c.requires.order.ordered
+    gap-within c.args.buckets.now c.args.gap.bucket c.in-Some-get_mut.results.now (sym c.in-Some-get_mut.ensures.value) c.requires.order.unique
     (λ kept. results_cmp g.X.Ord.cmp (option_cmp g.B.Answer.Ord.cmp) kept c.args.item.result.value) c.args.gap.place c.in-Some.place c.in-Some.is c.requires.gap.within
 
 pub returns-in-Some-get_mut-clause-ok : goal.returns-in-Some-get_mut-clause-ok
@@ -44,4 +44,4 @@ returns-in-Some-get_mut-clause-order g c =
 pub insert_alone-requires-2-clause-apart : goal.insert_alone-requires-2-clause-apart
 insert_alone-requires-2-clause-apart g c =
     subst (λ m. All (λ e. e.0.1 ≢ c.args.gap.bucket) (numbered_in m.entries)) (sym c.get_mut.follows.holds-at-none)
-    (apart-without c.args.buckets.now c.requires.order.ordered c.args.gap.bucket (sym c.in_default-get_mut.ensures.value))
+    (apart-without c.args.buckets.now c.requires.order.unique c.args.gap.bucket (sym c.in_default-get_mut.ensures.value))

@@ -1,11 +1,12 @@
 -- The item goes into the gap.
-use Rattle.std.proofs.Common.{drop, subst, sym, take}
+use Rattle.std.proofs.Common.{◌∷◌, ◌++◌, drop, subst, sym, take}
 use Rattle.std.specs.Cmp.Lexicographic.{options_total}
 use Rattle.std.specs.Option.{option_cmp}
 use Rattle.std.proofs.lemmas.Cmp.{on_total}
 use Rattle.std.proofs.lemmas.List.{take-append-drop}
+use Rattle.idl_store.specs.Buckets.{AddsOne}
 use Rattle.idl_store.specs.Index.{AreInOrder, numbered_cmp}
-use Rattle.idl_store.proofs.Indexing.{order-insert}
+use Rattle.idl_store.proofs.Indexing.{adds-item, order-insert}
 use Rattle.idl_store.proofs.Searching.{results_total}
 use Rattle.idl_store.proofs.index.insert_in.Goals as goal
 
@@ -17,3 +18,11 @@ returns-clause-order g c =
     let place = c.args.place in
     subst (AreInOrder cmp) (sym c.in_ok-insert.ensures.items)
     (order-insert cmp (on_total (λ one. one.result.value) total) c.args.item (take place items) (drop place items) (subst (AreInOrder cmp) (sym (take-append-drop place items)) c.requires.order) c.requires.gap.before c.requires.gap.behind)
+
+pub returns-clause-ok : goal.returns-clause-ok
+returns-clause-ok g c =
+    let items = c.args.bucket.now.items in
+    let place = c.args.place in
+    subst (λ new. AddsOne items new c.args.item) (sym c.in_ok-insert.ensures.items)
+    (subst (λ old. AddsOne old (take place items ++ c.args.item ∷ drop place items) c.args.item) (take-append-drop place items)
+    (adds-item (take place items) (drop place items) c.args.item))

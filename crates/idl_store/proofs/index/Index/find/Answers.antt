@@ -15,13 +15,13 @@ pub returns-in_default-clause-absent : goal.returns-in_default-clause-absent
 returns-in_default-clause-absent g c = λ query sound.
     let bank = g.B.Bank.at c.args.bank.now in
     subst (All (λ e. e.0.1 ≡ c.args.bucket → ¬ IsAlike c.args.text.now bank e.0.0)) c.self.view_is
-    (none-without c.self.inside.buckets c.self.invariant.ordered c.args.bucket (sym c.in_default.ensures.value) c.args.text.now bank)
+    (none-without c.self.inside.buckets c.self.invariant.unique c.args.bucket (sym c.in_default.ensures.value) c.args.text.now bank)
 
 pub returns-in_default-clause-gap : goal.returns-in_default-clause-gap
 returns-in_default-clause-gap g c = λ query sound.
     let order = λ (kept : Kept g.row.B-Key.Denot (Option g.row.B-Answer.Denot) g.row.X.Denot g.row.O.Denot). place_cmp g.X.Ord.cmp (option_cmp g.B.Answer.Ord.cmp) kept c.args.text.now (g.B.Bank.at c.args.bank.now) in
     subst (λ index. IsGapAmong order index (record { bucket = c.args.bucket; place = None })) c.self.view_is
-    (gap-without c.self.inside.buckets c.self.invariant.ordered c.args.bucket (sym c.in_default.ensures.value) order)
+    (gap-without c.self.inside.buckets c.self.invariant.unique c.args.bucket (sym c.in_default.ensures.value) order)
 
 pub place_at-requires : goal.place_at-requires
 place_at-requires g c =
@@ -53,7 +53,7 @@ returns-in-Err-clause-absent g c = λ query sound.
     let gap = c.in-Err.ensures.absent query (subst (All (λ one. IsSound eq query one.result.value)) (sym c.deref.ensures.value) all) in
     let none = gap-apart (λ one. place_cmp tc ac one.result.value text bank) (λ one. IsAlike text bank one.result.value) (λ one alike. equal-alike tc ac g.met.X.Ord.total (options_total g.met.B.Answer.Ord.total) one.result.value text bank alike) c.deref.result.now c.in-Err.place gap in
     subst (All (λ e. e.0.1 ≡ c.args.bucket → ¬ IsAlike text bank e.0.0)) c.self.view_is
-    (none-within m c.args.bucket v at c.self.invariant.ordered text bank (subst (All (λ one. ¬ IsAlike text bank one.result.value)) c.deref.ensures.value none))
+    (none-within m c.args.bucket v at c.self.invariant.unique text bank (subst (All (λ one. ¬ IsAlike text bank one.result.value)) c.deref.ensures.value none))
 
 pub returns-in-Err-clause-gap : goal.returns-in-Err-clause-gap
 returns-in-Err-clause-gap g c = λ query sound.
@@ -65,4 +65,4 @@ returns-in-Err-clause-gap g c = λ query sound.
     let all = sound-within m c.args.bucket v at eq query (subst (All (λ e. IsSound eq query e.0.0)) (sym c.self.view_is) sound) in
     let gap = c.in-Err.ensures.absent query (subst (All (λ one. IsSound eq query one.result.value)) (sym c.deref.ensures.value) all) in
     subst (λ index. IsGapAmong order index (record { bucket = c.args.bucket; place = Some c.in-Err.place })) c.self.view_is
-    (gap-among m c.args.bucket v at c.self.invariant.ordered order c.in-Err.place (subst (λ items. IsGap (λ one. order one.result.value) items c.in-Err.place) c.deref.ensures.value gap))
+    (gap-among m c.args.bucket v at c.self.invariant.unique order c.in-Err.place (subst (λ items. IsGap (λ one. order one.result.value) items c.in-Err.place) c.deref.ensures.value gap))
