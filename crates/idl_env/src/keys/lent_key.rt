@@ -203,7 +203,8 @@ impl<'a> LentKey<'a> {
         }
     }
 
-    // Whether it is this key, as it is held.
+    // Whether it is this key, as it is held. It stands apart, since few keys have its digest.
+    #[inline(never)]
     fn is_held(&self, key: &HeldKey) -> bool
         ensures { result ≡ key_eq self.now (key_in key.now) }
     {
@@ -251,6 +252,7 @@ impl<'a> Lent<DigestedKey> for LentKey<'a> {
         self.digest
     }
 
+    #[inline(always)]
     fn is(&self, other: &DigestedKey) -> bool {
         self.digest == other.digest() && self.is_held(other.held())
     }
