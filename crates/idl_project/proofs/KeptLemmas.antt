@@ -17,15 +17,15 @@ use Rattle.idl_memo.specs.Renewal.{IsTold}
 use Rattle.idl_memo.specs.declared.meter.Meter.{Meter}
 use Rattle.idl_memo.specs.Kept.{Kept, HoldsOver}
 use Rattle.idl_memo.specs.Query.{asked, is_logged, noted_all}
-use Rattle.idl_store.specs.Stored.{results_in}
+use Rattle.idl_store.specs.Stored.{results_in, with_draft}
 use Rattle.idl_prep.specs.Root.{absent_files, expanded, expansion, root}
 use Rattle.idl_root.specs.Compile.{compile}
 use Rattle.idl_root.specs.Places.{declarations_of, entries_of}
-use Rattle.idl_root.specs.Results.{DeclarationResult, EntryResult, IsDeclarationPass, IsEntryPass, IsKeptOf, declaration_result, entry_result, fresh_declarations, fresh_entries, root_marks, with_draft}
+use Rattle.idl_root.specs.Results.{DeclarationResult, EntryResult, IsDeclarationPass, IsEntryPass, IsKeptOf, declaration_result, entry_result, fresh_declarations, fresh_entries, root_marks}
 use Rattle.idl_root.specs.declared.kept.keeper.Keeper.{Keeper}
 use Rattle.idl_root.specs.declared.kept.marks.Mark.{Mark}
 use Rattle.idl_project.specs.Compile.{compile_over, end_of, line_count}
-use Rattle.idl_project.specs.Renewed.{IsMade}
+use Rattle.idl_project.specs.Renewed.{IsDrafted}
 use Rattle.idl_project.specs.Tasks.{declarations_among, declarations_at, entries_among, entries_at}
 use Rattle.idl_project.specs.UpToDate.{AreKept, IsKept, keys_asked}
 use Rattle.idl_project.specs.Work.{answer_eq, compared_keys, fresh_roots, staying, work_between}
@@ -125,11 +125,11 @@ IsKept-still old new kept copy is result compiled marks over = record {
 }
 
 -- what a root comes to, told of its events
-pub IsMade-from : (bank : RootKey → Option RootAnswer) (at : ℕ) (name : List ℕ) (events : List Event) (old new : Keeper) (before after : Meter) → events ≡ (expanded name bank).0
+pub IsDrafted-from : (bank : RootKey → Option RootAnswer) (at : ℕ) (name : List ℕ) (events : List Event) (old new : Keeper) (before after : Meter) → events ≡ (expanded name bank).0
     → new.declarations ≡ with_draft old.declarations at (map declaration_result (declarations_of events)) → new.entries ≡ with_draft old.entries at (map entry_result (entries_of events))
     → IsDeclarationPass (declarations_of events) (results_in old.declarations) (results_in new.declarations) before.checked after.checked
-    → IsEntryPass (entries_of events) (results_in old.entries) (results_in new.entries) before.printed after.printed → IsMade bank at name old new before after
-IsMade-from bank at name events old new before after is declarations entries checked printed = record {
+    → IsEntryPass (entries_of events) (results_in old.entries) (results_in new.entries) before.printed after.printed → IsDrafted bank at name old new before after
+IsDrafted-from bank at name events old new before after is declarations entries checked printed = record {
   declarations = declarations ∙ ap (λ (es : List Event). with_draft old.declarations at (map declaration_result (declarations_of es))) is;
   entries = entries ∙ ap (λ (es : List Event). with_draft old.entries at (map entry_result (entries_of es))) is;
   checked = subst (λ (es : List Event). IsDeclarationPass (declarations_of es) (results_in old.declarations) (results_in new.declarations) before.checked after.checked) is checked;
@@ -137,9 +137,9 @@ IsMade-from bank at name events old new before after is declarations entries che
 }
 
 -- the same from meters with these counts
-pub IsMade-metered : (bank : RootKey → Option RootAnswer) (at : ℕ) (name : List ℕ) (old new : Keeper) (first before after : Meter) → before.checked ≡ first.checked → before.printed ≡ first.printed
-    → IsMade bank at name old new before after → IsMade bank at name old new first after
-IsMade-metered bank at name old new first before after checked printed made = record {
+pub IsDrafted-metered : (bank : RootKey → Option RootAnswer) (at : ℕ) (name : List ℕ) (old new : Keeper) (first before after : Meter) → before.checked ≡ first.checked → before.printed ≡ first.printed
+    → IsDrafted bank at name old new before after → IsDrafted bank at name old new first after
+IsDrafted-metered bank at name old new first before after checked printed made = record {
   declarations = made.declarations;
   entries = made.entries;
   checked = subst (λ n. IsDeclarationPass (declarations_at bank name) (results_in old.declarations) (results_in new.declarations) n after.checked) checked made.checked;

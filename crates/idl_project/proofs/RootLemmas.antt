@@ -16,8 +16,7 @@ use Rattle.idl_event.specs.Key.{key_eq}
 use Rattle.idl_event.specs.declared.asked.key.RootAnswer.{RootAnswer}
 use Rattle.idl_event.specs.declared.asked.key.RootKey.{RootKey}
 use Rattle.idl_memo.specs.Cause.{changed}
-use Rattle.idl_store.specs.Stored.{Stored, committed, discarded, nothing_stored}
-use Rattle.idl_root.specs.Results.{with_draft}
+use Rattle.idl_store.specs.Stored.{Stored, committed, discarded, nothing_stored, with_draft}
 use Rattle.idl_root.specs.declared.kept.keeper.Keeper.{Keeper}
 use Rattle.idl_source.specs.names.Name.{is_name}
 use Rattle.idl_project.specs.Compile.{compile_over}

@@ -10,8 +10,7 @@ use Rattle.std.proofs.lemmas.List.Quantifiers.{position-Some}
 use Rattle.std.proofs.lemmas.List.Sums.{fold_push}
 use Rattle.std.specs.List.{flat_map, fold, position, remove}
 use Rattle.std.specs.Set.{remove_key}
-use Rattle.idl_store.specs.Stored.{Stored, committed, placed, results_in, results_of_drafts}
-use Rattle.idl_root.specs.Results.{list_at, with_draft}
+use Rattle.idl_store.specs.Stored.{Stored, committed, list_at, placed, results_in, results_of_drafts, with_draft}
 
 module _ {P R : Type 0} (result : P → R) where
   -- all results of lists are those of all places

@@ -5,10 +5,10 @@ use Rattle.idl_event.specs.Key.{key_eq}
 use Rattle.idl_event.specs.declared.asked.key.RootAnswer.{RootAnswer}
 use Rattle.idl_event.specs.declared.asked.key.RootKey.{RootKey}
 use Rattle.idl_memo.specs.Cause.{changed}
-use Rattle.idl_store.specs.Stored.{results_in}
+use Rattle.idl_store.specs.Stored.{results_in, with_draft}
 use Rattle.idl_memo.specs.declared.meter.Meter.{Meter}
 use Rattle.idl_prep.specs.Root.{expanded}
-use Rattle.idl_root.specs.Results.{IsDeclarationPass, IsEntryPass, with_draft}
+use Rattle.idl_root.specs.Results.{IsDeclarationPass, IsEntryPass}
 use Rattle.idl_root.specs.declared.kept.keeper.Keeper.{Keeper}
 use Rattle.idl_project.specs.Bank.{bank_of}
 use Rattle.idl_project.specs.Project.{Inputs, Project}
@@ -20,7 +20,7 @@ use Rattle.idl_project.specs.declared.work.Work.{Work}
 
 -- a root at a place among all comes to what these answers make of it: its lists are in drafts, and
 -- the fresh tasks are counted
-pub record IsMade (bank : RootKey → Option RootAnswer) (at : ℕ) (root : List ℕ)
+pub record IsDrafted (bank : RootKey → Option RootAnswer) (at : ℕ) (root : List ℕ)
     (old new : Keeper) (before after : Meter) : Type 0 where
   pub declarations : new.declarations
       ≡ with_draft old.declarations at (declaration_list bank root)

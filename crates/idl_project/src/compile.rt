@@ -7,12 +7,13 @@ ghost use Rattle.idl_event.specs.declared.told.event.Event.{Event};
 ghost use Rattle.idl_memo.specs.Kept.{HoldsOver};
 ghost use Rattle.idl_prep.specs.Root.{expanded, expansion};
 ghost use Rattle.idl_root.specs.Findings.{finding_row};
-ghost use Rattle.idl_root.specs.Results.{ChecksAndPrintsOnly, IsKeptOf, list_at, root_marks};
+ghost use Rattle.idl_store.specs.Stored.{list_at};
+ghost use Rattle.idl_root.specs.Results.{ChecksAndPrintsOnly, IsKeptOf, root_marks};
 ghost use Rattle.idl_project.specs.Asked.{asked_over};
 ghost use Rattle.idl_project.specs.Bank.{bank_of};
 ghost use Rattle.idl_project.specs.Compile.{compile_over, compiled_root, end_of, line_count};
 ghost use Rattle.idl_project.specs.Project.{Project};
-ghost use Rattle.idl_project.specs.Renewed.{AreListsLeft, IsMade};
+ghost use Rattle.idl_project.specs.Renewed.{AreListsLeft, IsDrafted};
 ghost use Rattle.idl_project.specs.UpToDate.{diagnostics_of, findings_of};
 
 use crate::asked::asked;
@@ -121,7 +122,7 @@ pub fn compile_kept<B: RootBank>(
         IfOk result (λ r. r.compiled ≡ compile_over (B.at bank.now) name) }
     ensures marks { let name = root.entry.result.now.text in
         IfOk result (λ r. r.marks ≡ root_marks (expanded name (B.at bank.now)).0) }
-    ensures made { OnOk result (IsMade (B.at bank.now) root.entry.at root.entry.result.now.text
+    ensures made { OnOk result (IsDrafted (B.at bank.now) root.entry.at root.entry.result.now.text
         keeper.old keeper.new meter.old meter.new) }
     ensures lists { AreListsLeft keeper.old keeper.new }
     ensures others { OnOk result (ChecksAndPrintsOnly meter.old meter.new) }

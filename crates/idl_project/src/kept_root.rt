@@ -9,10 +9,11 @@ ghost use Rattle.idl_memo.specs.Cause.{IsCause, changed};
 ghost use Rattle.idl_memo.specs.Fresh.{compared_at, stale_at};
 ghost use Rattle.idl_memo.specs.Meter.{compared_after, most_compared};
 ghost use Rattle.idl_prep.specs.Root.{expansion};
-ghost use Rattle.idl_root.specs.Results.{IsKeptOf, list_at};
+ghost use Rattle.idl_store.specs.Stored.{list_at};
+ghost use Rattle.idl_root.specs.Results.{IsKeptOf};
 ghost use Rattle.idl_project.specs.Asked.{asked_files};
 ghost use Rattle.idl_project.specs.Bank.{bank_of};
-ghost use Rattle.idl_project.specs.Renewed.{AreListsLeft, IsLeft, IsMade};
+ghost use Rattle.idl_project.specs.Renewed.{AreListsLeft, IsLeft, IsDrafted};
 ghost use Rattle.idl_project.specs.Tasks.{declaration_list, entry_list};
 ghost use Rattle.idl_project.specs.UpToDate.{IsKept};
 ghost use Rattle.idl_project.specs.Work.{answer_eq};
@@ -67,7 +68,7 @@ impl KeptRoot {
         requires declarations { list_at keeper.old.declarations.lists root.0 ≡ [] }
         requires entries { list_at keeper.old.entries.lists root.0 ≡ [] }
         ensures kept { IfOk result (λ kept. IsKept (B.at bank.now) (root.1, kept)) }
-        ensures made { OnOk result (IsMade (B.at bank.now) root.0 root.1 keeper.old keeper.new
+        ensures made { OnOk result (IsDrafted (B.at bank.now) root.0 root.1 keeper.old keeper.new
             meter.old meter.new) }
         ensures lists { AreListsLeft keeper.old keeper.new }
         ensures counts { OnOk result (meter.new ≡ record meter.old {
@@ -113,7 +114,7 @@ impl KeptRoot {
             let after = changed key_eq before edited.key.now (option_copied edited.answer) in
             let name = self.now.result.value.text in
             OnOk result (IsLeft before after name keeper.old keeper.new meter.old meter.new
-            ⊎ IsMade after at name keeper.old keeper.new meter.old meter.new) }
+            ⊎ IsDrafted after at name keeper.old keeper.new meter.old meter.new) }
         ensures lists { AreListsLeft keeper.old keeper.new }
         ensures counts { let edited = change.entry.edited.now in
             let before = bank_of edited.base.now in
@@ -173,7 +174,7 @@ fn expanded<B: RootBank>(
     requires kept { (events : List Event) × IsKeptOf events root.2.now
         (list_at keeper.old.declarations.lists root.0) (list_at keeper.old.entries.lists root.0) }
     ensures kept { IfOk result (λ kept. IsKept (B.at bank.now) (root.entry.1, kept)) }
-    ensures made { OnOk result (IsMade (B.at bank.now) root.entry.0 root.entry.1 keeper.old keeper.new
+    ensures made { OnOk result (IsDrafted (B.at bank.now) root.entry.0 root.entry.1 keeper.old keeper.new
         meter.old meter.new) }
     ensures lists { AreListsLeft keeper.old keeper.new }
     ensures counts { OnOk result (meter.new ≡ record meter.old {

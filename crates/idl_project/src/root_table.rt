@@ -5,7 +5,7 @@ ghost use Rattle.idl_event.specs.Key.{key_eq};
 ghost use Rattle.idl_memo.specs.Cause.{changed};
 ghost use Rattle.idl_store.specs.Stored.{committed};
 ghost use Rattle.idl_project.specs.Bank.{bank_of};
-ghost use Rattle.idl_project.specs.Renewed.{AreListsLeft, IsAdded, IsKeeperLeft, IsMade, IsRenewed};
+ghost use Rattle.idl_project.specs.Renewed.{AreListsLeft, IsAdded, IsKeeperLeft, IsDrafted, IsRenewed};
 ghost use Rattle.idl_project.specs.Tasks.{kept_declarations, kept_entries};
 ghost use Rattle.std.specs.Option.{option_copied, option_map};
 ghost use Rattle.std.specs.List.{IsDistinct, list_any, position};
@@ -127,7 +127,7 @@ impl RootTable {
             ≡ kept_declarations (bank_of bank.now) (keys_of self.old) }
         requires entries { keeper.old.entries ≡ kept_entries (bank_of bank.now) (keys_of self.old) }
         ensures added { OnOk result (IsAdded bank.now root self.old self.new) }
-        ensures tasks { OnOk result (IsMade (bank_of bank.now) (length self.old) root keeper.old
+        ensures tasks { OnOk result (IsDrafted (bank_of bank.now) (length self.old) root keeper.old
             keeper.new meter.old meter.new) }
         ensures counts { OnOk result (meter.new ≡ record meter.old {
           expanded = meter.old.expanded + 1;

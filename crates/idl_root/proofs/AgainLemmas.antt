@@ -13,7 +13,8 @@ use Rattle.idl_root.proofs.DigestLemmas.{apart-noted, at-map}
 use Rattle.idl_root.proofs.FollowingLemmas.{answers-agree}
 use Rattle.idl_root.specs.Changed.{ShareNone}
 use Rattle.idl_root.specs.Followed.{AgreeBut, AreBeside, AreNoted, ArePrinted}
-use Rattle.idl_root.specs.Results.{EntryResult, list_at}
+use Rattle.idl_store.specs.Stored.{list_at}
+use Rattle.idl_root.specs.Results.{EntryResult}
 use Rattle.idl_root.specs.declared.kept.reprinting.Reprinting.{Reprinting}
 
 module _ (outside : (keys asks : List Key) (bank other : Key → Option Answer) → AgreeOutside keys bank other → AreApart asks keys → Agree asks bank other) where

@@ -3,14 +3,14 @@ use Rattle.std.proofs.Common.{◌≡◌, ◌∙◌, ℕ, List, [], ap, drop, fla
 use Rattle.std.specs.List.{enumerate_from}
 use Rattle.idl_env.specs.Facts.{UnitFacts}
 use Rattle.idl_event.specs.declared.told.event.Event.{Event}
-use Rattle.idl_store.specs.Stored.{Stored, begun, grown, results_in}
+use Rattle.idl_store.specs.Stored.{Stored, begun, grown, list_at, results_in, with_draft}
 use Rattle.idl_memo.specs.declared.meter.Meter.{Meter}
 use Rattle.idl_root.specs.Compile.{Outcome, outcome_of}
 use Rattle.idl_root.specs.Findings.{event_finding}
 use Rattle.idl_root.specs.Followed.{ArePrinted, IsKeeping, WereThere, added_by, facts_of, results_from}
 use Rattle.idl_root.specs.Held.{to_come}
 use Rattle.idl_root.specs.Places.{declarations_after, declarations_of, entries_of, entries_over}
-use Rattle.idl_root.specs.Results.{ChecksAndPrintsOnly, ChecksOnly, DeclarationResult, EntryResult, IsDeclarationPass, IsEntryPass, IsKeptOf, PrintsOnly, declaration_result, entry_result, list_at, with_draft}
+use Rattle.idl_root.specs.Results.{ChecksAndPrintsOnly, ChecksOnly, DeclarationResult, EntryResult, IsDeclarationPass, IsEntryPass, IsKeptOf, PrintsOnly, declaration_result, entry_result}
 use Rattle.idl_root.specs.declared.compiling.finding.EventFinding.{EventFinding}
 use Rattle.idl_root.specs.declared.kept.course.Course.{Course}
 use Rattle.idl_root.specs.declared.kept.keeping.Keeping.{Keeping}

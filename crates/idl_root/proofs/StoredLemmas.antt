@@ -7,8 +7,8 @@ use Rattle.std.proofs.lemmas.Option.{same_Some}
 use Rattle.idl_env.proofs.AnswerLaws.PlaceLemmas.{drop-at1}
 use Rattle.idl_memo.specs.Fresh.{Place}
 use Rattle.idl_memo.specs.Kept.{IsAlike, Kept, SomeAlikeAt}
-use Rattle.idl_store.specs.Stored.{Stored, begun, grown, item_at, result_at, results_in, results_of_drafts, with_results}
-use Rattle.idl_root.specs.Results.{HasDraft, list_at, with_draft}
+use Rattle.idl_store.specs.Stored.{Stored, begun, grown, item_at, list_at, result_at, results_in, results_of_drafts, with_draft, with_results}
+use Rattle.idl_root.specs.Results.{HasDraft}
 
 module _ {X : Type 0} where
   -- what stands at a place is among the items

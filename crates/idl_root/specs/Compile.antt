@@ -70,8 +70,8 @@ all_findings end events o =
     ++ map (numbered events) (flat_map (closing_finding o.facts) o.listed)
 
 -- what is found, a row each, and the rows of a listing and a dump where no error is among it
-abbrev pub compiled_of : List Finding → List (List ℕ) → List (List ℕ) → Compiled
-compiled_of findings listing dump = record {
+abbrev pub rows_of_findings : List Finding → List (List ℕ) → List (List ℕ) → Compiled
+rows_of_findings findings listing dump = record {
   findings = findings;
   diagnostics = map finding_row findings;
   listing = rows_beside (has_error findings) listing;
@@ -82,7 +82,7 @@ compiled_of findings listing dump = record {
 -- what is told of a root
 abbrev pub told : Place → List Event → Outcome → Compiled
 told end events o =
-    compiled_of (all_findings end events o) (flat_map (entry_row o.facts) o.listed) o.rows
+    rows_of_findings (all_findings end events o) (flat_map (entry_row o.facts) o.listed) o.rows
 
 -- the rows of a root that expands to these events, and whose end is this place
 unfoldable pub compile : Place → List Event → Compiled

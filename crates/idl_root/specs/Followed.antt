@@ -8,13 +8,13 @@ use Rattle.idl_env.specs.keys.Key.{key_digest}
 use Rattle.idl_memo.specs.Fresh.{Place}
 use Rattle.idl_memo.specs.Kept.{Kept, SomeAlikeAt}
 use Rattle.idl_store.specs.Obtained.{IsObtained}
-use Rattle.idl_store.specs.Stored.{Stored, grown, result_at, results_in}
+use Rattle.idl_store.specs.Stored.{Stored, grown, list_at, result_at, results_in}
 use Rattle.idl_memo.specs.declared.meter.Meter.{Meter}
 use Rattle.idl_memo.specs.declared.task.TaskKind.TheVariants.{Check}
 use Rattle.idl_root.specs.Changed.{ShareNone}
 use Rattle.idl_root.specs.Judged.{boundary}
 use Rattle.idl_root.specs.Places.{DeclarationPlace, declarations_after}
-use Rattle.idl_root.specs.Results.{DeclarationResult, EntryResult, declaration_result, entry_result, list_at, marks_of}
+use Rattle.idl_root.specs.Results.{DeclarationResult, EntryResult, declaration_result, entry_result, marks_of}
 use Rattle.idl_root.specs.declared.kept.course.Course.{Course}
 use Rattle.idl_root.specs.declared.kept.following.Following.{Following}
 use Rattle.idl_root.specs.declared.kept.keeping.Keeping.{Keeping}

@@ -2,7 +2,7 @@
 use Rattle.std.specs.Prelude.{◌≡◌, List, ◌++◌, flat_map, map}
 use Rattle.idl_event.specs.declared.told.event.Event.{Event}
 use Rattle.idl_fault.specs.declared.place.Place.{Place}
-use Rattle.idl_root.specs.Compile.{Outcome, compiled_of, is_open, open_finding, row_in}
+use Rattle.idl_root.specs.Compile.{Outcome, rows_of_findings, is_open, open_finding, row_in}
 use Rattle.idl_root.specs.Findings.{in_order, numbered, unit_finding}
 use Rattle.idl_root.specs.Judged.{Judged, facts_after, judged_after}
 use Rattle.idl_root.specs.Printed.{Listed, closing_finding, entry_row, listed_in}
@@ -69,5 +69,5 @@ pub record IsEnded (ended : Ended) (o : Outcome) : Type 0 where
 -- what is told of it
 abbrev pub told_of : Place → List Event → Ended → Compiled
 told_of end events e =
-    compiled_of ((map (numbered events) (in_order e.findings.items) ++ open_finding end e.is_open)
+    rows_of_findings ((map (numbered events) (in_order e.findings.items) ++ open_finding end e.is_open)
     ++ map (numbered events) e.printed.findings.items) e.printed.rows.items e.rows.items

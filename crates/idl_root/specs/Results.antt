@@ -1,5 +1,5 @@
 -- The results of the tasks of roots, as they are kept.
-use Rattle.std.specs.Prelude.{◌≡◌, ◌≢◌, ℕ, Bool, List, [], ◌∷◌, ◌++◌, Option, flat_map, map, slice_index_or}
+use Rattle.std.specs.Prelude.{◌≡◌, ◌≢◌, ℕ, Bool, List, [], ◌∷◌, Option, flat_map, map}
 use Rattle.std.specs.Option.{option_eq}
 use Rattle.idl_check.specs.walk.Verdict.{verdict}
 use Rattle.idl_check.specs.declared.walk.verdict.Verdict.{Verdict}
@@ -86,14 +86,6 @@ pub record IsKeptOf (events : List Event) (marks : List Mark)
   pub marks_are : marks ≡ marks_of (units_of events)
   pub declarations_are : declarations ≡ map declaration_result (declarations_of events)
   pub entries_are : entries ≡ map entry_result (entries_of events)
-
--- the list at a place, or none where there is no list
-abbrev pub list_at : {X : Type 0} → List (List X) → ℕ → List X
-list_at lists at = slice_index_or lists at []
-
--- with one draft more, of these results
-abbrev pub with_draft : {X : Type 0} → Stored X → ℕ → List X → Stored X
-with_draft stored at results = record stored { drafts = stored.drafts ++ (at, results) ∷ [] }
 
 -- there is a draft
 abbrev pub HasDraft : {X : Type 0} → Stored X → Type 0

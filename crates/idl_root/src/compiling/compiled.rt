@@ -2,11 +2,11 @@
 
 ghost use Rattle.std.specs.Prelude.{◌≡◌, ◌++◌, IfOk, List, OnOk, map};
 ghost use Rattle.idl_event.specs.declared.told.event.Event.{Event};
-ghost use Rattle.idl_store.specs.Stored.{results_in};
+ghost use Rattle.idl_store.specs.Stored.{list_at, results_in, with_draft};
 ghost use Rattle.idl_root.specs.Compile.{compile, open_finding, rows_beside};
 ghost use Rattle.idl_root.specs.Held.{told_of};
 ghost use Rattle.idl_root.specs.Places.{declarations_of, entries_of};
-ghost use Rattle.idl_root.specs.Results.{ChecksAndPrintsOnly, IsDeclarationPass, IsEntryPass, IsKeptOf, declaration_result, entry_result, list_at, marks_of, with_draft};
+ghost use Rattle.idl_root.specs.Results.{ChecksAndPrintsOnly, IsDeclarationPass, IsEntryPass, IsKeptOf, declaration_result, entry_result, marks_of};
 ghost use Rattle.idl_unit.specs.Units.{units_of};
 
 use crate::compiling::finding::{

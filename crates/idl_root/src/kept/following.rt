@@ -5,7 +5,8 @@ ghost use Rattle.idl_env.specs.Facts.{UnitFacts, answers, operations_among};
 ghost use Rattle.idl_env.specs.declared.additions.addition.Step.TheVariants.{Closes, Stays};
 ghost use Rattle.idl_root.specs.Followed.{AreBeside, ArePrinted, IsAgain, IsFollowed, IsNext, IsTakenAgain, LookElsewhere, StayAlike, WereThere, added_by, facts_of, results_from};
 ghost use Rattle.idl_root.specs.Places.{DeclarationPlace};
-ghost use Rattle.idl_root.specs.Results.{DeclarationResult, EntryResult, declaration_result, list_at};
+ghost use Rattle.idl_store.specs.Stored.{list_at};
+ghost use Rattle.idl_root.specs.Results.{DeclarationResult, EntryResult, declaration_result};
 ghost use Rattle.idl_root.specs.declared.kept.course.Course.{Course as RootCourse};
 
 use crate::kept::changed::Changed;

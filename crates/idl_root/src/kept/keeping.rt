@@ -3,11 +3,11 @@
 ghost use Rattle.std.specs.Prelude.{◌≡◌, ◌∷◌, ◌++◌, [], IfOk, IfSome, List, None, OnOk};
 ghost use Rattle.idl_env.specs.Facts.{UnitFacts, answers};
 ghost use Rattle.idl_store.specs.Obtained.{IsObtained};
-ghost use Rattle.idl_store.specs.Stored.{grown, results_in};
+ghost use Rattle.idl_store.specs.Stored.{grown, list_at, results_in};
 ghost use Rattle.idl_memo.specs.declared.task.TaskKind.TheVariants.{Check};
 ghost use Rattle.idl_root.specs.Followed.{AreBeside, ArePrinted, IsFollowed, IsKeeping, WereThere, added_by, facts_of, results_from};
 ghost use Rattle.idl_root.specs.Judged.{verdict_over};
-ghost use Rattle.idl_root.specs.Results.{DeclarationResult, EntryResult, declaration_result, list_at};
+ghost use Rattle.idl_root.specs.Results.{DeclarationResult, EntryResult, declaration_result};
 ghost use Rattle.idl_root.specs.declared.kept.course.Course.{Course as RootCourse};
 ghost use Rattle.idl_root.specs.declared.kept.marks.Mark.TheVariants.{Judged};
 

@@ -7,7 +7,7 @@ use Rattle.idl_prep.specs.Root.{absent_files}
 use Rattle.idl_root.specs.Compile.{compile}
 use Rattle.idl_root.specs.Results.{root_marks}
 use Rattle.idl_project.specs.Compile.{end_of}
-use Rattle.idl_project.proofs.KeptLemmas.{IsMade-from, compile-kept}
+use Rattle.idl_project.proofs.KeptLemmas.{IsDrafted-from, compile-kept}
 use Rattle.idl_project.proofs.compile.compile_kept.Goals as goal
 
 pub returns-clause-compiled : goal.returns-clause-compiled
@@ -27,5 +27,5 @@ returns-clause-marks g c =
 pub returns-clause-made : goal.returns-clause-made
 returns-clause-made g c =
     let is = c.out.ensures ∙ ap (λ (p : List Event × List (RootKey × Option RootAnswer)). p.0) c.requires.over in
-    IsMade-from (g.B.Bank.at c.args.bank.now) c.args.root.at c.args.root.result.now.text c.out.result.now c.args.keeper.now c.compile_kept.new.keeper c.args.meter.now c.compile_kept.new.meter is
+    IsDrafted-from (g.B.Bank.at c.args.bank.now) c.args.root.at c.args.root.result.now.text c.out.result.now c.args.keeper.now c.compile_kept.new.keeper c.args.meter.now c.compile_kept.new.meter is
     c.in_ok-rows.ensures.declarations c.in_ok-rows.ensures.entries c.in_ok-rows.ensures.checked c.in_ok-rows.ensures.printed

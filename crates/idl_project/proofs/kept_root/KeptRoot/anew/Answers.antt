@@ -1,6 +1,6 @@
 -- Nothing is kept of it yet.
 use Rattle.std.proofs.Common.{[]}
-use Rattle.idl_root.specs.Results.{list_at}
+use Rattle.idl_store.specs.Stored.{list_at}
 use Rattle.idl_project.proofs.KeptLemmas.{IsKeptOf-none}
 use Rattle.idl_project.proofs.kept_root.KeptRoot.anew.Goals as goal
 

@@ -16,9 +16,9 @@ use Rattle.idl_memo.specs.Renewal.{IsTold, keys_compared}
 use Rattle.idl_memo.specs.declared.meter.Meter.{Meter}
 use Rattle.idl_prep.specs.Root.{expanded, expansion}
 use Rattle.idl_project.specs.Bank.{bank_of}
-use Rattle.idl_project.specs.Renewed.{IsMade}
+use Rattle.idl_project.specs.Renewed.{IsDrafted}
 use Rattle.idl_project.specs.Work.{answer_eq}
-use Rattle.idl_project.proofs.KeptLemmas.{IsKept-still, IsMade-metered, expanded-again, meter-anew, meter-still, told-of}
+use Rattle.idl_project.proofs.KeptLemmas.{IsKept-still, IsDrafted-metered, expanded-again, meter-anew, meter-still, told-of}
 use Rattle.idl_project.proofs.kept_root.KeptRoot.renewed.Goals as goal
 
 pub returns-then-holds_after-clause-kept : goal.returns-then-holds_after-clause-kept
@@ -82,8 +82,8 @@ returns-clause-tasks c =
     let after = changed key_eq before c.args.change.edited.now.key.now (option_copied c.args.change.edited.now.answer) in
     let name : c.copied-name.result ≡ c.args.self.now.result.value.text =
     c.copied-name.ensures ∙ c.text.ensures ∙ ap (λ (k : Kept RootKey (Option RootAnswer) (List ℕ) (List Event)). k.text) c.deref-2.ensures in
-    let made = subst (λ (n : List ℕ). IsMade after c.args.at n c.args.keeper.now c.expanded.new.keeper c.holds_after.new.meter c.expanded.new.meter) name c.in_ok-expanded.ensures.made in
-    inr (IsMade-metered after c.args.at c.args.self.now.result.value.text c.args.keeper.now c.expanded.new.keeper c.args.meter.now c.holds_after.new.meter c.expanded.new.meter
+    let made = subst (λ (n : List ℕ). IsDrafted after c.args.at n c.args.keeper.now c.expanded.new.keeper c.holds_after.new.meter c.expanded.new.meter) name c.in_ok-expanded.ensures.made in
+    inr (IsDrafted-metered after c.args.at c.args.self.now.result.value.text c.args.keeper.now c.expanded.new.keeper c.args.meter.now c.holds_after.new.meter c.expanded.new.meter
     (ap (λ (m : Meter). m.checked) c.holds_after.ensures.counts) (ap (λ (m : Meter). m.printed) c.holds_after.ensures.counts) made)
 
 pub returns-clause-counts : goal.returns-clause-counts

@@ -3,8 +3,8 @@ use Rattle.std.proofs.Common.{◌∙◌, map, ap, refl, sym}
 use Rattle.std.proofs.lemmas.List.{length-map}
 use Rattle.std.proofs.lemmas.Map.Entries.{length-keys_of}
 use Rattle.std.specs.Map.{keys_of}
-use Rattle.idl_store.specs.Stored.{Stored}
-use Rattle.idl_root.specs.Results.{DeclarationResult, EntryResult, list_at}
+use Rattle.idl_store.specs.Stored.{Stored, list_at}
+use Rattle.idl_root.specs.Results.{DeclarationResult, EntryResult}
 use Rattle.idl_project.specs.Bank.{bank_of}
 use Rattle.idl_project.specs.Tasks.{declaration_list, entry_list}
 use Rattle.idl_project.proofs.RootLemmas.{IsKeeperLeft-discarded}

@@ -14,9 +14,10 @@ use Rattle.idl_memo.specs.declared.meter.Meter.{Meter}
 use Rattle.idl_prep.specs.Root.{expansion}
 use Rattle.idl_event.specs.declared.told.event.Event.{Event}
 use Rattle.idl_root.specs.Places.{declarations_of, entries_of}
-use Rattle.idl_root.specs.Results.{DeclarationResult, EntryResult, declaration_result, entry_result, fresh_declarations, fresh_entries, list_at}
+use Rattle.idl_store.specs.Stored.{list_at}
+use Rattle.idl_root.specs.Results.{DeclarationResult, EntryResult, declaration_result, entry_result, fresh_declarations, fresh_entries}
 use Rattle.idl_project.specs.Bank.{bank_of}
-use Rattle.idl_project.specs.Renewed.{IsLeft, IsMade}
+use Rattle.idl_project.specs.Renewed.{IsLeft, IsDrafted}
 use Rattle.idl_project.specs.Tasks.{declaration_list, declarations_at, entries_at, entry_list}
 use Rattle.idl_project.specs.UpToDate.{AreKept, IsKept}
 use Rattle.idl_project.specs.Work.{answer_eq, compared_keys}
@@ -128,7 +129,7 @@ loop-root-preserved c =
     ap (λ (m : Meter). m.compared) counts ∙ ap (λ (name : List ℕ). compared_after c.loop-root.meter.compared (compared_at bytes_eq (option_eq answer_eq) expansion key_eq before after name)) text in
     let was = c.loop-root.keeper in
     let now = c.renewed.new.keeper in
-    let tasks = subst (λ (name : List ℕ). IsLeft before after name was now c.loop-root.meter c.renewed.new.meter ⊎ IsMade after c.len.result name was now c.loop-root.meter c.renewed.new.meter) text c.in_ok-next.ensures.tasks in
+    let tasks = subst (λ (name : List ℕ). IsLeft before after name was now c.loop-root.meter c.renewed.new.meter ⊎ IsDrafted after c.len.result name was now c.loop-root.meter c.renewed.new.meter) text c.in_ok-next.ensures.tasks in
     let place : c.len.result ≡ length (keys_of table) = c.len.ensures ∙ sym (length-keys_of table) in
     let more : keys_of c.add.new.self ≡ keys_of table ++ root ∷ [] = ap (λ (held : List (List ℕ × KeptRoot)). keys_of held) pushed ∙ map-append (λ (e : List ℕ × KeptRoot). e.0) table ((root, next) ∷ []) in
     let declarations_way = subst (λ (es : List (List ℕ × KeptRoot)). IsUnderWay declaration_result (declarations_at before) (declarations_at after) fresh_declarations (keys_of table) (keys_of es) was.declarations c.loop-root.meter.checked) left c.loop-root.invariant.declarations in

@@ -16,7 +16,8 @@ use Rattle.idl_source.specs.Limits.{most_roots}
 use Rattle.idl_source.specs.names.Name.{is_name}
 use Rattle.idl_source.specs.declared.refusal.Refusal.{Refusal}
 use Rattle.idl_source.specs.declared.refusal.Refusal.TheVariants.{BadName, OverLimit, RootThere}
-use Rattle.idl_root.specs.Results.{declaration_result, entry_result, fresh_declarations, fresh_entries, with_draft}
+use Rattle.idl_store.specs.Stored.{with_draft}
+use Rattle.idl_root.specs.Results.{declaration_result, entry_result, fresh_declarations, fresh_entries}
 use Rattle.idl_project.specs.Bank.{bank_of}
 use Rattle.idl_project.specs.Tasks.{declaration_list, declarations_among, declarations_at, entries_among, entries_at, entry_list}
 use Rattle.idl_project.specs.Edits.{AddRoot, after, result_map, roots_with}

@@ -1,12 +1,12 @@
 use Rattle.std.proofs.Common.{◌≡◌, ◌∙◌, ◌++◌, List, ap, map, refl, subst, sym}
 use Rattle.std.specs.Prelude.{IfSome}
-use Rattle.idl_store.specs.Stored.{Stored, grown, results_in}
+use Rattle.idl_store.specs.Stored.{Stored, grown, list_at, results_in}
 use Rattle.idl_memo.specs.declared.meter.Meter.{Meter}
 use Rattle.idl_root.specs.Compile.{Outcome, compile, outcome_of, told}
 use Rattle.idl_root.specs.Followed.{AreBeside}
 use Rattle.idl_root.specs.Held.{held, listed_at}
 use Rattle.idl_root.specs.Places.{entries_over}
-use Rattle.idl_root.specs.Results.{DeclarationResult, EntryResult, HasDraft, IsEntryPass, PrintsOnly, entry_result, list_at, marks_of}
+use Rattle.idl_root.specs.Results.{DeclarationResult, EntryResult, HasDraft, IsEntryPass, PrintsOnly, entry_result, marks_of}
 use Rattle.idl_root.specs.declared.compiling.printing.Listed.{Listed as HeldListed}
 use Rattle.idl_root.proofs.CompileLemmas.{counts-both, declarations-drafted, declarations-passed, entries-drafted, entries-passed, judged-all, printed-there, start-keeping, start-printed, start-there}
 use Rattle.idl_root.proofs.JudgingLemmas.{told-ended}

@@ -1,5 +1,5 @@
 use Rattle.std.proofs.Common.{◌≡◌, ◌∷◌, ◌∙◌, ap, drop, refl, rules}
-use Rattle.idl_root.specs.Results.{list_at}
+use Rattle.idl_store.specs.Stored.{list_at}
 use Rattle.idl_root.specs.declared.kept.marks.Mark.TheVariants as mark
 use Rattle.idl_root.proofs.ResultLemmas.{behind-entered, behind-judged, behind-left, drop-more}
 use Rattle.idl_root.proofs.kept.course.Course.behind_first.Goals as goal

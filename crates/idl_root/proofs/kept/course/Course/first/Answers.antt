@@ -1,5 +1,5 @@
 use Rattle.std.proofs.Common.{◌+◌, drop, rules}
-use Rattle.idl_root.specs.Results.{list_at}
+use Rattle.idl_store.specs.Stored.{list_at}
 use Rattle.idl_root.proofs.StoredLemmas.{item-drop}
 use Rattle.idl_root.proofs.kept.course.Course.first.Goals as goal
 

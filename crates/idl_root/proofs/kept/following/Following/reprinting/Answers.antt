@@ -1,6 +1,6 @@
 use Rattle.std.proofs.Common.{◌≡◌, ◌∙◌, [], ap, rules, subst, sym, true}
 use Rattle.idl_root.specs.Followed.{AgreeBut, ArePrinted, facts_of, results_from}
-use Rattle.idl_root.specs.Results.{list_at}
+use Rattle.idl_store.specs.Stored.{list_at}
 use Rattle.idl_root.proofs.FollowingLemmas.{beside-end}
 use Rattle.idl_root.proofs.kept.following.Following.reprinting.Goals as goal
 

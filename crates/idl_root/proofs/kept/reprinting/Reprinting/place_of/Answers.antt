@@ -3,10 +3,10 @@ use Rattle.std.proofs.lemmas.List.Elements.{All-contains}
 use Rattle.std.proofs.lemmas.Option.{same_Some}
 use Rattle.idl_env.specs.Facts.{answers}
 use Rattle.idl_env.specs.keys.Key.{key_digest}
-use Rattle.idl_store.specs.Stored.{result_at}
+use Rattle.idl_store.specs.Stored.{list_at, result_at}
 use Rattle.idl_repo.specs.Entry.{entry}
 use Rattle.idl_root.specs.Changed.{ShareNone}
-use Rattle.idl_root.specs.Results.{EntryResult, entry_result, list_at}
+use Rattle.idl_root.specs.Results.{EntryResult, entry_result}
 use Rattle.idl_root.proofs.AgainLemmas.{result-again}
 use Rattle.idl_root.proofs.StoredLemmas.{list-contains}
 use Rattle.idl_root.proofs.kept.reprinting.Reprinting.place_of.Goals as goal
