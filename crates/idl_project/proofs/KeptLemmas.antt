@@ -20,6 +20,7 @@ use Rattle.idl_memo.specs.Query.{asked, is_logged, noted_all}
 use Rattle.idl_store.specs.Stored.{results_in, with_draft}
 use Rattle.idl_prep.specs.Root.{absent_files, expanded, expansion, root}
 use Rattle.idl_root.specs.Compile.{compile}
+use Rattle.idl_root.specs.Turns.{IsWithinTurns}
 use Rattle.idl_root.specs.Places.{declarations_of, entries_of}
 use Rattle.idl_root.specs.Results.{DeclarationResult, EntryResult, IsDeclarationPass, IsEntryPass, IsKeptOf, declaration_result, entry_result, fresh_declarations, fresh_entries, root_marks}
 use Rattle.idl_root.specs.declared.kept.keeper.Keeper.{Keeper}
@@ -122,6 +123,7 @@ IsKept-still old new kept copy is result compiled marks over = record {
   over = subst (λ (k : Kept RootKey (Option RootAnswer) (List ℕ) (List Event)). HoldsOver key_eq expansion new k) (sym result) over;
   rows = compiled ∙ is.rows ∙ compile-again old new kept.result.value is.over over;
   marks = marks ∙ is.marks ∙ ap root_marks (sym (expanded-again old new kept.result.value is.over over));
+  turns = subst IsWithinTurns (sym (expanded-again old new kept.result.value is.over over)) is.turns;
 }
 
 -- what a root comes to, told of its events

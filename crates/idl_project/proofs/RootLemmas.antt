@@ -4,7 +4,7 @@ use Rattle.std.proofs.lemmas.Bool.{le-ltb, true≢false}
 use Rattle.std.proofs.lemmas.Map.Keys.{IsDistinct-head, IsDistinct-tail}
 use Rattle.std.proofs.lemmas.Map.Made.{is_some-lookup}
 use Rattle.std.proofs.lemmas.List.{append-nil, length-map, map-append}
-use Rattle.std.proofs.lemmas.List.Elements.{All-head, All-nil, All-tail, All-push, All-contains_itself}
+use Rattle.std.proofs.lemmas.List.Elements.{All-cons, All-head, All-nil, All-tail, All-push, All-contains_itself}
 use Rattle.std.specs.List.{list_any, AllByRecursion, IsDistinct}
 use Rattle.std.specs.Prelude.{nat_lt, slice_set}
 use Rattle.std.specs.Map.{lookup, keys_of, remove_entry}
@@ -17,6 +17,8 @@ use Rattle.idl_event.specs.declared.asked.key.RootAnswer.{RootAnswer}
 use Rattle.idl_event.specs.declared.asked.key.RootKey.{RootKey}
 use Rattle.idl_memo.specs.Cause.{changed}
 use Rattle.idl_store.specs.Stored.{Stored, committed, discarded, nothing_stored, with_draft}
+use Rattle.idl_prep.specs.Root.{expanded}
+use Rattle.idl_root.specs.Turns.{IsWithinTurns}
 use Rattle.idl_root.specs.declared.kept.keeper.Keeper.{Keeper}
 use Rattle.idl_source.specs.names.Name.{is_name}
 use Rattle.idl_project.specs.Compile.{compile_over}
@@ -45,6 +47,13 @@ lookup-held bank (e ∷ es) name h = by (bytes_eq name e.0) refl (lookup-held ba
         let kept : IsKept bank e = All-head (λ (root : List ℕ × KeptRoot). IsKept bank root) e es h in
         ap Some (kept.rows ∙ ap (compile_over bank) (sym ((bytes_decides name e.0).0 same)))
     by false other rest = rest
+
+-- and no root that is kept needs more turns than its verdicts are taken with
+pub turns-held : (bank : RootKey → Option RootAnswer) (held : List (List ℕ × KeptRoot)) → AreKept bank held → All (λ name. IsWithinTurns (expanded name bank).0) (keys_of held)
+turns-held bank [] h = All-nil (λ name. IsWithinTurns (expanded name bank).0)
+turns-held bank (e ∷ es) h =
+    All-cons (λ name. IsWithinTurns (expanded name bank).0) e.0 (keys_of es) (All-head (λ (root : List ℕ × KeptRoot). IsKept bank root) e es h).turns
+    (turns-held bank es (All-tail (λ (root : List ℕ × KeptRoot). IsKept bank root) e es h))
 
 -- what isn't a name isn't that of a root
 pub list_any-bad_name : (names : List (List ℕ)) (name : List ℕ) → All (λ n. IsTrue (is_name n)) names → ¬ IsTrue (is_name name)

@@ -9,6 +9,7 @@ ghost use Rattle.idl_prep.specs.Root.{expanded, expansion};
 ghost use Rattle.idl_root.specs.Findings.{finding_row};
 ghost use Rattle.idl_store.specs.Stored.{list_at};
 ghost use Rattle.idl_root.specs.Results.{ChecksAndPrintsOnly, IsKeptOf, root_marks};
+ghost use Rattle.idl_root.specs.Turns.{IsWithinTurns};
 ghost use Rattle.idl_project.specs.Asked.{asked_over};
 ghost use Rattle.idl_project.specs.Bank.{bank_of};
 ghost use Rattle.idl_project.specs.Compile.{compile_over, compiled_root, end_of, line_count};
@@ -67,7 +68,8 @@ pub fn compile_alone(
     bank: &SessionBank,
     root: &Name,
 ) -> Result<CompiledRoot, AllocError>
-    ensures { IfOk result (λ compiled. compiled ≡ compiled_root bank.now root.now) }
+    ensures compiled { IfOk result (λ compiled. compiled ≡ compiled_root bank.now root.now) }
+    ensures turns { OnOk result (IsWithinTurns (expanded root.now (bank_of bank.now)).0) }
 {
     let task = RootTask::new(root.copied());
     let kept = run_anew(memory.alloc(), &task, bank, &mut Meter::new())?;
@@ -94,7 +96,9 @@ pub fn compile<B: RootBank>(
     kept: &KeptExpansion,
 ) -> Result<CompiledRoot, AllocError>
     requires { HoldsOver key_eq expansion (B.at bank.now) kept.now }
-    ensures { IfOk result (λ compiled. compiled ≡ compile_over (B.at bank.now) kept.now.text) }
+    ensures compiled { IfOk result (λ compiled.
+        compiled ≡ compile_over (B.at bank.now) kept.now.text) }
+    ensures turns { OnOk result (IsWithinTurns (expanded kept.now.text (B.at bank.now)).0) }
 {
     let alloc = memory.alloc();
     let end = end_of(alloc, bank, kept.text())?;
@@ -120,6 +124,8 @@ pub fn compile_kept<B: RootBank>(
         (list_at keeper.old.declarations.lists root.at) (list_at keeper.old.entries.lists root.at) }
     ensures compiled { let name = root.entry.result.now.text in
         IfOk result (λ r. r.compiled ≡ compile_over (B.at bank.now) name) }
+    ensures turns { let name = root.entry.result.now.text in
+        OnOk result (IsWithinTurns (expanded name (B.at bank.now)).0) }
     ensures marks { let name = root.entry.result.now.text in
         IfOk result (λ r. r.marks ≡ root_marks (expanded name (B.at bank.now)).0) }
     ensures made { OnOk result (IsDrafted (B.at bank.now) root.entry.at root.entry.result.now.text

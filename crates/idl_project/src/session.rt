@@ -1,11 +1,13 @@
 //! The session: its edits, and its queries.
 
-ghost use Rattle.std.specs.Prelude.{◌≡◌, ℕ, List, [], true, Ok, Err, IfOk, IfNone, IfSome, IsTrue, map};
+ghost use Rattle.std.specs.Prelude.{◌≡◌, ℕ, All, List, [], true, Ok, Err, IfOk, IfNone, IfSome, IsTrue, map};
 ghost use Rattle.std.specs.Option.{option_copied};
 ghost use Rattle.idl_source.specs.names.Name.{is_name};
 ghost use Rattle.idl_event.specs.declared.asked.key.RootKey.TheVariants as keys;
 ghost use Rattle.idl_project.specs.Asked.{asked_files, asked_of};
-ghost use Rattle.idl_project.specs.Bank.{IsSameBeside};
+ghost use Rattle.idl_prep.specs.Root.{expanded};
+ghost use Rattle.idl_root.specs.Turns.{IsWithinTurns};
+ghost use Rattle.idl_project.specs.Bank.{IsSameBeside, bank_of};
 ghost use Rattle.idl_project.specs.Project.{no_project, with_files};
 ghost use Rattle.idl_project.specs.Work.{no_work};
 ghost use Rattle.idl_project.specs.Edited.{IsEdited, takes_memory};
@@ -329,6 +331,16 @@ impl Session {
     /// This does nothing: it carries the fact.
     pub fn keeps_form(&self)
         ensures { IsWellFormed self.now.project }
+    {
+        let _roots = &self.roots;
+    }
+
+    /// Tells of each root that its units need no more turns than their verdicts are taken with: so the laws of verdicts speak of it.
+    ///
+    /// This does nothing: it carries the fact.
+    pub fn bounds_turns(&self)
+        ensures { let bank = bank_of self.now.project.inputs in
+            All (λ root. IsWithinTurns (expanded root bank).0) self.now.project.roots }
     {
         let _roots = &self.roots;
     }

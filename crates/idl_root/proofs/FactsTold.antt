@@ -4,7 +4,7 @@ use Rattle.idl_check_laws.specs.Closing.{AreTold, IsTold, IsTold as told}
 use Rattle.idl_check.specs.walk.Verdict.{verdict}
 use Rattle.idl_check.specs.declared.walk.verdict.Verdict.{Verdict}
 use Rattle.idl_memo.specs.Query.{outcome, run}
-use Rattle.idl_root.specs.Judged.{added, facts_after, verdict_over}
+use Rattle.idl_root.specs.Judged.{HasTurns, added, facts_after, verdict_over}
 use Rattle.idl_env.specs.Facts.{UnitFacts, answers}
 use Rattle.idl_env.specs.Turns.{bases_among, bases_named, declared_among, declared_named, most_turns, turns_for}
 use Rattle.idl_env.specs.keys.Key.{key_eq}
@@ -60,6 +60,19 @@ turns-after (u ∷ units) facts =
     let rest = turns-after units (facts ++ added facts u) in
     omega (arith, one, rest)
 
+-- units, and then others
+after-append : (units more : List RootUnit) (facts : List UnitFacts) → facts_after facts (units ++ more) ≡ facts_after (facts_after facts units) more
+unfolding facts_after
+after-append [] more facts = refl
+after-append (u ∷ units) more facts = after-append units more (facts ++ added facts u)
+
+-- and so none before them needs more
+pub turns-before : (units more : List RootUnit) → HasTurns (units ++ more) → HasTurns units
+turns-before units more enough =
+    let all = ap turns_for (after-append units more []) in
+    let rest = turns-after more (facts_after [] units) in
+    omega (arith, all, rest, enough)
+
 module _
     (more : (facts : List UnitFacts) (turns more : ℕ) (text : UnitText) (log : List (Key × Option Answer)) → turns_for facts ≤ turns
     → run key_eq (verdict (turns + more) text) (answers facts) log ≡ run key_eq (verdict turns text) (answers facts) log)
@@ -89,5 +102,5 @@ module _
         let there = turns-after units (facts ++ added facts u) in
         after-told units (facts ++ added facts u) enough (added-told facts u (omega (arith, here, there, enough)) h)
 
-    pub facts-told : (units : List RootUnit) → turns_for (facts_after [] units) ≤ most_turns → AreTold (facts_after [] units)
+    pub facts-told : (units : List RootUnit) → HasTurns units → AreTold (facts_after [] units)
     facts-told units enough = after-told units [] enough nothing

@@ -1,12 +1,12 @@
 -- The units of a root, each with its verdict over what the units and file boundaries before it
 -- added.
-use Rattle.std.specs.Prelude.{List, [], ◌∷◌, ◌++◌}
+use Rattle.std.specs.Prelude.{◌≤◌, List, [], ◌∷◌, ◌++◌}
 use Rattle.idl_check.specs.walk.Verdict.{verdict}
 use Rattle.idl_check.specs.declared.walk.verdict.Verdict.{Verdict}
 use Rattle.idl_event.specs.declared.told.site.Site.{Site}
 use Rattle.idl_memo.specs.Query.{outcome}
 use Rattle.idl_env.specs.Facts.{UnitFacts, answers}
-use Rattle.idl_env.specs.Turns.{most_turns}
+use Rattle.idl_env.specs.Turns.{most_turns, turns_for}
 use Rattle.idl_env.specs.declared.additions.addition.Step.{Step}
 use Rattle.idl_env.specs.declared.additions.addition.Step.TheVariants.{Enters, Leaves}
 use Rattle.idl_unit.specs.declared.unit.Unit.{Unit as RootUnit}
@@ -54,3 +54,7 @@ judged_after facts (u ∷ units) = judged_at facts u ++ judged_after (facts ++ a
 unfoldable pub facts_after : List UnitFacts → List RootUnit → List UnitFacts
 facts_after facts [] = facts
 facts_after facts (u ∷ units) = facts_after (facts ++ added facts u) units
+
+-- what these units add needs no more turns than a verdict is taken with
+abbrev pub HasTurns : List RootUnit → Type 0
+HasTurns units = turns_for (facts_after [] units) ≤ most_turns

@@ -10,3 +10,4 @@ pub mod Results
 pub mod Followed
 pub mod Changed
 pub mod Told
+pub mod Turns

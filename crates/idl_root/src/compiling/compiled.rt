@@ -5,6 +5,7 @@ ghost use Rattle.idl_event.specs.declared.told.event.Event.{Event};
 ghost use Rattle.idl_store.specs.Stored.{list_at, results_in, with_draft};
 ghost use Rattle.idl_root.specs.Compile.{compile, open_finding, rows_beside};
 ghost use Rattle.idl_root.specs.Held.{told_of};
+ghost use Rattle.idl_root.specs.Judged.{HasTurns};
 ghost use Rattle.idl_root.specs.Places.{declarations_of, entries_of};
 ghost use Rattle.idl_root.specs.Results.{ChecksAndPrintsOnly, IsDeclarationPass, IsEntryPass, IsKeptOf, declaration_result, entry_result, marks_of};
 ghost use Rattle.idl_unit.specs.Units.{units_of};
@@ -74,14 +75,15 @@ pub struct Recompiled {
 ///
 /// The diagnostics stand in the order of the events that they name: a fault of the preprocessor has one, and so has a unit
 /// with a fault, at the token where it is decided. Behind them stands E23 where a scope is open at the end, and then what is
-/// declared ahead and never defined, in the order of the listing.
+/// declared ahead and never defined, in the order of the listing. The verdicts are taken with as many turns as the facts need.
 #[tactic(auto, unfolding(crate::specs::Compile::compile))]
 pub fn compile(
     memory: &mut Memory,
     end: &Place,
     expansion: &Expansion,
 ) -> Result<Compiled, AllocError>
-    ensures { IfOk result (λ compiled. compiled ≡ compile end.now expansion.now) }
+    ensures compiled { IfOk result (λ compiled. compiled ≡ compile end.now expansion.now) }
+    ensures turns { OnOk result (HasTurns (units_of expansion.now)) }
 {
     memory.clear();
     let alloc = memory.alloc();
@@ -89,6 +91,7 @@ pub fn compile(
     let findings = event_findings(alloc, expansion)?;
     let first = Judging::new(alloc, findings, units.as_slice().len())?;
     let judging = first.with_all(alloc, units.as_slice())?;
+    judging.env.bounds_turns();
     let printed = print_all(alloc, &judging.env, judging.gathered.listed.as_slice())?;
     told(alloc, end, expansion, judging.ended(memory, printed))
 }
@@ -107,6 +110,7 @@ pub fn compile_kept(
         (list_at keeper.old.declarations.lists root.at) (list_at keeper.old.entries.lists root.at) }
     ensures compiled { IfOk result (λ r.
         r.compiled ≡ compile root.entry.end.now root.entry.expansion.now) }
+    ensures turns { OnOk result (HasTurns (units_of root.entry.expansion.now)) }
     ensures marks { IfOk result (λ r. r.marks ≡ marks_of (units_of root.entry.expansion.now)) }
     ensures declarations { let places = declarations_of root.entry.expansion.now in
         OnOk result (keeper.new.declarations
@@ -134,6 +138,7 @@ pub fn compile_kept(
     let mut keeping = Keeping::new(alloc, earlier, count, *meter)?;
     keeper.declarations.begin(root.at)?;
     let judging = first.with_all_kept(&mut keeping, &mut keeper.declarations, units.as_slice())?;
+    judging.env.bounds_turns();
     keeper.entries.begin(root.at)?;
     let counted = keeping.meter;
     let before = keeper.entries.results(root.at);

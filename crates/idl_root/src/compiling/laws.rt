@@ -1,12 +1,11 @@
 //! The laws of what is told.
 
-ghost use Rattle.std.specs.Prelude.{◌≡◌, ◌≤◌, [], ℕ, All, List, filter, map, nat_eq};
+ghost use Rattle.std.specs.Prelude.{◌≡◌, ◌++◌, [], ℕ, All, List, filter, map, nat_eq};
 ghost use Rattle.idl_event.specs.declared.told.event.Event.{Event};
 ghost use Rattle.idl_fault.specs.declared.place.Place.{Place};
 ghost use Rattle.idl_check_laws.specs.Closing.{AreTold};
-ghost use Rattle.idl_env.specs.Turns.{most_turns, turns_for};
 ghost use Rattle.idl_root.specs.Compile.{compile};
-ghost use Rattle.idl_root.specs.Judged.{facts_after, judged_after};
+ghost use Rattle.idl_root.specs.Judged.{HasTurns, facts_after, judged_after};
 ghost use Rattle.idl_unit.specs.declared.unit.Unit.{Unit as RootUnit};
 ghost use Rattle.idl_root.specs.Told.{IsTold};
 ghost use Rattle.idl_unit.specs.Units.{units_of};
@@ -37,10 +36,11 @@ pub fn telling()
 }
 
 /// The facts of a root are what verdicts tell, each over those before it: of them the law of closed interfaces speaks
-/// (`inheriting` of `idl_check`). They are such as memory holds. This does nothing: it carries the law.
+/// (`inheriting` of `idl_check_laws`). Where they need no more turns than a verdict is taken with, none before them does: so the laws of
+/// verdicts (`denoting`, `more_turns`) speak of each unit. This does nothing: it carries the law.
 pub fn facts()
-    ensures { (units : List RootUnit) → turns_for (facts_after [] units) ≤ most_turns
-        → AreTold (facts_after [] units) }
+    ensures told { (units : List RootUnit) → HasTurns units → AreTold (facts_after [] units) }
+    ensures before { (units more : List RootUnit) → HasTurns (units ++ more) → HasTurns units }
 {
     // It does nothing: it carries a law of verdicts.
     more_turns();

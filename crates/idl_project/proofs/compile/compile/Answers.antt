@@ -1,16 +1,25 @@
 -- The rows and the absent files are those of the expansion that the result is.
-use Rattle.std.proofs.Common.{◌≡◌, ◌∙◌, ap}
+use Rattle.std.proofs.Common.{◌≡◌, ◌∙◌, List, Option, ap, subst}
+use Rattle.idl_event.specs.declared.asked.key.RootAnswer.{RootAnswer}
+use Rattle.idl_event.specs.declared.asked.key.RootKey.{RootKey}
+use Rattle.idl_event.specs.declared.told.event.Event.{Event}
 use Rattle.idl_prep.specs.Root.{absent_files}
 use Rattle.idl_root.specs.Compile.{compile}
+use Rattle.idl_root.specs.Turns.{IsWithinTurns}
 use Rattle.idl_project.specs.Compile.{end_of}
 use Rattle.idl_project.proofs.KeptLemmas.{compile-kept}
 use Rattle.idl_project.proofs.compile.compile.Goals as goal
 
-pub returns : goal.returns
-returns g c =
+pub returns-clause-compiled : goal.returns-clause-compiled
+returns-clause-compiled g c =
     let bank = g.B.Bank.at c.args.bank.now in
     let kept = c.args.kept.now in
     let rows : c.in_ok-rows.rows ≡ compile (end_of bank kept.text) kept.out =
-    c.in_ok-rows.ensures ∙ (λ i. compile ((c.in_ok-end.ensures ∙ ap (end_of bank) c.text.ensures) i) (c.out.ensures i)) in
+    c.in_ok-rows.ensures.compiled ∙ (λ i. compile ((c.in_ok-end.ensures ∙ ap (end_of bank) c.text.ensures) i) (c.out.ensures i)) in
     let names : c.from_vec.result ≡ absent_files kept.log = c.from_vec.ensures ∙ c.in_ok-names.ensures ∙ ap absent_files c.log.ensures in
     (λ i. record { rows = rows i; absent = names i }) ∙ compile-kept bank kept c.requires
+
+pub returns-clause-turns : goal.returns-clause-turns
+returns-clause-turns g c =
+    let is = c.out.ensures ∙ ap (λ (p : List Event × List (RootKey × Option RootAnswer)). p.0) c.requires in
+    subst IsWithinTurns is c.in_ok-rows.ensures.turns

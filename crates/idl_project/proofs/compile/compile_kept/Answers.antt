@@ -1,10 +1,11 @@
 -- What comes of a root is that of the events that its result is.
-use Rattle.std.proofs.Common.{◌≡◌, ◌∙◌, List, Option, ap}
+use Rattle.std.proofs.Common.{◌≡◌, ◌∙◌, List, Option, ap, subst}
 use Rattle.idl_event.specs.declared.asked.key.RootAnswer.{RootAnswer}
 use Rattle.idl_event.specs.declared.asked.key.RootKey.{RootKey}
 use Rattle.idl_event.specs.declared.told.event.Event.{Event}
 use Rattle.idl_prep.specs.Root.{absent_files}
 use Rattle.idl_root.specs.Compile.{compile}
+use Rattle.idl_root.specs.Turns.{IsWithinTurns}
 use Rattle.idl_root.specs.Results.{root_marks}
 use Rattle.idl_project.specs.Compile.{end_of}
 use Rattle.idl_project.proofs.KeptLemmas.{IsDrafted-from, compile-kept}
@@ -18,6 +19,11 @@ returns-clause-compiled g c =
     c.in_ok-rows.ensures.compiled ∙ (λ i. compile ((c.in_ok-end.ensures ∙ ap (end_of bank) c.text.ensures) i) (c.out.ensures i)) in
     let names : c.from_vec.result ≡ absent_files kept.log = c.from_vec.ensures ∙ c.in_ok-names.ensures ∙ ap absent_files c.log.ensures in
     (λ i. record { rows = rows i; absent = names i }) ∙ compile-kept bank kept c.requires.over
+
+pub returns-clause-turns : goal.returns-clause-turns
+returns-clause-turns g c =
+    let is = c.out.ensures ∙ ap (λ (p : List Event × List (RootKey × Option RootAnswer)). p.0) c.requires.over in
+    subst IsWithinTurns is c.in_ok-rows.ensures.turns
 
 pub returns-clause-marks : goal.returns-clause-marks
 returns-clause-marks g c =

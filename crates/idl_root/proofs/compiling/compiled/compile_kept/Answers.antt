@@ -1,5 +1,7 @@
-use Rattle.std.proofs.Common.{◌≡◌, ◌∙◌, ◌++◌, List, ap, map, refl, subst, sym}
+use Rattle.std.proofs.Common.{◌≡◌, ◌≤◌, ◌∙◌, ◌++◌, List, ap, map, refl, subst, sym}
 use Rattle.std.specs.Prelude.{IfSome}
+use Rattle.idl_env.specs.Facts.{UnitFacts}
+use Rattle.idl_env.specs.Turns.{most_turns, turns_for}
 use Rattle.idl_store.specs.Stored.{Stored, grown, list_at, results_in}
 use Rattle.idl_memo.specs.declared.meter.Meter.{Meter}
 use Rattle.idl_root.specs.Compile.{Outcome, compile, outcome_of, told}
@@ -51,6 +53,14 @@ returns-clause-compiled c =
     let all : judging ≡ outcome_of events =
     judged-all events c.as_slice-2.result.now c.in_ok-findings.findings.items (held c.in_ok-first.first) judging (c.as_slice-2.ensures ∙ c.in_ok-units.ensures) c.in_ok-findings.ensures c.in_ok-first.ensures c.in_ok-judging.ensures.held in
     c.in_ok-compiled.ensures ∙ told-ended end events c.ended-ended.result judging c.ended-ended.ensures ∙ ap (told end events) all
+
+pub returns-clause-turns : goal.returns-clause-turns
+returns-clause-turns c =
+    let events = c.args.root.expansion.now in
+    let judging = held c.in_ok-judging.judging in
+    let all : judging ≡ outcome_of events =
+    judged-all events c.as_slice-2.result.now c.in_ok-findings.findings.items (held c.in_ok-first.first) judging (c.as_slice-2.ensures ∙ c.in_ok-units.ensures) c.in_ok-findings.ensures c.in_ok-first.ensures c.in_ok-judging.ensures.held in
+    subst (λ (fs : List UnitFacts). turns_for fs ≤ most_turns) (ap (λ (o : Outcome). o.facts) all) c.bounds_turns.ensures
 
 pub returns-clause-marks : goal.returns-clause-marks
 returns-clause-marks c =
