@@ -158,27 +158,26 @@ pub remaining-there : (held : List (List ℕ × KeptRoot)) (test : List ℕ → 
 remaining-there held test = All-map-remove_entry test (λ (e : List ℕ × KeptRoot). e.0) (Contains (keys_of held)) held (All-contains_itself (keys_of held))
 
 -- After an edit that changes one answer: the same roots, with what is kept of them over the changed answers.
-pub IsUpToDate-edited : (now new : Inputs) (held : List (List ℕ × KeptRoot)) (renewed : List (List ℕ × KeptRoot) × Work) (keeper : Keeper) (asked at : RootKey) (given answer : Option RootAnswer)
-    → IsRenewed (project_held now held) asked given renewed
-    → keeper.declarations ≡ kept_declarations (changed key_eq (bank_of now) asked given) (keys_of held) → keeper.entries ≡ kept_entries (changed key_eq (bank_of now) asked given) (keys_of held)
+pub IsUpToDate-edited : (now new : Inputs) (held : List (List ℕ × KeptRoot)) (renewed : List (List ℕ × KeptRoot) × Work) (made keeper : Keeper) (asked at : RootKey) (given answer : Option RootAnswer)
+    → IsRenewed (project_held now held) asked given made renewed → keeper.declarations ≡ committed made.declarations → keeper.entries ≡ committed made.entries
     → asked ≡ at → given ≡ answer → bank_of new ≡ changed key_eq (bank_of now) at answer
     → IsWellFormed (record { inputs = new; roots = keys_of renewed.0 }) → IsUpToDate new renewed.0 keeper
-IsUpToDate-edited now new held renewed keeper asked at given answer again declarations entries asks gives changes formed =
+IsUpToDate-edited now new held renewed made keeper asked at given answer again declarations entries asks gives changes formed =
     let banks = ap (λ (k : RootKey). changed key_eq (bank_of now) k given) asks ∙ ap (changed key_eq (bank_of now) at) gives ∙ sym changes in
     record {
       formed = formed;
       kept = subst (λ (bank : RootKey → Option RootAnswer). AreKept bank renewed.0) banks again.kept;
-      declarations = declarations ∙ (λ i. kept_declarations (banks i) (sym again.roots i));
-      entries = entries ∙ (λ i. kept_entries (banks i) (sym again.roots i));
+      declarations = declarations ∙ again.declarations ∙ (λ i. kept_declarations (banks i) (sym again.roots i));
+      entries = entries ∙ again.entries ∙ (λ i. kept_entries (banks i) (sym again.roots i));
     }
 
 -- and the work is that between the two projects
-pub work-edited : (state : State) (now new : Inputs) (held : List (List ℕ × KeptRoot)) (renewed : List (List ℕ × KeptRoot) × Work) (asked at : RootKey) (given answer : Option RootAnswer) (work : Work)
+pub work-edited : (state : State) (now new : Inputs) (held : List (List ℕ × KeptRoot)) (renewed : List (List ℕ × KeptRoot) × Work) (made : Keeper) (asked at : RootKey) (given answer : Option RootAnswer) (work : Work)
     → record { project = record { inputs = now; roots = keys_of held }; work = work } ≡ state
-    → IsRenewed (project_held now held) asked given renewed
+    → IsRenewed (project_held now held) asked given made renewed
     → asked ≡ at → given ≡ answer → bank_of new ≡ changed key_eq (bank_of now) at answer
     → renewed.1 ≡ work_of state.project (record { inputs = new; roots = keys_of renewed.0 })
-work-edited state now new held renewed asked at given answer work is again asks gives changes =
+work-edited state now new held renewed made asked at given answer work is again asks gives changes =
     let banks : changed key_eq (bank_of now) asked given ≡ bank_of new =
     ap (λ (k : RootKey). changed key_eq (bank_of now) k given) asks ∙ ap (changed key_eq (bank_of now) at) gives ∙ sym changes in
     again.work ∙ (λ i. work_between (bank_of now) (keys_of held) (banks i) (sym again.roots i))

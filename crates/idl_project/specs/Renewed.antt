@@ -5,14 +5,14 @@ use Rattle.idl_event.specs.Key.{key_eq}
 use Rattle.idl_event.specs.declared.asked.key.RootAnswer.{RootAnswer}
 use Rattle.idl_event.specs.declared.asked.key.RootKey.{RootKey}
 use Rattle.idl_memo.specs.Cause.{changed}
-use Rattle.idl_store.specs.Stored.{results_in, with_draft}
+use Rattle.idl_store.specs.Stored.{committed, results_in, with_draft}
 use Rattle.idl_memo.specs.declared.meter.Meter.{Meter}
 use Rattle.idl_prep.specs.Root.{expanded}
 use Rattle.idl_root.specs.Results.{IsDeclarationPass, IsEntryPass}
 use Rattle.idl_root.specs.declared.kept.keeper.Keeper.{Keeper}
 use Rattle.idl_project.specs.Bank.{bank_of}
 use Rattle.idl_project.specs.Project.{Inputs, Project}
-use Rattle.idl_project.specs.Tasks.{declaration_list, declarations_at, entries_at, entry_list}
+use Rattle.idl_project.specs.Tasks.{declaration_list, declarations_at, entries_at, entry_list, kept_declarations, kept_entries}
 use Rattle.idl_project.specs.UpToDate.{AreKept, IsKept}
 use Rattle.idl_project.specs.Work.{work_between}
 use Rattle.idl_project.specs.declared.kept_root.KeptRoot.{KeptRoot}
@@ -55,11 +55,17 @@ pub record IsAdded (inputs : Inputs) (root : List ℕ) (old new : List (List ℕ
   pub is_kept : IsKept (bank_of inputs) (root, kept)
   pub last : new ≡ old ++ (root, kept) ∷ []
 
--- the same roots, with what is kept of them once this key has another answer, and the work of that
+-- the same roots, with what is kept of them once this key has another answer, and the work of that;
+-- what is kept of their tasks then comes of the keeper once its drafts are in place
 pub record IsRenewed (project : Project) (key : RootKey) (answer : Option RootAnswer)
-    (renewed : List (List ℕ × KeptRoot) × Work) : Type 0 where
+    (keeper : Keeper) (renewed : List (List ℕ × KeptRoot) × Work) : Type 0 where
   pub roots : keys_of renewed.0 ≡ project.roots
   pub kept : let before = bank_of project.inputs in
       AreKept (changed key_eq before key answer) renewed.0
+  pub declarations : let before = bank_of project.inputs in
+      committed keeper.declarations
+      ≡ kept_declarations (changed key_eq before key answer) project.roots
+  pub entries : let before = bank_of project.inputs in
+      committed keeper.entries ≡ kept_entries (changed key_eq before key answer) project.roots
   pub work : let before = bank_of project.inputs in
       renewed.1 ≡ work_between before project.roots (changed key_eq before key answer) project.roots

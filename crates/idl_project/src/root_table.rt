@@ -1,9 +1,6 @@
 //! Roots by name, each with what is kept of it.
 
 ghost use Rattle.std.specs.Prelude.{◌≡◌, ◌+◌, ◌<◌, ◌∷◌, ◌++◌, [], false, IfOk, OnOk, OnErr, is_some, length, nat_le};
-ghost use Rattle.idl_event.specs.Key.{key_eq};
-ghost use Rattle.idl_memo.specs.Cause.{changed};
-ghost use Rattle.idl_store.specs.Stored.{committed};
 ghost use Rattle.idl_project.specs.Bank.{bank_of};
 ghost use Rattle.idl_project.specs.Renewed.{AreListsLeft, IsAdded, IsKeeperLeft, IsDrafted, IsRenewed};
 ghost use Rattle.idl_project.specs.Tasks.{kept_declarations, kept_entries};
@@ -13,7 +10,7 @@ ghost use Rattle.std.specs.Map.{lookup, keys_of, remove_entry};
 ghost use Rattle.std.specs.Str.{bytes_eq};
 ghost use Rattle.idl_memo.specs.Meter.{compared_after, most_compared};
 ghost use Rattle.idl_source.specs.Limits.{most_roots};
-ghost use Rattle.idl_project.specs.UpToDate.{AreKept, keys_asked, project_held};
+ghost use Rattle.idl_project.specs.UpToDate.{IsUpToDate, keys_asked, project_held};
 
 use crate::bank::SessionBank;
 use crate::compile::CompiledRoot;
@@ -168,21 +165,10 @@ impl RootTable {
         keeper: &mut Keeper,
         edited: &Edited<'a, SessionBank>,
     ) -> Result<(RootTable, Work), AllocError>
-        requires distinct { IsDistinct bytes_eq (keys_of self.now) }
-        requires kept { AreKept (bank_of edited.now.base.now) self.now }
-        requires declarations { keeper.old.declarations
-            ≡ kept_declarations (bank_of edited.now.base.now) (keys_of self.now) }
-        requires entries { keeper.old.entries
-            ≡ kept_entries (bank_of edited.now.base.now) (keys_of self.now) }
-        ensures renewed { IfOk result (IsRenewed (project_held edited.now.base.now self.now)
-            edited.now.key.now (option_copied edited.now.answer)) }
-        ensures declarations { let before = bank_of edited.now.base.now in
-            let after = changed key_eq before edited.now.key.now (option_copied edited.now.answer) in
-            OnOk result (committed keeper.new.declarations
-            ≡ kept_declarations after (keys_of self.now)) }
-        ensures entries { let before = bank_of edited.now.base.now in
-            let after = changed key_eq before edited.now.key.now (option_copied edited.now.answer) in
-            OnOk result (committed keeper.new.entries ≡ kept_entries after (keys_of self.now)) }
+        requires { IsUpToDate edited.now.base.now self.now keeper.old }
+        ensures renewed { let project = project_held edited.now.base.now self.now in
+            let answer = option_copied edited.now.answer in
+            IfOk result (IsRenewed project edited.now.key.now answer keeper.new) }
         ensures lists { AreListsLeft keeper.old keeper.new }
         ensures err { OnErr result (IsKeeperLeft keeper.old keeper.new) }
     {
@@ -201,21 +187,10 @@ impl RootTable {
         keeper: &mut Keeper,
         edited: &Edited<'a, SessionBank>,
     ) -> Result<(RootTable, Work), AllocError>
-        requires distinct { IsDistinct bytes_eq (keys_of self.now) }
-        requires kept { AreKept (bank_of edited.now.base.now) self.now }
-        requires declarations { keeper.old.declarations
-            ≡ kept_declarations (bank_of edited.now.base.now) (keys_of self.now) }
-        requires entries { keeper.old.entries
-            ≡ kept_entries (bank_of edited.now.base.now) (keys_of self.now) }
-        ensures renewed { IfOk result (IsRenewed (project_held edited.now.base.now self.now)
-            edited.now.key.now (option_copied edited.now.answer)) }
-        ensures declarations { let before = bank_of edited.now.base.now in
-            let after = changed key_eq before edited.now.key.now (option_copied edited.now.answer) in
-            OnOk result (committed keeper.new.declarations
-            ≡ kept_declarations after (keys_of self.now)) }
-        ensures entries { let before = bank_of edited.now.base.now in
-            let after = changed key_eq before edited.now.key.now (option_copied edited.now.answer) in
-            OnOk result (committed keeper.new.entries ≡ kept_entries after (keys_of self.now)) }
+        requires { IsUpToDate edited.now.base.now self.now keeper.old }
+        ensures renewed { let project = project_held edited.now.base.now self.now in
+            let answer = option_copied edited.now.answer in
+            IfOk result (IsRenewed project edited.now.key.now answer keeper.new) }
         ensures lists { AreListsLeft keeper.old keeper.new }
     {
         one_bank::<SessionBank, RootTask>();

@@ -50,7 +50,7 @@ loop-root-init c =
     let begun : whole ≡ parts = λ i. (keys_of (sym none i), sym names_left i) in
     record {
       roots = all;
-      distinct = subst (λ (ns : List (List ℕ)). IsDistinct bytes_eq ns) (sym all) c.requires.distinct;
+      distinct = subst (λ (ns : List (List ℕ)). IsDistinct bytes_eq ns) (sym all) c.requires.formed.roots_once;
       kept = subst (AreKept after) (sym none) (All-nil (λ (e : List ℕ × KeptRoot). IsKept after e));
       kept_left = subst (AreKept before) (sym left) c.requires.kept;
       expanded = omega (arith, expanded, stale);
@@ -183,26 +183,14 @@ returns-clause-renewed c =
     let compares = subst (λ (es : List (List ℕ × KeptRoot)). compared_after m.compared (compared_keys before after (keys_of es)) ≡ compared_after 0 (compared_keys before after names)) none inv.compared in
     let expanded : m.expanded ≡ stale_roots before after names = omega (arith, counted) in
     let compared : m.compared ≡ compared_after 0 (compared_keys before after names) = omega (arith, inv.fits, compares) in
-    let checked = (way-ends declaration_result (declarations_at before) (declarations_at after) fresh_declarations names (keys_of c.loop-root.table) (keys_of c.loop-root.root-iterator) c.loop-root.keeper.declarations m.checked none_left inv.roots inv.declarations).1 in
-    let printed = (way-ends entry_result (entries_at before) (entries_at after) fresh_entries names (keys_of c.loop-root.table) (keys_of c.loop-root.root-iterator) c.loop-root.keeper.entries m.printed none_left inv.roots inv.entries).1 in
+    let declarations = way-ends declaration_result (declarations_at before) (declarations_at after) fresh_declarations names (keys_of c.loop-root.table) (keys_of c.loop-root.root-iterator) c.loop-root.keeper.declarations m.checked none_left inv.roots inv.declarations in
+    let entries = way-ends entry_result (entries_at before) (entries_at after) fresh_entries names (keys_of c.loop-root.table) (keys_of c.loop-root.root-iterator) c.loop-root.keeper.entries m.printed none_left inv.roots inv.entries in
     record {
       roots = sym (append-nil (keys_of c.loop-root.table)) ∙ ap (λ (ns : List (List ℕ)). keys_of c.loop-root.table ++ ns) (sym none_left) ∙ inv.roots;
       kept = inv.kept;
+      declarations = declarations.0;
+      entries = entries.0;
       work =
           c.counted.ensures
-          ∙ work-same before after names m.expanded m.checked m.printed m.compared (staying-all names names (All-contains_itself names)) (c.one_bank.ensures.same_places before after names c.requires.distinct) expanded compared checked printed;
+          ∙ work-same before after names m.expanded m.checked m.printed m.compared (staying-all names names (All-contains_itself names)) (c.one_bank.ensures.same_places before after names c.requires.formed.roots_once) expanded compared declarations.1 entries.1;
     }
-
-pub returns-clause-declarations : goal.returns-clause-declarations
-returns-clause-declarations c =
-    let before = bank_of c.args.edited.now.base.now in
-    let after = changed key_eq before c.args.edited.now.key.now (option_copied c.args.edited.now.answer) in
-    let none_left : keys_of c.loop-root.root-iterator ≡ [] = ap (λ (es : List (List ℕ × KeptRoot)). keys_of es) c.in-None.ensures.steps.0 in
-    (way-ends declaration_result (declarations_at before) (declarations_at after) fresh_declarations (keys_of c.args.self.now) (keys_of c.loop-root.table) (keys_of c.loop-root.root-iterator) c.loop-root.keeper.declarations c.loop-root.meter.checked none_left c.loop-root.invariant.roots c.loop-root.invariant.declarations).0
-
-pub returns-clause-entries : goal.returns-clause-entries
-returns-clause-entries c =
-    let before = bank_of c.args.edited.now.base.now in
-    let after = changed key_eq before c.args.edited.now.key.now (option_copied c.args.edited.now.answer) in
-    let none_left : keys_of c.loop-root.root-iterator ≡ [] = ap (λ (es : List (List ℕ × KeptRoot)). keys_of es) c.in-None.ensures.steps.0 in
-    (way-ends entry_result (entries_at before) (entries_at after) fresh_entries (keys_of c.args.self.now) (keys_of c.loop-root.table) (keys_of c.loop-root.root-iterator) c.loop-root.keeper.entries c.loop-root.meter.printed none_left c.loop-root.invariant.roots c.loop-root.invariant.entries).0

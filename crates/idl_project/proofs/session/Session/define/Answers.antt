@@ -48,9 +48,9 @@ invariant_of-self-2 c =
     let is = define-accepted project word c.args.body c.define.new.self new.roots none
     (c.in_default-define.ensures.ok ∙ ap (λ (b : List ℕ). record project.inputs { macros = insert_entry bytes_eq project.inputs.macros word b }) c.in_ok-body.ensures)
     c.in_ok-renewed.ensures.renewed.roots in
-    IsUpToDate-edited c.self.inside.bank c.define.new.self c.self.inside.roots c.in_ok-renewed.renewed c.commit.new.self _ (keys.Macro word)
+    IsUpToDate-edited c.self.inside.bank c.define.new.self c.self.inside.roots c.in_ok-renewed.renewed c.renewed.new.keeper c.commit.new.self _ (keys.Macro word)
     (Some c.answer.result.now) (Some (answers.Macro (c.in_ok-body.body ∷ [])))
-    c.in_ok-renewed.ensures.renewed (c.commit.ensures.declarations ∙ c.in_ok-renewed.ensures.declarations) (c.commit.ensures.entries ∙ c.in_ok-renewed.ensures.entries) (ap keys.Macro c.in_ok-clone.ensures.cases) (ap Some c.answer.ensures) c.in_default-define.ensures.bank
+    c.in_ok-renewed.ensures.renewed c.commit.ensures.declarations c.commit.ensures.entries (ap keys.Macro c.in_ok-clone.ensures.cases) (ap Some c.answer.ensures) c.in_default-define.ensures.bank
     (after-formed project new (Define word c.args.body) c.self.invariant.formed is)
 
 pub returns : goal.returns
@@ -67,7 +67,7 @@ returns c =
           c.in_ok-renewed.ensures.renewed.roots;
       kept = refl;
       told =
-          work-edited c.args.self.now c.self.inside.bank c.define.new.self c.self.inside.roots c.in_ok-renewed.renewed _ (keys.Macro word)
+          work-edited c.args.self.now c.self.inside.bank c.define.new.self c.self.inside.roots c.in_ok-renewed.renewed c.renewed.new.keeper _ (keys.Macro word)
           (Some c.answer.result.now) (Some (answers.Macro (c.in_ok-body.body ∷ []))) c.self.inside.work
           c.self.view_is c.in_ok-renewed.ensures.renewed (ap keys.Macro c.in_ok-clone.ensures.cases) (ap Some c.answer.ensures) c.in_default-define.ensures.bank;
     }

@@ -21,8 +21,8 @@ invariant_of-self-2 c =
     let is = search-accepted project given c.in_ok-list.list.items c.set_search.new.self new.roots c.in_ok-list.ensures.ok
     (c.set_search.ensures.set ∙ ap (λ (list : List (List ℕ)). record project.inputs { search = list }) c.from_vec.ensures)
     c.in_ok-renewed.ensures.renewed.roots in
-    IsUpToDate-edited c.self.inside.bank c.set_search.new.self c.self.inside.roots c.in_ok-renewed.renewed c.commit.new.self keys.Search keys.Search _ _
-    c.in_ok-renewed.ensures.renewed (c.commit.ensures.declarations ∙ c.in_ok-renewed.ensures.declarations) (c.commit.ensures.entries ∙ c.in_ok-renewed.ensures.entries) refl refl c.set_search.ensures.bank (after-formed project new (Search given) c.self.invariant.formed is)
+    IsUpToDate-edited c.self.inside.bank c.set_search.new.self c.self.inside.roots c.in_ok-renewed.renewed c.renewed.new.keeper c.commit.new.self keys.Search keys.Search _ _
+    c.in_ok-renewed.ensures.renewed c.commit.ensures.declarations c.commit.ensures.entries refl refl c.set_search.ensures.bank (after-formed project new (Search given) c.self.invariant.formed is)
 
 pub returns : goal.returns
 returns c =
@@ -36,6 +36,6 @@ returns c =
           c.in_ok-renewed.ensures.renewed.roots;
       kept = refl;
       told =
-          work-edited c.args.self.now c.self.inside.bank c.set_search.new.self c.self.inside.roots c.in_ok-renewed.renewed keys.Search keys.Search _ _ c.self.inside.work
+          work-edited c.args.self.now c.self.inside.bank c.set_search.new.self c.self.inside.roots c.in_ok-renewed.renewed c.renewed.new.keeper keys.Search keys.Search _ _ c.self.inside.work
           c.self.view_is c.in_ok-renewed.ensures.renewed refl refl c.set_search.ensures.bank;
     }
