@@ -1,9 +1,15 @@
 -- Results of lists that go into the last draft too.
-use Rattle.std.proofs.Common.{◌≡◌, List, [], ◌∷◌, Option, None, Some, ap, subst, sym, ◌∙◌}
+use Rattle.std.proofs.Common.{◌≡◌, List, [], ◌∷◌, Option, None, Some, ap, inl, subst, sym, ◌∙◌}
 use Rattle.std.specs.Option.{option_map}
 use Rattle.std.specs.Prelude.{IfNone, IfOk, IfSome, OnErr, OnOk, Result, Ok, Err, option_to_list}
 use Rattle.std.proofs.lemmas.Option.{same_Some}
-use Rattle.idl_store.specs.Stored.{Stored, grown}
+use Rattle.idl_memo.specs.Fresh.{Place}
+use Rattle.idl_memo.specs.Kept.{Kept}
+use Rattle.idl_memo.specs.declared.meter.Meter.{Meter}
+use Rattle.idl_memo.specs.declared.task.TaskKind.{TaskKind}
+use Rattle.idl_store.specs.Obtained.{IsObtained}
+use Rattle.idl_store.specs.Stored.{Stored, grown, results_in}
+use Rattle.idl_root.specs.Followed.{IsObtainedLast, IsTakenAgain}
 use Rattle.idl_root.proofs.StoredLemmas.{grown-none}
 
 module _ {X R E : Type 0} (value : R → X) (old new : Stored X) where
@@ -42,6 +48,18 @@ at-some found r P is h = subst (λ o. IfSome o P) is h
 
 pub at-none : {R : Type 0} (found : Option R) (P : Type 0) → found ≡ None → IfNone found P → P
 at-none found P is h = subst (λ o. IfNone o P) is h
+
+-- what is obtained goes last into what is made of a root
+pub obtained-last : {K V T O R E : Type 0} (result : Result R E) (value : R → Kept K V T O) (kind : TaskKind) (place : Place K V T) (here : Kept K V T O) (old new : Stored (Kept K V T O)) (before after : Meter)
+    → IfOk result (λ r. value r ≡ here) → OnOk result (new ≡ grown old (here ∷ [])) → OnOk result (IsObtained place kind (results_in old) before after)
+    → IfOk result (λ r. IsObtainedLast kind place here old new before after (value r))
+obtained-last (Ok r) value kind place here old new before after is grows obtained = record { result_is = is; new_is = grows; obtained = obtained }
+obtained-last (Err e) value kind place here old new before after is grows obtained = tt
+
+-- and so does what is taken again, of which nothing is counted
+pub taken-last : {K V T O : Type 0} {place : Place K V T} {here : Kept K V T O} {old new : Stored (Kept K V T O)} {result : Kept K V T O} (kind : TaskKind) (before after : Meter)
+    → after ≡ before → IsTakenAgain place here old new result → IsObtainedLast kind place here old new before after result
+taken-last kind before after same taken = record { result_is = taken.result_is; new_is = taken.new_is; obtained = inl (taken.alike, same) }
 
 -- the lists stay as they are
 pub lists-kept : {X T E : Type 0} (result : Result T E) (old new : Stored X) (more : List X) → OnOk result (new ≡ grown old more) → OnErr result (new ≡ old) → new.lists ≡ old.lists

@@ -10,10 +10,11 @@ use Rattle.idl_memo.specs.Kept.{Kept, SomeAlikeAt}
 use Rattle.idl_store.specs.Obtained.{IsObtained}
 use Rattle.idl_store.specs.Stored.{Stored, grown, list_at, result_at, results_in}
 use Rattle.idl_memo.specs.declared.meter.Meter.{Meter}
-use Rattle.idl_memo.specs.declared.task.TaskKind.TheVariants.{Check}
+use Rattle.idl_memo.specs.declared.task.TaskKind.{TaskKind}
+use Rattle.idl_memo.specs.declared.task.TaskKind.TheVariants.{Check, Print}
 use Rattle.idl_root.specs.Changed.{ShareNone}
 use Rattle.idl_root.specs.Judged.{boundary}
-use Rattle.idl_root.specs.Places.{DeclarationPlace, declarations_after}
+use Rattle.idl_root.specs.Places.{DeclarationPlace, EntryPlace, declarations_after}
 use Rattle.idl_root.specs.Results.{DeclarationResult, EntryResult, declaration_result, entry_result, marks_of}
 use Rattle.idl_root.specs.declared.kept.course.Course.{Course}
 use Rattle.idl_root.specs.declared.kept.following.Following.{Following}
@@ -148,6 +149,25 @@ pub record IsTakenAgain {K V T O : Type 0} (place : Place K V T) (here : Kept K 
   pub result_is : result ≡ here
   pub new_is : new ≡ grown old (here ∷ [])
   pub alike : SomeAlikeAt place (results_in old)
+
+-- the result of a place is obtained, and goes last into what is made of a root
+pub record IsObtainedLast {K V T O : Type 0} (kind : TaskKind) (place : Place K V T)
+    (here : Kept K V T O) (old new : Stored (Kept K V T O)) (before after : Meter)
+    (result : Kept K V T O) : Type 0 where
+  pub result_is : result ≡ here
+  pub new_is : new ≡ grown old (here ∷ [])
+  pub obtained : IsObtained place kind (results_in old) before after
+
+-- that of a declaration, and that of an entry
+abbrev pub IsDeclarationLast : DeclarationPlace → Stored DeclarationResult → Stored DeclarationResult
+    → Meter → Meter → DeclarationResult → Type 0
+IsDeclarationLast place old new before after result =
+    IsObtainedLast Check place (declaration_result place) old new before after result
+
+abbrev pub IsEntryLast : EntryPlace → Stored EntryResult → Stored EntryResult → Meter → Meter
+    → EntryResult → Type 0
+IsEntryLast place old new before after result =
+    IsObtainedLast Print place (entry_result place) old new before after result
 
 -- each of these entries is that of its name over these facts
 abbrev pub ArePrinted : List UnitFacts → List EntryResult → Type 0

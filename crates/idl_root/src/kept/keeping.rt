@@ -2,12 +2,11 @@
 
 ghost use Rattle.std.specs.Prelude.{◌≡◌, ◌∷◌, ◌++◌, [], IfOk, IfSome, List, None, OnOk};
 ghost use Rattle.idl_env.specs.Facts.{UnitFacts, answers};
-ghost use Rattle.idl_store.specs.Obtained.{IsObtained};
-ghost use Rattle.idl_store.specs.Stored.{grown, list_at, results_in};
-ghost use Rattle.idl_memo.specs.declared.task.TaskKind.TheVariants.{Check};
-ghost use Rattle.idl_root.specs.Followed.{AreBeside, ArePrinted, IsFollowed, IsKeeping, WereThere, added_by, facts_of, results_from};
+ghost use Rattle.idl_store.specs.Stored.{list_at};
+ghost use Rattle.idl_root.specs.Followed.{AreBeside, ArePrinted, IsDeclarationLast, IsFollowed, IsKeeping, WereThere, added_by, facts_of, results_from};
 ghost use Rattle.idl_root.specs.Judged.{verdict_over};
-ghost use Rattle.idl_root.specs.Results.{DeclarationResult, EntryResult, declaration_result};
+ghost use Rattle.idl_root.specs.Places.{DeclarationPlace};
+ghost use Rattle.idl_root.specs.Results.{DeclarationResult, EntryResult};
 ghost use Rattle.idl_root.specs.declared.kept.course.Course.{Course as RootCourse};
 ghost use Rattle.idl_root.specs.declared.kept.marks.Mark.TheVariants.{Judged};
 
@@ -83,14 +82,11 @@ impl<'k> Keeping<'k> {
         text: &UnitText,
     ) -> Result<Rc<KeptDeclaration>, AllocError>
         requires { IsKeeping kept.old.lists self.old env.now }
-        ensures result { IfOk result (λ declaration.
-            declaration.value ≡ declaration_result (text.now, answers env.now)) }
-        ensures kept { OnOk result
-            (kept.new ≡ grown kept.old (declaration_result (text.now, answers env.now) ∷ [])) }
+        ensures obtained { let place : DeclarationPlace = (text.now, answers env.now) in
+            IfOk result (λ declaration. IsDeclarationLast place kept.old kept.new self.old.meter
+            self.new.meter declaration.value) }
         ensures lists { kept.new.lists ≡ kept.old.lists }
         ensures marks { OnOk result (self.new.marks ≡ self.old.marks ++ Judged ∷ []) }
-        ensures meter { OnOk result (IsObtained (text.now, answers env.now) Check
-            (results_in kept.old) self.old.meter self.new.meter) }
         ensures keeping { OnOk result (IsKeeping kept.new.lists self.new
             (env.now ++ (verdict_over env.now text.now).writes ∷ [])) }
         ensures earlier { self.new.earlier ≡ self.old.earlier }
@@ -111,14 +107,11 @@ impl<'k> Keeping<'k> {
         text: &UnitText,
     ) -> Result<Rc<KeptDeclaration>, AllocError>
         requires { IsFollowed kept.old.lists self.old.earlier following env.now }
-        ensures result { IfOk result (λ declaration.
-            declaration.value ≡ declaration_result (text.now, answers env.now)) }
-        ensures kept { OnOk result
-            (kept.new ≡ grown kept.old (declaration_result (text.now, answers env.now) ∷ [])) }
+        ensures obtained { let place : DeclarationPlace = (text.now, answers env.now) in
+            IfOk result (λ declaration. IsDeclarationLast place kept.old kept.new self.old.meter
+            self.new.meter declaration.value) }
         ensures lists { kept.new.lists ≡ kept.old.lists }
         ensures marks { self.new.marks ≡ self.old.marks }
-        ensures meter { OnOk result (IsObtained (text.now, answers env.now) Check
-            (results_in kept.old) self.old.meter self.new.meter) }
         ensures keeping { OnOk result (IsKeeping kept.new.lists self.new
             (env.now ++ (verdict_over env.now text.now).writes ∷ [])) }
         ensures earlier { self.new.earlier ≡ self.old.earlier }
@@ -141,14 +134,11 @@ impl<'k> Keeping<'k> {
         text: &UnitText,
     ) -> Result<Rc<KeptDeclaration>, AllocError>
         requires { IsFollowed kept.old.lists self.old.earlier following env.now }
-        ensures result { IfOk result (λ declaration.
-            declaration.value ≡ declaration_result (text.now, answers env.now)) }
-        ensures kept { OnOk result
-            (kept.new ≡ grown kept.old (declaration_result (text.now, answers env.now) ∷ [])) }
+        ensures obtained { let place : DeclarationPlace = (text.now, answers env.now) in
+            IfOk result (λ declaration. IsDeclarationLast place kept.old kept.new self.old.meter
+            self.new.meter declaration.value) }
         ensures lists { kept.new.lists ≡ kept.old.lists }
         ensures marks { self.new.marks ≡ self.old.marks }
-        ensures meter { OnOk result (IsObtained (text.now, answers env.now) Check
-            (results_in kept.old) self.old.meter self.new.meter) }
         ensures keeping { OnOk result (IsKeeping kept.new.lists self.new
             (env.now ++ (verdict_over env.now text.now).writes ∷ [])) }
         ensures earlier { self.new.earlier ≡ self.old.earlier }
@@ -166,16 +156,13 @@ impl<'k> Keeping<'k> {
         env: &Env,
         text: &UnitText,
     ) -> Result<Rc<KeptDeclaration>, AllocError>
-        ensures result { IfOk result (λ declaration.
-            declaration.value ≡ declaration_result (text.now, answers env.now)) }
-        ensures kept { OnOk result
-            (kept.new ≡ grown kept.old (declaration_result (text.now, answers env.now) ∷ [])) }
+        ensures obtained { let place : DeclarationPlace = (text.now, answers env.now) in
+            IfOk result (λ declaration. IsDeclarationLast place kept.old kept.new self.old.meter
+            self.new.meter declaration.value) }
         ensures lists { kept.new.lists ≡ kept.old.lists }
         ensures marks { self.new.marks ≡ self.old.marks }
         ensures earlier { self.new.earlier ≡ self.old.earlier }
         ensures following { self.new.following ≡ self.old.following }
-        ensures meter { OnOk result (IsObtained (text.now, answers env.now) Check
-            (results_in kept.old) self.old.meter self.new.meter) }
     {
         if self.meter.checked == u64::MAX {
             return Err(AllocError);

@@ -2,10 +2,8 @@
 
 ghost use Rattle.std.specs.Prelude.{◌≡◌, ◌∷◌, [], IfNone, IfOk, IfSome, List, OnErr, OnOk, flat_map, map};
 ghost use Rattle.idl_env.specs.Facts.{UnitFacts, answers};
-ghost use Rattle.idl_store.specs.Obtained.{IsObtained};
-ghost use Rattle.idl_memo.specs.declared.task.TaskKind.TheVariants.{Print};
 ghost use Rattle.idl_store.specs.Stored.{grown, results_in};
-ghost use Rattle.idl_root.specs.Followed.{IsPrinting, IsTakenAgain};
+ghost use Rattle.idl_root.specs.Followed.{IsEntryLast, IsPrinting, IsTakenAgain};
 ghost use Rattle.idl_root.specs.Held.{listed_at};
 ghost use Rattle.idl_root.specs.Places.{EntryPlace, entries_over};
 ghost use Rattle.idl_root.specs.Printed.{closing_finding, entry_row};
@@ -90,13 +88,10 @@ impl Printing {
         path: &Path,
     ) -> Result<Rc<KeptEntry>, AllocError>
         requires { IsPrinting kept.old.lists self.old env.now }
-        ensures result { IfOk result (λ entry.
-            entry.value ≡ entry_result (path.now, answers env.now)) }
-        ensures kept { OnOk result
-            (kept.new ≡ grown kept.old (entry_result (path.now, answers env.now) ∷ [])) }
+        ensures obtained { let place : EntryPlace = (path.now, answers env.now) in
+            IfOk result (λ entry. IsEntryLast place kept.old kept.new self.old.meter
+            self.new.meter entry.value) }
         ensures lists { kept.new.lists ≡ kept.old.lists }
-        ensures meter { OnOk result (IsObtained (path.now, answers env.now) Print
-            (results_in kept.old) self.old.meter self.new.meter) }
         ensures rest { OnOk result (IsPrinting kept.new.lists self.new env.now) }
     {
         match self.taken(kept, path)? {
@@ -112,14 +107,11 @@ impl Printing {
         env: &Env,
         path: &Path,
     ) -> Result<Rc<KeptEntry>, AllocError>
-        ensures result { IfOk result (λ entry.
-            entry.value ≡ entry_result (path.now, answers env.now)) }
-        ensures kept { OnOk result
-            (kept.new ≡ grown kept.old (entry_result (path.now, answers env.now) ∷ [])) }
+        ensures obtained { let place : EntryPlace = (path.now, answers env.now) in
+            IfOk result (λ entry. IsEntryLast place kept.old kept.new self.old.meter
+            self.new.meter entry.value) }
         ensures lists { kept.new.lists ≡ kept.old.lists }
         ensures reprinting { self.new.reprinting ≡ self.old.reprinting }
-        ensures meter { OnOk result (IsObtained (path.now, answers env.now) Print
-            (results_in kept.old) self.old.meter self.new.meter) }
     {
         if self.meter.printed == u64::MAX {
             return Err(AllocError);

@@ -12,7 +12,7 @@ use Rattle.idl_root.proofs.compiling.judging.Gathered.add_kept.Goals as goal
 
 pub returns-in_ok-add_verdict-in-Spelled-clause-added : goal.returns-in_ok-add_verdict-in-Spelled-clause-added
 returns-in_ok-add_verdict-in-Spelled-clause-added c =
-    ap (λ (k : DeclarationResult). k.out.writes ∷ []) c.in_ok-declaration-in-Spelled.ensures.result ∙ ap (added c.args.env.now) (sym c.in-Spelled.is)
+    ap (λ (k : DeclarationResult). k.out.writes ∷ []) c.in_ok-declaration-in-Spelled.ensures.obtained.result_is ∙ ap (added c.args.env.now) (sym c.in-Spelled.is)
 
 pub returns-in_ok-add_verdict-in-Spelled-clause-gathered : goal.returns-in_ok-add_verdict-in-Spelled-clause-gathered
 returns-in_ok-add_verdict-in-Spelled-clause-gathered c = λ facts.
@@ -21,13 +21,13 @@ returns-in_ok-add_verdict-in-Spelled-clause-gathered c = λ facts.
     let sites = c.in-Spelled.sites in
     c.in_ok-add_verdict-in-Spelled.ensures facts
     ∙ ap (λ (v : Verdict). with_judged o (record { text = text; sites = sites; verdict = v }))
-    (c.out.ensures ∙ ap (λ (k : DeclarationResult). k.out) (c.deref.ensures ∙ c.in_ok-declaration-in-Spelled.ensures.result))
+    (c.out.ensures ∙ ap (λ (k : DeclarationResult). k.out) (c.deref.ensures ∙ c.in_ok-declaration-in-Spelled.ensures.obtained.result_is))
     ∙ with-one o (judged_over c.args.env.now text sites)
     ∙ ap (λ u. with_units o (judged_at c.args.env.now u)) (sym c.in-Spelled.is)
 
 pub returns-in_ok-add_verdict-in-Spelled-clause-kept : goal.returns-in_ok-add_verdict-in-Spelled-clause-kept
 returns-in_ok-add_verdict-in-Spelled-clause-kept c =
-    c.in_ok-declaration-in-Spelled.ensures.kept ∙ ap (λ u. grown c.args.kept.now (map declaration_result (declaration_at c.args.env.now u))) (sym c.in-Spelled.is)
+    c.in_ok-declaration-in-Spelled.ensures.obtained.new_is ∙ ap (λ u. grown c.args.kept.now (map declaration_result (declaration_at c.args.env.now u))) (sym c.in-Spelled.is)
 
 pub returns-in_ok-add_verdict-in-Spelled-clause-marks : goal.returns-in_ok-add_verdict-in-Spelled-clause-marks
 returns-in_ok-add_verdict-in-Spelled-clause-marks c = c.in_ok-declaration-in-Spelled.ensures.marks ∙ ap (λ u. c.args.keeping.now.marks ++ mark_at u) (sym c.in-Spelled.is)
@@ -38,7 +38,7 @@ returns-in_ok-add_verdict-in-Spelled-clause-keeping c =
 
 pub returns-in_ok-add_verdict-in-Spelled-clause-counts : goal.returns-in_ok-add_verdict-in-Spelled-clause-counts
 returns-in_ok-add_verdict-in-Spelled-clause-counts c =
-    subst (λ u. IsJudgedAt (declaration_at c.args.env.now u) (results_in c.args.kept.now) c.args.keeping.now.meter c.judge.new.self.meter) (sym c.in-Spelled.is) c.in_ok-declaration-in-Spelled.ensures.meter
+    subst (λ u. IsJudgedAt (declaration_at c.args.env.now u) (results_in c.args.kept.now) c.args.keeping.now.meter c.judge.new.self.meter) (sym c.in-Spelled.is) c.in_ok-declaration-in-Spelled.ensures.obtained.obtained
 
 pub returns-in_ok-crossed-in-Entered-clause-added : goal.returns-in_ok-crossed-in-Entered-clause-added
 returns-in_ok-crossed-in-Entered-clause-added c = c.in_ok-crossed-in-Entered.ensures.added ∙ ap (added c.args.env.now) (sym c.in-Entered.is)

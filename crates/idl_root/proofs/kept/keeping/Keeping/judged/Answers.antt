@@ -1,28 +1,24 @@
-use Rattle.std.proofs.Common.{◌≡◌, ◌++◌, ◌∷◌, ◌∙◌, [], ap, inl, refl, subst, sym}
-use Rattle.std.specs.Prelude.{IfSome, OnOk}
+use Rattle.std.proofs.Common.{◌≡◌, ◌++◌, ◌∷◌, ◌∙◌, [], ap, refl, subst, sym}
+use Rattle.std.specs.Prelude.{IfOk, IfSome}
 use Rattle.idl_check.specs.declared.walk.verdict.Verdict.{Verdict}
 use Rattle.idl_env.specs.Facts.{answers}
 use Rattle.idl_memo.specs.declared.task.TaskKind.TheVariants.{Check}
-use Rattle.idl_store.specs.Obtained.{IsObtained}
-use Rattle.idl_store.specs.Stored.{Stored, results_in}
-use Rattle.idl_root.specs.Followed.{IsFollowed, IsNext}
+use Rattle.idl_store.specs.Stored.{Stored}
+use Rattle.idl_root.specs.Followed.{IsDeclarationLast, IsFollowed, IsNext}
 use Rattle.idl_root.specs.Judged.{verdict_over}
+use Rattle.idl_root.specs.Places.{DeclarationPlace}
 use Rattle.idl_root.specs.Results.{DeclarationResult}
-use Rattle.idl_root.proofs.TakenLemmas.{at-none, at-some, some-weaker}
+use Rattle.idl_root.proofs.TakenLemmas.{at-none, at-some, some-weaker, taken-last}
 use Rattle.idl_root.proofs.kept.keeping.Keeping.judged.Goals as goal
 
-pub returns-in_ok-self-in-Some-clause-result : goal.returns-in_ok-self-in-Some-clause-result
-returns-in_ok-self-in-Some-clause-result c = (at-some c.in_ok-declaration.field-0 c.in-Some.declaration _ c.in-Some.is c.in_ok-declaration.ensures.again c.args.self.now.earlier c.args.env.now c.requires).result_is
-
-pub returns-in_ok-self-in-Some-clause-kept : goal.returns-in_ok-self-in-Some-clause-kept
-returns-in_ok-self-in-Some-clause-kept c = (at-some c.in_ok-declaration.field-0 c.in-Some.declaration _ c.in-Some.is c.in_ok-declaration.ensures.again c.args.self.now.earlier c.args.env.now c.requires).new_is
+pub returns-in_ok-self-in-Some-clause-obtained : goal.returns-in_ok-self-in-Some-clause-obtained
+returns-in_ok-self-in-Some-clause-obtained c =
+    taken-last Check c.args.self.now.meter c.args.self.now.meter refl
+    (at-some c.in_ok-declaration.field-0 c.in-Some.declaration _ c.in-Some.is c.in_ok-declaration.ensures.again c.args.self.now.earlier c.args.env.now c.requires)
 
 pub returns-in_ok-self-in-Some-clause-lists : goal.returns-in_ok-self-in-Some-clause-lists
 returns-in_ok-self-in-Some-clause-lists c =
     ap (λ (s : Stored DeclarationResult). s.lists) (at-some c.in_ok-declaration.field-0 c.in-Some.declaration _ c.in-Some.is c.in_ok-declaration.ensures.again c.args.self.now.earlier c.args.env.now c.requires).new_is
-
-pub returns-in_ok-self-in-Some-clause-meter : goal.returns-in_ok-self-in-Some-clause-meter
-returns-in_ok-self-in-Some-clause-meter c = inl ((at-some c.in_ok-declaration.field-0 c.in-Some.declaration _ c.in-Some.is c.in_ok-declaration.ensures.again c.args.self.now.earlier c.args.env.now c.requires).alike, refl)
 
 pub returns-in_ok-self-in-Some-clause-keeping : goal.returns-in_ok-self-in-Some-clause-keeping
 returns-in_ok-self-in-Some-clause-keeping c =
@@ -43,7 +39,8 @@ pub returns-in_err-self-in-Some-clause-lists : goal.returns-in_err-self-in-Some-
 returns-in_err-self-in-Some-clause-lists c =
     ap (λ (s : Stored DeclarationResult). s.lists) (at-some c.in_ok-declaration.field-0 c.in-Some.declaration _ c.in-Some.is c.in_ok-declaration.ensures.again c.args.self.now.earlier c.args.env.now c.requires).new_is
 
-pub returns-in-None-clause-meter : goal.returns-in-None-clause-meter
-returns-in-None-clause-meter c =
-    subst (λ (s : Stored DeclarationResult). OnOk c.judged_anew.result (IsObtained (c.args.text.now, answers c.args.env.now) Check (results_in s) c.args.self.now.meter c.judged_anew.new.self.meter))
-    (at-none c.in_ok-declaration.field-0 _ c.in-None.is c.in_ok-declaration.ensures.none) c.judged_anew.ensures.meter
+pub returns-in-None-clause-obtained : goal.returns-in-None-clause-obtained
+returns-in-None-clause-obtained c =
+    let place : DeclarationPlace = (c.args.text.now, answers c.args.env.now) in
+    subst (λ (s : Stored DeclarationResult). IfOk c.judged_anew.result (λ found. IsDeclarationLast place s c.judged_anew.new.kept c.args.self.now.meter c.judged_anew.new.self.meter found.value))
+    (at-none c.in_ok-declaration.field-0 _ c.in-None.is c.in_ok-declaration.ensures.none) c.judged_anew.ensures.obtained

@@ -13,7 +13,7 @@ returns-clause-keeping c =
     let lists = c.obtained.new.kept.lists in
     let earlier = c.obtained.new.self.earlier in
     let facts : c.get-facts.result.now ≡ (verdict_over env c.args.text.now).writes =
-    c.get-facts.ensures ∙ ap (λ (v : Verdict). v.writes) (c.out.ensures ∙ ap (λ (k : DeclarationResult). k.out) (c.deref.ensures ∙ c.in_ok-declaration.ensures.result)) in
+    c.get-facts.ensures ∙ ap (λ (v : Verdict). v.writes) (c.out.ensures ∙ ap (λ (k : DeclarationResult). k.out) (c.deref.ensures ∙ c.in_ok-declaration.ensures.obtained.result_is)) in
     let own : IsFollowed lists earlier before env =
     subst (λ e. IsFollowed lists e before env) (sym c.obtained.ensures.earlier) (subst (λ ls. IsFollowed ls c.args.self.now.earlier before env) (sym c.obtained.ensures.lists) c.requires) in
     some-weaker c.in_ok-self.field-0 _ _ (λ f more. subst (λ w. IsFollowed lists earlier f (env ++ w ∷ [])) facts (more earlier own)) c.in_ok-self.ensures

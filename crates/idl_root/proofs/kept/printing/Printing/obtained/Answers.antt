@@ -1,29 +1,25 @@
-use Rattle.std.proofs.Common.{◌∷◌, ◌∙◌, [], ap, subst}
-use Rattle.std.proofs.lemmas.Result.{IfOk-weaker, on_ok_weaker}
+use Rattle.std.proofs.Common.{ℕ, List, subst}
+use Rattle.std.specs.Global.{Global}
+use Rattle.std.specs.Prelude.{IfOk}
+use Rattle.std.specs.declared.rc.Rc.{Rc}
 use Rattle.idl_env.specs.Facts.{answers}
-use Rattle.idl_store.specs.Obtained.{IsObtained}
-use Rattle.idl_store.specs.Stored.{grown, results_in}
 use Rattle.idl_memo.specs.declared.task.TaskKind.TheVariants.{Print}
-use Rattle.idl_root.specs.Results.{entry_result}
-use Rattle.idl_root.proofs.TakenLemmas.{lists-kept}
+use Rattle.idl_root.specs.Followed.{IsEntryLast}
+use Rattle.idl_root.specs.Places.{EntryPlace}
+use Rattle.idl_root.specs.Results.{EntryResult, entry_result}
+use Rattle.idl_root.proofs.TakenLemmas.{lists-kept, obtained-last}
 use Rattle.idl_root.proofs.kept.printing.Printing.obtained.Goals as goal
 
-pub returns-clause-result : goal.returns-clause-result
-returns-clause-result c =
-    let same = c.in_ok-clone.ensures.cases in
-    IfOk-weaker c.obtain.result _ _ (λ k is. is ∙ ap (λ t. entry_result (t, answers c.args.env.now)) same) c.obtain.ensures.result
-
-pub returns-clause-kept : goal.returns-clause-kept
-returns-clause-kept c =
-    let same = c.in_ok-clone.ensures.cases in
-    on_ok_weaker c.obtain.result (λ is. is ∙ ap (λ t. grown c.args.kept.now (entry_result (t, answers c.args.env.now) ∷ [])) same) c.obtain.ensures.ok
+pub returns-clause-obtained : goal.returns-clause-obtained
+returns-clause-obtained c =
+    let old = c.args.kept.now in
+    let new = c.obtain.new.self in
+    let before = c.args.self.now.meter in
+    let after = c.obtain.new.meter in
+    let place : EntryPlace = (c.in_ok-clone.field-0, answers c.args.env.now) in
+    subst (λ (p : List (List ℕ)). IfOk c.obtain.result (λ found. IsEntryLast (p, answers c.args.env.now) old new before after found.value)) c.in_ok-clone.ensures.cases
+    (obtained-last c.obtain.result (λ (found : Rc EntryResult Global). found.value) Print place (entry_result place) old new before after
+    c.obtain.ensures.result c.obtain.ensures.ok c.obtain.ensures.meter)
 
 pub returns-clause-lists : goal.returns-clause-lists
 returns-clause-lists c = lists-kept c.obtain.result c.args.kept.now c.obtain.new.self _ c.obtain.ensures.ok c.obtain.ensures.err
-
-pub returns-clause-meter : goal.returns-clause-meter
-returns-clause-meter c =
-    let same = c.in_ok-clone.ensures.cases in
-    on_ok_weaker c.obtain.result
-    (λ is. subst (λ t. IsObtained (t, answers c.args.env.now) Print (results_in c.args.kept.now) c.args.self.now.meter c.obtain.new.meter) same is)
-    c.obtain.ensures.meter

@@ -33,10 +33,10 @@ loop-name-preserved c =
     let here : map listed_at (drop c.loop-name.name-index listed) ≡ l ∷ rest =
     at_drop_more (λ (ns : List HeldListed). map listed_at ns) listed c.loop-name.name-index name c.loop-name-test.true ∙ ap (λ n. listed_at n ∷ rest) (sym c.name-item.is) in
     let entry : c.out.result.now ≡ entry_over env name.path =
-    c.out.ensures ∙ ap (λ (k : EntryResult). k.out) (c.deref.ensures ∙ c.in_ok-entry.ensures.result) in
+    c.out.ensures ∙ ap (λ (k : EntryResult). k.out) (c.deref.ensures ∙ c.in_ok-entry.ensures.obtained.result_is) in
     let findings = c.in_ok-add.ensures.findings ∙ ap (λ (e : Entry). printed.findings.items ++ fault_finding name.unit.text.now name.unit.sites.now (option_map (fault_at (name_index name.unit.text.now)) e.fault)) entry in
     let rows = c.in_ok-add.ensures.rows ∙ ap (λ (e : Entry). printed.rows.items ++ option_to_list e.row) entry in
-    let grows = c.in_ok-entry.ensures.kept in
+    let grows = c.in_ok-entry.ensures.obtained.new_is in
     let inv = c.loop-name.invariant in (
       printed-more (closing_finding env) printed.findings.items c.add.new.self.findings.items listed c.loop-name.name-index name c.loop-name-test.true c.name-item.is findings ∙ inv.0,
       printed-more (entry_row env) printed.rows.items c.add.new.self.rows.items listed c.loop-name.name-index name c.loop-name-test.true c.name-item.is rows ∙ inv.1,
@@ -44,14 +44,14 @@ loop-name-preserved c =
           ∙ ap (λ ns. grown kept (map entry_result (entries_over env ns))) (sym here) ∙ inv.2,
       c.entry.ensures.lists ∙ inv.3,
       c.in_ok-entry.ensures.rest,
-      prints-more c.args.self.now.meter meter now inv.5 (prints-one place (results_in kept) meter now c.in_ok-entry.ensures.meter),
+      prints-more c.args.self.now.meter meter now inv.5 (prints-one place (results_in kept) meter now c.in_ok-entry.ensures.obtained.obtained),
       λ has.
           let so = inv.6 has in (
             subst HasDraft (sym grows) (has-grown kept (entry_result place ∷ []) so.0),
             λ end total pass.
                 so.1 end total
                 (subst (λ ns. IsEntryPass (entries_over env ns) (results_in kept) end meter.printed total) (sym here)
-                (printed-pass c.passing.ensures.one c.passing.ensures.both kept next so.0 meter now env l rest grows c.in_ok-entry.ensures.meter end total pass)),
+                (printed-pass c.passing.ensures.one c.passing.ensures.both kept next so.0 meter now env l rest grows c.in_ok-entry.ensures.obtained.obtained end total pass)),
           ),
     )
 
