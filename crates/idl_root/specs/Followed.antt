@@ -159,8 +159,8 @@ pub record IsObtainedLast {K V T O : Type 0} (kind : TaskKind) (place : Place K 
   pub obtained : IsObtained place kind (results_in old) before after
 
 -- that of a declaration, and that of an entry
-abbrev pub IsDeclarationLast : DeclarationPlace → Stored DeclarationResult → Stored DeclarationResult
-    → Meter → Meter → DeclarationResult → Type 0
+abbrev pub IsDeclarationLast : DeclarationPlace → Stored DeclarationResult
+    → Stored DeclarationResult → Meter → Meter → DeclarationResult → Type 0
 IsDeclarationLast place old new before after result =
     IsObtainedLast Check place (declaration_result place) old new before after result
 

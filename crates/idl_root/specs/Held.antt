@@ -69,5 +69,7 @@ pub record IsEnded (ended : Ended) (o : Outcome) : Type 0 where
 -- what is told of it
 abbrev pub told_of : Place → List Event → Ended → Compiled
 told_of end events e =
-    rows_of_findings ((map (numbered events) (in_order e.findings.items) ++ open_finding end e.is_open)
-    ++ map (numbered events) e.printed.findings.items) e.printed.rows.items e.rows.items
+    let found = map (numbered events) (in_order e.findings.items) in
+    let closing = map (numbered events) e.printed.findings.items in
+    rows_of_findings ((found ++ open_finding end e.is_open) ++ closing) e.printed.rows.items
+    e.rows.items

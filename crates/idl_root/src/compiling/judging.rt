@@ -223,7 +223,8 @@ impl<'a> Gathered<'a> {
         ensures keeping { OnOk result
             (IsKeeping kept.new.lists keeping.new (env.now ++ added env.now unit.now)) }
         ensures earlier { keeping.new.earlier ≡ keeping.old.earlier }
-        ensures counts { OnOk result (IsJudgedAt (declaration_at env.now unit.now) (results_in kept.old)
+        ensures counts { let places = declaration_at env.now unit.now in
+            OnOk result (IsJudgedAt places (results_in kept.old)
             keeping.old.meter keeping.new.meter) }
     {
         match unit {
