@@ -4,10 +4,12 @@ use Rattle.std.specs.FinMap as map
 use Rattle.std.specs.Map.{lookup}
 use Rattle.std.specs.Option.{option_map}
 use Rattle.std.specs.Str.{bytes_eq}
+use Rattle.idl_event.specs.Key.{key_eq}
 use Rattle.idl_event.specs.declared.asked.key.RootAnswer.{RootAnswer}
 use Rattle.idl_event.specs.declared.asked.key.RootAnswer.TheVariants as answer
 use Rattle.idl_event.specs.declared.asked.key.RootKey.{RootKey}
 use Rattle.idl_event.specs.declared.asked.key.RootKey.TheVariants as key
+use Rattle.idl_memo.specs.Cause.{changed}
 use Rattle.idl_source.specs.texts.Texts.{Texts}
 use Rattle.idl_project.specs.Project.{Inputs}
 
@@ -18,6 +20,10 @@ bank_of inputs (key.Macro word) =
     option_map (λ body. answer.Macro (body ∷ [])) (lookup (bytes_eq word) inputs.macros)
 bank_of inputs (key.File name) = option_map answer.File (map.get inputs.files name)
 bank_of inputs key.Search = Some (answer.Search inputs.search)
+
+-- the same, but that this key has this one
+abbrev pub bank_with : Inputs → RootKey → Option RootAnswer → RootKey → Option RootAnswer
+bank_with inputs key answer = changed key_eq (bank_of inputs) key answer
 
 -- no file but the one of this name is another
 abbrev pub IsSameBeside : List ℕ → Texts → Texts → Type 0

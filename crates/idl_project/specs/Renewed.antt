@@ -1,16 +1,14 @@
 -- What becomes of the roots in an edit of what they are answered.
 use Rattle.std.specs.Prelude.{◌≡◌, ℕ, List, [], ◌∷◌, ◌++◌, Option}
 use Rattle.std.specs.Map.{keys_of}
-use Rattle.idl_event.specs.Key.{key_eq}
 use Rattle.idl_event.specs.declared.asked.key.RootAnswer.{RootAnswer}
 use Rattle.idl_event.specs.declared.asked.key.RootKey.{RootKey}
-use Rattle.idl_memo.specs.Cause.{changed}
 use Rattle.idl_store.specs.Stored.{committed, results_in, with_draft}
 use Rattle.idl_memo.specs.declared.meter.Meter.{Meter}
 use Rattle.idl_prep.specs.Root.{expanded}
 use Rattle.idl_root.specs.Results.{IsDeclarationPass, IsEntryPass}
 use Rattle.idl_root.specs.declared.kept.keeper.Keeper.{Keeper}
-use Rattle.idl_project.specs.Bank.{bank_of}
+use Rattle.idl_project.specs.Bank.{bank_of, bank_with}
 use Rattle.idl_project.specs.Project.{Inputs, Project}
 use Rattle.idl_project.specs.Tasks.{declaration_list, declarations_at, entries_at, entry_list, kept_declarations, kept_entries}
 use Rattle.idl_project.specs.UpToDate.{AreKept, IsKept}
@@ -50,7 +48,8 @@ pub record IsKeeperLeft (old new : Keeper) : Type 0 where
   pub entries : new.entries ≡ old.entries
 
 -- a root more, the last one, with what is kept of it over these inputs
-pub record IsAdded (inputs : Inputs) (root : List ℕ) (old new : List (List ℕ × KeptRoot)) : Type 0 where
+pub record IsAdded (inputs : Inputs) (root : List ℕ) (old new : List (List ℕ × KeptRoot))
+    : Type 0 where
   pub kept : KeptRoot
   pub is_kept : IsKept (bank_of inputs) (root, kept)
   pub last : new ≡ old ++ (root, kept) ∷ []
@@ -60,12 +59,11 @@ pub record IsAdded (inputs : Inputs) (root : List ℕ) (old new : List (List ℕ
 pub record IsRenewed (project : Project) (key : RootKey) (answer : Option RootAnswer)
     (keeper : Keeper) (renewed : List (List ℕ × KeptRoot) × Work) : Type 0 where
   pub roots : keys_of renewed.0 ≡ project.roots
-  pub kept : let before = bank_of project.inputs in
-      AreKept (changed key_eq before key answer) renewed.0
-  pub declarations : let before = bank_of project.inputs in
-      committed keeper.declarations
-      ≡ kept_declarations (changed key_eq before key answer) project.roots
-  pub entries : let before = bank_of project.inputs in
-      committed keeper.entries ≡ kept_entries (changed key_eq before key answer) project.roots
-  pub work : let before = bank_of project.inputs in
-      renewed.1 ≡ work_between before project.roots (changed key_eq before key answer) project.roots
+  pub kept : AreKept (bank_with project.inputs key answer) renewed.0
+  pub declarations : committed keeper.declarations
+      ≡ kept_declarations (bank_with project.inputs key answer) project.roots
+  pub entries : committed keeper.entries
+      ≡ kept_entries (bank_with project.inputs key answer) project.roots
+  pub work : renewed.1
+      ≡ work_between (bank_of project.inputs) project.roots (bank_with project.inputs key answer)
+      project.roots

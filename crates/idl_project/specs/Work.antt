@@ -29,8 +29,8 @@ answer_eq (Search list) (Search other) = pointwise bytes_eq list other
 answer_eq answer other = false
 
 -- at how many of these roots no task of the roots before, and none of an earlier one, is alike
-abbrev pub fresh_roots : (RootKey → Option RootAnswer) → List (List ℕ) → (RootKey → Option RootAnswer)
-    → List (List ℕ) → ℕ
+abbrev pub fresh_roots : (RootKey → Option RootAnswer) → List (List ℕ)
+    → (RootKey → Option RootAnswer) → List (List ℕ) → ℕ
 fresh_roots old before new roots =
     fresh_among bytes_eq (option_eq answer_eq) expansion (places_over old before)
     (places_over new roots)
@@ -40,14 +40,15 @@ abbrev pub staying : List (List ℕ) → List (List ℕ) → List (List ℕ)
 staying before roots = filter (λ name. list_any (bytes_eq name) before) roots
 
 -- at how many keys the tasks of these roots are compared
-abbrev pub compared_keys : (RootKey → Option RootAnswer) → (RootKey → Option RootAnswer) → List (List ℕ) → ℕ
+abbrev pub compared_keys : (RootKey → Option RootAnswer) → (RootKey → Option RootAnswer)
+    → List (List ℕ) → ℕ
 compared_keys old new roots =
     compared_among bytes_eq (option_eq answer_eq) expansion key_eq old new roots
 
 -- the work of an edit, by the answers and the roots before it and those after it: fresh tasks are
 -- counted, and each root that stays is compared
-abbrev pub work_between : (RootKey → Option RootAnswer) → List (List ℕ) → (RootKey → Option RootAnswer)
-    → List (List ℕ) → Work
+abbrev pub work_between : (RootKey → Option RootAnswer) → List (List ℕ)
+    → (RootKey → Option RootAnswer) → List (List ℕ) → Work
 work_between old before new roots = record {
   expanded = fresh_roots old before new roots;
   checked = fresh_declarations (declarations_among old before) (declarations_among new roots);

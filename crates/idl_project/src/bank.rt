@@ -7,11 +7,9 @@ ghost use Rattle.std.specs.Result.{result_err};
 ghost use Rattle.std.specs.FinMap as finite;
 ghost use Rattle.std.specs.Str.{bytes_eq};
 ghost use Rattle.indexmap.specs.IndexMap.{insert_entry};
-ghost use Rattle.idl_event.specs.Key.{key_eq};
 ghost use Rattle.idl_event.specs.declared.asked.key.RootAnswer.TheVariants as answers;
 ghost use Rattle.idl_event.specs.declared.asked.key.RootKey.TheVariants as keys;
-ghost use Rattle.idl_memo.specs.Cause.{changed};
-ghost use Rattle.idl_project.specs.Bank.{IsSameBeside, bank_of};
+ghost use Rattle.idl_project.specs.Bank.{IsSameBeside, bank_of, bank_with};
 ghost use Rattle.idl_project.specs.Edits.{macros_with};
 ghost use Rattle.idl_prep.specs.Candidate.{AnswersFrom};
 ghost use Rattle.idl_prep.specs.Include.{directories_in};
@@ -146,7 +144,7 @@ impl SessionBank {
         requires answers { answer ≡ option_map answers.File (finite.get files name) }
         ensures ok { OnOk result (self.new ≡ record self.old { files = files }) }
         ensures bank { OnOk result
-            (bank_of self.new ≡ changed key_eq (bank_of self.old) (keys.File name) answer) }
+            (bank_of self.new ≡ bank_with self.old (keys.File name) answer) }
         ensures err { OnErr result (self.new ≡ self.old) }
     {
         match answer {
@@ -168,7 +166,7 @@ impl SessionBank {
         ensures ok { let macros = insert_entry bytes_eq self.old.macros word body in
             OnOk result (self.new ≡ record self.old { macros = macros }) }
         ensures bank { OnOk result (bank_of self.new
-            ≡ changed key_eq (bank_of self.old) (keys.Macro word) (Some (answers.Macro (body ∷ [])))) }
+            ≡ bank_with self.old (keys.Macro word) (Some (answers.Macro (body ∷ [])))) }
         ensures err { OnErr result (self.new ≡ self.old) }
     {
         self.macros.insert(word, body)?;
@@ -179,7 +177,7 @@ impl SessionBank {
     pub fn undef(&mut self, word: &Bytes)
         ensures left { let macros = remove_entry (bytes_eq word.now) self.old.macros in
             self.new ≡ record self.old { macros = macros } }
-        ensures bank { bank_of self.new ≡ changed key_eq (bank_of self.old) (keys.Macro word.now) None }
+        ensures bank { bank_of self.new ≡ bank_with self.old (keys.Macro word.now) None }
     {
         self.macros.shift_remove(word);
     }
@@ -188,7 +186,7 @@ impl SessionBank {
     pub fn set_search(&mut self, search: RootAnswer)
         requires { search ≡ answers.Search (directories_in (Some search)) }
         ensures set { self.new ≡ record self.old { search = directories_in (Some search) } }
-        ensures bank { bank_of self.new ≡ changed key_eq (bank_of self.old) keys.Search (Some search) }
+        ensures bank { bank_of self.new ≡ bank_with self.old keys.Search (Some search) }
     {
         self.search = search;
     }

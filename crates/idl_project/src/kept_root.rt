@@ -5,14 +5,14 @@ ghost use Rattle.std.specs.Option.{option_copied, option_eq};
 ghost use Rattle.std.specs.Str.{bytes_eq};
 ghost use Rattle.idl_event.specs.Key.{key_eq};
 ghost use Rattle.idl_event.specs.declared.told.event.Event.{Event};
-ghost use Rattle.idl_memo.specs.Cause.{IsCause, changed};
+ghost use Rattle.idl_memo.specs.Cause.{IsCause};
 ghost use Rattle.idl_memo.specs.Fresh.{compared_at, stale_at};
 ghost use Rattle.idl_memo.specs.Meter.{compared_after, most_compared};
 ghost use Rattle.idl_prep.specs.Root.{expansion};
 ghost use Rattle.idl_store.specs.Stored.{list_at};
 ghost use Rattle.idl_root.specs.Results.{IsKeptOf};
 ghost use Rattle.idl_project.specs.Asked.{asked_files};
-ghost use Rattle.idl_project.specs.Bank.{bank_of};
+ghost use Rattle.idl_project.specs.Bank.{bank_of, bank_with};
 ghost use Rattle.idl_project.specs.Renewed.{AreListsLeft, IsLeft, IsDrafted};
 ghost use Rattle.idl_project.specs.Tasks.{declaration_list, entry_list};
 ghost use Rattle.idl_project.specs.UpToDate.{IsKept};
@@ -101,27 +101,26 @@ impl KeptRoot {
         requires entries { let before = bank_of change.edited.now.base.now in
             list_at keeper.old.entries.lists at ≡ entry_list before self.now.result.value.text }
         requires cause { let edited = change.edited.now in
-            let before = bank_of edited.base.now in
-            let after = changed key_eq before edited.key.now (option_copied edited.answer) in
-            IsCause before after (option_copied change.cause) }
+            let after = bank_with edited.base.now edited.key.now (option_copied edited.answer) in
+            IsCause (bank_of edited.base.now) after (option_copied change.cause) }
         requires room { meter.old.expanded < most_compared }
         ensures kept { let edited = change.entry.edited.now in
-            let before = bank_of edited.base.now in
-            let after = changed key_eq before edited.key.now (option_copied edited.answer) in
+            let after = bank_with edited.base.now edited.key.now (option_copied edited.answer) in
             IfOk result (λ kept. IsKept after (self.now.result.value.text, kept)) }
         ensures tasks { let edited = change.entry.edited.now in
             let before = bank_of edited.base.now in
-            let after = changed key_eq before edited.key.now (option_copied edited.answer) in
+            let after = bank_with edited.base.now edited.key.now (option_copied edited.answer) in
             let name = self.now.result.value.text in
             OnOk result (IsLeft before after name keeper.old keeper.new meter.old meter.new
             ⊎ IsDrafted after at name keeper.old keeper.new meter.old meter.new) }
         ensures lists { AreListsLeft keeper.old keeper.new }
         ensures counts { let edited = change.entry.edited.now in
             let before = bank_of edited.base.now in
-            let after = changed key_eq before edited.key.now (option_copied edited.answer) in
+            let after = bank_with edited.base.now edited.key.now (option_copied edited.answer) in
             let name = self.now.result.value.text in
             let stale = stale_at bytes_eq (option_eq answer_eq) expansion before after name in
-            let compared = compared_at bytes_eq (option_eq answer_eq) expansion key_eq before after name in
+            let compared = compared_at bytes_eq (option_eq answer_eq) expansion key_eq before after
+            name in
             OnOk result (meter.new ≡ record meter.old {
               expanded = meter.old.expanded + stale;
               checked = meter.new.checked;
@@ -174,8 +173,8 @@ fn expanded<B: RootBank>(
     requires kept { (events : List Event) × IsKeptOf events root.2.now
         (list_at keeper.old.declarations.lists root.0) (list_at keeper.old.entries.lists root.0) }
     ensures kept { IfOk result (λ kept. IsKept (B.at bank.now) (root.entry.1, kept)) }
-    ensures made { OnOk result (IsDrafted (B.at bank.now) root.entry.0 root.entry.1 keeper.old keeper.new
-        meter.old meter.new) }
+    ensures made { OnOk result (IsDrafted (B.at bank.now) root.entry.0 root.entry.1 keeper.old
+        keeper.new meter.old meter.new) }
     ensures lists { AreListsLeft keeper.old keeper.new }
     ensures counts { OnOk result (meter.new ≡ record meter.old {
       expanded = meter.old.expanded + 1;
