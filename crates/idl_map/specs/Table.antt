@@ -3,6 +3,7 @@
 use Rattle.std.specs.Prelude.{◌≡◌, ℕ, Bool, List, [], ◌∷◌, Option, None, Some, IfSome, slice_get, if◌then◌else◌}
 use Rattle.std.specs.Global.{Box}
 use Rattle.std.specs.Map.{lookup}
+use Rattle.std.specs.Option.{option_map}
 
 -- the entries after a put: a key that is there keeps its place and takes the value, and a new key
 -- goes last
@@ -13,6 +14,10 @@ insert_entry eq (e ∷ es) k v = if eq k e.0 then (e.0, v) ∷ es else e ∷ ins
 -- the places that a map has for keys, by a test of equality
 abbrev pub places_in : {K : Type 0} → (K → K → Bool) → List (K × ℕ) → K → Option ℕ
 places_in eq places key = lookup (eq key) places
+
+-- the same of a map behind a pointer, where there is one
+abbrev pub places_behind : {K : Type 0} → (K → K → Bool) → Option (Box (List (K × ℕ))) → Option (K → Option ℕ)
+places_behind eq index = option_map (λ places. places_in eq places.value) index
 
 -- the index has the place of each key; of one that stands nowhere it may have any
 abbrev pub IsIndexOf : {K : Type 0} → (K → Option ℕ) → List K → Type 0

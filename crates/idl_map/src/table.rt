@@ -22,21 +22,20 @@ const FEW: usize = 32;
 pub struct Table<K: Digest + Ord, V> {
     entries: Vec<(K, V)>,
     // Where keys stand, or stood until they were taken off.
-    index: Option<Map<K, usize>>,
+    index: Option<Box<Map<K, usize>>>,
 }
 
 impl<K: Digest + Ord, V> Model for Table<K, V> {
     ghost use Rattle.std.specs.Prelude.{List};
     ghost use Rattle.std.specs.Map.{keys_of};
-    ghost use Rattle.std.specs.Option.{option_map};
-    ghost use Rattle.idl_map.specs.Table.{IsIndexed, places_in};
+    ghost use Rattle.idl_map.specs.Table.{IsIndexed, places_behind};
 
     ghost Value = { List (K × V) };
 
     ghost view = { λ table. table.entries.items };
 
     ghost invariant = { λ table.
-        IsIndexed (option_map (places_in K.eq) table.index) (keys_of table.entries.items) };
+        IsIndexed (places_behind K.eq table.index) (keys_of table.entries.items) };
 }
 
 impl<K: Digest + Ord, V: Drop> Drop for Table<K, V> {
@@ -179,8 +178,9 @@ impl<K: Digest + Ord, V: Drop> Table<K, V> {
         if self.index.is_some() || self.entries.len() < FEW {
             return Ok(());
         }
-        let places = index_of(*self.entries.allocator(), &self.entries)?;
-        self.index = Some(places);
+        let alloc = *self.entries.allocator();
+        let places = index_of(alloc, &self.entries)?;
+        self.index = Some(Box::new(alloc, places)?);
         Ok(())
     }
 }

@@ -10,6 +10,7 @@ use crate::answering::open_scopes::OpenScopes;
 use idl_base::{Bytes, Datum, Shared};
 use idl_entity::{Entity, FixedIdentity, Identity, Kind, Path, Prefix};
 use std::alloc::AllocError;
+use std::mem::size_of;
 
 /// An open scope: its path, what it is of, and which of its bodies this is. The one body of the global scope has the number 0,
 /// and those of others are counted from 1.
@@ -24,7 +25,7 @@ pub struct Scope {
 #[derive(Clone, PartialEq, Eq, PartialOrd, Ord)]
 pub enum Answer {
     /// These scopes are open, the innermost first and the global one last.
-    Open(OpenScopes),
+    Open(Shared<OpenScopes>),
     /// The name is declared as this.
     Known(Shared<Entity>),
     /// The name was introduced.
@@ -40,6 +41,9 @@ pub enum Answer {
     /// The scope has this typeprefix.
     Prefixed(Shared<Bytes>),
 }
+
+// A log has many of them, and an environment tens of thousands.
+const _: () = prove!(size_of::<Answer>() <= 16);
 
 impl Scope {
     /// The global scope.
@@ -89,7 +93,7 @@ pub fn scopes_in<'a>(answer: Option<&'a Answer>, none: &'a OpenScopes) -> &'a Op
     ensures { none.now ≡ [] → result.now ≡ scopes_in (option_copied answer.entry) }
 {
     match answer {
-        Some(Answer::Open(scopes)) => scopes,
+        Some(Answer::Open(scopes)) => scopes.get(),
         _ => none,
     }
 }

@@ -55,7 +55,7 @@ impl State {
     pub fn new(alloc: Global) -> Result<State, AllocError>
         ensures { IfOk result (λ state. held state ≡ first_world) }
     {
-        let scopes = OpenScopes::none().with(alloc, Scope::global())?;
+        let scopes = Shared::new(alloc, OpenScopes::none().with(alloc, Scope::global())?)?;
         let prefix = Answer::InForce(Prefix::none(alloc)?);
         let mut inside = Vec::new(alloc);
         inside.push(Seq::new(alloc))?;
@@ -132,7 +132,7 @@ impl State {
         let body = scope.body;
         let key = DigestedKey::opened(alloc, &scope.path)?;
         let none = OpenScopes::none();
-        let scopes = self.cursor(&none).with(alloc, scope)?;
+        let scopes = Shared::new(alloc, self.cursor(&none).with(alloc, scope)?)?;
         let prefix = self.prefix(alloc)?;
         self.answers.insert(key, Answer::Count(body))?;
         self.answers.put_cursor(Answer::Open(scopes));
@@ -182,7 +182,7 @@ impl State {
         let Some((scope, outer)) = closable(self.cursor(&none)) else {
             return Ok(());
         };
-        let scopes = outer.clone()?;
+        let scopes = Shared::new(alloc, outer.clone()?)?;
         let closing = self.closing(alloc, scope)?;
         put_closing(alloc, &mut self.answers, &closing)?;
         self.answers.put_cursor(Answer::Open(scopes));

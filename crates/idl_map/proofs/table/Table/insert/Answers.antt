@@ -2,10 +2,9 @@ use Rattle.std.proofs.lemmas.Result.{on_ok_weaker}
 use Rattle.std.proofs.Common.{◌≡◌, ◌<◌, None, Some, is_some, true≢false, length, slice_get, refl, sym, ap, ◌∙◌, subst, arith}
 use Rattle.std.specs.Prelude.{slice_set}
 use Rattle.std.specs.Map.{keys_of, lookup}
-use Rattle.std.specs.Option.{option_map}
 use Rattle.std.proofs.lemmas.Map.Entries.{length-keys_of}
 use Rattle.std.proofs.lemmas.Option.{none-some, same_Some, slice_get_within}
-use Rattle.idl_map.specs.Table.{IsIndexed, places_in}
+use Rattle.idl_map.specs.Table.{IsIndexed, places_behind}
 use Rattle.idl_base.proofs.Exactness.{Decides-eq}
 use Rattle.idl_map.proofs.TableLemmas.{insert_entry-at, insert_entry-new, key-at, keys_of-slice_set, lookup-at, lookup-nowhere}
 use Rattle.idl_map.proofs.table.Table.insert.Goals as goal
@@ -21,7 +20,7 @@ invariant_of-self g c =
     let es = c.self.inside.entries.items in
     let at : slice_get (keys_of es) c.in-Some.place ≡ Some c.args.key = ap (λ fs. slice_get (keys_of fs) c.in-Some.place) c.self.view_is ∙ (c.in-Some.ensures c.in-Some.place).0 refl in
     let own : c.index_mut-entry.result.now.0 ≡ c.args.key = ap (λ e. e.0) c.index_mut-entry.ensures.value ∙ key-at es c.in-Some.place c.args.key c.index_mut-entry.result.now at in
-    subst (IsIndexed (option_map (places_in g.K.PartialEq.eq) c.self.inside.index)) (sym (keys_of-slice_set es c.in-Some.place c.index_mut-entry.result.now.0 c.args.value (at ∙ ap Some (sym own)))) c.self.invariant
+    subst (IsIndexed (places_behind g.K.PartialEq.eq c.self.inside.index)) (sym (keys_of-slice_set es c.in-Some.place c.index_mut-entry.result.now.0 c.args.value (at ∙ ap Some (sym own)))) c.self.invariant
 
 pub returns-in-Some-clause-entries : goal.returns-in-Some-clause-entries
 returns-in-Some-clause-entries g c =

@@ -1,7 +1,6 @@
 use Rattle.std.proofs.Common.{IfSome, slice_get, sym, ap, ◌∙◌, subst}
 use Rattle.std.specs.Map.{keys_of}
-use Rattle.std.specs.Option.{option_map}
-use Rattle.idl_map.specs.Table.{AreDistinct, IsIndexOf, places_in}
+use Rattle.idl_map.specs.Table.{AreDistinct, IsIndexOf, places_behind, places_in}
 use Rattle.idl_base.proofs.Exactness.{Decides-eq}
 use Rattle.idl_map.proofs.TableLemmas.{position-is}
 use Rattle.idl_map.proofs.table.Table.place_of.Goals as goal
@@ -9,12 +8,13 @@ use Rattle.idl_map.proofs.table.Table.place_of.Goals as goal
 pub place_in-requires : goal.place_in-requires
 place_in-requires g c =
     let eq = g.K.PartialEq.eq in
-    subst (λ es. IsIndexOf (places_in eq c.in-Some.places) (keys_of es)) (sym c.deref.ensures.value)
-    (subst (λ o. IfSome (option_map (places_in eq) o) (λ places. IsIndexOf places (keys_of c.self.inside.entries.items))) c.in-Some.is c.self.invariant.places)
+    subst (λ places. IsIndexOf (places_in eq places) (keys_of c.deref-in-Some.result.now)) (sym c.deref.ensures)
+    (subst (λ es. IsIndexOf (places_in eq c.in-Some.places.value) (keys_of es)) (sym c.deref-in-Some.ensures.value)
+    (subst (λ o. IfSome (places_behind eq o) (λ places. IsIndexOf places (keys_of c.self.inside.entries.items))) c.in-Some.is c.self.invariant.places))
 
 pub returns-in-Some : goal.returns-in-Some
 returns-in-Some g c =
-    let seen = c.deref.ensures.value ∙ c.self.view_is in
+    let seen = c.deref-in-Some.ensures.value ∙ c.self.view_is in
     λ i. (
       λ h. ap (λ es. slice_get (keys_of es) i) (sym seen) ∙ (c.place_in.ensures i).0 h,
       λ h. (c.place_in.ensures i).1 (ap (λ es. slice_get (keys_of es) i) seen ∙ h),

@@ -17,7 +17,7 @@ returns c =
     let able = ap closable (sym scopes) ∙ sym c.in-Some.ensures in
     let closed : kept c.put_cursor.new.self ≡ with_answer Cursor (Open outer) (λ k. over (closing w scope) k (kept entries k)) =
     (λ i k. c.put_cursor.ensures k i)
-    ∙ (λ i. with_answer Cursor (Open (c.in_ok-scopes.ensures.cases i)) (λ k. c.in_ok-put_closing.ensures k i))
+    ∙ (λ i. with_answer Cursor (Open ((c.in_ok-scopes.ensures ∙ c.in_ok-clone.ensures.cases) i)) (λ k. c.in_ok-put_closing.ensures k i))
     ∙ (λ i. with_answer Cursor (Open outer) (λ k. over (sym c.in_ok-closing.ensures i) k (kept entries k))) in
     let answers : kept c.put_prefix.new.self ≡ with_prefix (given_back w.before.opened) (with_answer Cursor (Open outer) (λ k. over (closing w scope) k (kept entries k))) =
     (λ i k. c.put_prefix.ensures k i) ∙ (λ i. with_prefix (c.in_ok-prefix.ensures.prefix i) (closed i)) in

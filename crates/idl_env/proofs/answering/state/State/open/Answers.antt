@@ -21,8 +21,8 @@ returns c =
     let both : kept c.put_cursor.new.self ≡ with_answer Cursor (Open c.in_ok-scopes.scopes) (with_answer (Opened scope.path) (Count scope.body) (kept entries)) =
     (λ i k. c.put_cursor.ensures k i) ∙ ap (with_answer Cursor (Open c.in_ok-scopes.scopes)) put in
     let outer = c.cursor.ensures in
-    let opened = ap Open (c.in_ok-scopes.ensures ∙ ap (λ scopes. scope ∷ scopes) outer) in
-    let within = c.in_ok-push.ensures.items ∙ ap (λ own. state.inside.items ++ own ∷ []) c.new.ensures in
+    let opened = ap Open (c.in_ok-scopes.ensures ∙ c.in_ok-with.ensures ∙ ap (λ scopes. scope ∷ scopes) outer) in
+    let within = c.in_ok-push.ensures.items ∙ ap (λ own. state.inside.items ++ own ∷ []) c.new-2.ensures in
     let before = c.in_ok-push-2.ensures.items ∙ ap (λ prefix. state.opened ++ prefix ∷ []) c.in_ok-prefix.ensures in
     let after : State = record { answers = c.put_cursor.new.self; inside = c.push.new.self; opened = c.push-2.new.self; entered = state.entered } in
     held-opening state after scope (Open c.in_ok-scopes.scopes) opened both within before refl
