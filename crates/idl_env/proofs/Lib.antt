@@ -3,7 +3,8 @@ pub mod ApartLemmas
 pub mod DeclaredLemmas
 pub mod FirstLemmas
 pub mod MarkLemmas
-pub mod OrderLemmas
 pub mod Membership
+pub mod OrderLemmas
 pub mod OutlineLemmas
 pub mod StoppedLemmas
+pub mod WalkedLemmas

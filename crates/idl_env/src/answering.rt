@@ -7,3 +7,4 @@ pub(crate) mod open_scopes;
 pub(crate) mod operations;
 pub(crate) mod queue;
 pub(crate) mod state;
+pub(crate) mod steps;

@@ -12,13 +12,14 @@ use crate::additions::room::{Room, Writes};
 use crate::answering::answer::Answer;
 use crate::answering::count::{one_more, sum};
 use crate::answering::state::State;
+use crate::answering::steps::Walked;
 use crate::keys::digested::DigestedKey;
 use crate::keys::key::Key;
 use crate::plain::PlainTypes;
 use idl_base::{GhostList, Shared};
 use idl_entity::{DataType, Element};
 use idl_map::Lent;
-use idl_memo::Bank;
+use idl_memo::{Bank, LentBank};
 use std::alloc::{AllocError, Global};
 use std::marker::Model;
 
@@ -186,6 +187,10 @@ impl Bank for Env {
 
     type Answer = Answer;
 
+    type Head = Walked;
+
+    type Step = Answer;
+
     ghost at = { answers };
 
     fn answer(&self, key: &DigestedKey) -> Option<&Answer>
@@ -198,5 +203,13 @@ impl Bank for Env {
         ensures { IfOk result (λ answer. option_copied answer ≡ answers self.now (L.key key.now)) }
     {
         self.state.answers.get_lent(key)
+    }
+}
+
+impl LentBank for Env {
+    fn answer_at<L: Lent<DigestedKey>>(&self, key: &L) -> Option<&Answer>
+        ensures { option_copied result ≡ answers self.now (L.key key.now) }
+    {
+        self.state.answers.get_at(key)
     }
 }

@@ -20,6 +20,7 @@ pub use answering::answer::{
 };
 pub use answering::open_scopes::OpenScopes;
 pub use answering::queue::BaseQueue;
+pub use answering::steps::Walked;
 pub use env::Env;
 pub use keys::digested::DigestedKey;
 pub use keys::key::Key;

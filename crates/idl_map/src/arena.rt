@@ -93,6 +93,43 @@ impl<K: Digest + Ord, V: Datum> Arena<K, V> {
         }
     }
 
+    /// The same, whatever memory there is: where there is none to make the key, the rest is gone through.
+    pub fn get_at<L: Lent<K>>(&self, key: &L) -> Option<&V>
+        requires { IsSound K.digest_of self.now }
+        ensures { option_copied result ≡ lookup (K.eq (L.key key.now)) (entries_of self.now) }
+    {
+        match self.place_of(key) {
+            Some(place) => Some(&self.entries[place].1),
+            None => self.at_among_rest(key),
+        }
+    }
+
+    // The value that the rest has at a key that is lent.
+    #[inline]
+    fn at_among_rest<L: Lent<K>>(&self, key: &L) -> Option<&V>
+        ensures { option_copied result ≡ lookup (K.eq (L.key key.now)) self.now.rest.entries }
+    {
+        if self.rest.is_empty() {
+            return None;
+        }
+        match self.made_among_rest(key) {
+            Ok(value) => value,
+            Err(AllocError) => self.found_in_rest(key),
+        }
+    }
+
+    // The same, one entry after another.
+    fn found_in_rest<L: Lent<K>>(&self, key: &L) -> Option<&V>
+        ensures { option_copied result ≡ lookup (K.eq (L.key key.now)) self.now.rest.entries }
+    {
+        for (other, value) in self.rest.iter() {
+            if key.is(other) {
+                return Some(value);
+            }
+        }
+        None
+    }
+
     // The value that the rest has at a key that is lent.
     #[inline]
     fn lent_among_rest<L: Lent<K>>(&self, key: &L) -> Result<Option<&V>, AllocError>

@@ -16,7 +16,7 @@ mod table;
 
 pub use digest::Digest;
 pub use lent::Lent;
-pub use list::SharedList;
+pub use list::{Links, SharedList};
 pub use map::Map;
 pub use marks::Marks;
 pub use rare_table::RareTable;

@@ -1,6 +1,6 @@
 //! A list whose copies share their items.
 
-ghost use Rattle.std.specs.Prelude.{◌≡◌, ◌<◌, ◌↔◌, ◌++◌, ◌∷◌, [], IfOk, IfSome, IsNone, IsTrue, OnOk, OnErr, Some, length, refl};
+ghost use Rattle.std.specs.Prelude.{◌≡◌, ◌<◌, ◌↔◌, ◌++◌, ◌∷◌, [], IfOk, IfSome, IsNone, IsTrue, None, OnOk, OnErr, Some, length, refl, reverse};
 ghost use Rattle.std.specs.Cmp.{partial_order_from_agreeing_total};
 ghost use Rattle.std.specs.Cmp.Lexicographic.{pointwise, lists_per, lists_equiv};
 ghost use Rattle.idl_base.specs.Exact.{same_list};
@@ -113,6 +113,47 @@ impl<T: Drop> SharedList<T> {
         let node: &Node<T> = node;
         let last = node.before.clone()?;
         Ok(Some((SharedList { last }, &node.item)))
+    }
+}
+
+impl<T> SharedList<T> {
+    /// The items, lent, the last first.
+    pub fn links(&self) -> Links<'_, T>
+        ensures { result ≡ reverse self.now }
+    {
+        Links { link: &self.last }
+    }
+}
+
+/// Items of a list that are lent: to every contract the list of them, from one of them on, the last first.
+#[derive(Drop)]
+pub struct Links<'a, T> {
+    link: &'a Option<Rc<Node<T>>>,
+}
+
+impl<'a, T> Model for Links<'a, T> {
+    ghost use Rattle.std.specs.Prelude.{List, reverse};
+    ghost use Rattle.idl_map.specs.Items.{items_of};
+
+    ghost Value = { List T };
+
+    ghost view = { λ links. reverse (items_of links.link.now) };
+}
+
+impl<'a, T> Links<'a, T> {
+    /// The first item, and those behind it; nothing where there is none.
+    pub fn split_first(self) -> Option<(&'a T, Links<'a, T>)>
+        ensures some { IfSome result (λ p. self.entry ≡ p.0.now ∷ p.1) }
+        ensures none { result ≡ None → self.entry ≡ [] }
+    {
+        match self.link {
+            Some(shared) => {
+                let node: &Node<T> = shared;
+                let before = Links { link: &node.before };
+                Some((&node.item, before))
+            }
+            None => None,
+        }
     }
 }
 

@@ -61,6 +61,13 @@ impl<K: Digest + Ord, V: Datum> Map<K, V> {
         self.arena.get_lent(key)
     }
 
+    /// The same, whatever memory there is: where there is none to make the key, all of those many keys are gone through.
+    pub fn get_at<L: Lent<K>>(&self, key: &L) -> Option<&V>
+        ensures { option_copied result ≡ lookup (K.eq (L.key key.now)) self.now }
+    {
+        self.arena.get_at(key)
+    }
+
     /// Puts a value in at a key. Want of memory leaves what each key has.
     pub fn insert(&mut self, key: K, value: V) -> Result<(), AllocError>
         ensures each_key { OnOk result

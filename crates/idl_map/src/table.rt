@@ -105,6 +105,13 @@ impl<K: Digest + Ord, V: Drop> Table<K, V> {
         Some((key, value))
     }
 
+    /// The entries in their order.
+    pub fn entries(&self) -> &[(K, V)]
+        ensures { result.now ≡ self.now }
+    {
+        &self.entries
+    }
+
     /// Puts a value in at a key: one that is there keeps its place and takes the value, and a new one goes last.
     ///
     /// Want of memory leaves the table as it was.

@@ -7,5 +7,6 @@ pub mod PassLaws
 pub mod Placing
 pub mod ProgressLaws
 pub mod QueryLaws
+pub mod RunLaws
 pub mod Telling
 mod Walks

@@ -1,10 +1,14 @@
 pub mod Cause
 pub mod Classes
+pub mod Forms
 pub mod Fresh
 pub mod Journal
 pub mod Kept
 pub mod Meter
+pub mod Parts
 pub mod Passes
 pub mod Progress
 pub mod Query
 pub mod Renewal
+pub mod Runs
+pub mod Steps

@@ -18,11 +18,12 @@ ghost use Rattle.idl_project.specs.Project.{Inputs, is_defined, no_inputs};
 
 use crate::limits::{MAX_BODY, MAX_MACROS};
 use crate::macro_body::MacroBody;
+use crate::no_step::NoStep;
 use idl_base::{Bytes, Seq};
 use idl_event::{LexedFile, RootAnswer, RootKey};
 use idl_fault::FileName;
 use idl_macro::is_macro_word;
-use idl_memo::Bank;
+use idl_memo::{Bank, PlainBank};
 use idl_source::{Files, Line, Refusal};
 use indexmap::IndexMap;
 use std::alloc::{AllocError, Global};
@@ -199,6 +200,10 @@ impl Bank for SessionBank {
 
     type Answer = RootAnswer;
 
+    type Head = ();
+
+    type Step = NoStep;
+
     ghost at = { bank_of };
 
     #[inline]
@@ -215,6 +220,12 @@ impl Bank for SessionBank {
             RootKey::Search => Some(&self.search),
         }
     }
+}
+
+impl PlainBank for SessionBank {
+    ghost use Rattle.std.specs.Prelude.{refl};
+
+    ghost plain = { λ head step. refl };
 }
 
 /// Answers of inputs come from their files and their search list, so that `first_candidate` of `idl_prep` speaks of a session:

@@ -21,6 +21,7 @@ ghost use Rattle.idl_project.specs.Work.{answer_eq};
 use crate::asked::asked;
 use crate::bank::SessionBank;
 use crate::compile::{CompiledAgain, CompiledRoot, KeptExpansion, KeptTask, compile_kept};
+use crate::no_step::NoStep;
 use idl_event::{RootBank, RootKey};
 use idl_memo::{Edited, Meter, run_anew};
 use idl_prep::RootTask;
@@ -58,7 +59,7 @@ impl KeptRoot {
     /// What comes of the root of this name over a bank, which will stand at this place among all: it is expanded and compiled.
     ///
     /// After want of memory nothing is said of the meter, and there may be drafts more.
-    pub fn anew<B: RootBank>(
+    pub fn anew<B: RootBank<Head = (), Step = NoStep>>(
         keeper: &mut Keeper,
         root: (usize, Name),
         bank: &B,
@@ -163,7 +164,7 @@ impl KeptRoot {
 
 // What comes of the root of this name over a bank, which stands at this place among all, where these were its units: it is expanded
 // and compiled.
-fn expanded<B: RootBank>(
+fn expanded<B: RootBank<Head = (), Step = NoStep>>(
     keeper: &mut Keeper,
     root: (usize, Name, &Marks),
     bank: &B,

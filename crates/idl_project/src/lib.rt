@@ -11,6 +11,7 @@ mod directories;
 mod kept_root;
 mod limits;
 mod macro_body;
+mod no_step;
 mod root_table;
 mod session;
 mod sources;
@@ -24,6 +25,7 @@ pub use idl_source::Span;
 pub use limits::{
     MAX_BODY, MAX_DIRECTORIES, MAX_MACROS, MAX_ROOTS, edits_keep_form, edits_keep_limits,
 };
+pub use no_step::NoStep;
 pub use session::Session;
 pub use sources::Sources;
 pub use work::Work;

@@ -16,12 +16,13 @@ use crate::bank::SessionBank;
 use crate::compile::{CompiledRoot, asked_alone, compile_alone};
 use crate::directories::directories;
 use crate::macro_body::MacroBody;
+use crate::no_step::NoStep;
 use crate::word::spelled;
 use idl_base::Seq;
 use idl_event::{RootAnswer, RootKey};
 use idl_fault::FileName;
 use idl_macro::is_macro_word;
-use idl_memo::Bank;
+use idl_memo::{Bank, PlainBank};
 use idl_root::Memory;
 use idl_source::{Line, Name, Refusal};
 use std::alloc::{AllocError, Global};
@@ -164,10 +165,20 @@ impl Bank for Sources {
 
     type Answer = RootAnswer;
 
+    type Head = ();
+
+    type Step = NoStep;
+
     ghost at = { bank_of };
 
     #[inline]
     fn answer(&self, key: &RootKey) -> Option<&RootAnswer> {
         self.bank.answer(key)
     }
+}
+
+impl PlainBank for Sources {
+    ghost use Rattle.std.specs.Prelude.{refl};
+
+    ghost plain = { λ head step. refl };
 }

@@ -122,7 +122,7 @@ impl<'a> View<'a> {
     fn enter(
         self,
         log: &mut Journal<Env>,
-        name: &Bytes,
+        name: &Shared<Bytes>,
         base: &Path,
     ) -> Result<(Option<&'a Shared<Entity>>, &'a [Path]), AllocError>
         ensures { IfOk result (λ r.
@@ -131,7 +131,8 @@ impl<'a> View<'a> {
             (under self.entry.own.now.additions (entered name.now base.now))
             (answers self.entry.env.now) log.old) }
     {
-        if let Some(declared) = self.own(log, base, name)? {
+        let key = LentKey::under(self.env.alloc(), name, base);
+        if let Some(declared) = self.entity(log, &key)? {
             return Ok((Some(declared), &[]));
         }
         Ok((None, bases_of(self.standing_at(log, base)?)))
@@ -173,12 +174,13 @@ impl<'a> View<'a> {
             (under self.entry.own.now.additions (reached turns name.now bases.now))
             (answers self.entry.env.now) log.old) }
     {
+        let shared = Shared::new(self.env.alloc(), name.clone()?)?;
         let mut queue = BaseQueue::new(self.env.alloc());
         queue.join(bases)?;
         let mut found = Vec::new(self.env.alloc());
         let mut turn = 0;
         'bases: while let Some(base) = queue.get(turn) {
-            let (declared, more) = self.enter(log, name, base)?;
+            let (declared, more) = self.enter(log, &shared, base)?;
             keep(&mut found, declared)?;
             queue.join(more)?;
             turn += 1;

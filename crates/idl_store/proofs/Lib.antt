@@ -11,5 +11,6 @@ pub mod Reading
 pub mod Searching
 pub mod Shown
 pub mod StoredLaws
+pub mod Telling
 pub mod Times
 pub mod Using

@@ -15,7 +15,7 @@ ghost use Rattle.idl_memo.specs.Query.{Query};
 
 use crate::order::order_at;
 use idl_base::Datum;
-use idl_memo::{Bank, Kept};
+use idl_memo::{Bank, Kept, LentBank};
 use std::alloc::{AllocError, Global};
 use std::collections::HashMap;
 use std::hash::{FoldHasher, Hash, Hasher};
@@ -88,35 +88,6 @@ where
         }
     }
 
-    // The number of a result of this bucket that is alike at the place, or the gap where one would go. It takes no memory.
-    pub(crate) fn find(&self, bucket: u64, text: &X, bank: &B) -> Result<usize, Gap>
-        ensures found { IfOk result (λ number.
-            Any (λ e. IsAlike text.now (B.at bank.now) e.0.0 × (e.1 ≡ number)) self.now) }
-        ensures absent { (query : X → Query B.Key (Option B.Answer) (Unit {0}) O)
-            → All (λ e. IsSound B.Key.eq query e.0.0) self.now
-            → IfErr result (λ gap.
-            All (λ e. e.0.1 ≡ bucket → ¬ IsAlike text.now (B.at bank.now) e.0.0) self.now) }
-        ensures gap { (query : X → Query B.Key (Option B.Answer) (Unit {0}) O)
-            → All (λ e. IsSound B.Key.eq query e.0.0) self.now
-            → IfErr result (IsGapAmong (λ kept.
-            place_cmp X.cmp (option_cmp B.Answer.cmp) kept text.now (B.at bank.now)) self.now) }
-        ensures bucket { IfErr result (λ gap. gap.bucket ≡ bucket) }
-    {
-        let Some(results) = self.buckets.get(&bucket) else {
-            return Err(Gap {
-                bucket,
-                place: None,
-            });
-        };
-        match place_at(results, text, bank) {
-            Ok(place) => Ok(results[place].number),
-            Err(place) => Err(Gap {
-                bucket,
-                place: Some(place),
-            }),
-        }
-    }
-
     // Puts a result into the gap where one of its order would go.
     //
     // Want of memory leaves the index as it was.
@@ -150,6 +121,40 @@ where
             → ¬ Contains self.new ((kept, bucket), number) }
     {
         remove_at(&mut self.buckets, bucket, number);
+    }
+}
+
+impl<B: LentBank, X: Datum + Ord, O: Drop> Index<B, X, O>
+where
+    B::Answer: Ord,
+{
+    // The number of a result of this bucket that is alike at the place, or the gap where one would go. It takes no memory.
+    pub(crate) fn find(&self, bucket: u64, text: &X, bank: &B) -> Result<usize, Gap>
+        ensures found { IfOk result (λ number.
+            Any (λ e. IsAlike text.now (B.at bank.now) e.0.0 × (e.1 ≡ number)) self.now) }
+        ensures absent { (query : X → Query B.Key (Option B.Answer) (Unit {0}) O)
+            → All (λ e. IsSound B.Key.eq query e.0.0) self.now
+            → IfErr result (λ gap.
+            All (λ e. e.0.1 ≡ bucket → ¬ IsAlike text.now (B.at bank.now) e.0.0) self.now) }
+        ensures gap { (query : X → Query B.Key (Option B.Answer) (Unit {0}) O)
+            → All (λ e. IsSound B.Key.eq query e.0.0) self.now
+            → IfErr result (IsGapAmong (λ kept.
+            place_cmp X.cmp (option_cmp B.Answer.cmp) kept text.now (B.at bank.now)) self.now) }
+        ensures bucket { IfErr result (λ gap. gap.bucket ≡ bucket) }
+    {
+        let Some(results) = self.buckets.get(&bucket) else {
+            return Err(Gap {
+                bucket,
+                place: None,
+            });
+        };
+        match place_at(results, text, bank) {
+            Ok(place) => Ok(results[place].number),
+            Err(place) => Err(Gap {
+                bucket,
+                place: Some(place),
+            }),
+        }
     }
 }
 
@@ -285,7 +290,7 @@ fn place_of<R>(bucket: &[Numbered<R>], number: usize) -> Option<usize>
 }
 
 // Where the result stands that is alike at a place, or the gap where one would go.
-fn place_at<B: Bank, X: Datum + Ord, O>(
+fn place_at<B: LentBank, X: Datum + Ord, O>(
     bucket: &[Numbered<Rc<Kept<B, X, O>>>],
     text: &X,
     bank: &B,

@@ -10,11 +10,14 @@ ghost use Rattle.idl_store.specs.Stored.{begun, committed, discarded, grown, lis
 use crate::index::{Index, bucket_of};
 use crate::numbers::{Draft, Used, exchange, number_at};
 use crate::uses::{put, release, release_drafts, use_again};
-use idl_memo::{Bank, Kept, Log, Meter, Task, keep};
+use idl_memo::{Bank, Kept, LentBank, Log, Meter, Runs, Task, keep};
 use slab::Slab;
 use std::alloc::{AllocError, Global};
 use std::marker::Model;
 use std::rc::Rc;
+
+// So many steps more than there are results are known to logs.
+const MANY: usize = 1024;
 
 /// Lists of kept results, one for each root, and the drafts of those that an edit makes.
 ///
@@ -31,6 +34,8 @@ where
     drafts: Vec<Draft>,
     // What a task asks while it runs.
     log: Log<B>,
+    // What logs share.
+    runs: Runs<B>,
 }
 
 impl<B: Bank, T: Task<B>> Model for Store<B, T>
@@ -68,6 +73,7 @@ where
             lists: _lists,
             drafts: _drafts,
             log: _log,
+            runs: _runs,
         } = self;
     }
 }
@@ -87,6 +93,7 @@ where
             lists: Vec::new(alloc),
             drafts: Vec::new(alloc),
             log: Log::new(alloc),
+            runs: Runs::new(alloc),
         }
     }
 
@@ -151,47 +158,6 @@ where
         }
     }
 
-    /// The result of the task over this bank: a kept one that is alike, or what a run gives. It goes into the last draft; where there
-    /// is none, it is kept nowhere.
-    ///
-    /// Want of memory leaves the store as it was. Nothing is said of the meter then.
-    pub fn obtain(
-        &mut self,
-        task: &T,
-        bank: &B,
-        scratch: &mut T::Scratch,
-        meter: &mut Meter,
-    ) -> Result<Rc<Kept<B, T::Text, T::Out>>, AllocError>
-        requires room { count_of T.KIND meter.old < most_compared }
-        ensures result { IfOk result (λ found. found.value
-            ≡ result_over B.Key.eq T.query (T.text_of task.now, B.at bank.now)) }
-        ensures ok { OnOk result (self.new ≡ grown self.old
-            (result_over B.Key.eq T.query (T.text_of task.now, B.at bank.now) ∷ [])) }
-        ensures meter { OnOk result (IsObtained (T.text_of task.now, B.at bank.now) T.KIND
-            (results_in self.old) meter.old meter.new) }
-        ensures err { OnErr result (self.new ≡ self.old) }
-    {
-        let bucket = bucket_of(task.text(), task.hint(bank));
-        let gap = match self.index.find(bucket, task.text(), bank) {
-            Ok(number) => return use_again(&mut self.used, &mut self.drafts, number),
-            Err(gap) => gap,
-        };
-        let kept = run_in(&mut self.log, task, bank, scratch, *self.lists.allocator())?;
-        meter.raise(T::KIND);
-        if self.drafts.is_empty() {
-            return Ok(kept);
-        }
-        let again = kept.clone()?;
-        put(
-            &mut self.used,
-            &mut self.index,
-            &mut self.drafts,
-            again,
-            gap,
-        )?;
-        Ok(kept)
-    }
-
     /// Each draft takes the place of its list, or is a new last one. It takes no memory.
     pub fn commit(&mut self)
         ensures { self.new ≡ committed self.old }
@@ -218,9 +184,60 @@ where
     }
 }
 
+impl<B: LentBank, T: Task<B>> Store<B, T>
+where
+    B::Answer: Ord,
+    T::Text: Ord,
+{
+    /// The result of the task over this bank: a kept one that is alike, or what a run gives. It goes into the last draft; where there
+    /// is none, it is kept nowhere.
+    ///
+    /// Want of memory leaves the store as it was. Nothing is said of the meter then.
+    pub fn obtain(
+        &mut self,
+        task: &T,
+        bank: &B,
+        scratch: &mut T::Scratch,
+        meter: &mut Meter,
+    ) -> Result<Rc<Kept<B, T::Text, T::Out>>, AllocError>
+        requires room { count_of T.KIND meter.old < most_compared }
+        ensures result { IfOk result (λ found. found.value
+            ≡ result_over B.Key.eq T.query (T.text_of task.now, B.at bank.now)) }
+        ensures ok { OnOk result (self.new ≡ grown self.old
+            (result_over B.Key.eq T.query (T.text_of task.now, B.at bank.now) ∷ [])) }
+        ensures meter { OnOk result (IsObtained (T.text_of task.now, B.at bank.now) T.KIND
+            (results_in self.old) meter.old meter.new) }
+        ensures err { OnErr result (self.new ≡ self.old) }
+    {
+        let bucket = bucket_of(task.text(), task.hint(bank));
+        let gap = match self.index.find(bucket, task.text(), bank) {
+            Ok(number) => return use_again(&mut self.used, &mut self.drafts, number),
+            Err(gap) => gap,
+        };
+        let alloc = *self.lists.allocator();
+        self.runs
+            .forget_beyond(self.used.len().saturating_add(MANY));
+        let kept = run_in(&mut self.log, &mut self.runs, task, bank, scratch, alloc)?;
+        meter.raise(T::KIND);
+        if self.drafts.is_empty() {
+            return Ok(kept);
+        }
+        let again = kept.clone()?;
+        put(
+            &mut self.used,
+            &mut self.index,
+            &mut self.drafts,
+            again,
+            gap,
+        )?;
+        Ok(kept)
+    }
+}
+
 // What a run of the task gives over this bank. What it asks goes through a log in which it leaves nothing of use.
 fn run_in<B: Bank, T: Task<B>>(
     log: &mut Log<B>,
+    runs: &mut Runs<B>,
     task: &T,
     bank: &B,
     scratch: &mut T::Scratch,
@@ -231,6 +248,6 @@ fn run_in<B: Bank, T: Task<B>>(
 {
     log.clear(alloc);
     let out = task.run(alloc, bank, scratch, log)?;
-    let entries = log.kept(alloc)?;
+    let entries = log.kept_in_parts(alloc, runs)?;
     keep(alloc, task.text(), entries, out)
 }

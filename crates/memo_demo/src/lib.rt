@@ -6,6 +6,7 @@
 
 mod growth;
 mod library;
+mod no_step;
 mod page;
 mod passes;
 mod renewal;
@@ -13,6 +14,7 @@ mod trail;
 
 pub use growth::{Stage, pass_growing};
 pub use library::{Library, Reference};
+pub use no_step::NoStep;
 pub use page::Page;
 pub use passes::{Walk, pass, walked_again};
 pub use renewal::renewed;

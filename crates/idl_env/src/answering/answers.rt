@@ -123,6 +123,32 @@ impl Answers {
         self.others.get_lent(key)
     }
 
+    /// The same, whatever memory there is.
+    #[inline(always)]
+    pub fn get_at<L: Lent<DigestedKey>>(&self, key: &L) -> Option<&Answer>
+        ensures { option_copied result ≡ lookup (key_eq (L.key key.now)) self.now }
+    {
+        let digest = key.key_digest();
+        if digest <= LAST_APART {
+            return self.get_apart(key);
+        }
+        self.others.get_at(key)
+    }
+
+    // The same of a key that may be one of those whose answers stand apart.
+    #[inline(never)]
+    fn get_apart<L: Lent<DigestedKey>>(&self, key: &L) -> Option<&Answer>
+        ensures { option_copied result ≡ lookup (key_eq (L.key key.now)) self.now }
+    {
+        if key.is(&DigestedKey::cursor()) {
+            return Some(self.cursor());
+        }
+        if key.is(&DigestedKey::prefix()) {
+            return Some(self.prefix());
+        }
+        self.others.get_at(key)
+    }
+
     // The same with the key made. It stands apart, since few keys have such digests.
     #[inline(never)]
     fn get_made<L: Lent<DigestedKey>>(&self, key: &L) -> Result<Option<&Answer>, AllocError>

@@ -10,6 +10,7 @@ ghost use Rattle.idl_env.specs.declared.keys.key.Key.TheVariants as keys;
 
 use crate::keys::key::Key;
 use crate::keys::outline::Outline;
+use idl_base::{Bytes, Shared};
 use idl_entity::Path;
 use idl_entity::paths::{NamedPath, OwnName};
 use std::alloc::{AllocError, Global};
@@ -21,6 +22,8 @@ pub(crate) enum HeldKey {
     Cursor,
     /// What the own name of what stands at a path, folded, is declared as in the scope around.
     Entity(NamedPath),
+    /// What a name is declared as in the scope at a path, where the name is shared by the keys of more scopes.
+    Declared(Shared<Bytes>, NamedPath),
     /// Whether a folded name was introduced into the first body of the scope at a path: most scopes have no other.
     Introduced(OwnName, NamedPath),
     /// How many bodies of the scope at a path were opened.
@@ -43,6 +46,7 @@ impl Drop for HeldKey {
             HeldKey::Cursor | HeldKey::Nameless | HeldKey::Prefix => {}
             HeldKey::Entity(_path) | HeldKey::Opened(_path) => {}
             HeldKey::IdOf(_path) | HeldKey::Typeprefix(_path) => {}
+            HeldKey::Declared(_name, _path) => {}
             HeldKey::Introduced(_name, _path) => {}
             HeldKey::Whole(_key) => {}
         }
@@ -57,6 +61,20 @@ impl HeldKey {
         match path.clone()?.into_named() {
             Some(named) => Ok(HeldKey::Entity(named)),
             None => HeldKey::whole(alloc, Key::Declared(path.folded(alloc)?, Path::global())),
+        }
+    }
+
+    /// What a name is declared as in the scope at a path.
+    pub(crate) fn declared(
+        alloc: Global,
+        name: &Shared<Bytes>,
+        scope: Path,
+    ) -> Result<HeldKey, AllocError>
+        ensures { IfOk result (λ held. key_in held ≡ keys.Declared name.now scope) }
+    {
+        match scope.into_named() {
+            Some(named) => Ok(HeldKey::Declared(name.clone()?, named)),
+            None => HeldKey::whole(alloc, Key::Declared(name.get().clone()?, Path::global())),
         }
     }
 
@@ -165,6 +183,9 @@ impl HeldKey {
             | (Key::Nameless, HeldKey::Nameless)
             | (Key::Prefix, HeldKey::Prefix) => true,
             (Key::Declared(name, scope), HeldKey::Entity(path)) => path.is_found_at(name, scope),
+            (Key::Declared(name, scope), HeldKey::Declared(own, named)) => {
+                *name == *own.get() && named.is_of(scope)
+            }
             (Key::Introduced(word, path, body), HeldKey::Introduced(name, named)) => {
                 *word == *name.spelling() && named.is_of(path) && *body == 1
             }
@@ -192,6 +213,15 @@ impl HeldKey {
             | (HeldKey::Nameless, HeldKey::Nameless)
             | (HeldKey::Prefix, HeldKey::Prefix) => true,
             (HeldKey::Entity(path), HeldKey::Entity(same)) => path.is_found_with(same),
+            (HeldKey::Declared(name, path), HeldKey::Declared(other, same)) => {
+                *name == *other && path.is(same)
+            }
+            (HeldKey::Declared(name, scope), HeldKey::Entity(path)) => {
+                path.lent().begin_with(name.get(), &scope.lent())
+            }
+            (HeldKey::Entity(path), HeldKey::Declared(name, scope)) => {
+                path.lent().begin_with(name.get(), &scope.lent())
+            }
             (HeldKey::Introduced(name, path), HeldKey::Introduced(word, same)) => {
                 name.is(word) && path.is(same)
             }
@@ -222,6 +252,9 @@ impl HeldKey {
                 path.folded_name().as_bytes(),
                 path.around(),
             ),
+            HeldKey::Declared(name, path) => {
+                Outline::named(1, name.get().as_bytes(), path.lent())
+            }
             HeldKey::Introduced(name, path) => {
                 Outline::numbered(2, name.spelling().as_bytes(), path.lent(), 1)
             }
@@ -245,6 +278,7 @@ impl Clone for HeldKey {
         Ok(match self {
             HeldKey::Cursor => HeldKey::Cursor,
             HeldKey::Entity(path) => HeldKey::Entity(path.clone()?),
+            HeldKey::Declared(name, path) => { HeldKey::Declared(name.clone()?, path.clone()?) }
             HeldKey::Introduced(name, path) => { HeldKey::Introduced(name.clone()?, path.clone()?) }
             HeldKey::Opened(path) => HeldKey::Opened(path.clone()?),
             HeldKey::Nameless => HeldKey::Nameless,

@@ -12,7 +12,7 @@ use crate::additions::addition::Addition;
 use crate::keys::digested::DigestedKey;
 use crate::keys::held_key::HeldKey;
 use crate::keys::key::Key;
-use idl_base::Bytes;
+use idl_base::{Bytes, Shared};
 use idl_entity::Path;
 use idl_entity::paths::{Names, OwnName, identified, introduced, typeprefixed, under};
 use idl_map::{Digest, Lent};
@@ -30,6 +30,8 @@ pub struct LentKey<'a> {
 enum Parts<'a> {
     // What a folded name is declared as in the scope at a path.
     Declared(&'a Bytes, &'a Path),
+    // The same of a name that is shared by the keys of more scopes.
+    Under(&'a Shared<Bytes>, &'a Path),
     // The same of the own name of what stands at a path, in the scope around.
     Entity(&'a Path),
     // Whether the own name of what stands at a path was introduced into the body with this number of the scope at another.
@@ -44,6 +46,7 @@ impl<'a> Drop for Parts<'a> {
     fn drop(self) {
         match self {
             Parts::Declared(_name, _scope) => {}
+            Parts::Under(_name, _scope) => {}
             Parts::Entity(_path) => {}
             Parts::Introduced(_path, _scope, _body) => {}
             Parts::IdOf(_path) => {}
@@ -83,6 +86,20 @@ impl<'a> LentKey<'a> {
     {
         let digest = under(scope.digest(), name.as_bytes());
         let parts = Parts::Declared(name, scope);
+        LentKey {
+            alloc,
+            digest,
+            parts,
+        }
+    }
+
+    /// What a name that is shared by the keys of more scopes is declared as in the scope at a path.
+    #[tactic(auto, unfolding(crate::specs::keys::Key::key_digest))]
+    pub fn under(alloc: Global, name: &'a Shared<Bytes>, scope: &'a Path) -> LentKey<'a>
+        ensures { result ≡ keys.Declared name.now scope.now }
+    {
+        let digest = under(scope.digest(), name.get().as_bytes());
+        let parts = Parts::Under(name, scope);
         LentKey {
             alloc,
             digest,
@@ -164,6 +181,9 @@ impl<'a> LentKey<'a> {
             (Parts::Declared(name, scope), Addition::Declares(entity)) => {
                 entity.get().path().is_found_at(name, scope)
             }
+            (Parts::Under(name, scope), Addition::Declares(entity)) => {
+                entity.get().path().is_found_at(name.get(), scope)
+            }
             (Parts::Entity(path), Addition::Declares(entity)) => {
                 path.is_found_with(entity.get().path())
             }
@@ -191,6 +211,9 @@ impl<'a> LentKey<'a> {
             (Parts::Declared(name, scope), Key::Declared(other, path)) => {
                 **name == *other && **scope == *path
             }
+            (Parts::Under(name, scope), Key::Declared(other, path)) => {
+                *name.get() == *other && **scope == *path
+            }
             (Parts::Entity(path), Key::Declared(name, scope)) => {
                 path.lent().begin_with(name, &scope.lent())
             }
@@ -211,6 +234,18 @@ impl<'a> LentKey<'a> {
         match (&self.parts, key) {
             (Parts::Declared(name, scope), HeldKey::Entity(named)) => {
                 named.is_found_at(name, scope)
+            }
+            (Parts::Declared(name, scope), HeldKey::Declared(other, named)) => {
+                **name == *other.get() && named.is_of(scope)
+            }
+            (Parts::Under(name, scope), HeldKey::Declared(other, named)) => {
+                **name == *other && named.is_of(scope)
+            }
+            (Parts::Under(name, scope), HeldKey::Entity(named)) => {
+                named.is_found_at(name.get(), scope)
+            }
+            (Parts::Entity(path), HeldKey::Declared(name, named)) => {
+                path.lent().begin_with(name.get(), &named.lent())
             }
             (Parts::Entity(path), HeldKey::Entity(named)) => named.is_found_as(path),
             (Parts::IdOf(path), HeldKey::IdOf(named)) => named.is_of(path),
@@ -235,6 +270,7 @@ impl<'a> LentKey<'a> {
                 let key = Key::Declared((**name).clone()?, (**scope).clone()?);
                 HeldKey::whole(alloc, key)
             }
+            Parts::Under(name, scope) => HeldKey::declared(alloc, name, (**scope).clone()?),
             Parts::Entity(path) => HeldKey::of_entity(alloc, path),
             Parts::Introduced(path, scope, body) => {
                 HeldKey::introduced(alloc, OwnName::of(alloc, path)?, (**scope).clone()?, *body)

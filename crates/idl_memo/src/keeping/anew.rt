@@ -15,7 +15,11 @@ use std::rc::Rc;
 /// What a run of the task leaves over this bank, to be kept as a result over a bank of such keys and answers.
 ///
 /// After want of memory nothing is said of the meter.
-pub fn run_anew<B: Bank, C: Bank<Key = B::Key, Answer = B::Answer>, T: Task<C, Scratch = ()>>(
+pub fn run_anew<
+    B: Bank,
+    C: Bank<Key = B::Key, Answer = B::Answer, Head = B::Head, Step = B::Step>,
+    T: Task<C, Scratch = ()>,
+>(
     alloc: Global,
     task: &T,
     bank: &C,

@@ -1,14 +1,13 @@
 //! Digests of keys that may be answered otherwise than before.
 
-ghost use Rattle.std.specs.Prelude.{◌≡◌, ◌++◌, ◌∷◌, [], ℕ, IfOk, IsFalse, IsTrue, OnOk, Contains, Some, map, slice_get};
-ghost use Rattle.std.specs.Option.{option_map};
+ghost use Rattle.std.specs.Prelude.{◌≡◌, ◌++◌, ◌∷◌, [], ℕ, IfOk, IsFalse, IsTrue, OnOk, Contains, map};
 ghost use Rattle.idl_root.specs.Changed.{ShareNone, mark_of};
 ghost use Rattle.idl_env.specs.Differing.{differing};
 ghost use Rattle.idl_env.specs.Facts.{key_of};
 ghost use Rattle.idl_env.specs.keys.Key.{key_digest};
 
 use idl_env::{Env, Facts};
-use idl_memo::KeptLog;
+use idl_memo::{Digests, KeptLog};
 use std::alloc::{AllocError, Global};
 use std::marker::Model;
 
@@ -71,32 +70,7 @@ impl Changed {
     pub fn shares_none_of(&self, log: &KeptLog<Env>) -> bool
         ensures { IsTrue result → ShareNone (map (λ e. key_digest e.0) log.now) self.now }
     {
-        self.digests.is_empty() || !self.shares_one(log)
-    }
-
-    // Whether one of the keys that were asked has one of these digests.
-    fn shares_one(&self, log: &KeptLog<Env>) -> bool
-        ensures { IsFalse result → ShareNone (map (λ e. key_digest e.0) log.now) self.now }
-    {
-        for place in 0..log.len() {
-            if self.has_at(log, place) {
-                return true;
-            }
-        }
-        false
-    }
-
-    // Whether the key at a place of those asked has one of these digests.
-    #[inline(always)]
-    fn has_at(&self, log: &KeptLog<Env>, place: usize) -> bool
-        ensures { IsFalse result → (digest : ℕ)
-            → option_map (λ e. key_digest e.0) (slice_get log.now place) ≡ Some digest
-            → Contains self.now digest → ⊥ }
-    {
-        match log.digest(place) {
-            Some(digest) => self.has(digest),
-            None => false,
-        }
+        self.digests.is_empty() || !log.shares(self)
     }
 
     // Whether a digest is among them.
@@ -155,6 +129,16 @@ impl Changed {
         }
         self.digests.push(digest)?;
         Ok(())
+    }
+}
+
+impl Digests for Changed {
+    ghost use Rattle.std.specs.Prelude.{Contains};
+
+    ghost has = { λ changed digest. Contains changed digest };
+
+    fn has(&self, digest: u64) -> bool {
+        Changed::has(self, digest)
     }
 }
 

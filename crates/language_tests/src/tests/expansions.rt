@@ -6,8 +6,9 @@ use idl_condition::{Symbol, evaluate};
 use idl_event::{EventView, Expansion, ExpansionBuilder, LexedFile, RootAnswer, RootKey};
 use idl_fault::FileName;
 use idl_map::Table;
-use idl_memo::{Bank, Log, Task};
+use idl_memo::{Bank, Log, PlainBank, Task};
 use idl_prep::RootTask;
+use idl_project::NoStep;
 use idl_source::Name;
 use std::alloc::{AllocError, Global};
 use std::test::Fail;
@@ -27,11 +28,21 @@ impl Bank for Answers {
 
     type Answer = RootAnswer;
 
+    type Head = ();
+
+    type Step = NoStep;
+
     ghost at = { λ answers key. lookup (key_eq key) answers.entries };
 
     fn answer(&self, key: &RootKey) -> Option<&RootAnswer> {
         self.entries.get(key)
     }
+}
+
+impl PlainBank for Answers {
+    ghost use Rattle.std.specs.Prelude.{refl};
+
+    ghost plain = { λ head step. refl };
 }
 
 // Of a root's lines the tokens that it emits.

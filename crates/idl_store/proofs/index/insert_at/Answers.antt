@@ -1,5 +1,5 @@
 -- The item goes into its gap, or into a bucket of its own.
-use Rattle.std.proofs.Common.{◌≡◌, ◌≢◌, All, subst, sym}
+use Rattle.std.proofs.Common.{◌≡◌, ◌≢◌, All, OnOk, subst, sym}
 use Rattle.std.specs.Option.{option_cmp}
 use Rattle.idl_store.specs.Buckets.{AddsOne}
 use Rattle.idl_store.specs.Index.{numbered, numbered_cmp, numbered_in}
@@ -45,3 +45,7 @@ pub insert_alone-requires-2-clause-apart : goal.insert_alone-requires-2-clause-a
 insert_alone-requires-2-clause-apart g c =
     subst (λ m. All (λ e. e.0.1 ≢ c.args.gap.bucket) (numbered_in m.entries)) (sym c.get_mut.follows.holds-at-none)
     (apart-without c.args.buckets.now c.requires.order.unique c.args.gap.bucket (sym c.in_default-get_mut.ensures.value))
+
+pub returns-clause-ok : goal.returns-clause-ok
+returns-clause-ok g c =
+    subst (λ m. OnOk c.insert_alone-2.result (AddsOne (numbered_in m.entries) (numbered_in c.insert_alone-2.new.buckets.entries) (numbered c.args.gap.bucket c.args.item))) c.get_mut.follows.holds-at-none c.insert_alone-2.ensures.ok

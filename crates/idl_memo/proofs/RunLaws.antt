@@ -1,0 +1,100 @@
+-- Runs of steps, and logs by parts: what stands in front and what stands behind.
+use Rattle.std.proofs.Common.{◌≡◌, ℕ, zero, suc, ◌+◌, ◌-◌, ◌<◌, ◌≤◌, Bool, true, false, List, [], ◌∷◌, ◌++◌, Option, None, Some, append_assoc, append-nil, drop, flat_map, length, length-append, refl, sym, subst, ap, take, ◌∙◌, arith}
+use Rattle.std.specs.Prelude.{IfSome}
+use Rattle.std.proofs.Math.Seq.{drop-append_seam}
+use Rattle.std.proofs.lemmas.Grind.{flat_map-append}
+use Rattle.std.specs.Option.{is_some, option_eq, option_map}
+use Rattle.idl_memo.specs.Runs.{first_other}
+
+module _ {S E : Type 0} (f : S → List E) where
+  -- before the first of so many steps all are left
+  pub all-left : (n : ℕ) (steps : List S) → flat_map f (take (n - 0) steps) ≡ flat_map f (take n steps)
+  all-left n steps = let same : n - 0 ≡ n = omega arith in ap (λ m. flat_map f (take m steps)) same
+
+  -- at a step, what it stands for and what those behind it do
+  pub one-left : (i n : ℕ) (s : S) (others : List S) → i < n → flat_map f (take (n - i) (s ∷ others)) ≡ f s ++ flat_map f (take (n - (i + 1)) others)
+  one-left i n s others below =
+      let left : n - i ≡ suc (n - (i + 1)) = omega (arith, below) in
+      ap (λ m. flat_map f (take m (s ∷ others))) left
+
+  -- behind the last nothing is left
+  pub none-left : (i n : ℕ) (steps : List S) → n ≤ i → flat_map f (take (n - i) steps) ≡ []
+  none-left i n steps past =
+      let left : n - i ≡ 0 = omega (arith, past) in
+      ap (λ m. flat_map f (take m steps)) left
+
+  -- nor where there is no step
+  pub no-steps : (n : ℕ) (steps : List S) → steps ≡ [] → flat_map f (take n steps) ≡ []
+  no-steps zero steps none = refl
+  no-steps (suc n) steps none = ap (λ l. flat_map f (take (suc n) l)) none
+
+  -- one more in front of what is left
+  pub more-entries : (entries : List E) (front : List S) (rest : List E) (s : S) (behind : List E) → entries ≡ flat_map f front ++ rest → rest ≡ f s ++ behind
+      → entries ≡ flat_map f (front ++ s ∷ []) ++ behind
+  more-entries entries front rest s behind whole here =
+      whole
+      ∙ ap (λ r. flat_map f front ++ r) here
+      ∙ sym (append_assoc (flat_map f front) (f s) behind)
+      ∙ ap (λ l. l ++ behind) (ap (λ l. flat_map f front ++ l) (sym (append-nil (f s))) ∙ sym (flat_map-append f front (s ∷ [])))
+
+  -- what is left behind a step, by how many entries it stands for
+  pub behind-step : (rest : List E) (s : S) (width : ℕ) → width ≡ length (f s) → ((behind : List E) × (rest ≡ f s ++ behind)) → (rest ≡ f s ++ drop width rest) × (length rest ≡ width + length (drop width rest))
+  behind-step rest s width wide begins =
+      let dropped : drop width rest ≡ begins.0 = ap (λ n. drop n rest) wide ∙ ap (drop (length (f s))) begins.1 ∙ drop-append_seam (f s) begins.0 in
+      let whole = begins.1 ∙ ap (λ b. f s ++ b) (sym dropped) in
+      let long = ap length whole ∙ length-append (f s) (drop width rest) in
+      (whole, omega (arith, long, wide))
+
+-- one step more of some
+pub next-taken : {S : Type 0} (n : ℕ) (steps : List S) (s : S) (others : List S) → drop n steps ≡ s ∷ others → (take (suc n) steps ≡ take n steps ++ s ∷ []) × (drop (suc n) steps ≡ others)
+next-taken zero [] s others h = absurd (cc)
+next-taken (suc n) [] s others h = absurd (cc)
+next-taken zero (x ∷ steps) s others h = (cc, cc)
+next-taken (suc n) (x ∷ steps) s others h = let r = next-taken n steps s others h in (ap (λ l. x ∷ l) r.0, r.1)
+
+-- nothing stands for no entries
+pub flat_map-none : {S E : Type 0} (f : S → List E) → ((s : S) → f s ≡ []) → (steps : List S) → flat_map f steps ≡ []
+flat_map-none f none [] = refl
+flat_map-none f none (s ∷ steps) = ap (λ l. l ++ flat_map f steps) (none s) ∙ flat_map-none f none steps
+
+module _ {K V : Type 0} (eq : V → V → Bool) (bank : K → Option V) where
+  -- where the answers in front are the bank's, those behind tell
+  pub other-behind : (log more : List (K × Option V)) → first_other eq bank log ≡ None → first_other eq bank (log ++ more) ≡ first_other eq bank more
+  other-behind [] more none = refl
+  other-behind (e ∷ log) more none = by (option_eq eq e.1 (bank e.0)) refl (other-behind log more)
+    where
+      by : (b : Bool) → option_eq eq e.1 (bank e.0) ≡ b → (first_other eq bank log ≡ None → first_other eq bank (log ++ more) ≡ first_other eq bank more)
+          → first_other eq bank ((e ∷ log) ++ more) ≡ first_other eq bank more
+      by true h behind = rw h (behind (rw h at none))
+      by false h behind =
+          let wrong : Some (e.1, bank e.0) ≡ None = rw h at none in
+          absurd (cc)
+
+  -- where one in front isn't, it tells
+  pub other-front : (log more : List (K × Option V)) → is_some (first_other eq bank log) ≡ true → first_other eq bank (log ++ more) ≡ first_other eq bank log
+  other-front [] more some = let wrong : false ≡ true = some in absurd (cc)
+  other-front (e ∷ log) more some = by (option_eq eq e.1 (bank e.0)) refl (other-front log more)
+    where
+      by : (b : Bool) → option_eq eq e.1 (bank e.0) ≡ b → (is_some (first_other eq bank log) ≡ true → first_other eq bank (log ++ more) ≡ first_other eq bank log)
+          → first_other eq bank ((e ∷ log) ++ more) ≡ first_other eq bank (e ∷ log)
+      by true h front = rw h (front (rw h at some))
+      by false h front = rw h refl
+
+-- what is told of what is there
+pub some-mapped : {A B : Type 0} (f : A → B) (o : Option A) (p : Option B) → option_map f o ≡ p → is_some p ≡ is_some o
+some-mapped f None p h = ap is_some (sym h)
+some-mapped f (Some a) p h = ap is_some (sym h)
+
+-- what isn't there
+pub not-some : {A : Type 0} (o : Option A) → is_some o ≡ false → o ≡ None
+not-some None h = refl
+not-some (Some a) h = let wrong : true ≡ false = h in absurd (cc)
+
+-- what is there
+pub at-some : {A : Type 0} (o : Option A) (a : A) (P : A → Type 0) → o ≡ Some a → IfSome o P → P a
+at-some o a P is h = subst (λ o. IfSome o P) is h
+
+-- a number that isn't 0
+pub above-zero : (n : ℕ) → (n ≡ 0 → ⊥) → 0 < n
+above-zero zero h = absurd (h refl)
+above-zero (suc n) h = omega arith

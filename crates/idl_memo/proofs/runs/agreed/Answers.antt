@@ -1,0 +1,24 @@
+-- A step more is taken, and the entries for which it stands.
+use Rattle.std.proofs.Common.{◌≡◌, ℕ, suc, ◌+◌, ◌<◌, ◌++◌, arith, drop, flat_map, length, sym, take, ap, ◌∙◌}
+use Rattle.idl_memo.proofs.RunLaws.{above-zero, behind-step, more-entries, next-taken}
+use Rattle.idl_memo.proofs.runs.agreed.Goals as goal
+
+pub steps-preserved : goal.steps-preserved
+steps-preserved g c =
+    let f = g.B.Step.Step.logged c.args.head.now in
+    let n = c.steps.count in
+    let steps = c.args.steps.now in
+    let rest = c.steps.rest.now in
+    let width = c.width-width.result in
+    let step = c.in-Some.step.now in
+    let inv = c.steps.invariant in
+    let here = behind-step f rest step width (c.width-width.ensures step) (c.is_first.ensures c.if-not-is_first.false) in
+    let next = next-taken n steps step c.in-Some.others (inv.behind ∙ c.in-Some.ensures.some) in
+    let one : n + 1 ≡ suc n = omega arith in
+    let wide : 0 < width = above-zero width c.if-width-eq0.false in
+    let taken = ap (λ (m : ℕ). take m steps) one ∙ next.0 in
+    record {
+      whole = more-entries f c.args.entries.now (take n steps) rest step (drop width rest) inv.whole here.0 ∙ ap (λ l. flat_map f l ++ drop width rest) (sym taken) ∙ ap (λ b. flat_map f (take (n + 1) steps) ++ b) (sym c.past-rest.ensures.entries);
+      count = omega (arith, inv.count, c.past-rest.ensures.fewer, wide);
+      behind = ap (λ (m : ℕ). drop m steps) one ∙ next.1;
+    }

@@ -1,0 +1,147 @@
+//! Runs: entries of a log that many steps stand for.
+
+ghost use Rattle.std.specs.Prelude.{◌≡◌, ◌*◌, [], ℕ, All, IsFalse, IsTrue, List, Option, flat_map, length, take};
+ghost use Rattle.std.specs.Option.{option_copied, option_map};
+ghost use Rattle.idl_memo.specs.Query.{is_logged};
+ghost use Rattle.idl_memo.specs.Parts.{part_entries};
+ghost use Rattle.idl_memo.specs.Runs.{first_other};
+
+use crate::bank::{Bank, LentBank, PlainBank};
+use crate::step::{Digests, Step};
+use crate::steps::Steps;
+use idl_map::Digest;
+use std::alloc::Global;
+use std::marker::Model;
+
+/// Entries of a log that stand side by side: the first of some steps, and what these have in common. To every contract it is the
+/// list of the entries.
+pub(crate) struct Run<B: Bank> {
+    head: B::Head,
+    steps: Steps<B::Step>,
+    // How many of the steps, and how many entries these stand for.
+    count: usize,
+    len: usize,
+}
+
+impl<B: Bank> Model for Run<B> {
+    ghost use Rattle.std.specs.Prelude.{◌≡◌, List, Option, flat_map, length, take};
+
+    ghost Value = { List (B.Key × Option B.Answer) };
+
+    ghost view = { λ run. flat_map (B.Step.logged run.head) (take run.count run.steps) };
+
+    ghost invariant = { λ run.
+        run.len ≡ length (flat_map (B.Step.logged run.head) (take run.count run.steps)) };
+}
+
+impl<B: Bank> Drop for Run<B> {
+    fn drop(self) {
+        let Run {
+            head: _head,
+            steps: _steps,
+            count: _count,
+            len: _len,
+        } = self;
+    }
+}
+
+/// A part of a log: an entry, or a run of them.
+#[derive(Drop)]
+pub(crate) enum Part<K, A, R> {
+    One(K, Option<A>),
+    Many(R),
+}
+
+/// A part of a log of what is asked of a bank.
+pub(crate) type LogPart<B> = Part<<B as Bank>::Key, <B as Bank>::Answer, Run<B>>;
+
+impl<B: Bank> Run<B> {
+    /// The run of so many of these steps, which stand for so many entries.
+    pub(crate) fn new(head: B::Head, steps: Steps<B::Step>, count: usize, len: usize) -> Run<B>
+        requires { len ≡ length (flat_map (B.Step.logged head) (take count steps)) }
+        ensures { result ≡ flat_map (B.Step.logged head) (take count steps) }
+    {
+        Run {
+            head,
+            steps,
+            count,
+            len,
+        }
+    }
+
+    /// How many entries it has.
+    pub(crate) fn len(&self) -> usize
+        ensures { result ≡ length self.now }
+    {
+        self.len
+    }
+
+    /// The first of its answers that isn't the bank's, with the bank's.
+    pub(crate) fn first_other<'a>(
+        &'a self,
+        alloc: Global,
+        bank: &'a B,
+    ) -> Option<(Option<&'a B::Answer>, Option<&'a B::Answer>)>
+    where
+        B: LentBank,
+        ensures { option_map (λ p. (option_copied p.0, option_copied p.1)) result
+            ≡ first_other B.Answer.eq (B.at bank.now) self.now }
+    {
+        let mut behind = self.steps.lent();
+        for _step in 0..self.count {
+            let Some((step, others)) = behind.split_first() else {
+                return None;
+            };
+            let other = step.first_other(alloc, &self.head, bank);
+            if other.is_some() {
+                return other;
+            }
+            behind = others;
+        }
+        None
+    }
+
+    /// Whether a key is among those of its entries.
+    pub(crate) fn has(&self, alloc: Global, key: &B::Key) -> bool
+        ensures { result ≡ is_logged B.Key.eq self.now key.now }
+    {
+        let mut behind = self.steps.lent();
+        for _step in 0..self.count {
+            let Some((step, others)) = behind.split_first() else {
+                return false;
+            };
+            if step.has(alloc, &self.head, key) {
+                return true;
+            }
+            behind = others;
+        }
+        false
+    }
+
+    /// Whether a digest of one of its keys may be among these.
+    pub(crate) fn shares<D: Digests>(&self, alloc: Global, digests: &D) -> bool
+        ensures { IsFalse result
+            → All (λ e. D.has digests.now (B.Key.digest_of e.0) → ⊥) self.now }
+    {
+        let mut behind = self.steps.lent();
+        for _step in 0..self.count {
+            let Some((step, others)) = behind.split_first() else {
+                return false;
+            };
+            if step.shares(alloc, &self.head, digests) {
+                return true;
+            }
+            behind = others;
+        }
+        false
+    }
+}
+
+impl<B: PlainBank> Run<B> {
+    /// The law that it has no entries, where each stands by itself. It does nothing.
+    pub(crate) fn has_none(&self)
+        ensures { self.now ≡ [] }
+    {
+        let _count = self.count;
+    }
+}
