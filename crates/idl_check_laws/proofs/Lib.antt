@@ -1,8 +1,10 @@
 mod Faults
-mod Fits
+pub mod Fits
 mod NamedTokens
-mod Nests
-mod PragmaLaws
+pub mod NamingLaws
+pub mod Nests
+pub mod PragmaLaws
 mod StandingLaws
+pub mod ToldLaws
 mod UseLaws
 mod Visits

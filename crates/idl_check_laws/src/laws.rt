@@ -3,7 +3,7 @@
 //! Each function does nothing: it carries its laws as clauses. `fitting` alone looks at a unit that a
 //! program holds.
 
-ghost use Rattle.std.specs.Prelude.{◌≡◌, ◌≢◌, ◌↔◌, ◌+◌, ◌++◌, ◌<◌, ◌≤◌, Bool, ℕ, List, [], ◌∷◌, All, Contains, codes, decimal, false, fold, length, take, true, Err, None, Ok, Option, Some, map};
+ghost use Rattle.std.specs.Prelude.{◌≡◌, ◌≢◌, ◌↔◌, ◌+◌, ◌^◌, ◌++◌, ◌<◌, ◌≤◌, Bool, ℕ, List, [], ◌∷◌, All, Contains, codes, decimal, false, fold, length, take, true, Err, None, Ok, Option, Some, map};
 ghost use Rattle.std.specs.Option.{IsSome};
 ghost use Rattle.idl_check.specs.walk.AllFaults.{site_faults, unit_faults};
 ghost use Rattle.idl_check.specs.tables.Using.{uses_of};
@@ -24,12 +24,12 @@ ghost use Rattle.idl_fault.specs.declared.code.Code.TheVariants.{NoTree};
 ghost use Rattle.idl_lex.specs.kinds.Keywords.{folded};
 ghost use Rattle.idl_lex.specs.tokens.Tokens.{Token};
 ghost use Rattle.idl_memo.specs.Query.{asked, outcome, run};
-ghost use Rattle.idl_env.specs.Facts.{UnitFacts, addition_at, answers, entity_key, scopes_in, with_addition, key_of, unstopped};
+ghost use Rattle.idl_env.specs.Facts.{UnitFacts, addition_at, answers, count_in, entity_in, entity_key, nameless, scopes_in, with_addition, key_of, unstopped};
 ghost use Rattle.idl_entity.specs.Identity.{first_identity, identity_of, is_within, prefixed, relative, slashed, told};
 ghost use Rattle.idl_entity.specs.declared.identity.Fixed.TheVariants.{Version, Id};
 ghost use Rattle.idl_env.specs.keys.Key.{key_eq};
 ghost use Rattle.idl_env.specs.declared.keys.key.Key.{Key};
-ghost use Rattle.idl_env.specs.declared.keys.key.Key.TheVariants.{Cursor, Declared, Introduced};
+ghost use Rattle.idl_env.specs.declared.keys.key.Key.TheVariants.{Cursor, Declared, Introduced, Nameless, Opened};
 ghost use Rattle.idl_env.specs.declared.additions.addition.Addition.{Addition};
 ghost use Rattle.idl_scope.specs.Lookup.{denoted, under};
 ghost use Rattle.idl_entity.specs.Kind.{inherits};
@@ -343,4 +343,18 @@ pub fn inheriting()
         → answers facts (entity_key e.path) ≡ Some (Known e)
         → e.kind ≡ Interface → e.stage ≡ Complete
         → Contains e.operations p ↔ HasOperation (answers facts) e.path p }
+{}
+
+/// Over such facts each name that is declared stands at its own key, no entity has the path of a nameless scope, and the next
+/// nameless scope was never open.
+pub fn naming()
+    ensures own { (facts : List UnitFacts) (n : List ℕ) (path : List (List ℕ)) (e : Entity)
+        → AreTold facts → entity_in (answers facts (Declared n path)) ≡ Some e
+        → entity_key e.path ≡ Declared n path }
+    ensures nameless { (facts : List UnitFacts) (name : List ℕ) (scope : List (List ℕ))
+        → AreTold facts → entity_in (answers facts (entity_key ((63 ∷ name) ∷ scope))) ≡ None }
+    ensures next { (facts : List UnitFacts) (scope : List (List ℕ))
+        → let count = count_in (answers facts Nameless) in
+        AreTold facts → count < 2 ^ 64
+        → count_in (answers facts (Opened (nameless count ∷ scope))) ≡ 0 }
 {}

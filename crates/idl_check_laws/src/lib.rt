@@ -7,5 +7,5 @@ mod laws;
 
 pub use laws::{
     acceptance, bracketing, denoting, evaluating, fitting, identification, inheriting, least,
-    more_turns, numbering, questions, refusal, speaking, stopping, wording,
+    more_turns, naming, numbering, questions, refusal, speaking, stopping, wording,
 };

@@ -6,5 +6,7 @@ pub mod MarkLemmas
 pub mod Membership
 pub mod OrderLemmas
 pub mod OutlineLemmas
+pub mod StampLemmas
 pub mod StoppedLemmas
 pub mod WalkedLemmas
+pub mod WriteLemmas

@@ -5,6 +5,7 @@ use Rattle.std.specs.Cmp.Lexicographic.{bytes_decides}
 use Rattle.std.specs.Option.{option_copied, option_eq, option_map, option_or}
 use Rattle.std.specs.Prelude.{IfSome, slice_get}
 use Rattle.std.specs.Str.{bytes_eq}
+use Rattle.idl_base.proofs.Bools.{or-false}
 use Rattle.idl_lex.specs.kinds.Keywords.{folded}
 use Rattle.idl_entity.specs.Path.{name_of, path_eq, same_path, scope_of}
 use Rattle.idl_env.specs.Facts.{entity_key}
@@ -17,7 +18,7 @@ use Rattle.idl_env.specs.declared.answering.steps.Walked.{Walked}
 use Rattle.idl_env.specs.declared.keys.key.Key.{Key}
 use Rattle.idl_env.specs.declared.keys.key.Key.TheVariants.{Declared}
 use Rattle.idl_memo.specs.Query.{is_logged}
-use Rattle.idl_memo.specs.Runs.{begins_with, first_other, other_at}
+use Rattle.idl_memo.specs.Runs.{BeginsWith, first_other, other_at}
 
 -- the key of a name and a scope that are compared with another name and path
 pub declared_at : (key : Key) (own name : List ℕ) (scope path : List (List ℕ)) → Declared own scope ≡ key → bytes_eq own name ≡ true → path_eq path scope ≡ true → key ≡ Declared name path
@@ -28,38 +29,34 @@ declared_at key own name scope path is alike same =
 pub entity_found : (key : Key) (named path : List (List ℕ)) → entity_key named ≡ key → (bytes_eq (folded (name_of path)) (folded (name_of named)) && path_eq (scope_of path) (scope_of named)) ≡ true → key ≡ entity_key path
 entity_found key named path is same = sym is ∙ sym (same_key (entity_key path) (entity_key named) same)
 
-or_nothing : (b : Bool) → (b || false) ≡ b
-or_nothing true = refl
-or_nothing false = refl
-
 -- whether one key of one is logged
 pub has_one : {V : Type 0} (one : Key) (v : V) (key : Key) → key_eq one key ≡ is_logged key_eq ((one, v) ∷ []) key
-has_one one v key = key_equiv.symm one key ∙ sym (or_nothing (key_eq key one))
+has_one one v key = key_equiv.symm one key ∙ sym (or-false (key_eq key one))
 
 -- and of two
 pub has_two : {V : Type 0} (one two : Key) (v w : V) (key : Key) → (key_eq one key || key_eq two key) ≡ is_logged key_eq ((one, v) ∷ (two, w) ∷ []) key
 has_two one two v w key =
     (λ i. key_equiv.symm one key i || key_equiv.symm two key i)
-    ∙ ap (λ b. key_eq key one || b) (sym (or_nothing (key_eq key two)))
+    ∙ ap (λ b. key_eq key one || b) (sym (or-false (key_eq key two)))
 
 -- entries begin with the first
-pub one_first : {E : Type 0} (entries : List E) (a : E) → slice_get entries 0 ≡ Some a → begins_with (a ∷ []) entries
+pub one_first : {E : Type 0} (entries : List E) (a : E) → slice_get entries 0 ≡ Some a → BeginsWith (a ∷ []) entries
 one_first [] a h = absurd (cc)
 one_first (x ∷ rest) a h = (rest, cc)
 
 -- and with the first two
-pub two_first : {E : Type 0} (entries : List E) (a b : E) → slice_get entries 0 ≡ Some a → slice_get entries 1 ≡ Some b → begins_with (a ∷ b ∷ []) entries
+pub two_first : {E : Type 0} (entries : List E) (a b : E) → slice_get entries 0 ≡ Some a → slice_get entries 1 ≡ Some b → BeginsWith (a ∷ b ∷ []) entries
 two_first [] a b h k = absurd (cc)
 two_first (x ∷ []) a b h k = absurd (cc)
 two_first (x ∷ y ∷ rest) a b h k = (rest, cc)
 
 -- entries begin with the step of the answer that was found
-pub found_first : (head : Walked) (entries : List (Key × Option Answer)) (found : Option (Bor Answer)) (a : Answer) → IfSome found (λ answer. begins_with (entries_walked head answer.now) entries) → option_copied found ≡ Some a
-    → begins_with (entries_walked head a) entries
+pub found_first : (head : Walked) (entries : List (Key × Option Answer)) (found : Option (Bor Answer)) (a : Answer) → IfSome found (λ answer. BeginsWith (entries_walked head answer.now) entries) → option_copied found ≡ Some a
+    → BeginsWith (entries_walked head a) entries
 found_first head entries None a told same = absurd (cc)
 found_first head entries (Some answer) a told same =
     let this : answer.now ≡ a = cc in
-    subst (λ b. begins_with (entries_walked head b) entries) this told
+    subst (λ b. BeginsWith (entries_walked head b) entries) this told
 
 module _ {K V : Type 0} (eq : V → V → Bool) (bank : K → Option V) where
   -- of one entry, its answer is told if it is another one

@@ -1,8 +1,7 @@
 -- How facts are kept, and what they come to: each addition at its key, and each answer at its key.
 use Rattle.std.specs.Prelude.{◌≡◌, List, [], ◌∷◌, Option, None, Some, reverse}
-use Rattle.std.specs.Map.{lookup}
 use Rattle.idl_env.specs.Facts.{key_of, World}
-use Rattle.idl_env.specs.keys.Key.{key_eq}
+use Rattle.idl_env.specs.Stamps.{stamped_in}
 use Rattle.idl_env.specs.declared.additions.addition.Addition.{Addition}
 use Rattle.idl_env.specs.declared.answering.answer.Scope.{Scope}
 use Rattle.idl_env.specs.declared.keys.key.Key.{Key}
@@ -23,7 +22,7 @@ IsAmongOthers key = Unit {0}
 -- what is kept comes to: the lists have the innermost scope, and the file that was entered last, last
 abbrev pub held : State → World
 held state = record {
-  answers = λ k. lookup (key_eq k) state.answers;
+  answers = (stamped_in state.answers).at;
   inside = reverse state.inside.items;
   before = record { opened = reverse state.opened; entered = reverse state.entered };
 }

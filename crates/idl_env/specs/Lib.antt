@@ -4,6 +4,8 @@ pub mod Held
 pub mod Outside
 pub mod SameAnswer
 pub mod SameKey
+pub mod Stamps
 pub mod Turns
+pub mod Written
 pub mod answering
 pub mod keys

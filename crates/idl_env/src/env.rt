@@ -5,6 +5,7 @@ ghost use Rattle.std.specs.Option.{option_copied};
 ghost use Rattle.idl_entity.specs.DataType.{plain_type};
 ghost use Rattle.idl_env.specs.Facts.{answers};
 ghost use Rattle.idl_env.specs.Turns.{bases_among, declared_named, most_turns, turns_for};
+ghost use Rattle.idl_env.specs.Written.{last_written};
 ghost use Rattle.idl_env.specs.declared.keys.key.Key.TheVariants.{Typeprefix};
 
 use crate::additions::facts::Facts;
@@ -40,6 +41,7 @@ impl Model for Env {
     ghost use Rattle.std.specs.Prelude.{◌≡◌, ◌+◌, ◌≤◌, List, length};
     ghost use Rattle.idl_env.specs.Facts.{UnitFacts, world};
     ghost use Rattle.idl_env.specs.Held.{held};
+    ghost use Rattle.idl_env.specs.Stamps.{stamped_in, stamps_of};
     ghost use Rattle.idl_env.specs.Turns.{turns_for};
 
     ghost Value = { List UnitFacts };
@@ -48,7 +50,8 @@ impl Model for Env {
 
     ghost invariant = { λ env.
         (length env.facts + turns_for env.facts ≤ env.count)
-        × (held env.state.value ≡ world env.facts) };
+        × ((held env.state.value ≡ world env.facts)
+        × ((stamped_in env.state.value.answers).stamps ≡ stamps_of env.facts)) };
 }
 
 impl Drop for Env {
@@ -103,6 +106,20 @@ impl Env {
             → (path : List (List ℕ)) → answers self.now (Typeprefix path) ≡ None }
     {
         self.state.answers.has_typeprefixes()
+    }
+
+    /// How many facts there are.
+    pub fn len(&self) -> usize
+        ensures { result ≡ length self.now }
+    {
+        self.state.answers.count()
+    }
+
+    /// Which of the facts wrote last at a key, counted from 1, and 0 where none did.
+    pub fn written_at(&self, key: &DigestedKey) -> usize
+        ensures { result ≡ last_written self.now key.now }
+    {
+        self.state.answers.writer(key)
     }
 
     /// Where it takes memory.

@@ -8,7 +8,10 @@ mod answering;
 mod apart;
 mod env;
 mod keys;
+mod no_step;
 mod plain;
+mod plain_env;
+mod written;
 
 pub use additions::addition::{Addition, Step};
 pub use additions::facts::Facts;
@@ -25,3 +28,6 @@ pub use env::Env;
 pub use keys::digested::DigestedKey;
 pub use keys::key::Key;
 pub use keys::lent_key::LentKey;
+pub use no_step::NoStep;
+pub use plain_env::PlainEnv;
+pub use written::lasting;

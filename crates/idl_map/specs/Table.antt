@@ -16,7 +16,8 @@ abbrev pub places_in : {K : Type 0} → (K → K → Bool) → List (K × ℕ) �
 places_in eq places key = lookup (eq key) places
 
 -- the same of a map behind a pointer, where there is one
-abbrev pub places_behind : {K : Type 0} → (K → K → Bool) → Option (Box (List (K × ℕ))) → Option (K → Option ℕ)
+abbrev pub places_behind : {K : Type 0} → (K → K → Bool) → Option (Box (List (K × ℕ)))
+    → Option (K → Option ℕ)
 places_behind eq index = option_map (λ places. places_in eq places.value) index
 
 -- the index has the place of each key; of one that stands nowhere it may have any

@@ -1,5 +1,5 @@
 -- Places that are alike, and the fresh ones among them.
-use Rattle.std.proofs.Common.{◌≡◌, ℕ, ◌+◌, ◌≤◌, length, subst, Bool, true, false, ◌&&◌, ◌||◌, ◌↔◌, All, Contains, Option, None, Some, List, [], ◌∷◌, ◌++◌, append-nil, append_assoc, refl, sym, ap, ◌∙◌, arith, if◌then◌else◌}
+use Rattle.std.proofs.Common.{◌≡◌, ℕ, ◌+◌, ◌≤◌, length, subst, Bool, true, false, ◌&&◌, ◌||◌, ◌↔◌, All, Contains, sum_by, Option, None, Some, List, [], ◌∷◌, ◌++◌, append-nil, append_assoc, refl, sym, ap, ◌∙◌, arith, if◌then◌else◌}
 use Rattle.std.proofs.lemmas.List.{map-append}
 use Rattle.std.proofs.lemmas.List.Elements.{All-nil, All-cons, All-head, All-tail}
 use Rattle.std.proofs.lemmas.List.Folds.{list_any-append, list_any_at}
@@ -7,10 +7,10 @@ use Rattle.std.specs.List.{list_all, list_any, AllByRecursion, IsDistinct}
 use Rattle.std.specs.Option.{option_eq}
 use Rattle.idl_base.proofs.Bools.{or-true}
 use Rattle.idl_base.specs.Exact.{both}
-use Rattle.idl_memo.specs.Classes.{new_among}
+use Rattle.idl_memo.specs.Classes.{new_among, new_ones}
 use Rattle.idl_memo.specs.Query.{Query, asked, run, Agree, HoldsIn}
-use Rattle.idl_memo.specs.Fresh.{Place, places_over, is_alike, log_at, fresh_at, fresh_among, AreAmong, stale_among, asked_at, compared_among, asked_among}
-use Rattle.idl_memo.proofs.ClassLaws.{one_test, each_new, not_before, new-split, new-none, new-known, new-aside, new-turned, new-classes, new-distinct, new-fewer, new-most, HaveAlike-itself}
+use Rattle.idl_memo.specs.Fresh.{Place, places_over, is_alike, log_at, keys_at, fresh_at, fresh_among, shared_at, shared_among, most_shared_at, AreAmong, stale_among, asked_at, compared_among, asked_among}
+use Rattle.idl_memo.proofs.ClassLaws.{one_test, each_new, not_before, new-split, new-none, new-known, new-aside, new-turned, new-classes, new-distinct, new-fewer, new-most, HaveAlike-itself, most-new, sum-aside, sum-known, sum-split, sum-turned}
 use Rattle.idl_memo.proofs.QueryLaws.{IsLogOf-run, Agree-from_log, run-agree}
 
 -- an option is equal to itself where what it holds is
@@ -133,6 +133,65 @@ module _ {K V X T O : Type 0} (text_eq : T → T → Bool) (text_itself : (x : T
     pub fresh-most : (old new : List (Place K V T)) → fresh old new ≤ length new
     unfolding fresh_among
     fresh-most = new-most alike
+
+    abbrev keys_if : Bool → Place K V T → ℕ
+    keys_if known here = if known then keys_at text_eq answer_eq query key_eq here else 0
+
+    -- alike tasks ask as many keys
+    keys-class : (x y : Place K V T) → alike x y ≡ true → (b : Bool) → keys_if b x ≡ keys_if b y
+    keys-class x y is b = ap (λ (log : List (K × V)). if b then length log else 0) ((is_alike-class x y).0 is).1
+
+    abbrev shared : List (Place K V T) → List (Place K V T) → ℕ
+    shared = shared_among text_eq answer_eq query key_eq
+
+    pub shared-none : (known : List (Place K V T)) → shared known [] ≡ 0
+    unfolding shared_among
+    shared-none known = refl
+
+    pub shared-one : (known : List (Place K V T)) (here : Place K V T) → shared known (here ∷ []) ≡ shared_at text_eq answer_eq query key_eq known here
+    unfolding shared_among
+    shared-one known here = omega arith
+
+    pub shared-split : (old a b : List (Place K V T)) → shared old (a ++ b) ≡ shared old a + shared (old ++ a) b
+    unfolding shared_among
+    shared-split = sum-split alike keys_if
+
+    pub shared-known : (a b new : List (Place K V T)) → Among a b → Among b a → shared a new ≡ shared b new
+    unfolding shared_among
+    shared-known = sum-known alike alike-turn alike-chain keys_if
+
+    pub shared-aside : (old front stay rest : List (Place K V T)) → Among stay old
+        → shared old (front ++ (stay ++ rest)) ≡ shared old (front ++ rest) + sum_by (λ p. keys_at text_eq answer_eq query key_eq p) stay
+    unfolding shared_among
+    shared-aside = sum-aside alike alike-turn alike-chain keys_if
+
+    pub shared-turned : (old a b : List (Place K V T)) → shared old (a ++ b) ≡ shared old (b ++ a)
+    unfolding shared_among
+    shared-turned = sum-turned alike alike-turn alike-chain keys_if keys-class
+
+    abbrev counted : Place K V T → Place K V T → ℕ
+    counted here task = if text_eq here.0 task.0 then keys_at text_eq answer_eq query key_eq task else 0
+
+    -- no more than all known tasks of its text asked
+    pub shared-most : (known : List (Place K V T)) (here : Place K V T) → shared_at text_eq answer_eq query key_eq known here ≤ most_shared_at text_eq answer_eq query key_eq known here
+    shared-most known here = by (list_any (alike here) known) refl
+      where
+        one-text : (task : Place K V T) → alike here task ≡ true → text_eq here.0 task.0 ≡ true
+        one-text task is = ap (text_eq here.0) (sym ((is_alike-class here task).0 is).0) ∙ text_itself here.0
+
+        by_class : (task : Place K V T) → alike here task ≡ true → counted here task ≡ counted here here
+        by_class task is =
+            let own = text_itself here.0 in
+            let other = one-text task is in
+            let keys = keys-class here task is true in
+            rw own (rw other (sym keys))
+
+        by : (b : Bool) → list_any (alike here) known ≡ b → (if b then keys_at text_eq answer_eq query key_eq here else 0) ≤ sum_by (counted here) (new_ones alike [] known)
+        by false none = omega arith
+        by true found =
+            let most = most-new alike alike-turn alike-chain (counted here) here by_class known found in
+            let own = ap (λ b. if b then keys_at text_eq answer_eq query key_eq here else 0) (text_itself here.0) in
+            omega (arith, most, own)
 
     -- places that are there are among those
     pub Among-there : (these those : List (Place K V T)) → All (Contains those) these → Among these those

@@ -1,8 +1,8 @@
 -- Which places of a project are fresh against those of another: the work that kept results don't
 -- save.
-use Rattle.std.specs.Prelude.{ℕ, ◌+◌, Bool, ◌&&◌, List, [], ◌∷◌, length, map, if◌then◌else◌}
-use Rattle.std.specs.List.{list_all}
-use Rattle.idl_memo.specs.Classes.{HaveAlike, new_among, new_at}
+use Rattle.std.specs.Prelude.{ℕ, ◌+◌, Bool, ◌&&◌, List, [], ◌∷◌, length, map, sum_by, if◌then◌else◌}
+use Rattle.std.specs.List.{list_all, list_any}
+use Rattle.idl_memo.specs.Classes.{HaveAlike, new_among, new_at, new_ones, sum_among}
 use Rattle.idl_memo.specs.Query.{Query, asked, run}
 
 -- a task where it stands: its text, and the answers there
@@ -47,6 +47,26 @@ module _ {K V X T O : Type 0} (text_eq : T → T → Bool) (answer_eq : V → V 
   abbrev pub stale_among : (K → V) → (K → V) → List T → ℕ
   stale_among old new [] = 0
   stale_among old new (task ∷ tasks) = stale_at old new task + stale_among old new tasks
+
+  module _ (key_eq : K → K → Bool) where
+    -- how many keys a task asks where it stands
+    abbrev pub keys_at : Place K V T → ℕ
+    keys_at place = length (log_at key_eq query place)
+
+    -- those that a known task asked that is alike at the place, and nothing where none is
+    abbrev pub shared_at : List (Place K V T) → Place K V T → ℕ
+    shared_at known here = if list_any (is_alike here) known then keys_at here else 0
+
+    -- at each place those of a known task, or one of an earlier place, that is alike
+    unfoldable pub shared_among : List (Place K V T) → List (Place K V T) → ℕ
+    shared_among known places =
+        sum_among is_alike (λ is_known here. if is_known then keys_at here else 0) known places
+
+    -- those that the known tasks of its text asked, each task once
+    abbrev pub most_shared_at : List (Place K V T) → Place K V T → ℕ
+    most_shared_at known here =
+        sum_by (λ task. if text_eq here.0 task.0 then keys_at task else 0)
+        (new_ones is_alike [] known)
 
   module _ (key_eq : K → K → Bool) (old : K → V) where
     -- how many keys a task asked

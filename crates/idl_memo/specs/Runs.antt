@@ -3,8 +3,8 @@ use Rattle.std.specs.Prelude.{◌≡◌, Bool, List, [], ◌∷◌, ◌++◌, Op
 use Rattle.std.specs.Option.{option_eq}
 
 -- these entries begin with those
-abbrev pub begins_with : {E : Type 0} → List E → List E → Type 0
-begins_with {E} first entries = (rest : List E) × (entries ≡ first ++ rest)
+abbrev pub BeginsWith : {E : Type 0} → List E → List E → Type 0
+BeginsWith {E} first entries = (rest : List E) × (entries ≡ first ++ rest)
 
 -- an answer and another in its place, where they aren't one
 abbrev pub other_at : {V : Type 0} → (V → V → Bool) → Option V → Option V

@@ -1,9 +1,8 @@
 //! Runs: entries of a log that many steps stand for.
 
-ghost use Rattle.std.specs.Prelude.{◌≡◌, ◌*◌, [], ℕ, All, IsFalse, IsTrue, List, Option, flat_map, length, take};
+ghost use Rattle.std.specs.Prelude.{◌≡◌, [], All, IsFalse, List, Option, flat_map, length, take};
 ghost use Rattle.std.specs.Option.{option_copied, option_map};
 ghost use Rattle.idl_memo.specs.Query.{is_logged};
-ghost use Rattle.idl_memo.specs.Parts.{part_entries};
 ghost use Rattle.idl_memo.specs.Runs.{first_other};
 
 use crate::bank::{Bank, LentBank, PlainBank};

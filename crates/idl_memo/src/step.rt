@@ -1,9 +1,9 @@
 //! Steps: what stands for a few entries of a log that stand side by side.
 
-ghost use Rattle.std.specs.Prelude.{◌≡◌, ◌↔◌, ◌++◌, [], ℕ, All, IfOk, IfSome, IsFalse, IsTrue, List, Option, length};
+ghost use Rattle.std.specs.Prelude.{◌≡◌, ℕ, All, IfOk, IfSome, IsFalse, IsTrue, List, Option, length};
 ghost use Rattle.std.specs.Option.{option_copied, option_map};
 ghost use Rattle.idl_memo.specs.Query.{is_logged};
-ghost use Rattle.idl_memo.specs.Runs.{begins_with, first_other};
+ghost use Rattle.idl_memo.specs.Runs.{BeginsWith, first_other};
 
 use crate::bank::LentBank;
 use idl_base::Datum;
@@ -35,11 +35,11 @@ pub trait Step<K: Datum + Ord + Digest, A: Datum, H>: Datum {
     /// The step with which these entries begin, if it can be told.
     fn first(head: &H, entries: &[(K, Option<A>)]) -> Result<Option<Self>, AllocError>
         ensures { IfOk result (λ found. IfSome found (λ step.
-            begins_with (logged head.now step) entries.now)) };
+            BeginsWith (logged head.now step) entries.now)) };
 
     /// Whether these entries begin with this step, where that is told at little cost.
     fn is_first(&self, head: &H, entries: &[(K, Option<A>)]) -> bool
-        ensures { IsTrue result → begins_with (logged head.now self.now) entries.now };
+        ensures { IsTrue result → BeginsWith (logged head.now self.now) entries.now };
 
     /// Whether it is told at little cost whether entries begin with it.
     fn is_told(&self) -> bool;
@@ -68,54 +68,4 @@ pub trait Step<K: Datum + Ord + Digest, A: Datum, H>: Datum {
     fn shares<D: Digests>(&self, alloc: Global, head: &H, digests: &D) -> bool
         ensures { IsFalse result
             → All (λ e. D.has digests.now (K.digest_of e.0) → ⊥) (logged head.now self.now) };
-}
-
-// Where each entry stands by itself, there are no steps.
-impl<K: Datum + Ord + Digest, A: Datum> Step<K, A, ()> for () {
-    ghost logged = { λ head step. [] };
-
-    fn width(_head: &()) -> usize {
-        0
-    }
-
-    fn head(_alloc: Global, _entries: &[(K, Option<A>)]) -> Result<Option<()>, AllocError> {
-        Ok(None)
-    }
-
-    fn first(_head: &(), _entries: &[(K, Option<A>)]) -> Result<Option<()>, AllocError> {
-        Ok(None)
-    }
-
-    fn is_first(&self, _head: &(), _entries: &[(K, Option<A>)]) -> bool {
-        false
-    }
-
-    fn is_told(&self) -> bool {
-        false
-    }
-
-    fn mark(&self) -> u64 {
-        0
-    }
-
-    fn first_mark(_head: &(), _entries: &[(K, Option<A>)]) -> Option<u64> {
-        None
-    }
-
-    fn first_other<'a, B: LentBank<Key = K, Answer = A, Head = (), Step = ()>>(
-        &'a self,
-        _alloc: Global,
-        _head: &(),
-        _bank: &'a B,
-    ) -> Option<(Option<&'a A>, Option<&'a A>)> {
-        None
-    }
-
-    fn has(&self, _alloc: Global, _head: &(), _key: &K) -> bool {
-        false
-    }
-
-    fn shares<D: Digests>(&self, _alloc: Global, _head: &(), _digests: &D) -> bool {
-        false
-    }
 }

@@ -200,10 +200,10 @@ fn show_output<K: Sink>(
     ensures ok { OnOk result (K.failures output.new ≡ K.failures output.old) }
 {
     if options.shows_dump {
-        write_lines(output, root.rows.dump.as_slice())?;
+        write_lines(output, root.rows.dump.get().as_slice())?;
     }
     if options.shows_listing {
-        write_lines(output, root.rows.listing.as_slice())?;
+        write_lines(output, root.rows.listing.get().as_slice())?;
     }
     Ok(())
 }

@@ -1,6 +1,7 @@
 -- What is kept of a root, over the answers before an edit and those after it.
-use Rattle.std.proofs.Common.{◌≡◌, ◌≤◌, arith, ℕ, ◌+◌, Bool, true, false, cond, List, [], ◌∷◌, ◌++◌, Option, None, length, map, subst, refl, sym, ap, ◌∙◌, if◌then◌else◌}
+use Rattle.std.proofs.Common.{◌≡◌, ◌≤◌, arith, ℕ, ◌+◌, Bool, true, false, cond, List, [], ◌∷◌, ◌++◌, Option, None, Some, length, subst, refl, sym, ap, ◌∙◌, if◌then◌else◌}
 use Rattle.std.proofs.lemmas.List.Elements.{All-head, All-tail}
+use Rattle.std.specs.Prelude.{IfNone}
 use Rattle.std.specs.Map.{keys_of}
 use Rattle.std.specs.Option.{option_eq}
 use Rattle.std.specs.Str.{bytes_eq}
@@ -17,12 +18,13 @@ use Rattle.idl_memo.specs.Renewal.{IsTold}
 use Rattle.idl_memo.specs.declared.meter.Meter.{Meter}
 use Rattle.idl_memo.specs.Kept.{Kept, HoldsOver}
 use Rattle.idl_memo.specs.Query.{asked, is_logged, noted_all}
-use Rattle.idl_store.specs.Stored.{results_in, with_draft}
+use Rattle.idl_store.specs.Stored.{results_in}
 use Rattle.idl_prep.specs.Root.{absent_files, expanded, expansion, root}
+use Rattle.idl_root.specs.AsBefore.{IsAsBefore, IsCompiledOf, IsMade}
 use Rattle.idl_root.specs.Compile.{compile}
+use Rattle.idl_root.specs.declared.compiling.compiled.Compiled.{Compiled}
 use Rattle.idl_root.specs.Turns.{IsWithinTurns}
-use Rattle.idl_root.specs.Places.{declarations_of, entries_of}
-use Rattle.idl_root.specs.Results.{DeclarationResult, EntryResult, IsDeclarationPass, IsEntryPass, IsKeptOf, declaration_result, entry_result, fresh_declarations, fresh_entries, root_marks}
+use Rattle.idl_root.specs.Results.{DeclarationResult, EntryResult, IsDeclarationPass, IsEntryPass, IsKeptOf, fresh_declarations, fresh_entries, root_marks}
 use Rattle.idl_root.specs.declared.kept.keeper.Keeper.{Keeper}
 use Rattle.idl_root.specs.declared.kept.marks.Mark.{Mark}
 use Rattle.idl_project.specs.Compile.{compile_over, end_of, line_count}
@@ -30,6 +32,7 @@ use Rattle.idl_project.specs.Renewed.{IsDrafted}
 use Rattle.idl_project.specs.Tasks.{declarations_among, declarations_at, entries_among, entries_at}
 use Rattle.idl_project.specs.UpToDate.{AreKept, IsKept, keys_asked}
 use Rattle.idl_project.specs.Work.{answer_eq, compared_keys, fresh_roots, staying, work_between}
+use Rattle.idl_project.specs.declared.compile.CompiledRoot.{CompiledRoot}
 use Rattle.idl_project.specs.declared.kept_root.KeptRoot.{KeptRoot}
 
 -- how many of these roots aren't alike at their own places
@@ -126,17 +129,15 @@ IsKept-still old new kept copy is result compiled marks over = record {
   turns = subst IsWithinTurns (sym (expanded-again old new kept.result.value is.over over)) is.turns;
 }
 
+-- of what isn't there
+pub none-weaker : {R P Q : Type 0} (found : Option R) → (P → Q) → IfNone found P → IfNone found Q
+none-weaker None more is = more is
+none-weaker (Some r) more is = tt
+
 -- what a root comes to, told of its events
 pub IsDrafted-from : (bank : RootKey → Option RootAnswer) (at : ℕ) (name : List ℕ) (events : List Event) (old new : Keeper) (before after : Meter) → events ≡ (expanded name bank).0
-    → new.declarations ≡ with_draft old.declarations at (map declaration_result (declarations_of events)) → new.entries ≡ with_draft old.entries at (map entry_result (entries_of events))
-    → IsDeclarationPass (declarations_of events) (results_in old.declarations) (results_in new.declarations) before.checked after.checked
-    → IsEntryPass (entries_of events) (results_in old.entries) (results_in new.entries) before.printed after.printed → IsDrafted bank at name old new before after
-IsDrafted-from bank at name events old new before after is declarations entries checked printed = record {
-  declarations = declarations ∙ ap (λ (es : List Event). with_draft old.declarations at (map declaration_result (declarations_of es))) is;
-  entries = entries ∙ ap (λ (es : List Event). with_draft old.entries at (map entry_result (entries_of es))) is;
-  checked = subst (λ (es : List Event). IsDeclarationPass (declarations_of es) (results_in old.declarations) (results_in new.declarations) before.checked after.checked) is checked;
-  printed = subst (λ (es : List Event). IsEntryPass (entries_of es) (results_in old.entries) (results_in new.entries) before.printed after.printed) is printed;
-}
+    → IsMade events at old new before after → IsDrafted bank at name old new before after
+IsDrafted-from bank at name events old new before after is made = subst (λ (es : List Event). IsMade es at old new before after) is made
 
 -- the same from meters with these counts
 pub IsDrafted-metered : (bank : RootKey → Option RootAnswer) (at : ℕ) (name : List ℕ) (old new : Keeper) (first before after : Meter) → before.checked ≡ first.checked → before.printed ≡ first.printed
@@ -146,6 +147,27 @@ IsDrafted-metered bank at name old new first before after checked printed made =
   entries = made.entries;
   checked = subst (λ n. IsDeclarationPass (declarations_at bank name) (results_in old.declarations) (results_in new.declarations) n after.checked) checked made.checked;
   printed = subst (λ n. IsEntryPass (entries_at bank name) (results_in old.entries) (results_in new.entries) n after.printed) printed made.printed;
+}
+
+pub IsAsBefore-metered : (was events : List Event) (old new : Keeper) (first before after : Meter) → before.checked ≡ first.checked → before.printed ≡ first.printed
+    → IsAsBefore was events old new before after → IsAsBefore was events old new first after
+IsAsBefore-metered was events old new first before after checked printed left = record {
+  declarations_are = left.declarations_are;
+  entries_are = left.entries_are;
+  declarations = left.declarations;
+  entries = left.entries;
+  checked = left.checked ∙ checked;
+  printed = left.printed ∙ printed;
+}
+
+-- what a root compiled to over some answers, of its events then
+pub IsCompiledOf-kept : (bank : RootKey → Option RootAnswer) (kept : KeptRoot) (compiled : Compiled) → compiled ≡ kept.compiled.value.rows → IsKept bank (kept.result.value.text, kept)
+    → IsCompiledOf (expanded kept.result.value.text bank).0 compiled
+unfolding compile_over
+IsCompiledOf-kept bank kept compiled same is = record {
+  end = end_of bank kept.result.value.text;
+  rows = same ∙ ap (λ (r : CompiledRoot). r.rows) is.rows;
+  turns = is.turns;
 }
 
 -- of a root of which nothing is kept

@@ -3,14 +3,14 @@ use Rattle.std.specs.Prelude.{◌≡◌, ℕ, List, [], ◌∷◌, ◌++◌, Opt
 use Rattle.std.specs.Map.{keys_of}
 use Rattle.idl_event.specs.declared.asked.key.RootAnswer.{RootAnswer}
 use Rattle.idl_event.specs.declared.asked.key.RootKey.{RootKey}
-use Rattle.idl_store.specs.Stored.{committed, results_in, with_draft}
+use Rattle.idl_store.specs.Stored.{committed}
 use Rattle.idl_memo.specs.declared.meter.Meter.{Meter}
 use Rattle.idl_prep.specs.Root.{expanded}
-use Rattle.idl_root.specs.Results.{IsDeclarationPass, IsEntryPass}
+use Rattle.idl_root.specs.AsBefore.{IsAsBefore, IsMade}
 use Rattle.idl_root.specs.declared.kept.keeper.Keeper.{Keeper}
 use Rattle.idl_project.specs.Bank.{bank_of, bank_with}
 use Rattle.idl_project.specs.Project.{Inputs, Project}
-use Rattle.idl_project.specs.Tasks.{declaration_list, declarations_at, entries_at, entry_list, kept_declarations, kept_entries}
+use Rattle.idl_project.specs.Tasks.{kept_declarations, kept_entries}
 use Rattle.idl_project.specs.UpToDate.{AreKept, IsKept}
 use Rattle.idl_project.specs.Work.{work_between}
 use Rattle.idl_project.specs.declared.kept_root.KeptRoot.{KeptRoot}
@@ -18,24 +18,15 @@ use Rattle.idl_project.specs.declared.work.Work.{Work}
 
 -- a root at a place among all comes to what these answers make of it: its lists are in drafts, and
 -- the fresh tasks are counted
-pub record IsDrafted (bank : RootKey → Option RootAnswer) (at : ℕ) (root : List ℕ)
-    (old new : Keeper) (before after : Meter) : Type 0 where
-  pub declarations : new.declarations
-      ≡ with_draft old.declarations at (declaration_list bank root)
-  pub entries : new.entries ≡ with_draft old.entries at (entry_list bank root)
-  pub checked : IsDeclarationPass (declarations_at bank root) (results_in old.declarations)
-      (results_in new.declarations) before.checked after.checked
-  pub printed : IsEntryPass (entries_at bank root) (results_in old.entries)
-      (results_in new.entries) before.printed after.printed
+abbrev pub IsDrafted : (RootKey → Option RootAnswer) → ℕ → List ℕ → Keeper → Keeper → Meter → Meter
+    → Type 0
+IsDrafted bank at root old new before after = IsMade (expanded root bank).0 at old new before after
 
--- a root expands to what it did, and nothing is made of it
-pub record IsLeft (was bank : RootKey → Option RootAnswer) (root : List ℕ) (old new : Keeper)
-    (before after : Meter) : Type 0 where
-  pub same : (expanded root bank).0 ≡ (expanded root was).0
-  pub declarations : new.declarations ≡ old.declarations
-  pub entries : new.entries ≡ old.entries
-  pub checked : after.checked ≡ before.checked
-  pub printed : after.printed ≡ before.printed
+-- a root has the tasks that it had, and nothing is made of it
+abbrev pub IsLeft : (RootKey → Option RootAnswer) → (RootKey → Option RootAnswer) → List ℕ → Keeper
+    → Keeper → Meter → Meter → Type 0
+IsLeft was bank root old new before after =
+    IsAsBefore (expanded root was).0 (expanded root bank).0 old new before after
 
 -- no list has become another
 pub record AreListsLeft (old new : Keeper) : Type 0 where

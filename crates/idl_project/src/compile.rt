@@ -1,11 +1,12 @@
 //! The compilation of a root.
 
-ghost use Rattle.std.specs.Prelude.{◌≡◌, ℕ, IfOk, List, OnOk, map};
-ghost use Rattle.std.specs.Option.{option_copied, option_map};
+ghost use Rattle.std.specs.Prelude.{◌≡◌, ◌⊎◌, ℕ, IfNone, IfOk, IfSome, List, OnOk, map};
+ghost use Rattle.std.specs.Option.{option_copied, option_map, unwrap_or};
 ghost use Rattle.idl_event.specs.Key.{key_eq};
 ghost use Rattle.idl_event.specs.declared.told.event.Event.{Event};
 ghost use Rattle.idl_memo.specs.Kept.{HoldsOver};
 ghost use Rattle.idl_prep.specs.Root.{expanded, expansion};
+ghost use Rattle.idl_root.specs.AsBefore.{IsAsBefore, IsCompiledOf};
 ghost use Rattle.idl_root.specs.Findings.{finding_row};
 ghost use Rattle.idl_store.specs.Stored.{list_at};
 ghost use Rattle.idl_root.specs.Results.{ChecksAndPrintsOnly, IsKeptOf, root_marks};
@@ -46,20 +47,21 @@ impl Drop for CompiledRoot {
     }
 }
 
-/// What a root compiles to, and what its units are.
+/// What a root compiles to, and what its units are, unless they are as they were.
 #[derive(Drop)]
 pub struct CompiledAgain {
     pub compiled: CompiledRoot,
-    pub marks: Marks,
+    pub marks: Option<Marks>,
 }
 
 /// What a root is compiled from where its results are kept: the result of its task, its place among all roots, and what its units
-/// were when it was compiled last.
+/// were and what they came to when it was compiled last, if it was.
 #[derive(Clone, Copy)]
 pub struct KeptTask<'a> {
     pub result: &'a KeptExpansion,
     pub at: usize,
     pub marks: &'a Marks,
+    pub compiled: Option<&'a Compiled>,
 }
 
 /// Compiles a root over a bank, in which its own file may be absent. Nothing is kept of it.
@@ -120,16 +122,26 @@ pub fn compile_kept<B: RootBank>(
     meter: &mut Meter,
 ) -> Result<CompiledAgain, AllocError>
     requires over { HoldsOver key_eq expansion (B.at bank.now) root.result.now }
-    requires kept { (events : List Event) × IsKeptOf events root.marks.now
-        (list_at keeper.old.declarations.lists root.at) (list_at keeper.old.entries.lists root.at) }
+    requires kept { (was : List Event) × IsKeptOf was root.marks.now
+        (list_at keeper.old.declarations.lists root.at) (list_at keeper.old.entries.lists root.at)
+        × IfSome root.compiled (λ compiled. IsCompiledOf was compiled.now) }
     ensures compiled { let name = root.entry.result.now.text in
         IfOk result (λ r. r.compiled ≡ compile_over (B.at bank.now) name) }
     ensures turns { let name = root.entry.result.now.text in
         OnOk result (IsWithinTurns (expanded name (B.at bank.now)).0) }
     ensures marks { let name = root.entry.result.now.text in
-        IfOk result (λ r. r.marks ≡ root_marks (expanded name (B.at bank.now)).0) }
-    ensures made { OnOk result (IsDrafted (B.at bank.now) root.entry.at root.entry.result.now.text
-        keeper.old keeper.new meter.old meter.new) }
+        IfOk result (λ r. unwrap_or r.marks root.entry.marks.now
+        ≡ root_marks (expanded name (B.at bank.now)).0) }
+    ensures tasks { let name = root.entry.result.now.text in
+        OnOk result ((was : List Event) → IsKeptOf was root.entry.marks.now
+        (list_at keeper.old.declarations.lists root.entry.at)
+        (list_at keeper.old.entries.lists root.entry.at)
+        → IsAsBefore was (expanded name (B.at bank.now)).0 keeper.old keeper.new
+        meter.old meter.new
+        ⊎ IsDrafted (B.at bank.now) root.entry.at name keeper.old keeper.new
+        meter.old meter.new) }
+    ensures first { OnOk result (IfNone root.entry.compiled (IsDrafted (B.at bank.now)
+        root.entry.at root.entry.result.now.text keeper.old keeper.new meter.old meter.new)) }
     ensures lists { AreListsLeft keeper.old keeper.new }
     ensures others { OnOk result (ChecksAndPrintsOnly meter.old meter.new) }
 {
@@ -140,6 +152,7 @@ pub fn compile_kept<B: RootBank>(
         end: &end,
         expansion: root.result.out(),
         marks: root.marks,
+        compiled: root.compiled,
     };
     let Recompiled {
         compiled: rows,

@@ -1,15 +1,16 @@
 //! What is kept of a root.
 
-ghost use Rattle.std.specs.Prelude.{◌≡◌, ◌⊎◌, ◌+◌, ◌<◌, [], IfOk, List, OnOk, length};
-ghost use Rattle.std.specs.Option.{option_copied, option_eq};
+ghost use Rattle.std.specs.Prelude.{◌≡◌, ◌⊎◌, ◌+◌, ◌<◌, [], IfNone, IfOk, IfSome, List, OnOk, length};
+ghost use Rattle.std.specs.Option.{option_copied, option_eq, unwrap_or};
 ghost use Rattle.std.specs.Str.{bytes_eq};
 ghost use Rattle.idl_event.specs.Key.{key_eq};
 ghost use Rattle.idl_event.specs.declared.told.event.Event.{Event};
 ghost use Rattle.idl_memo.specs.Cause.{IsCause};
 ghost use Rattle.idl_memo.specs.Fresh.{compared_at, stale_at};
 ghost use Rattle.idl_memo.specs.Meter.{compared_after, most_compared};
-ghost use Rattle.idl_prep.specs.Root.{expansion};
+ghost use Rattle.idl_prep.specs.Root.{expanded, expansion};
 ghost use Rattle.idl_store.specs.Stored.{list_at};
+ghost use Rattle.idl_root.specs.AsBefore.{IsAsBefore, IsCompiledOf};
 ghost use Rattle.idl_root.specs.Results.{IsKeptOf};
 ghost use Rattle.idl_project.specs.Asked.{asked_files};
 ghost use Rattle.idl_project.specs.Bank.{bank_of, bank_with};
@@ -25,7 +26,7 @@ use crate::no_step::NoStep;
 use idl_event::{RootBank, RootKey};
 use idl_memo::{Edited, Meter, run_anew};
 use idl_prep::RootTask;
-use idl_root::{Keeper, Marks};
+use idl_root::{Compiled, Keeper, Marks};
 use idl_source::Name;
 use std::alloc::{AllocError, Global};
 use std::rc::Rc;
@@ -55,6 +56,16 @@ pub struct Change<'a> {
     pub cause: Option<&'a RootKey>,
 }
 
+// A root of this name, which stands at this place among all: what its units were and what they came to when it was compiled last, if
+// it was.
+#[derive(Drop)]
+struct Standing<'a> {
+    at: usize,
+    name: Name,
+    marks: &'a Rc<Marks>,
+    compiled: Option<&'a Compiled>,
+}
+
 impl KeptRoot {
     /// What comes of the root of this name over a bank, which will stand at this place among all: it is expanded and compiled.
     ///
@@ -79,8 +90,15 @@ impl KeptRoot {
         }) }
     {
         let (at, name) = root;
-        let none = Marks::none(keeper.alloc());
-        Ok(expanded(keeper, (at, name, &none), bank, meter)?)
+        let alloc = keeper.alloc();
+        let none = Rc::new(alloc, Marks::none(alloc))?;
+        let root = Standing {
+            at,
+            name,
+            marks: &none,
+            compiled: None,
+        };
+        Ok(expanded(keeper, root, bank, meter)?)
     }
 
     /// What is kept of the root at this place after an edit of the bank: the same where its result holds still, and else what
@@ -136,8 +154,13 @@ impl KeptRoot {
                 marks: self.marks.clone()?,
             });
         }
-        let name = self.result.text().copied();
-        Ok(expanded(keeper, (at, name, &self.marks), change.edited, meter)?)
+        let root = Standing {
+            at,
+            name: self.result.text().copied(),
+            marks: &self.marks,
+            compiled: Some(&self.compiled.rows),
+        };
+        Ok(expanded(keeper, root, change.edited, meter)?)
     }
 
     /// What the root compiles to.
@@ -162,20 +185,27 @@ impl KeptRoot {
     }
 }
 
-// What comes of the root of this name over a bank, which stands at this place among all, where these were its units: it is expanded
-// and compiled.
+// What comes of a root over a bank: it is expanded and compiled.
 fn expanded<B: RootBank<Head = (), Step = NoStep>>(
     keeper: &mut Keeper,
-    root: (usize, Name, &Marks),
+    root: Standing<'_>,
     bank: &B,
     meter: &mut Meter,
 ) -> Result<KeptRoot, AllocError>
     requires room { meter.old.expanded < most_compared }
-    requires kept { (events : List Event) × IsKeptOf events root.2.now
-        (list_at keeper.old.declarations.lists root.0) (list_at keeper.old.entries.lists root.0) }
-    ensures kept { IfOk result (λ kept. IsKept (B.at bank.now) (root.entry.1, kept)) }
-    ensures made { OnOk result (IsDrafted (B.at bank.now) root.entry.0 root.entry.1 keeper.old
-        keeper.new meter.old meter.new) }
+    requires kept { (was : List Event) × IsKeptOf was root.marks.now.value
+        (list_at keeper.old.declarations.lists root.at) (list_at keeper.old.entries.lists root.at)
+        × IfSome root.compiled (λ compiled. IsCompiledOf was compiled.now) }
+    ensures kept { IfOk result (λ kept. IsKept (B.at bank.now) (root.entry.name, kept)) }
+    ensures tasks { OnOk result ((was : List Event) → IsKeptOf was root.entry.marks.now.value
+        (list_at keeper.old.declarations.lists root.entry.at)
+        (list_at keeper.old.entries.lists root.entry.at)
+        → IsAsBefore was (expanded root.entry.name (B.at bank.now)).0
+        keeper.old keeper.new meter.old meter.new
+        ⊎ IsDrafted (B.at bank.now) root.entry.at root.entry.name keeper.old keeper.new
+        meter.old meter.new) }
+    ensures first { OnOk result (IfNone root.entry.compiled (IsDrafted (B.at bank.now)
+        root.entry.at root.entry.name keeper.old keeper.new meter.old meter.new)) }
     ensures lists { AreListsLeft keeper.old keeper.new }
     ensures counts { OnOk result (meter.new ≡ record meter.old {
       expanded = meter.old.expanded + 1;
@@ -184,17 +214,37 @@ fn expanded<B: RootBank<Head = (), Step = NoStep>>(
     }) }
 {
     let alloc = keeper.alloc();
-    let (at, name, earlier) = root;
+    let Standing {
+        at,
+        name,
+        marks: earlier,
+        compiled,
+    } = root;
     let result = run_anew(alloc, &RootTask::new(name), bank, meter)?;
     let task = KeptTask {
         result: &result,
         at,
         marks: earlier,
+        compiled,
     };
     let CompiledAgain { compiled, marks } = compile_kept(keeper, bank, task, meter)?;
     Ok(KeptRoot {
         result,
         compiled: Rc::new(alloc, compiled)?,
-        marks: Rc::new(alloc, marks)?,
+        marks: marks_of(alloc, marks, earlier)?,
     })
+}
+
+// What the units of a root are: those, or else as they were.
+fn marks_of(
+    alloc: Global,
+    marks: Option<Marks>,
+    earlier: &Rc<Marks>,
+) -> Result<Rc<Marks>, AllocError>
+    ensures { IfOk result (λ kept. kept.value ≡ unwrap_or marks earlier.now.value) }
+{
+    match marks {
+        Some(marks) => Ok(Rc::new(alloc, marks)?),
+        None => earlier.clone(),
+    }
 }

@@ -272,7 +272,7 @@ impl Session {
         ensures { option_copied result ≡ listing_of self.now.project root.now }
     {
         match self.compiled(root) {
-            Some(compiled) => Some(compiled.rows.listing.as_slice()),
+            Some(compiled) => Some(compiled.rows.listing.get().as_slice()),
             None => None,
         }
     }
@@ -282,7 +282,7 @@ impl Session {
         ensures { option_copied result ≡ dump_of self.now.project root.now }
     {
         match self.compiled(root) {
-            Some(compiled) => Some(compiled.rows.dump.as_slice()),
+            Some(compiled) => Some(compiled.rows.dump.get().as_slice()),
             None => None,
         }
     }

@@ -12,7 +12,7 @@ use idl_base::Bytes;
 use idl_entity::{Entity, Kind, Path, Stage};
 use idl_env::{Answer, Env, LentKey, entity_in};
 use idl_fault::Code;
-use idl_memo::{Journal, Log, Task, TaskKind};
+use idl_memo::{Journal, Log, Runnable, Task, TaskKind};
 use std::alloc::{AllocError, Global};
 
 /// The printing of a name, which has an id: of what is declared at this path.
@@ -64,7 +64,6 @@ impl Pushed {
 }
 
 impl Task<Env> for EntryTask {
-    ghost use Rattle.idl_memo.specs.declared.task.TaskKind.TheVariants.{Print};
     ghost use Rattle.idl_entity.specs.Digest.{path_digest};
     ghost use Rattle.idl_repo.specs.Entry.{entry};
     ghost use Rattle.idl_value.specs.Spelled.{scope_of};
@@ -72,13 +71,6 @@ impl Task<Env> for EntryTask {
     type Text = Path;
 
     type Out = Entry;
-
-    // The buffer in which a row is written before it is copied.
-    type Scratch = Vec<u8>;
-
-    const KIND: TaskKind = TaskKind::Print;
-
-    ghost KIND = { Print };
 
     ghost text_of = { λ task. task.path };
 
@@ -94,6 +86,17 @@ impl Task<Env> for EntryTask {
     fn text(&self) -> &Path {
         &self.path
     }
+}
+
+impl Runnable<Env> for EntryTask {
+    ghost use Rattle.idl_memo.specs.declared.task.TaskKind.TheVariants.{Print};
+
+    // The buffer in which a row is written before it is copied.
+    type Scratch = Vec<u8>;
+
+    const KIND: TaskKind = TaskKind::Print;
+
+    ghost KIND = { Print };
 
     fn run(
         &self,

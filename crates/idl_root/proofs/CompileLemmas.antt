@@ -7,6 +7,7 @@ use Rattle.idl_store.specs.Stored.{Stored, begun, grown, list_at, results_in, wi
 use Rattle.idl_memo.specs.declared.meter.Meter.{Meter}
 use Rattle.idl_root.specs.Compile.{Outcome, outcome_of}
 use Rattle.idl_root.specs.Findings.{event_finding}
+use Rattle.idl_root.specs.AsBefore.{AreCourse}
 use Rattle.idl_root.specs.Followed.{ArePrinted, IsKeeping, WereThere, added_by, facts_of, results_from}
 use Rattle.idl_root.specs.Held.{to_come}
 use Rattle.idl_root.specs.Places.{declarations_after, declarations_of, entries_of, entries_over}
@@ -32,6 +33,11 @@ module _ (lists : List (List DeclarationResult)) (course : Course) (at : ℕ) (m
   start-there events entries is =
       subst (λ ms. WereThere [] ms (results_from lists course)) (sym own)
       (subst (λ rs. WereThere [] marks rs) (sym start-results) (kept-there events marks (list_at lists at) entries is))
+
+  -- and are those of the course
+  pub start-course : (events : List Event) (entries : List EntryResult) → IsKeptOf events marks (list_at lists at) entries → AreCourse lists course (units_of events)
+  unfolding declarations_of
+  start-course events entries is = record { marks = own ∙ is.marks_are; results = start-results ∙ is.declarations_are }
 
   -- and so were the entries over all that they added
   pub start-printed : (events : List Event) (entries : List EntryResult) → IsKeptOf events marks (list_at lists at) entries → ArePrinted (facts_of lists course) entries

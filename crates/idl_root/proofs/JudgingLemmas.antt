@@ -1,11 +1,11 @@
 -- What comes of a root, unit by unit.
-use Rattle.std.proofs.Common.{◌≡◌, List, [], ◌∷◌, ◌++◌, flat_map, map, ap, sym, ◌∙◌, append-nil, append_assoc}
+use Rattle.std.proofs.Common.{◌≡◌, List, [], ◌∷◌, ◌++◌, flat_map, ap, sym, ◌∙◌, append-nil, append_assoc}
 use Rattle.std.specs.List.{enumerate_from}
 use Rattle.std.proofs.lemmas.Grind.{flat_map-append}
 use Rattle.idl_event.specs.declared.told.event.Event.{Event}
 use Rattle.idl_fault.specs.declared.place.Place.{Place}
-use Rattle.idl_root.specs.Compile.{Outcome, rows_of_findings, open_finding, outcome_of, row_in, told}
-use Rattle.idl_root.specs.Findings.{event_finding, in_order, numbered, unit_finding}
+use Rattle.idl_root.specs.Compile.{Outcome, findings_told, outcome_of, row_in, rows_of_findings, told}
+use Rattle.idl_root.specs.Findings.{event_finding, unit_finding}
 use Rattle.idl_root.specs.Held.{IsEnded, to_come, told_of, with_gathered, with_judged, with_units}
 use Rattle.idl_root.specs.Judged.{Judged, added, facts_after, judged_after, judged_at}
 use Rattle.idl_root.specs.Printed.{listed_in}
@@ -79,4 +79,4 @@ to_come-start events o is = ap (λ n. to_come n (units_of events)) is
 -- what is told where all is done
 pub told-ended : (end : Place) (events : List Event) (e : Ended) (o : Outcome) → IsEnded e o → told_of end events e ≡ told end events o
 told-ended end events e o is = λ i.
-    rows_of_findings ((map (numbered events) (in_order (is.found i)) ++ open_finding end (is.scopes i)) ++ map (numbered events) (is.closing i)) (is.listing i) (is.rows i)
+    rows_of_findings (findings_told end events (is.found i) (is.scopes i) (is.closing i)) (is.scopes i) (is.listing i) (is.rows i)

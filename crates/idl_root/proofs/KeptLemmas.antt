@@ -77,8 +77,8 @@ module _ (none : (old : List DeclarationResult) (count : ℕ) → IsDeclarationP
           | inl some ↦ inl (some.0, ap (λ (m : Meter). m.checked) some.1)
           | inr fresh ↦ inr (fresh.0, ap (λ (m : Meter). m.checked) fresh.1)
         ])
-    judged-pass facts (Entered file) grows h = pass-none grows h
-    judged-pass facts (Left file) grows h = pass-none grows h
+    judged-pass facts (Entered file inside) grows h = pass-none grows h
+    judged-pass facts (Left file inside) grows h = pass-none grows h
     judged-pass facts End grows h = pass-none grows h
 
     -- and with those behind it over theirs

@@ -1,4 +1,6 @@
 mod AgainLemmas
+mod AsBeforeLemmas
+mod BesideLemmas
 mod ChangedLemmas
 mod CompileLemmas
 mod DigestLemmas

@@ -21,7 +21,7 @@ added-same : (marks others : List Mark) (results rest : List DeclarationResult) 
 added-same marks others results rest m r = λ i. added_by (m i) (r i)
 
 -- what units added is told by their marks and results
-facts-added : (units : List RootUnit) (before : List UnitFacts)
+pub facts-added : (units : List RootUnit) (before : List UnitFacts)
     → facts_after before units ≡ before ++ added_by (marks_of units) (map declaration_result (declarations_after before units))
 unfolding facts_after declarations_after
 facts-added [] before = sym (append-nil before)
@@ -29,10 +29,10 @@ facts-added (Spelled text sites ∷ units) before =
     let w = (verdict_over before text).writes in
     let next = before ++ w ∷ [] in
     facts-added units next ∙ append_assoc before (w ∷ []) (added_by (marks_of units) (map declaration_result (declarations_after next units)))
-facts-added (Entered file ∷ units) before =
+facts-added (Entered file inside ∷ units) before =
     let next = before ++ boundary Enters ∷ [] in
     facts-added units next ∙ append_assoc before (boundary Enters ∷ []) (added_by (marks_of units) (map declaration_result (declarations_after next units)))
-facts-added (Left file ∷ units) before =
+facts-added (Left file inside ∷ units) before =
     let next = before ++ boundary Leaves ∷ [] in
     facts-added units next ∙ append_assoc before (boundary Leaves ∷ []) (added_by (marks_of units) (map declaration_result (declarations_after next units)))
 facts-added (End ∷ units) before =
@@ -56,8 +56,8 @@ judged-there (Spelled text sites ∷ units) before marks k results m r =
       same ∙ ap (λ t. declaration_result (t, answers before)) (sym (ap (λ (x : DeclarationResult). x.text) same)),
       subst (λ (x : DeclarationResult). WereThere (before ++ x.out.writes ∷ []) marks results) (sym same) own,
     )
-judged-there (Entered file ∷ units) before marks k results m r = cc
-judged-there (Left file ∷ units) before marks k results m r = cc
+judged-there (Entered file inside ∷ units) before marks k results m r = cc
+judged-there (Left file inside ∷ units) before marks k results m r = cc
 judged-there (End ∷ units) before marks k results m r =
     subst (λ b. (k ≡ declaration_result (k.text, answers b)) × WereThere (b ++ k.out.writes ∷ []) marks results)
     (append-nil before) (judged-there units (before ++ []) marks k results m r)
@@ -68,10 +68,10 @@ entered-there : (units : List RootUnit) (before : List UnitFacts) (marks : List 
 unfolding declarations_after
 entered-there [] before marks results m r = cc
 entered-there (Spelled text sites ∷ units) before marks results m r = cc
-entered-there (Entered file ∷ units) before marks results m r =
+entered-there (Entered file inside ∷ units) before marks results m r =
     let behind : marks ≡ marks_of units = cc in
     record { units = units; marks_are = behind; results_are = r }
-entered-there (Left file ∷ units) before marks results m r = cc
+entered-there (Left file inside ∷ units) before marks results m r = cc
 entered-there (End ∷ units) before marks results m r =
     subst (λ b. WereThere (b ++ boundary Enters ∷ []) marks results) (append-nil before) (entered-there units (before ++ []) marks results m r)
 
@@ -81,8 +81,8 @@ left-there : (units : List RootUnit) (before : List UnitFacts) (marks : List Mar
 unfolding declarations_after
 left-there [] before marks results m r = cc
 left-there (Spelled text sites ∷ units) before marks results m r = cc
-left-there (Entered file ∷ units) before marks results m r = cc
-left-there (Left file ∷ units) before marks results m r =
+left-there (Entered file inside ∷ units) before marks results m r = cc
+left-there (Left file inside ∷ units) before marks results m r =
     let behind : marks ≡ marks_of units = cc in
     record { units = units; marks_are = behind; results_are = r }
 left-there (End ∷ units) before marks results m r =

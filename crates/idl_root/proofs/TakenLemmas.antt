@@ -42,6 +42,20 @@ pub none-weaker : {R P Q : Type 0} (found : Option R) → (P → Q) → IfNone f
 none-weaker None more is = more is
 none-weaker (Some r) more is = tt
 
+-- where that can't be, one is found
+pub some-there : {R : Type 0} (found : Option R) (P : R → Type 0) → IfNone found ⊥ → IfSome found P → (r : R) × P r
+some-there None P none some = absurd none
+some-there (Some r) P none some = (r, some)
+
+-- of what holds whatever is found
+pub some-holds : {R : Type 0} (found : Option R) (P : R → Type 0) → ((r : R) → P r) → IfSome found P
+some-holds None P all = tt
+some-holds (Some r) P all = all r
+
+pub none-holds : {R P : Type 0} (found : Option R) → P → IfNone found P
+none-holds None all = all
+none-holds (Some r) all = tt
+
 -- of the one that is found, and where none is
 pub at-some : {R : Type 0} (found : Option R) (r : R) (P : R → Type 0) → found ≡ Some r → IfSome found P → P r
 at-some found r P is h = subst (λ o. IfSome o P) is h

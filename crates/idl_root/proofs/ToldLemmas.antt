@@ -99,8 +99,8 @@ module _
     judged-told facts [] are = tt
     judged-told facts (Spelled text sites ∷ units) are =
         (told-at text sites (verdict_over facts text) (there facts text sites are.0), judged-told (facts ++ (verdict_over facts text).writes ∷ []) units are.1)
-    judged-told facts (Entered file ∷ units) are = judged-told (facts ++ boundary Enters ∷ []) units are.1
-    judged-told facts (Left file ∷ units) are = judged-told (facts ++ boundary Leaves ∷ []) units are.1
+    judged-told facts (Entered file inside ∷ units) are = judged-told (facts ++ boundary Enters ∷ []) units are.1
+    judged-told facts (Left file inside ∷ units) are = judged-told (facts ++ boundary Leaves ∷ []) units are.1
     judged-told facts (End ∷ units) are = judged-told (facts ++ []) units are.1
 
     pub units-told : (events : List Event) → AllByRecursion IsTold (judged_after [] (units_of events))

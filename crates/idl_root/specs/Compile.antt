@@ -62,27 +62,35 @@ abbrev pub rows_beside : Bool → List (List ℕ) → List (List ℕ)
 rows_beside false rows = rows
 rows_beside true rows = []
 
--- what is found in a root of these events, whose end is this place: in the order of the events that
--- it names, then an open scope, and then what is never defined
+-- what is found in events and units in the order of the events that it names, then an open scope at
+-- the end, which is this place, and then what is never defined
+abbrev pub findings_told : Place → List Event → List EventFinding → Bool → List EventFinding
+    → List Finding
+findings_told end events found is_open closing =
+    (map (numbered events) (in_order found) ++ open_finding end is_open)
+    ++ map (numbered events) closing
+
+-- what is found in a root of these events, whose end is this place
 abbrev pub all_findings : Place → List Event → Outcome → List Finding
 all_findings end events o =
-    (map (numbered events) (in_order o.found) ++ open_finding end (is_open o.facts))
-    ++ map (numbered events) (flat_map (closing_finding o.facts) o.listed)
+    findings_told end events o.found (is_open o.facts) (flat_map (closing_finding o.facts) o.listed)
 
 -- what is found, a row each, and the rows of a listing and a dump where no error is among it
-abbrev pub rows_of_findings : List Finding → List (List ℕ) → List (List ℕ) → Compiled
-rows_of_findings findings listing dump = record {
+abbrev pub rows_of_findings : List Finding → Bool → List (List ℕ) → List (List ℕ) → Compiled
+rows_of_findings findings is_open listing dump = record {
   findings = findings;
   diagnostics = map finding_row findings;
   listing = rows_beside (has_error findings) listing;
   dump = rows_beside (has_error findings) dump;
   is_faulty = has_error findings;
+  is_open = is_open;
 }
 
 -- what is told of a root
 abbrev pub told : Place → List Event → Outcome → Compiled
 told end events o =
-    rows_of_findings (all_findings end events o) (flat_map (entry_row o.facts) o.listed) o.rows
+    rows_of_findings (all_findings end events o) (is_open o.facts)
+    (flat_map (entry_row o.facts) o.listed) o.rows
 
 -- the rows of a root that expands to these events, and whose end is this place
 unfoldable pub compile : Place → List Event → Compiled

@@ -2,8 +2,8 @@
 use Rattle.std.specs.Prelude.{◌≡◌, List, ◌++◌, flat_map, map}
 use Rattle.idl_event.specs.declared.told.event.Event.{Event}
 use Rattle.idl_fault.specs.declared.place.Place.{Place}
-use Rattle.idl_root.specs.Compile.{Outcome, rows_of_findings, is_open, open_finding, row_in}
-use Rattle.idl_root.specs.Findings.{in_order, numbered, unit_finding}
+use Rattle.idl_root.specs.Compile.{Outcome, findings_told, is_open, row_in, rows_of_findings}
+use Rattle.idl_root.specs.Findings.{unit_finding}
 use Rattle.idl_root.specs.Judged.{Judged, facts_after, judged_after}
 use Rattle.idl_root.specs.Printed.{Listed, closing_finding, entry_row, listed_in}
 use Rattle.idl_root.specs.declared.compiling.compiled.Compiled.{Compiled}
@@ -69,7 +69,6 @@ pub record IsEnded (ended : Ended) (o : Outcome) : Type 0 where
 -- what is told of it
 abbrev pub told_of : Place → List Event → Ended → Compiled
 told_of end events e =
-    let found = map (numbered events) (in_order e.findings.items) in
-    let closing = map (numbered events) e.printed.findings.items in
-    rows_of_findings ((found ++ open_finding end e.is_open) ++ closing) e.printed.rows.items
-    e.rows.items
+    rows_of_findings
+    (findings_told end events e.findings.items e.is_open e.printed.findings.items) e.is_open
+    e.printed.rows.items e.rows.items

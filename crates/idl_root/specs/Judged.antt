@@ -36,8 +36,8 @@ boundary step = record { additions = []; step = step }
 -- closes one.
 abbrev pub added : List UnitFacts → RootUnit → List UnitFacts
 added facts (Spelled text sites) = (verdict_over facts text).writes ∷ []
-added facts (Entered file) = boundary Enters ∷ []
-added facts (Left file) = boundary Leaves ∷ []
+added facts (Entered file inside) = boundary Enters ∷ []
+added facts (Left file inside) = boundary Leaves ∷ []
 added facts End = []
 
 -- it with its verdict, if it has tokens

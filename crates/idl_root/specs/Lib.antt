@@ -11,3 +11,4 @@ pub mod Followed
 pub mod Changed
 pub mod Told
 pub mod Turns
+pub mod AsBefore

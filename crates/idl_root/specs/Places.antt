@@ -26,8 +26,8 @@ EntryPlace = Place Key (Option Answer) (List (List ℕ))
 -- that of a unit over facts; file boundaries and the end are no tasks
 abbrev pub declaration_at : List UnitFacts → RootUnit → List DeclarationPlace
 declaration_at facts (Spelled text sites) = (text, answers facts) ∷ []
-declaration_at facts (Entered file) = []
-declaration_at facts (Left file) = []
+declaration_at facts (Entered file inside) = []
+declaration_at facts (Left file inside) = []
 declaration_at facts End = []
 
 -- those of units in order, before the first of which these facts stand

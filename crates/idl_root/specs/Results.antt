@@ -67,8 +67,8 @@ IsEntryPass places old new before after =
 -- what a unit is; the end of a root is not marked
 abbrev pub mark_at : RootUnit → List Mark
 mark_at (Spelled text sites) = mark.Judged ∷ []
-mark_at (Entered file) = mark.Entered ∷ []
-mark_at (Left file) = mark.Left ∷ []
+mark_at (Entered file inside) = mark.Entered ∷ []
+mark_at (Left file inside) = mark.Left ∷ []
 mark_at End = []
 
 abbrev pub marks_of : List RootUnit → List Mark

@@ -1,6 +1,7 @@
 //! What is kept of the units and the names of roots.
 
 pub(crate) mod added;
+pub(crate) mod again;
 pub(crate) mod changed;
 pub(crate) mod course;
 pub(crate) mod following;

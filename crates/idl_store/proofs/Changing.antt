@@ -117,18 +117,18 @@ module _ {K V T O X : Type 0} {eq : K → K → Bool} {query : T → Query K V X
       more = flat_map-append (λ d. d.1) numbers.drafts ((at, []) ∷ []) ∙ append-nil (results_of_drafts numbers.drafts)
 
   module _ (new : Slab (Used (Rc (Kept K V T O) Global))) where
-    -- a number more of a result that is kept
-    pub stored-again : (n : ℕ) → AreMore used new (results_of_drafts numbers.drafts) (results_of_drafts (with_results numbers.drafts (n ∷ []))) → IsStored eq query bucket new index (grown numbers (n ∷ []))
-    stored-again n more = record {
-      counted = λ m. omega (arith, more.uses m, stored.counted m, times-append m (joined numbers.lists) (results_of_drafts numbers.drafts), times-append m (joined numbers.lists) (results_of_drafts (with_results numbers.drafts (n ∷ []))));
+    -- more numbers of results that are kept
+    pub stored-again : (ns : List ℕ) → AreMore used new (results_of_drafts numbers.drafts) (results_of_drafts (with_results numbers.drafts ns)) → IsStored eq query bucket new index (grown numbers ns)
+    stored-again ns more = record {
+      counted = λ m. omega (arith, more.uses m, stored.counted m, times-append m (joined numbers.lists) (results_of_drafts numbers.drafts), times-append m (joined numbers.lists) (results_of_drafts (with_results numbers.drafts ns)));
       needed = λ m some. needed_by m some;
       indexed = indexed-same used new index more.kept stored.indexed;
       sound = stored.sound;
     }
       where
-        grows : (m : ℕ) (ds : List (ℕ × List ℕ)) → times m (results_of_drafts ds) ≤ times m (results_of_drafts (with_results ds (n ∷ [])))
+        grows : (m : ℕ) (ds : List (ℕ × List ℕ)) → times m (results_of_drafts ds) ≤ times m (results_of_drafts (with_results ds ns))
         grows m [] = omega arith
-        grows m (d ∷ ds) = omega (arith, times-with_results m (d ∷ ds) (n ∷ []) (omega arith))
+        grows m (d ∷ ds) = omega (arith, times-with_results m (d ∷ ds) ns (omega arith))
 
         taken_by : (m : ℕ) (o p : Option (Used (Rc (Kept K V T O) Global))) → option_map with_bucket o ≡ option_map with_bucket p → IsSome o → IsSome p
         taken_by m None p same some = absurd (cc)
@@ -141,11 +141,11 @@ module _ {K V T O X : Type 0} {eq : K → K → Bool} {query : T → Query K V X
             omega (arith, more.uses m, stored.needed m was, grows m numbers.drafts)
 
     -- the same, whichever way the step ends
-    pub stored-used : {Y Z : Type 0} (r : Result Y Z) (n : ℕ) (drafts : List (ℕ × List ℕ)) → OnOk r (drafts ≡ with_results numbers.drafts (n ∷ [])) → OnOk r (AreMore used new (results_of_drafts numbers.drafts) (results_of_drafts drafts)) → OnErr r ((new ≡ used) × (drafts ≡ numbers.drafts)) → IsStored eq query bucket new index (record { lists = numbers.lists; drafts = drafts })
-    stored-used (Ok y) n drafts is more err =
+    pub stored-used : {Y Z : Type 0} (r : Result Y Z) (ns : List ℕ) (drafts : List (ℕ × List ℕ)) → OnOk r (drafts ≡ with_results numbers.drafts ns) → OnOk r (AreMore used new (results_of_drafts numbers.drafts) (results_of_drafts drafts)) → OnErr r ((new ≡ used) × (drafts ≡ numbers.drafts)) → IsStored eq query bucket new index (record { lists = numbers.lists; drafts = drafts })
+    stored-used (Ok y) ns drafts is more err =
         subst (λ (ds : List (ℕ × List ℕ)). IsStored eq query bucket new index (record { lists = numbers.lists; drafts = ds })) (sym is)
-        (stored-again n (subst (λ (ds : List (ℕ × List ℕ)). AreMore used new (results_of_drafts numbers.drafts) (results_of_drafts ds)) is more))
-    stored-used (Err z) n drafts is more err =
+        (stored-again ns (subst (λ (ds : List (ℕ × List ℕ)). AreMore used new (results_of_drafts numbers.drafts) (results_of_drafts ds)) is more))
+    stored-used (Err z) ns drafts is more err =
         subst (λ (u : Slab (Used (Rc (Kept K V T O) Global))). IsStored eq query bucket u index (record { lists = numbers.lists; drafts = drafts })) (sym err.0)
         (subst (λ (ds : List (ℕ × List ℕ)). IsStored eq query bucket used index (record { lists = numbers.lists; drafts = ds })) (sym err.1) stored)
 

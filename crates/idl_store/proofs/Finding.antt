@@ -35,13 +35,13 @@ module _ {K V T O S : Type 0} (m : HashMap ℕ (Vec (Numbered (Rc (Kept K V T O)
       let there = found_bucket d m.entries v at in
       ap (λ (e : (Kept K V T O × ℕ) × ℕ). e.0.0) (alone (numbered d one) (numbered d other) (in_all numbered m.entries (d, v) one there c) (in_all numbered m.entries (d, v) other there c') is is')
 
-  -- a result of it that is alike is one of all
-  pub found-within : (text : T) (bank : K → V) (place : ℕ) (one : Numbered (Rc (Kept K V T O) Global)) → place < length v.items → get_or v.items place one ≡ one → HoldsAt (λ one. IsAlike text bank one.result.value) v.items place → Any (λ e. IsAlike text bank e.0.0 × (e.1 ≡ one.number)) (numbered_in m.entries)
-  found-within text bank place one below is holds =
-      let alike : IsAlike text bank one.result.value = subst (λ (o : Numbered (Rc (Kept K V T O) Global)). IsAlike text bank o.result.value) is (holds one) in
+  -- a result of it of which something holds is one of all
+  pub found-within : (P : Kept K V T O → Type 0) (place : ℕ) (one : Numbered (Rc (Kept K V T O) Global)) → place < length v.items → get_or v.items place one ≡ one → HoldsAt (λ one. P one.result.value) v.items place → Any (λ e. P e.0.0 × (e.1 ≡ one.number)) (numbered_in m.entries)
+  found-within P place one below is holds =
+      let here : P one.result.value = subst (λ (o : Numbered (Rc (Kept K V T O) Global)). P o.result.value) is (holds one) in
       let among : Contains v.items one = (place, below, is) in
       let c = in_all numbered m.entries (d, v) one (found_bucket d m.entries v at) among in
-      (c.0, numbered d one, c.1, c.2, (alike, refl))
+      (c.0, numbered d one, c.1, c.2, (here, refl))
 
   -- with the bucket written anew, all are in order still
   pub order-set : (text_cmp : T → T → Ordering) (answer_cmp : V → V → Ordering) (n : HashMap ℕ (Vec (Numbered (Rc (Kept K V T O) Global)) Global) S) (w : Vec (Numbered (Rc (Kept K V T O) Global)) Global)

@@ -1,5 +1,6 @@
 pub mod Bucketed
 pub mod Changing
+pub mod Comparing
 pub mod Drafting
 pub mod Exactness
 pub mod Finding
@@ -10,6 +11,7 @@ pub mod Ordered
 pub mod Reading
 pub mod Searching
 pub mod Shown
+pub mod Spotted
 pub mod StoredLaws
 pub mod Telling
 pub mod Times

@@ -1,5 +1,5 @@
 -- What stands at a place of a list of a store.
-use Rattle.std.proofs.Common.{◌≡◌, ℕ, ◌<◌, Bool, List, [], ◌∷◌, Option, Some, None, Vec, ap, arith, length, refl, sym, ◌∙◌}
+use Rattle.std.proofs.Common.{◌≡◌, ℕ, ◌<◌, Bool, List, [], ◌∷◌, Option, Some, None, Vec, ap, arith, length, map, refl, sym, ◌∙◌}
 use Rattle.std.specs.Global.{Global}
 use Rattle.std.specs.List.{slice_get}
 use Rattle.std.specs.Option.{option_map, option_to_list, unwrap_or}
@@ -9,9 +9,10 @@ use Rattle.std.specs.Prelude.{IsSome}
 use Rattle.std.specs.declared.rc.Rc.{Rc}
 use Rattle.slab.specs.Slab.{Slab, get}
 use Rattle.idl_memo.specs.Kept.{Kept}
-use Rattle.idl_store.specs.Numbers.{AreMore, IsStored, joined, lists_of, result_of, shown, times, with_bucket}
+use Rattle.idl_store.specs.Numbers.{AreMore, IsStored, drafts_of, joined, lists_of, result_of, shown, times, with_bucket}
 use Rattle.idl_memo.specs.Query.{Query}
 use Rattle.idl_store.specs.Stored.{Stored, grown, item_at, list_at, result_at, results_in, results_of_drafts, with_results}
+use Rattle.idl_store.specs.declared.numbers.Draft.{Draft}
 use Rattle.idl_store.specs.declared.numbers.Used.{Used}
 use Rattle.idl_store.proofs.Shown.{item_at-shown, list_at-shown, shown-grown, shown-same}
 use Rattle.idl_store.proofs.Changing.{stands-for, taken}
@@ -26,6 +27,12 @@ pub list_at-vector : (lists : List (Vec ℕ Global)) (list : ℕ) (found : Optio
 list_at-vector lists list found h =
     sym (unwrap_or-slice_get (lists_of lists) list [])
     ∙ ap (λ (o : Option (List ℕ)). unwrap_or o []) (slice_get-map (λ (l : Vec ℕ Global). l.items) lists list ∙ ap (option_map (λ (l : Vec ℕ Global). l.items)) h)
+
+-- and of a draft
+pub list_at-draft : (drafts : List Draft) (list : ℕ) (found : Option Draft) → slice_get drafts list ≡ found → list_at (map (λ d. d.1) (drafts_of drafts)) list ≡ unwrap_or (option_map (λ (d : ℕ × List ℕ). d.1) (option_map (λ (d : Draft). (d.at, d.numbers.items)) found)) []
+list_at-draft drafts list found h =
+    sym (unwrap_or-slice_get (map (λ d. d.1) (drafts_of drafts)) list [])
+    ∙ ap (λ (o : Option (List ℕ)). unwrap_or o []) (slice_get-map (λ (d : ℕ × List ℕ). d.1) (drafts_of drafts) list ∙ ap (option_map (λ (d : ℕ × List ℕ). d.1)) (slice_get-map (λ (d : Draft). (d.at, d.numbers.items)) drafts list ∙ ap (option_map (λ (d : Draft). (d.at, d.numbers.items))) h))
 
 -- nothing more
 with_results-none : {X : Type 0} (ds : List (ℕ × List X)) → with_results ds [] ≡ ds

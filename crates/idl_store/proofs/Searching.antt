@@ -11,6 +11,7 @@ use Rattle.std.proofs.lemmas.List.Elements.{All-cons, All-nil}
 use Rattle.idl_memo.specs.Kept.{Kept, IsAlike, IsSound, result_over}
 use Rattle.idl_store.specs.Order.{bank_cmp, logs_cmp, place_cmp, results_cmp}
 use Rattle.idl_memo.specs.Query.{Query, HoldsIn, asked, noted_all}
+use Rattle.idl_memo.proofs.Placing.{result_over-alike}
 use Rattle.idl_store.proofs.Ordered.{bank_cmp-front, stands}
 
 -- where two orders one after the other tell nothing apart, neither does
@@ -65,3 +66,11 @@ module _ {K V T O : Type 0} (text_cmp : T → T → Ordering) (answer_cmp : V �
           by Greater h = rw h refl
           by Equal h =
               ap (ordering_then (text_cmp kept.text text)) (here ∙ ap (λ t. logs_cmp answer_cmp kept.log (noted_all eq bank [] (asked (query t) bank))) (text_exact kept.text text h))
+
+      -- results in one place of the order are one
+      pub equal-results : ((k : K) → eq k k ≡ true) → (kept other : Kept K V T O) → IsSound eq query kept → IsSound eq query other → results_cmp text_cmp answer_cmp kept other ≡ Equal → kept ≡ other
+      equal-results itself kept other sound there h =
+          let bank = there.0 in
+          let is : other ≡ result_over eq query (other.text, bank) = λ i. record { text = other.text; log = (there.1 i).1; out = (there.1 i).0 } in
+          let tie : place_cmp text_cmp answer_cmp kept other.text bank ≡ Equal = place-result kept other.text bank sound ∙ ap (results_cmp text_cmp answer_cmp kept) (sym is) ∙ h in
+          result_over-alike eq query itself same (other.text, bank) kept sound (alike-equal kept other.text bank tie) ∙ sym is

@@ -6,24 +6,23 @@ use Rattle.std.specs.List.{cons_option, filter_map, flat_map, fold, slice_get}
 use Rattle.std.specs.Prelude.{IsSome, is_some}
 use Rattle.idl_store.specs.Numbers.{joined, shown, times}
 use Rattle.idl_store.specs.Stored.{Stored, begun, committed, grown, item_at, list_at, placed, removed, results_in, results_of_drafts, with_results}
-use Rattle.idl_store.proofs.Times.{times-append, times_first}
+use Rattle.idl_store.proofs.Times.{times-append, times-drop, times_first}
 
 module _ {X : Type 0} (of : ℕ → Option X) where
   abbrev pub draft_shown : ℕ × List ℕ → ℕ × List X
   draft_shown d = (d.0, filter_map of d.1)
 
-  -- one more
-  filter_map_push : (ns : List ℕ) (n : ℕ) (x : X) → of n ≡ Some x → filter_map of (ns ++ n ∷ []) ≡ filter_map of ns ++ x ∷ []
-  filter_map_push ns n x h = filter_map-append of ns (n ∷ []) ∙ ap (λ o. filter_map of ns ++ cons_option o []) h
+  -- more numbers in the last draft are more results in it
+  pub shown-with_results : (ds : List (ℕ × List ℕ)) (ns : List ℕ) → map draft_shown (with_results ds ns) ≡ with_results (map draft_shown ds) (filter_map of ns)
+  shown-with_results [] ns = refl
+  shown-with_results (d ∷ []) ns = ap (λ xs. (d.0, xs) ∷ []) (filter_map-append of d.1 ns)
+  shown-with_results (d ∷ e ∷ ds) ns = ap (λ ds. draft_shown d ∷ ds) (shown-with_results (e ∷ ds) ns)
 
-  -- a number more in the last draft is a result more in it
-  pub shown-with_results : (ds : List (ℕ × List ℕ)) (n : ℕ) (x : X) → of n ≡ Some x → map draft_shown (with_results ds (n ∷ [])) ≡ with_results (map draft_shown ds) (x ∷ [])
-  shown-with_results [] n x h = refl
-  shown-with_results (d ∷ []) n x h = ap (λ xs. (d.0, xs) ∷ []) (filter_map_push d.1 n x h)
-  shown-with_results (d ∷ e ∷ ds) n x h = ap (λ ds. draft_shown d ∷ ds) (shown-with_results (e ∷ ds) n x h)
+  pub shown-grown_all : (s : Stored ℕ) (ns : List ℕ) → shown of (grown s ns) ≡ grown (shown of s) (filter_map of ns)
+  shown-grown_all s ns = ap (λ ds. record { lists = map (filter_map of) s.lists; drafts = ds }) (shown-with_results s.drafts ns)
 
   pub shown-grown : (s : Stored ℕ) (n : ℕ) (x : X) → of n ≡ Some x → shown of (grown s (n ∷ [])) ≡ grown (shown of s) (x ∷ [])
-  shown-grown s n x h = ap (λ ds. record { lists = map (filter_map of) s.lists; drafts = ds }) (shown-with_results s.drafts n x h)
+  shown-grown s n x h = shown-grown_all s (n ∷ []) ∙ ap (λ o. grown (shown of s) (cons_option o [])) h
 
   pub shown-begun : (s : Stored ℕ) (at : ℕ) → shown of (begun s at) ≡ begun (shown of s) at
   shown-begun s at = ap (λ ds. record { lists = map (filter_map of) s.lists; drafts = ds }) (map-append draft_shown s.drafts ((at, []) ∷ []))
@@ -148,3 +147,30 @@ module _ {X : Type 0} (of : ℕ → Option X) where
   list_at-shown [] list h = refl
   list_at-shown (l ∷ lists) zero h = length-shown l (λ n there. h n (omega (arith, there, times-append n l (joined lists))))
   list_at-shown (l ∷ lists) (suc list) h = list_at-shown lists list (λ n there. h n (omega (arith, there, times-append n l (joined lists))))
+
+  -- of the first ones, and of those behind them
+  shown-take : (count : ℕ) (ns : List ℕ) → AllStand ns → take count (filter_map of ns) ≡ filter_map of (take count ns)
+  shown-take zero ns h = refl
+  shown-take (suc count) [] h = refl
+  shown-take (suc count) (n ∷ ns) h =
+      let one = first n ns h in
+      ap (λ o. take (suc count) (cons_option o (filter_map of ns))) one.1
+      ∙ ap (λ xs. one.0 ∷ xs) (shown-take count ns (behind n ns h))
+      ∙ sym (ap (λ o. cons_option o (filter_map of (take count ns))) one.1)
+
+  shown-drop : (place : ℕ) (ns : List ℕ) → AllStand ns → drop place (filter_map of ns) ≡ filter_map of (drop place ns)
+  shown-drop zero ns h = refl
+  shown-drop (suc place) [] h = refl
+  shown-drop (suc place) (n ∷ ns) h =
+      let one = first n ns h in
+      ap (λ o. drop (suc place) (cons_option o (filter_map of ns))) one.1 ∙ shown-drop place ns (behind n ns h)
+
+  pub shown-part : (ns : List ℕ) (place count : ℕ) → ((n : ℕ) → 0 < times n ns → IsSome (of n)) → take count (drop place (filter_map of ns)) ≡ filter_map of (take count (drop place ns))
+  shown-part ns place count h =
+      ap (take count) (shown-drop place ns h) ∙ shown-take count (drop place ns) (λ n there. h n (omega (arith, there, times-drop n place ns)))
+
+  -- a list is what its numbers stand for
+  pub list_at-filtered : (lists : List (List ℕ)) (list : ℕ) → list_at (map (filter_map of) lists) list ≡ filter_map of (list_at lists list)
+  list_at-filtered [] list = refl
+  list_at-filtered (l ∷ lists) zero = refl
+  list_at-filtered (l ∷ lists) (suc list) = list_at-filtered lists list

@@ -1,11 +1,13 @@
 -- How often numbers are among others.
-use Rattle.std.proofs.Common.{◌≡◌, ℕ, zero, suc, ◌+◌, ◌<◌, List, [], ◌∷◌, ◌++◌, Some, cond, refl, sym, ap, ◌∙◌, arith, length, zero-add, get_or, set, Vec}
-use Rattle.std.proofs.lemmas.Bool.{eq-eqb, lt-ltb}
+use Rattle.std.proofs.Common.{◌≡◌, ◌≢◌, ℕ, zero, suc, ◌+◌, ◌<◌, ◌≤◌, Bool, true, false, List, [], ◌∷◌, ◌++◌, Some, cond, refl, sym, ap, ◌∙◌, arith, length, zero-add, get_or, set, take, drop, nat_eq, Vec}
+use Rattle.std.specs.Prelude.{All}
+use Rattle.std.proofs.lemmas.Bool.{eq-eqb, lt-ltb, ne_eqb}
 use Rattle.std.proofs.lemmas.List.{append-nil, get_or-map, length-map, map-append, map-set}
+use Rattle.std.proofs.lemmas.List.Elements.{All-cons, All-head, All-nil, All-tail}
 use Rattle.std.specs.Global.{Global}
 use Rattle.std.specs.List.{remove, slice_get}
 use Rattle.idl_store.specs.Numbers.{joined, lists_of, times}
-use Rattle.idl_store.specs.Stored.{item_at, placed, results_of_drafts, with_results}
+use Rattle.idl_store.specs.Stored.{item_at, list_at, placed, results_of_drafts, with_results}
 
 -- among two lists
 pub times-append : (n : ℕ) (xs ys : List ℕ) → times n (xs ++ ys) ≡ times n xs + times n ys
@@ -23,6 +25,50 @@ times_in n (x ∷ xs) zero h =
     let same : x ≡ n = cc in
     rw same (omega (arith, times_first n xs))
 times_in n (x ∷ xs) (suc place) h = omega (arith, times_in n xs place h)
+
+-- of the first ones and of those behind them none is more often there
+pub times-take : (n : ℕ) (count : ℕ) (xs : List ℕ) → times n (take count xs) ≤ times n xs
+times-take n zero xs = omega arith
+times-take n (suc count) [] = omega arith
+times-take n (suc count) (x ∷ xs) = omega (arith, times-take n count xs)
+
+pub times-drop : (n : ℕ) (place : ℕ) (xs : List ℕ) → times n (drop place xs) ≤ times n xs
+times-drop n zero xs = omega arith
+times-drop n (suc place) [] = omega arith
+times-drop n (suc place) (x ∷ xs) = omega (arith, times-drop n place xs)
+
+-- none is more often there than there are numbers
+pub times-length : (n : ℕ) (xs : List ℕ) → times n xs ≤ length xs
+times-length n [] = omega arith
+times-length n (x ∷ xs) = by (nat_eq n x) (times-length n xs)
+  where
+    by : (b : Bool) → times n xs ≤ length xs → cond b 1 0 + times n xs ≤ suc (length xs)
+    by true le = omega (arith, le)
+    by false le = omega (arith, le)
+
+-- what holds of each number that is among some holds of all of them
+pub times-all : (P : ℕ → Type 0) (ns : List ℕ) → ((n : ℕ) → 0 < times n ns → P n) → All P ns
+times-all P [] h = All-nil P
+times-all P (n ∷ ns) h = All-cons P n ns (h n (omega (arith, times_first n ns))) (times-all P ns (λ m there. h m (omega (arith, there))))
+
+-- a number that is none of them is no time there
+pub times-none : (n : ℕ) (ns : List ℕ) → All (λ m. m ≢ n) ns → times n ns ≡ 0
+times-none n [] h = refl
+times-none n (m ∷ ns) h =
+    ap (λ b. cond b 1 0 + times n ns) (ne_eqb n m (λ is. All-head (λ m. m ≢ n) m ns h (sym is)))
+    ∙ zero-add (times n ns) ∙ times-none n ns (All-tail (λ m. m ≢ n) m ns h)
+
+-- of a list
+pub times_list : (n : ℕ) (lists : List (List ℕ)) (list : ℕ) → times n (list_at lists list) ≤ times n (joined lists)
+times_list n [] list = omega arith
+times_list n (xs ∷ lists) zero = omega (arith, times-append n xs (joined lists))
+times_list n (xs ∷ lists) (suc list) = omega (arith, times_list n lists list, times-append n xs (joined lists))
+
+-- those of a list and of all behind it
+pub times-dropped : (n : ℕ) (lists : List (List ℕ)) (list : ℕ) → list < length lists → times n (joined (drop list lists)) ≡ times n (list_at lists list) + times n (joined (drop (suc list) lists))
+times-dropped n [] list below = absurd (omega (arith, below))
+times-dropped n (xs ∷ lists) zero below = times-append n xs (joined lists)
+times-dropped n (xs ∷ lists) (suc list) below = times-dropped n lists list (omega (arith, below))
 
 -- and among the numbers of all lists
 pub times_at : (n : ℕ) (lists : List (List ℕ)) (list place : ℕ) → item_at lists list place ≡ Some n → 0 < times n (joined lists)

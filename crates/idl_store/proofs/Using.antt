@@ -229,6 +229,36 @@ more-written {R} old number u uses before after here more parts = record { uses 
     kept_by n (inl e) = rw e (ap (option_map with_bucket) updates.changed ∙ sym (ap (option_map with_bucket) here))
     kept_by n (inr e) = ap (option_map with_bucket) (updates.others n e)
 
+-- ---- uses that come one after another
+
+module _ {R : Type 0} where
+  -- none
+  pub more-none : (used : Slab (Used R)) → AreMore used used [] []
+  more-none used = record { uses = λ n. refl; kept = λ n. refl }
+
+  -- and more
+  pub more-then : (old mid new : Slab (Used R)) (first second : List ℕ) → AreMore old mid [] first → AreMore mid new [] second → AreMore old new [] (first ++ second)
+  more-then old mid new first second before after = record {
+    uses = λ n. omega (arith, before.uses n, after.uses n, times-append n first second);
+    kept = λ n. after.kept n ∙ before.kept n;
+  }
+
+  -- beside others
+  pub more-beside : (old new : Slab (Used R)) (numbers before after : List ℕ) → AreMore old new [] numbers → ((n : ℕ) → times n after ≡ times n before + times n numbers) → AreMore old new before after
+  more-beside old new numbers before after more parts = record {
+    uses = λ n. omega (arith, more.uses n, parts n);
+    kept = more.kept;
+  }
+
+  -- what was kept is kept
+  pub still-kept : (old new : Slab (Used R)) (before after : List ℕ) (n : ℕ) → AreMore old new before after → IsSome (get old n) → IsSome (get new n)
+  still-kept old new before after n more there = by (get old n) (get new n) (more.kept n) there
+    where
+      by : (o p : Option (Used R)) → option_map with_bucket p ≡ option_map with_bucket o → IsSome o → IsSome p
+      by None p same some = absurd (cc)
+      by (Some u) None same some = absurd (cc)
+      by (Some u) (Some v) same some = refl
+
 -- the results of drafts, and of the next one
 pub drafted-more : (ds : List (ℕ × List ℕ)) (i : ℕ) (d : ℕ × List ℕ) → i < length ds → d ≡ get_or ds i d → results_of_drafts (take (i + 1) ds) ≡ results_of_drafts (take i ds) ++ d.1
 drafted-more ds i d below is =

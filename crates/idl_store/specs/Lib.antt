@@ -3,4 +3,5 @@ pub mod Index
 pub mod Numbers
 pub mod Obtained
 pub mod Order
+pub mod Spots
 pub mod Stored

@@ -4,6 +4,7 @@ ghost use Rattle.std.specs.Prelude.{◌≡◌, ◌≢◌, ◌<◌, [], ℕ, All,
 ghost use Rattle.std.specs.List.{HoldsAt};
 ghost use Rattle.std.specs.List.Sorted.{IsSearchInRange};
 ghost use Rattle.std.specs.Option.{option_cmp};
+ghost use Rattle.std.specs.declared.cmp.Ordering.TheVariants.{Equal};
 ghost use Rattle.idl_store.specs.Buckets.{AddsOne, bucket_at};
 ghost use Rattle.idl_memo.specs.Kept.{Kept as Seen, IsAlike, IsSound};
 ghost use Rattle.idl_store.specs.declared.index.Numbered.{Numbered};
@@ -13,9 +14,9 @@ ghost use Rattle.idl_store.specs.Index.{AreInOrder, IsGap, IsGapAmong, IsInOrder
 ghost use Rattle.idl_store.specs.Order.{place_cmp, results_cmp};
 ghost use Rattle.idl_memo.specs.Query.{Query};
 
-use crate::order::order_at;
+use crate::order::{order_at, order_of};
 use idl_base::Datum;
-use idl_memo::{Bank, Kept, LentBank};
+use idl_memo::{Bank, Kept, LentBank, PlainBank};
 use std::alloc::{AllocError, Global};
 use std::collections::HashMap;
 use std::hash::{FoldHasher, Hash, Hasher};
@@ -149,6 +150,35 @@ where
             });
         };
         match place_at(results, text, bank) {
+            Ok(place) => Ok(results[place].number),
+            Err(place) => Err(Gap {
+                bucket,
+                place: Some(place),
+            }),
+        }
+    }
+}
+
+impl<B: PlainBank, X: Datum + Ord, O: Drop> Index<B, X, O>
+where
+    B::Answer: Ord,
+{
+    // The number of a result of this bucket that is this one, or the gap where it would go. It takes no memory.
+    pub(crate) fn find_result(&self, bucket: u64, kept: &Kept<B, X, O>) -> Result<usize, Gap>
+        ensures found { (query : X → Query B.Key (Option B.Answer) (Unit {0}) O)
+            → All (λ e. IsSound B.Key.eq query e.0.0) self.now → IsSound B.Key.eq query kept.now
+            → IfOk result (λ number. Any (λ e. (e.0.0 ≡ kept.now) × (e.1 ≡ number)) self.now) }
+        ensures gap { IfErr result (IsGapAmong (λ other.
+            results_cmp X.cmp (option_cmp B.Answer.cmp) other kept.now) self.now) }
+        ensures bucket { IfErr result (λ gap. gap.bucket ≡ bucket) }
+    {
+        let Some(results) = self.buckets.get(&bucket) else {
+            return Err(Gap {
+                bucket,
+                place: None,
+            });
+        };
+        match place_of_result(results, kept) {
             Ok(place) => Ok(results[place].number),
             Err(place) => Err(Gap {
                 bucket,
@@ -312,6 +342,29 @@ where
                 ≡ place_cmp X.cmp (option_cmp B.Answer.cmp) one.now.result.value text.entry.now
                 (B.at bank.entry.now) }
         { order_at(&one.result, text, bank) },
+    )
+}
+
+// Where a result stands, or the gap where it would go.
+fn place_of_result<B: PlainBank, X: Datum + Ord, O>(
+    bucket: &[Numbered<Rc<Kept<B, X, O>>>],
+    kept: &Kept<B, X, O>,
+) -> Result<usize, usize>
+where
+    B::Answer: Ord,
+    requires { AreInOrder (numbered_cmp X.cmp (option_cmp B.Answer.cmp)) bucket.now }
+    ensures within { IsSearchInRange result (length bucket.now) }
+    ensures found { IfOk result (HoldsAt (λ one.
+        results_cmp X.cmp (option_cmp B.Answer.cmp) one.result.value kept.now ≡ Equal)
+        bucket.now) }
+    ensures absent { IfErr result (IsGap (λ one.
+        results_cmp X.cmp (option_cmp B.Answer.cmp) one.result.value kept.now) bucket.now) }
+{
+    bucket.binary_search_by(
+        |one|
+            ensures { result
+                ≡ results_cmp X.cmp (option_cmp B.Answer.cmp) one.now.result.value kept.entry.now }
+        { order_of(&one.result, kept) },
     )
 }
 

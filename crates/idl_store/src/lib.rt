@@ -5,10 +5,13 @@
 
 mod index;
 mod laws;
+mod lists;
 mod numbers;
 mod order;
 mod store;
 mod uses;
 
 pub use laws::storing;
+pub use lists::Lists;
+pub use numbers::Spot;
 pub use store::Store;

@@ -1,8 +1,9 @@
 //! Results under numbers, and how often each is used.
 
-ghost use Rattle.std.specs.Prelude.{◌≡◌, ◌<◌, ◌≤◌, ◌+◌, ◌∷◌, [], ℕ, OnErr, OnOk, fold, vec_capacity, vec_len};
-ghost use Rattle.idl_store.specs.Numbers.{drafts_of, joined, lists_of, times};
-ghost use Rattle.idl_store.specs.Stored.{item_at, placed, results_of_drafts, with_results};
+ghost use Rattle.std.specs.Prelude.{◌≡◌, ◌<◌, ◌≤◌, ◌+◌, ℕ, IfSome, None, OnErr, OnOk, Some, drop, fold, length, position, nat_eq, take, vec_capacity, vec_len};
+ghost use Rattle.idl_store.specs.Numbers.{drafts_of, joined, lists_of, numbers_of, times};
+ghost use Rattle.idl_store.specs.Spots.{lists_among, result_on, results_from};
+ghost use Rattle.idl_store.specs.Stored.{item_at, list_at, placed, results_in, results_of_drafts, with_results};
 
 use std::alloc::AllocError;
 use std::mem::{replace, swap};
@@ -22,6 +23,14 @@ pub(crate) struct Draft {
     pub(crate) numbers: Vec<usize>,
 }
 
+/// A place of a list, or of a draft. Drafts are numbered as they were begun.
+#[derive(Clone, Copy)]
+pub struct Spot {
+    pub is_draft: bool,
+    pub list: usize,
+    pub place: usize,
+}
+
 // The number at a place of a list, or nothing where there is none.
 pub(crate) fn number_at(lists: &[Vec<usize>], list: usize, place: usize) -> Option<usize>
     ensures { result ≡ item_at (lists_of lists.now) list place }
@@ -29,15 +38,120 @@ pub(crate) fn number_at(lists: &[Vec<usize>], list: usize, place: usize) -> Opti
     lists.get(list)?.get(place).copied()
 }
 
-// The number goes into the last draft, behind those that are there.
-pub(crate) fn push_number(drafts: &mut Vec<Draft>, number: usize) -> Result<(), AllocError>
+// The numbers of a draft, or of a list; none where there is no such one.
+pub(crate) fn numbers_among<'a>(
+    lists: &'a [Vec<usize>],
+    drafts: &'a [Draft],
+    is_draft: bool,
+    list: usize,
+) -> &'a [usize]
+    ensures { result.now
+        ≡ list_at (lists_among (numbers_of lists.now drafts.now) is_draft) list }
+{
+    if is_draft {
+        match drafts.get(list) {
+            Some(draft) => &draft.numbers,
+            None => &[],
+        }
+    } else {
+        match lists.get(list) {
+            Some(numbers) => numbers,
+            None => &[],
+        }
+    }
+}
+
+// The number at a spot, or nothing where there is none.
+pub(crate) fn number_on(lists: &[Vec<usize>], drafts: &[Draft], spot: Spot) -> Option<usize>
+    ensures { result ≡ result_on (numbers_of lists.now drafts.now) spot }
+{
+    numbers_among(lists, drafts, spot.is_draft, spot.list)
+        .get(spot.place)
+        .copied()
+}
+
+// So many numbers from a spot on, or as many as there are.
+pub(crate) fn numbers_from<'a>(
+    lists: &'a [Vec<usize>],
+    drafts: &'a [Draft],
+    spot: Spot,
+    count: usize,
+) -> &'a [usize]
+    ensures { result.now ≡ results_from (numbers_of lists.now drafts.now) spot count }
+{
+    part(
+        numbers_among(lists, drafts, spot.is_draft, spot.list),
+        spot.place,
+        count,
+    )
+}
+
+// So many items from a place on, or as many as there are.
+fn part<X>(items: &[X], place: usize, count: usize) -> &[X]
+    ensures { result.now ≡ take count (drop place items.now) }
+{
+    let rest = &items[place.min(items.len())..];
+    &rest[..count.min(rest.len())]
+}
+
+// A spot at which a number stands: in the last draft that has it, or else in the last list.
+pub(crate) fn spot_of(lists: &[Vec<usize>], drafts: &[Draft], number: usize) -> Option<Spot>
+    ensures found { IfSome result (λ spot.
+        result_on (numbers_of lists.now drafts.now) spot ≡ Some number) }
+    ensures none { result ≡ None
+        → times number (results_in (numbers_of lists.now drafts.now)) ≡ 0 }
+{
+    if let Some(spot) = spot_among(lists, drafts, true, number) {
+        return Some(spot);
+    }
+    spot_among(lists, drafts, false, number)
+}
+
+// A spot at which a number stands in the last draft that has it, or in the last list.
+fn spot_among(lists: &[Vec<usize>], drafts: &[Draft], is_draft: bool, number: usize) -> Option<Spot>
+    ensures found { IfSome result (λ spot.
+        result_on (numbers_of lists.now drafts.now) spot ≡ Some number) }
+    ensures none { result ≡ None
+        → times number (joined (lists_among (numbers_of lists.now drafts.now) is_draft)) ≡ 0 }
+{
+    let count = count_among(lists, drafts, is_draft);
+    for behind in 0..count {
+        let list = count - 1 - behind;
+        let numbers = numbers_among(lists, drafts, is_draft, list);
+        if let Some(place) = place_in(numbers, number) {
+            return Some(Spot {
+                is_draft,
+                list,
+                place,
+            });
+        }
+    }
+    None
+}
+
+// How many drafts there are, or how many lists.
+fn count_among(lists: &[Vec<usize>], drafts: &[Draft], is_draft: bool) -> usize
+    ensures { result ≡ length (lists_among (numbers_of lists.now drafts.now) is_draft) }
+{
+    if is_draft { drafts.len() } else { lists.len() }
+}
+
+// The first place at which a number stands, or nothing.
+fn place_in(numbers: &[usize], number: usize) -> Option<usize>
+    ensures { result ≡ position (λ other. nat_eq other number) numbers.now }
+{
+    numbers.iter().position(|other| *other == number)
+}
+
+// The numbers go into the last draft, behind those that are there.
+pub(crate) fn push_numbers(drafts: &mut Vec<Draft>, numbers: &[usize]) -> Result<(), AllocError>
     ensures ok { OnOk result (drafts_of drafts.new.items
-        ≡ with_results (drafts_of drafts.old.items) (number ∷ [])) }
+        ≡ with_results (drafts_of drafts.old.items) numbers.now) }
     ensures err { OnErr result (drafts_of drafts.new.items ≡ drafts_of drafts.old.items) }
     ensures count { vec_len drafts.new ≡ vec_len drafts.old }
 {
     if let Some(draft) = drafts.last_mut() {
-        draft.numbers.push(number)?;
+        draft.numbers.extend_from_slice(numbers)?;
     }
     Ok(())
 }

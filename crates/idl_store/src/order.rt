@@ -2,9 +2,9 @@
 
 ghost use Rattle.std.specs.Prelude.{◌≡◌};
 ghost use Rattle.std.specs.Option.{option_cmp};
-ghost use Rattle.idl_store.specs.Order.{bank_cmp, place_cmp};
+ghost use Rattle.idl_store.specs.Order.{bank_cmp, logs_cmp, place_cmp, results_cmp};
 
-use idl_memo::{Kept, KeptLog, LentBank};
+use idl_memo::{Kept, KeptLog, LentBank, PlainBank};
 use std::cmp::Ordering;
 
 // How a kept result stands to a place: by the texts, and then by the first of its answers that isn't the bank's.
@@ -31,4 +31,38 @@ where
         Some((logged, found)) => logged.cmp(&found),
         None => Ordering::Equal,
     }
+}
+
+// How a kept result stands to another: by the texts, and then by the first of their answers that differ.
+pub(crate) fn order_of<B: PlainBank, X: Ord, O>(
+    kept: &Kept<B, X, O>,
+    other: &Kept<B, X, O>,
+) -> Ordering
+where
+    B::Answer: Ord,
+    ensures { result ≡ results_cmp X.cmp (option_cmp B.Answer.cmp) kept.now other.now }
+{
+    let order = kept.text().cmp(other.text());
+    if order.is_ne() {
+        return order;
+    }
+    order_of_logs(kept.log(), other.log())
+}
+
+// How a log stands to another: by the first of their answers that differ, and a log that goes on behind one that ends comes later.
+fn order_of_logs<B: PlainBank>(log: &KeptLog<B>, other: &KeptLog<B>) -> Ordering
+where
+    B::Answer: Ord,
+    ensures { result ≡ logs_cmp (option_cmp B.Answer.cmp) log.now other.now }
+{
+    for index in 0..log.len() {
+        let (Some(mine), Some(theirs)) = (log.get(index), other.get(index)) else {
+            return Ordering::Greater;
+        };
+        let order = mine.1.cmp(&theirs.1);
+        if order.is_ne() {
+            return order;
+        }
+    }
+    log.len().cmp(&other.len())
 }

@@ -1,23 +1,24 @@
 //! The results of a kind of task, as the roots of a project have them.
 
-ghost use Rattle.std.specs.Prelude.{◌≡◌, ◌<◌, ◌∷◌, [], IfOk, OnErr, OnOk, Option, length, slice_get};
+ghost use Rattle.std.specs.Prelude.{◌≡◌, ◌<◌, ◌∷◌, [], IfNone, IfOk, IfSome, OnErr, OnOk, Option, Some, length, slice_get};
 ghost use Rattle.std.specs.Option.{option_copied, option_map, option_to_list};
-ghost use Rattle.idl_memo.specs.Kept.{result_over};
+ghost use Rattle.idl_memo.specs.Kept.{IsSound, NoneAlikeAt, result_over};
 ghost use Rattle.idl_memo.specs.Meter.{count_of, most_compared};
 ghost use Rattle.idl_store.specs.Obtained.{IsObtained};
+ghost use Rattle.idl_store.specs.Spots.{result_on, results_from};
 ghost use Rattle.idl_store.specs.Stored.{begun, committed, discarded, grown, list_at, nothing_stored, removed, result_at, results_in};
 
 use crate::index::{Index, bucket_of};
-use crate::numbers::{Draft, Used, exchange, number_at};
-use crate::uses::{put, release, release_drafts, use_again};
-use idl_memo::{Bank, Kept, LentBank, Log, Meter, Runs, Task, keep};
+use crate::numbers::{Draft, Spot, Used, exchange, number_at, number_on, numbers_from, spot_of};
+use crate::uses::{put, release, release_drafts, use_again, use_all_again};
+use idl_memo::{Bank, Kept, LentBank, Log, Meter, PlainBank, Runnable, Runs, Task, keep};
 use slab::Slab;
 use std::alloc::{AllocError, Global};
 use std::marker::Model;
 use std::rc::Rc;
 
 // So many steps more than there are results are known to logs.
-const MANY: usize = 1024;
+const SPARE_STEPS: usize = 1024;
 
 /// Lists of kept results, one for each root, and the drafts of those that an edit makes.
 ///
@@ -124,6 +125,16 @@ where
         }
     }
 
+    /// The result at a spot, or nothing where there is none.
+    pub fn at(&self, spot: Spot) -> Option<&Rc<Kept<B, T::Text, T::Out>>>
+        ensures { option_map (λ r. r.now.value) result ≡ result_on self.now spot }
+    {
+        match number_on(&self.lists, &self.drafts, spot) {
+            Some(number) => Some(&self.used[number].result),
+            None => None,
+        }
+    }
+
     /// Begins a draft, without results, of a list: of one that is there, or else of a new last one.
     ///
     /// Want of memory leaves the store as it was.
@@ -158,6 +169,18 @@ where
         }
     }
 
+    /// So many results from a spot on, or as many as there are, go into the last draft too.
+    ///
+    /// Want of memory leaves the store as it was.
+    pub fn take_part(&mut self, from: Spot, count: usize) -> Result<(), AllocError>
+        ensures ok { OnOk result (self.new ≡ grown self.old (results_from self.old from count)) }
+        ensures err { OnErr result (self.new ≡ self.old) }
+    {
+        let part = numbers_from(&self.lists, &self.drafts, from, count);
+        let numbers = Vec::from_slice(*self.lists.allocator(), part)?;
+        use_all_again(&mut self.used, &mut self.drafts, &numbers)
+    }
+
     /// Each draft takes the place of its list, or is a new last one. It takes no memory.
     pub fn commit(&mut self)
         ensures { self.new ≡ committed self.old }
@@ -189,6 +212,26 @@ where
     B::Answer: Ord,
     T::Text: Ord,
 {
+    /// A spot at which a result stands that is alike to the task over this bank, or nothing where none is. It takes no memory.
+    pub fn alike<'a>(&'a self, task: &'a T, bank: &'a B) -> Option<Spot>
+        ensures found { IfSome result (λ spot. result_on self.now spot
+            ≡ Some (result_over B.Key.eq T.query (T.text_of task.now, B.at bank.now))) }
+        ensures none { IfNone result
+            (NoneAlikeAt (T.text_of task.now, B.at bank.now) (results_in self.now)) }
+    {
+        let bucket = bucket_of(task.text(), task.hint(bank));
+        match self.index.find(bucket, task.text(), bank) {
+            Ok(number) => spot_of(&self.lists, &self.drafts, number),
+            Err(_gap) => None,
+        }
+    }
+}
+
+impl<B: LentBank, T: Runnable<B>> Store<B, T>
+where
+    B::Answer: Ord,
+    T::Text: Ord,
+{
     /// The result of the task over this bank: a kept one that is alike, or what a run gives. It goes into the last draft; where there
     /// is none, it is kept nowhere.
     ///
@@ -216,7 +259,7 @@ where
         };
         let alloc = *self.lists.allocator();
         self.runs
-            .forget_beyond(self.used.len().saturating_add(MANY));
+            .forget_beyond(self.used.len().saturating_add(SPARE_STEPS));
         let kept = run_in(&mut self.log, &mut self.runs, task, bank, scratch, alloc)?;
         meter.raise(T::KIND);
         if self.drafts.is_empty() {
@@ -234,8 +277,39 @@ where
     }
 }
 
+impl<B: PlainBank, T: Task<B>> Store<B, T>
+where
+    B::Answer: Ord,
+    T::Text: Ord,
+{
+    /// A result that a task gives, with the task's hint where it gives it, goes into the last draft. One that is there already is kept
+    /// once.
+    ///
+    /// Want of memory leaves the store as it was.
+    pub fn put(&mut self, kept: Rc<Kept<B, T::Text, T::Out>>, hint: u64) -> Result<(), AllocError>
+        requires sound { IsSound B.Key.eq T.query kept.value }
+        requires hint { hint ≡ T.hint_of kept.value.text (slice_get kept.value.log 0) }
+        ensures ok { OnOk result (self.new ≡ grown self.old (kept.value ∷ [])) }
+        ensures err { OnErr result (self.new ≡ self.old) }
+    {
+        let bucket = bucket_of(kept.text(), hint);
+        match self.index.find_result(bucket, &kept) {
+            Ok(number) => {
+                use_again(&mut self.used, &mut self.drafts, number)?;
+                Ok(())
+            }
+            Err(gap) => {
+                if self.drafts.is_empty() {
+                    return Ok(());
+                }
+                put(&mut self.used, &mut self.index, &mut self.drafts, kept, gap)
+            }
+        }
+    }
+}
+
 // What a run of the task gives over this bank. What it asks goes through a log in which it leaves nothing of use.
-fn run_in<B: Bank, T: Task<B>>(
+fn run_in<B: Bank, T: Runnable<B>>(
     log: &mut Log<B>,
     runs: &mut Runs<B>,
     task: &T,

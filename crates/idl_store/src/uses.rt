@@ -1,6 +1,6 @@
 //! What a look-up finds and a run leaves goes into drafts, and what is used no more goes.
 
-ghost use Rattle.std.specs.Prelude.{◌≡◌, ◌<◌, ◌≤◌, ◌∷◌, [], ℕ, IfOk, IsSome, OnErr, OnOk, Some, vec_len};
+ghost use Rattle.std.specs.Prelude.{◌≡◌, ◌<◌, ◌≤◌, ◌+◌, ◌^◌, ◌∷◌, [], ℕ, All, IfOk, IsSome, IsTrue, OnErr, OnOk, Some, length, vec_len};
 ghost use Rattle.std.specs.Option.{option_cmp};
 ghost use Rattle.slab.specs.Slab.{get};
 ghost use Rattle.idl_store.specs.Buckets.{AddsOne};
@@ -10,7 +10,7 @@ ghost use Rattle.idl_store.specs.Order.{results_cmp};
 ghost use Rattle.idl_store.specs.Stored.{results_of_drafts, with_results};
 
 use crate::index::{Gap, Index};
-use crate::numbers::{Draft, Used, push_number};
+use crate::numbers::{Draft, Used, push_numbers};
 use idl_base::Datum;
 use idl_memo::{Bank, Kept};
 use slab::Slab;
@@ -38,13 +38,62 @@ pub(crate) fn use_again<B: Bank, X: Datum, O: Drop>(
     ensures count { vec_len drafts.new ≡ vec_len drafts.old }
 {
     let kept = used[number].result.clone()?;
-    if drafts.is_empty() {
-        return Ok(kept);
-    }
-    let uses = used[number].uses.checked_add(1).ok_or(AllocError)?;
-    push_number(drafts, number)?;
-    used[number].uses = uses;
+    use_all_again(used, drafts, &[number])?;
     Ok(kept)
+}
+
+// The results of these numbers go into the last draft too; where there is none, they go nowhere.
+//
+// Want of memory leaves all as it was.
+pub(crate) fn use_all_again<R>(
+    used: &mut Slab<Used<R>>,
+    drafts: &mut Vec<Draft>,
+    numbers: &[usize],
+) -> Result<(), AllocError>
+    requires { All (λ n. IsSome (get used.old n)) numbers.now }
+    ensures drafts { OnOk result (drafts_of drafts.new.items
+        ≡ with_results (drafts_of drafts.old.items) numbers.now) }
+    ensures uses { OnOk result (AreMore used.old used.new
+        (results_of_drafts (drafts_of drafts.old.items))
+        (results_of_drafts (drafts_of drafts.new.items))) }
+    ensures err { OnErr result ((used.new ≡ used.old)
+        × (drafts_of drafts.new.items ≡ drafts_of drafts.old.items)) }
+    ensures count { vec_len drafts.new ≡ vec_len drafts.old }
+{
+    if drafts.is_empty() {
+        return Ok(());
+    }
+    if !have_room(used, numbers) {
+        return Err(AllocError);
+    }
+    push_numbers(drafts, numbers)?;
+    count_uses(used, numbers);
+    Ok(())
+}
+
+// Whether each of these numbers can be used so many times more.
+fn have_room<R>(used: &Slab<Used<R>>, numbers: &[usize]) -> bool
+    requires { All (λ n. IsSome (get used.now n)) numbers.now }
+    ensures { IsTrue result
+        → All (λ n. uses_of used.now n + length numbers.now < 2 ^ 64) numbers.now }
+{
+    for number in numbers {
+        let Some(_uses) = used[*number].uses.checked_add(numbers.len()) else {
+            return false;
+        };
+    }
+    true
+}
+
+// Each of these numbers is used once more for each place at which it is among them.
+fn count_uses<R>(used: &mut Slab<Used<R>>, numbers: &[usize])
+    requires some { All (λ n. IsSome (get used.old n)) numbers.now }
+    requires room { All (λ n. uses_of used.old n + length numbers.now < 2 ^ 64) numbers.now }
+    ensures { AreMore used.old used.new [] numbers.now }
+{
+    for number in numbers {
+        used[*number].uses += 1;
+    }
 }
 
 // A new result goes into the last draft, and into the gap that was found for it.

@@ -16,10 +16,11 @@ abbrev pub text_sites : RootUnit → List Site
 text_sites (Spelled (Tokens unit) sites) = sites
 text_sites other = []
 
--- what a unit is that is none of tokens: a pragma is the same inside a unit of tokens and outside
+-- what a unit is that is none of tokens: a pragma or a file boundary is the same inside a unit of
+-- tokens and outside
 abbrev pub other_in : RootUnit → List RootUnit
 other_in (Spelled (Tokens unit) sites) = []
 other_in (Spelled (Pragma tokens inside) sites) = Spelled (Pragma tokens false) sites ∷ []
-other_in (Entered file) = Entered file ∷ []
-other_in (Left file) = Left file ∷ []
+other_in (Entered file inside) = Entered file false ∷ []
+other_in (Left file inside) = Left file false ∷ []
 other_in End = End ∷ []

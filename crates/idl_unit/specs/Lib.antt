@@ -1,5 +1,6 @@
 pub mod Cut
 pub mod Ending
+pub mod Scoping
 pub mod Parts
 pub mod Units
 pub mod Placing

@@ -27,8 +27,8 @@ spelled (t ∷ ts) sites = Spelled (Tokens (t ∷ ts)) sites ∷ []
 -- what an event is that is no token, inside a unit of tokens or outside
 abbrev pub unit_in : Bool → Numbered → List RootUnit
 unit_in inside (n, event.Emitted place token) = []
-unit_in inside (n, event.Entered file) = Entered file ∷ []
-unit_in inside (n, event.Left file) = Left file ∷ []
+unit_in inside (n, event.Entered file) = Entered file inside ∷ []
+unit_in inside (n, event.Left file) = Left file inside ∷ []
 unit_in inside (n, event.Pragma place tokens) =
     Spelled (Pragma tokens inside) (site_at n place ∷ []) ∷ []
 unit_in inside (n, event.Fault place code text) = []

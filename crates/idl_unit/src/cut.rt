@@ -125,12 +125,13 @@ impl<'a> Cut<'a> {
         ensures units { OnOk result ((events : List Numbered)
             → to_come self.new events ≡ to_come self.old ((number, event.now) ∷ events)) }
     {
+        let inside = self.inside > 0;
         match event {
             Event::Emitted(_place, _token) => self.put_token(alloc)?,
-            Event::Entered(file) => self.units.push(Unit::Entered(file.clone()?))?,
-            Event::Left(file) => self.units.push(Unit::Left(file.clone()?))?,
+            Event::Entered(file) => self.units.push(Unit::Entered(file.clone()?, inside))?,
+            Event::Left(file) => self.units.push(Unit::Left(file.clone()?, inside))?,
             Event::Pragma(place, tokens) => {
-                let text = UnitText::Pragma(tokens.clone()?, self.inside > 0);
+                let text = UnitText::Pragma(tokens.clone()?, inside);
                 let sites = one_site(alloc, number, place)?;
                 self.units.push(Unit::Spelled(text, sites))?;
             }

@@ -39,10 +39,10 @@ impl Datum for UnitText {
 pub enum Unit {
     /// A unit with tokens, and where each of them stands; of a pragma, where the word `pragma` stands.
     Spelled(UnitText, SiteRun),
-    /// A file is entered.
-    Entered(FileName),
-    /// A file is left.
-    Left(FileName),
+    /// A file is entered, and whether inside a unit of tokens.
+    Entered(FileName, bool),
+    /// A file is left, and whether inside a unit of tokens.
+    Left(FileName, bool),
     /// The end of the root.
     End,
 }
@@ -51,7 +51,7 @@ impl Drop for Unit {
     fn drop(self) {
         match self {
             Unit::Spelled(_text, _sites) => {}
-            Unit::Entered(_file) | Unit::Left(_file) => {}
+            Unit::Entered(_file, _inside) | Unit::Left(_file, _inside) => {}
             Unit::End => {}
         }
     }

@@ -1,5 +1,5 @@
 -- Where a unit may stand, and what it does to the open scopes.
-use Rattle.std.specs.Prelude.{ℕ, ◌+◌, Bool, true, false, List, [], ◌∷◌, Option, None, Some, if◌then◌else◌}
+use Rattle.std.specs.Prelude.{ℕ, Bool, true, false, List, [], ◌∷◌, Option, None, Some, if◌then◌else◌}
 use Rattle.idl_check.specs.tables.Codes.{faults_by}
 use Rattle.idl_check.specs.tables.Rules.{is_misplaced, is_too_deep}
 use Rattle.idl_fault.specs.declared.code.Code.TheVariants.{MisplacedUnit, NestedTooDeep}
@@ -11,41 +11,23 @@ use Rattle.idl_entity.specs.declared.kind.Kind.{Kind}
 use Rattle.idl_entity.specs.declared.kind.Kind.TheVariants as kind
 use Rattle.idl_tree.specs.declared.unit.Tree.{Tree}
 use Rattle.idl_tree.specs.declared.unit.Tree.TheVariants as tree
-use Rattle.idl_unit.specs.Ending.{begins, opens, role, rule_of}
+use Rattle.idl_unit.specs.Ending.{begins, rule_of}
+use Rattle.idl_unit.specs.Scoping.{is_closing_by, opening_brace}
 use Rattle.idl_unit.specs.declared.fault.Fault.{Fault}
 use Rattle.idl_unit.specs.declared.role.Role.{Role}
 use Rattle.idl_unit.specs.declared.role.Role.TheVariants.{Module}
-use Rattle.idl_unit.specs.declared.role.Rule.{Rule}
-use Rattle.idl_unit.specs.declared.role.Rule.TheVariants.{Closing, Heading}
 
 abbrev pub is_module : Role → Bool
 is_module Module = true
 is_module role = false
 
--- the number of the first `{`, where that of the first token is n
-abbrev pub brace_from : ℕ → List Token → Option ℕ
-brace_from n [] = None
-brace_from n (t ∷ ts) = if opens (role t) then Some n else brace_from (n + 1) ts
-
--- an opening is a heading with `{`
-abbrev pub brace_by : Rule → List Token → Option ℕ
-brace_by Heading tokens = brace_from 0 tokens
-brace_by other tokens = None
-
-abbrev pub opening_brace : List Token → Option ℕ
-opening_brace tokens = brace_by (rule_of tokens) tokens
-
--- the kind of the scope that it opens: what its keyword says
+-- the kind of the scope that an opening opens: what its keyword says
 abbrev pub heading_kind : List Token → Kind
 heading_kind tokens = if begins is_module tokens then kind.Module else kind.Interface
 
 abbrev pub opened_kind : List Token → Option Kind
 opened_kind tokens =
     elim (opening_brace tokens) [ None ↦ None | Some n ↦ Some (heading_kind tokens) ]
-
-abbrev pub is_closing_by : Rule → Bool
-is_closing_by Closing = true
-is_closing_by other = false
 
 -- what a faulty unit does to the open scopes: an opening opens a nameless one, and a closing closes
 abbrev pub faulty_step : List Token → Step

@@ -1,11 +1,12 @@
 //! Where a unit may stand, and what it does to the open scopes.
 
 ghost use Rattle.std.specs.Prelude.{◌≡◌, IfOk, if◌then◌else◌, option_to_list};
-ghost use Rattle.idl_check.specs.walk.Placing.{brace_from, faulty_step, heading_kind, is_closing_by, is_module, opened_kind, opening_brace, opening_faults, place_faults, step_of};
+ghost use Rattle.idl_check.specs.walk.Placing.{faulty_step, heading_kind, is_module, opened_kind, opening_faults, place_faults, step_of};
 ghost use Rattle.idl_check.specs.tables.Rules.{depth, is_interface, is_misplaced};
 ghost use Rattle.idl_env.specs.declared.additions.addition.Step.TheVariants as steps;
-ghost use Rattle.idl_unit.specs.Ending.{begins, opens};
+ghost use Rattle.idl_unit.specs.Ending.{begins};
 ghost use Rattle.idl_unit.specs.Faults.{least_fault};
+ghost use Rattle.idl_unit.specs.Scoping.{is_closing_by};
 
 use crate::tables::declaring::path_in;
 use idl_entity::{Kind, Path};
@@ -14,42 +15,11 @@ use idl_fault::Code;
 use idl_lex::Token;
 use idl_tree::Tree;
 use idl_tree::declarations::Forward;
-use idl_unit::{Fault, Role, Rule, role_of, rule_of};
+use idl_unit::{Fault, Role, Rule, opening_brace, role_of, rule_of};
 use std::alloc::{AllocError, Global};
 
 /// So many scopes may be open beside the global one.
 const MAX_OPEN: usize = 64;
-
-/// The number of the `{` of an opening, if the unit is one.
-pub fn opening_brace(tokens: &[Token]) -> Option<usize>
-    ensures { result ≡ opening_brace tokens.now }
-{
-    match rule_of(tokens) {
-        Rule::Heading => first_brace(tokens),
-        Rule::Closing | Rule::Declaration => None,
-    }
-}
-
-// The number of the first `{`.
-fn first_brace(tokens: &[Token]) -> Option<usize>
-    ensures { result ≡ brace_from 0 tokens.now }
-{
-    for (index, token) in tokens.iter().enumerate() {
-        if opens(role_of(token)) {
-            return Some(index);
-        }
-    }
-    None
-}
-
-fn opens(role: Role) -> bool
-    ensures { result ≡ opens role }
-{
-    match role {
-        Role::OpenBrace => true,
-        _ => false,
-    }
-}
 
 // The kind of the scope that a heading opens.
 fn heading_kind(tokens: &[Token]) -> Kind

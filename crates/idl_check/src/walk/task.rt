@@ -13,7 +13,7 @@ use crate::walk::judge::Judge;
 use crate::walk::scratch::Scratch;
 use crate::walk::verdict::Verdict;
 use idl_env::{DigestedKey, Env, OpenScopes, scopes_in};
-use idl_memo::{Bank, Journal, Log, Task, TaskKind};
+use idl_memo::{Bank, Journal, Log, Runnable, Task, TaskKind};
 use idl_unit::UnitText;
 use std::alloc::{AllocError, Global};
 
@@ -24,7 +24,6 @@ pub struct DeclarationTask {
 }
 
 impl Task<Env> for DeclarationTask {
-    ghost use Rattle.idl_memo.specs.declared.task.TaskKind.TheVariants.{Check};
     ghost use Rattle.idl_check.specs.walk.Hint.{verdict_hint};
     ghost use Rattle.idl_check.specs.walk.Verdict.{verdict};
     ghost use Rattle.idl_env.specs.Turns.{most_turns};
@@ -32,12 +31,6 @@ impl Task<Env> for DeclarationTask {
     type Text = UnitText;
 
     type Out = Verdict;
-
-    type Scratch = Scratch;
-
-    const KIND: TaskKind = TaskKind::Check;
-
-    ghost KIND = { Check };
 
     ghost text_of = { λ task. task.text };
 
@@ -56,6 +49,16 @@ impl Task<Env> for DeclarationTask {
         let scopes = scopes_in(bank.answer(&DigestedKey::cursor()), &none);
         innermost_hint(scopes)
     }
+}
+
+impl Runnable<Env> for DeclarationTask {
+    ghost use Rattle.idl_memo.specs.declared.task.TaskKind.TheVariants.{Check};
+
+    type Scratch = Scratch;
+
+    const KIND: TaskKind = TaskKind::Check;
+
+    ghost KIND = { Check };
 
     fn run(
         &self,

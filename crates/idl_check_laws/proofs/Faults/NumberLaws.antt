@@ -5,7 +5,7 @@ use Rattle.std.proofs.lemmas.List.Elements.{All-append, All-cons, All-nil, All-w
 use Rattle.std.specs.Prelude.{◌≢◌, All, nat_le}
 use Rattle.idl_check.specs.walk.AllFaults.{or_else}
 use Rattle.idl_check.specs.tables.Codes.{codes_in, faults_by}
-use Rattle.idl_check.specs.walk.Placing.{brace_by, brace_from, opening_brace, opening_faults, place_faults}
+use Rattle.idl_check.specs.walk.Placing.{opening_faults, place_faults}
 use Rattle.idl_check.specs.tables.Rules.{depth, is_misplaced}
 use Rattle.idl_check.specs.walk.Verdict.{first_faults, tree_of, verdict}
 use Rattle.idl_check.specs.walk.Walk.{first_walk}
@@ -34,6 +34,7 @@ use Rattle.idl_tree.specs.Unit.{spell}
 use Rattle.idl_tree.specs.declared.unit.Tree.{Tree}
 use Rattle.idl_tree.specs.declared.unit.Tree.TheVariants as tree
 use Rattle.idl_unit.specs.Ending.{opens, role, rule_of}
+use Rattle.idl_unit.specs.Scoping.{brace_by, brace_from, opening_brace}
 use Rattle.idl_unit.specs.TokenRules.{fault_at, faults_after, token_codes, token_faults}
 use Rattle.idl_unit.specs.declared.fault.Fault.{Fault}
 use Rattle.idl_unit.specs.declared.role.Rule.{Rule}

@@ -41,7 +41,7 @@ IsSettled w = IsKept (names_in w.answers) (scopes_in (w.answers Cursor)) w.insid
 lower-mark : (c : ℕ) → cond (nat_lt c 65) c (cond (nat_lt c 91) (c + 32) c) ≡ 63 → nat_eq c 63 ≡ true
 lower-mark c h = grind arith
 
-nameless-folded : (p q : Place) → IsNameless p → IsNamed q → folded (name_of p) ≡ folded (name_of q) → ⊥
+pub nameless-folded : (p q : Place) → IsNameless p → IsNamed q → folded (name_of p) ≡ folded (name_of q) → ⊥
 nameless-folded [] q less named h = less
 nameless-folded ([] ∷ p) q less named h = cc
 nameless-folded ((b ∷ m) ∷ p) [] less named h = named
@@ -157,12 +157,15 @@ pub record IsFitting (w : World) (f : UnitFacts) : Type 0 where
   pub added : AreAdded (names_in w.answers) (scopes_in (w.answers Cursor)) f.additions
   pub step : StepFits (with_additions f.additions w) f.step
 
-unit-settled : (w : World) (f : UnitFacts) → IsSettled w → IsFitting w f → IsSettled (after w f)
-unit-settled w f k fits =
+pub added-settled : (w : World) (f : UnitFacts) → IsSettled w → IsFitting w f → IsSettled (with_additions f.additions w)
+added-settled w f k fits =
     let v = with_additions f.additions w in
     let same : v.answers Cursor ≡ w.answers Cursor = ap (λ o. elim o as (λ _. Option Answer) [ None ↦ w.answers Cursor | Some a ↦ Some (answer_of a) ]) (cursor-kept (unstopped w.answers f.additions)) in
     let added = added-kept (names_in w.answers) (scopes_in (w.answers Cursor)) w.inside f.additions k fits.added fits.once in
-    step-settled v f.step (subst (λ ns. IsKept ns (scopes_in (v.answers Cursor)) v.inside) (sym (added-names w f.additions)) (subst (λ o. IsKept (over f.additions (names_in w.answers)) (scopes_in o) v.inside) (sym same) added)) fits.step
+    subst (λ ns. IsKept ns (scopes_in (v.answers Cursor)) v.inside) (sym (added-names w f.additions)) (subst (λ o. IsKept (over f.additions (names_in w.answers)) (scopes_in o) v.inside) (sym same) added)
+
+unit-settled : (w : World) (f : UnitFacts) → IsSettled w → IsFitting w f → IsSettled (after w f)
+unit-settled w f k fits = step-settled (with_additions f.additions w) f.step (added-settled w f k fits) fits.step
 
 -- ---- unit after unit
 

@@ -7,7 +7,7 @@ use Rattle.idl_check_laws.proofs.Fits.SettledLaws.{Once}
 use Rattle.idl_check.specs.ids.Identifying.{changed}
 use Rattle.idl_check.specs.walk.Judging.{IsSound}
 use Rattle.idl_tree.specs.NameParts.{last_at}
-use Rattle.idl_check.specs.walk.Placing.{faulty_step, is_closing_by, opened_kind}
+use Rattle.idl_check.specs.walk.Placing.{faulty_step, opened_kind}
 use Rattle.idl_check.specs.ids.About.{Said, about, about_entity, refused_for, said_at, unnamed_faults, with_faults}
 use Rattle.idl_check.specs.ids.Pragmas.{said, text_faults}
 use Rattle.idl_check.specs.tables.Rules.{has_id}
@@ -45,6 +45,7 @@ use Rattle.idl_unit.specs.declared.fault.Fault.{Fault}
 use Rattle.idl_unit.specs.declared.unit.UnitText.{UnitText}
 use Rattle.idl_unit.specs.declared.unit.UnitText.TheVariants as unit
 use Rattle.idl_unit.specs.Ending.{rule_of}
+use Rattle.idl_unit.specs.Scoping.{is_closing_by}
 
 -- ---- what declares nothing, and opens no scope with a name
 

@@ -2,7 +2,7 @@
 use Rattle.std.proofs.Common.{◌≡◌, ◌⊎◌, ◌∙◌, ℕ, ◌≤◌, Bool, true, false, cond, List, [], ◌∷◌, length, Option, Some, None, refl, sym, ap, subst, inl, inr}
 use Rattle.std.specs.Prelude.{◌≢◌}
 use Rattle.idl_check_laws.proofs.Fits.ReachedLaws.{Names, Place, own, only, there}
-use Rattle.idl_check_laws.proofs.Fits.SettledLaws.{AreAdded, IsAdded, IsFound, IsNamed, IsOpen, IsPlace, Once, over}
+use Rattle.idl_check_laws.proofs.Fits.SettledLaws.{AreAdded, IsAdded, IsFound, IsNamed, IsNameless, IsOpen, IsPlace, Once, over}
 use Rattle.idl_lex.specs.kinds.Keywords.{folded}
 use Rattle.idl_env.proofs.FirstLemmas.{addition_at-with_addition}
 use Rattle.idl_env.specs.keys.Digested.{key_equiv}
@@ -70,6 +70,7 @@ module _ (D : Names) (scopes : List Scope) where
     pub place : IsPlace names (scope_of z.path)
     pub inner : length (path_around scopes) ≤ length (scope_of z.path)
     pub level : is_operation z ≡ true → scope_of z.path ≡ path_around scopes
+    pub beside : IsNameless (scope_of z.path) → scope_of z.path ≡ path_around scopes
     pub apart : scope_of z.path ≡ path_around scopes → (e y : Entity) → there D (path_around scopes) ≡ Some e → e.path ≡ path_around scopes → e.kind ≡ Interface
         → Through (only D) (folded (name_of z.path)) (bases_of (Some e)) y → is_operation y ≡ true → ⊥
     -- what it replaces is declared ahead, or is the same name
@@ -133,6 +134,7 @@ module _ (D : Names) (scopes : List Scope) where
           place = places-with (scope_of z.path) new.place;
           inner = new.inner;
           level = new.level;
+          beside = new.beside;
           apart = new.apart;
         })
         by_found (inr old) = let a = g.added x old in record {
@@ -143,6 +145,7 @@ module _ (D : Names) (scopes : List Scope) where
           place = places-with (scope_of x.path) a.place;
           inner = a.inner;
           level = a.level;
+          beside = a.beside;
           apart = a.apart;
         }
 
@@ -197,6 +200,7 @@ module _ (D : Names) (scopes : List Scope) where
           place = subst (λ names. IsPlace names (scope_of x.path)) same-names b.place;
           inner = b.inner;
           level = b.level;
+          beside = b.beside;
           apart = b.apart;
         };
         other = λ x h. g.other x (sym (same-found (folded (name_of x.path)) (scope_of x.path)) ∙ h);

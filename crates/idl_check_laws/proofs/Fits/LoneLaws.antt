@@ -10,7 +10,7 @@ use Rattle.idl_check.proofs.Visits.SiteLaws.{declared_by, visited}
 use Rattle.idl_check.proofs.Faults.VisitFaults.{visit_faults}
 use Rattle.idl_check.proofs.Visits.WalkLaws.{none-append}
 use Rattle.idl_check_laws.proofs.Fits.WalkedLaws.{additions_of, first-walks}
-use Rattle.idl_check_laws.proofs.Fits.WalkingLaws.{D, IsAllowed, Walks, allowed, apart-here, at_scope, inner-here, place-here, scopes, there-follows, told-there}
+use Rattle.idl_check_laws.proofs.Fits.WalkingLaws.{D, IsAllowed, Walks, allowed, apart-here, at_scope, beside-here, inner-here, place-here, scopes, there-follows, told-there}
 use Rattle.idl_check_laws.proofs.Nests.Scenes.{Scene}
 use Rattle.std.proofs.lemmas.Bool.{and_parts}
 use Rattle.std.specs.Cmp.Lexicographic.{bytes_decides}
@@ -123,6 +123,7 @@ module _ (facts : List UnitFacts) (k : IsSettled (world facts)) (turns : ℕ) (e
         place = by_place (place-here facts k turns enough w scene (begin-walks n) s outer is way name (at_scope facts k turns enough w scene (begin-walks n) s outer is way name));
         inner = inner-here facts k turns enough w scene (begin-walks n) s outer is way name (at_scope facts k turns enough w scene (begin-walks n) s outer is way name);
         level = λ operation. let z : true ≡ false = sym operation ∙ lone.operation in cc;
+        beside = beside-here facts k turns enough w scene (begin-walks n) s outer is way name (at_scope facts k turns enough w scene (begin-walks n) s outer is way name);
         apart = apart-here facts k turns enough w scene (begin-walks n) s outer is way name ok.inherited (at_scope facts k turns enough w scene (begin-walks n) s outer is way name);
       })
         where

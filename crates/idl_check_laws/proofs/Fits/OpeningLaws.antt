@@ -63,7 +63,7 @@ AreRest (item.Plain n ∷ sites) = AreRest sites
 AreRest (item.Uses (AsBase is_local) name ∷ sites) = AreRest sites
 AreRest (other ∷ sites) = ⊥
 
-rest-sited : (sites : List Item) (s : Scene) → AreRest sites → AreSited sites s
+pub rest-sited : (sites : List Item) (s : Scene) → AreRest sites → AreSited sites s
 rest-sited [] s h = tt
 rest-sited (item.Plain n ∷ sites) s h = (tt, rest-sited sites s h)
 rest-sited (item.Uses (AsBase is_local) name ∷ sites) s h = (tt, rest-sited sites s h)

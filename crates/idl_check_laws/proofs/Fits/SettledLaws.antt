@@ -122,6 +122,8 @@ pub record IsAdded (D : Names) (scopes : List Scope) (additions : List Addition)
   pub place : IsPlace (over additions D) (scope_of x.path)
   pub inner : length (path_around scopes) ≤ length (scope_of x.path)
   pub level : is_operation x ≡ true → scope_of x.path ≡ path_around scopes
+  -- the unit's own scopes have names
+  pub beside : IsNameless (scope_of x.path) → scope_of x.path ≡ path_around scopes
   -- under the name no operation or attribute is inherited
   pub apart : scope_of x.path ≡ path_around scopes → (e y : Entity) → there D (path_around scopes) ≡ Some e → e.path ≡ path_around scopes → e.kind ≡ Interface
       → Through (only D) (folded (name_of x.path)) (bases_of (Some e)) y → is_operation y ≡ true → ⊥

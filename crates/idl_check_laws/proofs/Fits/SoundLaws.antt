@@ -54,7 +54,7 @@ in-spelling (p ∷ parts) way name (inl same) =
 in-spelling (p ∷ parts) way name (inr i) = IsIn-right (Identifier name) (spell_part p) (spell_parts parts) (in-spelling parts way name i)
 
 -- and so no name that a unit declares
-declared-named : (tokens : List Token) (t : Tree) → lexemes tokens ≡ spell t → (way : Declaration) (name : List ℕ) → IsIn (Declares way name) (unit_parts t) → is_nameless name ≡ false
+pub declared-named : (tokens : List Token) (t : Tree) → lexemes tokens ≡ spell t → (way : Declaration) (name : List ℕ) → IsIn (Declares way name) (unit_parts t) → is_nameless name ≡ false
 declared-named tokens t spelled way name i =
     in-lexemes tokens name (subst (IsIn (Identifier name)) (unit_spells t ∙ sym spelled) (in-spelling (unit_parts t) way name i))
 
@@ -72,7 +72,7 @@ parts-sited [] s named h = tt
 parts-sited (p ∷ parts) s named h = (site-sited p parts s named h.0, parts-sited parts (scene_after (item_of p) s) (λ way name i. named way name (inr i)) h.1)
 
 -- so the sites of a unit are as they have to be
-tree-sited : (tokens : List Token) (t : Tree) → lexemes tokens ≡ spell t → is_plain t ≡ true → AreSited (items (unit_parts t)) scene
+pub tree-sited : (tokens : List Token) (t : Tree) → lexemes tokens ≡ spell t → is_plain t ≡ true → AreSited (items (unit_parts t)) scene
 tree-sited tokens t spelled plain = parts-sited (unit_parts t) scene (declared-named tokens t spelled) ((unit-whole t).placed plain)
 
 rest-append : (xs : List ScopedName) (is_local : Bool) (last : Parts) → AreRest (items last)
@@ -80,7 +80,7 @@ rest-append : (xs : List ScopedName) (is_local : Bool) (last : Parts) → AreRes
 rest-append [] is_local last h = h
 rest-append (x ∷ xs) is_local last h = rest-append xs is_local last h
 
-bases-rest : (is_local : Bool) (o : Option (Several ScopedName)) → AreRest (items (if_some (bases_parts is_local) o ++ punctuation mark.OpenBrace ∷ []))
+pub bases-rest : (is_local : Bool) (o : Option (Several ScopedName)) → AreRest (items (if_some (bases_parts is_local) o ++ punctuation mark.OpenBrace ∷ []))
 bases-rest is_local None = tt
 bases-rest is_local (Some ns) = rest-append ns.rest is_local (punctuation mark.OpenBrace ∷ []) tt
 

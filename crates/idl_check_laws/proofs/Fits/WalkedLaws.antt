@@ -1,7 +1,7 @@
 -- What a walk over such a unit comes to fits the facts before it.
 use Rattle.std.proofs.Common.{◌≡◌, ◌⊎◌, ◌∙◌, ℕ, zero, suc, ◌-◌, ◌≤◌, Bool, true, false, cond, List, [], ◌∷◌, ◌++◌, length, Option, Some, None, Result, Ok, Err, refl, sym, ap, subst, arith, inl, inr}
 use Rattle.std.proofs.lemmas.Bool.{not-false}
-use Rattle.std.specs.Prelude.{◌≢◌, ◌&&◌, drop, take, All, fold}
+use Rattle.std.specs.Prelude.{◌≢◌, ◌&&◌, drop, All, fold}
 use Rattle.idl_check.proofs.UseLemmas.{DeclareNone, uses-none}
 use Rattle.idl_scope.specs.declared.found.Reach.{Reach}
 use Rattle.idl_check_laws.proofs.Fits.ClosingLaws.{IsFitting, IsSettled, StepFits}
@@ -11,7 +11,7 @@ use Rattle.idl_check_laws.proofs.StandingLaws.{IsDeclared, denoted-declared}
 use Rattle.idl_check_laws.proofs.Fits.TurnedLaws.{joined-out}
 use Rattle.idl_check.proofs.Visits.VisitLemmas.{turns-here}
 use Rattle.idl_check_laws.proofs.Fits.ReachedLaws.{IsClosed, IsClosedAt, Names, Place, only, own, there}
-use Rattle.idl_check_laws.proofs.Fits.SettledLaws.{IsNamed, IsOpen, IsPlace, added-kept, closed-before, over}
+use Rattle.idl_check_laws.proofs.Fits.SettledLaws.{IsNamed, IsNameless, IsOpen, IsPlace, added-kept, closed-before, over}
 use Rattle.idl_check.proofs.PartLemmas.{IsUpTo}
 use Rattle.idl_check.proofs.Visits.SiteLaws.{declared_by, denoted-up, end_visit, union_visit, used_by, visited, spoken_by}
 use Rattle.idl_check.proofs.Faults.VisitFaults.{visit_faults}
@@ -119,6 +119,7 @@ module _ (facts : List UnitFacts) (k : IsSettled (world facts)) (turns : ℕ) (e
         place = subst (λ p. IsPlace (over additions names) (scope_of p)) to_z a.place;
         inner = subst (λ p. length (path_around around) ≤ length (scope_of p)) to_z a.inner;
         level = λ h. ap scope_of (sym to_z) ∙ a.level (operation ∙ h);
+        beside = λ less. ap scope_of (sym to_z) ∙ a.beside (subst (λ p. IsNameless (scope_of p)) (sym to_z) less);
         apart = λ scope f y at at_path interface t op. a.apart (ap scope_of to_z ∙ scope) f y at at_path interface (subst (λ p. Through (only names) (folded (name_of p)) (bases_of (Some f)) y) (sym to_z) t) op;
         replaces =
             λ y h ahead. let stands : there (over additions names) x.path ≡ Some x = ap (λ o. entity_in (elim o as (λ _. Option Answer) [ None ↦ names (folded (name_of x.path)) (scope_of x.path) | Some b ↦ Some (answer_of b) ])) m.1.1 in
@@ -338,12 +339,12 @@ module _ (facts : List UnitFacts) (k : IsSettled (world facts)) (turns : ℕ) (e
 
   cursor-least : (added : List Addition) (n : ℕ) (t : Scope) (rest : List Scope) → IsCursor facts k turns enough added n (t ∷ rest) → length (path_around around) ≤ length t.path
   cursor-least added zero t rest h = let same : length t.path ≡ length (path_around around) = ap (λ ss. length (path_around ss)) h in omega (arith, same)
-  cursor-least added (suc n) t rest h = let l = h.1.0 in omega (arith, l)
+  cursor-least added (suc n) t rest h = let l = h.1.0.deeper in omega (arith, l)
 
   cursor-ends : (added : List Addition) (n : ℕ) (cursor : List Scope) → 1 ≤ n → IsCursor facts k turns enough added n cursor → IsCursor facts k turns enough added (n - 1) (drop 1 cursor)
   cursor-ends added zero cursor some h = absurd (let none : ⊥ = omega (arith, some) in none)
   cursor-ends added (suc n) [] some h = absurd h
-  cursor-ends added (suc n) (t ∷ cursor) some h = let same : n ≡ suc n - 1 = omega arith in subst (λ m. IsCursor facts k turns enough added m cursor) same h.1.1
+  cursor-ends added (suc n) (t ∷ cursor) some h = let same : n ≡ suc n - 1 = omega arith in subst (λ m. IsCursor facts k turns enough added m cursor) same h.1.1.1
 
   begins : (way : Declaration) (name : List ℕ) (w : Walk) (s : Scene) → At w s → s.last ≡ Some name → (cursor : List Scope) → w.cursor ≡ cursor
       → At (record w { cursor = with_scope way name cursor; bodies = begun_body w.last w.written.data_type ∷ w.bodies }) (scene_after (item.ScopeBegins way name) s)
@@ -376,7 +377,7 @@ module _ (facts : List UnitFacts) (k : IsSettled (world facts)) (turns : ℕ) (e
           let stands : there (over w.own names) x.path ≡ Some x = ap (λ o. entity_in (elim o as (λ _. Option Answer) [ None ↦ names (folded (name_of x.path)) (scope_of x.path) | Some b ↦ Some (answer_of b) ])) m.1.1 in
           let cursor_t = subst (IsCursor facts k turns enough w.own s.level) at h.cursor in
           let least = cursor-least w.own s.level t rest cursor_t in
-          (inr (inr (x, ap (there (over w.own names)) (sym path) ∙ stands, path, other)), (omega (arith, least), cursor_t))
+          (inr (inr (x, ap (there (over w.own names)) (sym path) ∙ stands, path, other)), (record { deeper = omega (arith, least); entity = r.0; mine = m; path_is = r.2 }, ((name, refl), cursor_t)))
 
   told-of : (clauses : Clauses) (bodies : List Body) (own : List Addition) → ((b : Body) → IsIn b bodies → (e : Entity) → b.entity ≡ Some e → Mine own e × (e.kind ≢ kind.Interface)) → (x : Entity) → IsIn x (told_innermost clauses bodies) → Mine own x
   told-of clauses [] own all x i = absurd i

@@ -1,5 +1,5 @@
 -- A walk over the sites of a unit that is no module and declares nothing ahead: what it adds fits the facts before it.
-use Rattle.std.proofs.Common.{◌≡◌, ◌∙◌, ℕ, zero, suc, ◌≤◌, ◌<◌, Bool, true, false, cond, List, [], ◌∷◌, length, Option, Some, None, refl, sym, ap, subst, arith}
+use Rattle.std.proofs.Common.{◌≡◌, ◌∙◌, ℕ, zero, suc, ◌≤◌, ◌<◌, Bool, true, false, cond, List, [], ◌∷◌, length, Option, Some, None, refl, sym, ap, subst, arith, inl, inr}
 use Rattle.std.proofs.lemmas.Bool.{and_parts, not-false}
 use Rattle.std.specs.List.{list_any}
 use Rattle.std.specs.Prelude.{◌≢◌, ◌&&◌, ◌||◌, is_some}
@@ -8,7 +8,7 @@ use Rattle.idl_check_laws.proofs.Fits.GrowingLaws.{Grows, IsGrown, IsMine, IsNew
 use Rattle.idl_check_laws.proofs.Fits.InheritedLaws.{standing-inherited}
 use Rattle.idl_check_laws.proofs.Nests.Scenes.{Scene, is_operation_way, is_other, scene_after}
 use Rattle.idl_check_laws.proofs.Fits.ReachedLaws.{IsClosedAt, Names, Place, names_in, only, own, there, through-on, through-only}
-use Rattle.idl_check_laws.proofs.Fits.SettledLaws.{Added, AreOpened, IsFound, IsOpen, IsOpened, IsPlace, Stood, Was, closed-keeps, is_nameless, over, scope-stays, stood, there-stays}
+use Rattle.idl_check_laws.proofs.Fits.SettledLaws.{Added, AreOpened, IsDefined, IsFound, IsNamed, IsNameless, IsOpen, IsOpened, IsPlace, IsScope, IsUnder, Stood, Was, closed-keeps, is_nameless, named-global, named-nameless, over, scope-stays, stood, there-stays}
 use Rattle.idl_check.proofs.Faults.TableLaws.{no-codes, no-row}
 use Rattle.idl_check.specs.told.Bodies.{Body}
 use Rattle.idl_check.specs.tables.Codes.{codes_in, faults_by}
@@ -159,11 +159,43 @@ module _ (facts : List UnitFacts) (k : IsSettled (world facts)) (turns : ℕ) (e
   abbrev pub scopes : List Scope
   scopes = scopes_in (answers facts Cursor)
 
+  -- a scope has begun that is deeper than the unit, behind a name of the unit's own
+  pub record IsBegun (own : List Addition) (path : Place) : Type 0 where
+    pub deeper : length (path_around scopes) < length path
+    pub entity : Entity
+    pub mine : IsMine D scopes own entity
+    pub path_is : entity.path ≡ path
+
+  -- it has a name, and nothing was declared in it
+  pub begun-named : (own : List Addition) → IsGrown D scopes own → (path : Place) → IsBegun own path → IsNamed path
+  begun-named own g path b = let x = b.mine.1 in subst IsNamed (x.2 ∙ b.path_is) (g.added x.0 x.1).named
+
+  pub begun-none : (own_ : List Addition) → IsGrown D scopes own_ → (path : Place) → IsBegun own_ path → (n : List ℕ) → own D n path ≡ None
+  begun-none own_ g path b n = by_own (own D n path) refl
+    where
+      x : Entity
+      x = b.mine.1.0
+
+      fresh : (y : Entity) → there D path ≡ Some y → y.stage ≡ Ahead
+      fresh y h = ((g.added x b.mine.1.1).fresh y (ap (there D) (b.mine.1.2 ∙ b.path_is) ∙ h)).0
+
+      named : IsNamed path
+      named = begun-named own_ g path b
+
+      no : IsScope IsDefined D path → ⊥
+      no (inl global) = named-global path named global
+      no (inr (inl less)) = named-nameless path named less
+      no (inr (inr y)) = y.3 (fresh y.0 y.1)
+
+      by_own : (o : Option Entity) → own D n path ≡ o → o ≡ None
+      by_own None h = refl
+      by_own (Some y) h = absurd (no (k.placed n path y h))
+
   -- so many scopes have begun, in which names may be declared
   abbrev pub IsCursor : List Addition → ℕ → List Scope → Type 0
   IsCursor own zero cursor = cursor ≡ scopes
   IsCursor own (suc n) [] = ⊥
-  IsCursor own (suc n) (t ∷ cursor) = IsPlace (over own D) t.path × ((length (path_around scopes) < length t.path) × IsCursor own n cursor)
+  IsCursor own (suc n) (t ∷ cursor) = IsPlace (over own D) t.path × (IsBegun own t.path × (IsUnder t cursor × IsCursor own n cursor))
 
   -- where a walk stands in a scene
   pub record Walks (w : Walk) (s : Scene) : Type 0 where
@@ -178,7 +210,9 @@ module _ (facts : List UnitFacts) (k : IsSettled (world facts)) (turns : ℕ) (e
   pub cursor-on : (xs ys : List Addition) → Grows D scopes xs ys → (n : ℕ) (cursor : List Scope) → IsCursor xs n cursor → IsCursor ys n cursor
   cursor-on xs ys g zero cursor h = h
   cursor-on xs ys g (suc n) [] h = h
-  cursor-on xs ys g (suc n) (t ∷ cursor) h = (g.places t.path h.0, (h.1.0, cursor-on xs ys g n cursor h.1.1))
+  cursor-on xs ys g (suc n) (t ∷ cursor) h =
+      let b = h.1.0 in
+      (g.places t.path h.0, (record { deeper = b.deeper; entity = b.entity; mine = g.mine b.entity b.mine; path_is = b.path_is }, (h.1.1.0, cursor-on xs ys g n cursor h.1.1.1)))
 
   -- the innermost of the scopes around a unit
   around-opened : (ss : List Scope) (os : List (List Place)) → AreOpened D ss os → (s : Scope) (rest : List Scope) → ss ≡ s ∷ rest → (paths : List Place) × IsOpened D s paths
@@ -189,7 +223,7 @@ module _ (facts : List UnitFacts) (k : IsSettled (world facts)) (turns : ℕ) (e
   -- the scope in which a name is declared: the innermost around the unit, or one that has begun
   pub data Stands (own : List Addition) (level : ℕ) (s : Scope) : Type 0 where
     Around : level ≡ 0 → s.path ≡ path_around scopes → (paths : List Place) → IsOpened D s paths → Stands own level s
-    Begun-in : IsPlace (over own D) s.path → length (path_around scopes) < length s.path → (level ≡ 0 → ⊥) → Stands own level s
+    Begun-in : IsPlace (over own D) s.path → IsBegun own s.path → (level ≡ 0 → ⊥) → Stands own level s
 
   stands : (own : List Addition) (level : ℕ) (s : Scope) (rest cursor : List Scope) → cursor ≡ s ∷ rest → IsCursor own level cursor → Stands own level s
   stands own zero s rest cursor is h =
@@ -199,7 +233,7 @@ module _ (facts : List UnitFacts) (k : IsSettled (world facts)) (turns : ℕ) (e
   stands own (suc n) s rest [] is h = cc
   stands own (suc n) s rest (t ∷ cursor) is h =
       let same : t ≡ s = cc in
-      Begun-in (subst (λ (u : Scope). IsPlace (over own D) u.path) same h.0) (subst (λ (u : Scope). length (path_around scopes) < length u.path) same h.1.0) (λ z. cc)
+      Begun-in (subst (λ (u : Scope). IsPlace (over own D) u.path) same h.0) (subst (λ (u : Scope). IsBegun own u.path) same h.1.0) (λ z. cc)
 
   module _ (w : Walk) (scene : Scene) (walks : Walks w scene) (s : Scope) (rest : List Scope) (is : w.cursor ≡ s ∷ rest) (way : Declaration) (name : List ℕ) where
     abbrev pub e : Entity
@@ -222,15 +256,22 @@ module _ (facts : List UnitFacts) (k : IsSettled (world facts)) (turns : ℕ) (e
 
     pub place-here : Stands w.own scene.level s → IsPlace B s.path
     place-here (Around level path paths o) = settled_place s.path o.place
-    place-here (Begun-in place longer level) = place
+    place-here (Begun-in place begun level) = place
 
     pub inner-here : Stands w.own scene.level s → length (path_around scopes) ≤ length s.path
     inner-here (Around level path paths o) = let same = ap length path in omega (arith, same)
-    inner-here (Begun-in place longer level) = omega (arith, longer)
+    inner-here (Begun-in place begun level) = let longer = begun.deeper in omega (arith, longer)
+
+    pub beside-here : Stands w.own scene.level s → IsNameless s.path → s.path ≡ path_around scopes
+    beside-here (Around level path paths o) less = path
+    beside-here (Begun-in place begun level) less = absurd (named-nameless s.path (begun-named w.own walks.grown s.path begun) less)
 
     pub apart-here : brings_operation s st ≡ false → Stands w.own scene.level s → s.path ≡ path_around scopes → (f y : Entity) → there D (path_around scopes) ≡ Some f → f.path ≡ path_around scopes → f.kind ≡ kind.Interface
         → Through (only D) (folded name) (bases_of (Some f)) y → is_operation y ≡ true → ⊥
-    apart-here inherited_no (Begun-in place longer level) path f y at at_path interface t operation = let same = ap length path in let none : ⊥ = omega (arith, longer, same) in none
+    apart-here inherited_no (Begun-in place begun level) path f y at at_path interface t operation =
+        let same = ap length path in
+        let longer = begun.deeper in
+        let none : ⊥ = omega (arith, longer, same) in none
     apart-here inherited_no (Around level path paths o) same f y at at_path interface t operation =
         let there_f : there D s.path ≡ Some f = ap (there D) path ∙ at in
         let held = o.held f there_f (at_path ∙ sym path) interface in
@@ -260,7 +301,7 @@ module _ (facts : List UnitFacts) (k : IsSettled (world facts)) (turns : ℕ) (e
 
       level-here : Stands w.own scene.level s → is_operation e ≡ true → s.path ≡ path_around scopes
       level-here (Around level path paths o) operation = path
-      level-here (Begun-in place longer level) operation = absurd (level (sited.1.1 (fresh.operation operation)))
+      level-here (Begun-in place begun level) operation = absurd (level (sited.1.1 (fresh.operation operation)))
 
       -- so it is new
       is-new : IsNew D scopes B e
@@ -271,6 +312,7 @@ module _ (facts : List UnitFacts) (k : IsSettled (world facts)) (turns : ℕ) (e
         place = place-here at_scope;
         inner = inner-here at_scope;
         level = level-here at_scope;
+        beside = beside-here at_scope;
         apart = apart-here ok.inherited at_scope;
         replaces = λ y h ahead. absurd (ahead (follows y h).0);
       }

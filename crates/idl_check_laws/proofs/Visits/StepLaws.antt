@@ -1,6 +1,6 @@
 -- A faulty unit does to the open scopes what it would do without fault, but for the name.
 use Rattle.std.proofs.Common.{◌≡◌, ◌∙◌, ◌+◌, ℕ, Bool, true, false, cond, List, [], ◌∷◌, ◌++◌, map, Option, None, Some, refl, sym, ap, append_assoc}
-use Rattle.idl_check.specs.walk.Placing.{brace_by, brace_from, faulty_step, heading_kind, is_closing_by, is_module, step_of}
+use Rattle.idl_check.specs.walk.Placing.{faulty_step, heading_kind, is_module, step_of}
 use Rattle.std.specs.Prelude.{is_some}
 use Rattle.idl_check.specs.walk.Judging.{without_name}
 use Rattle.idl_lex.specs.kinds.Kind.{kind_of, name_of}
@@ -30,6 +30,7 @@ use Rattle.idl_tree.specs.declared.unit.Tree.TheVariants as tree
 use Rattle.idl_tree.proofs.ReadAgain.ConstructionAgain.{construction_is_again}
 use Rattle.idl_tree.proofs.ReadAgain.TypeAgain.{is_type_start, type_is_again}
 use Rattle.idl_unit.specs.Ending.{begins, is_interface, opens, role, role_of, rule_by, rule_of}
+use Rattle.idl_unit.specs.Scoping.{brace_by, brace_from, is_closing_by}
 use Rattle.idl_unit.specs.declared.role.Role.{Role}
 use Rattle.idl_unit.specs.declared.role.Role.TheVariants as roles
 use Rattle.idl_unit.specs.declared.role.Rule.{Rule}

@@ -93,7 +93,7 @@ first_counts other = omega arith
 count-after_all : (facts : List UnitFacts) (k : Key) → count_in ((after_all first_world facts).answers k) ≤ length facts
 count-after_all facts k = let at = AtMost-after_all facts first_world 0 first_counts k in omega arith
 
-world-is : (facts : List UnitFacts) → world facts ≡ after_all first_world facts
+pub world-is : (facts : List UnitFacts) → world facts ≡ after_all first_world facts
 unfolding world
 world-is facts = refl
 
@@ -101,7 +101,7 @@ world-is facts = refl
 pub count-world : (facts : List UnitFacts) (k : Key) → count_in ((world facts).answers k) ≤ length facts
 count-world facts k = rw (world-is facts) (count-after_all facts k)
 
-after_all-push : (facts : List UnitFacts) (f : UnitFacts) (w : World) → after_all w (facts ++ f ∷ []) ≡ after (after_all w facts) f
+pub after_all-push : (facts : List UnitFacts) (f : UnitFacts) (w : World) → after_all w (facts ++ f ∷ []) ≡ after (after_all w facts) f
 after_all-push [] f w = refl
 after_all-push (g ∷ facts) f w = after_all-push facts f (after w g)
 

@@ -7,12 +7,11 @@ use Rattle.idl_env.specs.Held.{IsAmongOthers}
 use Rattle.idl_env.specs.keys.Key.{key_digest, key_eq}
 use Rattle.idl_env.specs.declared.additions.addition.Addition.{Addition}
 use Rattle.idl_env.specs.declared.additions.addition.Addition.TheVariants.{Declares}
-use Rattle.idl_env.specs.declared.answering.answer.Answer.{Answer}
 use Rattle.idl_env.specs.declared.keys.key.Key.{Key}
 use Rattle.idl_env.specs.declared.keys.key.Key.TheVariants.{Cursor, Prefix, Typeprefix}
 
 -- those of the two are asked at no other key
-pub lookup-others : (k : Key) (cursor prefix : Answer) (others : List (Key × Answer)) → IsAmongOthers k → lookup (key_eq k) ((Cursor, cursor) ∷ (Prefix, prefix) ∷ others) ≡ lookup (key_eq k) others
+pub lookup-others : {A : Type 0} (k : Key) (cursor prefix : A) (others : List (Key × A)) → IsAmongOthers k → lookup (key_eq k) ((Cursor, cursor) ∷ (Prefix, prefix) ∷ others) ≡ lookup (key_eq k) others
 lookup-others Cursor cursor prefix others h = absurd h
 lookup-others Prefix cursor prefix others h = absurd h
 lookup-others other cursor prefix others h = refl
@@ -30,7 +29,7 @@ among_others-digest Prefix h = omega (h, arith)
 among_others-digest other h = tt
 
 -- where an answer is put in at no key of a typeprefix, there are as few as before
-pub no-typeprefixes : {A E : Type 0} (r : Result A E) (key : Key) (answer : Answer) (old new : List (Key × Answer))
+pub no-typeprefixes : {A E X : Type 0} (r : Result A E) (key : Key) (answer : X) (old new : List (Key × X))
     → OnOk r ((k : Key) → lookup (key_eq k) new ≡ (if key_eq k key then Some answer else lookup (key_eq k) old))
     → OnErr r ((k : Key) → lookup (key_eq k) new ≡ lookup (key_eq k) old)
     → (path : List (List ℕ)) → key_eq (Typeprefix path) key ≡ false

@@ -1,12 +1,15 @@
 -- What answers that are kept come to.
 use Rattle.std.proofs.Common.{◌≡◌, ℕ, ◌<◌, ◌+◌, ◌-◌, Bool, true, false, cond, List, [], ◌∷◌, ◌++◌, Option, Some, None, MatchOption, drop, take, reverse, refl, sym, ap, ◌∙◌, arith}
 use Rattle.std.specs.Map.{lookup}
+use Rattle.std.specs.Prelude.{◌||◌}
 use Rattle.std.specs.Option.{option_to_list}
 use Rattle.std.proofs.lemmas.Option.{same_Some}
 use Rattle.std.proofs.lemmas.List.{append-nil, reverse-append}
 use Rattle.idl_entity.specs.Entity.{is_operation}
 use Rattle.idl_env.specs.Facts.{World, addition_at, after_closing, after_opening, answer_of, closed, closing, count_in, entity_in, entity_key, first_answer, given_back, global_scope, more_inside, operations_among, over, prefix_in, scopes_in, with_answer, with_prefix}
 use Rattle.idl_env.specs.Held.{closable, held}
+use Rattle.idl_env.specs.Stamps.{Kept, Stamps, stamped, stamped_in}
+use Rattle.idl_env.specs.Written.{closes_at, is_added}
 use Rattle.idl_entity.specs.Identity.{no_prefix}
 use Rattle.idl_env.specs.keys.Key.{key_eq}
 use Rattle.idl_entity.specs.Kind.{kind_eq}
@@ -21,9 +24,9 @@ use Rattle.idl_env.specs.declared.keys.key.Key.{Key}
 use Rattle.idl_env.specs.declared.keys.key.Key.TheVariants.{Cursor, Opened, Prefix as PrefixKey}
 use Rattle.idl_env.specs.declared.answering.state.State.{State}
 
--- the answers of a table
-abbrev pub kept : List (Key × Answer) → Key → Option Answer
-kept entries k = lookup (key_eq k) entries
+-- what is answered by what is kept
+abbrev pub kept : Kept → Key → Option Answer
+kept answers = (stamped_in answers).at
 
 -- scopes that are open, the innermost first, with one more, and which is the innermost of them
 pub reverse-push : {A : Type 0} (outer : List A) (own : A) → reverse (outer ++ own ∷ []) ≡ own ∷ reverse outer
@@ -85,7 +88,7 @@ count-over additions k before n h = by (addition_at additions k)
     by (Some (TypePrefixes path text)) = none
 
 -- at first
-pub first-answers : (k : Key) → kept ((Cursor, Open (global_scope ∷ [])) ∷ (PrefixKey, InForce no_prefix) ∷ []) k ≡ first_answer k
+pub first-answers : (k : Key) → lookup (key_eq k) ((Cursor, Open (global_scope ∷ [])) ∷ (PrefixKey, InForce no_prefix) ∷ []) ≡ first_answer k
 first-answers Cursor = refl
 first-answers other = refl
 
@@ -111,3 +114,18 @@ after_closing-some w (x ∷ t ∷ more) s outer h =
       inside = drop 1 w.inside;
       before = record w.before { opened = drop 1 w.before.opened };
     }
+
+-- where it closes, at these keys
+pub closes_at-some : (w : World) (scopes : List Scope) (s : Scope) (outer : List Scope) → closable scopes ≡ Some (s, outer) → (stamps : Stamps)
+    → stamped (closes_at w scopes) stamps ≡ stamped (λ k. key_eq k PrefixKey || (key_eq k Cursor || is_added (closing w s) k)) stamps
+closes_at-some w [] s outer h stamps = cc
+closes_at-some w (x ∷ []) s outer h stamps = cc
+closes_at-some w (x ∷ t ∷ more) s outer h stamps =
+    let same : (x, t ∷ more) ≡ (s, outer) = same_Some (x, t ∷ more) (s, outer) h in
+    λ i. stamped (λ k. key_eq k PrefixKey || (key_eq k Cursor || is_added (closing w (same i).0) k)) stamps
+
+-- and where none does, at none
+pub closes_at-none : (w : World) (scopes : List Scope) → closable scopes ≡ None → (stamps : Stamps) → stamped (closes_at w scopes) stamps ≡ stamps
+closes_at-none w [] h stamps = refl
+closes_at-none w (x ∷ []) h stamps = refl
+closes_at-none w (x ∷ t ∷ more) h stamps = cc

@@ -3,11 +3,11 @@
 ghost use Rattle.std.specs.Prelude.{◌≡◌, ◌++◌, ◌∷◌, [], IfOk, IfSome, IsFalse, None, OnOk, flat_map, is_some, map};
 ghost use Rattle.std.specs.List.{list_any};
 ghost use Rattle.std.specs.Cmp.Lexicographic.{pointwise};
-ghost use Rattle.std.specs.Map.{lookup};
 ghost use Rattle.idl_entity.specs.Path.{path_eq};
 ghost use Rattle.idl_env.specs.Differing.{unless_of};
 ghost use Rattle.idl_env.specs.Facts.{entity_in, is_stopped, stops_of, unstopped};
-ghost use Rattle.idl_env.specs.keys.Key.{key_digest, key_eq};
+ghost use Rattle.idl_env.specs.Stamps.{stamped_in};
+ghost use Rattle.idl_env.specs.keys.Key.{key_digest};
 ghost use Rattle.idl_env.specs.declared.keys.key.Key.TheVariants.{Declared};
 
 use crate::additions::addition::Addition;
@@ -66,7 +66,7 @@ impl Addition {
     // Whether it is a use that is stopped over these answers.
     fn is_stopped(&self, alloc: Global, answers: &Answers) -> Result<bool, AllocError>
         ensures { IfOk result (λ stopped.
-            stopped ≡ is_stopped (λ k. lookup (key_eq k) answers.now) self.now) }
+            stopped ≡ is_stopped (stamped_in answers.now).at self.now) }
     {
         match self.further() {
             Some((name, further)) => {
@@ -97,7 +97,7 @@ fn declared_in_any(
 ) -> Result<bool, AllocError>
     ensures { IfOk result (λ declared.
         declared
-        ≡ list_any (λ k. is_some (entity_in (lookup (key_eq k) answers.now)))
+        ≡ list_any (λ k. is_some (entity_in ((stamped_in answers.now).at k)))
         (map (λ p. Declared name.now p) paths.now)) }
 {
     for path in paths {
@@ -130,7 +130,7 @@ fn put_unless_stopped(
 ) -> Result<(), AllocError>
     ensures { OnOk result
         (left.new.items
-        ≡ left.old.items ++ unstopped (λ k. lookup (key_eq k) answers.now) (addition.now ∷ [])) }
+        ≡ left.old.items ++ unstopped (stamped_in answers.now).at (addition.now ∷ [])) }
 {
     if addition.is_stopped(alloc, answers)? {
         return Ok(());
@@ -162,7 +162,7 @@ impl Facts {
         answers: &Answers,
     ) -> Result<Vec<DigestedAddition>, AllocError>
         ensures { IfOk result (λ left.
-            left.items ≡ unstopped (λ k. lookup (key_eq k) answers.now) self.now.additions) }
+            left.items ≡ unstopped (stamped_in answers.now).at self.now.additions) }
     {
         let mut left = Vec::new(alloc);
         for index in 0..self.len() {
@@ -175,7 +175,7 @@ impl Facts {
     }
 
     /// Puts the digests of the keys last at which it is told whether uses are stopped.
-    pub(crate) fn stops_into(&self, digests: &mut Vec<u64>) -> Result<(), AllocError>
+    pub fn stops_into(&self, digests: &mut Vec<u64>) -> Result<(), AllocError>
         ensures { OnOk result
             (digests.new.items
             ≡ digests.old.items ++ map key_digest (flat_map stops_of self.now.additions)) }

@@ -3,10 +3,10 @@
 
 ghost use Rattle.std.specs.Prelude.{◌≡◌, ◌∷◌, ◌++◌, ◌||◌, ℕ, List, [], IfOk, OnOk, drop, reverse, true};
 ghost use Rattle.idl_env.specs.Facts.{entity_in, entity_key, gathered, inherited, innermost, joined, more_inside, operations_among, operations_of};
-ghost use Rattle.idl_env.specs.keys.Key.{key_eq};
+ghost use Rattle.idl_env.specs.Stamps.{stamped_in};
 ghost use Rattle.idl_entity.specs.Path.{path_eq};
 ghost use Rattle.std.specs.List.{list_any};
-ghost use Rattle.std.specs.Map.{keys_of, lookup};
+ghost use Rattle.std.specs.Map.{keys_of};
 
 use crate::additions::addition::Addition;
 use crate::additions::facts::Facts;
@@ -27,7 +27,7 @@ pub fn inherited(
     bases: &[Path],
 ) -> Result<SharedList<Path>, AllocError>
     ensures { IfOk result (λ paths.
-        paths ≡ inherited (λ k. lookup (key_eq k) answers.now) bases.now) }
+        paths ≡ inherited (stamped_in answers.now).at bases.now) }
 {
     match bases {
         [] => Ok(SharedList::new()),
@@ -55,7 +55,7 @@ fn gathered(
     bases: &[Path],
 ) -> Result<SharedList<Path>, AllocError>
     ensures { IfOk result (λ paths.
-        paths ≡ gathered (λ k. lookup (key_eq k) answers.now) found bases.now) }
+        paths ≡ gathered (stamped_in answers.now).at found bases.now) }
 {
     let mut found = found;
     let mut there = Table::new(alloc);
@@ -131,7 +131,7 @@ fn operations_at(
     path: &Path,
 ) -> Result<SharedList<Path>, AllocError>
     ensures { IfOk result (λ paths.
-        paths ≡ operations_of (entity_in (lookup (key_eq (entity_key path.now)) answers.now))) }
+        paths ≡ operations_of (entity_in ((stamped_in answers.now).at (entity_key path.now)))) }
 {
     let key = LentKey::of_entity(alloc, path);
     match entity_in(answers.get_lent(&key)?) {

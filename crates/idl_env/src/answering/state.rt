@@ -1,17 +1,17 @@
 //! What the facts so far come to.
 
-ghost use Rattle.std.specs.Prelude.{◌≡◌, ◌<◌, ◌∷◌, ◌++◌, [], IfOk, drop, map, OnOk, option_to_list, reverse};
+ghost use Rattle.std.specs.Prelude.{◌≡◌, ◌<◌, ◌++◌, [], IfOk, drop, map, OnOk, option_to_list, reverse};
 ghost use Rattle.std.specs.Option.{option_map};
-ghost use Rattle.idl_env.specs.Facts.{after, after_step, closed, closing, first_world, given_back, inherited, innermost, nameless, next_body, path_around, prefix_in, with_additions, count_in, entity_in, scopes_in, over, unstopped};
+ghost use Rattle.idl_env.specs.Facts.{after, after_step, closed, closing, first_world, given_back, inherited, innermost, nameless, next_body, path_around, prefix_in, with_additions, count_in, entity_in, scopes_in, unstopped};
 ghost use Rattle.idl_env.specs.Held.{closable, held};
-ghost use Rattle.idl_env.specs.keys.Key.{key_eq};
 ghost use Rattle.idl_env.specs.declared.additions.addition.Addition.TheVariants.{Declares};
 ghost use Rattle.idl_env.specs.declared.additions.addition.Step.TheVariants.{Closes, Enters, Leaves, Opens, OpensNameless, Prefixes};
 ghost use Rattle.idl_env.specs.declared.answering.answer.Answer.TheVariants as answers;
 ghost use Rattle.idl_env.specs.declared.keys.key.Key.{Key};
 ghost use Rattle.idl_env.specs.declared.keys.key.Key.TheVariants.{Cursor, Opened, Prefix as PrefixKey};
 ghost use Rattle.idl_entity.specs.declared.kind.Stage.TheVariants as stages;
-ghost use Rattle.std.specs.Map.{lookup};
+ghost use Rattle.idl_env.specs.Stamps.{stamped, stamped_in, stamped_over, stamps_of, with_one_more};
+ghost use Rattle.idl_env.specs.Written.{adds_at, steps_at, writes_at};
 
 use crate::additions::addition::{Addition, Step};
 use crate::additions::digested_addition::DigestedAddition;
@@ -53,7 +53,8 @@ impl Drop for State {
 impl State {
     /// The global scope is open, and nothing is declared.
     pub fn new(alloc: Global) -> Result<State, AllocError>
-        ensures { IfOk result (λ state. held state ≡ first_world) }
+        ensures world { IfOk result (λ state. held state ≡ first_world) }
+        ensures stamps { IfOk result (λ state. (stamped_in state.answers).stamps ≡ stamps_of []) }
     {
         let scopes = Shared::new(alloc, OpenScopes::none().with(alloc, Scope::global())?)?;
         let prefix = Answer::InForce(Prefix::none(alloc)?);
@@ -70,19 +71,30 @@ impl State {
 
     /// What it comes to with what a unit adds.
     pub fn add(&mut self, alloc: Global, facts: &Facts) -> Result<(), AllocError>
-        requires { (key : Key) → count_in (lookup (key_eq key) self.old.answers) < 18446744073709551615 }
-        ensures { OnOk result
+        requires counts { (key : Key) → count_in ((stamped_in self.old.answers).at key) < 18446744073709551615 }
+        requires facts { (stamped_in self.old.answers).stamps.count < 18446744073709551615 }
+        ensures world { OnOk result
             (held self.new ≡ after (held self.old) facts.now) }
+        ensures stamps { OnOk result
+            ((stamped_in self.new.answers).stamps
+            ≡ stamped (writes_at (held self.old) facts.now) (with_one_more (stamped_in self.old.answers).stamps)) }
     {
+        self.answers.count_one();
         self.add_all(alloc, facts)?;
         self.take(alloc, facts.step())
     }
 
     /// The same with facts whose additions are taken out of them.
     pub fn add_own(&mut self, alloc: Global, facts: &mut Facts) -> Result<(), AllocError>
-        requires { (key : Key) → count_in (lookup (key_eq key) self.old.answers) < 18446744073709551615 }
-        ensures { OnOk result (held self.new ≡ after (held self.old) facts.old) }
+        requires counts { (key : Key) → count_in ((stamped_in self.old.answers).at key) < 18446744073709551615 }
+        requires facts { (stamped_in self.old.answers).stamps.count < 18446744073709551615 }
+        ensures world { OnOk result
+            (held self.new ≡ after (held self.old) facts.old) }
+        ensures stamps { OnOk result
+            ((stamped_in self.new.answers).stamps
+            ≡ stamped (writes_at (held self.old) facts.old) (with_one_more (stamped_in self.old.answers).stamps)) }
     {
+        self.answers.count_one();
         add_inside(&mut self.inside, facts)?;
         put_own(alloc, &mut self.answers, facts)?;
         self.take(alloc, facts.step())
@@ -90,9 +102,12 @@ impl State {
 
     // What it comes to with a change of the open scopes.
     fn take(&mut self, alloc: Global, step: &Step) -> Result<(), AllocError>
-        requires { (key : Key) → count_in (lookup (key_eq key) self.old.answers) < 18446744073709551615 }
-        ensures { OnOk result
+        requires { (key : Key) → count_in ((stamped_in self.old.answers).at key) < 18446744073709551615 }
+        ensures world { OnOk result
             (held self.new ≡ after_step (held self.old) step.now) }
+        ensures stamps { OnOk result
+            ((stamped_in self.new.answers).stamps
+            ≡ stamped (steps_at (held self.old) step.now) (stamped_in self.old.answers).stamps) }
     {
         match step {
             Step::Stays => Ok(()),
@@ -107,8 +122,11 @@ impl State {
 
     // What it comes to with the additions.
     fn add_all(&mut self, alloc: Global, facts: &Facts) -> Result<(), AllocError>
-        ensures { OnOk result
+        ensures world { OnOk result
             (held self.new ≡ with_additions facts.now.additions (held self.old)) }
+        ensures stamps { OnOk result
+            ((stamped_in self.new.answers).stamps
+            ≡ stamped (adds_at (held self.old) facts.now) (stamped_in self.old.answers).stamps) }
     {
         put_unstopped(alloc, &mut self.answers, facts)?;
         add_inside(&mut self.inside, facts)
@@ -117,16 +135,19 @@ impl State {
     // The open scopes; those that are lent where none is told.
     fn cursor<'a>(&'a self, none: &'a OpenScopes) -> &'a OpenScopes
         requires { none.now ≡ [] }
-        ensures { result.now ≡ scopes_in (lookup (key_eq Cursor) self.now.answers) }
+        ensures { result.now ≡ scopes_in ((stamped_in self.now.answers).at Cursor) }
     {
         scopes_in(Some(self.answers.cursor()), none)
     }
 
     // What it comes to with one more body of a scope.
     fn open(&mut self, alloc: Global, path: &Path, kind: Kind) -> Result<(), AllocError>
-        requires { count_in (lookup (key_eq (Opened path.now)) self.old.answers) < 18446744073709551615 }
-        ensures { OnOk result
+        requires { count_in ((stamped_in self.old.answers).at (Opened path.now)) < 18446744073709551615 }
+        ensures world { OnOk result
             (held self.new ≡ after_step (held self.old) (Opens path.now kind)) }
+        ensures stamps { OnOk result
+            ((stamped_in self.new.answers).stamps
+            ≡ stamped (steps_at (held self.old) (Opens path.now kind)) (stamped_in self.old.answers).stamps) }
     {
         let scope = self.next_body(alloc, path, kind)?;
         let body = scope.body;
@@ -143,7 +164,7 @@ impl State {
 
     // The next body of a scope.
     fn next_body(&self, alloc: Global, path: &Path, kind: Kind) -> Result<Scope, AllocError>
-        requires { count_in (lookup (key_eq (Opened path.now)) self.now.answers) < 18446744073709551615 }
+        requires { count_in ((stamped_in self.now.answers).at (Opened path.now)) < 18446744073709551615 }
         ensures { IfOk result (λ scope.
             scope
             ≡ record {
@@ -160,9 +181,12 @@ impl State {
 
     // What it comes to with a nameless scope.
     fn open_nameless(&mut self, alloc: Global, kind: Kind) -> Result<(), AllocError>
-        requires { (key : Key) → count_in (lookup (key_eq key) self.old.answers) < 18446744073709551615 }
-        ensures { OnOk result
+        requires { (key : Key) → count_in ((stamped_in self.old.answers).at key) < 18446744073709551615 }
+        ensures world { OnOk result
             (held self.new ≡ after_step (held self.old) (OpensNameless kind)) }
+        ensures stamps { OnOk result
+            ((stamped_in self.new.answers).stamps
+            ≡ stamped (steps_at (held self.old) (OpensNameless kind)) (stamped_in self.old.answers).stamps) }
     {
         let key = DigestedKey::nameless();
         let number = count_in(self.answers.get(&key));
@@ -175,8 +199,11 @@ impl State {
 
     // What it comes to with the innermost scope closed, if it isn't the global one.
     fn close(&mut self, alloc: Global) -> Result<(), AllocError>
-        ensures { OnOk result
+        ensures world { OnOk result
             (held self.new ≡ after_step (held self.old) Closes) }
+        ensures stamps { OnOk result
+            ((stamped_in self.new.answers).stamps
+            ≡ stamped (steps_at (held self.old) Closes) (stamped_in self.old.answers).stamps) }
     {
         let none = OpenScopes::none();
         let Some((scope, outer)) = closable(self.cursor(&none)) else {
@@ -195,7 +222,7 @@ impl State {
     // The prefix in force.
     fn prefix(&self, alloc: Global) -> Result<Shared<Prefix>, AllocError>
         ensures { IfOk result (λ prefix.
-            prefix ≡ prefix_in (lookup (key_eq PrefixKey) self.now.answers)) }
+            prefix ≡ prefix_in ((stamped_in self.now.answers).at PrefixKey)) }
     {
         match prefix_in(Some(self.answers.prefix())) {
             Some(prefix) => prefix.clone(),
@@ -205,7 +232,11 @@ impl State {
 
     // What it comes to with a prefix pragma.
     fn put_prefix(&mut self, alloc: Global, text: &Bytes) -> Result<(), AllocError>
-        ensures { OnOk result (held self.new ≡ after_step (held self.old) (Prefixes text.now)) }
+        ensures world { OnOk result
+            (held self.new ≡ after_step (held self.old) (Prefixes text.now)) }
+        ensures stamps { OnOk result
+            ((stamped_in self.new.answers).stamps
+            ≡ stamped (steps_at (held self.old) (Prefixes text.now)) (stamped_in self.old.answers).stamps) }
     {
         let text = text.clone()?;
         let none = OpenScopes::none();
@@ -217,7 +248,11 @@ impl State {
 
     // What it comes to with a file entered.
     fn enter(&mut self, alloc: Global) -> Result<(), AllocError>
-        ensures { OnOk result (held self.new ≡ after_step (held self.old) Enters) }
+        ensures world { OnOk result
+            (held self.new ≡ after_step (held self.old) Enters) }
+        ensures stamps { OnOk result
+            ((stamped_in self.new.answers).stamps
+            ≡ stamped (steps_at (held self.old) Enters) (stamped_in self.old.answers).stamps) }
     {
         let prefix = self.prefix(alloc)?;
         let none = Prefix::none(alloc)?;
@@ -228,7 +263,11 @@ impl State {
 
     // What it comes to with a file left.
     fn leave(&mut self, alloc: Global) -> Result<(), AllocError>
-        ensures { OnOk result (held self.new ≡ after_step (held self.old) Leaves) }
+        ensures world { OnOk result
+            (held self.new ≡ after_step (held self.old) Leaves) }
+        ensures stamps { OnOk result
+            ((stamped_in self.new.answers).stamps
+            ≡ stamped (steps_at (held self.old) Leaves) (stamped_in self.old.answers).stamps) }
     {
         let prefix = taken_last(alloc, &mut self.entered)?;
         self.answers.put_prefix(Answer::InForce(prefix));
@@ -258,7 +297,7 @@ impl State {
     fn operations(&self, alloc: Global, interface: &Entity) -> Result<SharedList<Path>, AllocError>
         ensures { IfOk result (λ paths.
             paths
-            ≡ inherited (λ k. lookup (key_eq k) self.now.answers) interface.now.bases
+            ≡ inherited (stamped_in self.now.answers).at interface.now.bases
             ++ innermost (reverse self.now.inside.items)) }
     {
         let mut paths = inherited(alloc, &self.answers, interface.bases())?;
@@ -283,9 +322,7 @@ fn put_closing(
     closing: &Option<Shared<Entity>>,
 ) -> Result<(), AllocError>
     ensures { OnOk result
-        ((k : Key)
-        → lookup (key_eq k) answers.new
-        ≡ over (map Declares (option_to_list closing.now)) k (lookup (key_eq k) answers.old)) }
+        (stamped_in answers.new ≡ stamped_over (map Declares (option_to_list closing.now)) (stamped_in answers.old)) }
 {
     let Some(entity) = closing else {
         return Ok(());
@@ -330,10 +367,8 @@ fn closed(
 // The answers with those of the additions that are not stopped.
 fn put_unstopped(alloc: Global, answers: &mut Answers, facts: &Facts) -> Result<(), AllocError>
     ensures { OnOk result
-        ((k : Key)
-        → lookup (key_eq k) answers.new
-        ≡ over (unstopped (λ q. lookup (key_eq q) answers.old) facts.now.additions) k
-        (lookup (key_eq k) answers.old)) }
+        (stamped_in answers.new
+        ≡ stamped_over (unstopped (stamped_in answers.old).at facts.now.additions) (stamped_in answers.old)) }
 {
     if !facts.may_be_stopped() {
         return put_all(alloc, answers, facts);
@@ -345,9 +380,7 @@ fn put_unstopped(alloc: Global, answers: &mut Answers, facts: &Facts) -> Result<
 
 // The answers with those of the additions.
 fn put_all(alloc: Global, answers: &mut Answers, facts: &Facts) -> Result<(), AllocError>
-    ensures { OnOk result
-        ((k : Key)
-        → lookup (key_eq k) answers.new ≡ over facts.now.additions k (lookup (key_eq k) answers.old)) }
+    ensures { OnOk result (stamped_in answers.new ≡ stamped_over facts.now.additions (stamped_in answers.old)) }
 {
     let count = facts.len();
     for back in 0..count {
@@ -364,10 +397,8 @@ fn put_all(alloc: Global, answers: &mut Answers, facts: &Facts) -> Result<(), Al
 // The same, where the additions may be taken out of the facts.
 fn put_own(alloc: Global, answers: &mut Answers, facts: &mut Facts) -> Result<(), AllocError>
     ensures answers { OnOk result
-        ((k : Key)
-        → lookup (key_eq k) answers.new
-        ≡ over (unstopped (λ q. lookup (key_eq q) answers.old) facts.old.additions) k
-        (lookup (key_eq k) answers.old)) }
+        (stamped_in answers.new
+        ≡ stamped_over (unstopped (stamped_in answers.old).at facts.old.additions) (stamped_in answers.old)) }
     ensures step { OnOk result (facts.new.step ≡ facts.old.step) }
 {
     if facts.may_be_stopped() {
@@ -379,9 +410,7 @@ fn put_own(alloc: Global, answers: &mut Answers, facts: &mut Facts) -> Result<()
 // The answers with those of the additions, which are taken out of the facts, unless they are many.
 #[inline]
 fn put_taken(alloc: Global, answers: &mut Answers, facts: &mut Facts) -> Result<(), AllocError>
-    ensures answers { OnOk result
-        ((k : Key)
-        → lookup (key_eq k) answers.new ≡ over facts.old.additions k (lookup (key_eq k) answers.old)) }
+    ensures answers { OnOk result (stamped_in answers.new ≡ stamped_over facts.old.additions (stamped_in answers.old)) }
     ensures step { OnOk result (facts.new.step ≡ facts.old.step) }
 {
     let Some(additions) = facts.take_few() else {
@@ -398,9 +427,7 @@ fn put_few(
     answers: &mut Answers,
     additions: Vec<DigestedAddition>,
 ) -> Result<Vec<DigestedAddition>, AllocError>
-    ensures answers { OnOk result
-        ((k : Key)
-        → lookup (key_eq k) answers.new ≡ over additions.items k (lookup (key_eq k) answers.old)) }
+    ensures answers { OnOk result (stamped_in answers.new ≡ stamped_over additions.items (stamped_in answers.old)) }
     ensures none { IfOk result (λ list. list.items ≡ []) }
 {
     let mut additions = additions;

@@ -6,7 +6,7 @@ ghost use Rattle.idl_env.specs.Facts.{entity_key};
 ghost use Rattle.idl_env.specs.answering.Walked.{entries_walked, path_of};
 ghost use Rattle.idl_env.specs.keys.Key.{key_eq};
 ghost use Rattle.idl_env.specs.declared.answering.steps.Walked.TheVariants.{Entered};
-ghost use Rattle.idl_memo.specs.Runs.{begins_with};
+ghost use Rattle.idl_memo.specs.Runs.{BeginsWith};
 ghost use Rattle.idl_env.specs.declared.keys.key.Key.TheVariants.{Declared};
 
 use crate::answering::answer::Answer;
@@ -93,7 +93,7 @@ fn entered<'a>(
     name: &Shared<Bytes>,
 ) -> Option<&'a Answer>
     ensures { IfSome result (λ answer.
-        begins_with (entries_walked (Entered name.now) answer.now) entries.now) }
+        BeginsWith (entries_walked (Entered name.now) answer.now) entries.now) }
 {
     let answer = entity_at(entries.get(1))?;
     let global = Path::global();
@@ -110,7 +110,7 @@ fn first_answer<'a>(
     entries: &'a [(DigestedKey, Option<Answer>)],
 ) -> Option<&'a Answer>
     ensures { IfSome result (λ answer.
-        begins_with (entries_walked head.now answer.now) entries.now) }
+        BeginsWith (entries_walked head.now answer.now) entries.now) }
 {
     match head {
         Walked::Entered(name) => entered(entries, name),

@@ -8,18 +8,14 @@ use crate::bank::Bank;
 use crate::keeping::kept::{Kept, keep};
 use crate::log::Log;
 use crate::meter::Meter;
-use crate::task::Task;
+use crate::task::Runnable;
 use std::alloc::{AllocError, Global};
 use std::rc::Rc;
 
 /// What a run of the task leaves over this bank, to be kept as a result over a bank of such keys and answers.
 ///
 /// After want of memory nothing is said of the meter.
-pub fn run_anew<
-    B: Bank,
-    C: Bank<Key = B::Key, Answer = B::Answer, Head = B::Head, Step = B::Step>,
-    T: Task<C, Scratch = ()>,
->(
+pub fn run_anew<B: Bank, C: Bank<Key = B::Key, Answer = B::Answer>, T: Runnable<C, Scratch = ()>>(
     alloc: Global,
     task: &T,
     bank: &C,

@@ -1,9 +1,9 @@
 //! The laws of fresh tasks.
 
-ghost use Rattle.std.specs.Prelude.{◌≡◌, ◌↔◌, ◌+◌, ◌≤◌, ◌++◌, ◌∷◌, [], List, Option, All, Contains, length, true};
+ghost use Rattle.std.specs.Prelude.{◌≡◌, ◌↔◌, ◌+◌, ◌≤◌, ◌++◌, ◌∷◌, [], List, Option, All, Contains, length, sum_by, true};
 ghost use Rattle.std.specs.List.{IsDistinct};
 ghost use Rattle.std.specs.Option.{option_eq};
-ghost use Rattle.idl_memo.specs.Fresh.{AreAmong, Place, asked_among, compared_among, fresh_among, fresh_at, is_alike, log_at, places_over, stale_among};
+ghost use Rattle.idl_memo.specs.Fresh.{AreAmong, Place, asked_among, compared_among, fresh_among, fresh_at, is_alike, keys_at, log_at, most_shared_at, places_over, shared_among, shared_at, stale_among};
 
 use crate::bank::Bank;
 use crate::task::Task;
@@ -80,4 +80,40 @@ pub fn one_bank<B: Bank, T: Task<B>>()
     ensures stay { (bank : B.Key → Option B.Answer) (places : List T.Text)
         → compared_among T.Text.eq (option_eq B.Answer.eq) T.query B.Key.eq bank bank places
         ≡ asked_among T.Text.eq (option_eq B.Answer.eq) T.query B.Key.eq bank places }
+{}
+
+/// How many keys the places share with known tasks: those of each place where a known task, or one of an earlier place, is
+/// alike.
+///
+/// Alike tasks have one log, so that the count is a sum over parts, in any order, as that of the fresh places is. Places that
+/// are known add their keys; and none adds more than all known tasks of its text asked.
+pub fn sharing<B: Bank, T: Task<B>>()
+    ensures none { (known : List (Place B.Key (Option B.Answer) T.Text))
+        → shared_among T.Text.eq (option_eq B.Answer.eq) T.query B.Key.eq known [] ≡ 0 }
+    ensures one { (known : List (Place B.Key (Option B.Answer) T.Text))
+        (here : Place B.Key (Option B.Answer) T.Text)
+        → shared_among T.Text.eq (option_eq B.Answer.eq) T.query B.Key.eq known (here ∷ [])
+        ≡ shared_at T.Text.eq (option_eq B.Answer.eq) T.query B.Key.eq known here }
+    ensures split { (old a b : List (Place B.Key (Option B.Answer) T.Text))
+        → shared_among T.Text.eq (option_eq B.Answer.eq) T.query B.Key.eq old (a ++ b)
+        ≡ shared_among T.Text.eq (option_eq B.Answer.eq) T.query B.Key.eq old a
+        + shared_among T.Text.eq (option_eq B.Answer.eq) T.query B.Key.eq (old ++ a) b }
+    ensures known { (a b new : List (Place B.Key (Option B.Answer) T.Text))
+        → AreAmong T.Text.eq (option_eq B.Answer.eq) T.query a b
+        → AreAmong T.Text.eq (option_eq B.Answer.eq) T.query b a
+        → shared_among T.Text.eq (option_eq B.Answer.eq) T.query B.Key.eq a new
+        ≡ shared_among T.Text.eq (option_eq B.Answer.eq) T.query B.Key.eq b new }
+    ensures aside { (old front stay rest : List (Place B.Key (Option B.Answer) T.Text))
+        → AreAmong T.Text.eq (option_eq B.Answer.eq) T.query stay old
+        → shared_among T.Text.eq (option_eq B.Answer.eq) T.query B.Key.eq old
+        (front ++ (stay ++ rest))
+        ≡ shared_among T.Text.eq (option_eq B.Answer.eq) T.query B.Key.eq old (front ++ rest)
+        + sum_by (keys_at T.Text.eq (option_eq B.Answer.eq) T.query B.Key.eq) stay }
+    ensures turned { (old a b : List (Place B.Key (Option B.Answer) T.Text))
+        → shared_among T.Text.eq (option_eq B.Answer.eq) T.query B.Key.eq old (a ++ b)
+        ≡ shared_among T.Text.eq (option_eq B.Answer.eq) T.query B.Key.eq old (b ++ a) }
+    ensures most { (known : List (Place B.Key (Option B.Answer) T.Text))
+        (here : Place B.Key (Option B.Answer) T.Text)
+        → shared_at T.Text.eq (option_eq B.Answer.eq) T.query B.Key.eq known here
+        ≤ most_shared_at T.Text.eq (option_eq B.Answer.eq) T.query B.Key.eq known here }
 {}

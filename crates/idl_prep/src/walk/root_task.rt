@@ -17,7 +17,7 @@ use crate::walk::root::Root;
 use crate::walk::walked_file::WalkedFile;
 use idl_event::{Expansion, RootBank, RootKey};
 use idl_fault::{Code, FileName, Place};
-use idl_memo::{KeptLog, Log, Task, TaskKind};
+use idl_memo::{KeptLog, Log, Runnable, Task, TaskKind};
 use idl_source::Name;
 use std::alloc::{AllocError, Global};
 use std::mem::replace;
@@ -38,19 +38,11 @@ impl RootTask {
 }
 
 impl<B: RootBank> Task<B> for RootTask {
-    ghost use Rattle.std.specs.Prelude.{◌≡◌};
-    ghost use Rattle.idl_memo.specs.declared.task.TaskKind.TheVariants.{Expand};
     ghost use Rattle.idl_prep.specs.Root.{expansion};
 
     type Text = Name;
 
     type Out = Expansion;
-
-    type Scratch = ();
-
-    const KIND: TaskKind = TaskKind::Expand;
-
-    ghost KIND = { Expand };
 
     ghost text_of = { λ task. task.name };
 
@@ -65,6 +57,17 @@ impl<B: RootBank> Task<B> for RootTask {
     fn hint(&self, _bank: &B) -> u64 {
         0
     }
+}
+
+impl<B: RootBank> Runnable<B> for RootTask {
+    ghost use Rattle.std.specs.Prelude.{◌≡◌};
+    ghost use Rattle.idl_memo.specs.declared.task.TaskKind.TheVariants.{Expand};
+
+    type Scratch = ();
+
+    const KIND: TaskKind = TaskKind::Expand;
+
+    ghost KIND = { Expand };
 
     fn run(
         &self,

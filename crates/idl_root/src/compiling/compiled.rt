@@ -1,31 +1,33 @@
 //! The compilation of a root.
 
-ghost use Rattle.std.specs.Prelude.{◌≡◌, ◌++◌, IfOk, List, OnOk, map};
+ghost use Rattle.std.specs.Prelude.{◌≡◌, ◌⊎◌, ◌++◌, IfNone, IfOk, IfSome, List, None, OnOk, Some};
+ghost use Rattle.std.specs.Option.{unwrap_or};
 ghost use Rattle.idl_event.specs.declared.told.event.Event.{Event};
-ghost use Rattle.idl_store.specs.Stored.{list_at, results_in, with_draft};
-ghost use Rattle.idl_root.specs.Compile.{compile, open_finding, rows_beside};
+ghost use Rattle.idl_store.specs.Stored.{list_at};
+ghost use Rattle.idl_root.specs.AsBefore.{AreAsBefore, IsAsBefore, IsCompiledOf, IsMade};
+ghost use Rattle.idl_root.specs.Compile.{compile, findings_told, open_finding, rows_beside};
 ghost use Rattle.idl_root.specs.Held.{told_of};
 ghost use Rattle.idl_root.specs.Judged.{HasTurns};
-ghost use Rattle.idl_root.specs.Places.{declarations_of, entries_of};
-ghost use Rattle.idl_root.specs.Results.{ChecksAndPrintsOnly, IsDeclarationPass, IsEntryPass, IsKeptOf, declaration_result, entry_result, marks_of};
+ghost use Rattle.idl_root.specs.Results.{ChecksAndPrintsOnly, IsKeptOf, marks_of};
 ghost use Rattle.idl_unit.specs.Units.{units_of};
 
 use crate::compiling::finding::{
-    Finding, event_findings, has_error, in_order, push_numbered, rows_of,
+    EventFinding, Finding, event_findings, has_error, in_order, push_numbered, rows_of,
 };
 use crate::compiling::judging::{Ended, Judging};
 use crate::compiling::memory::Memory;
 use crate::compiling::printing::{Printed, print_all};
+use crate::kept::again::{Again, are_as_before};
 use crate::kept::course::Course;
 use crate::kept::keeper::Keeper;
 use crate::kept::keeping::Keeping;
 use crate::kept::marks::Marks;
 use crate::kept::printing::Printing;
-use idl_base::{Bytes, Seq};
+use idl_base::{Bytes, Seq, Shared};
 use idl_event::Expansion;
 use idl_fault::{Code, Place};
 use idl_memo::Meter;
-use idl_unit::split;
+use idl_unit::{Unit, split};
 use std::alloc::{AllocError, Global};
 
 /// A row of diagnostics, of a listing or of a dump, whose bytes are shared: a line of text without its newline.
@@ -36,10 +38,12 @@ pub type Row = Bytes;
 pub struct Compiled {
     pub findings: Seq<Finding>,
     pub diagnostics: Seq<Row>,
-    pub listing: Seq<Row>,
-    pub dump: Seq<Row>,
+    pub listing: Shared<Seq<Row>>,
+    pub dump: Shared<Seq<Row>>,
     /// Whether one of the diagnostics is an error. Others are warnings.
     pub is_faulty: bool,
+    /// Whether a scope is open at the end: one of the diagnostics says so.
+    pub is_open: bool,
 }
 
 impl Drop for Compiled {
@@ -50,25 +54,36 @@ impl Drop for Compiled {
             listing: _listing,
             dump: _dump,
             is_faulty: _is_faulty,
+            is_open: _is_open,
         } = self;
     }
 }
 
 /// A root that is compiled, whose results are kept: its place among all roots, its last line, what it expands to, and what its
-/// units were when it was compiled last.
+/// units were and what they came to when it was compiled last, if it was.
 #[derive(Clone, Copy)]
 pub struct KeptSource<'a> {
     pub at: usize,
     pub end: &'a Place,
     pub expansion: &'a Expansion,
     pub marks: &'a Marks,
+    pub compiled: Option<&'a Compiled>,
 }
 
-/// What compiling a root gives, and what its units are.
+/// What compiling a root gives, and what its units are, unless they are as they were.
 #[derive(Drop)]
 pub struct Recompiled {
     pub compiled: Compiled,
-    pub marks: Marks,
+    pub marks: Option<Marks>,
+}
+
+/// What is found in a root: in its events and its units, whether a scope is open at its end, and what is declared ahead and never
+/// defined.
+#[derive(Drop)]
+struct Found {
+    findings: Vec<EventFinding>,
+    is_open: bool,
+    closing: Vec<EventFinding>,
 }
 
 /// Compiles what a root expands to, where its last line is this place. Nothing is kept.
@@ -97,47 +112,143 @@ pub fn compile(
 }
 
 /// The same, where the results of the declarations and the entries are kept: those that hold are taken again, and what is made of
-/// the root waits to be put in place.
+/// the root waits to be put in place. Where its units are as they were, all that is kept of them holds, and nothing is made.
 ///
 /// After want of memory nothing is said of the meter, and there may be drafts more.
-#[tactic(auto, unfolding(crate::specs::Compile::compile))]
 pub fn compile_kept(
     keeper: &mut Keeper,
     root: KeptSource<'_>,
     meter: &mut Meter,
 ) -> Result<Recompiled, AllocError>
-    requires { (events : List Event) × IsKeptOf events root.marks.now
+    requires { (was : List Event) × IsKeptOf was root.marks.now
+        (list_at keeper.old.declarations.lists root.at) (list_at keeper.old.entries.lists root.at)
+        × IfSome root.compiled (λ compiled. IsCompiledOf was compiled.now) }
+    ensures compiled { IfOk result (λ r.
+        r.compiled ≡ compile root.entry.end.now root.entry.expansion.now) }
+    ensures turns { OnOk result (HasTurns (units_of root.entry.expansion.now)) }
+    ensures marks { IfOk result (λ r. unwrap_or r.marks root.entry.marks.now
+        ≡ marks_of (units_of root.entry.expansion.now)) }
+    ensures tasks { OnOk result ((was : List Event) → IsKeptOf was root.entry.marks.now
+        (list_at keeper.old.declarations.lists root.entry.at)
+        (list_at keeper.old.entries.lists root.entry.at)
+        → IsAsBefore was root.entry.expansion.now keeper.old keeper.new meter.old meter.new
+        ⊎ IsMade root.entry.expansion.now root.entry.at keeper.old keeper.new
+        meter.old meter.new) }
+    ensures first { OnOk result (IfNone root.entry.compiled (IsMade root.entry.expansion.now
+        root.entry.at keeper.old keeper.new meter.old meter.new)) }
+    ensures declaration_lists { keeper.new.declarations.lists ≡ keeper.old.declarations.lists }
+    ensures entry_lists { keeper.new.entries.lists ≡ keeper.old.entries.lists }
+    ensures others { OnOk result (ChecksAndPrintsOnly meter.old meter.new) }
+{
+    let units = split(keeper.alloc(), root.expansion)?;
+    if let Some(compiled) = compiled_again(keeper, root, units.as_slice())? {
+        return Ok(Recompiled {
+            compiled,
+            marks: None,
+        });
+    }
+    Ok(compile_anew(keeper, root, units.as_slice(), meter)?)
+}
+
+// What the root compiles to, if its units are as they were and it has an error where it had one: then the rows of its listing and
+// its dump are those of before, and what is found in its units is found where they stand now.
+fn compiled_again(
+    keeper: &Keeper,
+    root: KeptSource<'_>,
+    units: &[Unit],
+) -> Result<Option<Compiled>, AllocError>
+    requires units { units.now ≡ units_of root.expansion.now }
+    requires kept { (was : List Event) × IsKeptOf was root.marks.now
+        (list_at keeper.now.declarations.lists root.at) (list_at keeper.now.entries.lists root.at)
+        × IfSome root.compiled (λ compiled. IsCompiledOf was compiled.now) }
+    ensures compiled { IfOk result (λ found. IfSome found (λ compiled.
+        compiled ≡ compile root.entry.end.now root.entry.expansion.now)) }
+    ensures before { IfOk result (λ found. IfSome found (λ compiled. (was : List Event)
+        → IsKeptOf was root.entry.marks.now (list_at keeper.now.declarations.lists root.entry.at)
+        (list_at keeper.now.entries.lists root.entry.at)
+        → AreAsBefore (units_of was) units.now)) }
+    ensures none { IfOk result (λ found. IfNone root.entry.compiled (found ≡ None)) }
+{
+    let Some(compiled) = root.compiled else {
+        return Ok(None);
+    };
+    let earlier = Course::new(root.at, root.marks);
+    if !are_as_before(&keeper.declarations, earlier, units) {
+        return Ok(None);
+    }
+    Ok(told_again(keeper, root, compiled, units)?)
+}
+
+// The same, where its units are as they were, and it compiled to that.
+fn told_again(
+    keeper: &Keeper,
+    root: KeptSource<'_>,
+    compiled: &Compiled,
+    units: &[Unit],
+) -> Result<Option<Compiled>, AllocError>
+    requires units { units.now ≡ units_of root.expansion.now }
+    requires kept { (was : List Event) × IsKeptOf was root.marks.now
+        (list_at keeper.now.declarations.lists root.at) (list_at keeper.now.entries.lists root.at)
+        × IsCompiledOf was compiled.now × AreAsBefore (units_of was) units.now }
+    ensures { IfOk result (λ found. IfSome found (λ compiled.
+        compiled ≡ compile root.entry.end.now root.entry.expansion.now)) }
+{
+    let alloc = keeper.alloc();
+    let findings = event_findings(alloc, root.expansion)?;
+    let again = Again::new(alloc, findings).with_all(&keeper.declarations, root.at, units)?;
+    let closing = again.closing(&keeper.entries, root.at)?;
+    let found = Found {
+        findings: again.into_findings(),
+        is_open: compiled.is_open,
+        closing,
+    };
+    let findings = all_findings(alloc, root.end, root.expansion, found)?;
+    let is_faulty = has_error(&findings);
+    if is_faulty != compiled.is_faulty {
+        return Ok(None);
+    }
+    let diagnostics = rows_of(alloc, &findings)?;
+    Ok(Some(Compiled {
+        findings: Seq::from_vec(findings),
+        diagnostics: Seq::from_vec(diagnostics),
+        listing: compiled.listing.clone()?,
+        dump: compiled.dump.clone()?,
+        is_faulty,
+        is_open: compiled.is_open,
+    }))
+}
+
+// What comes of the root, of which these are the units: they are judged one after another, beside what is kept.
+#[tactic(auto, unfolding(crate::specs::Compile::compile))]
+fn compile_anew(
+    keeper: &mut Keeper,
+    root: KeptSource<'_>,
+    units: &[Unit],
+    meter: &mut Meter,
+) -> Result<Recompiled, AllocError>
+    requires units { units.now ≡ units_of root.expansion.now }
+    requires kept { (was : List Event) × IsKeptOf was root.marks.now
         (list_at keeper.old.declarations.lists root.at) (list_at keeper.old.entries.lists root.at) }
     ensures compiled { IfOk result (λ r.
         r.compiled ≡ compile root.entry.end.now root.entry.expansion.now) }
     ensures turns { OnOk result (HasTurns (units_of root.entry.expansion.now)) }
-    ensures marks { IfOk result (λ r. r.marks ≡ marks_of (units_of root.entry.expansion.now)) }
-    ensures declarations { let places = declarations_of root.entry.expansion.now in
-        OnOk result (keeper.new.declarations
-        ≡ with_draft keeper.old.declarations root.entry.at (map declaration_result places)) }
-    ensures entries { let places = entries_of root.entry.expansion.now in
-        OnOk result (keeper.new.entries
-        ≡ with_draft keeper.old.entries root.entry.at (map entry_result places)) }
+    ensures marks { let marks = marks_of (units_of root.entry.expansion.now) in
+        IfOk result (λ r. r.marks ≡ Some marks) }
+    ensures made { OnOk result (IsMade root.entry.expansion.now root.entry.at
+        keeper.old keeper.new meter.old meter.new) }
     ensures declaration_lists { keeper.new.declarations.lists ≡ keeper.old.declarations.lists }
     ensures entry_lists { keeper.new.entries.lists ≡ keeper.old.entries.lists }
-    ensures checked { OnOk result (IsDeclarationPass (declarations_of root.entry.expansion.now)
-        (results_in keeper.old.declarations) (results_in keeper.new.declarations)
-        meter.old.checked meter.new.checked) }
-    ensures printed { OnOk result (IsEntryPass (entries_of root.entry.expansion.now)
-        (results_in keeper.old.entries) (results_in keeper.new.entries)
-        meter.old.printed meter.new.printed) }
     ensures others { OnOk result (ChecksAndPrintsOnly meter.old meter.new) }
 {
     keeper.memory.clear();
     let alloc = keeper.alloc();
-    let units = split(alloc, root.expansion)?;
-    let count = units.as_slice().len().saturating_sub(1);
+    let count = units.len().saturating_sub(1);
     let findings = event_findings(alloc, root.expansion)?;
     let first = Judging::new(alloc, findings, count)?;
     let earlier = Course::new(root.at, root.marks);
     let mut keeping = Keeping::new(alloc, earlier, count, *meter)?;
     keeper.declarations.begin(root.at)?;
-    let judging = first.with_all_kept(&mut keeping, &mut keeper.declarations, units.as_slice())?;
+    let judging = first.with_all_kept(&mut keeping, &mut keeper.declarations, units)?;
     judging.env.bounds_turns();
     keeper.entries.begin(root.at)?;
     let counted = keeping.meter;
@@ -149,7 +260,10 @@ pub fn compile_kept(
     *meter = printing.meter;
     let ended = judging.ended(&mut keeper.memory, printed);
     let compiled = told(alloc, root.end, root.expansion, ended)?;
-    Ok(Recompiled { compiled, marks })
+    Ok(Recompiled {
+        compiled,
+        marks: Some(marks),
+    })
 }
 
 // The rows of a root whose units and names are all done.
@@ -162,7 +276,7 @@ fn told(
     ensures { IfOk result (λ compiled. compiled ≡ told_of end.now expansion.now ended) }
 {
     let Ended {
-        findings: found,
+        findings,
         rows,
         is_open,
         printed,
@@ -171,19 +285,40 @@ fn told(
         findings: closing,
         rows: listing,
     } = printed;
-    let mut findings = Vec::new(alloc);
-    push_numbered(alloc, &mut findings, expansion, &in_order(found)?)?;
-    push_open(&mut findings, end, is_open)?;
-    push_numbered(alloc, &mut findings, expansion, &closing)?;
+    let found = Found {
+        findings,
+        is_open,
+        closing,
+    };
+    let findings = all_findings(alloc, end, expansion, found)?;
     let is_faulty = has_error(&findings);
     let diagnostics = rows_of(alloc, &findings)?;
     Ok(Compiled {
         findings: Seq::from_vec(findings),
         diagnostics: Seq::from_vec(diagnostics),
-        listing: rows_beside(alloc, is_faulty, listing),
-        dump: rows_beside(alloc, is_faulty, rows),
+        listing: Shared::new(alloc, rows_beside(alloc, is_faulty, listing))?,
+        dump: Shared::new(alloc, rows_beside(alloc, is_faulty, rows))?,
         is_faulty,
+        is_open,
     })
+}
+
+// All that is found in a root, in the order in which it is told.
+fn all_findings(
+    alloc: Global,
+    end: &Place,
+    expansion: &Expansion,
+    found: Found,
+) -> Result<Vec<Finding>, AllocError>
+    ensures { IfOk result (λ findings. findings.items
+        ≡ findings_told end.now expansion.now found.findings.items found.is_open
+        found.closing.items) }
+{
+    let mut findings = Vec::new(alloc);
+    push_numbered(alloc, &mut findings, expansion, &in_order(found.findings)?)?;
+    push_open(&mut findings, end, found.is_open)?;
+    push_numbered(alloc, &mut findings, expansion, &found.closing)?;
+    Ok(findings)
 }
 
 // Puts in that a scope is open at the end, if one is.

@@ -197,8 +197,8 @@ impl<'a> Gathered<'a> {
                 self.add_verdict(alloc, Spelled { text, sites }, &verdict)?;
                 Ok(Added::Given(verdict.into_writes()))
             }
-            Unit::Entered(_file) => Ok(Added::Given(boundary(alloc, Mark::Entered)?)),
-            Unit::Left(_file) => Ok(Added::Given(boundary(alloc, Mark::Left)?)),
+            Unit::Entered(_file, _inside) => Ok(Added::Given(boundary(alloc, Mark::Entered)?)),
+            Unit::Left(_file, _inside) => Ok(Added::Given(boundary(alloc, Mark::Left)?)),
             Unit::End => Ok(Added::Nothing),
         }
     }
@@ -233,8 +233,8 @@ impl<'a> Gathered<'a> {
                 self.add_verdict(env.alloc(), Spelled { text, sites }, declaration.out())?;
                 Ok(Added::Kept(declaration))
             }
-            Unit::Entered(_file) => Ok(crossed(keeping, env, Mark::Entered)?),
-            Unit::Left(_file) => Ok(crossed(keeping, env, Mark::Left)?),
+            Unit::Entered(_file, _inside) => Ok(crossed(keeping, env, Mark::Entered)?),
+            Unit::Left(_file, _inside) => Ok(crossed(keeping, env, Mark::Left)?),
             Unit::End => Ok(Added::Nothing),
         }
     }

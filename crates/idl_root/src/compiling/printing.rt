@@ -252,8 +252,8 @@ impl Written {
     }
 }
 
-// Puts in what is wrong at the end with a name that a unit declares first, if anything is.
-fn push_closing(
+/// Puts in what is wrong at the end with a name that a unit declares first, if anything is.
+pub fn push_closing(
     alloc: Global,
     findings: &mut Vec<EventFinding>,
     unit: Spelled<'_>,

@@ -3,13 +3,14 @@
 ghost use Rattle.std.specs.Prelude.{◌≡◌, ◌∷◌, [], IfSome, IsTrue, List, Some, length};
 ghost use Rattle.idl_env.specs.Facts.{UnitFacts};
 ghost use Rattle.idl_store.specs.Stored.{result_at};
+ghost use Rattle.idl_root.specs.AsBefore.{IsBehindMark, IsBehindSame};
 ghost use Rattle.idl_root.specs.Followed.{IsBehind, IsFirst, IsNext};
 ghost use Rattle.idl_root.specs.Results.{DeclarationResult};
 ghost use Rattle.idl_root.specs.declared.kept.marks.Mark.{Mark as RootMark};
 
 use crate::kept::keeper::{Declarations, KeptDeclaration};
 use crate::kept::marks::{Mark, Marks};
-use idl_unit::UnitText;
+use idl_unit::{Unit, UnitText};
 
 /// The units of a root as they were when it was compiled last, from one of them on: what each was, and where in the root's list the
 /// result of the next one with tokens stands.
@@ -94,6 +95,42 @@ impl<'k> Course<'k> {
         match self.marks.first() {
             Some(first) => *first == mark,
             None => false,
+        }
+    }
+
+    /// Behind the first of them, if it was as this unit is. The end is none of them.
+    pub fn behind_same(self, kept: &Declarations, unit: &Unit) -> Option<Course<'k>>
+        ensures { IfSome result (λ next. IsBehindSame kept.now.lists self.entry unit.now next) }
+    {
+        match unit {
+            Unit::Spelled(text, _sites) => {
+                self.first_of(kept, text)?;
+                self.behind(Mark::Judged)
+            }
+            Unit::Entered(_file, _inside) => self.behind(Mark::Entered),
+            Unit::Left(_file, _inside) => self.behind(Mark::Left),
+            Unit::End => Some(self),
+        }
+    }
+
+    // Behind the first of them, if it was that.
+    fn behind(self, mark: Mark) -> Option<Course<'k>>
+        ensures { IfSome result (λ next. IsBehindMark self.entry mark next) }
+    {
+        if !self.begins_with(mark) {
+            return None;
+        }
+        let list = self.list;
+        let (_first, marks) = self.marks.split_first()?;
+        match mark {
+            Mark::Judged => {
+                let place = self.place.checked_add(1)?;
+                Some(Course { list, place, marks })
+            }
+            Mark::Entered | Mark::Left => {
+                let place = self.place;
+                Some(Course { list, place, marks })
+            }
         }
     }
 

@@ -6,7 +6,7 @@ use idl_condition::{Symbol, evaluate};
 use idl_event::{EventView, Expansion, ExpansionBuilder, LexedFile, RootAnswer, RootKey};
 use idl_fault::FileName;
 use idl_map::Table;
-use idl_memo::{Bank, Log, PlainBank, Task};
+use idl_memo::{Bank, Log, PlainBank, Runnable};
 use idl_prep::RootTask;
 use idl_project::NoStep;
 use idl_source::Name;

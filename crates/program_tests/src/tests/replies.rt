@@ -46,7 +46,7 @@ fn scripts_have_these_replies(rt: HostRuntime) -> Result<(), Fail> {
 }
 
 // What edits cost: roots expanded, declarations checked, entries printed.
-static WORK: [&str; 6] = [
+static WORK: [&str; 7] = [
     "work\n=work 0 0 0\nput a.idl 2\ntypedef long X;\ntypedef long X;\n=ok\nroot a.idl\n=ok\nwork\n=work 1 2 1\n\
      splice a.idl 1 0 1\n\n=ok\nwork\n=work 1 0 0\ndiagnostics a.idl\n=rows 1\n=a.idl:3: E33 X\nsplice a.idl 1 1 0\n\
      =ok\nsplice a.idl 1 1 0\n=ok\ndiagnostics a.idl\n=rows 0",
@@ -84,6 +84,16 @@ static WORK: [&str; 6] = [
      =interface B IDL:B:1.0 tk_objref(IDL:B:1.0,B) bases()\n\
      =interface I IDL:I:1.0 tk_objref(IDL:I:1.0,I) bases(@IDL:B:1.0)\n\
      =attribute I::x IDL:I/x:1.0 @IDL:T:1.0 get() set()\nwork\n=work 1 3 2",
+    // Units that are as they were: faults move, and errors of the preprocessor come and go.
+    "put a.idl 6\ninterface I;\nstruct S;\ntypedef long X;\ntypedef long X;\nmodule M {\ntypedef long Y;\n=ok\n\
+     root a.idl\n=ok\nsplice a.idl 2 0 1\n\n=ok\nsplice a.idl 1 0 1\n#error no\n=ok\nwork\n=work 1 0 0\n\
+     diagnostics a.idl\n=rows 5\n=a.idl:1: E16 error no\n=a.idl:6: E33 X\n=a.idl:8: E23\n=a.idl:2: W80 I\n\
+     =a.idl:4: E75 S\nsplice a.idl 1 1 0\n=ok\nwork\n=work 1 0 0\ndiagnostics a.idl\n=rows 4\n=a.idl:5: E33 X\n\
+     =a.idl:7: E23\n=a.idl:1: W80 I\n=a.idl:3: E75 S\nlisting a.idl\n=rows 0 ¶ put b.idl 1\ninterface I;\n=ok\n\
+     root b.idl\n=ok\nsplice b.idl 1 0 2\n/* a\ncomment */\n=ok\nsplice b.idl 1 0 1\n#error e\n=ok\nwork\n\
+     =work 1 0 0\ndiagnostics b.idl\n=rows 2\n=b.idl:1: E16 error e\n=b.idl:4: W80 I\ndump b.idl\n=rows 0\n\
+     splice b.idl 1 1 0\n=ok\nwork\n=work 1 0 0\nlisting b.idl\n=rows 1\n\
+     =interface I IDL:I:1.0 tk_objref(IDL:I:1.0,I) bases()\ndump b.idl\n=rows 1\n=interface I;",
 ];
 
 #[test]

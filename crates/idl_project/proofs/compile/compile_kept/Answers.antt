@@ -1,14 +1,15 @@
 -- What comes of a root is that of the events that its result is.
-use Rattle.std.proofs.Common.{◌≡◌, ◌∙◌, List, Option, ap, subst}
+use Rattle.std.proofs.Common.{◌≡◌, ◌⊎◌, ◌∙◌, List, Option, ap, subst}
 use Rattle.idl_event.specs.declared.asked.key.RootAnswer.{RootAnswer}
 use Rattle.idl_event.specs.declared.asked.key.RootKey.{RootKey}
 use Rattle.idl_event.specs.declared.told.event.Event.{Event}
 use Rattle.idl_prep.specs.Root.{absent_files}
+use Rattle.idl_root.specs.AsBefore.{IsAsBefore, IsMade}
 use Rattle.idl_root.specs.Compile.{compile}
 use Rattle.idl_root.specs.Turns.{IsWithinTurns}
 use Rattle.idl_root.specs.Results.{root_marks}
 use Rattle.idl_project.specs.Compile.{end_of}
-use Rattle.idl_project.proofs.KeptLemmas.{IsDrafted-from, compile-kept}
+use Rattle.idl_project.proofs.KeptLemmas.{IsDrafted-from, compile-kept, none-weaker}
 use Rattle.idl_project.proofs.compile.compile_kept.Goals as goal
 
 pub returns-clause-compiled : goal.returns-clause-compiled
@@ -30,8 +31,17 @@ returns-clause-marks g c =
     let is = c.out.ensures ∙ ap (λ (p : List Event × List (RootKey × Option RootAnswer)). p.0) c.requires.over in
     c.in_ok-rows.ensures.marks ∙ ap root_marks is
 
-pub returns-clause-made : goal.returns-clause-made
-returns-clause-made g c =
+pub returns-clause-tasks : goal.returns-clause-tasks
+returns-clause-tasks g c = λ was kept.
     let is = c.out.ensures ∙ ap (λ (p : List Event × List (RootKey × Option RootAnswer)). p.0) c.requires.over in
-    IsDrafted-from (g.B.Bank.at c.args.bank.now) c.args.root.at c.args.root.result.now.text c.out.result.now c.args.keeper.now c.compile_kept.new.keeper c.args.meter.now c.compile_kept.new.meter is
-    c.in_ok-rows.ensures.declarations c.in_ok-rows.ensures.entries c.in_ok-rows.ensures.checked c.in_ok-rows.ensures.printed
+    subst
+    (λ (es : List Event). IsAsBefore was es c.args.keeper.now c.compile_kept.new.keeper c.args.meter.now c.compile_kept.new.meter
+    ⊎ IsMade es c.args.root.at c.args.keeper.now c.compile_kept.new.keeper c.args.meter.now c.compile_kept.new.meter) is
+    (c.in_ok-rows.ensures.tasks was kept)
+
+pub returns-clause-first : goal.returns-clause-first
+returns-clause-first g c =
+    let is = c.out.ensures ∙ ap (λ (p : List Event × List (RootKey × Option RootAnswer)). p.0) c.requires.over in
+    none-weaker c.args.root.compiled
+    (IsDrafted-from (g.B.Bank.at c.args.bank.now) c.args.root.at c.args.root.result.now.text c.out.result.now c.args.keeper.now c.compile_kept.new.keeper c.args.meter.now c.compile_kept.new.meter is)
+    c.in_ok-rows.ensures.first

@@ -1,11 +1,10 @@
-use Rattle.std.proofs.Common.{◌≡◌, sym, ap, ◌∙◌, suc, ◌+◌, ◌-◌, ◌∷◌, Some, cond, drop, arith, subst}
-use Rattle.std.specs.Map.{lookup}
-use Rattle.idl_env.specs.Facts.{answer_of, key_of, over}
+use Rattle.std.proofs.Common.{◌≡◌, sym, ap, ◌∙◌, suc, ◌+◌, ◌-◌, ◌∷◌, drop, arith, subst}
+use Rattle.idl_env.specs.Facts.{answer_of, key_of}
 use Rattle.idl_env.specs.Held.{IsAmongOthers}
-use Rattle.idl_env.specs.keys.Key.{key_eq}
-use Rattle.idl_env.proofs.AnswerLaws.AnswerLemmas.{over-cons}
+use Rattle.idl_env.specs.Stamps.{stamped_in, stamped_over, with_stamped}
 use Rattle.idl_env.proofs.AnswerLaws.OthersLemmas.{key_of-others}
 use Rattle.idl_env.proofs.AnswerLaws.PlaceLemmas.{drop-at}
+use Rattle.idl_env.proofs.StampLemmas.{stamped_over-cons}
 use Rattle.idl_env.proofs.answering.state.put_all.Goals as goal
 
 pub insert-requires : goal.insert-requires
@@ -17,8 +16,8 @@ loop-back-preserved c =
     let count = c.len-count.result in
     let back = c.loop-back.back in
     let one = c.in-Some.addition.now in
-    let old = c.loop-back.answers in
-    let first = c.args.answers.now in
+    let old = stamped_in c.loop-back.answers in
+    let first = stamped_in c.args.answers.now in
     let before : count - (back + 1) ≡ count - 1 - back = omega arith in
     let behind : suc (count - 1 - back) ≡ count - back = omega arith in
     let key = c.in_ok-key.ensures in
@@ -27,10 +26,10 @@ loop-back-preserved c =
     record {
       count = c.loop-back.invariant.count;
       within = omega arith;
-      answers = λ k.
-          c.in_ok-insert.ensures k
-          ∙ (λ i. cond (key_eq k (key i)) (Some (answer i)) (lookup (key_eq k) old))
-          ∙ ap (λ o. cond (key_eq k (key_of one)) (Some (answer_of one)) o) (c.loop-back.invariant.answers k)
-          ∙ sym (over-cons one (drop (count - back) additions) k (lookup (key_eq k) first))
-          ∙ ap (λ l. over l k (lookup (key_eq k) first)) (sym here);
+      answers =
+          c.in_ok-insert.ensures
+          ∙ (λ i. with_stamped (key i) (answer i) old)
+          ∙ ap (with_stamped (key_of one) (answer_of one)) c.loop-back.invariant.answers
+          ∙ sym (stamped_over-cons one (drop (count - back) additions) first)
+          ∙ ap (λ l. stamped_over l first) (sym here);
     }

@@ -13,4 +13,4 @@ returns g c =
     let query = file_of c.args.site.now.file.now c.args.operand.now in
     let came = ap (λ r. r.0) c.in_ok-found.ensures ∙ ap (reached bank query) (c.new-progress.ensures ∙ ap beginning c.new.ensures) in
     subst (All (λ name. bank (File name) ≡ None)) (sym c.in_ok-absent.ensures)
-    (absent-of bank query c.find.new.progress c.in_ok-kept.field-0 came (c.in_ok-kept.ensures ∙ c.into_parts-events.ensures.log))
+    (absent-of bank query c.find.new.progress c.in_ok-kept.field-0 came (c.in_ok-kept.ensures.kept ∙ c.into_parts-events.ensures.log))

@@ -1,5 +1,5 @@
 -- The result holds still, and all stays; or it is stale, and the root is expanded anew.
-use Rattle.std.proofs.Common.{◌≡◌, ◌∙◌, ℕ, List, Option, Bool, inl, inr, arith, ap, refl, subst}
+use Rattle.std.proofs.Common.{◌≡◌, ◌⊎◌, ◌∙◌, ℕ, List, Option, Bool, inl, inr, arith, ap, refl, subst}
 use Rattle.std.specs.Prelude.{if◌then◌else◌}
 use Rattle.std.specs.Option.{option_copied, option_eq}
 use Rattle.std.specs.Str.{bytes_eq}
@@ -15,10 +15,15 @@ use Rattle.idl_memo.specs.Meter.{compared_after}
 use Rattle.idl_memo.specs.Renewal.{IsTold, keys_compared}
 use Rattle.idl_memo.specs.declared.meter.Meter.{Meter}
 use Rattle.idl_prep.specs.Root.{expanded, expansion}
+use Rattle.idl_root.specs.AsBefore.{IsAsBefore}
+use Rattle.idl_root.specs.Places.{declarations_of, entries_of}
+use Rattle.idl_root.specs.Results.{IsKeptOf}
+use Rattle.idl_store.specs.Stored.{list_at}
 use Rattle.idl_project.specs.Bank.{bank_of}
 use Rattle.idl_project.specs.Renewed.{IsDrafted}
 use Rattle.idl_project.specs.Work.{answer_eq}
-use Rattle.idl_project.proofs.KeptLemmas.{IsKept-still, IsDrafted-metered, expanded-again, meter-anew, meter-still, told-of}
+use Rattle.idl_project.specs.declared.compile.CompiledRoot.{CompiledRoot}
+use Rattle.idl_project.proofs.KeptLemmas.{IsAsBefore-metered, IsCompiledOf-kept, IsDrafted-metered, IsKept-still, expanded-again, meter-anew, meter-still, told-of}
 use Rattle.idl_project.proofs.kept_root.KeptRoot.renewed.Goals as goal
 
 pub returns-then-holds_after-clause-kept : goal.returns-then-holds_after-clause-kept
@@ -44,7 +49,8 @@ returns-then-holds_after-clause-tasks c =
     (subst (λ (k : Kept RootKey (Option RootAnswer) (List ℕ) (List Event)). HoldsOver key_eq expansion before k → IsTold bytes_eq (option_eq ghosts.eq) key_eq expansion before after k c.holds_after.result)
     c.deref.ensures (c.holds_after.ensures.told expansion before after c.requires.cause) c.requires.kept.over) in
     inl (record {
-      same = expanded-again before after kept c.requires.kept.over (told.over.0 c.if-holds_after.true);
+      declarations_are = ap (λ (es : List Event). declarations_of es) (expanded-again before after kept c.requires.kept.over (told.over.0 c.if-holds_after.true));
+      entries_are = ap (λ (es : List Event). entries_of es) (expanded-again before after kept c.requires.kept.over (told.over.0 c.if-holds_after.true));
       declarations = refl;
       entries = refl;
       checked = ap (λ (m : Meter). m.checked) c.holds_after.ensures.counts;
@@ -70,21 +76,36 @@ returns-then-holds_after-clause-counts c =
 pub expanded-requires-clause-room : goal.expanded-requires-clause-room
 expanded-requires-clause-room c = omega (arith, c.requires.room, ap (λ (m : Meter). m.expanded) c.holds_after.ensures.counts)
 
+-- what was kept of it
 pub expanded-requires-clause-kept : goal.expanded-requires-clause-kept
-expanded-requires-clause-kept c = (
-  (expanded c.args.self.now.result.value.text (bank_of c.args.change.edited.now.base.now)).0,
-  record { marks_are = c.deref-3.ensures ∙ c.requires.kept.marks; declarations_are = c.requires.declarations; entries_are = c.requires.entries },
-)
+expanded-requires-clause-kept c =
+    let before = bank_of c.args.change.edited.now.base.now in (
+      (expanded c.args.self.now.result.value.text before).0,
+      record { marks_are = c.requires.kept.marks; declarations_are = c.requires.declarations; entries_are = c.requires.entries },
+      IsCompiledOf-kept before c.args.self.now _ (ap (λ (r : CompiledRoot). r.rows) c.deref-3.ensures) c.requires.kept,
+    )
 
 pub returns-clause-tasks : goal.returns-clause-tasks
 returns-clause-tasks c =
     let before = bank_of c.args.change.edited.now.base.now in
     let after = changed key_eq before c.args.change.edited.now.key.now (option_copied c.args.change.edited.now.answer) in
-    let name : c.copied-name.result ≡ c.args.self.now.result.value.text =
-    c.copied-name.ensures ∙ c.text.ensures ∙ ap (λ (k : Kept RootKey (Option RootAnswer) (List ℕ) (List Event)). k.text) c.deref-2.ensures in
-    let made = subst (λ (n : List ℕ). IsDrafted after c.args.at n c.args.keeper.now c.expanded.new.keeper c.holds_after.new.meter c.expanded.new.meter) name c.in_ok-expanded.ensures.made in
-    inr (IsDrafted-metered after c.args.at c.args.self.now.result.value.text c.args.keeper.now c.expanded.new.keeper c.args.meter.now c.holds_after.new.meter c.expanded.new.meter
-    (ap (λ (m : Meter). m.checked) c.holds_after.ensures.counts) (ap (λ (m : Meter). m.printed) c.holds_after.ensures.counts) made)
+    let was = (expanded c.args.self.now.result.value.text before).0 in
+    let text = c.args.self.now.result.value.text in
+    let old = c.args.keeper.now in
+    let new = c.expanded.new.keeper in
+    let name : c.copied.result ≡ text = c.copied.ensures ∙ c.text.ensures ∙ ap (λ (k : Kept RootKey (Option RootAnswer) (List ℕ) (List Event)). k.text) c.deref-2.ensures in
+    let kept : IsKeptOf was c.args.self.now.marks.value (list_at old.declarations.lists c.args.at) (list_at old.entries.lists c.args.at) =
+    record { marks_are = c.requires.kept.marks; declarations_are = c.requires.declarations; entries_are = c.requires.entries } in
+    let checked : c.holds_after.new.meter.checked ≡ c.args.meter.now.checked = ap (λ (m : Meter). m.checked) c.holds_after.ensures.counts in
+    let printed : c.holds_after.new.meter.printed ≡ c.args.meter.now.printed = ap (λ (m : Meter). m.printed) c.holds_after.ensures.counts in
+    let made =
+    subst
+    (λ (n : List ℕ). IsAsBefore was (expanded n after).0 old new c.holds_after.new.meter c.expanded.new.meter ⊎ IsDrafted after c.args.at n old new c.holds_after.new.meter c.expanded.new.meter) name
+    (c.in_ok-expanded.ensures.tasks was kept) in
+    elim made [
+      | inl left ↦ inl (IsAsBefore-metered was (expanded text after).0 old new c.args.meter.now c.holds_after.new.meter c.expanded.new.meter checked printed left)
+      | inr anew ↦ inr (IsDrafted-metered after c.args.at text old new c.args.meter.now c.holds_after.new.meter c.expanded.new.meter checked printed anew)
+    ]
 
 pub returns-clause-counts : goal.returns-clause-counts
 returns-clause-counts c =

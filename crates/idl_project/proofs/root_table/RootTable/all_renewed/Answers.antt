@@ -12,8 +12,6 @@ use Rattle.idl_memo.specs.Fresh.{compared_at, stale_at}
 use Rattle.idl_memo.specs.Meter.{compared_after}
 use Rattle.idl_memo.specs.declared.meter.Meter.{Meter}
 use Rattle.idl_prep.specs.Root.{expansion}
-use Rattle.idl_event.specs.declared.told.event.Event.{Event}
-use Rattle.idl_root.specs.Places.{declarations_of, entries_of}
 use Rattle.idl_store.specs.Stored.{list_at}
 use Rattle.idl_root.specs.Results.{DeclarationResult, EntryResult, declaration_result, entry_result, fresh_declarations, fresh_entries}
 use Rattle.idl_project.specs.Bank.{bank_of}
@@ -137,14 +135,14 @@ loop-root-preserved c =
     let declarations : IsUnderWay declaration_result (declarations_at before) (declarations_at after) fresh_declarations (keys_of table ++ root ∷ []) (keys_of rest) now.declarations c.renewed.new.meter.checked =
     ⊎_elim
     (λ l. way-left declaration_result (declarations_at before) (declarations_at after) fresh_declarations c.fresh_tasks.ensures.declarations_aside (keys_of table) root (keys_of rest) was.declarations now.declarations c.loop-root.meter.checked c.renewed.new.meter.checked declarations_way
-    (ap (λ (es : List Event). declarations_of es) l.same) l.declarations l.checked)
+    l.declarations_are l.declarations l.checked)
     (λ m. way-made declaration_result (declarations_at before) (declarations_at after) fresh_declarations c.fresh_tasks.ensures.declarations_aside (keys_of table) root (keys_of rest) was.declarations now.declarations c.loop-root.meter.checked c.renewed.new.meter.checked declarations_way
     c.fresh_tasks.ensures.declarations_split c.len.result place m.declarations m.checked.count)
     tasks in
     let entries : IsUnderWay entry_result (entries_at before) (entries_at after) fresh_entries (keys_of table ++ root ∷ []) (keys_of rest) now.entries c.renewed.new.meter.printed =
     ⊎_elim
     (λ l. way-left entry_result (entries_at before) (entries_at after) fresh_entries c.fresh_tasks.ensures.entries_aside (keys_of table) root (keys_of rest) was.entries now.entries c.loop-root.meter.printed c.renewed.new.meter.printed entries_way
-    (ap (λ (es : List Event). entries_of es) l.same) l.entries l.printed)
+    l.entries_are l.entries l.printed)
     (λ m. way-made entry_result (entries_at before) (entries_at after) fresh_entries c.fresh_tasks.ensures.entries_aside (keys_of table) root (keys_of rest) was.entries now.entries c.loop-root.meter.printed c.renewed.new.meter.printed entries_way
     c.fresh_tasks.ensures.entries_split c.len.result place m.entries m.printed.count)
     tasks in

@@ -1,121 +1,60 @@
-use Rattle.std.proofs.Common.{◌≡◌, ◌≤◌, ◌∙◌, ◌++◌, List, ap, map, refl, subst, sym}
-use Rattle.std.specs.Prelude.{IfSome}
-use Rattle.idl_env.specs.Facts.{UnitFacts}
-use Rattle.idl_env.specs.Turns.{most_turns, turns_for}
-use Rattle.idl_store.specs.Stored.{Stored, grown, list_at, results_in}
-use Rattle.idl_memo.specs.declared.meter.Meter.{Meter}
-use Rattle.idl_root.specs.Compile.{Outcome, compile, outcome_of, told}
-use Rattle.idl_root.specs.Followed.{AreBeside}
-use Rattle.idl_root.specs.Held.{held, listed_at}
-use Rattle.idl_root.specs.Places.{entries_over}
-use Rattle.idl_root.specs.Results.{DeclarationResult, EntryResult, HasDraft, IsEntryPass, PrintsOnly, entry_result, marks_of}
-use Rattle.idl_root.specs.declared.compiling.printing.Listed.{Listed as HeldListed}
-use Rattle.idl_root.proofs.CompileLemmas.{counts-both, declarations-drafted, declarations-passed, entries-drafted, entries-passed, judged-all, printed-there, start-keeping, start-printed, start-there}
-use Rattle.idl_root.proofs.JudgingLemmas.{told-ended}
-use Rattle.idl_root.proofs.StoredLemmas.{has-begun}
-use Rattle.idl_root.proofs.TakenLemmas.{some-weaker}
+-- The units are as they were, and all that is kept of them holds; or the root is compiled anew.
+use Rattle.std.proofs.Common.{◌≡◌, ◌∙◌, None, Some, ap, inl, inr, refl, subst, sym}
+use Rattle.std.specs.Option.{unwrap_or}
+use Rattle.idl_root.specs.AsBefore.{AreAsBefore}
+use Rattle.idl_root.proofs.AsBeforeLemmas.{declarations-again, entries-again, turns-same}
+use Rattle.idl_root.proofs.TakenLemmas.{at-some, none-holds, none-weaker, some-there}
+use Rattle.idl_unit.specs.Units.{units_of}
 use Rattle.idl_root.proofs.compiling.compiled.compile_kept.Goals as goal
 
--- the judging begins beside what is kept
-pub with_all_kept-requires : goal.with_all_kept-requires
-with_all_kept-requires c =
-    let old = c.args.keeper.now.declarations in
-    let root = c.args.root in
-    start-keeping old c.begin.new.self root.at c.in_ok-keeping.keeping c.in_ok-first.first.env c.in_ok-begin.ensures.ok (ap (λ (o : Outcome). o.facts) c.in_ok-first.ensures)
-    (c.in_ok-keeping.ensures.keeping old.lists
-    (start-there old.lists c.new-earlier.result root.at root.marks.now c.new-earlier.ensures.list c.new-earlier.ensures.place c.new-earlier.ensures.marks
-    c.requires.0 (list_at c.args.keeper.now.entries.lists root.at) c.requires.1))
-
--- the printing begins beside what is kept
-pub printed-requires : goal.printed-requires
-printed-requires c =
-    let old = c.args.keeper.now in
-    let root = c.args.root in
-    let course = c.new-earlier.result in
-    let env = c.in_ok-judging.judging.env in
-    let lists = c.with_all_kept.new.kept.lists in
-    let entries = c.begin-2.new.self.lists in
-    let same : lists ≡ old.declarations.lists = c.with_all_kept.ensures.lists ∙ ap (λ (s : Stored DeclarationResult). s.lists) c.in_ok-begin.ensures.ok in
-    let there : entries ≡ old.entries.lists = ap (λ (s : Stored EntryResult). s.lists) c.in_ok-begin-2.ensures.ok in
-    let earlier : c.with_all_kept.new.keeping.earlier ≡ course = c.with_all_kept.ensures.earlier ∙ c.in_ok-keeping.ensures.earlier in
-    let printed = printed-there lists old.declarations.lists c.with_all_kept.new.keeping.earlier course root.at entries old.entries.lists same earlier c.new-earlier.ensures.list there
-    (start-printed old.declarations.lists course root.at root.marks.now c.new-earlier.ensures.list c.new-earlier.ensures.place c.new-earlier.ensures.marks
-    c.requires.0 (list_at old.entries.lists root.at) c.requires.1) in
-    subst (λ o. IfSome o (λ r. AreBeside entries r env)) (sym c.new-printing.ensures.reprinting)
-    (some-weaker c.ended-marks.result.1 _ _ (λ r told. told lists env entries c.in_ok-judging.ensures.keeping printed) c.ended-marks.ensures.reprinting)
-
-pub returns-clause-compiled : goal.returns-clause-compiled
-unfolding compile
-returns-clause-compiled c =
+pub returns-in-Some-clause-turns : goal.returns-in-Some-clause-turns
+returns-in-Some-clause-turns c =
+    let was = c.requires.0 in
     let events = c.args.root.expansion.now in
-    let end = c.args.root.end.now in
-    let judging = held c.in_ok-judging.judging in
-    let all : judging ≡ outcome_of events =
-    judged-all events c.as_slice-2.result.now c.in_ok-findings.findings.items (held c.in_ok-first.first) judging (c.as_slice-2.ensures ∙ c.in_ok-units.ensures) c.in_ok-findings.ensures c.in_ok-first.ensures c.in_ok-judging.ensures.held in
-    c.in_ok-compiled.ensures ∙ told-ended end events c.ended-ended.result judging c.ended-ended.ensures ∙ ap (told end events) all
+    let same : AreAsBefore (units_of was) (units_of events) =
+    subst (AreAsBefore (units_of was)) (c.as_slice.ensures ∙ c.in_ok-units.ensures)
+    (at-some c.in_ok-compiled.field-0 c.in-Some.compiled _ c.in-Some.is c.in_ok-compiled.ensures.before was c.requires.1) in
+    let there =
+    some-there c.args.root.compiled _
+    (none-weaker c.args.root.compiled (λ h. let never : Some c.in-Some.compiled ≡ None = sym c.in-Some.is ∙ h in cc) c.in_ok-compiled.ensures.none) c.requires.2 in
+    turns-same (units_of was) (units_of events) same there.1.turns
 
-pub returns-clause-turns : goal.returns-clause-turns
-returns-clause-turns c =
+pub returns-in-Some-clause-marks : goal.returns-in-Some-clause-marks
+returns-in-Some-clause-marks c =
+    let was = c.requires.0 in
     let events = c.args.root.expansion.now in
-    let judging = held c.in_ok-judging.judging in
-    let all : judging ≡ outcome_of events =
-    judged-all events c.as_slice-2.result.now c.in_ok-findings.findings.items (held c.in_ok-first.first) judging (c.as_slice-2.ensures ∙ c.in_ok-units.ensures) c.in_ok-findings.ensures c.in_ok-first.ensures c.in_ok-judging.ensures.held in
-    subst (λ (fs : List UnitFacts). turns_for fs ≤ most_turns) (ap (λ (o : Outcome). o.facts) all) c.bounds_turns.ensures
+    let same : AreAsBefore (units_of was) (units_of events) =
+    subst (AreAsBefore (units_of was)) (c.as_slice.ensures ∙ c.in_ok-units.ensures)
+    (at-some c.in_ok-compiled.field-0 c.in-Some.compiled _ c.in-Some.is c.in_ok-compiled.ensures.before was c.requires.1) in
+    c.requires.1.marks_are ∙ sym same.marks
+
+pub returns-in-Some-clause-tasks : goal.returns-in-Some-clause-tasks
+returns-in-Some-clause-tasks c = λ was kept.
+    let events = c.args.root.expansion.now in
+    let same : AreAsBefore (units_of was) (units_of events) =
+    subst (AreAsBefore (units_of was)) (c.as_slice.ensures ∙ c.in_ok-units.ensures)
+    (at-some c.in_ok-compiled.field-0 c.in-Some.compiled _ c.in-Some.is c.in_ok-compiled.ensures.before was kept) in
+    inl (record {
+      declarations_are = declarations-again was events same;
+      entries_are = entries-again was events same;
+      declarations = refl;
+      entries = refl;
+      checked = refl;
+      printed = refl;
+    })
+
+pub returns-in-Some-clause-first : goal.returns-in-Some-clause-first
+returns-in-Some-clause-first c =
+    none-weaker c.args.root.compiled (λ h. let never : Some c.in-Some.compiled ≡ None = sym c.in-Some.is ∙ h in cc) c.in_ok-compiled.ensures.none
+
+pub compile_anew-requires-clause-kept : goal.compile_anew-requires-clause-kept
+compile_anew-requires-clause-kept c = (c.requires.0, c.requires.1)
 
 pub returns-clause-marks : goal.returns-clause-marks
-returns-clause-marks c =
-    c.ended-marks.ensures.marks ∙ c.in_ok-judging.ensures.marks
-    ∙ (λ i. c.in_ok-keeping.ensures.marks i ++ marks_of ((c.as_slice-2.ensures ∙ c.in_ok-units.ensures) i))
+returns-clause-marks c = ap (λ m. unwrap_or m c.args.root.marks.now) c.in_ok-compile_anew.ensures.marks
 
-pub returns-clause-declarations : goal.returns-clause-declarations
-returns-clause-declarations c =
-    declarations-drafted c.args.root.expansion.now c.args.keeper.now.declarations c.begin.new.self c.with_all_kept.new.kept c.args.root.at c.in_ok-first.first.env c.as_slice-2.result.now
-    c.in_ok-begin.ensures.ok (ap (λ (o : Outcome). o.facts) c.in_ok-first.ensures) (c.as_slice-2.ensures ∙ c.in_ok-units.ensures) c.in_ok-judging.ensures.kept
+pub returns-clause-tasks : goal.returns-clause-tasks
+returns-clause-tasks c = λ was kept. inr c.in_ok-compile_anew.ensures.made
 
-pub returns-clause-entries : goal.returns-clause-entries
-returns-clause-entries c =
-    let events = c.args.root.expansion.now in
-    let judging = held c.in_ok-judging.judging in
-    let all : judging ≡ outcome_of events =
-    judged-all events c.as_slice-2.result.now c.in_ok-findings.findings.items (held c.in_ok-first.first) judging (c.as_slice-2.ensures ∙ c.in_ok-units.ensures) c.in_ok-findings.ensures c.in_ok-first.ensures c.in_ok-judging.ensures.held in
-    entries-drafted events judging c.args.keeper.now.entries c.begin-2.new.self c.printed.new.kept c.args.root.at all c.in_ok-begin-2.ensures.ok
-    (c.in_ok-printed.ensures.kept
-    ∙ ap (λ (l : List HeldListed). grown c.begin-2.new.self (map entry_result (entries_over judging.facts (map listed_at l)))) c.as_slice-listed.ensures.value)
-
-pub returns-clause-checked : goal.returns-clause-checked
-returns-clause-checked c =
-    let between = c.begin.new.self in
-    let start = c.in_ok-keeping.keeping.meter in
-    let judged = c.with_all_kept.new.keeping.meter in
-    let printed = c.printed.new.self.meter in
-    let before : start.checked ≡ c.args.meter.now.checked = ap (λ (m : Meter). m.checked) c.in_ok-keeping.ensures.meter in
-    let same : judged.checked ≡ c.new-printing.result.meter.checked = ap (λ (m : Meter). m.checked) (sym c.new-printing.ensures.meter) in
-    let after : judged.checked ≡ printed.checked = same ∙ ap (λ (m : Meter). m.checked) (sym c.in_ok-printed.ensures.others) in
-    let has = subst (λ (s : Stored DeclarationResult). HasDraft s) (sym c.in_ok-begin.ensures.ok) (has-begun c.args.keeper.now.declarations c.args.root.at) in
-    declarations-passed c.args.root.expansion.now c.args.keeper.now.declarations between c.with_all_kept.new.kept c.args.root.at c.in_ok-first.first.env c.as_slice-2.result.now
-    start.checked judged.checked c.args.meter.now.checked printed.checked
-    c.in_ok-begin.ensures.ok (ap (λ (o : Outcome). o.facts) c.in_ok-first.ensures) (c.as_slice-2.ensures ∙ c.in_ok-units.ensures) before after (c.in_ok-judging.ensures.counts has)
-
-pub returns-clause-printed : goal.returns-clause-printed
-returns-clause-printed c =
-    let events = c.args.root.expansion.now in
-    let judging = held c.in_ok-judging.judging in
-    let all : judging ≡ outcome_of events =
-    judged-all events c.as_slice-2.result.now c.in_ok-findings.findings.items (held c.in_ok-first.first) judging (c.as_slice-2.ensures ∙ c.in_ok-units.ensures) c.in_ok-findings.ensures c.in_ok-first.ensures c.in_ok-judging.ensures.held in
-    let start = c.new-printing.result.meter in
-    let printed = c.printed.new.self.meter in
-    let before : start.printed ≡ c.args.meter.now.printed =
-    ap (λ (m : Meter). m.printed) (c.new-printing.ensures.meter ∙ c.in_ok-judging.ensures.others) ∙ ap (λ (m : Meter). m.printed) c.in_ok-keeping.ensures.meter in
-    let has = subst (λ (s : Stored EntryResult). HasDraft s) (sym c.in_ok-begin-2.ensures.ok) (has-begun c.args.keeper.now.entries c.args.root.at) in
-    entries-passed events judging c.args.keeper.now.entries c.begin-2.new.self c.printed.new.kept c.args.root.at start.printed printed.printed c.args.meter.now.printed printed.printed
-    all c.in_ok-begin-2.ensures.ok before refl
-    (subst (λ (l : List HeldListed). IsEntryPass (entries_over judging.facts (map listed_at l)) (results_in c.begin-2.new.self) (results_in c.printed.new.kept) start.printed printed.printed) c.as_slice-listed.ensures.value
-    (c.in_ok-printed.ensures.counts has))
-
-pub returns-clause-others : goal.returns-clause-others
-returns-clause-others c =
-    let start = c.in_ok-keeping.keeping.meter in
-    let judged = c.with_all_kept.new.keeping.meter in
-    let printed = c.printed.new.self.meter in
-    let prints = subst (λ (m : Meter). PrintsOnly m printed) c.new-printing.ensures.meter c.in_ok-printed.ensures.others in
-    counts-both c.args.meter.now start judged printed c.in_ok-keeping.ensures.meter c.in_ok-judging.ensures.others prints
+pub returns-clause-first : goal.returns-clause-first
+returns-clause-first c = none-holds c.args.root.compiled c.in_ok-compile_anew.ensures.made

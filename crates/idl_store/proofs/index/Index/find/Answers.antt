@@ -37,7 +37,7 @@ returns-in-Ok-clause-found g c =
     let place = c.in-Ok.place in
     let below : place < length v.items = rw c.deref.ensures.value at c.in-Ok.ensures.within in
     subst (Any (λ e. IsAlike c.args.text.now bank e.0.0 × (e.1 ≡ c.index.result.now.number))) c.self.view_is
-    (found-within m c.args.bucket v (sym c.in-Some.ensures.value) c.args.text.now bank place c.index.result.now below (sym c.index.ensures) (rw c.deref.ensures.value at c.in-Ok.ensures.found))
+    (found-within m c.args.bucket v (sym c.in-Some.ensures.value) (λ kept. IsAlike c.args.text.now bank kept) place c.index.result.now below (sym c.index.ensures) (rw c.deref.ensures.value at c.in-Ok.ensures.found))
 
 pub returns-in-Err-clause-absent : goal.returns-in-Err-clause-absent
 returns-in-Err-clause-absent g c = λ query sound.

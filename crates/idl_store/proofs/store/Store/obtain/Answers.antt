@@ -13,7 +13,7 @@ use Rattle.idl_store.proofs.Changing.{shown-still, stored-kept, stored-used}
 use Rattle.idl_store.proofs.Drafting.{length-drafts, some-unless}
 use Rattle.idl_store.proofs.Exactness.{exact_by, exact_options}
 use Rattle.idl_store.proofs.Hinting.{bucket-result, gap-found, none-found}
-use Rattle.idl_store.proofs.Obtaining.{found-alike, found-taken, grown-found, on_ok, result-found, run-alike, run-shown, run-stored}
+use Rattle.idl_store.proofs.Obtaining.{again-grown, again-result, again-taken, alike-here, comes-shown, comes-stored, found-alike, on_ok, run-alike, run-sound}
 use Rattle.idl_store.proofs.store.Store.obtain.Goals as goal
 
 pub use_again-requires : goal.use_again-requires
@@ -25,12 +25,12 @@ use_again-requires g c =
     let text = g.T.Task.text_of c.args.task.now in
     let bank = g.B.Bank.at c.args.bank.now in
     let found = subst (λ t. Any (λ e. IsAlike t bank e.0.0 × (e.1 ≡ c.in-Ok.number)) index) c.text-2.ensures c.in-Ok.ensures.found in
-    found-taken itself same stored text bank c.in-Ok.number found
+    again-taken stored (result_over g.B.Key.PartialEq.eq g.T.Task.query (text, bank)) c.in-Ok.number (alike-here itself same stored text bank c.in-Ok.number found)
 
 pub invariant_of-self : goal.invariant_of-self
 invariant_of-self g c =
     let stored = c.self.invariant.0 in (
-      stored-used stored c.use_again.new.used c.use_again.result c.in-Ok.number (drafts_of c.use_again.new.drafts.items) c.use_again.ensures.drafts c.use_again.ensures.uses c.use_again.ensures.err,
+      stored-used stored c.use_again.new.used c.use_again.result (c.in-Ok.number ∷ []) (drafts_of c.use_again.new.drafts.items) c.use_again.ensures.drafts c.use_again.ensures.uses c.use_again.ensures.err,
       omega (arith, c.self.invariant.1, c.use_again.ensures.count),
     )
 
@@ -43,7 +43,7 @@ returns-in-Ok-clause-result g c =
     let text = g.T.Task.text_of c.args.task.now in
     let bank = g.B.Bank.at c.args.bank.now in
     let found = subst (λ t. Any (λ e. IsAlike t bank e.0.0 × (e.1 ≡ c.in-Ok.number)) index) c.text-2.ensures c.in-Ok.ensures.found in
-    result-found itself same stored text bank c.in-Ok.number found c.use_again.result c.use_again.ensures.kept
+    again-result stored (result_over g.B.Key.PartialEq.eq g.T.Task.query (text, bank)) c.in-Ok.number (alike-here itself same stored text bank c.in-Ok.number found) c.use_again.result c.use_again.ensures.kept
 
 pub returns-in-Ok-clause-ok : goal.returns-in-Ok-clause-ok
 returns-in-Ok-clause-ok g c =
@@ -54,7 +54,7 @@ returns-in-Ok-clause-ok g c =
     let text = g.T.Task.text_of c.args.task.now in
     let bank = g.B.Bank.at c.args.bank.now in
     let found = subst (λ t. Any (λ e. IsAlike t bank e.0.0 × (e.1 ≡ c.in-Ok.number)) index) c.text-2.ensures c.in-Ok.ensures.found in
-    grown-found itself same stored text bank c.in-Ok.number found c.use_again.result c.use_again.new.used (drafts_of c.use_again.new.drafts.items) c.args.self.now c.self.view_is c.use_again.ensures.drafts c.use_again.ensures.uses
+    again-grown stored (result_over g.B.Key.PartialEq.eq g.T.Task.query (text, bank)) c.in-Ok.number (alike-here itself same stored text bank c.in-Ok.number found) c.use_again.result c.use_again.new.used (drafts_of c.use_again.new.drafts.items) c.args.self.now c.self.view_is c.use_again.ensures.drafts c.use_again.ensures.uses
 
 pub returns-in-Ok-clause-meter : goal.returns-in-Ok-clause-meter
 returns-in-Ok-clause-meter g c =
@@ -132,13 +132,12 @@ invariant_of-self-2 g c =
     let text = g.T.Task.text_of c.args.task.now in
     let bank = g.B.Bank.at c.args.bank.now in
     let at = c.bucket_of-bucket.ensures ∙ (λ i. bucket_at input (c.text.ensures i) (c.hint.ensures i)) in
-    let none = none-found eq itself same query input hint text bank index stored.sound c.text-2.result.now c.text-2.ensures c.bucket_of-bucket.result at (c.in-Err.ensures.absent query) in
     let ok = c.in_ok-put.ensures.ok in
     let is = c.in_ok-again.ensures.cases ∙ c.in_ok-kept.ensures in
     let here = c.in-Err.ensures.bucket ∙ at ∙ sym (bucket-result eq itself same query input hint text bank) in
     let there : 0 < length c.self.inside.drafts.items = omega (arith, c.self.inside.drafts.ok.0, some-unless _ (sym c.is_empty.ensures ∙ c.if-is_empty.false)) in
     let some : 0 < length numbers.drafts = omega (arith, there, length-drafts c.self.inside.drafts.items) in (
-      run-stored itself same stored text bank none c.put.new.used c.put.new.index c.in_ok-again.again c.in-Err.gap.bucket ok.0 (drafts_of c.put.new.drafts.items) is here ok.1 ok.2 some ok.3,
+      comes-stored stored (result_over eq query (text, bank)) c.put.new.used c.put.new.index c.in_ok-again.again c.in-Err.gap.bucket ok.0 (drafts_of c.put.new.drafts.items) is here ok.1 ok.2 (run-sound itself same stored text bank) some ok.3,
       omega (arith, c.self.invariant.1, c.put.ensures.count),
     )
 
@@ -155,11 +154,10 @@ returns-clause-ok g c =
     let text = g.T.Task.text_of c.args.task.now in
     let bank = g.B.Bank.at c.args.bank.now in
     let at = c.bucket_of-bucket.ensures ∙ (λ i. bucket_at input (c.text.ensures i) (c.hint.ensures i)) in
-    let none = none-found eq itself same query input hint text bank index stored.sound c.text-2.result.now c.text-2.ensures c.bucket_of-bucket.result at (c.in-Err.ensures.absent query) in
     let ok = c.in_ok-put.ensures.ok in
     let is = c.in_ok-again.ensures.cases ∙ c.in_ok-kept.ensures in
     let here = c.in-Err.ensures.bucket ∙ at ∙ sym (bucket-result eq itself same query input hint text bank) in
-    run-shown itself same stored text bank none c.put.new.used c.put.new.index c.in_ok-again.again c.in-Err.gap.bucket ok.0 (drafts_of c.put.new.drafts.items) is here ok.1 ok.2 ∙ ap (λ s. grown s (result_over eq query (text, bank) ∷ [])) c.self.view_is
+    comes-shown stored (result_over eq query (text, bank)) c.put.new.used c.put.new.index c.in_ok-again.again c.in-Err.gap.bucket ok.0 (drafts_of c.put.new.drafts.items) is here ok.1 ok.2 ∙ ap (λ s. grown s (result_over eq query (text, bank) ∷ [])) c.self.view_is
 
 pub returns-clause-meter : goal.returns-clause-meter
 returns-clause-meter g c =

@@ -1,5 +1,5 @@
 -- The number there goes into the last draft.
-use Rattle.std.proofs.Common.{◌∙◌, ℕ, List, ap, arith, subst, sym}
+use Rattle.std.proofs.Common.{◌∷◌, ◌∙◌, [], ℕ, List, ap, arith, subst, sym}
 use Rattle.std.specs.Option.{option_to_list}
 use Rattle.idl_store.specs.Numbers.{AreMore, drafts_of, lists_of, numbers_of, result_of, shown}
 use Rattle.idl_store.specs.Stored.{grown, item_at, result_at, results_of_drafts}
@@ -15,7 +15,7 @@ use_again-requires g c =
 pub invariant_of-self-in-Some : goal.invariant_of-self-in-Some
 invariant_of-self-in-Some g c =
     let numbers = numbers_of c.self.inside.lists.items c.self.inside.drafts.items in (
-      stored-used c.self.invariant.0 c.use_again.new.used c.use_again.result c.in-Some.number (drafts_of c.use_again.new.drafts.items) c.use_again.ensures.drafts c.use_again.ensures.uses c.use_again.ensures.err,
+      stored-used c.self.invariant.0 c.use_again.new.used c.use_again.result (c.in-Some.number ∷ []) (drafts_of c.use_again.new.drafts.items) c.use_again.ensures.drafts c.use_again.ensures.uses c.use_again.ensures.err,
       omega (arith, c.self.invariant.1, c.use_again.ensures.count),
     )
 

@@ -1,18 +1,16 @@
 use Rattle.std.proofs.Common.{sym, ap, ◌∙◌, ◌++◌, ◌+◌, ◌∷◌, [], drop, append_assoc}
 use Rattle.std.specs.Prelude.{not}
-use Rattle.std.specs.Map.{lookup}
 use Rattle.std.proofs.lemmas.List.Elements.{filter-append}
+use Rattle.idl_env.specs.Stamps.{stamped_in}
 use Rattle.idl_env.specs.Facts.{is_stopped, unstopped}
-use Rattle.idl_env.specs.keys.Key.{key_eq}
 use Rattle.idl_env.specs.declared.additions.addition.Addition.{Addition}
-use Rattle.idl_env.specs.declared.keys.key.Key.{Key}
 use Rattle.idl_env.proofs.AnswerLaws.PlaceLemmas.{drop-at1}
 use Rattle.idl_env.proofs.additions.facts.Facts.unstopped.Goals as goal
 
 pub loop-index-preserved : goal.loop-index-preserved
 loop-index-preserved c =
     let additions = c.args.self.now.additions in
-    let bank = λ (k : Key). lookup (key_eq k) c.args.answers.now in
+    let bank = (stamped_in c.args.answers.now).at in
     let at = c.loop-index.index in
     let old = c.loop-index.left.items in
     let one = c.in-Some.addition.now in

@@ -1,0 +1,13 @@
+pub mod Asks
+pub mod Cursors
+pub mod Finds
+pub mod Grows
+pub mod Knows
+pub mod Names
+pub mod Orders
+pub mod Stacks
+pub mod Stands
+pub mod Stops
+pub mod Told
+pub mod UnitStops
+pub mod Visits

@@ -1,0 +1,11 @@
+pub mod AnsweredLaws
+pub mod BalanceLaws
+pub mod BeneathLaws
+pub mod ClosingStands
+pub mod InsideLaws
+pub mod NestedLaws
+pub mod OpenLaws
+pub mod Seen
+pub mod StandingLaws
+pub mod WalkLaws
+pub mod WrittenLaws

@@ -1,0 +1,4 @@
+pub mod Answered
+pub mod Beneath
+pub mod Known
+pub mod Written

@@ -1,0 +1,123 @@
+-- Units that are as they were, and what is kept of them.
+use Rattle.std.specs.Prelude.{◌≡◌, ℕ, ◌+◌, List, [], ◌∷◌, ◌++◌, flat_map, map}
+use Rattle.idl_event.specs.declared.told.event.Event.{Event}
+use Rattle.idl_fault.specs.declared.place.Place.{Place}
+use Rattle.idl_memo.specs.declared.meter.Meter.{Meter}
+use Rattle.idl_root.specs.Compile.{compile}
+use Rattle.idl_root.specs.Findings.{fault_finding}
+use Rattle.idl_root.specs.Followed.{results_from}
+use Rattle.idl_root.specs.Judged.{HasTurns, Judged}
+use Rattle.idl_root.specs.Places.{declarations_after, declarations_of, entries_of}
+use Rattle.idl_root.specs.Printed.{Listed, name_index}
+use Rattle.idl_root.specs.Results.{DeclarationResult, EntryResult, IsDeclarationPass, IsEntryPass, declaration_result, entry_result, mark_at, marks_of}
+use Rattle.idl_root.specs.declared.compiling.compiled.Compiled.{Compiled}
+use Rattle.idl_root.specs.declared.compiling.finding.EventFinding.{EventFinding}
+use Rattle.idl_root.specs.declared.kept.course.Course.{Course}
+use Rattle.idl_root.specs.declared.kept.keeper.Keeper.{Keeper}
+use Rattle.idl_root.specs.declared.kept.marks.Mark.{Mark}
+use Rattle.idl_root.specs.declared.kept.marks.Mark.TheVariants as mark
+use Rattle.idl_store.specs.Stored.{results_in, with_draft}
+use Rattle.idl_unit.specs.TokenRules.{fault_at}
+use Rattle.idl_unit.specs.Units.{units_of}
+use Rattle.idl_unit.specs.declared.unit.Unit.{Unit as RootUnit}
+use Rattle.idl_unit.specs.declared.unit.Unit.TheVariants.{Spelled, Entered, Left, End}
+use Rattle.idl_unit.specs.declared.unit.UnitText.{UnitText}
+use Rattle.std.specs.Option.{option_map}
+
+-- the text of a unit, if it has tokens
+abbrev pub text_at : RootUnit → List UnitText
+text_at (Spelled text sites) = text ∷ []
+text_at (Entered file inside) = []
+text_at (Left file inside) = []
+text_at End = []
+
+abbrev pub texts_of : List RootUnit → List UnitText
+texts_of units = flat_map text_at units
+
+-- units are as those before were: of the same texts, with the same file boundaries, and in the same
+-- order; where their tokens stand may differ
+pub record AreAsBefore (before units : List RootUnit) : Type 0 where
+  pub marks : marks_of units ≡ marks_of before
+  pub texts : texts_of units ≡ texts_of before
+
+-- ---- the walk beside what is kept
+
+-- the texts of the units that are still to come, as they are kept
+abbrev pub texts_from : List (List DeclarationResult) → Course → List UnitText
+texts_from lists course = map (λ k. k.text) (results_from lists course)
+
+-- the place of the next result behind a unit with this mark, where its own would stand at that
+abbrev pub place_behind : Mark → ℕ → ℕ
+place_behind mark.Judged place = place + 1
+place_behind mark.Entered place = place
+place_behind mark.Left place = place
+
+-- the course behind the first unit of another, which was that
+pub record IsBehindMark (course : Course) (m : Mark) (next : Course) : Type 0 where
+  pub list : next.list ≡ course.list
+  pub place : next.place ≡ place_behind m course.place
+  pub marks : course.marks.now ≡ m ∷ next.marks.now
+
+-- the course behind the first unit of another, which was as this one is
+pub record IsBehindSame (lists : List (List DeclarationResult)) (course : Course) (unit : RootUnit)
+    (next : Course) : Type 0 where
+  pub list : next.list ≡ course.list
+  pub marks : course.marks.now ≡ mark_at unit ++ next.marks.now
+  pub texts : texts_from lists course ≡ text_at unit ++ texts_from lists next
+
+-- the units of a course are these, from the first one of a root on
+pub record AreCourse (lists : List (List DeclarationResult)) (course : Course)
+    (units : List RootUnit) : Type 0 where
+  pub marks : course.marks.now ≡ marks_of units
+  pub results : results_from lists course ≡ map declaration_result (declarations_after [] units)
+
+-- ---- what is found in them
+
+-- these units, each with the verdict that is kept of it
+abbrev pub judged_beside : List RootUnit → List DeclarationResult → List Judged
+judged_beside [] results = []
+judged_beside (Spelled text sites ∷ units) [] = []
+judged_beside (Spelled text sites ∷ units) (k ∷ results) =
+    record { text = text; sites = sites; verdict = k.out } ∷ judged_beside units results
+judged_beside (Entered file inside ∷ units) results = judged_beside units results
+judged_beside (Left file inside ∷ units) results = judged_beside units results
+judged_beside (End ∷ units) results = judged_beside units results
+
+-- what is wrong with names at the end, by the entries that are kept of them
+abbrev pub closing_beside : List Listed → List EntryResult → List EventFinding
+closing_beside [] entries = []
+closing_beside (l ∷ listed) [] = []
+closing_beside (l ∷ listed) (k ∷ entries) =
+    fault_finding l.text l.sites (option_map (fault_at (name_index l.text)) k.out.fault)
+    ++ closing_beside listed entries
+
+-- ---- roots
+
+-- a root compiled to that at these events, for which verdicts are taken with as many turns as they
+-- need
+pub record IsCompiledOf (events : List Event) (compiled : Compiled) : Type 0 where
+  pub end : Place
+  pub rows : compiled ≡ compile end events
+  pub turns : HasTurns (units_of events)
+
+-- nothing is made of a root: its tasks are those that it had
+pub record IsAsBefore (was events : List Event) (old new : Keeper) (before after : Meter)
+    : Type 0 where
+  pub declarations_are : declarations_of events ≡ declarations_of was
+  pub entries_are : entries_of events ≡ entries_of was
+  pub declarations : new.declarations ≡ old.declarations
+  pub entries : new.entries ≡ old.entries
+  pub checked : after.checked ≡ before.checked
+  pub printed : after.printed ≡ before.printed
+
+-- a root of these events is made, at a place among all: its lists are in drafts, and its fresh tasks
+-- are counted
+pub record IsMade (events : List Event) (at : ℕ) (old new : Keeper) (before after : Meter)
+    : Type 0 where
+  pub declarations : new.declarations
+      ≡ with_draft old.declarations at (map declaration_result (declarations_of events))
+  pub entries : new.entries ≡ with_draft old.entries at (map entry_result (entries_of events))
+  pub checked : IsDeclarationPass (declarations_of events) (results_in old.declarations)
+      (results_in new.declarations) before.checked after.checked
+  pub printed : IsEntryPass (entries_of events) (results_in old.entries) (results_in new.entries)
+      before.printed after.printed

@@ -1,0 +1,10 @@
+pub mod Comes
+pub mod Cuts
+pub mod Fronts
+pub mod Insides
+pub mod LogLaws
+pub mod Meets
+pub mod Repeats
+pub mod Results
+pub mod Splits
+pub mod Wholes

@@ -1,0 +1,36 @@
+use Rattle.std.proofs.Common.{◌≤◌, refl}
+use Rattle.std.specs.Option.{option_eq}
+use Rattle.idl_check_blocks.specs.Standing.{unit_asks}
+use Rattle.idl_env.specs.SameAnswer.{answer_eq}
+use Rattle.idl_env.specs.keys.Key.{key_eq}
+use Rattle.idl_memo.proofs.FreshTasks.{shared-most}
+use Rattle.idl_root_blocks.proofs.Meets.{met-block, met-known, met-loose, met-most}
+use Rattle.idl_root_blocks.specs.Met.{Met, MetBlock, MetUnit, block_text_eq, met_over, most_shared_by, shared_by, unit_text_eq}
+use Rattle.idl_root_blocks.specs.Places.{block_query}
+use Rattle.idl_root_blocks.proofs.met.meeting.Goals as goal
+
+pub returns-clause-none : goal.returns-clause-none
+unfolding met_over
+returns-clause-none c = λ known facts. refl
+
+pub returns-clause-loose : goal.returns-clause-loose
+returns-clause-loose c = λ known facts part pieces. met-loose known facts part pieces
+
+pub returns-clause-block : goal.returns-clause-block
+returns-clause-block c = λ known facts inside pieces. met-block known facts inside pieces
+
+pub returns-clause-known : goal.returns-clause-known
+returns-clause-known c = λ known other facts pieces h. met-known pieces known other facts h
+
+pub returns-clause-most : goal.returns-clause-most
+returns-clause-most c = λ met. met-most each met
+  where
+    each : (m : Met) → shared_by m ≤ most_shared_by m
+    each (MetUnit known here) =
+        shared-most unit_text_eq c.exact.ensures.itself c.exact.ensures.turn c.exact.ensures.same
+        (option_eq answer_eq) c.exact-3.ensures.itself c.exact-3.ensures.same unit_asks
+        key_eq c.exact-4.ensures.itself c.exact-4.ensures.same known here
+    each (MetBlock known here) =
+        shared-most block_text_eq c.exact-2.ensures.itself c.exact-2.ensures.turn c.exact-2.ensures.same
+        (option_eq answer_eq) c.exact-3.ensures.itself c.exact-3.ensures.same block_query
+        key_eq c.exact-4.ensures.itself c.exact-4.ensures.same known here

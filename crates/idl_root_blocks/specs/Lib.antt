@@ -1,0 +1,4 @@
+pub mod Blocks
+pub mod Met
+pub mod Outer
+pub mod Places
