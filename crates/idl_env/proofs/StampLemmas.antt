@@ -2,6 +2,7 @@
 use Rattle.std.proofs.Common.{◌≡◌, ℕ, ◌+◌, ◌<◌, ◌≤◌, Bool, true, false, cond, List, [], ◌∷◌, ◌++◌, Option, Some, length, refl, sym, ap, ◌∙◌, arith}
 use Rattle.std.specs.Prelude.{◌||◌, ◌↔◌, IsTrue, IsFalse, is_some}
 use Rattle.std.specs.Map.{lookup}
+use Rattle.idl_base.proofs.Bools.{or-false}
 use Rattle.idl_env.specs.Facts.{UnitFacts, World, addition_at, after, after_all, answer_of, first_world, key_of, world}
 use Rattle.idl_env.specs.Held.{IsAmongOthers}
 use Rattle.idl_env.specs.Stamps.{Stamped, Stamps, answer_in, stamped, stamped_over, stamps_of, with_one_more, with_stamped, writer_in}
@@ -74,11 +75,7 @@ stamped_over-last additions a kept =
 -- ---- the last facts that write at a key
 
 written-push : (facts : List UnitFacts) (f : UnitFacts) (w : World) (k : Key) → written_from w (facts ++ f ∷ []) k ≡ (written_from w facts k || writes_at (after_all w facts) f k)
-written-push [] f w k = or_false (writes_at w f k)
-  where
-    or_false : (b : Bool) → (b || false) ≡ b
-    or_false true = refl
-    or_false false = refl
+written-push [] f w k = or-false (writes_at w f k)
 written-push (g ∷ facts) f w k =
     ap (λ b. writes_at w g k || b) (written-push facts f (after w g) k)
     ∙ sym (or_joined (writes_at w g k) (written_from (after w g) facts k) (writes_at (after_all (after w g) facts) f k))

@@ -1,5 +1,5 @@
 -- Where facts write no answer, there is the one before them.
-use Rattle.std.proofs.Common.{◌≡◌, ℕ, ◌+◌, Bool, true, false, cond, List, [], ◌∷◌, ◌++◌, Option, Some, None, refl, sym, ap, ◌∙◌}
+use Rattle.std.proofs.Common.{◌≡◌, Bool, true, false, cond, List, [], ◌∷◌, ◌++◌, Option, Some, None, refl, sym, ap, ◌∙◌}
 use Rattle.std.specs.Prelude.{◌||◌, IsFalse, is_some}
 use Rattle.idl_env.specs.Facts.{UnitFacts, World, addition_at, after, after_all, after_closing, after_step, answer_of, answers, closing, count_in, first_world, nameless, over, path_around, scopes_in, unstopped, with_additions, world}
 use Rattle.idl_env.specs.Written.{closes_at, is_added, steps_at, writes_at, written_from}
@@ -13,11 +13,12 @@ use Rattle.idl_env.specs.declared.keys.key.Key.{Key}
 use Rattle.idl_env.specs.declared.keys.key.Key.TheVariants.{Cursor, Nameless, Opened, Prefix as PrefixKey}
 use Rattle.idl_env.proofs.AnswerLaws.CountLemmas.{world-is}
 
-neither-first : (a b : Bool) → IsFalse (a || b) → IsFalse a
+-- where neither of two holds
+pub neither-first : (a b : Bool) → IsFalse (a || b) → IsFalse a
 neither-first true b h = h
 neither-first false b h = refl
 
-neither-second : (a b : Bool) → IsFalse (a || b) → IsFalse b
+pub neither-second : (a b : Bool) → IsFalse (a || b) → IsFalse b
 neither-second true b h = absurd (let z : true ≡ false = h in cc)
 neither-second false b h = h
 

@@ -27,6 +27,15 @@ impl Step<DigestedKey, Answer, ()> for NoStep {
         0
     }
 
+    fn append_to(
+        &self,
+        _alloc: Global,
+        _head: &(),
+        _entries: &mut Vec<(DigestedKey, Option<Answer>)>,
+    ) -> Result<(), AllocError> {
+        Ok(())
+    }
+
     fn head(
         _alloc: Global,
         _entries: &[(DigestedKey, Option<Answer>)],

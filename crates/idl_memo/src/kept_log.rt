@@ -1,6 +1,6 @@
 //! What a kept task asked of its bank.
 
-ghost use Rattle.std.specs.Prelude.{◌≡◌, ◌↔◌, All, IfOk, IsFalse, IsTrue, Option, flat_map, length, map, slice_get};
+ghost use Rattle.std.specs.Prelude.{◌≡◌, ◌↔◌, ◌++◌, All, IfOk, IsFalse, IsTrue, OnOk, Option, flat_map, length, map, slice_get};
 ghost use Rattle.std.specs.Option.{option_copied, option_map, option_to_list};
 ghost use Rattle.idl_memo.specs.Cause.{IsCause};
 ghost use Rattle.idl_memo.specs.Query.{HoldsIn, is_logged};
@@ -8,7 +8,7 @@ ghost use Rattle.idl_memo.specs.Parts.{part_entries};
 ghost use Rattle.idl_memo.specs.Runs.{first_other, other_at};
 
 use crate::bank::{Bank, LentBank, PlainBank};
-use crate::log::is_same;
+use crate::log::{copied, is_same};
 use crate::run::{LogPart, Part};
 use crate::step::Digests;
 use idl_base::Datum;
@@ -192,6 +192,25 @@ impl<B: Bank> KeptLog<B> {
         }
     }
 
+    /// The entries, one after another: lent where each stands by itself, and else copies of them in this room.
+    pub fn entries_in<'a>(
+        &'a self,
+        alloc: Global,
+        room: &'a mut Vec<(B::Key, Option<B::Answer>)>,
+    ) -> Result<&'a [(B::Key, Option<B::Answer>)], AllocError>
+        ensures { IfOk result (λ entries. entries.now ≡ self.now) }
+    {
+        match &self.form {
+            Form::Plain(entries) => Ok(entries),
+            Form::Digested(both) => Ok(&both.entries),
+            Form::Parted(parted) => {
+                room.clear();
+                append_parts(&parted.parts, alloc, room)?;
+                Ok(room)
+            }
+        }
+    }
+
     // Whether a log that holds in a bank holds too in one that differs from it in nothing but this cause: the key tells.
     pub(crate) fn outlasts(&self, cause: Option<&B::Key>) -> bool
         ensures { (old new : B.Key → Option B.Answer) → IsCause old new (option_copied cause.entry)
@@ -310,6 +329,39 @@ fn is_in_parts<B: Bank>(parts: &[LogPart<B>], alloc: Global, key: &B::Key) -> bo
         }
     }
     false
+}
+
+// Puts copies of the entries of these parts behind others.
+fn append_parts<B: Bank>(
+    parts: &[LogPart<B>],
+    alloc: Global,
+    entries: &mut Vec<(B::Key, Option<B::Answer>)>,
+) -> Result<(), AllocError>
+    ensures { OnOk result
+        (entries.new.items ≡ entries.old.items ++ flat_map part_entries parts.now) }
+{
+    for part in parts {
+        append_part(part, alloc, entries)?;
+    }
+    Ok(())
+}
+
+// The same of a part.
+fn append_part<B: Bank>(
+    part: &LogPart<B>,
+    alloc: Global,
+    entries: &mut Vec<(B::Key, Option<B::Answer>)>,
+) -> Result<(), AllocError>
+    ensures { OnOk result (entries.new.items ≡ entries.old.items ++ part_entries part.now) }
+{
+    match part {
+        Part::One(key, answer) => {
+            let answer = copied(answer.as_ref())?;
+            entries.push((key.clone()?, answer))?;
+            Ok(())
+        }
+        Part::Many(run) => run.append_to(alloc, entries),
+    }
 }
 
 // The first of these answers that isn't the bank's, with the bank's.

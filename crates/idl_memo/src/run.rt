@@ -1,6 +1,6 @@
 //! Runs: entries of a log that many steps stand for.
 
-ghost use Rattle.std.specs.Prelude.{◌≡◌, [], All, IsFalse, List, Option, flat_map, length, take};
+ghost use Rattle.std.specs.Prelude.{◌≡◌, ◌++◌, [], All, IsFalse, List, OnOk, Option, flat_map, length, take};
 ghost use Rattle.std.specs.Option.{option_copied, option_map};
 ghost use Rattle.idl_memo.specs.Query.{is_logged};
 ghost use Rattle.idl_memo.specs.Runs.{first_other};
@@ -9,7 +9,7 @@ use crate::bank::{Bank, LentBank, PlainBank};
 use crate::step::{Digests, Step};
 use crate::steps::Steps;
 use idl_map::Digest;
-use std::alloc::Global;
+use std::alloc::{AllocError, Global};
 use std::marker::Model;
 
 /// Entries of a log that stand side by side: the first of some steps, and what these have in common. To every contract it is the
@@ -98,6 +98,25 @@ impl<B: Bank> Run<B> {
             behind = others;
         }
         None
+    }
+
+    /// Puts its entries behind others.
+    pub(crate) fn append_to(
+        &self,
+        alloc: Global,
+        entries: &mut Vec<(B::Key, Option<B::Answer>)>,
+    ) -> Result<(), AllocError>
+        ensures { OnOk result (entries.new.items ≡ entries.old.items ++ self.now) }
+    {
+        let mut behind = self.steps.lent();
+        for _step in 0..self.count {
+            let Some((step, others)) = behind.split_first() else {
+                return Ok(());
+            };
+            step.append_to(alloc, &self.head, entries)?;
+            behind = others;
+        }
+        Ok(())
     }
 
     /// Whether a key is among those of its entries.

@@ -1,6 +1,6 @@
 //! Steps: what stands for a few entries of a log that stand side by side.
 
-ghost use Rattle.std.specs.Prelude.{◌≡◌, ℕ, All, IfOk, IfSome, IsFalse, IsTrue, List, Option, length};
+ghost use Rattle.std.specs.Prelude.{◌≡◌, ◌++◌, ℕ, All, IfOk, IfSome, IsFalse, IsTrue, List, OnOk, Option, length};
 ghost use Rattle.std.specs.Option.{option_copied, option_map};
 ghost use Rattle.idl_memo.specs.Query.{is_logged};
 ghost use Rattle.idl_memo.specs.Runs.{BeginsWith, first_other};
@@ -28,6 +28,16 @@ pub trait Step<K: Datum + Ord + Digest, A: Datum, H>: Datum {
     /// How many these are. It takes no memory.
     fn width(head: &H) -> usize
         ensures { (step : Self) → result ≡ length (logged head.now step) };
+
+    /// Puts these behind other entries.
+    fn append_to(
+        &self,
+        alloc: Global,
+        head: &H,
+        entries: &mut Vec<(K, Option<A>)>,
+    ) -> Result<(), AllocError>
+        ensures { OnOk result
+            (entries.new.items ≡ entries.old.items ++ logged head.now self.now) };
 
     /// What the steps of a run would have in common that begins with these entries.
     fn head(alloc: Global, entries: &[(K, Option<A>)]) -> Result<Option<H>, AllocError>;

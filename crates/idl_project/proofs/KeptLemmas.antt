@@ -12,8 +12,8 @@ use Rattle.idl_event.specs.declared.asked.key.RootAnswer.{RootAnswer}
 use Rattle.idl_event.specs.declared.asked.key.RootAnswer.TheVariants as answer
 use Rattle.idl_event.specs.declared.asked.key.RootKey.{RootKey}
 use Rattle.idl_event.specs.declared.asked.key.RootKey.TheVariants as key
-use Rattle.idl_memo.specs.Fresh.{asked_among, compared_among, fresh_among, is_alike, places_over, stale_among, stale_at}
-use Rattle.idl_memo.specs.Meter.{ComparesOnly, compared_after}
+use Rattle.idl_memo.specs.Fresh.{asked_among, fresh_among, is_alike, places_over, stale_among, stale_at}
+use Rattle.idl_memo.specs.Meter.{compared_after}
 use Rattle.idl_memo.specs.Renewal.{IsTold}
 use Rattle.idl_memo.specs.declared.meter.Meter.{Meter}
 use Rattle.idl_memo.specs.Kept.{Kept, HoldsOver}
@@ -21,17 +21,18 @@ use Rattle.idl_memo.specs.Query.{asked, is_logged, noted_all}
 use Rattle.idl_store.specs.Stored.{results_in}
 use Rattle.idl_prep.specs.Root.{absent_files, expanded, expansion, root}
 use Rattle.idl_root.specs.AsBefore.{IsAsBefore, IsCompiledOf, IsMade}
+use Rattle.idl_root.specs.Compared.{compared_root, root_keys}
 use Rattle.idl_root.specs.Compile.{compile}
 use Rattle.idl_root.specs.declared.compiling.compiled.Compiled.{Compiled}
 use Rattle.idl_root.specs.Turns.{IsWithinTurns}
-use Rattle.idl_root.specs.Results.{DeclarationResult, EntryResult, IsDeclarationPass, IsEntryPass, IsKeptOf, fresh_declarations, fresh_entries, root_marks}
+use Rattle.idl_root.specs.Results.{IsDeclarationPass, IsEntryPass, IsKeptOf, KeptLists, fresh_declarations, fresh_entries, root_marks}
 use Rattle.idl_root.specs.declared.kept.keeper.Keeper.{Keeper}
-use Rattle.idl_root.specs.declared.kept.marks.Mark.{Mark}
+use Rattle.idl_project.specs.Compared.{compared_in, met_between}
 use Rattle.idl_project.specs.Compile.{compile_over, end_of, line_count}
 use Rattle.idl_project.specs.Renewed.{IsDrafted}
-use Rattle.idl_project.specs.Tasks.{declarations_among, declarations_at, entries_among, entries_at}
+use Rattle.idl_project.specs.Tasks.{answer_eq, declarations_among, declarations_at, entries_among, entries_at, root_lists}
 use Rattle.idl_project.specs.UpToDate.{AreKept, IsKept, keys_asked}
-use Rattle.idl_project.specs.Work.{answer_eq, compared_keys, fresh_roots, staying, work_between}
+use Rattle.idl_project.specs.Work.{fresh_roots, work_between}
 use Rattle.idl_project.specs.declared.compile.CompiledRoot.{CompiledRoot}
 use Rattle.idl_project.specs.declared.kept_root.KeptRoot.{KeptRoot}
 
@@ -141,23 +142,29 @@ IsDrafted-from bank at name events old new before after is made = subst (λ (es 
 
 -- the same from meters with these counts
 pub IsDrafted-metered : (bank : RootKey → Option RootAnswer) (at : ℕ) (name : List ℕ) (old new : Keeper) (first before after : Meter) → before.checked ≡ first.checked → before.printed ≡ first.printed
-    → IsDrafted bank at name old new before after → IsDrafted bank at name old new first after
-IsDrafted-metered bank at name old new first before after checked printed made = record {
+    → before.compared ≡ first.compared → IsDrafted bank at name old new before after → IsDrafted bank at name old new first after
+IsDrafted-metered bank at name old new first before after checked printed compared made = record {
   declarations = made.declarations;
+  blocks = made.blocks;
+  begins = made.begins;
   entries = made.entries;
-  checked = subst (λ n. IsDeclarationPass (declarations_at bank name) (results_in old.declarations) (results_in new.declarations) n after.checked) checked made.checked;
+  checked = subst (λ n. IsDeclarationPass (declarations_at bank name) (results_in old.texts.declarations) (results_in new.texts.declarations) n after.checked) checked made.checked;
   printed = subst (λ n. IsEntryPass (entries_at bank name) (results_in old.entries) (results_in new.entries) n after.printed) printed made.printed;
+  compared = λ known entries texts_are entries_are.
+      made.compared known entries texts_are entries_are ∙ ap (λ n. compared_after n (compared_root known entries (expanded name bank).0)) compared;
 }
 
 pub IsAsBefore-metered : (was events : List Event) (old new : Keeper) (first before after : Meter) → before.checked ≡ first.checked → before.printed ≡ first.printed
-    → IsAsBefore was events old new before after → IsAsBefore was events old new first after
-IsAsBefore-metered was events old new first before after checked printed left = record {
+    → before.compared ≡ first.compared → IsAsBefore was events old new before after → IsAsBefore was events old new first after
+IsAsBefore-metered was events old new first before after checked printed compared left = record {
   declarations_are = left.declarations_are;
+  pieces_are = left.pieces_are;
   entries_are = left.entries_are;
-  declarations = left.declarations;
+  texts = left.texts;
   entries = left.entries;
   checked = left.checked ∙ checked;
   printed = left.printed ∙ printed;
+  compared = left.compared ∙ ap (λ n. compared_after n (root_keys events)) compared;
 }
 
 -- what a root compiled to over some answers, of its events then
@@ -170,13 +177,15 @@ IsCompiledOf-kept bank kept compiled same is = record {
   turns = is.turns;
 }
 
--- of a root of which nothing is kept
-pub IsKeptOf-none : (declarations : List DeclarationResult) (entries : List EntryResult) (marks : List Mark) → IsKeptOf [] marks [] [] → declarations ≡ [] → entries ≡ []
-    → IsKeptOf [] marks declarations entries
-IsKeptOf-none declarations entries marks none no_declarations no_entries = record {
-  marks_are = none.marks_are;
-  declarations_are = no_declarations ∙ none.declarations_are;
-  entries_are = no_entries ∙ none.entries_are;
+-- what is kept of a root, by its place among all
+pub IsKeptOf-held : (bank : RootKey → Option RootAnswer) (kept : KeptRoot) (lists : KeptLists) → IsKept bank (kept.result.value.text, kept) → lists ≡ root_lists bank kept.result.value.text
+    → IsKeptOf (expanded kept.result.value.text bank).0 kept.marks.value lists
+IsKeptOf-held bank kept lists is are = record {
+  marks_are = is.marks;
+  declarations_are = ap (λ (l : KeptLists). l.declarations) are;
+  blocks_are = ap (λ (l : KeptLists). l.blocks) are;
+  begins_are = ap (λ (l : KeptLists). l.begins) are;
+  entries_are = ap (λ (l : KeptLists). l.entries) are;
 }
 
 -- what is told of a kept result, by the test of equality of the answers
@@ -184,23 +193,18 @@ pub told-of : (old new : RootKey → Option RootAnswer) (kept : Kept RootKey (Op
     → IsTold bytes_eq (option_eq ghosts.eq) key_eq expansion old new kept holds → IsTold bytes_eq (option_eq answer_eq) key_eq expansion old new kept holds
 told-of old new kept holds told = subst (λ (e : RootAnswer → RootAnswer → Bool). IsTold bytes_eq (option_eq e) key_eq expansion old new kept holds) answer_eq-derived told
 
--- the meter where a result holds still
-pub meter-still : (old new : Meter) (stale cost keys : ℕ) → ComparesOnly old new → new.compared ≡ compared_after old.compared keys → stale ≡ 0 → cost ≡ keys
-    → new ≡ record old { expanded = old.expanded + stale; checked = new.checked; printed = new.printed; compared = compared_after old.compared cost }
-meter-still old new stale cost keys only compared none same =
-    let expanded : old.expanded ≡ old.expanded + stale = omega (arith, none) in
-    let checked = ap (λ (m : Meter). m.checked) only in
-    let printed = ap (λ (m : Meter). m.printed) only in
-    only ∙ (λ i. record old { expanded = expanded i; checked = sym checked i; printed = sym printed i; compared = (compared ∙ ap (compared_after old.compared) (sym same)) i })
+-- a task of which nothing is told but that it is stale, or is not
+pub alike-when : (b : Bool) → ◌≡◌ {A = ℕ} (if b then 0 else 1) 0 → b ≡ true
+alike-when true h = refl
+alike-when false h = cc
 
--- the meter where it doesn't, and the root is expanded anew
-pub meter-anew : (old mid new : Meter) (stale cost keys : ℕ) → ComparesOnly old mid → mid.compared ≡ compared_after old.compared keys
-    → new ≡ record mid { expanded = mid.expanded + 1; checked = new.checked; printed = new.printed } → stale ≡ 1 → cost ≡ keys
-    → new ≡ record old { expanded = old.expanded + stale; checked = new.checked; printed = new.printed; compared = compared_after old.compared cost }
-meter-anew old mid new stale cost keys only compared more one same =
-    let expanded : old.expanded + 1 ≡ old.expanded + stale = omega (arith, one) in
-    more ∙ ap (λ (m : Meter). record m { expanded = m.expanded + 1; checked = new.checked; printed = new.printed }) only
-    ∙ (λ i. record old { expanded = expanded i; checked = new.checked; printed = new.printed; compared = (compared ∙ ap (compared_after old.compared) (sym same)) i })
+pub stale-when : (b : Bool) → ◌≡◌ {A = ℕ} (if b then 0 else 1) 1 → b ≡ false
+stale-when false h = refl
+stale-when true h = cc
+
+-- the meter where a result holds still: so many keys more
+pub held-meter : (old new : Meter) (keys asked : ℕ) → new ≡ record old { compared = compared_after old.compared keys } → keys ≡ asked → new ≡ record old { compared = compared_after old.compared asked }
+held-meter old new keys asked more same = more ∙ ap (λ n. record old { compared = compared_after old.compared n }) same
 
 -- the keys that the roots asked are those of their results
 pub keys_asked-kept : (bank : RootKey → Option RootAnswer) (held : List (List ℕ × KeptRoot)) → AreKept bank held
@@ -212,35 +216,27 @@ keys_asked-kept bank (e ∷ es) h =
     ap (λ (p : List Event × List (RootKey × Option RootAnswer)). length p.1) kept.over ∙ ap (λ (n : List ℕ). length (expanded n bank).1) kept.text in
     (λ i. sym log i + keys_asked-kept bank es (All-tail (λ (root : List ℕ × KeptRoot). IsKept bank root) e es h) i)
 
--- the work of an edit of the roots: so many are fresh, and those that stay are compared at all that they asked
-pub work-roots : (bank : RootKey → Option RootAnswer) (before places : List (List ℕ)) (held : List (List ℕ × KeptRoot)) (n checked printed : ℕ) → AreKept bank held → staying before places ≡ keys_of held
+-- the work of an edit of the roots, over the same answers
+pub work-roots : (bank : RootKey → Option RootAnswer) (before places : List (List ℕ)) (n checked printed compared : ℕ)
     → fresh_among bytes_eq (option_eq ghosts.eq) expansion (places_over bank before) (places_over bank places) ≡ n
-    → compared_among bytes_eq (option_eq ghosts.eq) expansion key_eq bank bank (keys_of held) ≡ asked_among bytes_eq (option_eq ghosts.eq) expansion key_eq bank (keys_of held)
     → checked ≡ fresh_declarations (declarations_among bank before) (declarations_among bank places) → printed ≡ fresh_entries (entries_among bank before) (entries_among bank places)
-    → record { expanded = n; checked = checked; printed = printed; compared = compared_after 0 (keys_asked held) } ≡ work_between bank before bank places
-work-roots bank before places held n checked printed are stay fresh all check print =
+    → compared ≡ compared_after 0 (compared_in (met_between bank before bank places))
+    → record { expanded = n; checked = checked; printed = printed; compared = compared } ≡ work_between bank before bank places
+work-roots bank before places n checked printed compared fresh check print met =
     let counted : fresh_roots bank before bank places ≡ n =
     subst (λ (e : RootAnswer → RootAnswer → Bool). fresh_among bytes_eq (option_eq e) expansion (places_over bank before) (places_over bank places) ≡ n) answer_eq-derived fresh in
-    let asked : compared_keys bank bank (keys_of held) ≡ asked_among bytes_eq (option_eq answer_eq) expansion key_eq bank (keys_of held) =
-    subst
-    (λ (e : RootAnswer → RootAnswer → Bool). compared_among bytes_eq (option_eq e) expansion key_eq bank bank (keys_of held) ≡ asked_among bytes_eq (option_eq e) expansion key_eq bank (keys_of held))
-    answer_eq-derived all in
-    let compared : keys_asked held ≡ compared_keys bank bank (staying before places) =
-    sym (ap (compared_keys bank bank) stay ∙ asked ∙ keys_asked-kept bank held are) in
-    λ i. record { expanded = sym counted i; checked = check i; printed = print i; compared = compared_after 0 (compared i) }
+    λ i. record { expanded = sym counted i; checked = check i; printed = print i; compared = met i }
 
--- the work of an edit that leaves the roots: those are fresh that aren't alike at their own places, and all stay
-pub work-same : (old new : RootKey → Option RootAnswer) (names : List (List ℕ)) (n checked printed m : ℕ) → staying names names ≡ names
+-- the work of an edit that leaves the roots: those are fresh that aren't alike at their own places
+pub work-same : (old new : RootKey → Option RootAnswer) (names : List (List ℕ)) (n checked printed compared : ℕ)
     → fresh_among bytes_eq (option_eq ghosts.eq) expansion (places_over old names) (places_over new names) ≡ stale_among bytes_eq (option_eq ghosts.eq) expansion old new names
     → n ≡ stale_among bytes_eq (option_eq answer_eq) expansion old new names
-    → m ≡ compared_after 0 (compared_keys old new names)
+    → compared ≡ compared_after 0 (compared_in (met_between old names new names))
     → checked ≡ fresh_declarations (declarations_among old names) (declarations_among new names) → printed ≡ fresh_entries (entries_among old names) (entries_among new names)
-    → record { expanded = n; checked = checked; printed = printed; compared = m } ≡ work_between old names new names
-work-same old new names n checked printed m stay fresh counted costs check print =
+    → record { expanded = n; checked = checked; printed = printed; compared = compared } ≡ work_between old names new names
+work-same old new names n checked printed compared fresh counted met check print =
     let all : fresh_roots old names new names ≡ stale_among bytes_eq (option_eq answer_eq) expansion old new names =
     subst
     (λ (e : RootAnswer → RootAnswer → Bool). fresh_among bytes_eq (option_eq e) expansion (places_over old names) (places_over new names) ≡ stale_among bytes_eq (option_eq e) expansion old new names)
     answer_eq-derived fresh in
-    let cost : m ≡ compared_after 0 (compared_keys old new (staying names names)) =
-    costs ∙ ap (λ (ns : List (List ℕ)). compared_after 0 (compared_keys old new ns)) (sym stay) in
-    λ i. record { expanded = (counted ∙ sym all) i; checked = check i; printed = print i; compared = cost i }
+    λ i. record { expanded = (counted ∙ sym all) i; checked = check i; printed = print i; compared = met i }

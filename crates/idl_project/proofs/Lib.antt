@@ -1,3 +1,4 @@
+pub mod AddedLemmas
 pub mod AskedLemmas
 pub mod BankLemmas
 pub mod EditLemmas
@@ -5,5 +6,7 @@ pub mod FileLemmas
 pub mod FormLemmas
 pub mod KeptLemmas
 pub mod LimitLemmas
+pub mod MetLemmas
+pub mod RenewedLemmas
 pub mod RootLemmas
 pub mod StoreLemmas

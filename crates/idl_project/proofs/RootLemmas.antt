@@ -16,19 +16,23 @@ use Rattle.idl_event.specs.Key.{key_eq}
 use Rattle.idl_event.specs.declared.asked.key.RootAnswer.{RootAnswer}
 use Rattle.idl_event.specs.declared.asked.key.RootKey.{RootKey}
 use Rattle.idl_memo.specs.Cause.{changed}
+use Rattle.idl_kept.specs.Drafts.{committed_texts, no_texts}
+use Rattle.idl_kept.specs.Texts.{Texts, without_drafts}
 use Rattle.idl_store.specs.Stored.{Stored, committed, discarded, nothing_stored, with_draft}
 use Rattle.idl_prep.specs.Root.{expanded}
+use Rattle.idl_root.specs.AsBefore.{AreListsLeft}
+use Rattle.idl_root.specs.Results.{EntryResult}
 use Rattle.idl_root.specs.Turns.{IsWithinTurns}
 use Rattle.idl_root.specs.declared.kept.keeper.Keeper.{Keeper}
 use Rattle.idl_source.specs.names.Name.{is_name}
 use Rattle.idl_project.specs.Compile.{compile_over}
 use Rattle.idl_project.specs.Bank.{bank_of}
 use Rattle.idl_project.specs.Project.{Inputs, Project, no_inputs}
-use Rattle.idl_project.specs.Renewed.{AreListsLeft, IsKeeperLeft, IsRenewed}
-use Rattle.idl_project.specs.Tasks.{kept_declarations, kept_entries}
+use Rattle.idl_project.specs.Renewed.{IsKeeperLeft, IsRenewed}
+use Rattle.idl_project.specs.Tasks.{kept_entries, kept_texts, lists_for}
 use Rattle.idl_project.specs.UpToDate.{AreKept, IsKept, IsUpToDate, State, project_held}
 use Rattle.idl_project.specs.WellFormed.{IsWellFormed}
-use Rattle.idl_project.specs.Work.{staying, work_between, work_of}
+use Rattle.idl_project.specs.Work.{work_between, work_of}
 use Rattle.idl_project.specs.declared.work.Work.{Work}
 use Rattle.idl_project.specs.declared.kept_root.KeptRoot.{KeptRoot}
 use Rattle.idl_project.proofs.FormLemmas.{none-formed}
@@ -94,26 +98,26 @@ lookup-absent held name new = none _ (is_some-lookup (bytes_eq name) held ∙ ne
     none (Some kept) h = absurd (true≢false h)
 
 -- nothing
-pub none-up_to_date : (inputs : Inputs) (held : List (List ℕ × KeptRoot)) (keeper : Keeper) → inputs ≡ no_inputs → held ≡ [] → keeper.declarations ≡ nothing_stored → keeper.entries ≡ nothing_stored
+pub none-up_to_date : (inputs : Inputs) (held : List (List ℕ × KeptRoot)) (keeper : Keeper) → inputs ≡ no_inputs → held ≡ [] → keeper.texts ≡ no_texts → keeper.entries ≡ nothing_stored
     → IsUpToDate inputs held keeper
-none-up_to_date inputs held keeper no_input no_root no_declarations no_entries = record {
+none-up_to_date inputs held keeper no_input no_root no_text no_entries = record {
   formed = subst (λ (p : Project). IsWellFormed p) (λ i. project_held (sym no_input i) (sym no_root i)) none-formed;
   kept = subst (AreKept (bank_of inputs)) (sym no_root) (All-nil (λ (root : List ℕ × KeptRoot). IsKept (bank_of inputs) root));
-  declarations = no_declarations ∙ ap (λ (es : List (List ℕ × KeptRoot)). kept_declarations (bank_of inputs) (keys_of es)) (sym no_root);
+  texts = no_text ∙ ap (λ (es : List (List ℕ × KeptRoot)). kept_texts (bank_of inputs) (keys_of es)) (sym no_root);
   entries = no_entries ∙ ap (λ (es : List (List ℕ × KeptRoot)). kept_entries (bank_of inputs) (keys_of es)) (sym no_root);
 }
 
 -- one more root, with what is kept of it
 pub IsUpToDate-push : (inputs : Inputs) (held : List (List ℕ × KeptRoot)) (keeper : Keeper) (name : List ℕ) (kept : KeptRoot) → AreKept (bank_of inputs) held → IsKept (bank_of inputs) (name, kept)
     → IsWellFormed (record { inputs = inputs; roots = keys_of held ++ name ∷ [] })
-    → keeper.declarations ≡ kept_declarations (bank_of inputs) (keys_of held ++ name ∷ []) → keeper.entries ≡ kept_entries (bank_of inputs) (keys_of held ++ name ∷ [])
+    → keeper.texts ≡ kept_texts (bank_of inputs) (keys_of held ++ name ∷ []) → keeper.entries ≡ kept_entries (bank_of inputs) (keys_of held ++ name ∷ [])
     → IsUpToDate inputs (held ++ (name, kept) ∷ []) keeper
-IsUpToDate-push inputs held keeper name kept are is formed declarations entries =
+IsUpToDate-push inputs held keeper name kept are is formed texts entries =
     let names : keys_of (held ++ (name, kept) ∷ []) ≡ keys_of held ++ name ∷ [] = map-append (λ (e : List ℕ × KeptRoot). e.0) held ((name, kept) ∷ []) in
     record {
       formed = subst (λ (ns : List (List ℕ)). IsWellFormed (record { inputs = inputs; roots = ns })) (sym names) formed;
       kept = All-push (λ (root : List ℕ × KeptRoot). IsKept (bank_of inputs) root) held (name, kept) are is;
-      declarations = declarations ∙ ap (λ (ns : List (List ℕ)). kept_declarations (bank_of inputs) ns) (sym names);
+      texts = texts ∙ ap (λ (ns : List (List ℕ)). kept_texts (bank_of inputs) ns) (sym names);
       entries = entries ∙ ap (λ (ns : List (List ℕ)). kept_entries (bank_of inputs) ns) (sym names);
     }
 
@@ -122,26 +126,30 @@ pub IsUpToDate-left : (inputs : Inputs) (held : List (List ℕ × KeptRoot)) (ol
 IsUpToDate-left inputs held old new is left = record {
   formed = is.formed;
   kept = is.kept;
-  declarations = left.declarations ∙ is.declarations;
+  texts = left.texts ∙ is.texts;
   entries = left.entries ∙ is.entries;
 }
 
 -- what is discarded leaves what was there
-pub IsKeeperLeft-discarded : (old mid new : Keeper) → old.declarations.drafts ≡ [] → old.entries.drafts ≡ [] → AreListsLeft old mid
-    → new.declarations ≡ discarded mid.declarations → new.entries ≡ discarded mid.entries → IsKeeperLeft old new
-IsKeeperLeft-discarded old mid new no_declarations no_entries lists declarations entries = record {
-  declarations = declarations ∙ (λ i. record { lists = lists.declarations i; drafts = sym no_declarations i });
-  entries = entries ∙ (λ i. record { lists = lists.entries i; drafts = sym no_entries i });
+discarded-left : {R : Type 0} (old mid : Stored R) → old.drafts ≡ [] → mid.lists ≡ old.lists → discarded mid ≡ old
+discarded-left old mid none lists i = record { lists = lists i; drafts = sym none i }
+
+pub IsKeeperLeft-discarded : (bank : RootKey → Option RootAnswer) (names : List (List ℕ)) (old mid new : Keeper) → old.texts ≡ kept_texts bank names → old.entries ≡ kept_entries bank names
+    → AreListsLeft old mid → new.texts ≡ without_drafts mid.texts → new.entries ≡ discarded mid.entries → IsKeeperLeft old new
+IsKeeperLeft-discarded bank names old mid new are names_are lists texts entries = record {
+  texts = texts ∙ (λ i. record {
+    declarations = discarded-left old.texts.declarations mid.texts.declarations (ap (λ (t : Texts). t.declarations.drafts) are) lists.texts.declarations i;
+    blocks = discarded-left old.texts.blocks mid.texts.blocks (ap (λ (t : Texts). t.blocks.drafts) are) lists.texts.blocks i;
+    begins = discarded-left old.texts.begins mid.texts.begins (ap (λ (t : Texts). t.begins.drafts) are) lists.texts.begins i;
+  });
+  entries = entries ∙ discarded-left old.entries mid.entries (ap (λ (s : Stored EntryResult). s.drafts) names_are) lists.entries;
 }
 
 -- what a root more adds to lists
-pub list-more : {P R : Type 0} (result : P → R) (at : List ℕ → List P) (names : List (List ℕ)) (name : List ℕ) (old new : Stored R)
-    → old ≡ record { lists = map (λ n. map result (at n)) names; drafts = [] } → new ≡ with_draft old (length names) (map result (at name))
-    → committed new ≡ record { lists = map (λ n. map result (at n)) (names ++ name ∷ []); drafts = [] }
-list-more {P} {R} result at names name old new is made =
-    let list : List ℕ → List R = λ n. map result (at n) in
+pub list-more : {R : Type 0} (list : List ℕ → List R) (names : List (List ℕ)) (name : List ℕ) (old new : Stored R)
+    → old ≡ lists_for list names → new ≡ with_draft old (length names) (list name) → committed new ≡ lists_for list (names ++ name ∷ [])
+list-more {R} list names name old new is made =
     let lists = map list names in
-    let whole : Stored R = record { lists = lists; drafts = [] } in
     let last : nat_lt (length names) (length lists) ≡ false = ap (nat_lt (length names)) (length-map names list) ∙ le-ltb (length names) (length names) (omega arith) in
     ap (λ (s : Stored R). committed s) made ∙ ap (λ (s : Stored R). committed (with_draft s (length names) (list name))) is
     ∙ (λ i. record { lists = if last i then slice_set lists (length names) (list name) else lists ++ list name ∷ []; drafts = [] })
@@ -159,15 +167,15 @@ remaining-there held test = All-map-remove_entry test (λ (e : List ℕ × KeptR
 
 -- After an edit that changes one answer: the same roots, with what is kept of them over the changed answers.
 pub IsUpToDate-edited : (now new : Inputs) (held : List (List ℕ × KeptRoot)) (renewed : List (List ℕ × KeptRoot) × Work) (made keeper : Keeper) (asked at : RootKey) (given answer : Option RootAnswer)
-    → IsRenewed (project_held now held) asked given made renewed → keeper.declarations ≡ committed made.declarations → keeper.entries ≡ committed made.entries
+    → IsRenewed (project_held now held) asked given made renewed → keeper.texts ≡ committed_texts made.texts → keeper.entries ≡ committed made.entries
     → asked ≡ at → given ≡ answer → bank_of new ≡ changed key_eq (bank_of now) at answer
     → IsWellFormed (record { inputs = new; roots = keys_of renewed.0 }) → IsUpToDate new renewed.0 keeper
-IsUpToDate-edited now new held renewed made keeper asked at given answer again declarations entries asks gives changes formed =
+IsUpToDate-edited now new held renewed made keeper asked at given answer again texts entries asks gives changes formed =
     let banks = ap (λ (k : RootKey). changed key_eq (bank_of now) k given) asks ∙ ap (changed key_eq (bank_of now) at) gives ∙ sym changes in
     record {
       formed = formed;
       kept = subst (λ (bank : RootKey → Option RootAnswer). AreKept bank renewed.0) banks again.kept;
-      declarations = declarations ∙ again.declarations ∙ (λ i. kept_declarations (banks i) (sym again.roots i));
+      texts = texts ∙ again.texts ∙ (λ i. kept_texts (banks i) (sym again.roots i));
       entries = entries ∙ again.entries ∙ (λ i. kept_entries (banks i) (sym again.roots i));
     }
 
@@ -182,28 +190,3 @@ work-edited state now new held renewed made asked at given answer work is again 
     ap (λ (k : RootKey). changed key_eq (bank_of now) k given) asks ∙ ap (changed key_eq (bank_of now) at) gives ∙ sym changes in
     again.work ∙ (λ i. work_between (bank_of now) (keys_of held) (banks i) (sym again.roots i))
     ∙ ap (λ (s : State). work_of s.project (record { inputs = new; roots = keys_of renewed.0 })) is
-
--- all of these were roots before, and stay
-pub staying-all : (before roots : List (List ℕ)) → All (Contains before) roots → staying before roots ≡ roots
-staying-all before [] h = refl
-staying-all before (n ∷ ns) h =
-    ap (λ b. cond b (n ∷ staying before ns) (staying before ns)) (list_any-from_Contains nat_list_eq_equiv n before (All-head (Contains before) n ns h))
-    ∙ ap (λ (rest : List (List ℕ)). n ∷ rest) (staying-all before ns (All-tail (Contains before) n ns h))
-
--- those of two lists
-staying-append : (before roots more : List (List ℕ)) → staying before (roots ++ more) ≡ staying before roots ++ staying before more
-staying-append before [] more = refl
-staying-append before (n ∷ ns) more = by (list_any (bytes_eq n) before) (staying-append before ns more)
-  where
-    by : (b : Bool) → staying before (ns ++ more) ≡ staying before ns ++ staying before more
-        → cond b (n ∷ staying before (ns ++ more)) (staying before (ns ++ more)) ≡ cond b (n ∷ staying before ns) (staying before ns) ++ staying before more
-    by true rest = ap (λ (rest : List (List ℕ)). n ∷ rest) rest
-    by false rest = rest
-
--- with one more that wasn't there, all before it stay
-pub staying-push : (before : List (List ℕ)) (name : List ℕ) → list_any (bytes_eq name) before ≡ false → staying before (before ++ name ∷ []) ≡ before
-staying-push before name new =
-    staying-append before before (name ∷ [])
-    ∙ ap (λ b. staying before before ++ cond b (name ∷ []) []) new
-    ∙ append-nil (staying before before)
-    ∙ staying-all before before (All-contains_itself before)

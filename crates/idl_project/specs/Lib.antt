@@ -1,5 +1,6 @@
 pub mod Asked
 pub mod Bank
+pub mod Compared
 pub mod Compile
 pub mod Edited
 pub mod Edits

@@ -1,42 +1,64 @@
 -- What becomes of the roots in an edit of what they are answered.
-use Rattle.std.specs.Prelude.{◌≡◌, ℕ, List, [], ◌∷◌, ◌++◌, Option}
+use Rattle.std.specs.Prelude.{◌≡◌, ◌⊎◌, ℕ, ◌+◌, true, false, List, [], ◌∷◌, ◌++◌, Option, length}
 use Rattle.std.specs.Map.{keys_of}
 use Rattle.idl_event.specs.declared.asked.key.RootAnswer.{RootAnswer}
 use Rattle.idl_event.specs.declared.asked.key.RootKey.{RootKey}
+use Rattle.idl_kept.specs.Drafts.{committed_texts}
 use Rattle.idl_store.specs.Stored.{committed}
+use Rattle.idl_memo.specs.Meter.{compared_after}
 use Rattle.idl_memo.specs.declared.meter.Meter.{Meter}
 use Rattle.idl_prep.specs.Root.{expanded}
 use Rattle.idl_root.specs.AsBefore.{IsAsBefore, IsMade}
 use Rattle.idl_root.specs.declared.kept.keeper.Keeper.{Keeper}
 use Rattle.idl_project.specs.Bank.{bank_of, bank_with}
 use Rattle.idl_project.specs.Project.{Inputs, Project}
-use Rattle.idl_project.specs.Tasks.{kept_declarations, kept_entries}
+use Rattle.idl_project.specs.Tasks.{alike_root, kept_entries, kept_texts}
 use Rattle.idl_project.specs.UpToDate.{AreKept, IsKept}
 use Rattle.idl_project.specs.Work.{work_between}
 use Rattle.idl_project.specs.declared.kept_root.KeptRoot.{KeptRoot}
 use Rattle.idl_project.specs.declared.work.Work.{Work}
 
--- a root at a place among all comes to what these answers make of it: its lists are in drafts, and
--- the fresh tasks are counted
+-- nothing that is kept has become another
+pub record IsKeeperLeft (old new : Keeper) : Type 0 where
+  pub texts : new.texts ≡ old.texts
+  pub entries : new.entries ≡ old.entries
+
+-- a root at a place among all comes to what these answers make of it: its lists are in drafts, the
+-- fresh tasks are counted, and the keys of known ones are compared
 abbrev pub IsDrafted : (RootKey → Option RootAnswer) → ℕ → List ℕ → Keeper → Keeper → Meter → Meter
     → Type 0
 IsDrafted bank at root old new before after = IsMade (expanded root bank).0 at old new before after
 
--- a root has the tasks that it had, and nothing is made of it
+-- a root has the tasks that it had, and nothing is made of it: the keys are compared that these asked
 abbrev pub IsLeft : (RootKey → Option RootAnswer) → (RootKey → Option RootAnswer) → List ℕ → Keeper
     → Keeper → Meter → Meter → Type 0
 IsLeft was bank root old new before after =
     IsAsBefore (expanded root was).0 (expanded root bank).0 old new before after
 
--- no list has become another
-pub record AreListsLeft (old new : Keeper) : Type 0 where
-  pub declarations : new.declarations.lists ≡ old.declarations.lists
-  pub entries : new.entries.lists ≡ old.entries.lists
+-- a root's own task holds still: it expands to what it did, nothing else is looked at, and the keys
+-- are compared that its own task asked
+pub record IsHeld (was bank : RootKey → Option RootAnswer) (root : List ℕ) (old new : Keeper)
+    (before after : Meter) : Type 0 where
+  pub alike : alike_root (root, bank) (root, was) ≡ true
+  pub events : (expanded root bank).0 ≡ (expanded root was).0
+  pub kept : IsKeeperLeft old new
+  pub meter : after ≡ record before {
+    compared = compared_after before.compared (length (expanded root bank).1);
+  }
 
--- nothing that is kept has become another
-pub record IsKeeperLeft (old new : Keeper) : Type 0 where
-  pub declarations : new.declarations ≡ old.declarations
-  pub entries : new.entries ≡ old.entries
+-- a root's own task holds no longer: it is expanded anew, and its tasks are those that it had, or it
+-- is drafted
+pub record IsExpanded (was bank : RootKey → Option RootAnswer) (at : ℕ) (root : List ℕ)
+    (old new : Keeper) (before after : Meter) : Type 0 where
+  pub stale : alike_root (root, bank) (root, was) ≡ false
+  pub count : after.expanded ≡ before.expanded + 1
+  pub tasks : IsLeft was bank root old new before after ⊎ IsDrafted bank at root old new before after
+
+-- what becomes of a root at a place among all, over these answers and then over those
+abbrev pub IsRenewedAt : (RootKey → Option RootAnswer) → (RootKey → Option RootAnswer) → ℕ → List ℕ
+    → Keeper → Keeper → Meter → Meter → Type 0
+IsRenewedAt was bank at root old new before after =
+    IsHeld was bank root old new before after ⊎ IsExpanded was bank at root old new before after
 
 -- a root more, the last one, with what is kept of it over these inputs
 pub record IsAdded (inputs : Inputs) (root : List ℕ) (old new : List (List ℕ × KeptRoot))
@@ -51,8 +73,8 @@ pub record IsRenewed (project : Project) (key : RootKey) (answer : Option RootAn
     (keeper : Keeper) (renewed : List (List ℕ × KeptRoot) × Work) : Type 0 where
   pub roots : keys_of renewed.0 ≡ project.roots
   pub kept : AreKept (bank_with project.inputs key answer) renewed.0
-  pub declarations : committed keeper.declarations
-      ≡ kept_declarations (bank_with project.inputs key answer) project.roots
+  pub texts : committed_texts keeper.texts
+      ≡ kept_texts (bank_with project.inputs key answer) project.roots
   pub entries : committed keeper.entries
       ≡ kept_entries (bank_with project.inputs key answer) project.roots
   pub work : renewed.1

@@ -15,7 +15,7 @@ use Rattle.idl_root.specs.declared.kept.keeper.Keeper.{Keeper}
 use Rattle.idl_project.specs.Bank.{bank_of}
 use Rattle.idl_project.specs.Compile.{compiled_root, compile_over}
 use Rattle.idl_project.specs.Project.{Inputs, Project, project_code, is_root}
-use Rattle.idl_project.specs.Tasks.{kept_declarations, kept_entries}
+use Rattle.idl_project.specs.Tasks.{kept_entries, kept_texts}
 use Rattle.idl_project.specs.WellFormed.{IsWellFormed}
 use Rattle.idl_project.specs.declared.compile.CompiledRoot.{CompiledRoot}
 use Rattle.idl_project.specs.declared.kept_root.KeptRoot.{KeptRoot}
@@ -73,12 +73,12 @@ abbrev pub project_held : Inputs → List (List ℕ × KeptRoot) → Project
 project_held inputs held = record { inputs = inputs; roots = keys_of held }
 
 -- what is held of a session: a well-formed project, with each root what is kept of it, and the
--- results of the declarations and entries of all roots
+-- results of the declarations, blocks and entries of all roots
 pub record IsUpToDate (inputs : Inputs) (held : List (List ℕ × KeptRoot)) (keeper : Keeper)
     : Type 0 where
   pub formed : IsWellFormed (project_held inputs held)
   pub kept : AreKept (bank_of inputs) held
-  pub declarations : keeper.declarations ≡ kept_declarations (bank_of inputs) (keys_of held)
+  pub texts : keeper.texts ≡ kept_texts (bank_of inputs) (keys_of held)
   pub entries : keeper.entries ≡ kept_entries (bank_of inputs) (keys_of held)
 
 -- how many keys these roots asked

@@ -1,7 +1,7 @@
 //! The bank of a session: what its roots are answered.
 
-ghost use Rattle.std.specs.Prelude.{◌≡◌, ◌||◌, ◌&&◌, [], ◌∷◌, IfOk, OnOk, OnErr, Some, None, length, nat_le, not, map};
-ghost use Rattle.std.specs.Map.{remove_entry};
+ghost use Rattle.std.specs.Prelude.{◌≡◌, ◌||◌, ◌&&◌, [], ◌∷◌, IfOk, OnOk, OnErr, Some, None, length, nat_le, not, map, slice_get};
+ghost use Rattle.std.specs.Map.{lookup, remove_entry};
 ghost use Rattle.std.specs.Option.{option_copied, option_map};
 ghost use Rattle.std.specs.Result.{result_err};
 ghost use Rattle.std.specs.FinMap as finite;
@@ -94,6 +94,31 @@ impl SessionBank {
         &self.files
     }
 
+    /// The body of the macro with this word. It takes no memory, so no key is made of the word, and all macros are gone through.
+    pub fn macro_body(&self, word: &[u8]) -> Option<&[u8]>
+        ensures { option_copied result ≡ lookup (bytes_eq word.now) self.now.macros }
+    {
+        for (known, body) in self.macros.iter() {
+            if word == known.as_bytes() {
+                return Some(body.as_bytes());
+            }
+        }
+        None
+    }
+
+    /// The directory at this place of the search list.
+    pub fn directory(&self, at: usize) -> Option<&[u8]>
+        ensures { option_copied result ≡ slice_get self.now.search at }
+    {
+        match &self.search {
+            RootAnswer::Search(list) => match list.as_slice().get(at) {
+                Some(directory) => Some(directory.as_bytes()),
+                None => None,
+            },
+            RootAnswer::Macro(_) | RootAnswer::File(_) => None,
+        }
+    }
+
     // Whether there are as many macros as there may be, and none with this word.
     fn is_full_for(&self, word: &Bytes) -> bool
         ensures { let macros = self.now.macros in
@@ -156,6 +181,7 @@ impl SessionBank {
             }
             None => {
                 self.texts.swap_remove(&name);
+                self.texts.shrink_to_fit();
                 self.files = files;
                 Ok(())
             }

@@ -6,16 +6,15 @@ ghost use Rattle.idl_event.specs.Key.{key_eq};
 ghost use Rattle.idl_event.specs.declared.told.event.Event.{Event};
 ghost use Rattle.idl_memo.specs.Kept.{HoldsOver};
 ghost use Rattle.idl_prep.specs.Root.{expanded, expansion};
-ghost use Rattle.idl_root.specs.AsBefore.{IsAsBefore, IsCompiledOf};
+ghost use Rattle.idl_root.specs.AsBefore.{AreListsLeft, IsAsBefore, IsCompiledOf, kept_lists};
 ghost use Rattle.idl_root.specs.Findings.{finding_row};
-ghost use Rattle.idl_store.specs.Stored.{list_at};
-ghost use Rattle.idl_root.specs.Results.{ChecksAndPrintsOnly, IsKeptOf, root_marks};
+ghost use Rattle.idl_root.specs.Results.{ExpandsNone, IsKeptOf, root_marks};
 ghost use Rattle.idl_root.specs.Turns.{IsWithinTurns};
 ghost use Rattle.idl_project.specs.Asked.{asked_over};
 ghost use Rattle.idl_project.specs.Bank.{bank_of};
 ghost use Rattle.idl_project.specs.Compile.{compile_over, compiled_root, end_of, line_count};
 ghost use Rattle.idl_project.specs.Project.{Project};
-ghost use Rattle.idl_project.specs.Renewed.{AreListsLeft, IsDrafted};
+ghost use Rattle.idl_project.specs.Renewed.{IsDrafted};
 ghost use Rattle.idl_project.specs.UpToDate.{diagnostics_of, findings_of};
 
 use crate::asked::asked;
@@ -112,7 +111,7 @@ pub fn compile<B: RootBank>(
     })
 }
 
-/// The same, where the results of its declarations and entries are kept.
+/// The same, where the results of its declarations, blocks and entries are kept.
 ///
 /// After want of memory nothing is said of the meter, and there may be drafts more.
 pub fn compile_kept<B: RootBank>(
@@ -122,8 +121,7 @@ pub fn compile_kept<B: RootBank>(
     meter: &mut Meter,
 ) -> Result<CompiledAgain, AllocError>
     requires over { HoldsOver key_eq expansion (B.at bank.now) root.result.now }
-    requires kept { (was : List Event) × IsKeptOf was root.marks.now
-        (list_at keeper.old.declarations.lists root.at) (list_at keeper.old.entries.lists root.at)
+    requires kept { (was : List Event) × IsKeptOf was root.marks.now (kept_lists keeper.old root.at)
         × IfSome root.compiled (λ compiled. IsCompiledOf was compiled.now) }
     ensures compiled { let name = root.entry.result.now.text in
         IfOk result (λ r. r.compiled ≡ compile_over (B.at bank.now) name) }
@@ -133,9 +131,8 @@ pub fn compile_kept<B: RootBank>(
         IfOk result (λ r. unwrap_or r.marks root.entry.marks.now
         ≡ root_marks (expanded name (B.at bank.now)).0) }
     ensures tasks { let name = root.entry.result.now.text in
-        OnOk result ((was : List Event) → IsKeptOf was root.entry.marks.now
-        (list_at keeper.old.declarations.lists root.entry.at)
-        (list_at keeper.old.entries.lists root.entry.at)
+        OnOk result ((was : List Event)
+        → IsKeptOf was root.entry.marks.now (kept_lists keeper.old root.entry.at)
         → IsAsBefore was (expanded name (B.at bank.now)).0 keeper.old keeper.new
         meter.old meter.new
         ⊎ IsDrafted (B.at bank.now) root.entry.at name keeper.old keeper.new
@@ -143,7 +140,7 @@ pub fn compile_kept<B: RootBank>(
     ensures first { OnOk result (IfNone root.entry.compiled (IsDrafted (B.at bank.now)
         root.entry.at root.entry.result.now.text keeper.old keeper.new meter.old meter.new)) }
     ensures lists { AreListsLeft keeper.old keeper.new }
-    ensures others { OnOk result (ChecksAndPrintsOnly meter.old meter.new) }
+    ensures others { OnOk result (ExpandsNone meter.old meter.new) }
 {
     let alloc = keeper.alloc();
     let end = end_of(alloc, bank, root.result.text())?;

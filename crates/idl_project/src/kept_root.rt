@@ -1,23 +1,18 @@
 //! What is kept of a root.
 
-ghost use Rattle.std.specs.Prelude.{◌≡◌, ◌⊎◌, ◌+◌, ◌<◌, [], IfNone, IfOk, IfSome, List, OnOk, length};
-ghost use Rattle.std.specs.Option.{option_copied, option_eq, unwrap_or};
-ghost use Rattle.std.specs.Str.{bytes_eq};
-ghost use Rattle.idl_event.specs.Key.{key_eq};
+ghost use Rattle.std.specs.Prelude.{◌≡◌, ◌⊎◌, ◌+◌, ◌<◌, IfNone, IfOk, IfSome, List, OnOk, length};
+ghost use Rattle.std.specs.Option.{option_copied, unwrap_or};
 ghost use Rattle.idl_event.specs.declared.told.event.Event.{Event};
 ghost use Rattle.idl_memo.specs.Cause.{IsCause};
-ghost use Rattle.idl_memo.specs.Fresh.{compared_at, stale_at};
-ghost use Rattle.idl_memo.specs.Meter.{compared_after, most_compared};
-ghost use Rattle.idl_prep.specs.Root.{expanded, expansion};
-ghost use Rattle.idl_store.specs.Stored.{list_at};
-ghost use Rattle.idl_root.specs.AsBefore.{IsAsBefore, IsCompiledOf};
-ghost use Rattle.idl_root.specs.Results.{IsKeptOf};
+ghost use Rattle.idl_memo.specs.Meter.{most_compared};
+ghost use Rattle.idl_prep.specs.Root.{expanded};
+ghost use Rattle.idl_root.specs.AsBefore.{AreListsLeft, IsAsBefore, IsCompiledOf, kept_lists};
+ghost use Rattle.idl_root.specs.Results.{IsKeptOf, nothing_kept};
 ghost use Rattle.idl_project.specs.Asked.{asked_files};
 ghost use Rattle.idl_project.specs.Bank.{bank_of, bank_with};
-ghost use Rattle.idl_project.specs.Renewed.{AreListsLeft, IsLeft, IsDrafted};
-ghost use Rattle.idl_project.specs.Tasks.{declaration_list, entry_list};
+ghost use Rattle.idl_project.specs.Renewed.{IsDrafted, IsRenewedAt};
+ghost use Rattle.idl_project.specs.Tasks.{root_lists};
 ghost use Rattle.idl_project.specs.UpToDate.{IsKept};
-ghost use Rattle.idl_project.specs.Work.{answer_eq};
 
 use crate::asked::asked;
 use crate::bank::SessionBank;
@@ -32,7 +27,7 @@ use std::alloc::{AllocError, Global};
 use std::rc::Rc;
 
 /// What is kept of a root: the result of its task, what the root compiles to, and what its units are. The results of its
-/// declarations and entries are a keeper's, at the root's place among all.
+/// declarations, blocks and entries are a keeper's, at the root's place among all.
 pub struct KeptRoot {
     result: Rc<KeptExpansion>,
     compiled: Rc<CompiledRoot>,
@@ -77,17 +72,12 @@ impl KeptRoot {
         meter: &mut Meter,
     ) -> Result<KeptRoot, AllocError>
         requires room { meter.old.expanded < most_compared }
-        requires declarations { list_at keeper.old.declarations.lists root.0 ≡ [] }
-        requires entries { list_at keeper.old.entries.lists root.0 ≡ [] }
+        requires none { kept_lists keeper.old root.0 ≡ nothing_kept }
         ensures kept { IfOk result (λ kept. IsKept (B.at bank.now) (root.1, kept)) }
         ensures made { OnOk result (IsDrafted (B.at bank.now) root.0 root.1 keeper.old keeper.new
             meter.old meter.new) }
         ensures lists { AreListsLeft keeper.old keeper.new }
-        ensures counts { OnOk result (meter.new ≡ record meter.old {
-          expanded = meter.old.expanded + 1;
-          checked = meter.new.checked;
-          printed = meter.new.printed;
-        }) }
+        ensures count { OnOk result (meter.new.expanded ≡ meter.old.expanded + 1) }
     {
         let (at, name) = root;
         let alloc = keeper.alloc();
@@ -114,11 +104,8 @@ impl KeptRoot {
     ) -> Result<KeptRoot, AllocError>
         requires kept { let before = bank_of change.edited.now.base.now in
             IsKept before (self.now.result.value.text, self.now) }
-        requires declarations { let before = bank_of change.edited.now.base.now in
-            list_at keeper.old.declarations.lists at
-            ≡ declaration_list before self.now.result.value.text }
-        requires entries { let before = bank_of change.edited.now.base.now in
-            list_at keeper.old.entries.lists at ≡ entry_list before self.now.result.value.text }
+        requires lists { let before = bank_of change.edited.now.base.now in
+            kept_lists keeper.old at ≡ root_lists before self.now.result.value.text }
         requires cause { let edited = change.edited.now in
             let after = bank_with edited.base.now edited.key.now (option_copied edited.answer) in
             IsCause (bank_of edited.base.now) after (option_copied change.cause) }
@@ -126,28 +113,16 @@ impl KeptRoot {
         ensures kept { let edited = change.entry.edited.now in
             let after = bank_with edited.base.now edited.key.now (option_copied edited.answer) in
             IfOk result (λ kept. IsKept after (self.now.result.value.text, kept)) }
-        ensures tasks { let edited = change.entry.edited.now in
+        ensures renewed { let edited = change.entry.edited.now in
             let before = bank_of edited.base.now in
             let after = bank_with edited.base.now edited.key.now (option_copied edited.answer) in
-            let name = self.now.result.value.text in
-            OnOk result (IsLeft before after name keeper.old keeper.new meter.old meter.new
-            ⊎ IsDrafted after at name keeper.old keeper.new meter.old meter.new) }
+            OnOk result (IsRenewedAt before after at self.now.result.value.text keeper.old keeper.new
+            meter.old meter.new) }
         ensures lists { AreListsLeft keeper.old keeper.new }
-        ensures counts { let edited = change.entry.edited.now in
-            let before = bank_of edited.base.now in
-            let after = bank_with edited.base.now edited.key.now (option_copied edited.answer) in
-            let name = self.now.result.value.text in
-            let stale = stale_at bytes_eq (option_eq answer_eq) expansion before after name in
-            let compared = compared_at bytes_eq (option_eq answer_eq) expansion key_eq before after
-            name in
-            OnOk result (meter.new ≡ record meter.old {
-              expanded = meter.old.expanded + stale;
-              checked = meter.new.checked;
-              printed = meter.new.printed;
-              compared = compared_after meter.old.compared compared;
-            }) }
     {
-        if self.result.holds_after(change.cause, meter) {
+        // What is looked at is told by no count: the keys of a result that holds are.
+        if self.result.holds_after(change.cause, &mut Meter::new()) {
+            meter.compared = meter.compared.saturating_add(self.key_count() as u64);
             return Ok(KeptRoot {
                 result: self.result.clone()?,
                 compiled: self.compiled.clone()?,
@@ -193,13 +168,12 @@ fn expanded<B: RootBank<Head = (), Step = NoStep>>(
     meter: &mut Meter,
 ) -> Result<KeptRoot, AllocError>
     requires room { meter.old.expanded < most_compared }
-    requires kept { (was : List Event) × IsKeptOf was root.marks.now.value
-        (list_at keeper.old.declarations.lists root.at) (list_at keeper.old.entries.lists root.at)
+    requires kept { (was : List Event)
+        × IsKeptOf was root.marks.now.value (kept_lists keeper.old root.at)
         × IfSome root.compiled (λ compiled. IsCompiledOf was compiled.now) }
     ensures kept { IfOk result (λ kept. IsKept (B.at bank.now) (root.entry.name, kept)) }
-    ensures tasks { OnOk result ((was : List Event) → IsKeptOf was root.entry.marks.now.value
-        (list_at keeper.old.declarations.lists root.entry.at)
-        (list_at keeper.old.entries.lists root.entry.at)
+    ensures tasks { OnOk result ((was : List Event)
+        → IsKeptOf was root.entry.marks.now.value (kept_lists keeper.old root.entry.at)
         → IsAsBefore was (expanded root.entry.name (B.at bank.now)).0
         keeper.old keeper.new meter.old meter.new
         ⊎ IsDrafted (B.at bank.now) root.entry.at root.entry.name keeper.old keeper.new
@@ -207,11 +181,7 @@ fn expanded<B: RootBank<Head = (), Step = NoStep>>(
     ensures first { OnOk result (IfNone root.entry.compiled (IsDrafted (B.at bank.now)
         root.entry.at root.entry.name keeper.old keeper.new meter.old meter.new)) }
     ensures lists { AreListsLeft keeper.old keeper.new }
-    ensures counts { OnOk result (meter.new ≡ record meter.old {
-      expanded = meter.old.expanded + 1;
-      checked = meter.new.checked;
-      printed = meter.new.printed;
-    }) }
+    ensures count { OnOk result (meter.new.expanded ≡ meter.old.expanded + 1) }
 {
     let alloc = keeper.alloc();
     let Standing {

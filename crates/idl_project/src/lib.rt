@@ -28,4 +28,4 @@ pub use limits::{
 pub use no_step::NoStep;
 pub use session::Session;
 pub use sources::Sources;
-pub use work::Work;
+pub use work::{Work, compared_is_bounded};

@@ -46,6 +46,13 @@ impl MacroBody {
         })
     }
 
+    /// The bytes of the line.
+    pub fn as_bytes(&self) -> &[u8]
+        ensures { result.now ≡ self.now }
+    {
+        self.line.as_bytes()
+    }
+
     /// What is answered of the macro.
     pub fn answer(&self) -> &RootAnswer
         ensures { result.now ≡ answers.Macro (self.now ∷ []) }

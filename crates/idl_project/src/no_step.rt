@@ -26,6 +26,15 @@ impl Step<RootKey, RootAnswer, ()> for NoStep {
         0
     }
 
+    fn append_to(
+        &self,
+        _alloc: Global,
+        _head: &(),
+        _entries: &mut Vec<(RootKey, Option<RootAnswer>)>,
+    ) -> Result<(), AllocError> {
+        Ok(())
+    }
+
     fn head(
         _alloc: Global,
         _entries: &[(RootKey, Option<RootAnswer>)],

@@ -1,9 +1,10 @@
 //! Roots by name, each with what is kept of it.
 
-ghost use Rattle.std.specs.Prelude.{◌≡◌, ◌+◌, ◌<◌, ◌∷◌, ◌++◌, [], false, IfOk, OnOk, OnErr, is_some, length, nat_le};
+ghost use Rattle.std.specs.Prelude.{◌≡◌, ◌+◌, ◌<◌, ◌∷◌, ◌++◌, [], false, IfOk, OnOk, OnErr, is_some, length, nat_le, slice_get};
 ghost use Rattle.idl_project.specs.Bank.{bank_of};
-ghost use Rattle.idl_project.specs.Renewed.{AreListsLeft, IsAdded, IsKeeperLeft, IsDrafted, IsRenewed};
-ghost use Rattle.idl_project.specs.Tasks.{kept_declarations, kept_entries};
+ghost use Rattle.idl_root.specs.AsBefore.{AreListsLeft};
+ghost use Rattle.idl_project.specs.Renewed.{IsAdded, IsKeeperLeft, IsDrafted, IsRenewed};
+ghost use Rattle.idl_project.specs.Tasks.{kept_entries, kept_texts};
 ghost use Rattle.std.specs.Option.{option_copied, option_map};
 ghost use Rattle.std.specs.List.{IsDistinct, list_any, position};
 ghost use Rattle.std.specs.Map.{lookup, keys_of, remove_entry};
@@ -19,7 +20,7 @@ use crate::limits::MAX_ROOTS;
 use crate::work::Work;
 use idl_memo::{Edited, Meter, one_bank};
 use idl_prep::RootTask;
-use idl_root::{Keeper, fresh_tasks};
+use idl_root::{Keeper, comparing, fresh_tasks};
 use idl_source::Name;
 use indexmap::IndexMap;
 use std::alloc::{AllocError, Global};
@@ -120,17 +121,12 @@ impl RootTable {
     ) -> Result<(), AllocError>
         requires new { list_any (bytes_eq root) (keys_of self.old) ≡ false }
         requires room { meter.old.expanded < most_compared }
-        requires declarations { keeper.old.declarations
-            ≡ kept_declarations (bank_of bank.now) (keys_of self.old) }
+        requires texts { keeper.old.texts ≡ kept_texts (bank_of bank.now) (keys_of self.old) }
         requires entries { keeper.old.entries ≡ kept_entries (bank_of bank.now) (keys_of self.old) }
         ensures added { OnOk result (IsAdded bank.now root self.old self.new) }
         ensures tasks { OnOk result (IsDrafted (bank_of bank.now) (length self.old) root keeper.old
             keeper.new meter.old meter.new) }
-        ensures counts { OnOk result (meter.new ≡ record meter.old {
-          expanded = meter.old.expanded + 1;
-          checked = meter.new.checked;
-          printed = meter.new.printed;
-        }) }
+        ensures count { OnOk result (meter.new.expanded ≡ meter.old.expanded + 1) }
         ensures err { OnErr result ((self.new ≡ self.old) × IsKeeperLeft keeper.old keeper.new) }
     {
         let last = (self.len(), root.copied());
@@ -148,12 +144,13 @@ impl RootTable {
         Ok(())
     }
 
-    /// Drops the root of this name, if there is one. The others stay in their order.
+    /// Drops the root of this name, if there is one, and gives back the room for it. The others stay in their order.
     pub fn remove(&mut self, root: &Name)
         ensures left { self.new ≡ remove_entry (bytes_eq root.now) self.old }
         ensures distinct { IsDistinct bytes_eq (keys_of self.new) }
     {
         self.roots.shift_remove(root);
+        self.roots.shrink_to_fit();
     }
 
     /// The same roots after an edit of the bank, each with what is kept of it, and the work of that: one look-up for each, and
@@ -195,6 +192,7 @@ impl RootTable {
     {
         one_bank::<SessionBank, RootTask>();
         fresh_tasks();
+        comparing();
         let _room = self.roots.len();
         let mut meter = Meter::new();
         let cause = edited.cause();
@@ -212,6 +210,16 @@ impl RootTable {
         ensures { result ≡ length self.now }
     {
         self.roots.len()
+    }
+
+    /// The name of the root at this place among all, if there is one.
+    pub fn name_at(&self, at: usize) -> Option<&Name>
+        ensures { option_copied result ≡ slice_get (keys_of self.now) at }
+    {
+        match self.roots.get_index(at) {
+            Some((root, _kept)) => Some(root),
+            None => None,
+        }
     }
 
     /// The place of the root of this name among all, if it is there.

@@ -1,7 +1,10 @@
 //! The session: its edits, and its queries.
 
-ghost use Rattle.std.specs.Prelude.{◌≡◌, ℕ, All, List, [], true, Ok, Err, IfOk, IfNone, IfSome, IsTrue, map};
+ghost use Rattle.std.specs.Prelude.{◌≡◌, ℕ, All, List, [], true, Ok, Err, IfOk, IfNone, IfSome, IsTrue, map, slice_get};
+ghost use Rattle.std.specs.FinMap as finite;
+ghost use Rattle.std.specs.Map.{lookup};
 ghost use Rattle.std.specs.Option.{option_copied};
+ghost use Rattle.std.specs.Str.{bytes_eq};
 ghost use Rattle.idl_source.specs.names.Name.{is_name};
 ghost use Rattle.idl_event.specs.declared.asked.key.RootKey.TheVariants as keys;
 ghost use Rattle.idl_project.specs.Asked.{asked_files, asked_of};
@@ -27,9 +30,9 @@ use idl_base::{Bytes, Seq};
 use idl_event::{RootAnswer, RootKey};
 use idl_fault::FileName;
 use idl_macro::is_macro_word;
-use idl_memo::{Edited, Meter, one_bank};
+use idl_memo::{Edited, Meter, freshness, one_bank};
 use idl_prep::RootTask;
-use idl_root::{Finding, Keeper, Row, fresh_tasks};
+use idl_root::{Finding, Keeper, Row, comparing, fresh_tasks};
 use idl_source::{Files, Line, Name, Refusal, Span};
 use std::alloc::{AllocError, Global};
 use std::marker::Model;
@@ -205,7 +208,9 @@ impl Session {
             return Err(Refusal::OverLimit);
         }
         one_bank::<SessionBank, RootTask>();
+        freshness::<SessionBank, RootTask>();
         fresh_tasks();
+        comparing();
         let mut meter = Meter {
             expanded: 0,
             checked: 0,
@@ -234,7 +239,9 @@ impl Session {
             return Err(Refusal::NoSuchRoot);
         };
         one_bank::<SessionBank, RootTask>();
+        freshness::<SessionBank, RootTask>();
         fresh_tasks();
+        comparing();
         self.keeper.remove(at);
         self.roots.remove(&root);
         self.work = Work {
@@ -316,6 +323,37 @@ impl Session {
             Some(kept) => Ok(kept.asked(self.keeper.alloc())?),
             None => Ok(Vec::new(self.keeper.alloc())),
         }
+    }
+
+    /// The lines of the file of this name, or nothing where there is no such file. It takes no memory.
+    pub fn file(&self, name: &[u8]) -> Option<&[Line]>
+        ensures { option_copied result ≡ finite.get self.now.project.inputs.files name.now }
+    {
+        match self.bank.files().get(name) {
+            Some(file) => Some(file.lines()),
+            None => None,
+        }
+    }
+
+    /// The body of the macro with this word that was defined by an edit, or nothing where there is none. It takes no memory.
+    pub fn macro_body(&self, word: &[u8]) -> Option<&[u8]>
+        ensures { option_copied result ≡ lookup (bytes_eq word.now) self.now.project.inputs.macros }
+    {
+        self.bank.macro_body(word)
+    }
+
+    /// The directory at this place of the search list, of which 0 is the first, or nothing where there is none. It takes no memory.
+    pub fn directory(&self, at: usize) -> Option<&[u8]>
+        ensures { option_copied result ≡ slice_get self.now.project.inputs.search at }
+    {
+        self.bank.directory(at)
+    }
+
+    /// The root at this place among all, of which 0 is the first, or nothing where there is none. It takes no memory.
+    pub fn root(&self, at: usize) -> Option<&Name>
+        ensures { option_copied result ≡ slice_get self.now.project.roots at }
+    {
+        self.roots.name_at(at)
     }
 
     /// The work of the last accepted edit, and of a new session none. It takes no memory.

@@ -1,68 +1,78 @@
 -- Units that are as they were come to what they came to: of each its text alone tells.
 use Rattle.std.proofs.Common.{◌≡◌, ◌≤◌, ℕ, ◌+◌, Bool, List, [], ◌∷◌, ◌++◌, flat_map, length, map, refl, ap, sym, subst, ◌∙◌, append-nil, arith, option_to_list}
 use Rattle.std.proofs.lemmas.List.{length-append, map-append}
-use Rattle.std.specs.List.{enumerate_from}
+use Rattle.std.specs.List.{enumerate_from, sum_by}
 use Rattle.idl_env.specs.Facts.{UnitFacts, answers}
 use Rattle.idl_env.specs.Turns.{most_turns, turns_for}
-use Rattle.idl_env.specs.declared.additions.addition.Step.TheVariants.{Enters, Leaves}
+use Rattle.idl_env.specs.declared.additions.addition.Step.TheVariants.{Enters as EntersFile, Leaves as LeavesFile}
 use Rattle.idl_event.specs.declared.told.event.Event.{Event}
 use Rattle.idl_event.specs.declared.told.site.Site.{Site}
 use Rattle.idl_fault.specs.declared.place.Place.{Place}
 use Rattle.idl_root.specs.AsBefore.{AreAsBefore, AreCourse, IsCompiledOf, closing_beside, judged_beside, texts_from, texts_of}
+use Rattle.idl_root.specs.Compared.{entry_keys, root_keys}
 use Rattle.idl_root.specs.Compile.{all_findings, compile, findings_told, has_error, is_open, outcome_of, row_in, rows_beside, told}
 use Rattle.idl_root.specs.Findings.{event_finding, finding_row, unit_finding}
-use Rattle.idl_root.specs.Followed.{added_by}
-use Rattle.idl_root.specs.Judged.{HasTurns, boundary, facts_after, judged_after, judged_over, verdict_over}
-use Rattle.idl_root.specs.Places.{DeclarationPlace, EntryPlace, declarations_after, declarations_of, entries_of, entries_over}
+use Rattle.idl_root.specs.Judged.{HasTurns, facts_after, judged_after, judged_over, verdict_over}
+use Rattle.idl_facts.specs.Written.{boundary}
+use Rattle.idl_root.specs.Places.{EntryPlace, declarations_after, declarations_of, entries_of, entries_over, root_pieces}
+use Rattle.idl_root_blocks.specs.Blocks.{cut}
+use Rattle.idl_root_blocks.specs.Met.{outermost_keys}
+use Rattle.idl_root_blocks.specs.Places.{DeclarationPlace, declaration_result, declarations_over, facts_over}
+use Rattle.idl_root_blocks.specs.Units.{text_of}
+use Rattle.idl_root_blocks.specs.declared.text.BlockPart.{BlockPart}
+use Rattle.idl_root_blocks.specs.declared.text.BlockPart.TheVariants.{Text, Enters, Leaves}
 use Rattle.idl_root.specs.Printed.{Listed, closing_finding, entry_over, entry_row, first_paths, listed_in, listed_with}
-use Rattle.idl_root.specs.Results.{DeclarationResult, EntryResult, declaration_result, entry_result, marks_of}
+use Rattle.idl_root.specs.Results.{DeclarationResult, EntryResult, entry_result, marks_of}
 use Rattle.idl_root.specs.declared.compiling.compiled.Compiled.{Compiled}
 use Rattle.idl_root.specs.declared.compiling.finding.EventFinding.{EventFinding}
 use Rattle.idl_root.specs.declared.compiling.finding.Finding.{Finding}
 use Rattle.idl_root.specs.declared.kept.course.Course.{Course}
 use Rattle.idl_root.specs.declared.kept.marks.Mark.{Mark}
 use Rattle.idl_root.specs.declared.kept.marks.Mark.TheVariants as mark
-use Rattle.idl_root.proofs.ResultLemmas.{facts-added}
+use Rattle.idl_root.proofs.TextLaws.{declarations-text, facts-text}
 use Rattle.idl_unit.specs.Units.{units_of}
 use Rattle.idl_unit.specs.declared.unit.Unit.{Unit as RootUnit}
 use Rattle.idl_unit.specs.declared.unit.Unit.TheVariants.{Spelled, Entered, Left, End}
 use Rattle.idl_unit.specs.declared.unit.UnitText.{UnitText}
 
+-- ---- texts
+
+-- the text of units, by their marks and the texts of those with tokens
+abbrev text_by : List Mark → List UnitText → List BlockPart
+text_by [] texts = []
+text_by (mark.Judged ∷ marks) [] = []
+text_by (mark.Judged ∷ marks) (t ∷ texts) = Text t ∷ text_by marks texts
+text_by (mark.Entered inside ∷ marks) texts = Enters inside ∷ text_by marks texts
+text_by (mark.Left inside ∷ marks) texts = Leaves inside ∷ text_by marks texts
+
+text-told : (units : List RootUnit) → text_of units ≡ text_by (marks_of units) (texts_of units)
+text-told [] = refl
+text-told (Spelled text sites ∷ units) = ap (λ parts. Text text ∷ parts) (text-told units)
+text-told (Entered file inside ∷ units) = ap (λ parts. Enters inside ∷ parts) (text-told units)
+text-told (Left file inside ∷ units) = ap (λ parts. Leaves inside ∷ parts) (text-told units)
+text-told (End ∷ units) = text-told units
+
+-- units that are as they were have the text that they had
+pub text-same : (before units : List RootUnit) → AreAsBefore before units → text_of units ≡ text_of before
+text-same before units same = text-told units ∙ (λ i. text_by (same.marks i) (same.texts i)) ∙ sym (text-told before)
+
 -- ---- declarations
-
--- where texts stand behind facts, by the marks of their units
-abbrev places_by : List UnitFacts → List Mark → List UnitText → List DeclarationPlace
-places_by facts [] texts = []
-places_by facts (mark.Judged ∷ marks) [] = []
-places_by facts (mark.Judged ∷ marks) (t ∷ texts) = (t, answers facts) ∷ places_by (facts ++ (verdict_over facts t).writes ∷ []) marks texts
-places_by facts (mark.Entered ∷ marks) texts = places_by (facts ++ boundary Enters ∷ []) marks texts
-places_by facts (mark.Left ∷ marks) texts = places_by (facts ++ boundary Leaves ∷ []) marks texts
-
-places-told : (units : List RootUnit) (facts : List UnitFacts) → declarations_after facts units ≡ places_by facts (marks_of units) (texts_of units)
-unfolding declarations_after
-places-told [] facts = refl
-places-told (Spelled text sites ∷ units) facts =
-    let here : DeclarationPlace = (text, answers facts) in
-    ap (λ places. here ∷ places) (places-told units (facts ++ (verdict_over facts text).writes ∷ []))
-places-told (Entered file inside ∷ units) facts = places-told units (facts ++ boundary Enters ∷ [])
-places-told (Left file inside ∷ units) facts = places-told units (facts ++ boundary Leaves ∷ [])
-places-told (End ∷ units) facts = ap (λ fs. declarations_after fs units) (append-nil facts) ∙ places-told units facts
 
 -- the texts that are kept of units are theirs
 texts-kept : (units : List RootUnit) (facts : List UnitFacts) → map (λ (k : DeclarationResult). k.text) (map declaration_result (declarations_after facts units)) ≡ texts_of units
 unfolding declarations_after
 texts-kept [] facts = refl
 texts-kept (Spelled text sites ∷ units) facts = ap (λ texts. text ∷ texts) (texts-kept units (facts ++ (verdict_over facts text).writes ∷ []))
-texts-kept (Entered file inside ∷ units) facts = texts-kept units (facts ++ boundary Enters ∷ [])
-texts-kept (Left file inside ∷ units) facts = texts-kept units (facts ++ boundary Leaves ∷ [])
+texts-kept (Entered file inside ∷ units) facts = texts-kept units (facts ++ boundary EntersFile ∷ [])
+texts-kept (Left file inside ∷ units) facts = texts-kept units (facts ++ boundary LeavesFile ∷ [])
 texts-kept (End ∷ units) facts = ap (λ fs. map (λ (k : DeclarationResult). k.text) (map declaration_result (declarations_after fs units))) (append-nil facts) ∙ texts-kept units facts
 
 -- how many results are kept of units with these marks
 abbrev results_count : List Mark → ℕ
 results_count [] = 0
 results_count (mark.Judged ∷ marks) = 1 + results_count marks
-results_count (mark.Entered ∷ marks) = results_count marks
-results_count (mark.Left ∷ marks) = results_count marks
+results_count (mark.Entered inside ∷ marks) = results_count marks
+results_count (mark.Left inside ∷ marks) = results_count marks
 
 texts-counted : (units : List RootUnit) → length (texts_of units) ≡ results_count (marks_of units)
 texts-counted [] = refl
@@ -89,14 +99,12 @@ as-before lists course before units rest are marks texts =
 
 -- their declarations stand where they stood
 pub declarations-same : (before units : List RootUnit) → AreAsBefore before units → declarations_after [] units ≡ declarations_after [] before
-declarations-same before units same = places-told units [] ∙ (λ i. places_by [] (same.marks i) (same.texts i)) ∙ sym (places-told before [])
+declarations-same before units same =
+    declarations-text units [] ∙ ap (declarations_over []) (text-same before units same) ∙ sym (declarations-text before [])
 
 -- and they add what they added
 pub facts-same : (before units : List RootUnit) → AreAsBefore before units → facts_after [] units ≡ facts_after [] before
-facts-same before units same =
-    facts-added units []
-    ∙ (λ i. added_by (same.marks i) (map declaration_result (declarations-same before units same i)))
-    ∙ sym (facts-added before [])
+facts-same before units same = facts-text units [] ∙ ap (facts_over []) (text-same before units same) ∙ sym (facts-text before [])
 
 pub turns-same : (before units : List RootUnit) → AreAsBefore before units → HasTurns before → HasTurns units
 turns-same before units same has = subst (λ (fs : List UnitFacts). turns_for fs ≤ most_turns) (sym (facts-same before units same)) has
@@ -104,12 +112,12 @@ turns-same before units same has = subst (λ (fs : List UnitFacts). turns_for fs
 -- ---- what is found in them
 
 -- the verdicts of units are those that are kept
-judged-kept : (units : List RootUnit) (facts : List UnitFacts) → judged_after facts units ≡ judged_beside units (map declaration_result (declarations_after facts units))
+pub judged-kept : (units : List RootUnit) (facts : List UnitFacts) → judged_after facts units ≡ judged_beside units (map declaration_result (declarations_after facts units))
 unfolding judged_after declarations_after
 judged-kept [] facts = refl
 judged-kept (Spelled text sites ∷ units) facts = ap (λ judged. judged_over facts text sites ∷ judged) (judged-kept units (facts ++ (verdict_over facts text).writes ∷ []))
-judged-kept (Entered file inside ∷ units) facts = judged-kept units (facts ++ boundary Enters ∷ [])
-judged-kept (Left file inside ∷ units) facts = judged-kept units (facts ++ boundary Leaves ∷ [])
+judged-kept (Entered file inside ∷ units) facts = judged-kept units (facts ++ boundary EntersFile ∷ [])
+judged-kept (Left file inside ∷ units) facts = judged-kept units (facts ++ boundary LeavesFile ∷ [])
 judged-kept (End ∷ units) facts =
     subst (λ fs. judged_after fs units ≡ judged_beside units (map declaration_result (declarations_after fs units))) (sym (append-nil facts)) (judged-kept units facts)
 
@@ -127,8 +135,8 @@ unfolding judged_after declarations_after
 rows-kept [] facts = refl
 rows-kept (Spelled text sites ∷ units) facts =
     ap (λ rows. option_to_list (verdict_over facts text).row ++ rows) (rows-kept units (facts ++ (verdict_over facts text).writes ∷ []))
-rows-kept (Entered file inside ∷ units) facts = rows-kept units (facts ++ boundary Enters ∷ [])
-rows-kept (Left file inside ∷ units) facts = rows-kept units (facts ++ boundary Leaves ∷ [])
+rows-kept (Entered file inside ∷ units) facts = rows-kept units (facts ++ boundary EntersFile ∷ [])
+rows-kept (Left file inside ∷ units) facts = rows-kept units (facts ++ boundary LeavesFile ∷ [])
 rows-kept (End ∷ units) facts =
     subst (λ fs. flat_map row_in (judged_after fs units) ≡ flat_map (λ (k : DeclarationResult). option_to_list k.out.row) (map declaration_result (declarations_after fs units)))
     (sym (append-nil facts)) (rows-kept units facts)
@@ -152,8 +160,8 @@ paths-kept (Spelled text sites ∷ units) facts =
     let own = first_paths (verdict_over facts text).writes.additions in
     map-append (λ (l : Listed). l.path) (listed_with text sites own) (flat_map listed_in (judged_after next units))
     ∙ (λ i. paths-listed text sites own i ++ paths-kept units next i)
-paths-kept (Entered file inside ∷ units) facts = paths-kept units (facts ++ boundary Enters ∷ [])
-paths-kept (Left file inside ∷ units) facts = paths-kept units (facts ++ boundary Leaves ∷ [])
+paths-kept (Entered file inside ∷ units) facts = paths-kept units (facts ++ boundary EntersFile ∷ [])
+paths-kept (Left file inside ∷ units) facts = paths-kept units (facts ++ boundary LeavesFile ∷ [])
 paths-kept (End ∷ units) facts =
     subst
     (λ fs. paths_in (flat_map listed_in (judged_after fs units))
@@ -195,6 +203,14 @@ module _ (was events : List Event) (same : AreAsBefore (units_of was) (units_of 
       entries-told (outcome_of events).facts (outcome_of events).listed
       ∙ (λ i. map (entry_at (facts-again i)) (paths-again i))
       ∙ sym (entries-told (outcome_of was).facts (outcome_of was).listed)
+
+  -- their blocks are those that they were, and they ask as many keys
+  pub pieces-again : root_pieces events ≡ root_pieces was
+  pieces-again = ap cut (text-same (units_of was) (units_of events) same)
+
+  pub keys-again : root_keys events ≡ root_keys was
+  unfolding root_keys
+  keys-again = λ i. outermost_keys [] (pieces-again i) + sum_by entry_keys (entries-again i)
 
   rows-again : (outcome_of events).rows ≡ (outcome_of was).rows
   rows-again =

@@ -33,14 +33,14 @@ behind-spelled lists course next text sites k found same b =
           ∙ (λ i. same i ∷ texts (drop (sym b.place i) (list_at lists (sym b.list i))));
     }
 
-pub behind-entered : (lists : List (List DeclarationResult)) (course next : Course) (file : List ℕ) (inside : Bool) → IsBehindMark course mark.Entered next → IsBehindSame lists course (Entered file inside) next
+pub behind-entered : (lists : List (List DeclarationResult)) (course next : Course) (file : List ℕ) (inside : Bool) → IsBehindMark course (mark.Entered inside) next → IsBehindSame lists course (Entered file inside) next
 behind-entered lists course next file inside b = record {
   list = b.list;
   marks = b.marks;
   texts = λ i. map (λ (r : DeclarationResult). r.text) (drop (sym b.place i) (list_at lists (sym b.list i)));
 }
 
-pub behind-left : (lists : List (List DeclarationResult)) (course next : Course) (file : List ℕ) (inside : Bool) → IsBehindMark course mark.Left next → IsBehindSame lists course (Left file inside) next
+pub behind-left : (lists : List (List DeclarationResult)) (course next : Course) (file : List ℕ) (inside : Bool) → IsBehindMark course (mark.Left inside) next → IsBehindSame lists course (Left file inside) next
 behind-left lists course next file inside b = record {
   list = b.list;
   marks = b.marks;

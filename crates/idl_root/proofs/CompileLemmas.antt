@@ -11,11 +11,10 @@ use Rattle.idl_root.specs.AsBefore.{AreCourse}
 use Rattle.idl_root.specs.Followed.{ArePrinted, IsKeeping, WereThere, added_by, facts_of, results_from}
 use Rattle.idl_root.specs.Held.{to_come}
 use Rattle.idl_root.specs.Places.{declarations_after, declarations_of, entries_of, entries_over}
-use Rattle.idl_root.specs.Results.{ChecksAndPrintsOnly, ChecksOnly, DeclarationResult, EntryResult, IsDeclarationPass, IsEntryPass, IsKeptOf, PrintsOnly, declaration_result, entry_result}
+use Rattle.idl_root.specs.Results.{ChecksOnly, DeclarationResult, EntryResult, ExpandsNone, IsDeclarationPass, IsEntryPass, IsKeptOf, KeptLists, PrintsOnly, RootMarks, entry_result}
 use Rattle.idl_root.specs.declared.compiling.finding.EventFinding.{EventFinding}
 use Rattle.idl_root.specs.declared.kept.course.Course.{Course}
 use Rattle.idl_root.specs.declared.kept.keeping.Keeping.{Keeping}
-use Rattle.idl_root.specs.declared.kept.marks.Mark.{Mark}
 use Rattle.idl_root.proofs.JudgingLemmas.{to_come-start}
 use Rattle.idl_root.proofs.ResultLemmas.{kept-printed, kept-there}
 use Rattle.idl_root.proofs.StoredLemmas.{begun-results, grown-begun}
@@ -24,26 +23,29 @@ use Rattle.idl_unit.specs.declared.unit.Unit.{Unit as RootUnit}
 
 -- ---- at first
 
-module _ (lists : List (List DeclarationResult)) (course : Course) (at : ℕ) (marks : List Mark) (list : course.list ≡ at) (place : course.place ≡ 0) (own : course.marks.now ≡ marks) where
+module _ (lists : List (List DeclarationResult)) (course : Course) (at : ℕ) (marks : RootMarks) (list : course.list ≡ at) (place : course.place ≡ 0) (own : course.marks.now ≡ marks.marks) where
   start-results : results_from lists course ≡ list_at lists at
   start-results = λ i. drop (place i) (list_at lists (list i))
 
-  -- the units were there
-  pub start-there : (events : List Event) (entries : List EntryResult) → IsKeptOf events marks (list_at lists at) entries → WereThere [] course.marks.now (results_from lists course)
-  start-there events entries is =
-      subst (λ ms. WereThere [] ms (results_from lists course)) (sym own)
-      (subst (λ rs. WereThere [] marks rs) (sym start-results) (kept-there events marks (list_at lists at) entries is))
+  module _ (events : List Event) (kept : KeptLists) (there : kept.declarations ≡ list_at lists at) (is : IsKeptOf events marks kept) where
+    start-kept : kept.declarations ≡ results_from lists course
+    start-kept = there ∙ sym start-results
 
-  -- and are those of the course
-  pub start-course : (events : List Event) (entries : List EntryResult) → IsKeptOf events marks (list_at lists at) entries → AreCourse lists course (units_of events)
-  unfolding declarations_of
-  start-course events entries is = record { marks = own ∙ is.marks_are; results = start-results ∙ is.declarations_are }
+    -- the units were there
+    pub start-there : WereThere [] course.marks.now (results_from lists course)
+    start-there =
+        subst (λ ms. WereThere [] ms (results_from lists course)) (sym own) (subst (λ rs. WereThere [] marks.marks rs) start-kept (kept-there events marks kept is))
 
-  -- and so were the entries over all that they added
-  pub start-printed : (events : List Event) (entries : List EntryResult) → IsKeptOf events marks (list_at lists at) entries → ArePrinted (facts_of lists course) entries
-  start-printed events entries is =
-      let facts : facts_of lists course ≡ added_by marks (list_at lists at) = λ i. added_by (own i) (start-results i) in
-      subst (λ fs. ArePrinted fs entries) (sym facts) (kept-printed events marks (list_at lists at) entries is)
+    -- and are those of the course
+    pub start-course : AreCourse lists course (units_of events)
+    unfolding declarations_of
+    start-course = record { marks = own ∙ ap (λ (m : RootMarks). m.marks) is.marks_are; results = sym start-kept ∙ is.declarations_are }
+
+    -- and so were the entries over all that they added
+    pub start-printed : ArePrinted (facts_of lists course) kept.entries
+    start-printed =
+        let facts : facts_of lists course ≡ added_by marks.marks kept.declarations = λ i. added_by (own i) (sym start-kept i) in
+        subst (λ fs. ArePrinted fs kept.entries) (sym facts) (kept-printed events marks kept is)
 
 -- the judging begins, behind a draft more
 pub start-keeping : (old new : Stored DeclarationResult) (at : ℕ) (keeping : Keeping) (facts : List UnitFacts) → new ≡ begun old at → facts ≡ [] → IsKeeping old.lists keeping []
@@ -53,16 +55,7 @@ start-keeping old new at keeping facts begins none k =
 
 -- ---- at the end
 
--- the draft of the declarations
-pub declarations-drafted : (events : List Event) (old between new : Stored DeclarationResult) (at : ℕ) (facts : List UnitFacts) (units : List RootUnit) → between ≡ begun old at → facts ≡ []
-    → units ≡ units_of events → new ≡ grown between (map declaration_result (declarations_after facts units))
-    → new ≡ with_draft old at (map declaration_result (declarations_of events))
-unfolding declarations_of
-declarations-drafted events old between new at facts units begins none are grows =
-    grows
-    ∙ (λ i. grown (begins i) (map declaration_result (declarations_after (none i) (are i))))
-    ∙ grown-begun old at (map declaration_result (declarations_after [] (units_of events)))
-
+-- the declarations
 pub declarations-passed : (events : List Event) (old between new : Stored DeclarationResult) (at : ℕ) (facts : List UnitFacts) (units : List RootUnit) (a b c d : ℕ) → between ≡ begun old at
     → facts ≡ [] → units ≡ units_of events → a ≡ c → b ≡ d
     → IsDeclarationPass (declarations_after facts units) (results_in between) (results_in new) a b
@@ -77,7 +70,7 @@ declarations-passed events old between new at facts units a b c d begins none ar
     (subst (λ fs. IsDeclarationPass (declarations_after fs units) (results_in between) (results_in new) a b) none pass))))
 
 -- the places of the entries
-entries-are : (events : List Event) (o : Outcome) → o ≡ outcome_of events → entries_over o.facts o.listed ≡ entries_of events
+pub entries-are : (events : List Event) (o : Outcome) → o ≡ outcome_of events → entries_over o.facts o.listed ≡ entries_of events
 unfolding entries_of
 entries-are events o is = ap (λ (p : Outcome). entries_over p.facts p.listed) is
 
@@ -99,12 +92,9 @@ entries-passed events o old between new at a b c d is begins before after pass =
     (subst (λ places. IsEntryPass places (results_in between) (results_in new) a b) (entries-are events o is) pass)))
 
 -- the counts
-pub counts-both : (old start judged printed : Meter) → start ≡ old → ChecksOnly start judged → PrintsOnly judged printed → ChecksAndPrintsOnly old printed
-counts-both old start judged printed same checks prints =
-    let own : judged.checked ≡ printed.checked = sym (ap (λ (m : Meter). m.checked) prints) in
-    prints
-    ∙ ap (λ (m : Meter). record m { printed = printed.printed }) (checks ∙ ap (λ (m : Meter). record m { checked = judged.checked }) same)
-    ∙ ap (λ n. record old { checked = n; printed = printed.printed }) own
+pub expands-none : (old start judged printed : Meter) → start ≡ old → ChecksOnly start judged → PrintsOnly judged printed → ExpandsNone old printed
+expands-none old start judged printed same checks prints =
+    ap (λ (m : Meter). m.expanded) prints ∙ ap (λ (m : Meter). m.expanded) checks ∙ ap (λ (m : Meter). m.expanded) same
 
 -- what was printed was so over all that was added before
 pub printed-there : (lists others : List (List DeclarationResult)) (earlier course : Course) (at : ℕ) (entries before : List (List EntryResult)) → lists ≡ others → earlier ≡ course → course.list ≡ at

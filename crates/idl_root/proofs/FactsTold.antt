@@ -19,7 +19,7 @@ turns-after (u ∷ units) facts =
     omega (arith, one, rest)
 
 -- units, and then others
-after-append : (units more : List RootUnit) (facts : List UnitFacts) → facts_after facts (units ++ more) ≡ facts_after (facts_after facts units) more
+pub after-append : (units more : List RootUnit) (facts : List UnitFacts) → facts_after facts (units ++ more) ≡ facts_after (facts_after facts units) more
 unfolding facts_after
 after-append [] more facts = refl
 after-append (u ∷ units) more facts = after-append units more (facts ++ added facts u)

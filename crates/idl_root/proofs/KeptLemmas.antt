@@ -3,16 +3,17 @@ use Rattle.std.proofs.Common.{◌≡◌, ◌⊎◌, ℕ, ◌+◌, List, [], ◌�
 use Rattle.std.proofs.lemmas.List.{map-append}
 use Rattle.idl_env.specs.Facts.{UnitFacts, answers}
 use Rattle.idl_memo.specs.Kept.{NoneAlikeAt, SomeAlikeAt}
-use Rattle.idl_store.specs.Obtained.{IsObtained}
 use Rattle.idl_store.specs.Stored.{Stored, grown, results_in}
 use Rattle.idl_memo.specs.declared.meter.Meter.{Meter}
 use Rattle.idl_memo.specs.declared.task.TaskKind.TheVariants.{Print}
 use Rattle.idl_root.proofs.StoredLemmas.{grown-grown, grown-none, grown-results}
+use Rattle.idl_root.specs.Compared.{IsMetAt}
 use Rattle.idl_root.specs.Followed.{IsJudgedAt}
 use Rattle.idl_root.specs.Judged.{added}
-use Rattle.idl_root.specs.Places.{DeclarationPlace, EntryPlace, declaration_at, declarations_after, entries_over}
+use Rattle.idl_root.specs.Places.{EntryPlace, declaration_at, declarations_after, entries_over}
+use Rattle.idl_root_blocks.specs.Places.{DeclarationPlace, declaration_result}
 use Rattle.idl_root.specs.Printed.{Listed}
-use Rattle.idl_root.specs.Results.{ChecksOnly, DeclarationResult, EntryResult, HasDraft, IsDeclarationPass, IsEntryPass, PrintsOnly, declaration_result, entry_result, mark_at, marks_of}
+use Rattle.idl_root.specs.Results.{ChecksOnly, DeclarationResult, EntryResult, HasDraft, IsDeclarationPass, IsEntryPass, PrintsOnly, entry_result, mark_at, marks_of}
 use Rattle.idl_root.specs.declared.kept.marks.Mark.{Mark}
 use Rattle.idl_unit.specs.declared.unit.Unit.{Unit as RootUnit}
 use Rattle.idl_unit.specs.declared.unit.Unit.TheVariants.{Spelled, Entered, Left, End}
@@ -43,15 +44,15 @@ marks-more marks next u units is = ap (λ l. l ++ marks_of units) is ∙ append_
 
 -- no other count rises
 checks-same : (old new : Meter) → new ≡ old → ChecksOnly old new
-checks-same old new h = subst (λ (n : Meter). n ≡ record old { checked = n.checked }) (sym h) refl
+checks-same old new h = subst (λ (n : Meter). n ≡ record old { checked = n.checked; compared = n.compared }) (sym h) refl
 
 pub checks-judged : (places : List DeclarationPlace) (results : List DeclarationResult) (old new : Meter) → IsJudgedAt places results old new → ChecksOnly old new
 checks-judged [] results old new h = checks-same old new h
-checks-judged (p ∷ places) results old new (inl (some, h)) = checks-same old new h
-checks-judged (p ∷ places) results old new (inr (none, h)) = subst (λ (n : Meter). n ≡ record old { checked = n.checked }) (sym h) refl
+checks-judged (p ∷ places) results old new (inl (some, h)) = subst (λ (n : Meter). n ≡ record old { checked = n.checked; compared = n.compared }) (sym h) refl
+checks-judged (p ∷ places) results old new (inr (none, h)) = subst (λ (n : Meter). n ≡ record old { checked = n.checked; compared = n.compared }) (sym h) refl
 
 pub checks-more : (old between new : Meter) → ChecksOnly old between → ChecksOnly between new → ChecksOnly old new
-checks-more old between new a b = b ∙ ap (λ (m : Meter). record m { checked = new.checked }) a
+checks-more old between new a b = b ∙ ap (λ (m : Meter). record m { checked = new.checked; compared = new.compared }) a
 
 module _ (none : (old : List DeclarationResult) (count : ℕ) → IsDeclarationPass [] old old count count)
     (one : (here : DeclarationPlace) (old new : List DeclarationResult) (before after : ℕ) → new ≡ old ++ declaration_result here ∷ []
@@ -101,15 +102,12 @@ printed-kept kept next facts l listed grows =
     ap (λ k. grown k (map entry_result (entries_over facts listed))) grows
     ∙ grown-grown kept (entry_result (l.path, answers facts) ∷ []) (map entry_result (entries_over facts listed))
 
-prints-same : (old new : Meter) → new ≡ old → PrintsOnly old new
-prints-same old new h = subst (λ (n : Meter). n ≡ record old { printed = n.printed }) (sym h) refl
-
-pub prints-one : (here : EntryPlace) (results : List EntryResult) (old new : Meter) → IsObtained here Print results old new → PrintsOnly old new
-prints-one here results old new (inl (some, h)) = prints-same old new h
-prints-one here results old new (inr (none, h)) = subst (λ (n : Meter). n ≡ record old { printed = n.printed }) (sym h) refl
+pub prints-one : (here : EntryPlace) (results : List EntryResult) (old new : Meter) → IsMetAt here (entry_result here) Print results old new → PrintsOnly old new
+prints-one here results old new (inl (some, h)) = subst (λ (n : Meter). n ≡ record old { printed = n.printed; compared = n.compared }) (sym h) refl
+prints-one here results old new (inr (none, h)) = subst (λ (n : Meter). n ≡ record old { printed = n.printed; compared = n.compared }) (sym h) refl
 
 pub prints-more : (old between new : Meter) → PrintsOnly old between → PrintsOnly between new → PrintsOnly old new
-prints-more old between new a b = b ∙ ap (λ (m : Meter). record m { printed = new.printed }) a
+prints-more old between new a b = b ∙ ap (λ (m : Meter). record m { printed = new.printed; compared = new.compared }) a
 
 module _ (one : (here : EntryPlace) (old new : List EntryResult) (before after : ℕ) → new ≡ old ++ entry_result here ∷ []
     → (SomeAlikeAt here old × (after ≡ before)) ⊎ (NoneAlikeAt here old × (after ≡ before + 1)) → IsEntryPass (here ∷ []) old new before after)
@@ -119,7 +117,7 @@ module _ (one : (here : EntryPlace) (old new : List EntryResult) (before after :
   where
     -- one name is a pass over its entry, and with those behind it over theirs
     pub printed-pass : (facts : List UnitFacts) (l : Listed) (listed : List Listed) → next ≡ grown kept (entry_result (l.path, answers facts) ∷ [])
-        → IsObtained (l.path, answers facts) Print (results_in kept) old new
+        → IsMetAt (l.path, answers facts) (entry_result (l.path, answers facts)) Print (results_in kept) old new
         → (end : List EntryResult) (total : ℕ) → IsEntryPass (entries_over facts listed) (results_in next) end new.printed total
         → IsEntryPass (entries_over facts (l ∷ listed)) (results_in kept) end old.printed total
     printed-pass facts l listed grows h end total rest =

@@ -1,15 +1,17 @@
 -- What is kept of units: their marks and their results, each over what those before it added.
-use Rattle.std.proofs.Common.{◌≡◌, ℕ, zero, suc, ◌+◌, List, [], ◌∷◌, ◌++◌, map, refl, ap, sym, subst, ◌∙◌, add-one, append-nil, append_assoc, drop}
+use Rattle.std.proofs.Common.{◌≡◌, ℕ, zero, suc, ◌+◌, Bool, List, [], ◌∷◌, ◌++◌, map, refl, ap, sym, subst, ◌∙◌, add-one, append-nil, append_assoc, drop}
 use Rattle.std.proofs.lemmas.List.Elements.{All-cons, All-nil}
 use Rattle.idl_env.specs.Facts.{UnitFacts, answers}
 use Rattle.idl_env.specs.declared.additions.addition.Step.TheVariants.{Enters, Leaves}
 use Rattle.idl_event.specs.declared.told.event.Event.{Event}
 use Rattle.idl_root.specs.Compile.{outcome_of}
 use Rattle.idl_root.specs.Followed.{ArePrinted, IsBehind, IsFirst, IsNext, IsPassed, WereThere, added_by, facts_of, results_from}
-use Rattle.idl_root.specs.Judged.{boundary, facts_after, verdict_over}
+use Rattle.idl_root.specs.Judged.{facts_after, verdict_over}
+use Rattle.idl_facts.specs.Written.{boundary}
 use Rattle.idl_root.specs.Places.{declarations_after, declarations_of, entries_of, entries_over}
 use Rattle.idl_root.specs.Printed.{Listed}
-use Rattle.idl_root.specs.Results.{DeclarationResult, EntryResult, IsKeptOf, declaration_result, entry_result, marks_of}
+use Rattle.idl_root.specs.Results.{DeclarationResult, EntryResult, IsKeptOf, KeptLists, RootMarks, entry_result, marks_of}
+use Rattle.idl_root_blocks.specs.Places.{declaration_result}
 use Rattle.idl_root.specs.declared.kept.course.Course.{Course}
 use Rattle.idl_root.specs.declared.kept.marks.Mark.{Mark}
 use Rattle.idl_root.specs.declared.kept.marks.Mark.TheVariants as mark
@@ -62,31 +64,31 @@ judged-there (End ∷ units) before marks k results m r =
     subst (λ b. (k ≡ declaration_result (k.text, answers b)) × WereThere (b ++ k.out.writes ∷ []) marks results)
     (append-nil before) (judged-there units (before ++ []) marks k results m r)
 
-entered-there : (units : List RootUnit) (before : List UnitFacts) (marks : List Mark) (results : List DeclarationResult)
-    → mark.Entered ∷ marks ≡ marks_of units → results ≡ map declaration_result (declarations_after before units)
+entered-there : (units : List RootUnit) (before : List UnitFacts) (own : Bool) (marks : List Mark) (results : List DeclarationResult)
+    → mark.Entered own ∷ marks ≡ marks_of units → results ≡ map declaration_result (declarations_after before units)
     → WereThere (before ++ boundary Enters ∷ []) marks results
 unfolding declarations_after
-entered-there [] before marks results m r = cc
-entered-there (Spelled text sites ∷ units) before marks results m r = cc
-entered-there (Entered file inside ∷ units) before marks results m r =
+entered-there [] before own marks results m r = cc
+entered-there (Spelled text sites ∷ units) before own marks results m r = cc
+entered-there (Entered file inside ∷ units) before own marks results m r =
     let behind : marks ≡ marks_of units = cc in
     record { units = units; marks_are = behind; results_are = r }
-entered-there (Left file inside ∷ units) before marks results m r = cc
-entered-there (End ∷ units) before marks results m r =
-    subst (λ b. WereThere (b ++ boundary Enters ∷ []) marks results) (append-nil before) (entered-there units (before ++ []) marks results m r)
+entered-there (Left file inside ∷ units) before own marks results m r = cc
+entered-there (End ∷ units) before own marks results m r =
+    subst (λ b. WereThere (b ++ boundary Enters ∷ []) marks results) (append-nil before) (entered-there units (before ++ []) own marks results m r)
 
-left-there : (units : List RootUnit) (before : List UnitFacts) (marks : List Mark) (results : List DeclarationResult)
-    → mark.Left ∷ marks ≡ marks_of units → results ≡ map declaration_result (declarations_after before units)
+left-there : (units : List RootUnit) (before : List UnitFacts) (own : Bool) (marks : List Mark) (results : List DeclarationResult)
+    → mark.Left own ∷ marks ≡ marks_of units → results ≡ map declaration_result (declarations_after before units)
     → WereThere (before ++ boundary Leaves ∷ []) marks results
 unfolding declarations_after
-left-there [] before marks results m r = cc
-left-there (Spelled text sites ∷ units) before marks results m r = cc
-left-there (Entered file inside ∷ units) before marks results m r = cc
-left-there (Left file inside ∷ units) before marks results m r =
+left-there [] before own marks results m r = cc
+left-there (Spelled text sites ∷ units) before own marks results m r = cc
+left-there (Entered file inside ∷ units) before own marks results m r = cc
+left-there (Left file inside ∷ units) before own marks results m r =
     let behind : marks ≡ marks_of units = cc in
     record { units = units; marks_are = behind; results_are = r }
-left-there (End ∷ units) before marks results m r =
-    subst (λ b. WereThere (b ++ boundary Leaves ∷ []) marks results) (append-nil before) (left-there units (before ++ []) marks results m r)
+left-there (End ∷ units) before own marks results m r =
+    subst (λ b. WereThere (b ++ boundary Leaves ∷ []) marks results) (append-nil before) (left-there units (before ++ []) own marks results m r)
 
 -- the first has tokens
 passed-judged : (marks behind : List Mark) (results rest : List DeclarationResult) (k : DeclarationResult) → marks ≡ mark.Judged ∷ behind → results ≡ k ∷ rest
@@ -96,16 +98,16 @@ passed-judged marks behind results rest k m r = record {
   there = λ before w. (judged-there w.units before behind k rest (sym m ∙ w.marks_are) (sym r ∙ w.results_are)).1;
 }
 
-passed-entered : (marks behind : List Mark) (results : List DeclarationResult) → marks ≡ mark.Entered ∷ behind → IsPassed (boundary Enters) marks results behind results
-passed-entered marks behind results m = record {
+passed-entered : (own : Bool) (marks behind : List Mark) (results : List DeclarationResult) → marks ≡ mark.Entered own ∷ behind → IsPassed (boundary Enters) marks results behind results
+passed-entered own marks behind results m = record {
   added = ap (λ l. added_by l results) m;
-  there = λ before w. entered-there w.units before behind results (sym m ∙ w.marks_are) w.results_are;
+  there = λ before w. entered-there w.units before own behind results (sym m ∙ w.marks_are) w.results_are;
 }
 
-passed-left : (marks behind : List Mark) (results : List DeclarationResult) → marks ≡ mark.Left ∷ behind → IsPassed (boundary Leaves) marks results behind results
-passed-left marks behind results m = record {
+passed-left : (own : Bool) (marks behind : List Mark) (results : List DeclarationResult) → marks ≡ mark.Left own ∷ behind → IsPassed (boundary Leaves) marks results behind results
+passed-left own marks behind results m = record {
   added = ap (λ l. added_by l results) m;
-  there = λ before w. left-there w.units before behind results (sym m ∙ w.marks_are) w.results_are;
+  there = λ before w. left-there w.units before own behind results (sym m ∙ w.marks_are) w.results_are;
 }
 
 same-head : (f g : UnitFacts) (xs ys : List UnitFacts) → f ∷ xs ≡ g ∷ ys → f ≡ g
@@ -154,14 +156,14 @@ module _ (lists : List (List DeclarationResult)) (f : UnitFacts) (course next : 
               (subst (λ g. IsPassed g course.marks.now (results_from lists course) behind (results_from lists course)) own passed));
         }
 
-    pub behind-entered : course.marks.now ≡ mark.Entered ∷ behind → IsNext lists f course → IsBehind lists f course next
-    behind-entered m is =
-        let passed = passed-entered course.marks.now behind (results_from lists course) m in
+    pub behind-entered : (own : Bool) → course.marks.now ≡ mark.Entered own ∷ behind → IsNext lists f course → IsBehind lists f course next
+    behind-entered own m is =
+        let passed = passed-entered own course.marks.now behind (results_from lists course) m in
         by-boundary (boundary Enters) passed passed.added is
 
-    pub behind-left : course.marks.now ≡ mark.Left ∷ behind → IsNext lists f course → IsBehind lists f course next
-    behind-left m is =
-        let passed = passed-left course.marks.now behind (results_from lists course) m in
+    pub behind-left : (own : Bool) → course.marks.now ≡ mark.Left own ∷ behind → IsNext lists f course → IsBehind lists f course next
+    behind-left own m is =
+        let passed = passed-left own course.marks.now behind (results_from lists course) m in
         by-boundary (boundary Leaves) passed passed.added is
 
 -- the first of them added what is kept of it
@@ -178,20 +180,19 @@ first-result lists k course before f w =
 pub boundary-next : (m : Mark) (marks behind : List Mark) (results : List DeclarationResult) (f : UnitFacts) → marks ≡ m ∷ behind → added_by (m ∷ []) [] ≡ f ∷ []
     → (rest : List UnitFacts) × (added_by marks results ≡ f ∷ rest)
 boundary-next mark.Judged marks behind results f is own = cc
-boundary-next mark.Entered marks behind results f is own =
+boundary-next (mark.Entered inside) marks behind results f is own =
     let same : boundary Enters ≡ f = cc in
     (added_by behind results, ap (λ l. added_by l results) is ∙ ap (λ g. g ∷ added_by behind results) same)
-boundary-next mark.Left marks behind results f is own =
+boundary-next (mark.Left inside) marks behind results f is own =
     let same : boundary Leaves ≡ f = cc in
     (added_by behind results, ap (λ l. added_by l results) is ∙ ap (λ g. g ∷ added_by behind results) same)
 
 -- ---- all of them
 
 -- what is kept of a root is that of units that stood at its beginning
-pub kept-there : (events : List Event) (marks : List Mark) (declarations : List DeclarationResult) (entries : List EntryResult) → IsKeptOf events marks declarations entries
-    → WereThere [] marks declarations
+pub kept-there : (events : List Event) (marks : RootMarks) (kept : KeptLists) → IsKeptOf events marks kept → WereThere [] marks.marks kept.declarations
 unfolding declarations_of
-kept-there events marks declarations entries is = record { units = units_of events; marks_are = is.marks_are; results_are = is.declarations_are }
+kept-there events marks kept is = record { units = units_of events; marks_are = ap (λ (m : RootMarks). m.marks) is.marks_are; results_are = is.declarations_are }
 
 -- entries over facts are printed over them
 entries-printed : (facts : List UnitFacts) (listed : List Listed) → ArePrinted facts (map entry_result (entries_over facts listed))
@@ -199,12 +200,12 @@ entries-printed facts [] = All-nil (λ (k : EntryResult). k ≡ entry_result (k.
 entries-printed facts (l ∷ listed) =
     All-cons (λ (k : EntryResult). k ≡ entry_result (k.text, answers facts)) (entry_result (l.path, answers facts)) (map entry_result (entries_over facts listed)) refl (entries-printed facts listed)
 
-pub kept-printed : (events : List Event) (marks : List Mark) (declarations : List DeclarationResult) (entries : List EntryResult) → IsKeptOf events marks declarations entries
-    → ArePrinted (added_by marks declarations) entries
+pub kept-printed : (events : List Event) (marks : RootMarks) (kept : KeptLists) → IsKeptOf events marks kept → ArePrinted (added_by marks.marks kept.declarations) kept.entries
 unfolding declarations_of entries_of
-kept-printed events marks declarations entries is =
+kept-printed events marks kept is =
     let o = outcome_of events in
-    let facts : o.facts ≡ added_by marks declarations =
+    let own : marks.marks ≡ marks_of (units_of events) = ap (λ (m : RootMarks). m.marks) is.marks_are in
+    let facts : o.facts ≡ added_by marks.marks kept.declarations =
     facts-added (units_of events) []
-    ∙ sym (added-same marks (marks_of (units_of events)) declarations (map declaration_result (declarations_of events)) is.marks_are is.declarations_are) in
-    subst (λ fs. ArePrinted fs entries) facts (subst (ArePrinted o.facts) (sym is.entries_are) (entries-printed o.facts o.listed))
+    ∙ sym (added-same marks.marks (marks_of (units_of events)) kept.declarations (map declaration_result (declarations_of events)) own is.declarations_are) in
+    subst (λ fs. ArePrinted fs kept.entries) facts (subst (ArePrinted o.facts) (sym is.entries_are) (entries-printed o.facts o.listed))

@@ -1,31 +1,56 @@
 -- Results of lists that go into the last draft too.
-use Rattle.std.proofs.Common.{◌≡◌, List, [], ◌∷◌, Option, None, Some, ap, inl, subst, sym, ◌∙◌}
+use Rattle.std.proofs.Common.{◌≡◌, ℕ, List, [], ◌∷◌, Option, None, Some, ap, arith, inl, inr, length, refl, subst, sym, ◌∙◌}
 use Rattle.std.specs.Option.{option_map}
 use Rattle.std.specs.Prelude.{IfNone, IfOk, IfSome, OnErr, OnOk, Result, Ok, Err, option_to_list}
 use Rattle.std.proofs.lemmas.Option.{same_Some}
+use Rattle.idl_kept.specs.Texts.{Texts, with_units}
 use Rattle.idl_memo.specs.Fresh.{Place}
-use Rattle.idl_memo.specs.Kept.{Kept}
+use Rattle.idl_memo.specs.Kept.{Kept, SomeAlikeAt}
+use Rattle.idl_memo.specs.Meter.{ComparesOnly, compared_after, count_of, raised}
 use Rattle.idl_memo.specs.declared.meter.Meter.{Meter}
 use Rattle.idl_memo.specs.declared.task.TaskKind.{TaskKind}
+use Rattle.idl_memo.specs.declared.task.TaskKind.TheVariants.{Expand, Check, Print}
 use Rattle.idl_store.specs.Obtained.{IsObtained}
 use Rattle.idl_store.specs.Stored.{Stored, grown, results_in}
-use Rattle.idl_root.specs.Followed.{IsObtainedLast, IsTakenAgain}
+use Rattle.idl_root.specs.Compared.{IsMetAt}
+use Rattle.idl_root.specs.Followed.{IsObtainedLast, IsTakenAgain, UnitsOnly}
+use Rattle.idl_root.specs.Results.{DeclarationResult}
 use Rattle.idl_root.proofs.StoredLemmas.{grown-none}
 
-module _ {X R E : Type 0} (value : R → X) (old new : Stored X) where
+-- what is kept grows by some results
+module _ {X R E S : Type 0} (value : R → X) (grow : List X → S) (new : S) where
   -- where there is none, nothing happens
-  pub none-taken : (result : Result (Option R) E) (at : Option X) → IfOk result (λ found. option_map value found ≡ at) → OnOk result (new ≡ grown old (option_to_list at))
+  pub none-taken : (old : S) → grow [] ≡ old → (result : Result (Option R) E) (at : Option X) → IfOk result (λ found. option_map value found ≡ at) → OnOk result (new ≡ grow (option_to_list at))
       → IfOk result (λ found. IfNone found (new ≡ old))
-  none-taken (Ok None) at is grows = grows ∙ ap (λ a. grown old (option_to_list a)) (sym is) ∙ grown-none old
-  none-taken (Ok (Some r)) at is grows = tt
-  none-taken (Err e) at is grows = tt
+  none-taken old none (Ok None) at is grows = grows ∙ ap (λ a. grow (option_to_list a)) (sym is) ∙ none
+  none-taken old none (Ok (Some r)) at is grows = tt
+  none-taken old none (Err e) at is grows = tt
 
   -- where there is one, it goes there
-  pub some-taken : (result : Result (Option R) E) (at : Option X) (k : X) → at ≡ Some k → IfOk result (λ found. option_map value found ≡ at) → OnOk result (new ≡ grown old (option_to_list at))
-      → IfOk result (λ found. IfSome found (λ r. (value r ≡ k) × (new ≡ grown old (k ∷ []))))
+  pub some-taken : (result : Result (Option R) E) (at : Option X) (k : X) → at ≡ Some k → IfOk result (λ found. option_map value found ≡ at) → OnOk result (new ≡ grow (option_to_list at))
+      → IfOk result (λ found. IfSome found (λ r. (value r ≡ k) × (new ≡ grow (k ∷ []))))
   some-taken (Ok None) at k one is grows = tt
-  some-taken (Ok (Some r)) at k one is grows = (same_Some (value r) k (is ∙ one), grows ∙ ap (λ a. grown old (option_to_list a)) one)
+  some-taken (Ok (Some r)) at k one is grows = (same_Some (value r) k (is ∙ one), grows ∙ ap (λ a. grow (option_to_list a)) one)
   some-taken (Err e) at k one is grows = tt
+
+-- nothing is taken of units
+pub units-none : (old : Texts) → with_units old [] ≡ old
+units-none old = ap (λ (s : Stored DeclarationResult). record old { declarations = s }) (grown-none old.declarations)
+
+-- where units are taken or obtained, nothing else differs
+pub units-only : {T E : Type 0} (result : Result T E) (old new : Texts) (more : List DeclarationResult) → OnOk result (new ≡ with_units old more) → OnErr result (new ≡ old) → UnitsOnly old new
+units-only (Ok t) old new more ok err = subst (λ n. UnitsOnly old n) (sym ok) refl
+units-only (Err e) old new more ok err = subst (λ n. UnitsOnly old n) (sym err) refl
+
+-- and so the declarations grow, or stay
+pub units-grown : {T E : Type 0} (result : Result T E) (old new : Texts) (more : List DeclarationResult) → OnOk result (new ≡ with_units old more) → OnOk result (new.declarations ≡ grown old.declarations more)
+units-grown (Ok t) old new more ok = ap (λ (x : Texts). x.declarations) ok
+units-grown (Err e) old new more ok = tt
+
+pub units-lists : {T E : Type 0} (result : Result T E) (old new : Texts) (more : List DeclarationResult) → OnOk result (new ≡ with_units old more) → OnErr result (new ≡ old)
+    → new.declarations.lists ≡ old.declarations.lists
+units-lists (Ok t) old new more ok err = ap (λ (x : Texts). x.declarations.lists) ok
+units-lists (Err e) old new more ok err = ap (λ (x : Texts). x.declarations.lists) err
 
 -- of what is found
 pub found-weaker : {R E : Type 0} (result : Result (Option R) E) (P Q : R → Type 0) → ((r : R) → P r → Q r) → IfOk result (λ found. IfSome found P) → IfOk result (λ found. IfSome found Q)
@@ -64,16 +89,47 @@ pub at-none : {R : Type 0} (found : Option R) (P : Type 0) → found ≡ None �
 at-none found P is h = subst (λ o. IfNone o P) is h
 
 -- what is obtained goes last into what is made of a root
-pub obtained-last : {K V T O R E : Type 0} (result : Result R E) (value : R → Kept K V T O) (kind : TaskKind) (place : Place K V T) (here : Kept K V T O) (old new : Stored (Kept K V T O)) (before after : Meter)
-    → IfOk result (λ r. value r ≡ here) → OnOk result (new ≡ grown old (here ∷ [])) → OnOk result (IsObtained place kind (results_in old) before after)
-    → IfOk result (λ r. IsObtainedLast kind place here old new before after (value r))
-obtained-last (Ok r) value kind place here old new before after is grows obtained = record { result_is = is; new_is = grows; obtained = obtained }
-obtained-last (Err e) value kind place here old new before after is grows obtained = tt
+pub obtained-last : {K V T O : Type 0} {kind : TaskKind} {place : Place K V T} {here : Kept K V T O} {old new : Stored (Kept K V T O)} {before after : Meter} {result : Kept K V T O} → result ≡ here
+    → new ≡ grown old (here ∷ []) → IsMetAt place here kind (results_in old) before after → IsObtainedLast kind place here old new before after result
+obtained-last is grows met = record { result_is = is; new_is = grows; obtained = met }
 
--- and so does what is taken again, of which nothing is counted
-pub taken-last : {K V T O : Type 0} {place : Place K V T} {here : Kept K V T O} {old new : Stored (Kept K V T O)} {result : Kept K V T O} (kind : TaskKind) (before after : Meter)
-    → after ≡ before → IsTakenAgain place here old new result → IsObtainedLast kind place here old new before after result
-taken-last kind before after same taken = record { result_is = taken.result_is; new_is = taken.new_is; obtained = inl (taken.alike, same) }
+-- the keys of one that is alike are compared
+module _ {K V T O : Type 0} (kind : TaskKind) (place : Place K V T) (here : Kept K V T O) (before : Meter) where
+  met-compared : (results : List (Kept K V T O)) (after : Meter) (keys : ℕ) → keys ≡ length here.log → ComparesOnly before after → after.compared ≡ compared_after before.compared keys
+      → SomeAlikeAt place results → IsMetAt place here kind results before after
+  met-compared results after keys all only counts some =
+      inl (some, only ∙ ap (λ n. record before { compared = n }) (counts ∙ ap (λ n. compared_after before.compared n) all))
+
+  -- what is taken again goes last into it too
+  pub taken-last : {old new : Stored (Kept K V T O)} {result : Kept K V T O} (after : Meter) (keys : ℕ) → keys ≡ length here.log → ComparesOnly before after
+      → after.compared ≡ compared_after before.compared keys → IsTakenAgain place here old new result → IsObtainedLast kind place here old new before after result
+  taken-last {old} after keys all only counts taken = record {
+    result_is = taken.result_is;
+    new_is = taken.new_is;
+    obtained = met-compared (results_in old) after keys all only counts taken.alike;
+  }
+
+  -- one that was run was counted
+  not-raised : (k : TaskKind) (m : Meter) → count_of k (raised k m) ≡ count_of k m → ⊥
+  not-raised Expand m same = omega (arith, same)
+  not-raised Check m same = omega (arith, same)
+  not-raised Print m same = omega (arith, same)
+
+  module _ (results : List (Kept K V T O)) (between : Meter) (is : IsObtained place kind results before between) where
+    -- so where none was, one is alike, and its keys are compared; and else one was run
+    pub met-alike : count_of kind between ≡ count_of kind before → (after : Meter) (keys : ℕ) → keys ≡ length here.log → ComparesOnly between after
+        → after.compared ≡ compared_after between.compared keys → IsMetAt place here kind results before after
+    met-alike same after keys all only counts = elim is [
+      | inl some ↦ met-compared results after keys all (subst (λ (m : Meter). ComparesOnly m after) some.1 only)
+          (counts ∙ ap (λ (m : Meter). compared_after m.compared keys) some.1) some.0
+      | inr fresh ↦ absurd (not-raised kind before (ap (λ (m : Meter). count_of kind m) (sym fresh.1) ∙ same))
+    ]
+
+    pub met-run : (count_of kind between ≡ count_of kind before → ⊥) → IsMetAt place here kind results before between
+    met-run other = elim is [
+      | inl some ↦ absurd (other (ap (λ (m : Meter). count_of kind m) some.1))
+      | inr fresh ↦ inr (fresh.0, fresh.1)
+    ]
 
 -- the lists stay as they are
 pub lists-kept : {X T E : Type 0} (result : Result T E) (old new : Stored X) (more : List X) → OnOk result (new ≡ grown old more) → OnErr result (new ≡ old) → new.lists ≡ old.lists

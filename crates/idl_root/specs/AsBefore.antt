@@ -2,21 +2,26 @@
 use Rattle.std.specs.Prelude.{◌≡◌, ℕ, ◌+◌, List, [], ◌∷◌, ◌++◌, flat_map, map}
 use Rattle.idl_event.specs.declared.told.event.Event.{Event}
 use Rattle.idl_fault.specs.declared.place.Place.{Place}
+use Rattle.idl_kept.specs.Texts.{AreListsOf}
+use Rattle.idl_memo.specs.Meter.{compared_after}
 use Rattle.idl_memo.specs.declared.meter.Meter.{Meter}
+use Rattle.idl_root.specs.Compared.{AreOf, compared_root, root_keys}
 use Rattle.idl_root.specs.Compile.{compile}
 use Rattle.idl_root.specs.Findings.{fault_finding}
 use Rattle.idl_root.specs.Followed.{results_from}
 use Rattle.idl_root.specs.Judged.{HasTurns, Judged}
-use Rattle.idl_root.specs.Places.{declarations_after, declarations_of, entries_of}
+use Rattle.idl_root.specs.Places.{EntryPlace, begins_of, blocks_of, declarations_after, declarations_of, entries_of, root_pieces}
 use Rattle.idl_root.specs.Printed.{Listed, name_index}
-use Rattle.idl_root.specs.Results.{DeclarationResult, EntryResult, IsDeclarationPass, IsEntryPass, declaration_result, entry_result, mark_at, marks_of}
+use Rattle.idl_root.specs.Results.{DeclarationResult, EntryResult, IsDeclarationPass, IsEntryPass, KeptLists, entry_result, mark_at, marks_of}
+use Rattle.idl_root_blocks.specs.Met.{Known}
+use Rattle.idl_root_blocks.specs.Places.{block_result, declaration_result}
 use Rattle.idl_root.specs.declared.compiling.compiled.Compiled.{Compiled}
 use Rattle.idl_root.specs.declared.compiling.finding.EventFinding.{EventFinding}
 use Rattle.idl_root.specs.declared.kept.course.Course.{Course}
 use Rattle.idl_root.specs.declared.kept.keeper.Keeper.{Keeper}
 use Rattle.idl_root.specs.declared.kept.marks.Mark.{Mark}
 use Rattle.idl_root.specs.declared.kept.marks.Mark.TheVariants as mark
-use Rattle.idl_store.specs.Stored.{results_in, with_draft}
+use Rattle.idl_store.specs.Stored.{list_at, results_in, with_draft}
 use Rattle.idl_unit.specs.TokenRules.{fault_at}
 use Rattle.idl_unit.specs.Units.{units_of}
 use Rattle.idl_unit.specs.declared.unit.Unit.{Unit as RootUnit}
@@ -49,8 +54,8 @@ texts_from lists course = map (λ k. k.text) (results_from lists course)
 -- the place of the next result behind a unit with this mark, where its own would stand at that
 abbrev pub place_behind : Mark → ℕ → ℕ
 place_behind mark.Judged place = place + 1
-place_behind mark.Entered place = place
-place_behind mark.Left place = place
+place_behind (mark.Entered inside) place = place
+place_behind (mark.Left inside) place = place
 
 -- the course behind the first unit of another, which was that
 pub record IsBehindMark (course : Course) (m : Mark) (next : Course) : Type 0 where
@@ -100,24 +105,46 @@ pub record IsCompiledOf (events : List Event) (compiled : Compiled) : Type 0 whe
   pub rows : compiled ≡ compile end events
   pub turns : HasTurns (units_of events)
 
+-- what is kept of the root at a place among all
+abbrev pub kept_lists : Keeper → ℕ → KeptLists
+kept_lists keeper at = record {
+  declarations = list_at keeper.texts.declarations.lists at;
+  blocks = list_at keeper.texts.blocks.lists at;
+  begins = list_at keeper.texts.begins.lists at;
+  entries = list_at keeper.entries.lists at;
+}
+
+-- no list has become another
+pub record AreListsLeft (old new : Keeper) : Type 0 where
+  pub texts : AreListsOf old.texts new.texts
+  pub entries : new.entries.lists ≡ old.entries.lists
+
 -- nothing is made of a root: its tasks are those that it had
 pub record IsAsBefore (was events : List Event) (old new : Keeper) (before after : Meter)
     : Type 0 where
   pub declarations_are : declarations_of events ≡ declarations_of was
+  pub pieces_are : root_pieces events ≡ root_pieces was
   pub entries_are : entries_of events ≡ entries_of was
-  pub declarations : new.declarations ≡ old.declarations
+  pub texts : new.texts ≡ old.texts
   pub entries : new.entries ≡ old.entries
   pub checked : after.checked ≡ before.checked
   pub printed : after.printed ≡ before.printed
+  pub compared : after.compared ≡ compared_after before.compared (root_keys events)
 
--- a root of these events is made, at a place among all: its lists are in drafts, and its fresh tasks
--- are counted
+-- a root of these events is made, at a place among all: its lists are in drafts, its fresh tasks are
+-- counted, and the keys of known ones are compared
 pub record IsMade (events : List Event) (at : ℕ) (old new : Keeper) (before after : Meter)
     : Type 0 where
-  pub declarations : new.declarations
-      ≡ with_draft old.declarations at (map declaration_result (declarations_of events))
+  pub declarations : new.texts.declarations
+      ≡ with_draft old.texts.declarations at (map declaration_result (declarations_of events))
+  pub blocks : new.texts.blocks
+      ≡ with_draft old.texts.blocks at (map block_result (blocks_of events))
+  pub begins : new.texts.begins ≡ with_draft old.texts.begins at (begins_of events)
   pub entries : new.entries ≡ with_draft old.entries at (map entry_result (entries_of events))
-  pub checked : IsDeclarationPass (declarations_of events) (results_in old.declarations)
-      (results_in new.declarations) before.checked after.checked
+  pub checked : IsDeclarationPass (declarations_of events) (results_in old.texts.declarations)
+      (results_in new.texts.declarations) before.checked after.checked
   pub printed : IsEntryPass (entries_of events) (results_in old.entries) (results_in new.entries)
       before.printed after.printed
+  pub compared : (known : Known) (entries : List EntryPlace)
+      → AreOf known old.texts → results_in old.entries ≡ map entry_result entries
+      → after.compared ≡ compared_after before.compared (compared_root known entries events)

@@ -5,17 +5,19 @@ use Rattle.idl_env.specs.Outside.{WorldsAgreeAround, WorldsAgreeOutside, looked_
 use Rattle.idl_env.specs.declared.additions.addition.Step.TheVariants.{Enters, Leaves, Stays}
 use Rattle.idl_env.specs.declared.keys.key.Key.{Key}
 use Rattle.idl_env.specs.keys.Key.{key_digest}
+use Rattle.idl_kept.specs.Texts.{Texts}
 use Rattle.idl_memo.specs.Fresh.{Place}
 use Rattle.idl_memo.specs.Kept.{Kept, SomeAlikeAt}
-use Rattle.idl_store.specs.Obtained.{IsObtained}
 use Rattle.idl_store.specs.Stored.{Stored, grown, list_at, result_at, results_in}
 use Rattle.idl_memo.specs.declared.meter.Meter.{Meter}
 use Rattle.idl_memo.specs.declared.task.TaskKind.{TaskKind}
 use Rattle.idl_memo.specs.declared.task.TaskKind.TheVariants.{Check, Print}
 use Rattle.idl_root.specs.Changed.{ShareNone}
-use Rattle.idl_root.specs.Judged.{boundary}
-use Rattle.idl_root.specs.Places.{DeclarationPlace, EntryPlace, declarations_after}
-use Rattle.idl_root.specs.Results.{DeclarationResult, EntryResult, declaration_result, entry_result, marks_of}
+use Rattle.idl_root.specs.Compared.{IsMetAt}
+use Rattle.idl_facts.specs.Written.{boundary}
+use Rattle.idl_root.specs.Places.{EntryPlace, declarations_after}
+use Rattle.idl_root_blocks.specs.Places.{DeclarationPlace, declaration_result}
+use Rattle.idl_root.specs.Results.{DeclarationResult, EntryResult, entry_result, marks_of}
 use Rattle.idl_root.specs.declared.kept.course.Course.{Course}
 use Rattle.idl_root.specs.declared.kept.following.Following.{Following}
 use Rattle.idl_root.specs.declared.kept.keeping.Keeping.{Keeping}
@@ -48,14 +50,14 @@ abbrev pub added_by : List Mark → List DeclarationResult → List UnitFacts
 added_by [] results = []
 added_by (mark.Judged ∷ marks) [] = []
 added_by (mark.Judged ∷ marks) (k ∷ results) = k.out.writes ∷ added_by marks results
-added_by (mark.Entered ∷ marks) results = boundary Enters ∷ added_by marks results
-added_by (mark.Left ∷ marks) results = boundary Leaves ∷ added_by marks results
+added_by (mark.Entered inside ∷ marks) results = boundary Enters ∷ added_by marks results
+added_by (mark.Left inside ∷ marks) results = boundary Leaves ∷ added_by marks results
 
 -- it is a file boundary
 abbrev pub IsBoundary : Mark → Type 0
 IsBoundary mark.Judged = ⊥
-IsBoundary mark.Entered = Unit {0}
-IsBoundary mark.Left = Unit {0}
+IsBoundary (mark.Entered inside) = Unit {0}
+IsBoundary (mark.Left inside) = Unit {0}
 
 -- these marks and results are those of units that stood behind these facts
 pub record WereThere (before : List UnitFacts) (marks : List Mark)
@@ -142,6 +144,10 @@ abbrev pub StayAlike : Bool → List UnitFacts → List ℕ → UnitFacts → Ty
 StayAlike false facts changed f = LookElsewhere facts changed f
 StayAlike true facts changed f = (f.step ≡ Stays) × LookElsewhere facts changed f
 
+-- of what is kept of texts nothing differs but what is kept of units
+abbrev pub UnitsOnly : Texts → Texts → Type 0
+UnitsOnly old new = new ≡ record old { declarations = new.declarations }
+
 -- a result that is kept is taken again: the one of this place, which is alike there
 pub record IsTakenAgain {K V T O : Type 0} (place : Place K V T) (here : Kept K V T O)
     (old new : Stored (Kept K V T O)) (result : Kept K V T O)
@@ -156,7 +162,7 @@ pub record IsObtainedLast {K V T O : Type 0} (kind : TaskKind) (place : Place K 
     (result : Kept K V T O) : Type 0 where
   pub result_is : result ≡ here
   pub new_is : new ≡ grown old (here ∷ [])
-  pub obtained : IsObtained place kind (results_in old) before after
+  pub obtained : IsMetAt place here kind (results_in old) before after
 
 -- that of a declaration, and that of an entry
 abbrev pub IsDeclarationLast : DeclarationPlace → Stored DeclarationResult
@@ -202,4 +208,5 @@ IsKeeping lists keeping facts =
 -- a declaration is obtained at the place, if there is one
 abbrev pub IsJudgedAt : List DeclarationPlace → List DeclarationResult → Meter → Meter → Type 0
 IsJudgedAt [] results old new = new ≡ old
-IsJudgedAt (place ∷ places) results old new = IsObtained place Check results old new
+IsJudgedAt (place ∷ places) results old new =
+    IsMetAt place (declaration_result place) Check results old new

@@ -7,8 +7,8 @@ use Rattle.idl_event.specs.declared.told.site.Site.{Site}
 use Rattle.idl_memo.specs.Query.{outcome}
 use Rattle.idl_env.specs.Facts.{UnitFacts, answers}
 use Rattle.idl_env.specs.Turns.{most_turns, turns_for}
-use Rattle.idl_env.specs.declared.additions.addition.Step.{Step}
 use Rattle.idl_env.specs.declared.additions.addition.Step.TheVariants.{Enters, Leaves}
+use Rattle.idl_facts.specs.Written.{boundary}
 use Rattle.idl_unit.specs.declared.unit.Unit.{Unit as RootUnit}
 use Rattle.idl_unit.specs.declared.unit.Unit.TheVariants.{Spelled, Entered, Left, End}
 use Rattle.idl_unit.specs.declared.unit.UnitText.{UnitText}
@@ -27,10 +27,6 @@ verdict_over facts text = outcome (verdict most_turns text) (answers facts)
 abbrev pub judged_over : List UnitFacts → UnitText → List Site → Judged
 judged_over facts text sites =
     record { text = text; sites = sites; verdict = verdict_over facts text }
-
--- what a file boundary adds
-abbrev pub boundary : Step → UnitFacts
-boundary step = record { additions = []; step = step }
 
 -- What a unit adds over facts. A faulty one adds facts too: an opening opens a scope, and a closing
 -- closes one.

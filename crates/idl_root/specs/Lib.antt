@@ -5,6 +5,7 @@ pub mod Findings
 pub mod Printed
 pub mod Compile
 pub mod Places
+pub mod Compared
 pub mod Held
 pub mod Results
 pub mod Followed
@@ -12,3 +13,4 @@ pub mod Changed
 pub mod Told
 pub mod Turns
 pub mod AsBefore
+pub mod Passed

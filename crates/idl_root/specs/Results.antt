@@ -1,5 +1,5 @@
 -- The results of the tasks of roots, as they are kept.
-use Rattle.std.specs.Prelude.{◌≡◌, ◌≢◌, ℕ, Bool, List, [], ◌∷◌, Option, flat_map, map}
+use Rattle.std.specs.Prelude.{◌≡◌, ◌≢◌, ℕ, List, [], ◌∷◌, Option, flat_map, map}
 use Rattle.std.specs.Option.{option_eq}
 use Rattle.idl_check.specs.walk.Verdict.{verdict}
 use Rattle.idl_check.specs.declared.walk.verdict.Verdict.{Verdict}
@@ -13,15 +13,19 @@ use Rattle.idl_event.specs.declared.told.event.Event.{Event}
 use Rattle.idl_memo.specs.Fresh.{fresh_among}
 use Rattle.idl_memo.specs.Kept.{Kept, result_over}
 use Rattle.idl_memo.specs.Passes.{IsPass}
+use Rattle.idl_memo.specs.Meter.{compared_after}
 use Rattle.idl_memo.specs.declared.meter.Meter.{Meter}
 use Rattle.idl_store.specs.Stored.{Stored}
 use Rattle.idl_repo.specs.Entry.{entry}
 use Rattle.idl_repo.specs.declared.entry.Entry.{Entry}
-use Rattle.idl_root.specs.Places.{DeclarationPlace, EntryPlace, declarations_of, entries_of}
+use Rattle.idl_kept.specs.Texts.{BlockResult}
+use Rattle.idl_root.specs.Compared.{root_keys}
+use Rattle.idl_root.specs.Places.{EntryPlace, begins_of, blocks_of, declarations_of, entries_of}
+use Rattle.idl_root_blocks.specs.Met.{unit_text_eq}
+use Rattle.idl_root_blocks.specs.Places.{DeclarationPlace, block_result, declaration_result}
 use Rattle.idl_root.specs.declared.kept.marks.Mark.{Mark}
 use Rattle.idl_root.specs.declared.kept.marks.Mark.TheVariants as mark
 use Rattle.idl_unit.specs.Units.{units_of}
-use Rattle.idl_unit.specs.contracts.unit.UnitTextPartialEq.TheImpl.{ghosts}
 use Rattle.idl_unit.specs.declared.unit.Unit.{Unit as RootUnit}
 use Rattle.idl_unit.specs.declared.unit.Unit.TheVariants.{Spelled, Entered, Left, End}
 use Rattle.idl_unit.specs.declared.unit.UnitText.{UnitText}
@@ -33,16 +37,9 @@ DeclarationResult = Kept Key (Option Answer) UnitText Verdict
 abbrev pub EntryResult : Type 0
 EntryResult = Kept Key (Option Answer) (List (List ℕ)) Entry
 
--- the one result of a declaration, and of an entry, where it stands
-abbrev pub declaration_result : DeclarationPlace → DeclarationResult
-declaration_result place = result_over key_eq (verdict most_turns) place
-
+-- the one result of an entry where it stands
 abbrev pub entry_result : EntryPlace → EntryResult
 entry_result place = result_over key_eq entry place
-
--- whether two units have one text
-abbrev pub unit_text_eq : UnitText → UnitText → Bool
-unit_text_eq = ghosts.eq
 
 -- how many of these declarations are fresh against the known ones, and of these entries
 abbrev pub fresh_declarations : List DeclarationPlace → List DeclarationPlace → ℕ
@@ -67,37 +64,58 @@ IsEntryPass places old new before after =
 -- what a unit is; the end of a root is not marked
 abbrev pub mark_at : RootUnit → List Mark
 mark_at (Spelled text sites) = mark.Judged ∷ []
-mark_at (Entered file inside) = mark.Entered ∷ []
-mark_at (Left file inside) = mark.Left ∷ []
+mark_at (Entered file inside) = mark.Entered inside ∷ []
+mark_at (Left file inside) = mark.Left inside ∷ []
 mark_at End = []
 
 abbrev pub marks_of : List RootUnit → List Mark
 marks_of units = flat_map mark_at units
 
--- those of a root that expands to these events
-abbrev pub root_marks : List Event → List Mark
-root_marks events = marks_of (units_of events)
+-- what the units of a root are, and how many keys its tasks asked, as far as memory counts
+pub record RootMarks : Type 0 where
+  pub marks : List Mark
+  pub keys : ℕ
 
--- what a root's units were, and what is kept of its declarations and its entries, are those of this
+-- those of a root that expands to these events
+abbrev pub root_marks : List Event → RootMarks
+root_marks events = record {
+  marks = marks_of (units_of events);
+  keys = compared_after 0 (root_keys events);
+}
+
+-- what is kept of a root: the results of its units with tokens, and of its blocks with where the
+-- results of their units begin, and those of its names
+pub record KeptLists : Type 0 where
+  pub declarations : List DeclarationResult
+  pub blocks : List BlockResult
+  pub begins : List ℕ
+  pub entries : List EntryResult
+
+-- nothing
+abbrev pub nothing_kept : KeptLists
+nothing_kept = record { declarations = []; blocks = []; begins = []; entries = [] }
+
+-- what a root's units were and how many keys it asked, and what is kept of it, are those of this
 -- expansion
-pub record IsKeptOf (events : List Event) (marks : List Mark)
-    (declarations : List DeclarationResult) (entries : List EntryResult)
-    : Type 0 where
-  pub marks_are : marks ≡ marks_of (units_of events)
-  pub declarations_are : declarations ≡ map declaration_result (declarations_of events)
-  pub entries_are : entries ≡ map entry_result (entries_of events)
+pub record IsKeptOf (events : List Event) (marks : RootMarks) (lists : KeptLists) : Type 0 where
+  pub marks_are : marks ≡ root_marks events
+  pub declarations_are : lists.declarations ≡ map declaration_result (declarations_of events)
+  pub blocks_are : lists.blocks ≡ map block_result (blocks_of events)
+  pub begins_are : lists.begins ≡ begins_of events
+  pub entries_are : lists.entries ≡ map entry_result (entries_of events)
 
 -- there is a draft
 abbrev pub HasDraft : {X : Type 0} → Stored X → Type 0
 HasDraft stored = stored.drafts ≢ []
 
--- no count differs but that of checked declarations, or that of printed entries
+-- no count differs but those of checked declarations and of compared keys, or of printed entries and
+-- of compared keys
 abbrev pub ChecksOnly : Meter → Meter → Type 0
-ChecksOnly old new = new ≡ record old { checked = new.checked }
+ChecksOnly old new = new ≡ record old { checked = new.checked; compared = new.compared }
 
 abbrev pub PrintsOnly : Meter → Meter → Type 0
-PrintsOnly old new = new ≡ record old { printed = new.printed }
+PrintsOnly old new = new ≡ record old { printed = new.printed; compared = new.compared }
 
--- no count differs but these two
-abbrev pub ChecksAndPrintsOnly : Meter → Meter → Type 0
-ChecksAndPrintsOnly old new = new ≡ record old { checked = new.checked; printed = new.printed }
+-- nothing was expanded
+abbrev pub ExpandsNone : Meter → Meter → Type 0
+ExpandsNone old new = new.expanded ≡ old.expanded

@@ -6,4 +6,5 @@ pub(crate) mod judging;
 pub(crate) mod laws;
 pub(crate) mod memory;
 pub(crate) mod number;
+pub(crate) mod passing;
 pub(crate) mod printing;

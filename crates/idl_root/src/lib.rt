@@ -9,8 +9,9 @@ mod kept;
 
 pub use compiling::compiled::{Compiled, KeptSource, Recompiled, Row, compile, compile_kept};
 pub use compiling::finding::Finding;
-pub use compiling::laws::{facts, ordering, telling};
+pub use compiling::laws::{facts, ordering, telling, texts};
 pub use compiling::memory::Memory;
+pub use kept::comparing::comparing;
 pub use kept::fresh::fresh_tasks;
 pub use kept::keeper::Keeper;
 pub use kept::marks::Marks;

@@ -1,10 +1,15 @@
 pub mod Comes
 pub mod Cuts
+pub mod Depths
+pub mod Finds
 pub mod Fronts
 pub mod Insides
 pub mod LogLaws
 pub mod Meets
+pub mod Noting
 pub mod Repeats
 pub mod Results
+pub mod Scans
 pub mod Splits
+pub mod Units
 pub mod Wholes

@@ -1,4 +1,7 @@
+pub mod Asking
 pub mod Blocks
+pub mod Finding
 pub mod Met
 pub mod Outer
 pub mod Places
+pub mod Units

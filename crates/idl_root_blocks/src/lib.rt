@@ -1,19 +1,28 @@
-//! The blocks of a root: what their texts are, where their tasks stand, what they come to, and which tasks are met at an edit.
-//!
-//! Nothing here runs.
+//! The blocks of a root: what their texts are, where their tasks stand, what they come to, and which tasks are met at an edit; how
+//! they are found among the units, and what they ask.
 #![tactic(auto)]
 
+mod block_text;
 mod blocks;
 mod equality;
+mod finding;
 mod logs;
 mod met;
+mod open;
 mod pieces;
 mod places;
+mod scopes;
+mod task;
 mod text;
 
+pub use block_text::BlockText;
 pub use blocks::{resulting, standing, taking};
+pub use finding::{block_at, blocks_in, texts_in};
 pub use logs::logging;
 pub use met::{containing, meeting, repeating};
+pub use open::{OpenBlock, ask_each};
 pub use pieces::cutting;
 pub use places::splitting;
-pub use text::BlockPart;
+pub use scopes::scoping;
+pub use task::{BlockTask, KeptBlock};
+pub use text::{BlockPart, text_of};

@@ -1,10 +1,15 @@
-//! The text of a block.
+//! The parts of the text of a block.
 
+ghost use Rattle.std.specs.Prelude.{◌≡◌, IfOk};
+ghost use Rattle.std.specs.Option.{option_to_list};
 ghost use Rattle.std.proofs.Common.{ap};
+ghost use Rattle.idl_root_blocks.specs.Units.{parts_of_unit, text_of};
 ghost use Rattle.idl_root_blocks.specs.declared.text.BlockPart.TheVariants.{Text, Enters, Leaves};
 
+use crate::block_text::BlockText;
 use idl_base::Datum;
-use idl_unit::UnitText;
+use idl_unit::{Unit, UnitText};
+use std::alloc::{AllocError, Global};
 use std::hash::Hash;
 
 /// A part of a block: a unit with tokens, or the boundary of a file that it includes and whether that stands inside a unit of
@@ -34,4 +39,30 @@ impl Datum for BlockPart {
       | Enters a ↦ elim [ Text b ↦ λ h. absurd h | Enters b ↦ λ h. ap Enters h | Leaves b ↦ λ h. absurd h ]
       | Leaves a ↦ elim [ Text b ↦ λ h. absurd h | Enters b ↦ λ h. absurd h | Leaves b ↦ λ h. ap Leaves h ]
     ] };
+}
+
+/// The text of these units.
+#[tactic(auto, using(crate::proofs::Units::text_next))]
+pub fn text_of(alloc: Global, units: &[Unit]) -> Result<BlockText, AllocError>
+    ensures { IfOk result (λ text. text ≡ text_of units.now) }
+{
+    let mut parts = Vec::with_capacity(alloc, units.len())?;
+    for unit in units {
+        if let Some(part) = part_of(unit)? {
+            parts.push(part)?;
+        }
+    }
+    BlockText::new(alloc, parts)
+}
+
+// What a unit is in a text, if it is in it.
+fn part_of(unit: &Unit) -> Result<Option<BlockPart>, AllocError>
+    ensures { IfOk result (λ part. option_to_list part ≡ parts_of_unit unit.now) }
+{
+    match unit {
+        Unit::Spelled(text, _sites) => Ok(Some(BlockPart::Text(text.clone()?))),
+        Unit::Entered(_file, inside) => Ok(Some(BlockPart::Enters(*inside))),
+        Unit::Left(_file, inside) => Ok(Some(BlockPart::Leaves(*inside))),
+        Unit::End => Ok(None),
+    }
 }

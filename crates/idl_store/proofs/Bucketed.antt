@@ -59,6 +59,12 @@ module _ {X Y : Type 0} (f : X → List Y) where
       (λ h. (let later = part_of xs y h in let r : (z : X) × Contains (x ∷ xs) z × Contains (f z) y = (later.0, Contains-append_right (x ∷ []) xs later.0 later.1, later.2) in r))
       (Contains-append_cases (f x) (flat_map f xs) y c)
 
+-- what is made of items is made of them in any order
+pub permuted : {X Y : Type 0} (f : X → List Y) (xs ys : List X) (y : Y) → IsPermutation xs ys → Contains (flat_map f xs) y → Contains (flat_map f ys) y
+permuted {X} {Y} f xs ys y order c =
+    let from = part_of f xs y c in
+    All-contains (λ x. (z : Y) → Contains (f x) z → Contains (flat_map f ys) z) ys from.0 (parts f ys) (Contains-permutation xs ys from.0 order from.1) y from.2
+
 -- an item more, seen otherwise
 adds-map : {X Y : Type 0} (f : X → Y) (p q : List X) (item : X) → AddsOne p q item → AddsOne (map f p) (map f q) (f item)
 adds-map {X} {Y} f p q item adds = record { has = λ y. (to y, from y) }

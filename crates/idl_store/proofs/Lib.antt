@@ -11,6 +11,7 @@ pub mod Ordered
 pub mod Reading
 pub mod Searching
 pub mod Shown
+pub mod Shrinking
 pub mod Spotted
 pub mod StoredLaws
 pub mod Telling

@@ -1,11 +1,12 @@
 -- What stands at the spots of a store.
-use Rattle.std.proofs.Common.{◌≡◌, ℕ, ◌+◌, ◌<◌, ◌≤◌, Bool, true, false, List, [], ◌∷◌, ◌++◌, Option, Some, None, ap, arith, drop, get_or, length, map, nat_eq, refl, slice_get, subst, sym, take, ◌∙◌, Result, Ok, Err, OnOk}
+use Rattle.std.proofs.Common.{◌≡◌, ℕ, suc, ◌+◌, ◌-◌, ◌<◌, ◌≤◌, Bool, true, false, List, [], ◌∷◌, ◌++◌, Option, Some, None, ap, arith, drop, get_or, length, map, nat_eq, refl, slice_get, subst, sym, take, ◌∙◌, Result, Ok, Err, OnOk}
 use Rattle.std.specs.Global.{Global}
 use Rattle.std.specs.List.{filter_map, position}
 use Rattle.std.specs.Option.{option_map}
 use Rattle.std.specs.Prelude.{All, IsSome}
 use Rattle.std.specs.declared.rc.Rc.{Rc}
 use Rattle.std.proofs.lemmas.Bool.{eqb-true}
+use Rattle.std.proofs.lemmas.List.{length-map}
 use Rattle.std.proofs.lemmas.List.Quantifiers.{position-Some}
 use Rattle.std.proofs.lemmas.Option.{slice_get_read}
 use Rattle.slab.specs.Slab.{Slab, get}
@@ -13,12 +14,20 @@ use Rattle.idl_memo.specs.Kept.{Kept}
 use Rattle.idl_memo.specs.Query.{Query}
 use Rattle.idl_store.specs.Numbers.{AreMore, IsStored, joined, result_of, shown, times}
 use Rattle.idl_store.specs.Spots.{lists_among, result_on, results_from}
-use Rattle.idl_store.specs.Stored.{Stored, grown, item_at, list_at, results_in, results_of_drafts, with_results}
+use Rattle.idl_store.specs.Stored.{Stored, grown, item_at, last_draft, last_of, list_at, results_in, results_of_drafts, with_results}
 use Rattle.idl_store.specs.declared.numbers.Spot.{Spot}
 use Rattle.idl_store.specs.declared.numbers.Used.{Used}
 use Rattle.idl_store.proofs.Changing.{stands-for, taken}
-use Rattle.idl_store.proofs.Shown.{draft_shown, item_at-shown, list_at-filtered, shown-grown_all, shown-part, shown-same}
+use Rattle.idl_store.proofs.Shown.{draft_shown, item_at-shown, list_at-filtered, list_at-shown, shown-grown_all, shown-part, shown-same}
 use Rattle.idl_store.proofs.Times.{times-all, times-append, times-drop, times-take, times_at, times_list}
+
+-- the last draft is the last one of the lists of drafts
+last-among : {X : Type 0} (ds : List (ℕ × List X)) → list_at (map (λ d. d.1) ds) (length ds - 1) ≡ last_of ds
+last-among [] = refl
+last-among (d ∷ []) = refl
+last-among (d ∷ e ∷ ds) =
+    let place : suc (suc (length ds)) - 1 ≡ suc (suc (length ds) - 1) = omega arith in
+    ap (λ (n : ℕ). list_at (map (λ d. d.1) (d ∷ e ∷ ds)) n) place ∙ last-among (e ∷ ds)
 
 -- a number stands where the first is found
 pub first-stands : (ns : List ℕ) (n place : ℕ) → position (λ m. nat_eq m n) ns ≡ Some place → slice_get ns place ≡ Some n
@@ -82,6 +91,20 @@ module _ {K V T O X : Type 0} {eq : K → K → Bool} {query : T → Query K V X
   pub result-on_number : (found : Option ℕ) → found ≡ result_on numbers spot → result_on (shown (result_of used) numbers) spot ≡ elim found [ None ↦ None | Some n ↦ result_of used n ]
   result-on_number found h = result-on ∙ ap (λ o. elim o [ None ↦ None | Some n ↦ result_of used n ]) (sym h)
 
+  -- a list, or a draft, has as many results as numbers
+  pub length-on : length (list_at (lists_among (shown (result_of used) numbers) spot.is_draft) spot.list) ≡ length (list_at (lists_among numbers spot.is_draft) spot.list)
+  length-on =
+      ap (λ ls. length (list_at ls spot.list)) (among-shown (result_of used) numbers spot.is_draft)
+      ∙ list_at-shown (result_of used) (lists_among numbers spot.is_draft) spot.list lists_stand
+
+  -- where one number stands at two spots, one result does
+  pub same-on : (other : Spot) (n : ℕ) → result_on numbers spot ≡ Some n → result_on numbers other ≡ Some n → result_on (shown (result_of used) numbers) spot ≡ result_on (shown (result_of used) numbers) other
+  same-on other n here there =
+      result-on_number (Some n) (sym here)
+      ∙ sym (ap (λ ls. item_at ls other.list other.place) (among-shown (result_of used) numbers other.is_draft)
+      ∙ item_at-shown (result_of used) (lists_among numbers other.is_draft) other.list other.place (λ m those. stands-for stored m (omega (arith, those, among_all numbers m other.is_draft)))
+      ∙ ap (λ o. elim o [ None ↦ None | Some n ↦ result_of used n ]) there)
+
   module _ (count : ℕ) where
     -- the numbers from there on are taken
     pub taken-from : All (λ n. IsSome (get used n)) (results_from numbers spot count)
@@ -110,3 +133,13 @@ module _ {K V T O X : Type 0} {eq : K → K → Bool} {query : T → Query K V X
         ∙ shown-taken new (subst (λ (ds : List (ℕ × List ℕ)). AreMore used new (results_of_drafts numbers.drafts) (results_of_drafts ds)) whole more)
         ∙ ap (λ (s : Stored (Kept K V T O)). grown s (results_from s spot count)) view
     part-taken (Err z) new drafts ns s view same is more = tt
+
+-- the last draft has as many results as numbers
+pub last-read : {K V T O X : Type 0} {eq : K → K → Bool} {query : T → Query K V X O} {bucket : Kept K V T O → ℕ} {used : Slab (Used (Rc (Kept K V T O) Global))} {index : List ((Kept K V T O × ℕ) × ℕ)} {numbers : Stored ℕ} (stored : IsStored eq query bucket used index numbers) (n : ℕ)
+    → n ≡ length numbers.drafts → length (list_at (map (λ d. d.1) numbers.drafts) (n - 1)) ≡ length (last_draft (shown (result_of used) numbers))
+last-read {used} {numbers} stored n is =
+    let results = (shown (result_of used) numbers).drafts in
+    let as_many : n ≡ length results = is ∙ sym (length-map numbers.drafts (draft_shown (result_of used))) in
+    sym (length-on stored (record { is_draft = true; list = n - 1; place = 0 }))
+    ∙ ap (λ (n : ℕ). length (list_at (map (λ d. d.1) results) (n - 1))) as_many
+    ∙ ap length (last-among results)

@@ -33,6 +33,15 @@ module _ {X : Type 0} where
   abbrev pub result_at : Stored X → ℕ → ℕ → Option X
   result_at stored list place = item_at stored.lists list place
 
+  -- the results of the last draft; none where there is none
+  abbrev pub last_of : List (ℕ × List X) → List X
+  last_of [] = []
+  last_of (d ∷ []) = d.1
+  last_of (d ∷ e ∷ drafts) = last_of (e ∷ drafts)
+
+  abbrev pub last_draft : Stored X → List X
+  last_draft stored = last_of stored.drafts
+
   -- a draft more, of these results
   abbrev pub with_draft : Stored X → ℕ → List X → Stored X
   with_draft stored at results = record stored { drafts = stored.drafts ++ (at, results) ∷ [] }

@@ -1,8 +1,9 @@
 //! Where kept results are found: by their texts, and by what they were answered.
 
-ghost use Rattle.std.specs.Prelude.{◌≡◌, ◌≢◌, ◌<◌, [], ℕ, All, Any, Contains, IfErr, IfOk, OnErr, OnOk, Option, length, nat_eq, position};
+ghost use Rattle.std.specs.Prelude.{◌≡◌, ◌≢◌, ◌↔◌, ◌<◌, [], ℕ, All, Any, Contains, IfErr, IfOk, OnErr, OnOk, Option, length, nat_eq, position};
 ghost use Rattle.std.specs.List.{HoldsAt};
-ghost use Rattle.std.specs.List.Sorted.{IsSearchInRange};
+ghost use Rattle.std.specs.HashMap.{IsUnique};
+ghost use Rattle.std.specs.List.Sorted.{IsPermutation, IsSearchInRange};
 ghost use Rattle.std.specs.Option.{option_cmp};
 ghost use Rattle.std.specs.declared.cmp.Ordering.TheVariants.{Equal};
 ghost use Rattle.idl_store.specs.Buckets.{AddsOne, bucket_at};
@@ -123,6 +124,14 @@ where
     {
         remove_at(&mut self.buckets, bucket, number);
     }
+
+    // Gives back memory, where the results take an eighth of it or less. They stay, in whatever order.
+    pub(crate) fn shrink(&mut self)
+        ensures { (e : (Seen B.Key (Option B.Answer) X O × ℕ) × ℕ)
+            → Contains self.new e ↔ Contains self.old e }
+    {
+        shrink_map(&mut self.buckets);
+    }
 }
 
 impl<B: LentBank, X: Datum + Ord, O: Drop> Index<B, X, O>
@@ -185,6 +194,17 @@ where
                 place: Some(place),
             }),
         }
+    }
+}
+
+// Gives back memory, where the entries take an eighth of it or less. They stay, in whatever order.
+fn shrink_map<V: Drop>(map: &mut HashMap<u64, V>)
+    requires { IsUnique nat_eq map.old }
+    ensures same { IsPermutation map.old.entries map.new.entries }
+    ensures unique { IsUnique nat_eq map.new }
+{
+    if map.capacity() / 8 >= map.len() {
+        map.shrink_to_fit();
     }
 }
 

@@ -1,10 +1,10 @@
 //! Numbers, as the roots of a project have them.
 
-ghost use Rattle.std.specs.Prelude.{◌≡◌, OnErr, OnOk};
+ghost use Rattle.std.specs.Prelude.{◌≡◌, ◌∷◌, [], OnErr, OnOk};
 ghost use Rattle.idl_store.specs.Spots.{result_on};
-ghost use Rattle.idl_store.specs.Stored.{committed, discarded, nothing_stored, removed, with_draft};
+ghost use Rattle.idl_store.specs.Stored.{committed, discarded, grown, nothing_stored, removed, with_draft};
 
-use crate::numbers::{Draft, Spot, exchange, number_on};
+use crate::numbers::{Draft, Spot, exchange, number_on, push_numbers};
 use std::alloc::{AllocError, Global};
 use std::marker::Model;
 
@@ -56,6 +56,21 @@ impl Lists {
         self.lists.reserve(self.drafts.len() + 1)?;
         self.drafts.push(Draft { at, numbers })?;
         Ok(())
+    }
+
+    /// One number more goes into the last draft, if there is one.
+    ///
+    /// Want of memory leaves the lists as they were.
+    pub fn push(&mut self, number: usize) -> Result<(), AllocError>
+        ensures ok { OnOk result (self.new ≡ grown self.old (number ∷ [])) }
+        ensures err { OnErr result (self.new ≡ self.old) }
+    {
+        push_numbers(&mut self.drafts, &[number])
+    }
+
+    /// Where memory is taken.
+    pub fn alloc(&self) -> Global {
+        *self.lists.allocator()
     }
 
     /// Each draft takes the place of its list, or is a new last one. It takes no memory.

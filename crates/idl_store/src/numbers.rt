@@ -190,3 +190,16 @@ fn exchange_one(lists: &mut Vec<Vec<usize>>, draft: &mut Draft)
         lists.push_reserved(replace(&mut draft.numbers, nothing));
     }
 }
+
+// Gives back the room of lists and drafts that went, where no draft is left.
+pub(crate) fn shrink_lists(lists: &mut Vec<Vec<usize>>, drafts: &mut Vec<Draft>)
+    requires { vec_len lists.old + vec_len drafts.old ≤ vec_capacity lists.old }
+    ensures lists { lists.new.items ≡ lists.old.items }
+    ensures drafts { drafts.new.items ≡ drafts.old.items }
+    ensures room { vec_len lists.new + vec_len drafts.new ≤ vec_capacity lists.new }
+{
+    if drafts.is_empty() {
+        lists.shrink_to_fit();
+        drafts.shrink_to_fit();
+    }
+}

@@ -1,16 +1,18 @@
 //! The results of a kind of task, as the roots of a project have them.
 
-ghost use Rattle.std.specs.Prelude.{◌≡◌, ◌<◌, ◌∷◌, [], IfNone, IfOk, IfSome, OnErr, OnOk, Option, Some, length, slice_get};
+ghost use Rattle.std.specs.Prelude.{◌≡◌, ◌<◌, ◌∷◌, [], IfNone, IfOk, IfSome, IsTrue, OnErr, OnOk, Option, Some, length, slice_get};
 ghost use Rattle.std.specs.Option.{option_copied, option_map, option_to_list};
 ghost use Rattle.idl_memo.specs.Kept.{IsSound, NoneAlikeAt, result_over};
 ghost use Rattle.idl_memo.specs.Meter.{count_of, most_compared};
 ghost use Rattle.idl_store.specs.Obtained.{IsObtained};
 ghost use Rattle.idl_store.specs.Spots.{result_on, results_from};
-ghost use Rattle.idl_store.specs.Stored.{begun, committed, discarded, grown, list_at, nothing_stored, removed, result_at, results_in};
+ghost use Rattle.idl_store.specs.Stored.{begun, committed, discarded, grown, last_draft, list_at, nothing_stored, removed, result_at, results_in};
 
 use crate::index::{Index, bucket_of};
-use crate::numbers::{Draft, Spot, Used, exchange, number_at, number_on, numbers_from, spot_of};
-use crate::uses::{put, release, release_drafts, use_again, use_all_again};
+use crate::numbers::{
+    Draft, Spot, Used, exchange, number_at, number_on, numbers_from, shrink_lists, spot_of,
+};
+use crate::uses::{put, release, release_drafts, shrink_slab, use_again, use_all_again};
 use idl_memo::{Bank, Kept, LentBank, Log, Meter, PlainBank, Runnable, Runs, Task, keep};
 use slab::Slab;
 use std::alloc::{AllocError, Global};
@@ -135,6 +137,19 @@ where
         }
     }
 
+    /// Whether one result stands at both spots. It is kept once, so no texts or answers are compared.
+    pub fn is_one(&self, spot: Spot, other: Spot) -> bool
+        ensures { IsTrue result → result_on self.now spot ≡ result_on self.now other }
+    {
+        let Some(number) = number_on(&self.lists, &self.drafts, spot) else {
+            return false;
+        };
+        let Some(other) = number_on(&self.lists, &self.drafts, other) else {
+            return false;
+        };
+        number == other
+    }
+
     /// Begins a draft, without results, of a list: of one that is there, or else of a new last one.
     ///
     /// Want of memory leaves the store as it was.
@@ -146,6 +161,16 @@ where
         self.lists.reserve(self.drafts.len() + 1)?;
         self.drafts.push(Draft { at, numbers })?;
         Ok(())
+    }
+
+    /// How many results the last draft has; none where there is no draft.
+    pub fn drafted(&self) -> usize
+        ensures { result ≡ length (last_draft self.now) }
+    {
+        match self.drafts.last() {
+            Some(draft) => draft.numbers.len(),
+            None => 0,
+        }
     }
 
     /// The result at a place of a list, which goes into the last draft too. Nothing goes anywhere where there is no such result, or no
@@ -181,8 +206,16 @@ where
         use_all_again(&mut self.used, &mut self.drafts, &numbers)
     }
 
-    /// Each draft takes the place of its list, or is a new last one. It takes no memory.
+    /// Each draft takes the place of its list, or is a new last one. It is refused no memory, and gives back what is no longer needed.
     pub fn commit(&mut self)
+        ensures { self.new ≡ committed self.old }
+    {
+        self.place_drafts();
+        self.give_back();
+    }
+
+    // Each draft takes the place of its list, or is a new last one.
+    fn place_drafts(&mut self)
         ensures { self.new ≡ committed self.old }
     {
         exchange(&mut self.lists, &mut self.drafts);
@@ -196,14 +229,33 @@ where
         release_drafts(&mut self.used, &mut self.index, &mut self.drafts);
     }
 
-    /// Takes a list out; those behind it move up. It takes no memory.
+    /// Takes a list out; those behind it move up. It is refused no memory, and gives back what is no longer needed.
     pub fn remove(&mut self, list: usize)
+        ensures { self.new ≡ removed self.old list }
+    {
+        self.take_out(list);
+        self.give_back();
+    }
+
+    // Takes a list out.
+    fn take_out(&mut self, list: usize)
         ensures { self.new ≡ removed self.old list }
     {
         if list < self.lists.len() {
             let numbers = self.lists.remove(list);
             release(&mut self.used, &mut self.index, &numbers);
         }
+    }
+
+    // Gives back memory, where the results take an eighth of it or less. They stay.
+    fn give_back(&mut self)
+        ensures { self.new ≡ self.old }
+    {
+        shrink_lists(&mut self.lists, &mut self.drafts);
+        shrink_slab(&mut self.used);
+        self.index.shrink();
+        self.runs.forget_beyond(self.used.len().saturating_mul(8));
+        self.log = Log::new(*self.lists.allocator());
     }
 }
 

@@ -2,7 +2,7 @@
 
 ghost use Rattle.std.specs.Prelude.{◌≡◌, ◌<◌, ◌≤◌, ◌+◌, ◌^◌, ◌∷◌, [], ℕ, All, IfOk, IsSome, IsTrue, OnErr, OnOk, Some, length, vec_len};
 ghost use Rattle.std.specs.Option.{option_cmp};
-ghost use Rattle.slab.specs.Slab.{get};
+ghost use Rattle.slab.specs.Slab.{get, SameValues};
 ghost use Rattle.idl_store.specs.Buckets.{AddsOne};
 ghost use Rattle.idl_store.specs.Index.{IsGapAmong};
 ghost use Rattle.idl_store.specs.Numbers.{AreFewer, AreMore, AreUsed, IsIndexOf, IsPut, drafts_of, result_of, times, uses_of};
@@ -133,6 +133,15 @@ where
     });
     draft.numbers.push_reserved(number);
     Ok(())
+}
+
+// Gives back memory, where the values take an eighth of it or less. They stay under their numbers.
+pub(crate) fn shrink_slab<R: Drop>(used: &mut Slab<R>)
+    ensures { SameValues used.old used.new }
+{
+    if used.capacity() / 8 >= used.len() {
+        used.shrink_to_fit();
+    }
 }
 
 // The uses of these drafts are given up, and they are left out. It takes no memory.

@@ -1,7 +1,7 @@
 //! The tests, by subject.
 
 mod commands;
-mod devices;
+mod compared;
 mod expansions;
 mod files;
 mod journals;

@@ -26,6 +26,15 @@ impl Step<Page, Text, ()> for NoStep {
         0
     }
 
+    fn append_to(
+        &self,
+        _alloc: Global,
+        _head: &(),
+        _entries: &mut Vec<(Page, Option<Text>)>,
+    ) -> Result<(), AllocError> {
+        Ok(())
+    }
+
     fn head(_alloc: Global, _entries: &[(Page, Option<Text>)]) -> Result<Option<()>, AllocError> {
         Ok(None)
     }

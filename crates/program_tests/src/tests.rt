@@ -1,7 +1,9 @@
 //! The tests, by subject.
 
+mod devices;
 mod editor;
 mod examples;
+mod explains;
 mod failures;
 mod listings;
 mod loads;
@@ -9,6 +11,5 @@ mod options;
 mod orb;
 mod replies;
 mod room;
-mod scripts;
+mod rules;
 mod support;
-mod tool;

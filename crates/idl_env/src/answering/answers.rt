@@ -138,7 +138,8 @@ impl Answers {
     #[inline(always)]
     fn written(&self, key: &DigestedKey) -> Option<&(Answer, usize)>
         ensures answer { answer_in (option_copied result) ≡ (stamped_in self.now).at key.now }
-        ensures writer { writer_in (option_copied result) ≡ (stamped_in self.now).stamps.last key.now }
+        ensures writer { writer_in (option_copied result)
+            ≡ (stamped_in self.now).stamps.last key.now }
     {
         if key.held().is_cursor() {
             return Some(&self.cursor);
@@ -234,7 +235,8 @@ impl Answers {
     #[inline]
     pub fn insert(&mut self, key: DigestedKey, answer: Answer) -> Result<(), AllocError>
         requires { IsAmongOthers key }
-        ensures { OnOk result (stamped_in self.new ≡ with_stamped key answer (stamped_in self.old)) }
+        ensures { OnOk result
+            (stamped_in self.new ≡ with_stamped key answer (stamped_in self.old)) }
     {
         self.has_typeprefixes |= key.held().is_typeprefix();
         let writer = self.count;

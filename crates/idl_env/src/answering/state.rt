@@ -71,13 +71,15 @@ impl State {
 
     /// What it comes to with what a unit adds.
     pub fn add(&mut self, alloc: Global, facts: &Facts) -> Result<(), AllocError>
-        requires counts { (key : Key) → count_in ((stamped_in self.old.answers).at key) < 18446744073709551615 }
+        requires counts { (key : Key)
+            → count_in ((stamped_in self.old.answers).at key) < 18446744073709551615 }
         requires facts { (stamped_in self.old.answers).stamps.count < 18446744073709551615 }
         ensures world { OnOk result
             (held self.new ≡ after (held self.old) facts.now) }
         ensures stamps { OnOk result
             ((stamped_in self.new.answers).stamps
-            ≡ stamped (writes_at (held self.old) facts.now) (with_one_more (stamped_in self.old.answers).stamps)) }
+            ≡ stamped (writes_at (held self.old) facts.now)
+            (with_one_more (stamped_in self.old.answers).stamps)) }
     {
         self.answers.count_one();
         self.add_all(alloc, facts)?;
@@ -86,13 +88,15 @@ impl State {
 
     /// The same with facts whose additions are taken out of them.
     pub fn add_own(&mut self, alloc: Global, facts: &mut Facts) -> Result<(), AllocError>
-        requires counts { (key : Key) → count_in ((stamped_in self.old.answers).at key) < 18446744073709551615 }
+        requires counts { (key : Key)
+            → count_in ((stamped_in self.old.answers).at key) < 18446744073709551615 }
         requires facts { (stamped_in self.old.answers).stamps.count < 18446744073709551615 }
         ensures world { OnOk result
             (held self.new ≡ after (held self.old) facts.old) }
         ensures stamps { OnOk result
             ((stamped_in self.new.answers).stamps
-            ≡ stamped (writes_at (held self.old) facts.old) (with_one_more (stamped_in self.old.answers).stamps)) }
+            ≡ stamped (writes_at (held self.old) facts.old)
+            (with_one_more (stamped_in self.old.answers).stamps)) }
     {
         self.answers.count_one();
         add_inside(&mut self.inside, facts)?;
@@ -102,7 +106,8 @@ impl State {
 
     // What it comes to with a change of the open scopes.
     fn take(&mut self, alloc: Global, step: &Step) -> Result<(), AllocError>
-        requires { (key : Key) → count_in ((stamped_in self.old.answers).at key) < 18446744073709551615 }
+        requires { (key : Key)
+            → count_in ((stamped_in self.old.answers).at key) < 18446744073709551615 }
         ensures world { OnOk result
             (held self.new ≡ after_step (held self.old) step.now) }
         ensures stamps { OnOk result
@@ -142,12 +147,14 @@ impl State {
 
     // What it comes to with one more body of a scope.
     fn open(&mut self, alloc: Global, path: &Path, kind: Kind) -> Result<(), AllocError>
-        requires { count_in ((stamped_in self.old.answers).at (Opened path.now)) < 18446744073709551615 }
+        requires { count_in ((stamped_in self.old.answers).at (Opened path.now))
+            < 18446744073709551615 }
         ensures world { OnOk result
             (held self.new ≡ after_step (held self.old) (Opens path.now kind)) }
         ensures stamps { OnOk result
             ((stamped_in self.new.answers).stamps
-            ≡ stamped (steps_at (held self.old) (Opens path.now kind)) (stamped_in self.old.answers).stamps) }
+            ≡ stamped (steps_at (held self.old) (Opens path.now kind))
+            (stamped_in self.old.answers).stamps) }
     {
         let scope = self.next_body(alloc, path, kind)?;
         let body = scope.body;
@@ -164,7 +171,8 @@ impl State {
 
     // The next body of a scope.
     fn next_body(&self, alloc: Global, path: &Path, kind: Kind) -> Result<Scope, AllocError>
-        requires { count_in ((stamped_in self.now.answers).at (Opened path.now)) < 18446744073709551615 }
+        requires { count_in ((stamped_in self.now.answers).at (Opened path.now))
+            < 18446744073709551615 }
         ensures { IfOk result (λ scope.
             scope
             ≡ record {
@@ -181,12 +189,14 @@ impl State {
 
     // What it comes to with a nameless scope.
     fn open_nameless(&mut self, alloc: Global, kind: Kind) -> Result<(), AllocError>
-        requires { (key : Key) → count_in ((stamped_in self.old.answers).at key) < 18446744073709551615 }
+        requires { (key : Key)
+            → count_in ((stamped_in self.old.answers).at key) < 18446744073709551615 }
         ensures world { OnOk result
             (held self.new ≡ after_step (held self.old) (OpensNameless kind)) }
         ensures stamps { OnOk result
             ((stamped_in self.new.answers).stamps
-            ≡ stamped (steps_at (held self.old) (OpensNameless kind)) (stamped_in self.old.answers).stamps) }
+            ≡ stamped (steps_at (held self.old) (OpensNameless kind))
+            (stamped_in self.old.answers).stamps) }
     {
         let key = DigestedKey::nameless();
         let number = count_in(self.answers.get(&key));
@@ -236,7 +246,8 @@ impl State {
             (held self.new ≡ after_step (held self.old) (Prefixes text.now)) }
         ensures stamps { OnOk result
             ((stamped_in self.new.answers).stamps
-            ≡ stamped (steps_at (held self.old) (Prefixes text.now)) (stamped_in self.old.answers).stamps) }
+            ≡ stamped (steps_at (held self.old) (Prefixes text.now))
+            (stamped_in self.old.answers).stamps) }
     {
         let text = text.clone()?;
         let none = OpenScopes::none();
@@ -322,7 +333,8 @@ fn put_closing(
     closing: &Option<Shared<Entity>>,
 ) -> Result<(), AllocError>
     ensures { OnOk result
-        (stamped_in answers.new ≡ stamped_over (map Declares (option_to_list closing.now)) (stamped_in answers.old)) }
+        (stamped_in answers.new
+        ≡ stamped_over (map Declares (option_to_list closing.now)) (stamped_in answers.old)) }
 {
     let Some(entity) = closing else {
         return Ok(());
@@ -368,7 +380,8 @@ fn closed(
 fn put_unstopped(alloc: Global, answers: &mut Answers, facts: &Facts) -> Result<(), AllocError>
     ensures { OnOk result
         (stamped_in answers.new
-        ≡ stamped_over (unstopped (stamped_in answers.old).at facts.now.additions) (stamped_in answers.old)) }
+        ≡ stamped_over (unstopped (stamped_in answers.old).at facts.now.additions)
+        (stamped_in answers.old)) }
 {
     if !facts.may_be_stopped() {
         return put_all(alloc, answers, facts);
@@ -380,7 +393,8 @@ fn put_unstopped(alloc: Global, answers: &mut Answers, facts: &Facts) -> Result<
 
 // The answers with those of the additions.
 fn put_all(alloc: Global, answers: &mut Answers, facts: &Facts) -> Result<(), AllocError>
-    ensures { OnOk result (stamped_in answers.new ≡ stamped_over facts.now.additions (stamped_in answers.old)) }
+    ensures { OnOk result
+        (stamped_in answers.new ≡ stamped_over facts.now.additions (stamped_in answers.old)) }
 {
     let count = facts.len();
     for back in 0..count {
@@ -398,7 +412,8 @@ fn put_all(alloc: Global, answers: &mut Answers, facts: &Facts) -> Result<(), Al
 fn put_own(alloc: Global, answers: &mut Answers, facts: &mut Facts) -> Result<(), AllocError>
     ensures answers { OnOk result
         (stamped_in answers.new
-        ≡ stamped_over (unstopped (stamped_in answers.old).at facts.old.additions) (stamped_in answers.old)) }
+        ≡ stamped_over (unstopped (stamped_in answers.old).at facts.old.additions)
+        (stamped_in answers.old)) }
     ensures step { OnOk result (facts.new.step ≡ facts.old.step) }
 {
     if facts.may_be_stopped() {
@@ -410,7 +425,8 @@ fn put_own(alloc: Global, answers: &mut Answers, facts: &mut Facts) -> Result<()
 // The answers with those of the additions, which are taken out of the facts, unless they are many.
 #[inline]
 fn put_taken(alloc: Global, answers: &mut Answers, facts: &mut Facts) -> Result<(), AllocError>
-    ensures answers { OnOk result (stamped_in answers.new ≡ stamped_over facts.old.additions (stamped_in answers.old)) }
+    ensures answers { OnOk result
+        (stamped_in answers.new ≡ stamped_over facts.old.additions (stamped_in answers.old)) }
     ensures step { OnOk result (facts.new.step ≡ facts.old.step) }
 {
     let Some(additions) = facts.take_few() else {
@@ -427,7 +443,8 @@ fn put_few(
     answers: &mut Answers,
     additions: Vec<DigestedAddition>,
 ) -> Result<Vec<DigestedAddition>, AllocError>
-    ensures answers { OnOk result (stamped_in answers.new ≡ stamped_over additions.items (stamped_in answers.old)) }
+    ensures answers { OnOk result
+        (stamped_in answers.new ≡ stamped_over additions.items (stamped_in answers.old)) }
     ensures none { IfOk result (λ list. list.items ≡ []) }
 {
     let mut additions = additions;

@@ -1,6 +1,6 @@
 //! What the walks through bases and typedefs ask, step by step: what stands in logs for what each step asks.
 
-ghost use Rattle.std.specs.Prelude.{◌≡◌, ◌||◌, [], IfSome, IsTrue, None, Some};
+ghost use Rattle.std.specs.Prelude.{◌≡◌, ◌||◌, ◌++◌, ◌∷◌, [], IfSome, IsTrue, None, OnOk, Some};
 ghost use Rattle.std.specs.Option.{option_copied};
 ghost use Rattle.idl_env.specs.Facts.{entity_key};
 ghost use Rattle.idl_env.specs.answering.Walked.{entries_walked, path_of};
@@ -172,6 +172,36 @@ fn is_entity(alloc: Global, path: &Path, key: &DigestedKey) -> bool
     LentKey::of_entity(alloc, path).is(key)
 }
 
+// Puts what is asked for a name in the scope at a path, where it isn't declared, behind other entries.
+fn append_absent(
+    alloc: Global,
+    name: &Shared<Bytes>,
+    path: &Path,
+    entries: &mut Vec<(DigestedKey, Option<Answer>)>,
+) -> Result<(), AllocError>
+    ensures { OnOk result
+        (entries.new.items ≡ entries.old.items ++ (Declared name.now path.now, None) ∷ []) }
+{
+    let key = LentKey::under(alloc, name, path).owned()?;
+    entries.push((key, None))?;
+    Ok(())
+}
+
+// Puts what is asked for the entity at a path, with its answer, behind other entries.
+fn append_found(
+    alloc: Global,
+    answer: &Answer,
+    path: &Path,
+    entries: &mut Vec<(DigestedKey, Option<Answer>)>,
+) -> Result<(), AllocError>
+    ensures { OnOk result
+        (entries.new.items ≡ entries.old.items ++ (entity_key path.now, Some answer.now) ∷ []) }
+{
+    let key = LentKey::of_entity(alloc, path).owned()?;
+    entries.push((key, Some(answer.clone()?)))?;
+    Ok(())
+}
+
 // What the steps of a walk would ask that begins with these keys.
 fn head_of(
     key: &HeldKey,
@@ -200,6 +230,24 @@ impl Step<DigestedKey, Answer, Walked> for Answer {
         match head {
             Walked::Entered(_) => 2,
             Walked::Named(_) | Walked::Behind => 1,
+        }
+    }
+
+    fn append_to(
+        &self,
+        alloc: Global,
+        head: &Walked,
+        entries: &mut Vec<(DigestedKey, Option<Answer>)>,
+    ) -> Result<(), AllocError> {
+        let global = Path::global();
+        let path = path_of(self, &global);
+        match head {
+            Walked::Entered(name) => {
+                append_absent(alloc, name, path, entries)?;
+                append_found(alloc, self, path, entries)
+            }
+            Walked::Named(name) => append_absent(alloc, name, path, entries),
+            Walked::Behind => append_found(alloc, self, path, entries),
         }
     }
 

@@ -3,12 +3,11 @@
 ghost use Rattle.std.specs.Prelude.{◌≡◌, ◌⊎◌, ◌++◌, IfNone, IfOk, IfSome, List, None, OnOk, Some};
 ghost use Rattle.std.specs.Option.{unwrap_or};
 ghost use Rattle.idl_event.specs.declared.told.event.Event.{Event};
-ghost use Rattle.idl_store.specs.Stored.{list_at};
-ghost use Rattle.idl_root.specs.AsBefore.{AreAsBefore, IsAsBefore, IsCompiledOf, IsMade};
+ghost use Rattle.idl_root.specs.AsBefore.{AreAsBefore, AreListsLeft, IsAsBefore, IsCompiledOf, IsMade, kept_lists};
 ghost use Rattle.idl_root.specs.Compile.{compile, findings_told, open_finding, rows_beside};
 ghost use Rattle.idl_root.specs.Held.{told_of};
 ghost use Rattle.idl_root.specs.Judged.{HasTurns};
-ghost use Rattle.idl_root.specs.Results.{ChecksAndPrintsOnly, IsKeptOf, marks_of};
+ghost use Rattle.idl_root.specs.Results.{ExpandsNone, IsKeptOf, root_marks};
 ghost use Rattle.idl_unit.specs.Units.{units_of};
 
 use crate::compiling::finding::{
@@ -18,6 +17,7 @@ use crate::compiling::judging::{Ended, Judging};
 use crate::compiling::memory::Memory;
 use crate::compiling::printing::{Printed, print_all};
 use crate::kept::again::{Again, are_as_before};
+use crate::kept::comparing::compare;
 use crate::kept::course::Course;
 use crate::kept::keeper::Keeper;
 use crate::kept::keeping::Keeping;
@@ -121,27 +121,26 @@ pub fn compile_kept(
     meter: &mut Meter,
 ) -> Result<Recompiled, AllocError>
     requires { (was : List Event) × IsKeptOf was root.marks.now
-        (list_at keeper.old.declarations.lists root.at) (list_at keeper.old.entries.lists root.at)
+        (kept_lists keeper.old root.at)
         × IfSome root.compiled (λ compiled. IsCompiledOf was compiled.now) }
     ensures compiled { IfOk result (λ r.
         r.compiled ≡ compile root.entry.end.now root.entry.expansion.now) }
     ensures turns { OnOk result (HasTurns (units_of root.entry.expansion.now)) }
     ensures marks { IfOk result (λ r. unwrap_or r.marks root.entry.marks.now
-        ≡ marks_of (units_of root.entry.expansion.now)) }
+        ≡ root_marks root.entry.expansion.now) }
     ensures tasks { OnOk result ((was : List Event) → IsKeptOf was root.entry.marks.now
-        (list_at keeper.old.declarations.lists root.entry.at)
-        (list_at keeper.old.entries.lists root.entry.at)
+        (kept_lists keeper.old root.entry.at)
         → IsAsBefore was root.entry.expansion.now keeper.old keeper.new meter.old meter.new
         ⊎ IsMade root.entry.expansion.now root.entry.at keeper.old keeper.new
         meter.old meter.new) }
     ensures first { OnOk result (IfNone root.entry.compiled (IsMade root.entry.expansion.now
         root.entry.at keeper.old keeper.new meter.old meter.new)) }
-    ensures declaration_lists { keeper.new.declarations.lists ≡ keeper.old.declarations.lists }
-    ensures entry_lists { keeper.new.entries.lists ≡ keeper.old.entries.lists }
-    ensures others { OnOk result (ChecksAndPrintsOnly meter.old meter.new) }
+    ensures lists { AreListsLeft keeper.old keeper.new }
+    ensures others { OnOk result (ExpandsNone meter.old meter.new) }
 {
     let units = split(keeper.alloc(), root.expansion)?;
     if let Some(compiled) = compiled_again(keeper, root, units.as_slice())? {
+        compare(meter, root.marks.keys());
         return Ok(Recompiled {
             compiled,
             marks: None,
@@ -159,13 +158,12 @@ fn compiled_again(
 ) -> Result<Option<Compiled>, AllocError>
     requires units { units.now ≡ units_of root.expansion.now }
     requires kept { (was : List Event) × IsKeptOf was root.marks.now
-        (list_at keeper.now.declarations.lists root.at) (list_at keeper.now.entries.lists root.at)
+        (kept_lists keeper.now root.at)
         × IfSome root.compiled (λ compiled. IsCompiledOf was compiled.now) }
     ensures compiled { IfOk result (λ found. IfSome found (λ compiled.
         compiled ≡ compile root.entry.end.now root.entry.expansion.now)) }
     ensures before { IfOk result (λ found. IfSome found (λ compiled. (was : List Event)
-        → IsKeptOf was root.entry.marks.now (list_at keeper.now.declarations.lists root.entry.at)
-        (list_at keeper.now.entries.lists root.entry.at)
+        → IsKeptOf was root.entry.marks.now (kept_lists keeper.now root.entry.at)
         → AreAsBefore (units_of was) units.now)) }
     ensures none { IfOk result (λ found. IfNone root.entry.compiled (found ≡ None)) }
 {
@@ -173,7 +171,7 @@ fn compiled_again(
         return Ok(None);
     };
     let earlier = Course::new(root.at, root.marks);
-    if !are_as_before(&keeper.declarations, earlier, units) {
+    if !are_as_before(keeper.texts.declarations(), earlier, units) {
         return Ok(None);
     }
     Ok(told_again(keeper, root, compiled, units)?)
@@ -188,14 +186,14 @@ fn told_again(
 ) -> Result<Option<Compiled>, AllocError>
     requires units { units.now ≡ units_of root.expansion.now }
     requires kept { (was : List Event) × IsKeptOf was root.marks.now
-        (list_at keeper.now.declarations.lists root.at) (list_at keeper.now.entries.lists root.at)
+        (kept_lists keeper.now root.at)
         × IsCompiledOf was compiled.now × AreAsBefore (units_of was) units.now }
     ensures { IfOk result (λ found. IfSome found (λ compiled.
         compiled ≡ compile root.entry.end.now root.entry.expansion.now)) }
 {
     let alloc = keeper.alloc();
     let findings = event_findings(alloc, root.expansion)?;
-    let again = Again::new(alloc, findings).with_all(&keeper.declarations, root.at, units)?;
+    let again = Again::new(alloc, findings).with_all(keeper.texts.declarations(), root.at, units)?;
     let closing = again.closing(&keeper.entries, root.at)?;
     let found = Found {
         findings: again.into_findings(),
@@ -228,17 +226,15 @@ fn compile_anew(
 ) -> Result<Recompiled, AllocError>
     requires units { units.now ≡ units_of root.expansion.now }
     requires kept { (was : List Event) × IsKeptOf was root.marks.now
-        (list_at keeper.old.declarations.lists root.at) (list_at keeper.old.entries.lists root.at) }
+        (kept_lists keeper.old root.at) }
     ensures compiled { IfOk result (λ r.
         r.compiled ≡ compile root.entry.end.now root.entry.expansion.now) }
     ensures turns { OnOk result (HasTurns (units_of root.entry.expansion.now)) }
-    ensures marks { let marks = marks_of (units_of root.entry.expansion.now) in
-        IfOk result (λ r. r.marks ≡ Some marks) }
+    ensures marks { IfOk result (λ r. r.marks ≡ Some (root_marks root.entry.expansion.now)) }
     ensures made { OnOk result (IsMade root.entry.expansion.now root.entry.at
         keeper.old keeper.new meter.old meter.new) }
-    ensures declaration_lists { keeper.new.declarations.lists ≡ keeper.old.declarations.lists }
-    ensures entry_lists { keeper.new.entries.lists ≡ keeper.old.entries.lists }
-    ensures others { OnOk result (ChecksAndPrintsOnly meter.old meter.new) }
+    ensures lists { AreListsLeft keeper.old keeper.new }
+    ensures others { OnOk result (ExpandsNone meter.old meter.new) }
 {
     keeper.memory.clear();
     let alloc = keeper.alloc();
@@ -247,11 +243,10 @@ fn compile_anew(
     let first = Judging::new(alloc, findings, count)?;
     let earlier = Course::new(root.at, root.marks);
     let mut keeping = Keeping::new(alloc, earlier, count, *meter)?;
-    keeper.declarations.begin(root.at)?;
-    let judging = first.with_all_kept(&mut keeping, &mut keeper.declarations, units)?;
+    keeper.begin(root.at)?;
+    let judging = first.with_all_kept(&mut keeping, &mut keeper.texts, units)?;
     judging.env.bounds_turns();
-    keeper.entries.begin(root.at)?;
-    let counted = keeping.meter;
+    let (counted, keys) = (keeping.meter, keeping.keys);
     let before = keeper.entries.results(root.at);
     let (marks, reprinting) = keeping.ended(before, judging.gathered.listed.len());
     let mut printing = Printing::new(alloc, reprinting, counted);
@@ -260,6 +255,8 @@ fn compile_anew(
     *meter = printing.meter;
     let ended = judging.ended(&mut keeper.memory, printed);
     let compiled = told(alloc, root.end, root.expansion, ended)?;
+    let keys = keys.saturating_add(printing.keys);
+    let marks = Marks::new(marks, keys);
     Ok(Recompiled {
         compiled,
         marks: Some(marks),

@@ -1,28 +1,38 @@
 //! The verdicts of a root's units.
 
-ghost use Rattle.std.specs.Prelude.{◌≡◌, ◌++◌, ◌∷◌, [], IfOk, List, OnOk, flat_map, map, option_to_list};
+ghost use Rattle.std.specs.Prelude.{◌≡◌, ◌≤◌, ◌++◌, ◌∷◌, [], IfOk, List, OnOk, flat_map, option_to_list};
+ghost use Rattle.idl_check_laws.specs.Closing.{AreTold};
 ghost use Rattle.idl_env.specs.Facts.{UnitFacts};
-ghost use Rattle.idl_store.specs.Stored.{grown, results_in};
+ghost use Rattle.idl_facts.specs.Written.{boundary};
+ghost use Rattle.idl_kept.specs.Texts.{AreListsOf};
+ghost use Rattle.idl_memo.specs.Meter.{compared_after, most_compared};
+ghost use Rattle.idl_store.specs.Stored.{results_in};
 ghost use Rattle.idl_root.specs.Added.{told_by};
 ghost use Rattle.idl_root.specs.Compile.{is_open};
-ghost use Rattle.idl_root.specs.Followed.{IsBoundary, IsJudgedAt, IsKeeping, added_by};
+ghost use Rattle.idl_root.specs.Followed.{IsBoundary, IsKeeping, added_by};
 ghost use Rattle.idl_root.specs.Held.{IsEnded, held, to_come, with_gathered, with_judged, with_units};
-ghost use Rattle.idl_root.specs.Judged.{added, boundary, judged_at, verdict_over};
-ghost use Rattle.idl_root.specs.Places.{declaration_at, declarations_after};
+ghost use Rattle.idl_root.specs.Judged.{added, judged_at, verdict_over};
+ghost use Rattle.idl_root.specs.Passed.{ArePassed, Compares, HasDrafts, WalksOnly, with_kept};
+ghost use Rattle.idl_root.specs.Places.{declarations_after};
 ghost use Rattle.idl_root.specs.Printed.{closing_finding, entry_row};
-ghost use Rattle.idl_root.specs.Results.{ChecksOnly, DeclarationResult, HasDraft, IsDeclarationPass, declaration_result, mark_at, marks_of};
+ghost use Rattle.idl_root.specs.Results.{ChecksOnly, DeclarationResult, IsDeclarationPass, marks_of};
+ghost use Rattle.idl_root_blocks.specs.Blocks.{Nothing, cut};
+ghost use Rattle.idl_root_blocks.specs.Finding.{in_front};
+ghost use Rattle.idl_root_blocks.specs.Met.{outermost_keys};
+ghost use Rattle.idl_root_blocks.specs.Units.{parts_of_unit, text_of};
 
 use crate::compiling::compiled::Row;
 use crate::compiling::finding::{EventFinding, Spelled, push_fault};
 use crate::compiling::memory::Memory;
 use crate::compiling::printing::{Listed, Printed, push_listed};
 use crate::kept::added::Added;
-use crate::kept::keeper::Declarations;
 use crate::kept::keeping::Keeping;
 use crate::kept::marks::Mark;
+use crate::kept::noting::noting;
 use idl_check::{DeclarationTask, Scratch, Verdict, verdict_of};
-use idl_env::{DigestedKey, Env, Facts, OpenScopes, Step, Writes, scopes_in};
-use idl_memo::{Bank, Journal, passing};
+use idl_env::{DigestedKey, Env, Facts, OpenScopes, PlainEnv, Step, Writes, scopes_in};
+use idl_kept::KeptTexts;
+use idl_memo::{Bank, Journal, passing, placement};
 use idl_unit::{Unit, UnitText};
 use std::alloc::{AllocError, Global};
 
@@ -114,33 +124,41 @@ impl<'a> Judging<'a> {
     pub fn with_all_kept(
         self,
         keeping: &mut Keeping<'_>,
-        kept: &mut Declarations,
+        kept: &mut KeptTexts,
         units: &'a [Unit],
     ) -> Result<Judging<'a>, AllocError>
-        requires { IsKeeping kept.old.lists keeping.old self.env }
+        requires keeping { IsKeeping kept.old.declarations.lists keeping.old self.env }
+        requires told { AreTold self.env }
+        requires drafts { HasDrafts kept.old }
+        requires blocks { keeping.old.blocks.items ≡ [] }
         ensures held { IfOk result (λ judging. held judging ≡ to_come (held self.entry) units.now) }
-        ensures kept { let places = declarations_after self.entry.env units.now in
-            OnOk result (kept.new ≡ grown kept.old (map declaration_result places)) }
-        ensures lists { kept.new.lists ≡ kept.old.lists }
-        ensures marks { OnOk result (keeping.new.marks ≡ keeping.old.marks ++ marks_of units.now) }
+        ensures kept { let pieces = cut (text_of units.now) in
+            OnOk result (kept.new ≡ with_kept kept.old self.entry.env pieces) }
+        ensures lists { AreListsOf kept.old kept.new }
+        ensures marks { OnOk result
+            (keeping.new.marks.items ≡ keeping.old.marks.items ++ marks_of units.now) }
         ensures keeping { IfOk result (λ judging.
-            IsKeeping kept.new.lists keeping.new judging.env) }
+            IsKeeping kept.new.declarations.lists keeping.new judging.env) }
         ensures earlier { keeping.new.earlier ≡ keeping.old.earlier }
         ensures counts { let places = declarations_after self.entry.env units.now in
-            OnOk result (HasDraft kept.old → IsDeclarationPass places (results_in kept.old)
-            (results_in kept.new) keeping.old.meter.checked keeping.new.meter.checked) }
+            OnOk result (IsDeclarationPass places (results_in kept.old.declarations)
+            (results_in kept.new.declarations)
+            keeping.old.meter.checked keeping.new.meter.checked) }
         ensures others { OnOk result (ChecksOnly keeping.old.meter keeping.new.meter) }
+        ensures blocks { OnOk result (keeping.new.blocks.items ≡ []) }
+        ensures keys { let pieces = cut (text_of units.now) in
+            OnOk result (keeping.old.keys ≤ most_compared → keeping.new.keys
+            ≡ compared_after keeping.old.keys (outermost_keys self.entry.env pieces)) }
+        ensures compared { let pieces = cut (text_of units.now) in
+            OnOk result (Compares self.entry.env pieces kept.old
+            keeping.old.meter keeping.new.meter) }
     {
-        passing::<Env, DeclarationTask>();
-        let Judging {
-            mut env,
-            mut gathered,
-        } = self;
-        for unit in units {
-            let added = gathered.add_kept(keeping, kept, &env, unit)?;
-            env = added.behind(env, &mut keeping.scratch.room)?;
-        }
-        Ok(Judging { env, gathered })
+        let Judging { env, mut gathered } = self;
+        let env = gathered.add_all(keeping, kept, PlainEnv::of(env), units)?;
+        Ok(Judging {
+            env: env.into_env(),
+            gathered,
+        })
     }
 
     /// What came of all units, and of their names. Its environment is held for now.
@@ -197,51 +215,53 @@ impl<'a> Gathered<'a> {
                 self.add_verdict(alloc, Spelled { text, sites }, &verdict)?;
                 Ok(Added::Given(verdict.into_writes()))
             }
-            Unit::Entered(_file, _inside) => Ok(Added::Given(boundary(alloc, Mark::Entered)?)),
-            Unit::Left(_file, _inside) => Ok(Added::Given(boundary(alloc, Mark::Left)?)),
+            Unit::Entered(_file, inside) => {
+                Ok(Added::Given(boundary(alloc, Mark::Entered(*inside))?))
+            }
+            Unit::Left(_file, inside) => Ok(Added::Given(boundary(alloc, Mark::Left(*inside))?)),
             Unit::End => Ok(Added::Nothing),
         }
     }
 
     // The same, where its result is kept.
-    fn add_kept(
+    pub(crate) fn add_kept(
         &mut self,
         keeping: &mut Keeping<'_>,
-        kept: &mut Declarations,
+        kept: &mut KeptTexts,
         env: &Env,
         unit: &'a Unit,
     ) -> Result<Added, AllocError>
-        requires { IsKeeping kept.old.lists keeping.old env.now }
+        requires keeping { IsKeeping kept.old.declarations.lists keeping.old env.now }
+        requires drafts { HasDrafts kept.old }
         ensures added { IfOk result (λ a. told_by a ≡ added env.now unit.now) }
         ensures gathered { OnOk result ((facts : List UnitFacts)
             → with_gathered facts self.new
             ≡ with_units (with_gathered facts self.old) (judged_at env.now unit.now)) }
-        ensures kept { let places = declaration_at env.now unit.now in
-            OnOk result (kept.new ≡ grown kept.old (map declaration_result places)) }
-        ensures lists { kept.new.lists ≡ kept.old.lists }
-        ensures marks { OnOk result (keeping.new.marks ≡ keeping.old.marks ++ mark_at unit.now) }
-        ensures keeping { OnOk result
-            (IsKeeping kept.new.lists keeping.new (env.now ++ added env.now unit.now)) }
+        ensures lists { AreListsOf kept.old kept.new }
         ensures earlier { keeping.new.earlier ≡ keeping.old.earlier }
-        ensures counts { let places = declaration_at env.now unit.now in
-            OnOk result (IsJudgedAt places (results_in kept.old)
-            keeping.old.meter keeping.new.meter) }
+        ensures passed { OnOk result (ArePassed env.now (in_front (parts_of_unit unit.now) Nothing)
+            kept.old keeping.old kept.new keeping.new) }
+        ensures compared { OnOk result (Compares env.now (in_front (parts_of_unit unit.now) Nothing)
+            kept.old keeping.old.meter keeping.new.meter) }
     {
+        passing::<Env, DeclarationTask>();
+        placement::<Env, DeclarationTask>();
+        noting();
         match unit {
             Unit::Spelled(text, sites) => {
                 let declaration = keeping.judge(kept, env, text)?;
                 self.add_verdict(env.alloc(), Spelled { text, sites }, declaration.out())?;
                 Ok(Added::Kept(declaration))
             }
-            Unit::Entered(_file, _inside) => Ok(crossed(keeping, env, Mark::Entered)?),
-            Unit::Left(_file, _inside) => Ok(crossed(keeping, env, Mark::Left)?),
+            Unit::Entered(_file, inside) => Ok(crossed(keeping, env, Mark::Entered(*inside))?),
+            Unit::Left(_file, inside) => Ok(crossed(keeping, env, Mark::Left(*inside))?),
             Unit::End => Ok(Added::Nothing),
         }
     }
 
     // Puts in what comes of a unit with this verdict.
     #[inline(always)]
-    fn add_verdict(
+    pub(crate) fn add_verdict(
         &mut self,
         alloc: Global,
         unit: Spelled<'a>,
@@ -271,15 +291,15 @@ fn is_open(env: &Env) -> bool
 }
 
 // What a file boundary adds, beside what was kept.
-fn crossed(keeping: &mut Keeping<'_>, env: &Env, mark: Mark) -> Result<Added, AllocError>
+pub(crate) fn crossed(keeping: &mut Keeping<'_>, env: &Env, mark: Mark) -> Result<Added, AllocError>
     requires { IsBoundary mark }
     ensures added { IfOk result (λ a. told_by a ≡ added_by (mark ∷ []) []) }
     ensures keeping { IfOk result (λ a. (lists : List (List DeclarationResult))
         → IsKeeping lists keeping.old env.now
         → IsKeeping lists keeping.new (env.now ++ added_by (mark ∷ []) [])) }
-    ensures marks { OnOk result (keeping.new.marks ≡ keeping.old.marks ++ mark ∷ []) }
-    ensures earlier { keeping.new.earlier ≡ keeping.old.earlier }
-    ensures meter { keeping.new.meter ≡ keeping.old.meter }
+    ensures marks { OnOk result
+        (keeping.new.marks.items ≡ keeping.old.marks.items ++ mark ∷ []) }
+    ensures rest { WalksOnly keeping.old keeping.new }
 {
     let facts = boundary(env.alloc(), mark)?;
     keeping.cross(env, mark, facts.get())?;
@@ -302,8 +322,8 @@ fn step_of(mark: Mark) -> Step
     ensures { added_by (mark ∷ []) [] ≡ boundary result ∷ [] }
 {
     match mark {
-        Mark::Left => Step::Leaves,
-        Mark::Entered | Mark::Judged => Step::Enters,
+        Mark::Left(_) => Step::Leaves,
+        Mark::Entered(_) | Mark::Judged => Step::Enters,
     }
 }
 

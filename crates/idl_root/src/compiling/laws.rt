@@ -1,11 +1,17 @@
 //! The laws of what is told.
 
 ghost use Rattle.std.specs.Prelude.{◌≡◌, ◌++◌, [], ℕ, All, List, filter, map, nat_eq};
+ghost use Rattle.idl_block.specs.Blocks.{walk};
+ghost use Rattle.idl_env.specs.Facts.{UnitFacts, answers};
 ghost use Rattle.idl_event.specs.declared.told.event.Event.{Event};
 ghost use Rattle.idl_fault.specs.declared.place.Place.{Place};
 ghost use Rattle.idl_check_laws.specs.Closing.{AreTold};
 ghost use Rattle.idl_root.specs.Compile.{compile};
 ghost use Rattle.idl_root.specs.Judged.{HasTurns, facts_after, judged_after};
+ghost use Rattle.idl_root.specs.Places.{declarations_after};
+ghost use Rattle.idl_root_blocks.specs.Blocks.{parts_of};
+ghost use Rattle.idl_root_blocks.specs.Places.{declarations_over, facts_over, unit_ways};
+ghost use Rattle.idl_root_blocks.specs.Units.{text_of};
 ghost use Rattle.idl_unit.specs.declared.unit.Unit.{Unit as RootUnit};
 ghost use Rattle.idl_root.specs.Told.{IsTold};
 ghost use Rattle.idl_unit.specs.Units.{units_of};
@@ -45,3 +51,15 @@ pub fn facts()
     // It does nothing: it carries a law of verdicts.
     more_turns();
 }
+
+/// What units add, what they come to and where their declarations stand is told by their text: by no file, and by no place of a
+/// token. So blocks (`idl_root_blocks`), of which texts are told alone, are those of units. This does nothing: it carries the law.
+pub fn texts()
+    ensures facts { (facts : List UnitFacts) (units : List RootUnit)
+        → facts_after facts units ≡ facts_over facts (text_of units) }
+    ensures verdicts { (facts : List UnitFacts) (units : List RootUnit)
+        → map (λ j. j.verdict) (judged_after facts units)
+        ≡ (walk unit_ways answers (parts_of (text_of units)) facts).0 }
+    ensures declarations { (facts : List UnitFacts) (units : List RootUnit)
+        → declarations_after facts units ≡ declarations_over facts (text_of units) }
+{}

@@ -3,8 +3,8 @@
 ghost use Rattle.std.specs.Prelude.{◌≡◌, ◌++◌, IfOk};
 ghost use Rattle.idl_root.specs.Added.{told_by};
 
-use crate::kept::keeper::KeptDeclaration;
 use idl_env::{Env, Room, Writes};
+use idl_kept::KeptDeclaration;
 use std::alloc::AllocError;
 use std::rc::Rc;
 

@@ -11,8 +11,9 @@ ghost use Rattle.idl_unit.specs.declared.unit.Unit.{Unit as RootUnit};
 use crate::compiling::finding::{EventFinding, Spelled, push_fault};
 use crate::compiling::printing::{Listed, push_closing, push_listed};
 use crate::kept::course::Course;
-use crate::kept::keeper::{Declarations, Entries};
+use crate::kept::keeper::Entries;
 use idl_check::Verdict;
+use idl_kept::Declarations;
 use idl_unit::Unit;
 use std::alloc::{AllocError, Global};
 

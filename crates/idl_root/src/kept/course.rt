@@ -1,6 +1,6 @@
 //! The units of a root as they were.
 
-ghost use Rattle.std.specs.Prelude.{◌≡◌, ◌∷◌, [], IfSome, IsTrue, List, Some, length};
+ghost use Rattle.std.specs.Prelude.{◌≡◌, ◌∷◌, [], false, IfSome, IsTrue, List, Some, length};
 ghost use Rattle.idl_env.specs.Facts.{UnitFacts};
 ghost use Rattle.idl_store.specs.Stored.{result_at};
 ghost use Rattle.idl_root.specs.AsBefore.{IsBehindMark, IsBehindSame};
@@ -8,8 +8,9 @@ ghost use Rattle.idl_root.specs.Followed.{IsBehind, IsFirst, IsNext};
 ghost use Rattle.idl_root.specs.Results.{DeclarationResult};
 ghost use Rattle.idl_root.specs.declared.kept.marks.Mark.{Mark as RootMark};
 
-use crate::kept::keeper::{Declarations, KeptDeclaration};
 use crate::kept::marks::{Mark, Marks};
+use idl_kept::{Declarations, KeptDeclaration};
+use idl_store::Spot;
 use idl_unit::{Unit, UnitText};
 
 /// The units of a root as they were when it was compiled last, from one of them on: what each was, and where in the root's list the
@@ -26,7 +27,7 @@ impl<'k> Course<'k> {
     pub fn new(list: usize, marks: &'k Marks) -> Course<'k>
         ensures list { result.list ≡ list }
         ensures place { result.place ≡ 0 }
-        ensures marks { result.marks.now ≡ marks.now }
+        ensures marks { result.marks.now ≡ marks.now.marks }
     {
         Course {
             list,
@@ -54,6 +55,21 @@ impl<'k> Course<'k> {
         ensures { result ≡ (self.entry.list, self.entry.place) }
     {
         (self.list, self.place)
+    }
+
+    /// The spot at which the result of the next unit with tokens stands.
+    pub fn spot(self) -> Spot
+        ensures { result ≡ record {
+          is_draft = false;
+          list = self.entry.list;
+          place = self.entry.place;
+        } }
+    {
+        Spot {
+            is_draft: false,
+            list: self.list,
+            place: self.place,
+        }
     }
 
     /// What is kept of the first of them, if it has tokens.
@@ -107,8 +123,8 @@ impl<'k> Course<'k> {
                 self.first_of(kept, text)?;
                 self.behind(Mark::Judged)
             }
-            Unit::Entered(_file, _inside) => self.behind(Mark::Entered),
-            Unit::Left(_file, _inside) => self.behind(Mark::Left),
+            Unit::Entered(_file, inside) => self.behind(Mark::Entered(*inside)),
+            Unit::Left(_file, inside) => self.behind(Mark::Left(*inside)),
             Unit::End => Some(self),
         }
     }
@@ -127,7 +143,7 @@ impl<'k> Course<'k> {
                 let place = self.place.checked_add(1)?;
                 Some(Course { list, place, marks })
             }
-            Mark::Entered | Mark::Left => {
+            Mark::Entered(_) | Mark::Left(_) => {
                 let place = self.place;
                 Some(Course { list, place, marks })
             }
@@ -146,8 +162,8 @@ impl<'k> Course<'k> {
                 let place = place.checked_add(1)?;
                 Some(Course { list, place, marks })
             }
-            (Mark::Entered, marks) => Some(Course { list, place, marks }),
-            (Mark::Left, marks) => Some(Course { list, place, marks }),
+            (Mark::Entered(_inside), marks) => Some(Course { list, place, marks }),
+            (Mark::Left(_inside), marks) => Some(Course { list, place, marks }),
         }
     }
 }

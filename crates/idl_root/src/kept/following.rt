@@ -1,23 +1,25 @@
 //! What was kept of a root's units, gone through beside the units that stand there now.
 
-ghost use Rattle.std.specs.Prelude.{◌≡◌, ◌-◌, ◌∷◌, ◌++◌, [], false, IfNone, IfOk, IfSome, IsFalse, IsTrue, List, OnErr};
+ghost use Rattle.std.specs.Prelude.{◌≡◌, ◌-◌, ◌∷◌, ◌++◌, [], false, IfNone, IfOk, IfSome, IsFalse, IsTrue, List, OnErr, Some};
 ghost use Rattle.idl_env.specs.Facts.{UnitFacts, answers, operations_among};
 ghost use Rattle.idl_env.specs.declared.additions.addition.Step.TheVariants.{Closes, Stays};
-ghost use Rattle.idl_root.specs.Followed.{AreBeside, ArePrinted, IsAgain, IsFollowed, IsNext, IsTakenAgain, LookElsewhere, StayAlike, WereThere, added_by, facts_of, results_from};
-ghost use Rattle.idl_root.specs.Places.{DeclarationPlace};
+ghost use Rattle.idl_root.specs.Followed.{AreBeside, ArePrinted, IsAgain, IsFollowed, IsNext, IsTakenAgain, LookElsewhere, StayAlike, UnitsOnly, WereThere, added_by, facts_of, results_from};
+ghost use Rattle.idl_root_blocks.specs.Places.{DeclarationPlace, declaration_result};
+ghost use Rattle.idl_store.specs.Spots.{result_on};
 ghost use Rattle.idl_store.specs.Stored.{list_at};
-ghost use Rattle.idl_root.specs.Results.{DeclarationResult, EntryResult, declaration_result};
+ghost use Rattle.idl_root.specs.Results.{DeclarationResult, EntryResult};
 ghost use Rattle.idl_root.specs.declared.kept.course.Course.{Course as RootCourse};
 
 use crate::kept::changed::Changed;
 use crate::kept::course::Course;
-use crate::kept::keeper::{Declarations, KeptDeclaration};
 use crate::kept::marks::Mark;
 use crate::kept::reprinting::Reprinting;
 use idl_check::DeclarationTask;
 use idl_env::{Env, Facts, Step};
+use idl_kept::{Declarations, KeptDeclaration, KeptTexts};
 use idl_memo::reliance;
 use idl_scope::laws::{adding, agreeing_around, exchanging};
+use idl_store::Spot;
 use idl_unit::UnitText;
 use std::alloc::{AllocError, Global};
 use std::rc::Rc;
@@ -73,24 +75,37 @@ impl<'k> Following<'k> {
     /// Want of memory leaves what is kept as it was.
     pub fn take_again(
         &self,
-        kept: &mut Declarations,
+        kept: &mut KeptTexts,
         text: &UnitText,
     ) -> Result<Option<Rc<KeptDeclaration>>, AllocError>
         ensures none { IfOk result (λ found. IfNone found (kept.new ≡ kept.old)) }
         ensures next { IfOk result (λ found. IfSome found (λ k.
-            IsNext kept.old.lists k.value.out.writes self.now.course)) }
+            IsNext kept.old.declarations.lists k.value.out.writes self.now.course)) }
         ensures again { IfOk result (λ found. IfSome found (λ k.
             (earlier : RootCourse) (facts : List UnitFacts)
-            → IsFollowed kept.old.lists earlier self.now facts
+            → IsFollowed kept.old.declarations.lists earlier self.now facts
             → let here : DeclarationPlace = (text.now, answers facts) in
-            IsTakenAgain here (declaration_result here) kept.old kept.new k.value)) }
+            IsTakenAgain here (declaration_result here)
+            kept.old.declarations kept.new.declarations k.value)) }
+        ensures rest { UnitsOnly kept.old kept.new }
         ensures err { OnErr result (kept.new ≡ kept.old) }
     {
         reliance::<Env, DeclarationTask>();
-        match self.place_of(kept, text) {
+        match self.place_of(kept.declarations(), text) {
             Some((list, place)) => kept.take_again(list, place),
             None => Ok(None),
         }
+    }
+
+    /// Whether what stands at a spot is one with what is kept of the next unit: so that added the same.
+    pub fn is_next(&self, kept: &Declarations, spot: Spot) -> bool
+        ensures { IsTrue result → (k : DeclarationResult) → result_on kept.now spot ≡ Some k
+            → IsNext kept.now.lists k.out.writes self.now.course }
+    {
+        if !self.course.begins_with(Mark::Judged) {
+            return false;
+        }
+        kept.is_one(spot, self.course.spot())
     }
 
     // Where the result of the next unit stands, if it is of this text and nothing that it asked has changed.

@@ -1,7 +1,8 @@
 //! The laws of fresh declarations and fresh entries.
 
 ghost use Rattle.std.specs.Prelude.{◌≡◌, ◌+◌, ◌++◌, [], All, Contains, List};
-ghost use Rattle.idl_root.specs.Places.{DeclarationPlace, EntryPlace};
+ghost use Rattle.idl_root.specs.Places.{EntryPlace};
+ghost use Rattle.idl_root_blocks.specs.Places.{DeclarationPlace};
 ghost use Rattle.idl_root.specs.Results.{fresh_declarations, fresh_entries};
 
 use idl_check::DeclarationTask;

@@ -1,8 +1,10 @@
 //! The printing of names whose entries are kept.
 
-ghost use Rattle.std.specs.Prelude.{◌≡◌, ◌∷◌, [], IfNone, IfOk, IfSome, List, OnErr, OnOk, flat_map, map};
+ghost use Rattle.std.specs.Prelude.{◌≡◌, ◌≤◌, ◌∷◌, [], IfNone, IfOk, IfSome, List, OnErr, OnOk, flat_map, map, sum_by};
 ghost use Rattle.idl_env.specs.Facts.{UnitFacts, answers};
+ghost use Rattle.idl_memo.specs.Meter.{compared_after, most_compared};
 ghost use Rattle.idl_store.specs.Stored.{grown, results_in};
+ghost use Rattle.idl_root.specs.Compared.{entry_keys, shared_entries};
 ghost use Rattle.idl_root.specs.Followed.{IsEntryLast, IsPrinting, IsTakenAgain};
 ghost use Rattle.idl_root.specs.Held.{listed_at};
 ghost use Rattle.idl_root.specs.Places.{EntryPlace, entries_over};
@@ -10,11 +12,12 @@ ghost use Rattle.idl_root.specs.Printed.{closing_finding, entry_row};
 ghost use Rattle.idl_root.specs.Results.{EntryResult, HasDraft, IsEntryPass, PrintsOnly, entry_result};
 
 use crate::compiling::printing::{Listed, Printed};
+use crate::kept::comparing::compare;
 use crate::kept::keeper::{Entries, KeptEntry};
 use crate::kept::reprinting::Reprinting;
 use idl_entity::Path;
 use idl_env::Env;
-use idl_memo::{Meter, passing};
+use idl_memo::{Meter, passing, placement};
 use idl_repo::EntryTask;
 use std::alloc::{AllocError, Global};
 use std::rc::Rc;
@@ -26,6 +29,8 @@ pub struct Printing {
     buffer: Vec<u8>,
     /// What was run, this root's entries among it.
     pub meter: Meter,
+    /// How many keys the entries asked.
+    pub keys: usize,
 }
 
 impl Drop for Printing {
@@ -34,6 +39,7 @@ impl Drop for Printing {
             reprinting: _reprinting,
             buffer: _buffer,
             meter: _meter,
+            keys: _keys,
         } = self;
     }
 }
@@ -43,11 +49,13 @@ impl Printing {
     pub fn new(alloc: Global, reprinting: Option<Reprinting>, meter: Meter) -> Printing
         ensures reprinting { result.reprinting ≡ reprinting }
         ensures meter { result.meter ≡ meter }
+        ensures keys { result.keys ≡ 0 }
     {
         Printing {
             reprinting,
             buffer: Vec::new(alloc),
             meter,
+            keys: 0,
         }
     }
 
@@ -69,14 +77,27 @@ impl Printing {
         ensures counts { let places = entries_over env.now (map listed_at listed.now) in
             OnOk result (HasDraft kept.old → IsEntryPass places (results_in kept.old)
             (results_in kept.new) self.old.meter.printed self.new.meter.printed) }
+        ensures compared { let places = entries_over env.now (map listed_at listed.now) in
+            OnOk result (self.old.meter.compared ≤ most_compared
+            → (known : List EntryPlace) → HasDraft kept.old
+            → results_in kept.old ≡ map entry_result known
+            → self.new.meter.compared
+            ≡ compared_after self.old.meter.compared (shared_entries known places)) }
+        ensures keys { let places = entries_over env.now (map listed_at listed.now) in
+            OnOk result (self.new.keys
+            ≡ compared_after self.old.keys (sum_by entry_keys places)) }
         ensures others { OnOk result (PrintsOnly self.old.meter self.new.meter) }
     {
         passing::<Env, EntryTask>();
+        placement::<Env, EntryTask>();
         let mut printed = Printed::new(env.alloc(), listed.len())?;
+        let mut keys = self.keys;
         for name in listed {
             let entry = self.entry(kept, env, &name.path)?;
+            keys = keys.saturating_add(entry.log().len());
             printed.add(env.alloc(), name.unit, entry.out())?;
         }
+        self.keys = keys;
         Ok(printed)
     }
 
@@ -93,9 +114,13 @@ impl Printing {
             self.new.meter entry.value) }
         ensures lists { kept.new.lists ≡ kept.old.lists }
         ensures rest { OnOk result (IsPrinting kept.new.lists self.new env.now) }
+        ensures keys { self.new.keys ≡ self.old.keys }
     {
         match self.taken(kept, path)? {
-            Some(entry) => Ok(entry),
+            Some(entry) => {
+                compare(&mut self.meter, entry.log().len());
+                Ok(entry)
+            }
             None => self.obtained(kept, env, path),
         }
     }
@@ -112,6 +137,7 @@ impl Printing {
             self.new.meter entry.value) }
         ensures lists { kept.new.lists ≡ kept.old.lists }
         ensures reprinting { self.new.reprinting ≡ self.old.reprinting }
+        ensures keys { self.new.keys ≡ self.old.keys }
     {
         if self.meter.printed == u64::MAX {
             return Err(AllocError);
@@ -119,7 +145,13 @@ impl Printing {
         let task = EntryTask {
             path: path.clone()?,
         };
-        kept.obtain(&task, env, &mut self.buffer, &mut self.meter)
+        let before = self.meter.printed;
+        let found = kept.obtain(&task, env, &mut self.buffer, &mut self.meter)?;
+        if self.meter.printed != before {
+            return Ok(found);
+        }
+        compare(&mut self.meter, found.log().len());
+        Ok(found)
     }
 
     // What was kept of it, if it may be taken over.
@@ -136,6 +168,7 @@ impl Printing {
         ensures rest { (lists : List (List EntryResult)) (facts : List UnitFacts)
             → IsPrinting lists self.old facts → IsPrinting lists self.new facts }
         ensures meter { self.new.meter ≡ self.old.meter }
+        ensures keys { self.new.keys ≡ self.old.keys }
         ensures err { OnErr result (kept.new ≡ kept.old) }
     {
         match &mut self.reprinting {

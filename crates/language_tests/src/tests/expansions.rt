@@ -64,15 +64,27 @@ pub fn expansion_of(alloc: Global, text: &str) -> Result<Expansion, AllocError> 
     RootTask::new(name).run(alloc, &bank, &mut (), &mut log)
 }
 
+impl Answers {
+    pub fn new(alloc: Global) -> Answers {
+        Answers {
+            entries: Table::new(alloc),
+        }
+    }
+
+    /// Puts a file of this name and text.
+    pub fn put(&mut self, alloc: Global, name: &Name, text: &str) -> Result<(), AllocError> {
+        let file = LexedFile::new(alloc, file_of(alloc, text)?, None)?;
+        let name = FileName::new(alloc, name)?;
+        self.entries
+            .insert(RootKey::File(name), RootAnswer::File(file))
+    }
+}
+
 /// The one file of this name and text.
 pub fn answers_of(alloc: Global, name: &Name, text: &str) -> Result<Answers, AllocError> {
-    let file = LexedFile::new(alloc, file_of(alloc, text)?, None)?;
-    let mut entries = Table::new(alloc);
-    entries.insert(
-        RootKey::File(FileName::new(alloc, name)?),
-        RootAnswer::File(file),
-    )?;
-    Ok(Answers { entries })
+    let mut answers = Answers::new(alloc);
+    answers.put(alloc, name, text)?;
+    Ok(answers)
 }
 
 fn emitted(alloc: Global, expansion: &Expansion) -> Result<String, AllocError> {

@@ -2,7 +2,6 @@
 //! back.
 
 use super::expansions::{Answers, answers_of};
-use super::support::Host;
 use idl_base::{Datum, Seq, Text};
 use idl_event::RootKey;
 use idl_fault::FileName;
@@ -33,36 +32,6 @@ fn data_is_copied_alike(rt: HostRuntime) -> Result<(), Fail> {
     Ok(())
 }
 
-// A journal takes the log, and gives it back with what was asked.
-fn take(
-    alloc: Global,
-    log: &mut Log<Answers>,
-    key: &RootKey,
-    bank: &Answers,
-) -> Result<(), AllocError> {
-    let mut journal = Journal::taking(alloc, log);
-    journal.ask(key, bank)?;
-    journal.give_back(log)
-}
-
-// How many keys a log has that was taken twice, and then asked of a journal that has none.
-fn given_back(alloc: Global, key: &RootKey, bank: &Answers) -> Result<usize, AllocError> {
-    let mut log = Log::new(alloc);
-    for _round in 0..2 {
-        take(alloc, &mut log, key, bank)?;
-    }
-    let told: Journal<Answers> = Journal::told();
-    match told.give_back(&mut log) {
-        Ok(()) => Ok(0),
-        Err(AllocError) => Ok(log.len()),
-    }
-}
-
-fn are_given_back(rt: &impl Host, key: &RootKey, bank: &Answers) -> Result<(), Fail> {
-    assert_eq!(rt; given_back(rt.alloc(), key, bank)?, 1);
-    Ok(())
-}
-
 // One that took a log gives it back with what was asked; one of which contracts alone are told has none.
 #[test]
 fn a_journal_gives_back_what_it_took(rt: HostRuntime) -> Result<(), Fail> {
@@ -70,9 +39,15 @@ fn a_journal_gives_back_what_it_took(rt: HostRuntime) -> Result<(), Fail> {
         return Ok(());
     };
     let bank = answers_of(rt.alloc(), &name, "x")?;
-    are_given_back(
-        &rt,
-        &RootKey::File(FileName::new(rt.alloc(), &name)?),
-        &bank,
-    )
+    let key = RootKey::File(FileName::new(rt.alloc(), &name)?);
+    let mut log = Log::new(rt.alloc());
+    for _round in 0..2 {
+        let mut journal = Journal::taking(rt.alloc(), &mut log);
+        journal.ask(&key, &bank)?;
+        journal.give_back(&mut log)?;
+    }
+    let told: Journal<Answers> = Journal::told();
+    assert!(rt; told.give_back(&mut log).is_err());
+    assert_eq!(rt; log.len(), 1);
+    Ok(())
 }

@@ -1,7 +1,7 @@
 //! The rows of one file: the faults of its tokens and units, what comes of its directives, declarations, values, and the types
 //! that are written.
 
-use super::support::{have_replies, have_rows};
+use super::support::have_rows;
 use std::test::Fail;
 
 static ROWS: [&str; 5] = [
@@ -47,7 +47,7 @@ static ROWS: [&str; 5] = [
 ];
 
 // Units in their scopes, the names that they declare and use, and what is said of ids.
-static DECLARATIONS: [&str; 13] = [
+static DECLARATIONS: [&str; 12] = [
     "module M { interface I { oneway void f(in long x); }; };\n=module M {\n=  interface I {\n=    oneway void f ( in \
      long x );\n=  };\n=}; ¶ };\nvoid f();\ninterface I { module M { interface J; struct S; }; };\n=a:1: E22 }\n=a:2: \
      E22 void\n=a:3: E22 module\n=a:3: W80 J\n=a:3: E75 S ¶ module M {\n\n=a:2: E23 ¶ module M { typedef long X };\n\
@@ -77,12 +77,7 @@ static DECLARATIONS: [&str; 13] = [
      S\n=a:5: W80 I",
     // A faulty opening opens a scope without a name, and what stands in it is judged there.
     "interface A : B {\ntypedef long T;\ntypedef T U;\nvoid f();\n};\ntypedef A::T V;\ntypedef long A;\n=a:1: E30 B\n\
-     =a:6: E30 A ¶ const long K = `64×(`1`64×)`;\nconst long L = `65×(`1`65×)`;\nconst long M = `64×-(`1`64×)`;\nconst \
-     long N = --1;\n=a:2: E24 (\n=a:4: E20 - ¶ `65×module M@ {\n``64×};\n`};\n=a:65: E24 { ¶ struct S { long a;\n=a:1: \
-     E20 ;",
-    // A diamond of bases, of which each is asked once.
-    "interface A0 { typedef long T; };\n#define B A0\n`40×interface L@ : B { };\ninterface R@ : B { };\ninterface A@ : \
-     L@, R@ { };\n#undef B\n#define B A@\n`interface Z : A40 { attribute T x; };\ntypedef T U;\n=a:204: E30 T",
+     =a:6: E30 A",
     // Structs over a base. Nothing is declared that is reached, be it a member, a type or an enumerator, of whatever base.
     "&struct B { long a; };\nstruct D : B { };\n=struct D : ::B { }; ¶ struct B { long a; };\nstruct D : B { };\n\
      struct E : D { short A; };\n=a:3: E44 A ¶ struct B { enum E { P, Q } f; };\nstruct D : B { long p; };\nstruct G : \
@@ -154,36 +149,6 @@ static DECLARATIONS: [&str; 13] = [
      M::N::T \"IDL:P/M/N/T:1.1\";\ntypeid M::N::T \"IDL:M/N/T:1.1\";\n=a:5: E71 T ¶ #pragma prefix \"A\"\nstruct S;\n\
      typeprefix S \"B\";\nstruct S { };\n#pragma version S 3.0\ntypeid S \"IDL:A/S:3.0\";\ntypeid S \"IDL:B/S:3.0\";\n\
      =a:6: E71 S",
-];
-
-// What a `typeid` and a `typeprefix` say of ids, in sessions.
-static SAID: [&str; 2] = [
-    // Listings with the ids that the whole root leaves.
-    "put a 6\nmodule M {\ntypedef long T;\ntypedef long U;\n};\ntypeprefix M \"P\";\ntypeid M::T \"IDL:X/T:2.0\";\n\
-     =ok\nroot a\n=ok\nlisting a\n=rows 3\n=module M IDL:P/M:1.0\n=alias M::T IDL:X/T:2.0 \
-     tk_alias(IDL:X/T:2.0,T,tk_long)\n=alias M::U IDL:P/M/U:1.0 tk_alias(IDL:P/M/U:1.0,U,tk_long)\ndump a\n=rows 6\n\
-     =module M {\n=  typedef long T;\n=  typedef long U;\n=};\n=typeprefix ::M \"P\";\n=typeid ::M::T \"IDL:X/T:2.0\"; \
-     ¶ put a 3\nmodule M { module N { }; };\ntypeprefix M \"P\";\ntypeprefix M::N \"\";\n=ok\nroot a\n=ok\nlisting a\n\
-     =rows 2\n=module M IDL:P/M:1.0\n=module M::N IDL:M/N:1.0\nsplice a 3 1 0\n=ok\nlisting a\n=rows 2\n=module M \
-     IDL:P/M:1.0\n=module M::N IDL:P/M/N:1.0\nsplice a 2 0 1\ntypeprefix M::N \"Q\";\n=ok\nlisting a\n=rows 2\n=module \
-     M IDL:P/M:1.0\n=module M::N IDL:Q/M/N:1.0 ¶ put a 4\nmodule M { typedef long T; };\ntypedef M::T V;\ntypeid M::T \
-     \"A:1\";\ntypeprefix M \"P\";\n=ok\nroot a\n=ok\nlisting a\n=rows 3\n=module M IDL:P/M:1.0\n=alias M::T A:1 \
-     tk_alias(A:1,T,tk_long)\n=alias V IDL:V:1.0 tk_alias(IDL:V:1.0,V,@A:1)\nsplice a 4 1 1\ntypeprefix M \"Q\";\n=ok\n\
-     listing a\n=rows 3\n=module M IDL:Q/M:1.0\n=alias M::T A:1 tk_alias(A:1,T,tk_long)\n=alias V IDL:V:1.0 \
-     tk_alias(IDL:V:1.0,V,@A:1) ¶ put a 7\n#pragma prefix \"A\"\nstruct S;\ntypeprefix S \"B\";\nstruct S { };\n\
-     #pragma prefix \"\"\nexception E { S m; };\ntypeprefix E = \"C\";\n=ok\nroot a\n=ok\nlisting a\n=rows 2\n=struct \
-     S IDL:B/S:1.0 tk_struct(IDL:B/S:1.0,S)\n=exception E IDL:C/E:1.0 tk_except(IDL:C/E:1.0,E,m:@IDL:B/S:1.0)",
-    // What is told of ids over included files.
-    "put r 2\nmodule M { typedef long T; };\n#include \"b\"\n=ok\nput b 2\ntypeprefix M \"P\";\ntypeid M::T \
-     \"IDL:P/M/T:1.0\";\n=ok\nroot r\n=ok\ndiagnostics r\n=rows 0\nsplice r 2 0 1\n#pragma version M::T 2.0\n=ok\n\
-     diagnostics r\n=rows 1\n=b:2: E71 T\nsplice r 2 1 1\n#pragma version M::T 1.0\n=ok\ndiagnostics r\n=rows 0\n\
-     listing r\n=rows 2\n=module M IDL:P/M:1.0\n=alias M::T IDL:P/M/T:1.0 tk_alias(IDL:P/M/T:1.0,T,tk_long) ¶ put r 3\n\
-     module M { interface I; };\n#include \"b\"\nmodule M { interface I { void f(); }; };\n=ok\nput b 1\ntypeprefix M \
-     \"P\";\n=ok\nroot r\n=ok\nlisting r\n=rows 3\n=module M IDL:P/M:1.0\n=interface M::I IDL:P/M/I:1.0 \
-     tk_objref(IDL:P/M/I:1.0,I) bases()\n=operation M::I::f IDL:P/M/I/f:1.0 tk_void () raises() context()\nput b 2\n\
-     typeprefix M \"Q\";\ntypeprefix M \"P\";\n=ok\ndiagnostics r\n=rows 1\n=b:2: E76 M\nput b 1\ntypeid M::I \
-     \"X:1\";\n=ok\nlisting r\n=rows 3\n=module M IDL:M:1.0\n=interface M::I X:1 tk_objref(X:1,I) bases()\n=operation \
-     M::I::f IDL:M/I/f:1.0 tk_void () raises() context()",
 ];
 
 // The values of constants, and the types that are written.
@@ -287,10 +252,35 @@ static VALUES: [&str; 8] = [
      E30 nope",
 ];
 
+// What is made to exhaust a compiler.
+static HOSTILE: [&str; 5] = [
+    // 64 levels, and one more; a sign behind a sign needs parentheses.
+    "const long K = `64×(`1`64×)`;\n=const long K = 1; ¶ const long K = `65×(`1`65×)`;\n=a:1: E24 ( ¶ const long K = \
+     `64×-(`1`64×)`;\n=const long K = 1; ¶ const long K = --1;\n=a:1: E20 - ¶ `65×module M@ {\n``65×};\n`=a:65: E24 {",
+    // What is never closed, and a number that is too large.
+    "typedef long X; /* a\n=a:1: E09 /* ¶ const string S = \"abc;\n=a:1: E02 \"abc; ¶ #if 1\ntypedef long X;\n=a:1: \
+     E13 if ¶ struct S { long a;\n=a:1: E20 ; ¶ const long K = 18446744073709551616;\n=a:1: E07 18446744073709551616",
+    // A long sum, and a base that is reached by 2^40 ways.
+    "const long K = 1`99999×\n+ 1`\n;\n=const long K = 100000; ¶ interface A0 { typedef long T; };`40×\ninterface L@ : \
+     A§ { };\ninterface R@ : A§ { };\ninterface A@ : L@, R@ { };`\ninterface Z : A40 { attribute T x; };\n=interface \
+     A0 {\n=  typedef long T;\n=};`40×\n=interface L@ : ::A§ {\n=};\n=interface R@ : ::A§ {\n=};\n=interface A@ : \
+     ::L@, ::R@ {\n=};`\n=interface Z : ::A40 {\n=  attribute ::A0::T x;\n=};",
+    // Macros that are each replaced by two of the next: a million replacements are too many. A long chain of macros is not.
+    "#define M0`19× M@ M@\n#define M@` x\nM0\n=a:21: E20 x\n=a:21: E19 ¶ #define M0`18× M@ M@\n#define M@` x\nM0\n\
+     =a:20: E20 x ¶ #define M0`99999× M@\n#define M@` long\ntypedef M0 X;\n=typedef long X;",
+    // Parentheses of a condition, and groups in one another.
+    "#if \\`10000×\n((((((((((\\`\n1\\`10000×\n))))))))))\\`\n\ntypedef long X;\n#endif\n=typedef long X; ¶ `90000×#if \
+     1\n`typedef long X;`90000×\n#endif`\n=typedef long X;",
+];
+
 #[test]
 fn files_have_these_rows(rt: HostRuntime) -> Result<(), Fail> {
     have_rows(&rt, &ROWS)?;
     have_rows(&rt, &DECLARATIONS)?;
-    have_replies(&rt, &SAID)?;
     have_rows(&rt, &VALUES)
+}
+
+#[test]
+fn sources_that_exhaust_have_these_rows(rt: HostRuntime) -> Result<(), Fail> {
+    have_rows(&rt, &HOSTILE)
 }

@@ -29,7 +29,7 @@ pub fn file_of(alloc: Global, text: &str) -> Result<File, AllocError> {
     File::new(alloc, lines)
 }
 
-/// The text, in which `` `3×a@;` `` stands for `a1;a2;a3;`.
+/// The text, in which `` `3×a@;` `` stands for `a1;a2;a3;`, and `§` for the number before.
 pub fn in_full(alloc: Global, text: &str) -> Result<String, AllocError> {
     let mut full = String::new(alloc);
     for part in text.split('`') {
@@ -42,12 +42,13 @@ pub fn in_full(alloc: Global, text: &str) -> Result<String, AllocError> {
 }
 
 fn push_times(text: &mut String, count: usize, piece: &str) -> Result<(), AllocError> {
-    for n in 1..=count {
-        for (i, part) in piece.split('@').enumerate() {
-            if i > 0 {
-                write!(text, "{n}")?;
+    for n in 0..count {
+        for c in piece.chars() {
+            match c {
+                '@' => write!(text, "{}", n + 1)?,
+                '§' => write!(text, "{n}")?,
+                c => text.push(c)?,
             }
-            text.push_str(part)?;
         }
     }
     Ok(())
@@ -100,19 +101,15 @@ pub fn parted(alloc: Global, text: &str) -> Result<(String, String), AllocError>
 /// The replies of a session to a script.
 pub fn replies(alloc: Global, session: &mut Session, script: &str) -> Result<BufferSink, Fail> {
     let mut source = SliceSource::new(script.as_bytes());
-    let mut sink = sink_of(alloc, 65_536)?;
+    let mut sink = empty_sink(alloc)?;
     run(session, &mut source, &mut sink)?;
     Ok(sink)
 }
 
-// An empty sink, asked for twice, since the test of want of memory has one allocation refused.
-fn sink_of(alloc: Global, capacity: usize) -> Result<BufferSink, AllocError>
+fn empty_sink(alloc: Global) -> Result<BufferSink, AllocError>
     ensures { IfOk result (λ sink. sink.failures ≡ 0) }
 {
-    match BufferSink::new(alloc, capacity) {
-        Ok(sink) => Ok(sink),
-        Err(_no_memory) => BufferSink::new(alloc, capacity),
-    }
+    BufferSink::new(alloc, 65_536)
 }
 
 /// The session has these replies to a script.

@@ -1,4 +1,5 @@
-//! The units of a text: every production of the grammar, what is long or deep, and the faults of units.
+//! The units of a text: every production of the grammar, what is long or deep, and the faults of units; and which units open
+//! a scope, and which close one.
 
 use super::expansions::expansion_of;
 use super::support::{Telling, are_told};
@@ -112,4 +113,60 @@ static UNITS: [&str; 2] = [
 #[test]
 fn units_are_of_these_trees_or_faults(rt: HostRuntime) -> Result<(), Fail> {
     are_told::<Units>(&rt, &UNITS)
+}
+
+// Of each unit what it does to the open scopes, or to the files that are entered.
+struct Steps;
+
+impl Telling for Steps {
+    fn told(alloc: Global, text: &str) -> Result<String, AllocError> {
+        let expansion = expansion_of(alloc, text)?;
+        let mut said = String::new(alloc);
+        for unit in split(alloc, &expansion)?.as_slice() {
+            let between = if said.is_empty() { "" } else { ", " };
+            write!(said, "{between}{}", step_word(unit))?;
+        }
+        Ok(said)
+    }
+}
+
+fn step_word(unit: &Unit) -> &'static str {
+    match unit {
+        Unit::Spelled(text, _sites) => scope_word(text),
+        Unit::Entered(_file, false) => "enters",
+        Unit::Entered(_file, true) => "enters inside",
+        Unit::Left(_file, false) => "leaves",
+        Unit::Left(_file, true) => "leaves inside",
+        Unit::End => "ends",
+    }
+}
+
+fn scope_word(text: &UnitText) -> &'static str {
+    match (text.is_opening(), text.is_closing()) {
+        (false, false) => "stays",
+        (true, false) => "opens",
+        (false, true) => "closes",
+        (true, true) => "both",
+    }
+}
+
+// A heading with `{` opens a scope and a closing closes one, also where they are faulty; no other unit does. In the last rows the
+// file includes itself once: between units, and inside one, whose boundaries come behind it.
+static STEPS: [&str; 2] = [
+    "module M { interface I : A { local interface L { => opens, opens, opens, ends ¶ module M { typedef long T; }; }; \
+     => opens, stays, closes, closes, ends ¶ interface I; local interface I; struct S { long a; }; exception E { }; => \
+     stays, stays, stays, stays, ends ¶ module { · interface I : { · local interface 1 { · module M x { => opens, ends \
+     ¶ } · }; => closes, ends ¶ } typedef long T; => closes, stays, ends ¶ module M } => stays, closes, ends ¶ module \
+     M ; { => stays, stays, ends ¶ local L { long a; }; · struct M { struct module { long a; } b; }; => stays, ends ¶ \
+     interface · module · local · x => stays, ends ¶ #pragma prefix \"{\"\n#pragma ID module { => stays, stays, ends \
+     ¶  => ends",
+    "#ifndef G\n#define G\nmodule M {\n#include \"a.idl\"\n};\n#else\ninterface I {\n#endif => opens, enters, opens, \
+     leaves, closes, ends ¶ #ifndef G\n#define G\nmodule M\n#include \"a.idl\"\n;\n#else\n{ }\n#endif => opens, enters \
+     inside, closes, leaves inside, ends ¶ #ifndef G\n#define G\nmodule\n#include \"a.idl\"\n{\n#else\nM\n#endif => \
+     opens, enters inside, leaves inside, ends",
+];
+
+#[test]
+fn units_open_and_close_scopes(rt: HostRuntime) -> Result<(), Fail> {
+    are_told::<Steps>(&rt, &STEPS)
 }

@@ -6,36 +6,16 @@ use idl_session::{BufferSink, SliceSource};
 use std::alloc::{AllocError, Global};
 use std::test::Fail;
 
-static ROWS: [(&str, &str, &str); 7] = [
-    ("a.idl", "a.idl!", "2 err idlc: a.idl: cannot read /"),
-    ("a.idl", "a.idl?", "2 err idlc: a.idl: refused 9 /"),
-    (
-        "a.idl",
-        "a.idl: #include \"b.idl\" ¶ b.idl!",
-        "2 err idlc: b.idl: cannot read /",
-    ),
+static ROWS: [&str; 3] = [
+    "idlc a.idl => a.idl! => 2 err idlc: a.idl: cannot read /\nidlc a.idl => a.idl? => 2 err idlc: a.idl: refused 9 /\n\
+     idlc a.idl => a.idl: #include \"b.idl\" ¶ b.idl! => 2 err idlc: b.idl: cannot read /",
     // A file that isn't asked for any more once those before it are there ends nothing.
-    (
-        "-d a.idl",
-        "a.idl: #include \"m.idl\" | #ifdef M | #include \"b.idl\" | #endif ¶ b.idl!",
-        "1 err a.idl:1: E10 \"m.idl\" /",
-    ),
-    (
-        "-d a.idl",
-        "a.idl: #include \"m.idl\" | #ifndef M | #include \"b.idl\" | #endif ¶ m.idl: #define M ¶ b.idl!",
-        "0",
-    ),
+    "idlc -d a.idl => a.idl: #include \"m.idl\" | #ifdef M | #include \"b.idl\" | #endif ¶ b.idl! => 1 err a.idl:1: \
+     E10 \"m.idl\" /\nidlc -d a.idl => a.idl: #include \"m.idl\" | #ifndef M | #include \"b.idl\" | #endif ¶ m.idl: \
+     #define M ¶ b.idl! => 0",
     // The first trouble in the order of asking is told.
-    (
-        "a.idl",
-        "a.idl: #include \"b.idl\" | #include \"c.idl\" ¶ b.idl! ¶ c.idl?",
-        "2 err idlc: b.idl: cannot read /",
-    ),
-    (
-        "a.idl b.idl",
-        "a.idl: typedef T X; ¶ b.idl!",
-        "2 err idlc: b.idl: cannot read /",
-    ),
+    "idlc a.idl => a.idl: #include \"b.idl\" | #include \"c.idl\" ¶ b.idl! ¶ c.idl? => 2 err idlc: b.idl: cannot read \
+     /\nidlc a.idl b.idl => a.idl: typedef T X; ¶ b.idl! => 2 err idlc: b.idl: cannot read /",
 ];
 
 #[test]

@@ -2,7 +2,7 @@
 
 ghost use Rattle.idl_program.specs.Holding.{Untold};
 
-use super::support::{Files, told};
+use super::support::{Files, parts_of, told};
 use idl_program::{Loaded, Loader};
 use idl_source::Name;
 use std::test::Fail;
@@ -29,54 +29,34 @@ impl<'a> Loader for Once<'a> {
 }
 
 // Words, files, and what is given.
-static ROWS: [(&str, &str, &str); 6] = [
+static ROWS: [&str; 6] = [
     // A header that roots share.
-    (
-        "a.idl b.idl",
-        "a.idl: #include \"h.idl\" ¶ b.idl: #include \"h.idl\" | #include \"h.idl\" ¶ h.idl: #pragma once | typedef long T;",
-        "0",
-    ),
+    "a.idl b.idl => a.idl: #include \"h.idl\" ¶ b.idl: #include \"h.idl\" | #include \"h.idl\" ¶ h.idl: #pragma once | \
+     typedef long T; => 0",
     // A root that is a header of the root before it.
-    (
-        "a.idl h.idl",
-        "a.idl: #include \"h.idl\" ¶ h.idl: typedef long T;",
-        "0",
-    ),
+    "a.idl h.idl => a.idl: #include \"h.idl\" ¶ h.idl: typedef long T; => 0",
     // What is missing beside the file and there in a directory; and what is missing everywhere.
-    (
-        "-Iinc a.idl b.idl",
-        "a.idl: #include \"h.idl\" | #include \"x.idl\" ¶ b.idl: #include <h.idl> | #include \"x.idl\" ¶ inc/h.idl: typedef long T;",
-        "1 err a.idl:2: E10 \"x.idl\" /b.idl:2: E10 \"x.idl\" /",
-    ),
+    "-Iinc a.idl b.idl => a.idl: #include \"h.idl\" | #include \"x.idl\" ¶ b.idl: #include <h.idl> | #include \
+     \"x.idl\" ¶ inc/h.idl: typedef long T; => 1 err a.idl:2: E10 \"x.idl\" /b.idl:2: E10 \"x.idl\" /",
     // A root that is missing, as it was when it was included.
-    (
-        "a.idl x.idl",
-        "a.idl: #include \"x.idl\"",
-        "1 err a.idl:1: E10 \"x.idl\" /x.idl:0: E10 x.idl /",
-    ),
+    "a.idl x.idl => a.idl: #include \"x.idl\" => 1 err a.idl:1: E10 \"x.idl\" /x.idl:0: E10 x.idl /",
     // A file that defines the name of the next one.
-    (
-        "a.idl",
-        "a.idl: #include \"m.idl\" | #include M | #ifdef N | #include N | #endif ¶ m.idl: #define M \"n.idl\" ¶ n.idl: #define N \"zz.idl\" | #include \"o.idl\" ¶ o.idl: #undef M",
-        "1 err a.idl:4: E10 \"zz.idl\" /",
-    ),
+    "a.idl => a.idl: #include \"m.idl\" | #include M | #ifdef N | #include N | #endif ¶ m.idl: #define M \"n.idl\" ¶ \
+     n.idl: #define N \"zz.idl\" | #include \"o.idl\" ¶ o.idl: #undef M => 1 err a.idl:4: E10 \"zz.idl\" /",
     // What isn't asked for any more once the file before it is there isn't tried.
-    (
-        "a.idl",
-        "a.idl: #include \"m.idl\" | #ifndef M | #include \"b.idl\" | #endif ¶ m.idl: #define M ¶ b.idl!",
-        "0",
-    ),
+    "a.idl => a.idl: #include \"m.idl\" | #ifndef M | #include \"b.idl\" | #endif ¶ m.idl: #define M ¶ b.idl! => 0",
 ];
 
 #[test]
 fn a_name_is_tried_once(rt: HostRuntime) -> Result<(), Fail> {
-    for (words, files, want) in ROWS.iter() {
+    for row in ROWS.iter() {
+        let (words, files, want) = parts_of(row);
         let loader = Once {
             files: Files::new(rt.alloc(), files),
             tried: Vec::new(rt.alloc()),
         };
         let got = told(rt.alloc(), words, loader, "")?;
-        assert_eq!(rt; got.as_str(), *want, "{words} over {files}");
+        assert_eq!(rt; got.as_str(), want, "{row}");
     }
     Ok(())
 }

@@ -2,8 +2,8 @@
 
 ghost use Rattle.idl_program.specs.Holding.{Untold};
 
-use idl_program::{Devices, Loaded, Loader, Status, run_program};
-use idl_session::{BufferSink, SliceSource};
+use super::support::{loaded, told};
+use idl_program::{Loaded, Loader};
 use idl_source::Name;
 use std::alloc::{AllocError, Global};
 use std::test::Fail;
@@ -22,78 +22,59 @@ impl<'a> Loader for Headers<'a> {
     ghost told = { λ _ _. Untold };
 
     fn load(&mut self, name: &Name) -> Loaded {
-        let bytes = match name.as_bytes() {
+        loaded(match name.as_bytes() {
             b"r.idl" => root(self),
             b"a.idl" => Vec::from_slice(self.alloc, b"#include \"b.idl\"\n"),
             b"b.idl" => Vec::from_slice(self.alloc, b"#define A\n"),
             _ => Ok(Vec::new(self.alloc)),
-        };
-        match bytes {
-            Ok(bytes) => Loaded::Bytes(bytes),
-            Err(_) => Loaded::NoMemory,
-        }
+        })
     }
 }
 
 // The lines of the root.
 fn root(headers: &Headers<'_>) -> Result<Vec<u8>, AllocError> {
-    let mut bytes = Vec::from_slice(headers.alloc, headers.first.as_bytes())?;
+    let mut text = String::from_str(headers.alloc, headers.first)?;
     for number in 0..headers.count {
-        let line = format!(in headers.alloc; "#include \"f{number}.idl\"\n")?;
-        bytes.extend_from_slice(line.as_bytes())?;
+        write!(text, "#include \"f{number}.idl\"\n")?;
     }
-    bytes.extend_from_slice(headers.last.as_bytes())?;
-    Ok(bytes)
+    text.push_str(headers.last)?;
+    Vec::from_slice(headers.alloc, text.as_bytes())
 }
 
-// How the program ends over these files, and what it tells.
-fn told(loader: Headers<'_>, words: &[&str]) -> Result<(Status, Vec<u8>), AllocError> {
-    let alloc = loader.alloc;
-    let mut devices = Devices {
-        loader,
-        source: SliceSource::new(b""),
-        output: BufferSink::new(alloc, 1_000)?,
-        errors: BufferSink::new(alloc, 1_000)?,
-    };
-    let status = run_program(alloc, words, &mut devices);
-    let errors = Vec::from_slice(alloc, devices.errors.as_bytes())?;
-    Ok((status, errors))
-}
-
-// Words, the first line, how many headers, the last line, and what is told.
-static ROWS: [(&[&str], &str, usize, &str, &str); 3] = [
+// Words, the first line, how many headers, the last line, and what is given.
+static ROWS: [(&str, &str, usize, &str, &str); 3] = [
     // Each header has a copy in the directory, which isn't asked for, since the header is there.
-    (&["-Iinc", "r.idl"], "", 2_100, "", ""),
+    ("-Iinc r.idl", "", 2_100, "", "0"),
     // With the root and `a.idl` the headers would be too many, but `b.idl` turns them away.
     (
-        &["r.idl"],
+        "r.idl",
         "#include \"a.idl\"\n#ifndef A\n",
         4_094,
         "#endif\n",
-        "",
+        "0",
     ),
     // These are too many.
     (
-        &["r.idl"],
+        "r.idl",
         "#include \"a.idl\"\n",
         4_094,
         "",
-        "idlc: f4093.idl: refused 5\n",
+        "2 err idlc: f4093.idl: refused 5 /",
     ),
 ];
 
 #[test]
 fn files_that_are_not_asked_for_take_no_room(rt: HostRuntime) -> Result<(), Fail> {
+    let alloc = rt.alloc();
     for (words, first, count, last, want) in ROWS.iter() {
         let headers = Headers {
-            alloc: rt.alloc(),
+            alloc,
             first,
             count: *count,
             last,
         };
-        let (status, errors) = told(headers, words)?;
-        assert_eq!(rt; errors.as_slice(), want.as_bytes());
-        assert_eq!(rt; status == Status::Failed, !want.is_empty());
+        let got = told(alloc, words, headers, "")?;
+        assert_eq!(rt; got.as_str(), *want);
     }
     Ok(())
 }

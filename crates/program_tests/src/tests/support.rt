@@ -1,4 +1,4 @@
-//! What the tests share: the program over files of a text, and rows of what it gives.
+//! What the tests share: the programs over files of a text, and rows of what they give; scripts with their replies.
 
 ghost use Rattle.idl_program.specs.Holding.{Untold};
 
@@ -36,29 +36,27 @@ impl<'a> Loader for Files<'a> {
     ghost told = { λ _ _. Untold };
 
     fn load(&mut self, name: &Name) -> Loaded {
+        let name = name.as_bytes();
         for file in self.text.split(" ¶ ") {
             let (title, lines) = file.split_once(": ").unwrap_or((file, ""));
-            let wanted = name.as_bytes();
-            if title.as_bytes() == wanted {
-                return match file_bytes(self.alloc, lines) {
-                    Ok(bytes) => Loaded::Bytes(bytes),
-                    Err(_) => Loaded::NoMemory,
-                };
+            if title.as_bytes() == name {
+                return loaded(file_bytes(self.alloc, lines));
             }
-            if title
-                .strip_suffix('!')
-                .is_some_and(|title| title.as_bytes() == wanted)
-            {
-                return Loaded::Failed;
-            }
-            if title
-                .strip_suffix('?')
-                .is_some_and(|title| title.as_bytes() == wanted)
-            {
-                return Loaded::NoMemory;
+            match title.as_bytes().split_last() {
+                Some((&b'!', title)) if title == name => return Loaded::Failed,
+                Some((&b'?', title)) if title == name => return Loaded::NoMemory,
+                _ => {}
             }
         }
         Loaded::Missing
+    }
+}
+
+/// The bytes of a file, unless there was no memory for them.
+pub fn loaded(bytes: Result<Vec<u8>, AllocError>) -> Loaded {
+    match bytes {
+        Ok(bytes) => Loaded::Bytes(bytes),
+        Err(_) => Loaded::NoMemory,
     }
 }
 
@@ -69,26 +67,25 @@ fn file_bytes(alloc: Global, lines: &str) -> Result<Vec<u8>, AllocError> {
         return Ok(bytes);
     }
     for line in lines.split(" | ") {
-        for part in line.split_inclusive('¬') {
-            match part.strip_suffix('¬') {
-                Some(part) => {
-                    bytes.extend_from_slice(part.as_bytes())?;
-                    bytes.push(b'\r')?;
-                }
-                None => bytes.extend_from_slice(part.as_bytes())?,
-            }
-        }
+        let line = line.replace(alloc, "¬", "\r")?;
+        bytes.extend_from_slice(line.as_bytes())?;
         bytes.push(b'\n')?;
     }
     Ok(bytes)
 }
 
-/// What the program gives: its status, what it wrote to standard output, and what to standard error, with ` / ` for a newline.
-pub fn given(alloc: Global, words: &str, files: &str, input: &str) -> Result<String, AllocError> {
-    told(alloc, words, Files::new(alloc, files), input)
+/// What a program gives over files of a text: its status, what it wrote to standard output, and what to standard error, with ` / ` for a
+/// newline.
+pub fn given(alloc: Global, command: &str, files: &str) -> Result<String, AllocError> {
+    let loader = Files::new(alloc, files);
+    if let Some(words) = command.strip_prefix("idltool") {
+        return tool_told(alloc, words, loader);
+    }
+    let words = command.strip_prefix("idlc").unwrap_or(command);
+    told(alloc, words, loader, "")
 }
 
-/// The same over the files of a loader.
+/// What `idlc` gives for these words, over the files of a loader and this input.
 pub fn told<L: Loader + Drop>(
     alloc: Global,
     words: &str,
@@ -103,41 +100,36 @@ pub fn told<L: Loader + Drop>(
         errors: BufferSink::new(alloc, ROOM)?,
     };
     let status = run_program(alloc, &list, &mut devices);
-    text_of(
-        alloc,
-        status,
-        devices.output.as_bytes(),
-        devices.errors.as_bytes(),
-    )
+    text_of(alloc, status, &devices.output, &devices.errors)
 }
 
-/// What the second program gives, over files of a text.
-pub fn tool_given(alloc: Global, words: &str, files: &str) -> Result<String, AllocError> {
+fn tool_told(alloc: Global, words: &str, loader: Files<'_>) -> Result<String, AllocError> {
     let list = list_of(alloc, words)?;
     let mut devices = idl_tool::Devices {
-        loader: Files::new(alloc, files),
+        loader,
         output: BufferSink::new(alloc, ROOM)?,
         errors: BufferSink::new(alloc, ROOM)?,
     };
     let status = run_tool(alloc, &list, &mut devices);
-    text_of(
-        alloc,
-        status,
-        devices.output.as_bytes(),
-        devices.errors.as_bytes(),
-    )
+    text_of(alloc, status, &devices.output, &devices.errors)
 }
 
 // The status, and what was written.
 fn text_of(
     alloc: Global,
     status: Status,
-    output: &[u8],
-    errors: &[u8],
+    output: &BufferSink,
+    errors: &BufferSink,
 ) -> Result<String, AllocError> {
     let mut text = format!(in alloc; "{}", status.code())?;
-    push_lines(&mut text, " out ", output)?;
-    push_lines(&mut text, " err ", errors)?;
+    if !output.as_bytes().is_empty() {
+        let lines = String::from_utf8_lossy(alloc, output.as_bytes())?;
+        write!(text, " out {}", lines.replace(alloc, "\n", " /")?)?;
+    }
+    if !errors.as_bytes().is_empty() {
+        let lines = String::from_utf8_lossy(alloc, errors.as_bytes())?;
+        write!(text, " err {}", lines.replace(alloc, "\n", " /")?)?;
+    }
     Ok(text)
 }
 
@@ -152,51 +144,65 @@ fn list_of<'w>(alloc: Global, words: &'w str) -> Result<Vec<&'w str>, AllocError
     Ok(list)
 }
 
-fn push_lines(text: &mut String, title: &str, bytes: &[u8]) -> Result<(), AllocError> {
-    let Ok(lines) = str::from_utf8(bytes) else {
-        return Ok(());
-    };
-    if !lines.is_empty() {
-        text.push_str(title)?;
-        for c in lines.chars() {
-            match c {
-                '\n' => text.push_str(" /")?,
-                c => text.push(c)?,
-            }
+/// Each row of these tables has a program with its words, files, and what it gives, with ` => ` between.
+pub fn are_given(rt: &impl Host, tables: &[&str]) -> Result<(), Fail> {
+    for table in tables {
+        for row in table.split('\n') {
+            is_given(rt, row)?;
         }
     }
     Ok(())
 }
 
-/// Each row: words, files, and what the second program gives.
-pub fn are_tool_given(rt: &impl Host, rows: &[(&str, &str, &str)]) -> Result<(), Fail> {
-    for (words, files, want) in rows {
-        let got = tool_given(rt.alloc(), words, files)?;
-        assert_eq!(rt; got.as_str(), *want, "{words} over {files}");
-    }
+/// The same of one row.
+pub fn is_given(rt: &impl Host, row: &str) -> Result<(), Fail> {
+    let (command, files, want) = parts_of(row);
+    let got = given(rt.alloc(), command, files)?;
+    assert_eq!(rt; got.as_str(), want, "{row}");
     Ok(())
 }
 
-/// Each row: words, files, and what the program gives.
-pub fn are_given(rt: &impl Host, rows: &[(&str, &str, &str)]) -> Result<(), Fail> {
-    for (words, files, want) in rows {
-        let got = given(rt.alloc(), words, files, "")?;
-        assert_eq!(rt; got.as_str(), *want, "{words} over {files}");
-    }
-    Ok(())
+/// The three parts of a row.
+pub fn parts_of(row: &str) -> (&str, &str, &str) {
+    let (words, rest) = row.split_once(" => ").unwrap_or((row, ""));
+    let (files, want) = rest.split_once(" => ").unwrap_or((rest, ""));
+    (words, files, want)
 }
 
-/// The same of the second program, for each of these names with the name for each `@`.
-pub fn are_given_so(rt: &impl Host, names: &str, row: (&str, &str, &str)) -> Result<(), Fail> {
+/// The same of a row in which each of these names, with blanks between, stands for `@`.
+pub fn are_given_so(rt: &impl Host, names: &str, row: &str) -> Result<(), Fail> {
     for name in names.split(' ') {
-        is_given_so(rt, name, row)?;
+        let row = row.replace(rt.alloc(), "@", name)?;
+        is_given(rt, row.as_str())?;
     }
     Ok(())
 }
 
-fn is_given_so(rt: &impl Host, name: &str, row: (&str, &str, &str)) -> Result<(), Fail> {
-    let words = row.0.replace(rt.alloc(), "@", name)?;
-    let files = row.1.replace(rt.alloc(), "@", name)?;
-    let want = row.2.replace(rt.alloc(), "@", name)?;
-    are_tool_given(rt, &[(words.as_str(), files.as_str(), want.as_str())])
+/// What `idlc --session` replies.
+pub fn replies(alloc: Global, commands: &str) -> Result<String, AllocError> {
+    told(alloc, "--session", Files::new(alloc, ""), commands)
+}
+
+/// For each text, with ` ¶ ` between one and the next, a new session replies to the lines without `=` by the other lines.
+pub fn have_replies(rt: &impl Host, texts: &[&str]) -> Result<(), Fail> {
+    for list in texts {
+        for text in list.split(" ¶ ") {
+            has_replies(rt, text)?;
+        }
+    }
+    Ok(())
+}
+
+fn has_replies(rt: &impl Host, text: &str) -> Result<(), Fail> {
+    let mut script = String::new(rt.alloc());
+    let mut want = String::from_str(rt.alloc(), "0 out ")?;
+    for line in text.split('\n') {
+        match line.strip_prefix('=') {
+            Some(line) => write!(want, "{line} /")?,
+            None => write!(script, "{line}\n")?,
+        }
+    }
+    let got = replies(rt.alloc(), script.as_str())?;
+    assert_eq!(rt; got.as_str(), want.as_str(), "{script}");
+    Ok(())
 }

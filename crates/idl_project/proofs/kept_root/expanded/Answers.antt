@@ -2,10 +2,8 @@
 use Rattle.std.proofs.Common.{◌≡◌, ◌⊎◌, ◌∙◌, ℕ, List, ap, inl, inr, subst, sym}
 use Rattle.idl_memo.specs.declared.meter.Meter.{Meter}
 use Rattle.idl_prep.specs.Root.{expanded}
-use Rattle.idl_root.specs.AsBefore.{IsAsBefore}
-use Rattle.idl_root.specs.Results.{IsKeptOf}
-use Rattle.idl_root.specs.declared.kept.marks.Mark.{Mark}
-use Rattle.idl_store.specs.Stored.{list_at}
+use Rattle.idl_root.specs.AsBefore.{IsAsBefore, kept_lists}
+use Rattle.idl_root.specs.Results.{IsKeptOf, RootMarks}
 use Rattle.idl_project.specs.Renewed.{IsDrafted}
 use Rattle.idl_project.proofs.KeptLemmas.{IsAsBefore-metered, IsDrafted-metered, none-weaker}
 use Rattle.idl_project.proofs.kept_root.expanded.Goals as goal
@@ -13,9 +11,8 @@ use Rattle.idl_project.proofs.kept_root.expanded.Goals as goal
 pub compile_kept-requires-clause-kept : goal.compile_kept-requires-clause-kept
 compile_kept-requires-clause-kept g c =
     let kept = c.requires.kept in
-    let declarations = list_at c.args.keeper.now.declarations.lists c.args.root.at in
-    let entries = list_at c.args.keeper.now.entries.lists c.args.root.at in
-    (kept.0, subst (λ (ms : List Mark). IsKeptOf kept.0 ms declarations entries) (sym c.deref-2.ensures) kept.1, kept.2)
+    let lists = kept_lists c.args.keeper.now c.args.root.at in
+    (kept.0, subst (λ (ms : RootMarks). IsKeptOf kept.0 ms lists) (sym c.deref-2.ensures) kept.1, kept.2)
 
 pub returns-clause-tasks : goal.returns-clause-tasks
 returns-clause-tasks g c = λ was own.
@@ -23,19 +20,19 @@ returns-clause-tasks g c = λ was own.
     let old = c.args.keeper.now in
     let new = c.compile_kept.new.keeper in
     let root = c.args.root in
-    let declarations = list_at old.declarations.lists root.at in
-    let entries = list_at old.entries.lists root.at in
+    let lists = kept_lists old root.at in
     let name : c.in_ok-result.result.value.text ≡ root.name = c.in_ok-result.ensures.text ∙ c.new.ensures in
     let checked : c.run_anew.new.meter.checked ≡ c.args.meter.now.checked = ap (λ (m : Meter). m.checked) c.in_ok-result.ensures.count in
     let printed : c.run_anew.new.meter.printed ≡ c.args.meter.now.printed = ap (λ (m : Meter). m.printed) c.in_ok-result.ensures.count in
+    let compared : c.run_anew.new.meter.compared ≡ c.args.meter.now.compared = ap (λ (m : Meter). m.compared) c.in_ok-result.ensures.count in
     let made =
     subst
     (λ (n : List ℕ). IsAsBefore was (expanded n bank).0 old new c.run_anew.new.meter c.compile_kept.new.meter ⊎ IsDrafted bank root.at n old new c.run_anew.new.meter c.compile_kept.new.meter)
     (ap (λ k. k.text) c.deref.ensures ∙ name)
-    (c.in_ok-compiled.ensures.tasks was (subst (λ (ms : List Mark). IsKeptOf was ms declarations entries) (sym c.deref-2.ensures) own)) in
+    (c.in_ok-compiled.ensures.tasks was (subst (λ (ms : RootMarks). IsKeptOf was ms lists) (sym c.deref-2.ensures) own)) in
     elim made [
-      | inl left ↦ inl (IsAsBefore-metered was (expanded root.name bank).0 old new c.args.meter.now c.run_anew.new.meter c.compile_kept.new.meter checked printed left)
-      | inr anew ↦ inr (IsDrafted-metered bank root.at root.name old new c.args.meter.now c.run_anew.new.meter c.compile_kept.new.meter checked printed anew)
+      | inl left ↦ inl (IsAsBefore-metered was (expanded root.name bank).0 old new c.args.meter.now c.run_anew.new.meter c.compile_kept.new.meter checked printed compared left)
+      | inr anew ↦ inr (IsDrafted-metered bank root.at root.name old new c.args.meter.now c.run_anew.new.meter c.compile_kept.new.meter checked printed compared anew)
     ]
 
 pub returns-clause-first : goal.returns-clause-first
@@ -47,8 +44,9 @@ returns-clause-first g c =
     let name : c.in_ok-result.result.value.text ≡ root.name = c.in_ok-result.ensures.text ∙ c.new.ensures in
     let checked : c.run_anew.new.meter.checked ≡ c.args.meter.now.checked = ap (λ (m : Meter). m.checked) c.in_ok-result.ensures.count in
     let printed : c.run_anew.new.meter.printed ≡ c.args.meter.now.printed = ap (λ (m : Meter). m.printed) c.in_ok-result.ensures.count in
+    let compared : c.run_anew.new.meter.compared ≡ c.args.meter.now.compared = ap (λ (m : Meter). m.compared) c.in_ok-result.ensures.count in
     none-weaker root.compiled
     (λ made.
-    IsDrafted-metered bank root.at root.name old new c.args.meter.now c.run_anew.new.meter c.compile_kept.new.meter checked printed
+    IsDrafted-metered bank root.at root.name old new c.args.meter.now c.run_anew.new.meter c.compile_kept.new.meter checked printed compared
     (subst (λ (n : List ℕ). IsDrafted bank root.at n old new c.run_anew.new.meter c.compile_kept.new.meter) (ap (λ k. k.text) c.deref.ensures ∙ name) made))
     c.in_ok-compiled.ensures.first

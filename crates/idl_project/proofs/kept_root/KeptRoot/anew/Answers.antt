@@ -1,14 +1,11 @@
 -- Nothing is kept of it yet.
-use Rattle.std.proofs.Common.{[], List, subst, sym}
-use Rattle.idl_root.specs.declared.kept.marks.Mark.{Mark}
-use Rattle.idl_root.specs.Results.{IsKeptOf}
-use Rattle.idl_store.specs.Stored.{list_at}
-use Rattle.idl_project.proofs.KeptLemmas.{IsKeptOf-none}
+use Rattle.std.proofs.Common.{◌≡◌, [], subst, sym}
+use Rattle.idl_root.specs.AsBefore.{kept_lists}
+use Rattle.idl_root.specs.Results.{IsKeptOf, KeptLists, RootMarks}
 use Rattle.idl_project.proofs.kept_root.KeptRoot.anew.Goals as goal
 
 pub expanded-requires-clause-kept : goal.expanded-requires-clause-kept
 expanded-requires-clause-kept g c =
-    let declarations = list_at c.args.keeper.now.declarations.lists c.args.root.0 in
-    let entries = list_at c.args.keeper.now.entries.lists c.args.root.0 in
-    let none = IsKeptOf-none declarations entries c.none.result c.none.ensures c.requires.declarations c.requires.entries in
-    ([], subst (λ (ms : List Mark). IsKeptOf [] ms declarations entries) (sym c.in_ok-none.ensures.ok) none, tt)
+    let lists : KeptLists = kept_lists c.args.keeper.now c.args.root.0 in
+    let none : IsKeptOf [] c.none.result lists = subst (λ (ls : KeptLists). IsKeptOf [] c.none.result ls) (sym c.requires.none) c.none.ensures in
+    ([], subst (λ (ms : RootMarks). IsKeptOf [] ms lists) (sym c.in_ok-none.ensures.ok) none, tt)

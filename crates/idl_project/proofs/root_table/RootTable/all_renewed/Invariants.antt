@@ -6,14 +6,15 @@ use Rattle.std.specs.Str.{bytes_eq}
 use Rattle.idl_event.specs.Key.{key_eq}
 use Rattle.idl_memo.specs.Cause.{changed}
 use Rattle.idl_memo.specs.Meter.{compared_after, most_compared}
-use Rattle.idl_root.specs.Results.{declaration_result, entry_result, fresh_declarations, fresh_entries}
+use Rattle.idl_root.specs.AsBefore.{AreListsLeft}
+use Rattle.idl_root.specs.Results.{entry_result, fresh_declarations, fresh_entries}
+use Rattle.idl_root_blocks.specs.Places.{block_result, declaration_result}
 use Rattle.idl_project.specs.Bank.{bank_of}
-use Rattle.idl_project.specs.Renewed.{AreListsLeft}
-use Rattle.idl_project.specs.Tasks.{declarations_at, entries_at}
+use Rattle.idl_project.specs.Compared.{compared_in, met_among, met_between, tasks_of, with_tasks}
+use Rattle.idl_project.specs.Tasks.{begin_list, blocks_at, declarations_at, entries_at}
 use Rattle.idl_project.specs.UpToDate.{AreKept}
-use Rattle.idl_project.specs.Work.{compared_keys}
 use Rattle.idl_project.proofs.KeptLemmas.{stale_roots}
-use Rattle.idl_project.proofs.StoreLemmas.{IsUnderWay}
+use Rattle.idl_project.proofs.StoreLemmas.{IsPlacing, IsUnderWay, uncounted}
 use Rattle.idl_project.proofs.root_table.RootTable.all_renewed.Given as goal
 
 -- what was counted and what is still to be counted are all
@@ -21,16 +22,20 @@ abbrev pub invariant-loop-root : goal.invariant-loop-root
 invariant-loop-root l =
     let before = bank_of l.fn.edited.base.now in
     let after = changed key_eq before l.fn.edited.key.now (option_copied l.fn.edited.answer) in
+    let names = keys_of l.fn.self in
     record {
       roots : keys_of l.table ++ keys_of l.root-iterator ≡ keys_of l.fn.self;
       distinct : IsDistinct bytes_eq (keys_of l.table ++ keys_of l.root-iterator);
       kept : AreKept after l.table;
       kept_left : AreKept before l.root-iterator;
       expanded : l.meter.expanded + stale_roots before after (keys_of l.root-iterator) ≡ stale_roots before after (keys_of l.fn.self);
-      compared : compared_after l.meter.compared (compared_keys before after (keys_of l.root-iterator)) ≡ compared_after 0 (compared_keys before after (keys_of l.fn.self));
+      compared : compared_after l.meter.compared (compared_in (met_among (with_tasks (tasks_of before names) (tasks_of after (keys_of l.table))) after (keys_of l.root-iterator)))
+          ≡ compared_after 0 (compared_in (met_between before names after names));
       fits : l.meter.compared ≤ most_compared;
       room : l.meter.expanded + length l.root-iterator ≤ length l.fn.self;
       lists : AreListsLeft l.fn.keeper l.keeper;
-      declarations : IsUnderWay declaration_result (declarations_at before) (declarations_at after) fresh_declarations (keys_of l.table) (keys_of l.root-iterator) l.keeper.declarations l.meter.checked;
+      declarations : IsUnderWay declaration_result (declarations_at before) (declarations_at after) fresh_declarations (keys_of l.table) (keys_of l.root-iterator) l.keeper.texts.declarations l.meter.checked;
+      blocks : IsUnderWay block_result (blocks_at before) (blocks_at after) uncounted (keys_of l.table) (keys_of l.root-iterator) l.keeper.texts.blocks 0;
+      begins : IsPlacing (begin_list before) (begin_list after) (keys_of l.table) (keys_of l.root-iterator) l.keeper.texts.begins;
       entries : IsUnderWay entry_result (entries_at before) (entries_at after) fresh_entries (keys_of l.table) (keys_of l.root-iterator) l.keeper.entries l.meter.printed;
     }

@@ -1,4 +1,4 @@
-use Rattle.std.proofs.Common.{◌≡◌, ◌∙◌, ◌∷◌, ◌++◌, [], cond, length, List, ℕ, not, Result, Ok, Err, true, false, refl, sym, ap, subst}
+use Rattle.std.proofs.Common.{◌≡◌, Bool, ◌∙◌, ◌∷◌, ◌++◌, [], cond, length, List, ℕ, not, Result, Ok, Err, true, false, refl, sym, ap, subst}
 use Rattle.std.proofs.lemmas.List.{map-append}
 use Rattle.std.proofs.lemmas.Map.Entries.{length-keys_of}
 use Rattle.std.proofs.lemmas.Map.Keys.{IsDistinct-push}
@@ -9,26 +9,30 @@ use Rattle.std.specs.Option.{option_eq}
 use Rattle.std.specs.Prelude.{nat_le}
 use Rattle.std.specs.Str.{bytes_eq}
 use Rattle.idl_event.specs.contracts.asked.key.RootAnswerPartialEq.TheImpl.{ghosts}
-use Rattle.idl_memo.specs.Fresh.{fresh_among, places_over}
-use Rattle.idl_memo.specs.declared.meter.Meter.{Meter}
+use Rattle.idl_event.specs.declared.asked.key.RootAnswer.{RootAnswer}
+use Rattle.idl_memo.specs.Fresh.{fresh_among, is_alike, places_over}
+use Rattle.idl_memo.specs.Meter.{compared_after}
 use Rattle.idl_prep.specs.Root.{expansion}
 use Rattle.idl_source.specs.Limits.{most_roots}
 use Rattle.idl_source.specs.names.Name.{is_name}
 use Rattle.idl_source.specs.declared.refusal.Refusal.{Refusal}
 use Rattle.idl_source.specs.declared.refusal.Refusal.TheVariants.{BadName, OverLimit, RootThere}
+use Rattle.idl_kept.specs.Texts.{Texts}
 use Rattle.idl_store.specs.Stored.{with_draft}
-use Rattle.idl_root.specs.Results.{declaration_result, entry_result, fresh_declarations, fresh_entries}
+use Rattle.idl_root.specs.Results.{entry_result, fresh_declarations, fresh_entries}
+use Rattle.idl_root_blocks.specs.Places.{block_result, declaration_result}
 use Rattle.idl_project.specs.Bank.{bank_of}
-use Rattle.idl_project.specs.Tasks.{declaration_list, declarations_among, declarations_at, entries_among, entries_at, entry_list}
+use Rattle.idl_project.specs.Compared.{compared_in, met_between}
+use Rattle.idl_project.specs.Tasks.{alike_root, begin_list, block_list, declaration_list, declarations_among, declarations_at, entries_among, entries_at, entry_list}
 use Rattle.idl_project.specs.Edits.{AddRoot, after, result_map, roots_with}
 use Rattle.idl_project.specs.Project.{Project, is_root, with_roots}
 use Rattle.idl_project.specs.UpToDate.{IsUpToDate, State}
-use Rattle.idl_project.specs.Work.{staying, work_of}
+use Rattle.idl_project.specs.Work.{work_of}
 use Rattle.idl_project.specs.declared.kept_root.KeptRoot.{KeptRoot}
-use Rattle.idl_project.specs.declared.work.Work.{Work}
 use Rattle.idl_project.proofs.FormLemmas.{after-formed}
-use Rattle.idl_project.proofs.KeptLemmas.{work-roots}
-use Rattle.idl_project.proofs.RootLemmas.{IsUpToDate-left, IsUpToDate-push, list-more, staying-push}
+use Rattle.idl_project.proofs.AddedLemmas.{compared-added}
+use Rattle.idl_project.proofs.KeptLemmas.{answer_eq-derived, keys_asked-kept, work-roots}
+use Rattle.idl_project.proofs.RootLemmas.{IsUpToDate-left, IsUpToDate-push, list-more}
 use Rattle.idl_project.proofs.StoreLemmas.{fresh-more}
 use Rattle.idl_project.proofs.session.Session.add_root.Goals as goal
 
@@ -71,14 +75,20 @@ invariant_of-self-2 c =
     let grown : c.add_anew.new.self ≡ held ++ (root, one.kept) ∷ [] = one.last ∙ ap (λ (rs : List (List ℕ × KeptRoot)). rs ++ (root, one.kept) ∷ []) c.reserve_one.ensures in
     let place : length c.reserve_one.new.self ≡ length (keys_of held) = ap (λ (rs : List (List ℕ × KeptRoot)). length rs) c.reserve_one.ensures ∙ sym (length-keys_of held) in
     let tasks = c.in_ok-add_anew.ensures.tasks in
-    let declarations = c.commit.ensures.declarations
-    ∙ list-more declaration_result (declarations_at bank) (keys_of held) root c.self.inside.keeper.declarations c.add_anew.new.keeper.declarations c.self.invariant.declarations
-    (tasks.declarations ∙ ap (λ n. with_draft c.self.inside.keeper.declarations n (declaration_list bank root)) place) in
+    let names = keys_of held in
+    let old = c.self.inside.keeper in
+    let made = c.add_anew.new.keeper in
+    let was = c.self.invariant.texts in
+    let texts = c.commit.ensures.texts ∙ (λ i. record {
+      declarations = list-more (declaration_list bank) names root old.texts.declarations made.texts.declarations (ap (λ (t : Texts). t.declarations) was)
+          (tasks.declarations ∙ ap (λ n. with_draft old.texts.declarations n (declaration_list bank root)) place) i;
+      blocks = list-more (block_list bank) names root old.texts.blocks made.texts.blocks (ap (λ (t : Texts). t.blocks) was) (tasks.blocks ∙ ap (λ n. with_draft old.texts.blocks n (block_list bank root)) place) i;
+      begins = list-more (begin_list bank) names root old.texts.begins made.texts.begins (ap (λ (t : Texts). t.begins) was) (tasks.begins ∙ ap (λ n. with_draft old.texts.begins n (begin_list bank root)) place) i;
+    }) in
     let entries = c.commit.ensures.entries
-    ∙ list-more entry_result (entries_at bank) (keys_of held) root c.self.inside.keeper.entries c.add_anew.new.keeper.entries c.self.invariant.entries
-    (tasks.entries ∙ ap (λ n. with_draft c.self.inside.keeper.entries n (entry_list bank root)) place) in
+    ∙ list-more (entry_list bank) names root old.entries made.entries c.self.invariant.entries (tasks.entries ∙ ap (λ n. with_draft old.entries n (entry_list bank root)) place) in
     subst (λ (more : List (List ℕ × KeptRoot)). IsUpToDate inputs more c.commit.new.self) (sym grown)
-    (IsUpToDate-push inputs held c.commit.new.self root one.kept c.self.invariant.kept one.is_kept (after-formed project new (AddRoot c.args.name.now) c.self.invariant.formed is) declarations entries)
+    (IsUpToDate-push inputs held c.commit.new.self root one.kept c.self.invariant.kept one.is_kept (after-formed project new (AddRoot c.args.name.now) c.self.invariant.formed is) texts entries)
 
 pub returns : goal.returns
 returns c =
@@ -93,18 +103,26 @@ returns c =
     let grown : more ≡ held ++ (root, made.kept) ∷ [] = made.last ∙ ap (λ (rs : List (List ℕ × KeptRoot)). rs ++ (root, made.kept) ∷ []) c.reserve_one.ensures in
     let names : keys_of more ≡ keys_of held ++ root ∷ [] =
     ap (λ (es : List (List ℕ × KeptRoot)). keys_of es) grown ∙ map-append (λ (e : List ℕ × KeptRoot). e.0) held ((root, made.kept) ∷ []) in
-    let stay : staying (keys_of held) (keys_of more) ≡ keys_of held = ap (staying (keys_of held)) names ∙ staying-push (keys_of held) root new in
     let one = c.one_bank.ensures.one_more bank (keys_of held) root (IsDistinct-push nat_list_eq_equiv (keys_of held) root c.self.invariant.formed.roots_once new) in
     let fresh = subst (λ (ns : List (List ℕ)). fresh_among bytes_eq (option_eq ghosts.eq) expansion (places_over bank (keys_of held)) (places_over bank ns) ≡ 1) (sym names) one in
     let tasks = c.in_ok-add_anew.ensures.tasks in
-    let checked : c.add_anew.new.meter.checked ≡ fresh_declarations (declarations_among bank (keys_of held)) (declarations_among bank (keys_of more)) =
-    fresh-more declaration_result (declarations_at bank) fresh_declarations c.fresh_tasks.ensures.declarations_aside (keys_of held) root c.self.inside.keeper.declarations 0 c.add_anew.new.meter.checked c.self.invariant.declarations refl tasks.checked.count
+    let old = c.self.inside.keeper in
+    let was = c.self.invariant.texts in
+    let meter = c.add_anew.new.meter in
+    let checked : meter.checked ≡ fresh_declarations (declarations_among bank (keys_of held)) (declarations_among bank (keys_of more)) =
+    fresh-more declaration_result (declarations_at bank) fresh_declarations c.fresh_tasks.ensures.declarations_aside (keys_of held) root old.texts.declarations 0 meter.checked (ap (λ (t : Texts). t.declarations) was) refl tasks.checked.count
     ∙ ap (λ (ns : List (List ℕ)). fresh_declarations (declarations_among bank (keys_of held)) (declarations_among bank ns)) (sym names) in
-    let printed : c.add_anew.new.meter.printed ≡ fresh_entries (entries_among bank (keys_of held)) (entries_among bank (keys_of more)) =
-    fresh-more entry_result (entries_at bank) fresh_entries c.fresh_tasks.ensures.entries_aside (keys_of held) root c.self.inside.keeper.entries 0 c.add_anew.new.meter.printed c.self.invariant.entries refl tasks.printed.count
+    let printed : meter.printed ≡ fresh_entries (entries_among bank (keys_of held)) (entries_among bank (keys_of more)) =
+    fresh-more entry_result (entries_at bank) fresh_entries c.fresh_tasks.ensures.entries_aside (keys_of held) root old.entries 0 meter.printed c.self.invariant.entries refl tasks.printed.count
     ∙ ap (λ (ns : List (List ℕ)). fresh_entries (entries_among bank (keys_of held)) (entries_among bank ns)) (sym names) in
+    let itself : (name : List ℕ) → alike_root (name, bank) (name, bank) ≡ true = λ name.
+    subst (λ (e : RootAnswer → RootAnswer → Bool). is_alike bytes_eq (option_eq e) expansion (name, bank) (name, bank) ≡ true) answer_eq-derived
+    ((c.freshness.ensures.class (name, bank) (name, bank)).1 (refl, refl)) in
+    let asked = c.keys_asked.ensures ∙ ap (compared_after 0) (sym (keys_asked-kept bank held c.self.invariant.kept)) in
+    let compared : meter.compared ≡ compared_after 0 (compared_in (met_between bank (keys_of held) bank (keys_of more))) =
+    compared-added c.comparing.ensures.entries_none c.comparing.ensures.entries_more c.comparing.ensures.same bank itself (keys_of held) root old c.keys_asked.result meter.compared was c.self.invariant.entries new asked tasks.compared
+    ∙ ap (λ (ns : List (List ℕ)). compared_after 0 (compared_in (met_between bank (keys_of held) bank ns))) (sym names) in
     let room : nat_le most_roots (length (keys_of held)) ≡ false = ap (nat_le most_roots) (length-keys_of held) ∙ sym c.is_full.ensures ∙ c.if-is_full.false in
-    let counts : Meter → Work = λ m. record { expanded = m.expanded; checked = m.checked; printed = m.printed; compared = m.compared } in
     record {
       project =
           ap (λ (state : State). after state.project (AddRoot c.args.name.now)) (sym c.self.view_is)
@@ -113,8 +131,7 @@ returns c =
       kept = refl;
       told =
           c.counted-self-inside.ensures
-          ∙ ap counts c.in_ok-add_anew.ensures.counts
-          ∙ (λ i. record { expanded = 1; checked = c.add_anew.new.meter.checked; printed = c.add_anew.new.meter.printed; compared = c.keys_asked.ensures i })
-          ∙ work-roots bank (keys_of held) (keys_of more) held 1 c.add_anew.new.meter.checked c.add_anew.new.meter.printed c.self.invariant.kept stay fresh (c.one_bank.ensures.stay bank (keys_of held)) checked printed
+          ∙ (λ i. record { expanded = c.in_ok-add_anew.ensures.count i; checked = meter.checked; printed = meter.printed; compared = meter.compared })
+          ∙ work-roots bank (keys_of held) (keys_of more) 1 meter.checked meter.printed meter.compared fresh checked printed compared
           ∙ ap (λ (state : State). work_of state.project after_add) c.self.view_is;
     }

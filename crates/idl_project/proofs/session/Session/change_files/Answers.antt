@@ -1,9 +1,8 @@
 use Rattle.std.proofs.Common.{◌≡◌, ◌∙◌, ℕ, List, Ok, refl, ap, subst, sym}
 use Rattle.std.specs.Map.{keys_of}
 use Rattle.idl_event.specs.declared.asked.key.RootKey.TheVariants as keys
-use Rattle.idl_store.specs.Stored.{Stored}
-use Rattle.idl_root.specs.Results.{DeclarationResult, EntryResult}
 use Rattle.idl_source.specs.texts.Texts.{Texts}
+use Rattle.idl_project.specs.Bank.{bank_of}
 use Rattle.idl_project.specs.Project.{Inputs, Project, with_files}
 use Rattle.idl_project.specs.UpToDate.{IsUpToDate, State}
 use Rattle.idl_project.specs.WellFormed.{IsWellFormed}
@@ -19,9 +18,8 @@ invariant_of-self c = IsUpToDate-left c.self.inside.bank c.self.inside.roots c.s
 
 pub invariant_of-self-in-Err : goal.invariant_of-self-in-Err
 invariant_of-self-in-Err c =
-    let left = IsKeeperLeft-discarded c.self.inside.keeper c.renewed.new.keeper c.discard.new.self
-    (ap (λ (s : Stored DeclarationResult). s.drafts) c.self.invariant.declarations) (ap (λ (s : Stored EntryResult). s.drafts) c.self.invariant.entries)
-    c.renewed.ensures.lists c.discard.ensures.declarations c.discard.ensures.entries in
+    let left = IsKeeperLeft-discarded (bank_of c.self.inside.bank) (keys_of c.self.inside.roots) c.self.inside.keeper c.renewed.new.keeper c.discard.new.self
+    c.self.invariant.texts c.self.invariant.entries c.renewed.ensures.lists c.discard.ensures.texts c.discard.ensures.entries in
     subst (λ (inputs : Inputs). IsUpToDate inputs c.self.inside.roots c.discard.new.self) (sym c.in-Err.ensures.err)
     (IsUpToDate-left c.self.inside.bank c.self.inside.roots c.self.inside.keeper c.discard.new.self c.self.invariant left)
 
@@ -31,7 +29,7 @@ invariant_of-self-2 c =
     (c.in_default.ensures.ok ∙ ap (λ (state : State). record state.project.inputs { files = c.args.files }) c.self.view_is)
     (c.in_ok-renewed.ensures.renewed.roots ∙ ap (λ (state : State). state.project.roots) c.self.view_is) in
     IsUpToDate-edited c.self.inside.bank c.set_files.new.self c.self.inside.roots c.in_ok-renewed.renewed c.renewed.new.keeper c.commit.new.self _ (keys.File c.in_ok-name.name) _ c.in_ok-answer.answer
-    c.in_ok-renewed.ensures.renewed c.commit.ensures.declarations c.commit.ensures.entries
+    c.in_ok-renewed.ensures.renewed c.commit.ensures.texts c.commit.ensures.entries
     (ap keys.File c.in_ok-clone.ensures.cases) c.as_ref-given.ensures.value c.in_default.ensures.bank
     (subst (λ (p : Project). IsWellFormed p) is c.requires.formed)
 

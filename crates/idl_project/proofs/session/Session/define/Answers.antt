@@ -6,8 +6,7 @@ use Rattle.indexmap.specs.IndexMap.{insert_entry}
 use Rattle.idl_event.specs.declared.asked.key.RootAnswer.TheVariants as answers
 use Rattle.idl_event.specs.declared.asked.key.RootKey.TheVariants as keys
 use Rattle.idl_project.specs.Edits.{Define, after, macros_with}
-use Rattle.idl_store.specs.Stored.{Stored}
-use Rattle.idl_root.specs.Results.{DeclarationResult, EntryResult}
+use Rattle.idl_project.specs.Bank.{bank_of}
 use Rattle.idl_project.specs.Project.{Inputs, Project}
 use Rattle.idl_project.specs.UpToDate.{IsUpToDate, State}
 use Rattle.idl_project.proofs.EditLemmas.{define-accepted, define-refused}
@@ -33,9 +32,8 @@ invariant_of-self c = IsUpToDate-left c.self.inside.bank c.self.inside.roots c.s
 
 pub invariant_of-self-in-Err : goal.invariant_of-self-in-Err
 invariant_of-self-in-Err c =
-    let left = IsKeeperLeft-discarded c.self.inside.keeper c.renewed.new.keeper c.discard.new.self
-    (ap (λ (s : Stored DeclarationResult). s.drafts) c.self.invariant.declarations) (ap (λ (s : Stored EntryResult). s.drafts) c.self.invariant.entries)
-    c.renewed.ensures.lists c.discard.ensures.declarations c.discard.ensures.entries in
+    let left = IsKeeperLeft-discarded (bank_of c.self.inside.bank) (keys_of c.self.inside.roots) c.self.inside.keeper c.renewed.new.keeper c.discard.new.self
+    c.self.invariant.texts c.self.invariant.entries c.renewed.ensures.lists c.discard.ensures.texts c.discard.ensures.entries in
     subst (λ (inputs : Inputs). IsUpToDate inputs c.self.inside.roots c.discard.new.self) (sym c.in-Err.ensures.err)
     (IsUpToDate-left c.self.inside.bank c.self.inside.roots c.self.inside.keeper c.discard.new.self c.self.invariant left)
 
@@ -50,7 +48,7 @@ invariant_of-self-2 c =
     c.in_ok-renewed.ensures.renewed.roots in
     IsUpToDate-edited c.self.inside.bank c.define.new.self c.self.inside.roots c.in_ok-renewed.renewed c.renewed.new.keeper c.commit.new.self _ (keys.Macro word)
     (Some c.answer.result.now) (Some (answers.Macro (c.in_ok-body.body ∷ [])))
-    c.in_ok-renewed.ensures.renewed c.commit.ensures.declarations c.commit.ensures.entries (ap keys.Macro c.in_ok-clone.ensures.cases) (ap Some c.answer.ensures) c.in_default-define.ensures.bank
+    c.in_ok-renewed.ensures.renewed c.commit.ensures.texts c.commit.ensures.entries (ap keys.Macro c.in_ok-clone.ensures.cases) (ap Some c.answer.ensures) c.in_default-define.ensures.bank
     (after-formed project new (Define word c.args.body) c.self.invariant.formed is)
 
 pub returns : goal.returns

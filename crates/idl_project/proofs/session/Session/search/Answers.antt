@@ -22,7 +22,7 @@ invariant_of-self-2 c =
     (c.set_search.ensures.set ∙ ap (λ (list : List (List ℕ)). record project.inputs { search = list }) c.from_vec.ensures)
     c.in_ok-renewed.ensures.renewed.roots in
     IsUpToDate-edited c.self.inside.bank c.set_search.new.self c.self.inside.roots c.in_ok-renewed.renewed c.renewed.new.keeper c.commit.new.self keys.Search keys.Search _ _
-    c.in_ok-renewed.ensures.renewed c.commit.ensures.declarations c.commit.ensures.entries refl refl c.set_search.ensures.bank (after-formed project new (Search given) c.self.invariant.formed is)
+    c.in_ok-renewed.ensures.renewed c.commit.ensures.texts c.commit.ensures.entries refl refl c.set_search.ensures.bank (after-formed project new (Search given) c.self.invariant.formed is)
 
 pub returns : goal.returns
 returns c =

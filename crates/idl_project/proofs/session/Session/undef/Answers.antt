@@ -21,7 +21,7 @@ invariant_of-self-2 c =
     let is = undef-accepted project word c.undef.new.self new.roots (ap is_macro_word c.in_ok-word.ensures ∙ sym c.is_macro_word.ensures ∙ c.if-not-is_macro_word.false) c.undef.ensures.left
     c.in_ok-renewed.ensures.renewed.roots in
     IsUpToDate-edited c.self.inside.bank c.undef.new.self c.self.inside.roots c.in_ok-renewed.renewed c.renewed.new.keeper c.commit.new.self _ (keys.Macro word) _ None
-    c.in_ok-renewed.ensures.renewed c.commit.ensures.declarations c.commit.ensures.entries (ap keys.Macro c.in_ok-clone.ensures.cases) c.as_ref-answer.ensures.value c.undef.ensures.bank (after-formed project new (Undef word) c.self.invariant.formed is)
+    c.in_ok-renewed.ensures.renewed c.commit.ensures.texts c.commit.ensures.entries (ap keys.Macro c.in_ok-clone.ensures.cases) c.as_ref-answer.ensures.value c.undef.ensures.bank (after-formed project new (Undef word) c.self.invariant.formed is)
 
 pub returns : goal.returns
 returns c =

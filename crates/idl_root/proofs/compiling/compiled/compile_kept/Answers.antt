@@ -1,8 +1,13 @@
 -- The units are as they were, and all that is kept of them holds; or the root is compiled anew.
 use Rattle.std.proofs.Common.{◌≡◌, ◌∙◌, None, Some, ap, inl, inr, refl, subst, sym}
 use Rattle.std.specs.Option.{unwrap_or}
+use Rattle.idl_memo.specs.Meter.{compared_after}
+use Rattle.idl_memo.specs.declared.meter.Meter.{Meter}
 use Rattle.idl_root.specs.AsBefore.{AreAsBefore}
-use Rattle.idl_root.proofs.AsBeforeLemmas.{declarations-again, entries-again, turns-same}
+use Rattle.idl_root.specs.Compared.{root_keys}
+use Rattle.idl_root.specs.Results.{RootMarks}
+use Rattle.idl_root.proofs.AsBeforeLemmas.{declarations-again, entries-again, keys-again, pieces-again, turns-same}
+use Rattle.idl_root.proofs.MadeLemmas.{compared-again}
 use Rattle.idl_root.proofs.TakenLemmas.{at-some, none-holds, none-weaker, some-there}
 use Rattle.idl_unit.specs.Units.{units_of}
 use Rattle.idl_root.proofs.compiling.compiled.compile_kept.Goals as goal
@@ -26,7 +31,7 @@ returns-in-Some-clause-marks c =
     let same : AreAsBefore (units_of was) (units_of events) =
     subst (AreAsBefore (units_of was)) (c.as_slice.ensures ∙ c.in_ok-units.ensures)
     (at-some c.in_ok-compiled.field-0 c.in-Some.compiled _ c.in-Some.is c.in_ok-compiled.ensures.before was c.requires.1) in
-    c.requires.1.marks_are ∙ sym same.marks
+    c.requires.1.marks_are ∙ (λ i. record { marks = sym same.marks i; keys = compared_after 0 (sym (keys-again was events same) i) })
 
 pub returns-in-Some-clause-tasks : goal.returns-in-Some-clause-tasks
 returns-in-Some-clause-tasks c = λ was kept.
@@ -36,11 +41,16 @@ returns-in-Some-clause-tasks c = λ was kept.
     (at-some c.in_ok-compiled.field-0 c.in-Some.compiled _ c.in-Some.is c.in_ok-compiled.ensures.before was kept) in
     inl (record {
       declarations_are = declarations-again was events same;
+      pieces_are = pieces-again was events same;
       entries_are = entries-again was events same;
-      declarations = refl;
+      texts = refl;
       entries = refl;
-      checked = refl;
-      printed = refl;
+      checked = ap (λ (m : Meter). m.checked) c.compare.ensures.counts;
+      printed = ap (λ (m : Meter). m.printed) c.compare.ensures.counts;
+      compared =
+          let keys : c.keys.result ≡ compared_after 0 (root_keys events) =
+          c.keys.ensures ∙ ap (λ (m : RootMarks). m.keys) kept.marks_are ∙ ap (compared_after 0) (sym (keys-again was events same)) in
+          c.compare.ensures.keys ∙ compared-again c.args.meter.now.compared c.keys.result (root_keys events) keys;
     })
 
 pub returns-in-Some-clause-first : goal.returns-in-Some-clause-first

@@ -7,7 +7,10 @@ use Rattle.idl_root.specs.Printed.{closing_finding, listed_in}
 use Rattle.idl_root.specs.declared.compiling.finding.EventFinding.{EventFinding}
 use Rattle.idl_root.specs.declared.compiling.printing.Listed.{Listed as HeldListed}
 use Rattle.idl_root.proofs.AsBeforeLemmas.{closing-again, found-again, told-again}
-use Rattle.idl_store.specs.Stored.{list_at}
+use Rattle.idl_root.specs.Places.{declarations_of}
+use Rattle.idl_root.specs.Results.{DeclarationResult}
+use Rattle.idl_root_blocks.specs.Places.{declaration_result}
+use Rattle.idl_store.specs.Stored.{Stored, list_at}
 use Rattle.idl_unit.specs.Units.{units_of}
 use Rattle.idl_root.proofs.compiling.compiled.told_again.Goals as goal
 
@@ -19,19 +22,21 @@ returns c =
     let kept = c.requires.kept.1 in
     let same : AreAsBefore (units_of was) (units_of events) = subst (AreAsBefore (units_of was)) c.requires.units c.requires.kept.3 in
     let units = c.args.units.now in
-    let results = list_at c.args.keeper.now.declarations.lists root.at in
+    let results = list_at c.declarations.result.now.lists root.at in
+    let are : results ≡ map declaration_result (declarations_of was) =
+    ap (λ (t : Stored DeclarationResult). list_at t.lists root.at) c.declarations.ensures ∙ kept.declarations_are in
     let entries = list_at c.args.keeper.now.entries.lists root.at in
     let findings = c.in_ok-findings-2.findings.items in
     let found : c.into_findings.result.items ≡ (outcome_of events).found =
     search rules
     ∙ c.in_ok-again.ensures.findings
     ∙ ap (λ (l : List EventFinding). l ++ flat_map unit_finding (judged_beside units results)) (search rules)
-    ∙ found-again was events same units c.requires.units results kept.declarations_are in
+    ∙ found-again was events same units c.requires.units results are in
     let closing : c.in_ok-closing.closing.items ≡ flat_map (closing_finding (outcome_of events).facts) (outcome_of events).listed =
     c.in_ok-closing.ensures
     ∙ ap (λ l. closing_beside l entries)
     (c.in_ok-again.ensures.listed ∙ ap (λ (l : List HeldListed). map listed_at l ++ flat_map listed_in (judged_beside units results)) c.new.ensures.listed)
-    ∙ closing-again was events same units c.requires.units results entries kept.declarations_are kept.entries_are in
+    ∙ closing-again was events same units c.requires.units results entries are kept.entries_are in
     let own : c.from_vec.result ≡ findings = c.from_vec.ensures in
     let lent : c.deref.result.now ≡ findings = search rules in
     let wrong : c.has_error-is_faulty.result ≡ has_error findings = c.has_error-is_faulty.ensures ∙ ap has_error lent in

@@ -1,20 +1,12 @@
-use Rattle.std.proofs.Common.{◌≡◌, ◌∙◌, ◌||◌, Bool, false, true, ap, refl, sym}
-use Rattle.std.specs.Prelude.{IsFalse}
+use Rattle.std.proofs.Common.{◌∙◌, ap, sym}
 use Rattle.std.proofs.lemmas.Result.{IfOk-weaker}
 use Rattle.idl_env.specs.Stamps.{Kept, stamped_in, with_stamped}
 use Rattle.idl_env.specs.keys.Key.{key_eq}
 use Rattle.idl_env.specs.declared.keys.key.Key.TheVariants.{Typeprefix}
 use Rattle.idl_env.proofs.AnswerLaws.OthersLemmas.{no-typeprefixes}
 use Rattle.idl_env.proofs.StampLemmas.{kept-insert}
+use Rattle.idl_env.proofs.WriteLemmas.{neither-first, neither-second}
 use Rattle.idl_env.proofs.answering.answers.Answers.insert.Goals as goal
-
-neither-first : (a b : Bool) → IsFalse (a || b) → IsFalse a
-neither-first true b h = h
-neither-first false b h = refl
-
-neither-second : (a b : Bool) → IsFalse (a || b) → IsFalse b
-neither-second true b h = absurd (let z : true ≡ false = h in cc)
-neither-second false b h = h
 
 pub invariant_of-self : goal.invariant_of-self
 invariant_of-self c = λ none path.

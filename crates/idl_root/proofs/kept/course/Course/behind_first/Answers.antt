@@ -16,11 +16,13 @@ returns-in_ok-place-in-Judged-default c = λ lists f is.
 pub returns-in-Entered-default : goal.returns-in-Entered-default
 returns-in-Entered-default c = λ lists f is.
     let marks = c.in_ok-marks.field-0.1.now in
-    let here : c.args.self.marks.now ≡ mark.Entered ∷ marks = search rules in
-    behind-entered lists f c.args.self _ marks refl refl refl here is
+    let own = c.in-Entered-default._inside in
+    let here : c.args.self.marks.now ≡ mark.Entered own ∷ marks = search rules in
+    behind-entered lists f c.args.self _ marks refl refl refl own here is
 
 pub returns-in-Left-default : goal.returns-in-Left-default
 returns-in-Left-default c = λ lists f is.
     let marks = c.in_ok-marks.field-0.1.now in
-    let here : c.args.self.marks.now ≡ mark.Left ∷ marks = search rules in
-    behind-left lists f c.args.self _ marks refl refl refl here is
+    let own = c.in-Left-default._inside in
+    let here : c.args.self.marks.now ≡ mark.Left own ∷ marks = search rules in
+    behind-left lists f c.args.self _ marks refl refl refl own here is

@@ -1,19 +1,27 @@
-use Rattle.std.proofs.Common.{◌≡◌, ◌++◌, ◌∷◌, ◌∙◌, [], ap, subst, sym}
-use Rattle.idl_check.specs.declared.walk.verdict.Verdict.{Verdict}
+use Rattle.std.proofs.Common.{◌≡◌, ◌++◌, ◌∷◌, ◌∙◌, [], ap, rules, subst, sym}
 use Rattle.idl_root.specs.Followed.{IsFollowed}
 use Rattle.idl_root.specs.Judged.{verdict_over}
 use Rattle.idl_root.specs.Results.{DeclarationResult}
+use Rattle.idl_root.specs.declared.kept.keeping.Keeping.{Keeping}
 use Rattle.idl_root.proofs.TakenLemmas.{some-weaker}
+use Rattle.idl_store.specs.Stored.{Stored}
 use Rattle.idl_root.proofs.kept.keeping.Keeping.judged_anew.Goals as goal
 
 pub returns-clause-keeping : goal.returns-clause-keeping
 returns-clause-keeping c =
     let env = c.args.env.now in
     let before = c.args.following in
-    let lists = c.obtained.new.kept.lists in
+    let kept = c.obtained.new.kept.declarations in
+    let store = c.declarations.result.now in
     let earlier = c.obtained.new.self.earlier in
+    let shown : c.get-facts.result.now ≡ c.in_ok-declaration.declaration.value.out.writes = search rules in
     let facts : c.get-facts.result.now ≡ (verdict_over env c.args.text.now).writes =
-    c.get-facts.ensures ∙ ap (λ (v : Verdict). v.writes) (c.out.ensures ∙ ap (λ (k : DeclarationResult). k.out) (c.deref.ensures ∙ c.in_ok-declaration.ensures.obtained.result_is)) in
-    let own : IsFollowed lists earlier before env =
-    subst (λ e. IsFollowed lists e before env) (sym c.obtained.ensures.earlier) (subst (λ ls. IsFollowed ls c.args.self.now.earlier before env) (sym c.obtained.ensures.lists) c.requires) in
-    some-weaker c.in_ok-self.field-0 _ _ (λ f more. subst (λ w. IsFollowed lists earlier f (env ++ w ∷ [])) facts (more earlier own)) c.in_ok-self.ensures
+    shown ∙ ap (λ (k : DeclarationResult). k.out.writes) c.in_ok-declaration.ensures.obtained.result_is in
+    let same : c.obtained.new.self.earlier ≡ c.args.self.now.earlier = ap (λ (k : Keeping). k.earlier) c.obtained.ensures.rest in
+    let own : IsFollowed kept.lists earlier before env =
+    subst (λ e. IsFollowed kept.lists e before env) (sym same) (subst (λ ls. IsFollowed ls c.args.self.now.earlier before env) (sym c.obtained.ensures.lists) c.requires) in
+    let there : IsFollowed store.lists earlier before env = subst (λ (s : Stored DeclarationResult). IsFollowed s.lists earlier before env) (sym c.declarations.ensures) own in
+    some-weaker c.in_ok-self.field-0 _ _
+    (λ f more. subst (λ (s : Stored DeclarationResult). IsFollowed s.lists earlier f (env ++ (verdict_over env c.args.text.now).writes ∷ [])) c.declarations.ensures
+    (subst (λ w. IsFollowed store.lists earlier f (env ++ w ∷ [])) facts (more earlier there)))
+    c.in_ok-self.ensures

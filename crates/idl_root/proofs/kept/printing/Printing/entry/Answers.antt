@@ -1,4 +1,4 @@
-use Rattle.std.proofs.Common.{ap, subst, sym}
+use Rattle.std.proofs.Common.{◌≡◌, ◌∙◌, ap, length, rules, subst, sym}
 use Rattle.std.specs.Prelude.{IfOk}
 use Rattle.idl_env.specs.Facts.{answers}
 use Rattle.idl_memo.specs.declared.meter.Meter.{Meter}
@@ -6,14 +6,20 @@ use Rattle.idl_memo.specs.declared.task.TaskKind.TheVariants.{Print}
 use Rattle.idl_store.specs.Stored.{Stored}
 use Rattle.idl_root.specs.Followed.{IsEntryLast, IsPrinting}
 use Rattle.idl_root.specs.Places.{EntryPlace}
-use Rattle.idl_root.specs.Results.{EntryResult}
+use Rattle.idl_root.specs.Results.{EntryResult, entry_result}
 use Rattle.idl_root.proofs.TakenLemmas.{at-none, at-some, taken-last}
 use Rattle.idl_root.proofs.kept.printing.Printing.entry.Goals as goal
 
 pub returns-in-Some-clause-obtained : goal.returns-in-Some-clause-obtained
 returns-in-Some-clause-obtained c =
-    taken-last Print c.args.self.now.meter c.taken.new.self.meter c.taken.ensures.meter
-    (at-some c.in_ok-entry.field-0 c.in-Some.entry _ c.in-Some.is c.in_ok-entry.ensures.again c.args.env.now c.requires)
+    let place : EntryPlace = (c.args.path.now, answers c.args.env.now) in
+    let between = c.taken.new.self.meter in
+    let after = c.compare.new.meter in
+    let taken = at-some c.in_ok-entry.field-0 c.in-Some.entry _ c.in-Some.is c.in_ok-entry.ensures.again c.args.env.now c.requires in
+    let asked : c.len.result ≡ length c.in-Some.entry.value.log = search rules in
+    let keys : c.len.result ≡ length (entry_result place).log = asked ∙ ap (λ (k : EntryResult). length k.log) taken.result_is in
+    subst (λ (m : Meter). IsEntryLast place c.args.kept.now c.taken.new.kept m after c.in-Some.entry.value) c.taken.ensures.meter
+    (taken-last Print place (entry_result place) between after c.len.result keys c.compare.ensures.counts c.compare.ensures.keys taken)
 
 pub returns-in-Some-clause-lists : goal.returns-in-Some-clause-lists
 returns-in-Some-clause-lists c = ap (λ (s : Stored EntryResult). s.lists) (at-some c.in_ok-entry.field-0 c.in-Some.entry _ c.in-Some.is c.in_ok-entry.ensures.again c.args.env.now c.requires).new_is

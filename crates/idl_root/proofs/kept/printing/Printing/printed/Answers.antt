@@ -1,10 +1,12 @@
-use Rattle.std.proofs.Common.{◌≡◌, ◌∙◌, ◌+◌, ◌∷◌, ◌++◌, List, [], ap, drop, map, subst, sym}
+use Rattle.std.proofs.Common.{◌≡◌, ◌∙◌, ◌+◌, ◌∷◌, ◌++◌, List, [], ap, arith, drop, length, map, refl, rules, subst, sym}
 use Rattle.std.specs.Option.{option_map}
-use Rattle.std.specs.Prelude.{option_to_list}
+use Rattle.std.specs.Prelude.{option_to_list, sum_by}
 use Rattle.std.proofs.lemmas.List.{at_drop_all, at_drop_more}
 use Rattle.idl_env.specs.Facts.{answers}
+use Rattle.idl_memo.specs.Meter.{compared_after}
 use Rattle.idl_store.specs.Stored.{grown, results_in}
 use Rattle.idl_repo.specs.declared.entry.Entry.{Entry}
+use Rattle.idl_root.specs.Compared.{entry_keys, shared_entries}
 use Rattle.idl_root.specs.Findings.{fault_finding}
 use Rattle.idl_root.specs.Held.{listed_at}
 use Rattle.idl_root.specs.Places.{EntryPlace, entries_over}
@@ -13,9 +15,25 @@ use Rattle.idl_root.specs.Results.{EntryResult, HasDraft, IsEntryPass, entry_res
 use Rattle.idl_root.specs.declared.compiling.printing.Listed.{Listed as HeldListed}
 use Rattle.idl_root.proofs.KeptLemmas.{printed-kept, printed-pass, prints-more, prints-one}
 use Rattle.idl_root.proofs.PrintLemmas.{printed-more}
+use Rattle.idl_root.proofs.SharedLemmas.{compared-met, compared-most, keys-entry, shared-entry, shared-none}
 use Rattle.idl_root.proofs.StoredLemmas.{grown-none, has-grown}
 use Rattle.idl_unit.specs.TokenRules.{fault_at}
 use Rattle.idl_root.proofs.kept.printing.Printing.printed.Goals as goal
+
+pub loop-name-init : goal.loop-name-init
+loop-name-init c = (
+  search rules,
+  search rules,
+  refl,
+  refl,
+  c.requires,
+  refl,
+  λ has. (has, λ end total pass. pass),
+  refl,
+  omega arith,
+  λ fits. fits,
+  λ known has are. (known, (are, refl)),
+)
 
 pub loop-name-preserved : goal.loop-name-preserved
 loop-name-preserved c =
@@ -33,10 +51,13 @@ loop-name-preserved c =
     let here : map listed_at (drop c.loop-name.name-index listed) ≡ l ∷ rest =
     at_drop_more (λ (ns : List HeldListed). map listed_at ns) listed c.loop-name.name-index name c.loop-name-test.true ∙ ap (λ n. listed_at n ∷ rest) (sym c.name-item.is) in
     let entry : c.out.result.now ≡ entry_over env name.path =
-    c.out.ensures ∙ ap (λ (k : EntryResult). k.out) (c.deref.ensures ∙ c.in_ok-entry.ensures.obtained.result_is) in
+    c.out.ensures ∙ ap (λ (k : EntryResult). k.out) (c.deref-in-loop-name.ensures ∙ c.in_ok-entry.ensures.obtained.result_is) in
     let findings = c.in_ok-add.ensures.findings ∙ ap (λ (e : Entry). printed.findings.items ++ fault_finding name.unit.text.now name.unit.sites.now (option_map (fault_at (name_index name.unit.text.now)) e.fault)) entry in
     let rows = c.in_ok-add.ensures.rows ∙ ap (λ (e : Entry). printed.rows.items ++ option_to_list e.row) entry in
     let grows = c.in_ok-entry.ensures.obtained.new_is in
+    let met = c.in_ok-entry.ensures.obtained.obtained in
+    let asked : c.len.result ≡ entry_keys place = c.len.ensures ∙ ap length c.log.ensures ∙ ap (λ (k : EntryResult). length k.log) (c.deref.ensures ∙ c.in_ok-entry.ensures.obtained.result_is) in
+    let keys : c.saturating_add-keys.result ≡ compared_after c.loop-name.keys (entry_keys place) = search rules in
     let inv = c.loop-name.invariant in (
       printed-more (closing_finding env) printed.findings.items c.add.new.self.findings.items listed c.loop-name.name-index name c.loop-name-test.true c.name-item.is findings ∙ inv.0,
       printed-more (entry_row env) printed.rows.items c.add.new.self.rows.items listed c.loop-name.name-index name c.loop-name-test.true c.name-item.is rows ∙ inv.1,
@@ -44,14 +65,24 @@ loop-name-preserved c =
           ∙ ap (λ ns. grown kept (map entry_result (entries_over env ns))) (sym here) ∙ inv.2,
       c.entry.ensures.lists ∙ inv.3,
       c.in_ok-entry.ensures.rest,
-      prints-more c.args.self.now.meter meter now inv.5 (prints-one place (results_in kept) meter now c.in_ok-entry.ensures.obtained.obtained),
+      prints-more c.args.self.now.meter meter now inv.5 (prints-one place (results_in kept) meter now met),
       λ has.
           let so = inv.6 has in (
             subst HasDraft (sym grows) (has-grown kept (entry_result place ∷ []) so.0),
             λ end total pass.
                 so.1 end total
                 (subst (λ ns. IsEntryPass (entries_over env ns) (results_in kept) end meter.printed total) (sym here)
-                (printed-pass c.passing.ensures.one c.passing.ensures.both kept next so.0 meter now env l rest grows c.in_ok-entry.ensures.obtained.obtained end total pass)),
+                (printed-pass c.passing.ensures.one c.passing.ensures.both kept next so.0 meter now env l rest grows met end total pass)),
+          ),
+      keys-entry place (entries_over env rest) c.loop-name.keys c.saturating_add-keys.result keys
+          ∙ ap (λ ns. compared_after c.loop-name.keys (sum_by entry_keys (entries_over env ns))) (sym here) ∙ inv.7,
+      (let most = compared-most c.loop-name.keys (entry_keys place) in omega (arith, keys, most)),
+      λ fits. compared-met place (results_in kept) meter now (inv.9 fits) met,
+      λ known has are.
+          let so = inv.10 known has are in
+          let one = shared-entry c.placement.ensures.some c.placement.ensures.none kept next so.0 place meter now (inv.6 has).0 grows so.1.0 met in (
+            so.0 ++ place ∷ [],
+            (one.0, one.1 (entries_over env rest) ∙ ap (λ ns. compared_after meter.compared (shared_entries so.0 (entries_over env ns))) (sym here) ∙ so.1.1),
           ),
     )
 
@@ -70,3 +101,22 @@ returns-clause-counts c = λ has.
     let none = c.passing.ensures.none results count in
     let over = at_drop_all (λ (ns : List HeldListed). entries_over env (map listed_at ns)) c.args.listed.now c.loop-name.name-index c.loop-name-test.false in
     (c.loop-name.invariant.6 has).1 results count (subst (λ l. IsEntryPass l results results count count) (sym over) none)
+
+pub returns-clause-keys : goal.returns-clause-keys
+returns-clause-keys c =
+    let env = c.args.env.now in
+    let own = c.loop-name.keys in
+    let over = at_drop_all (λ (ns : List HeldListed). compared_after own (sum_by entry_keys (entries_over env (map listed_at ns)))) c.args.listed.now c.loop-name.name-index c.loop-name-test.false in
+    let all = sym over ∙ c.loop-name.invariant.7 in
+    let most = c.loop-name.invariant.8 in
+    omega (arith, all, most)
+
+pub returns-clause-compared : goal.returns-clause-compared
+returns-clause-compared c = λ fits known has are.
+    let env = c.args.env.now in
+    let own = c.loop-name.self.meter.compared in
+    let so = c.loop-name.invariant.10 known has are in
+    let over = at_drop_all (λ (ns : List HeldListed). compared_after own (shared_entries so.0 (entries_over env (map listed_at ns)))) c.args.listed.now c.loop-name.name-index c.loop-name-test.false in
+    let all = ap (λ n. compared_after own n) (sym (shared-none so.0)) ∙ sym over ∙ so.1.1 in
+    let most = c.loop-name.invariant.9 fits in
+    omega (arith, all, most)

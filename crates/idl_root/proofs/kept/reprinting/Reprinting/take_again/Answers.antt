@@ -7,13 +7,13 @@ use Rattle.idl_store.specs.Stored.{grown, result_at}
 use Rattle.idl_repo.specs.Entry.{entry}
 use Rattle.idl_root.specs.Results.{EntryResult}
 use Rattle.idl_root.proofs.AgainLemmas.{beside-rest, own-alike}
-use Rattle.idl_root.proofs.StoredLemmas.{some-alike}
+use Rattle.idl_root.proofs.StoredLemmas.{grown-none, some-alike}
 use Rattle.idl_root.proofs.TakenLemmas.{found-weaker, none-taken, some-taken}
 use Rattle.idl_root.proofs.kept.reprinting.Reprinting.take_again.Goals as goal
 
 pub returns-in-Some-clause-none : goal.returns-in-Some-clause-none
 returns-in-Some-clause-none c =
-    none-taken (λ (r : Rc EntryResult Global). r.value) c.args.kept.now c.take_again.new.self c.take_again.result
+    none-taken (λ (r : Rc EntryResult Global). r.value) (grown c.args.kept.now) c.take_again.new.self c.args.kept.now (grown-none c.args.kept.now) c.take_again.result
     (result_at c.args.kept.now c.in-Some.list c.in-Some.place) c.take_again.ensures.found c.take_again.ensures.ok
 
 pub returns-in-Some-clause-again : goal.returns-in-Some-clause-again
@@ -32,7 +32,7 @@ returns-in-Some-clause-again c =
       new_is = is.1 ∙ ap (λ (k : EntryResult). grown old (k ∷ [])) here;
       alike = some-alike old c.in-Some.list c.in-Some.place one.result (path, answers facts) one.found alike;
     })
-    (some-taken (λ (r : Rc EntryResult Global). r.value) old new c.take_again.result
+    (some-taken (λ (r : Rc EntryResult Global). r.value) (grown old) new c.take_again.result
     (result_at old c.in-Some.list c.in-Some.place) one.result one.found c.take_again.ensures.found c.take_again.ensures.ok)
 
 pub returns-in-Some-clause-rest : goal.returns-in-Some-clause-rest

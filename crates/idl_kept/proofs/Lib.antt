@@ -1,0 +1,7 @@
+pub mod Alike
+pub mod Begins
+pub mod Drafts
+pub mod Lists
+pub mod Putting
+pub mod Roots
+pub mod Taking

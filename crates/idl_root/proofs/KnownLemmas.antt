@@ -1,0 +1,93 @@
+-- Units of which the results are known, one after another.
+use Rattle.std.proofs.Common.{◌≡◌, ◌∙◌, ◌+◌, arith, ℕ, suc, Bool, List, [], ◌∷◌, ◌++◌, append-nil, append_assoc, flat_map, map, refl, subst, sym, ap}
+use Rattle.std.proofs.lemmas.List.Sums.{sum_by-cons}
+use Rattle.idl_check.specs.declared.walk.verdict.Verdict.{Verdict}
+use Rattle.idl_env.specs.Facts.{UnitFacts}
+use Rattle.idl_event.specs.declared.told.site.Site.{Site}
+use Rattle.idl_root.specs.AsBefore.{judged_beside}
+use Rattle.idl_root.specs.Compile.{Outcome, row_in}
+use Rattle.idl_root.specs.Findings.{unit_finding}
+use Rattle.idl_root.specs.Followed.{added_by}
+use Rattle.idl_root.specs.Held.{with_judged, with_units}
+use Rattle.idl_root.specs.Judged.{Judged}
+use Rattle.idl_root.specs.Passed.{known_results, marks_in}
+use Rattle.idl_root.specs.Printed.{listed_in}
+use Rattle.idl_root.specs.Results.{DeclarationResult, marks_of}
+use Rattle.idl_root.specs.declared.kept.known.Known.{Known}
+use Rattle.idl_root.specs.declared.kept.marks.Mark.{Mark}
+use Rattle.idl_root.specs.declared.kept.marks.Mark.TheVariants.{Judged as JudgedMark, Entered as EnteredMark, Left as LeftMark}
+use Rattle.idl_root_blocks.specs.Finding.{one_text, texts_in}
+use Rattle.idl_root_blocks.specs.Units.{parts_of_unit, text_of}
+use Rattle.idl_root_blocks.specs.declared.text.BlockPart.TheVariants.{Text, Enters, Leaves}
+use Rattle.idl_unit.specs.declared.unit.Unit.{Unit as RootUnit}
+use Rattle.idl_unit.specs.declared.unit.Unit.TheVariants.{Spelled, Entered, Left, End}
+use Rattle.idl_unit.specs.declared.unit.UnitText.{UnitText}
+
+-- what units were their text tells
+pub marks-text : (units : List RootUnit) → marks_of units ≡ marks_in (text_of units)
+marks-text [] = refl
+marks-text (Spelled text sites ∷ units) = ap (λ (ms : List Mark). JudgedMark ∷ ms) (marks-text units)
+marks-text (Entered file inside ∷ units) = ap (λ (ms : List Mark). EnteredMark inside ∷ ms) (marks-text units)
+marks-text (Left file inside ∷ units) = ap (λ (ms : List Mark). LeftMark inside ∷ ms) (marks-text units)
+marks-text (End ∷ units) = marks-text units
+
+-- what is gathered of one more, and of those behind it
+units-more : (o : Outcome) (j : Judged) (judged : List Judged) → with_units (with_judged o j) judged ≡ with_units o (j ∷ judged)
+units-more o j judged = λ i. record {
+  facts = o.facts;
+  found = append_assoc o.found (unit_finding j) (flat_map unit_finding judged) i;
+  rows = append_assoc o.rows (row_in j) (flat_map row_in judged) i;
+  listed = append_assoc o.listed (listed_in j) (flat_map listed_in judged) i;
+}
+
+-- ---- a unit with tokens
+
+module _ (known behind : Known) (result : DeclarationResult) (first : (count : ℕ) → known_results known (suc count) ≡ result ∷ known_results behind count) (text : UnitText) (sites : List Site) (units : List RootUnit) where
+  known-spelled : known_results known (texts_in (text_of (Spelled text sites ∷ units))) ≡ result ∷ known_results behind (texts_in (text_of units))
+  known-spelled =
+      let more = sum_by-cons one_text (Text text) (text_of units) in
+      let same : texts_in (text_of (Spelled text sites ∷ units)) ≡ suc (texts_in (text_of units)) = omega (arith, more) in
+      ap (known_results known) same ∙ first (texts_in (text_of units))
+
+  pub added-spelled : (facts : List UnitFacts) → (facts ++ result.out.writes ∷ []) ++ added_by (marks_of units) (known_results behind (texts_in (text_of units)))
+      ≡ facts ++ added_by (marks_of (Spelled text sites ∷ units)) (known_results known (texts_in (text_of (Spelled text sites ∷ units))))
+  added-spelled facts =
+      append_assoc facts (result.out.writes ∷ []) (added_by (marks_of units) (known_results behind (texts_in (text_of units))))
+      ∙ ap (λ (rs : List DeclarationResult). facts ++ added_by (JudgedMark ∷ marks_of units) rs) (sym known-spelled)
+
+  pub judged-spelled : (o : Outcome) → with_units (with_judged o (record { text = text; sites = sites; verdict = result.out })) (judged_beside units (known_results behind (texts_in (text_of units))))
+      ≡ with_units o (judged_beside (Spelled text sites ∷ units) (known_results known (texts_in (text_of (Spelled text sites ∷ units)))))
+  judged-spelled o =
+      units-more o (record { text = text; sites = sites; verdict = result.out }) (judged_beside units (known_results behind (texts_in (text_of units))))
+      ∙ ap (λ (rs : List DeclarationResult). with_units o (judged_beside (Spelled text sites ∷ units) rs)) (sym known-spelled)
+
+-- ---- a file boundary
+
+module _ (known : Known) (units : List RootUnit) where
+  texts-entered : (inside : Bool) → texts_in (Enters inside ∷ text_of units) ≡ texts_in (text_of units)
+  texts-entered inside = let more = sum_by-cons one_text (Enters inside) (text_of units) in omega (arith, more)
+
+  texts-left : (inside : Bool) → texts_in (Leaves inside ∷ text_of units) ≡ texts_in (text_of units)
+  texts-left inside = let more = sum_by-cons one_text (Leaves inside) (text_of units) in omega (arith, more)
+
+  pub added-entered : (facts : List UnitFacts) (inside : Bool)
+      → (facts ++ added_by (EnteredMark inside ∷ []) []) ++ added_by (marks_of units) (known_results known (texts_in (text_of units)))
+      ≡ facts ++ added_by (EnteredMark inside ∷ marks_of units) (known_results known (texts_in (Enters inside ∷ text_of units)))
+  added-entered facts inside =
+      append_assoc facts (added_by (EnteredMark inside ∷ []) []) (added_by (marks_of units) (known_results known (texts_in (text_of units))))
+      ∙ ap (λ n. facts ++ added_by (EnteredMark inside ∷ marks_of units) (known_results known n)) (sym (texts-entered inside))
+
+  pub added-left : (facts : List UnitFacts) (inside : Bool)
+      → (facts ++ added_by (LeftMark inside ∷ []) []) ++ added_by (marks_of units) (known_results known (texts_in (text_of units)))
+      ≡ facts ++ added_by (LeftMark inside ∷ marks_of units) (known_results known (texts_in (Leaves inside ∷ text_of units)))
+  added-left facts inside =
+      append_assoc facts (added_by (LeftMark inside ∷ []) []) (added_by (marks_of units) (known_results known (texts_in (text_of units))))
+      ∙ ap (λ n. facts ++ added_by (LeftMark inside ∷ marks_of units) (known_results known n)) (sym (texts-left inside))
+
+  pub judged-entered : (o : Outcome) (inside : Bool) → with_units o (judged_beside units (known_results known (texts_in (text_of units))))
+      ≡ with_units o (judged_beside units (known_results known (texts_in (Enters inside ∷ text_of units))))
+  judged-entered o inside = ap (λ n. with_units o (judged_beside units (known_results known n))) (sym (texts-entered inside))
+
+  pub judged-left : (o : Outcome) (inside : Bool) → with_units o (judged_beside units (known_results known (texts_in (text_of units))))
+      ≡ with_units o (judged_beside units (known_results known (texts_in (Leaves inside ∷ text_of units))))
+  judged-left o inside = ap (λ n. with_units o (judged_beside units (known_results known n))) (sym (texts-left inside))

@@ -1,0 +1,138 @@
+//! The text of a block, as a list that is shared.
+
+ghost use Rattle.std.specs.Prelude.{◌≡◌, ◌↔◌, IfOk, IsTrue, Some, refl, take};
+ghost use Rattle.std.specs.Cmp.{partial_order_from_agreeing_total};
+ghost use Rattle.std.specs.Cmp.Lexicographic.{pointwise, slice_cmp, lists_per, lists_equiv, lists_total, lists_ties};
+ghost use Rattle.std.proofs.Common.{ap};
+ghost use Rattle.std.specs.Hash as fed;
+ghost use Rattle.idl_base.specs.Exact.{same_list};
+ghost use Rattle.idl_root_blocks.specs.contracts.text.BlockPartDatum.TheImpl.Laws.{same-law as same_part};
+ghost use Rattle.idl_root_blocks.specs.contracts.text.BlockPartEq.TheImpl.Laws.{laws-law as part_equiv};
+ghost use Rattle.idl_root_blocks.specs.contracts.text.BlockPartHash.TheImpl.{ghosts as hashed};
+ghost use Rattle.idl_root_blocks.specs.contracts.text.BlockPartOrd.TheImpl.{ghosts as ordered};
+ghost use Rattle.idl_root_blocks.specs.contracts.text.BlockPartOrd.TheImpl.Laws.{matches_eq-law as part_ties, total-law as part_total};
+ghost use Rattle.idl_root_blocks.specs.contracts.text.BlockPartPartialEq.TheImpl.{ghosts as parts};
+ghost use Rattle.idl_root_blocks.specs.contracts.text.BlockPartPartialEq.TheImpl.Laws.{laws-law as part_per};
+
+use crate::text::BlockPart;
+use idl_base::{Datum, Seq, Shared};
+use std::alloc::{AllocError, Global};
+use std::cmp::Ordering;
+use std::hash::{Hash, Hasher};
+use std::marker::Model;
+
+// By so many parts it is found.
+const FIRST: usize = 8;
+
+/// The text of a block: its parts in order, which clones share. To every contract it is the list of them.
+///
+/// It may be long: so it is hashed by its first parts alone.
+#[derive(Drop)]
+pub struct BlockText {
+    parts: Shared<Seq<BlockPart>>,
+}
+
+impl Model for BlockText {
+    ghost use Rattle.std.specs.Prelude.{List};
+    ghost use Rattle.idl_root_blocks.specs.declared.text.BlockPart.{BlockPart};
+
+    ghost Value = { List BlockPart };
+
+    ghost view = { λ text. text.parts };
+}
+
+impl BlockText {
+    /// These parts, from now on shared.
+    pub fn new(alloc: Global, parts: Vec<BlockPart>) -> Result<BlockText, AllocError>
+        ensures { IfOk result (λ text. text ≡ parts.items) }
+    {
+        let parts = Shared::new(alloc, Seq::from_vec(parts))?;
+        Ok(BlockText { parts })
+    }
+
+    /// The parts in order.
+    pub fn as_slice(&self) -> &[BlockPart]
+        ensures { result.now ≡ self.now }
+    {
+        self.parts.get().as_slice()
+    }
+}
+
+impl Clone for BlockText {
+    ghost is_clone = { λ text copy. copy ≡ text };
+
+    fn clone(&self) -> Result<BlockText, AllocError> {
+        let parts = self.parts.clone()?;
+        Ok(BlockText { parts })
+    }
+}
+
+impl PartialEq for BlockText {
+    ghost eq = { pointwise parts.eq };
+
+    ghost laws = { lists_per part_per };
+
+    fn eq(&self, other: &BlockText) -> bool
+        ensures by_part { result ≡ pointwise parts.eq self.now other.now }
+        ensures exact { IsTrue result ↔ (self.now ≡ other.now) }
+    {
+        *self.parts.get() == *other.parts.get()
+    }
+}
+
+impl Eq for BlockText {
+    ghost laws = { lists_equiv part_equiv };
+}
+
+impl PartialOrd for BlockText {
+    ghost partial_cmp = { λ x y. Some (slice_cmp ordered.cmp x y) };
+
+    ghost laws = { partial_order_from_agreeing_total (slice_cmp ordered.cmp) (lists_total part_total) (λ x y. refl) (lists_ties ordered.cmp part_ties) };
+
+    fn partial_cmp(&self, other: &BlockText) -> Option<Ordering> {
+        Some(self.cmp(other))
+    }
+}
+
+impl Ord for BlockText {
+    ghost cmp = { slice_cmp ordered.cmp };
+
+    ghost total = { lists_total part_total };
+
+    ghost matches_partial_cmp = { λ x y. refl };
+
+    ghost matches_eq = { lists_ties ordered.cmp part_ties };
+
+    fn cmp(&self, other: &BlockText) -> Ordering
+        ensures by_part { result ≡ slice_cmp ordered.cmp self.now other.now }
+        ensures exact { (result ≡ Ordering.Equal) ↔ (self.now ≡ other.now) }
+    {
+        self.parts.get().cmp(other.parts.get())
+    }
+}
+
+impl Hash for BlockText {
+    ghost hash_input = { λ text. fed.slice hashed.hash_input (take 8 text) };
+
+    ghost respects_eq = { λ x y h. ap (λ text. fed.slice hashed.hash_input (take 8 text)) (same_list parts.eq same_part x y h) };
+
+    fn hash<H: Hasher>(&self, state: &mut H) {
+        first_of(self.as_slice()).hash(state);
+    }
+}
+
+impl Datum for BlockText {
+    ghost same = { same_list parts.eq same_part };
+
+    ghost copy = { λ x y h. h };
+}
+
+// The first of these.
+fn first_of(parts: &[BlockPart]) -> &[BlockPart]
+    ensures { result.now ≡ take FIRST parts.now }
+{
+    match parts.get(..FIRST) {
+        Some(first) => first,
+        None => parts,
+    }
+}

@@ -1,0 +1,307 @@
+//! What edits compare, where files are included: as many keys as known tasks asked that are alike where they are met, and no more than all
+//! asked of the texts that are met. Both are reckoned here from what each task of the projects before and after an edit asks.
+
+use super::expansions::Answers;
+use super::support::{Host, answers};
+use idl_check::{DeclarationTask, Scratch, Verdict};
+use idl_entity::Path;
+use idl_env::{Addition, Env, Facts, Step};
+use idl_memo::{Bank, Log, Runnable};
+use idl_prep::RootTask;
+use idl_repo::EntryTask;
+use idl_root_blocks::{BlockText, block_at, text_of};
+use idl_session::Session;
+use idl_source::Name;
+use idl_unit::{Unit, UnitText, split};
+use std::alloc::{AllocError, Global};
+use std::mem::replace;
+use std::test::Fail;
+
+// A known task: its text, and what it asked with the answers.
+#[derive(Drop)]
+struct Task<T, B: Bank> {
+    text: T,
+    log: Log<B>,
+}
+
+// What a task in a root is of.
+#[derive(PartialEq, Eq, Drop)]
+enum Text {
+    Declaration(UnitText),
+    Block(BlockText),
+    Entry(Path),
+}
+
+// Whether all that was asked has the same answers over a bank.
+fn holds_in<B: Bank>(log: &Log<B>, bank: &B) -> bool {
+    for index in 0..log.len() {
+        if let Some((key, answer)) = log.get(index) {
+            let is_same = match (bank.answer(key), answer) {
+                (Some(here), Some(there)) => *here == *there,
+                (here, there) => here.is_none() && there.is_none(),
+            };
+            if !is_same {
+                return false;
+            }
+        }
+    }
+    true
+}
+
+// How many keys known tasks asked: those that are alike where they are met, and all those of the texts that are met.
+#[derive(Clone, Copy)]
+struct Sums {
+    least: u64,
+    most: u64,
+}
+
+impl Sums {
+    // A text stands over a bank, and is met there or not: whether a known task is alike.
+    fn meet<T: Eq, B: Bank>(&mut self, known: &[Task<T, B>], here: (&T, &B), is_met: bool) -> bool {
+        let mut is_known = false;
+        for task in known {
+            if task.text == *here.0 {
+                let keys = if is_met { task.log.len() as u64 } else { 0 };
+                self.most = self.most.saturating_add(keys);
+                if holds_in(&task.log, here.1) {
+                    self.least = self.least.saturating_add(keys);
+                    is_known = true;
+                }
+            }
+        }
+        is_known
+    }
+}
+
+// A block that isn't left: its text with what it has asked so far and hadn't written, the number of its entering among the facts, how many
+// units stand behind its leaving, whether it is known, and whether what stands in it is met.
+#[derive(Drop)]
+struct Open {
+    task: Task<Text, Env>,
+    start: usize,
+    behind: usize,
+    is_known: bool,
+    is_met: bool,
+}
+
+impl Open {
+    fn ask(&mut self, env: &Env, log: &Log<Env>) -> Result<(), AllocError> {
+        for index in 0..log.len() {
+            if let Some((key, answer)) = log.get(index) {
+                if env.written_at(key) < self.start {
+                    self.task.log.note(key, answer)?;
+                }
+            }
+        }
+        Ok(())
+    }
+}
+
+// A project, in a session and beside it: its files and roots, its tasks, each of those that are alike once, and the sums over those that are met. Of the root that is
+// gone through: which blocks aren't left, the innermost last, and the names that have an id.
+#[derive(Drop)]
+struct Project {
+    alloc: Global,
+    session: Session,
+    files: Answers,
+    roots: Vec<Name>,
+    expansions: Vec<Task<Name, Answers>>,
+    tasks: Vec<Task<Text, Env>>,
+    sums: Sums,
+    open: Vec<Open>,
+    names: Vec<Path>,
+}
+
+impl Project {
+    fn new(alloc: Global) -> Project {
+        Project {
+            alloc,
+            session: Session::new(alloc),
+            files: Answers::new(alloc),
+            roots: Vec::new(alloc),
+            expansions: Vec::new(alloc),
+            tasks: Vec::new(alloc),
+            sums: Sums { least: 0, most: 0 },
+            open: Vec::new(alloc),
+            names: Vec::new(alloc),
+        }
+    }
+
+    // Goes through all roots: their tasks become known, too.
+    fn meet_all(&mut self) -> Result<(), AllocError> {
+        self.sums = Sums { least: 0, most: 0 };
+        for root in self.roots.clone()? {
+            self.meet_root(root)?;
+        }
+        Ok(())
+    }
+
+    fn meet_root(&mut self, root: Name) -> Result<(), AllocError> {
+        let mut log = Log::new(self.alloc);
+        let task = RootTask::new(root.copied());
+        let expansion = task.run(self.alloc, &self.files, &mut (), &mut log)?;
+        if self.sums.meet(&self.expansions, (&root, &self.files), true) {
+            return Ok(());
+        }
+        self.expansions.push(Task { text: root, log })?;
+        let units = split(self.alloc, &expansion)?;
+        let units = units.as_slice();
+        let mut env = Env::new(self.alloc)?;
+        for place in 0..units.len() {
+            env = self.meet_unit(env, &units[place], &units[place + 1..])?;
+        }
+        self.meet_names(&env)
+    }
+
+    fn meet_names(&mut self, env: &Env) -> Result<(), AllocError> {
+        for path in replace(&mut self.names, Vec::new(self.alloc)) {
+            let mut log = Log::new(self.alloc);
+            let task = EntryTask { path };
+            let _entry = task.run(self.alloc, env, &mut Vec::new(self.alloc), &mut log)?;
+            self.meet(Text::Entry(task.path), log, env)?;
+        }
+        Ok(())
+    }
+
+    // The facts behind the next unit, behind which these stand.
+    fn meet_unit(&mut self, env: Env, unit: &Unit, behind: &[Unit]) -> Result<Env, AllocError> {
+        let mut facts = Facts::new(self.alloc);
+        match unit {
+            Unit::Spelled(text, _sites) => {
+                let verdict = self.judge(&env, text)?;
+                return env.add(verdict.writes.get());
+            }
+            Unit::Entered(_file, _inside) => {
+                if let Some((inside, others)) = block_at(unit, behind) {
+                    self.enter(&env, inside, others.len())?;
+                }
+                facts.then(Step::Enters);
+            }
+            Unit::Left(_file, _inside) => {
+                self.leave(behind.len())?;
+                facts.then(Step::Leaves);
+            }
+            Unit::End => {}
+        }
+        env.add(&facts)
+    }
+
+    fn judge(&mut self, env: &Env, text: &UnitText) -> Result<Verdict, AllocError> {
+        let mut log = Log::new(self.alloc);
+        let text = text.clone()?;
+        let task = DeclarationTask { text };
+        let verdict = task.run(self.alloc, env, &mut Scratch::new(self.alloc), &mut log)?;
+        for block in self.open.iter_mut() {
+            block.ask(env, &log)?;
+        }
+        let facts = verdict.writes.get();
+        for index in 0..facts.len() {
+            if let Some(Addition::Appears(path, _)) = facts.addition(index) {
+                self.names.push(path.clone()?)?;
+            }
+        }
+        self.meet(Text::Declaration(task.text), log, env)?;
+        Ok(verdict)
+    }
+
+    fn meet(&mut self, text: Text, log: Log<Env>, env: &Env) -> Result<(), AllocError> {
+        let is_met = self.is_next_met();
+        if !self.sums.meet(&self.tasks, (&text, env), is_met) {
+            self.tasks.push(Task { text, log })?;
+        }
+        Ok(())
+    }
+
+    fn is_next_met(&self) -> bool {
+        match self.open.last() {
+            Some(block) => block.is_met,
+            None => true,
+        }
+    }
+
+    // The block of these units, behind whose leaving so many stand, is entered next.
+    fn enter(&mut self, env: &Env, inside: &[Unit], behind: usize) -> Result<(), AllocError> {
+        let is_met = self.is_next_met();
+        let text = Text::Block(text_of(self.alloc, inside)?);
+        let is_known = self.sums.meet(&self.tasks, (&text, env), is_met);
+        let log = Log::new(self.alloc);
+        self.open.push(Open {
+            task: Task { text, log },
+            start: env.len().saturating_add(1),
+            behind,
+            is_known,
+            is_met: is_met && !is_known,
+        })?;
+        Ok(())
+    }
+
+    // The innermost block is left next, if so many units stand behind its leaving.
+    fn leave(&mut self, behind: usize) -> Result<(), AllocError> {
+        if !self.open.last().is_some_and(|block| block.behind == behind) {
+            return Ok(());
+        }
+        if let Some(block) = self.open.pop() {
+            if !block.is_known {
+                self.tasks.push(block.task)?;
+            }
+        }
+        Ok(())
+    }
+}
+
+// What an edit of a project compares is the lower sum, and no more than the upper one. A macro is asked by no root here.
+fn compares_so(rt: &impl Host, project: &mut Project, edit: &str) -> Result<(), Fail> {
+    project.expansions.clear();
+    project.tasks.clear();
+    project.meet_all()?;
+    answers(rt, &mut project.session, edit, "ok\n")?;
+    let (command, lines) = edit.split_once('\n').unwrap_or((edit, ""));
+    let name = command.split(' ').nth(1).unwrap_or("");
+    match Name::new(name.as_bytes()) {
+        Some(name) if command.starts_with("put") => project.files.put(rt.alloc(), &name, lines)?,
+        Some(name) if command.starts_with("root") => project.roots.push(name)?,
+        _ => {}
+    }
+    project.meet_all()?;
+    let Sums { least, most } = project.sums;
+    assert_eq!(rt; project.session.work().compared, least, "{edit}");
+    assert!(rt; least <= most, "{edit}");
+    Ok(())
+}
+
+// Edits, with ` ¶ ` between one and the next.
+static SCRIPTS: [&str; 4] = [
+    // A file beside other declarations, where the name of its module is declared before it, and inside another module.
+    "put b.idl 3\nmodule M {\ntypedef long X;\n};\n ¶ put r.idl 2\ntypedef short Y;\n#include \"b.idl\"\n ¶ root \
+     r.idl\n ¶ put r.idl 2\ntypedef long Y;\n#include \"b.idl\"\n ¶ put r.idl 3\ntypedef long M;\ntypedef long Y;\n\
+     #include \"b.idl\"\n ¶ put r.idl 2\ntypedef long Y;\n#include \"b.idl\"\n ¶ define Q 1\n ¶ put r.idl 4\ntypedef \
+     long Y;\nmodule N {\n#include \"b.idl\"\n};\n",
+    // Files in files, in several scopes, and in two roots; texts that are there again.
+    "put c.idl 1\ntypedef long C;\n ¶ put b.idl 4\nmodule B {\n#include \"c.idl\"\ntypedef C T;\n};\n ¶ put r.idl 5\n\
+     #include \"b.idl\"\nmodule R {\n#include \"c.idl\"\n};\n#include \"b.idl\"\n ¶ put s.idl 2\n#include \"c.idl\"\n\
+     #include \"b.idl\"\n ¶ root r.idl\n ¶ root s.idl\n ¶ put c.idl 1\ntypedef short C;\n ¶ put c.idl 1\ntypedef long \
+     C;\n ¶ put s.idl 3\ntypedef long S;\n#include \"c.idl\"\n#include \"b.idl\"\n ¶ put b.idl 5\nmodule B {\n#include \
+     \"c.idl\"\ntypedef C T;\ntypedef T U;\n};\n ¶ put b.idl 4\nmodule B {\n#include \"c.idl\"\ntypedef C T;\n};\n",
+    // Files that leave a scope open, close one of before, or end inside a declaration.
+    "put o.idl 2\nmodule O {\ntypedef long T;\n ¶ put p.idl 2\n};\ntypedef O::T P;\n ¶ put u.idl 1\nstruct U { long \
+     a;\n ¶ put r.idl 4\n#include \"o.idl\"\n#include \"p.idl\"\n#include \"u.idl\"\nlong b; };\n ¶ root r.idl\n ¶ put \
+     o.idl 2\nmodule O {\ntypedef short T;\n ¶ put u.idl 1\nstruct U { long c;\n ¶ put p.idl 3\ntypedef T S;\n};\n\
+     typedef O::T P;\n",
+    // Ids: prefixes that end with their file, and a version that is told outside.
+    "put t.idl 4\ntypeprefix M \"p\";\nmodule N {\ntypedef M::X Y;\n};\n ¶ put v.idl 2\n#pragma prefix \"v\"\ntypedef \
+     long V;\n ¶ put r.idl 5\nmodule M {\ntypedef long X;\n};\n#include \"v.idl\"\n#include \"t.idl\"\n ¶ root r.idl\n \
+     ¶ put r.idl 6\nmodule M {\ntypedef long X;\n};\n#pragma version M 1.2\n#include \"v.idl\"\n#include \"t.idl\"\n ¶ \
+     put r.idl 6\n#pragma prefix \"r\"\nmodule M {\ntypedef long X;\n};\n#include \"v.idl\"\n#include \"t.idl\"\n ¶ \
+     put t.idl 3\nmodule N {\ntypedef M::X Y;\n};\n",
+];
+
+#[test]
+fn edits_compare_the_lower_sum(rt: HostRuntime) -> Result<(), Fail> {
+    for script in &SCRIPTS {
+        let mut project = Project::new(rt.alloc());
+        for edit in script.split(" ¶ ") {
+            compares_so(&rt, &mut project, edit)?;
+        }
+    }
+    Ok(())
+}

@@ -1,4 +1,0 @@
-//! What `idltool` answers.
-
-pub(super) mod explains;
-pub(super) mod rules;
