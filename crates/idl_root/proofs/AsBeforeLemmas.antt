@@ -10,7 +10,7 @@ use Rattle.idl_event.specs.declared.told.site.Site.{Site}
 use Rattle.idl_fault.specs.declared.place.Place.{Place}
 use Rattle.idl_root.specs.AsBefore.{AreAsBefore, AreCourse, IsCompiledOf, closing_beside, judged_beside, texts_from, texts_of}
 use Rattle.idl_root.specs.Compared.{entry_keys, root_keys}
-use Rattle.idl_root.specs.Compile.{all_findings, compile, findings_told, has_error, is_open, outcome_of, row_in, rows_beside, told}
+use Rattle.idl_root.specs.Compile.{all_findings, compile, findings_told, has_error, is_open, outcome_of, row_in, rows_beside}
 use Rattle.idl_root.specs.Findings.{event_finding, finding_row, unit_finding}
 use Rattle.idl_root.specs.Judged.{HasTurns, facts_after, judged_after, judged_over, verdict_over}
 use Rattle.idl_facts.specs.Written.{boundary}

@@ -1,5 +1,5 @@
 -- A block that is passed: taken whole, or entered and left.
-use Rattle.std.proofs.Common.{◌≡◌, ◌⊎◌, ◌≤◌, ◌∙◌, ◌+◌, arith, inl, inr, ℕ, zero, suc, Bool, true, false, List, [], ◌∷◌, ◌++◌, Some, append-nil, append_assoc, drop, flat_map, length, map, refl, subst, sym, take, ap}
+use Rattle.std.proofs.Common.{◌≡◌, ◌⊎◌, ◌∙◌, ◌+◌, arith, inl, ℕ, zero, suc, Bool, true, false, List, [], ◌∷◌, ◌++◌, Some, append-nil, append_assoc, drop, flat_map, length, map, refl, subst, sym, take, ap}
 use Rattle.std.specs.Prelude.{All, Contains}
 use Rattle.std.proofs.Math.Seq.{drop-append_seam, take-append_seam}
 use Rattle.std.proofs.lemmas.List.{length-append, map-append, take-append-drop}
@@ -7,7 +7,7 @@ use Rattle.std.proofs.lemmas.List.Elements.{All-contains_itself, All-head, All-t
 use Rattle.std.proofs.lemmas.List.Folds.{flat_map-map}
 use Rattle.idl_check_blocks.specs.Standing.{unit_asks}
 use Rattle.idl_check_laws.specs.Closing.{AreTold}
-use Rattle.idl_env.specs.Facts.{UnitFacts, answers}
+use Rattle.idl_env.specs.Facts.{UnitFacts}
 use Rattle.idl_env.specs.SameKey.{same_key}
 use Rattle.idl_env.specs.keys.Digested.{key_equiv}
 use Rattle.idl_env.specs.keys.Key.{key_eq}

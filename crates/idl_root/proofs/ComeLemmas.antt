@@ -1,7 +1,6 @@
 -- What is to come of units in front of which a block stands.
-use Rattle.std.proofs.Common.{◌≡◌, ◌≤◌, ◌<◌, ◌∙◌, ◌+◌, arith, ℕ, Bool, true, false, List, [], ◌∷◌, ◌++◌, append-nil, append_assoc, flat_map, length, refl, subst, sym, ap}
+use Rattle.std.proofs.Common.{◌≡◌, ◌∙◌, false, List, [], ◌∷◌, ◌++◌, append_assoc, flat_map, refl, sym, ap}
 use Rattle.std.proofs.lemmas.Grind.{flat_map-append}
-use Rattle.std.proofs.lemmas.List.{length-append}
 use Rattle.idl_env.specs.Facts.{UnitFacts}
 use Rattle.idl_root.proofs.FactsTold.{after-append}
 use Rattle.idl_root.proofs.JudgingLemmas.{to_come-end}
@@ -17,7 +16,7 @@ use Rattle.idl_root_blocks.specs.Blocks.{cut, text_in}
 use Rattle.idl_root_blocks.specs.Finding.{IsFirstBlock}
 use Rattle.idl_root_blocks.specs.Places.{facts_behind, facts_over, with_entering}
 use Rattle.idl_root_blocks.specs.Units.{parts_of_unit, text_of}
-use Rattle.idl_root_blocks.specs.declared.text.BlockPart.TheVariants.{Text, Enters, Leaves}
+use Rattle.idl_root_blocks.specs.declared.text.BlockPart.TheVariants.{Enters, Leaves}
 use Rattle.idl_unit.specs.declared.unit.Unit.{Unit as RootUnit}
 use Rattle.idl_unit.specs.declared.unit.Unit.TheVariants.{Spelled, Entered, Left, End}
 

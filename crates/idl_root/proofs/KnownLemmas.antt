@@ -1,7 +1,6 @@
 -- Units of which the results are known, one after another.
-use Rattle.std.proofs.Common.{◌≡◌, ◌∙◌, ◌+◌, arith, ℕ, suc, Bool, List, [], ◌∷◌, ◌++◌, append-nil, append_assoc, flat_map, map, refl, subst, sym, ap}
+use Rattle.std.proofs.Common.{◌≡◌, ◌∙◌, arith, ℕ, suc, Bool, List, [], ◌∷◌, ◌++◌, append_assoc, flat_map, refl, sym, ap}
 use Rattle.std.proofs.lemmas.List.Sums.{sum_by-cons}
-use Rattle.idl_check.specs.declared.walk.verdict.Verdict.{Verdict}
 use Rattle.idl_env.specs.Facts.{UnitFacts}
 use Rattle.idl_event.specs.declared.told.site.Site.{Site}
 use Rattle.idl_root.specs.AsBefore.{judged_beside}
@@ -17,7 +16,7 @@ use Rattle.idl_root.specs.declared.kept.known.Known.{Known}
 use Rattle.idl_root.specs.declared.kept.marks.Mark.{Mark}
 use Rattle.idl_root.specs.declared.kept.marks.Mark.TheVariants.{Judged as JudgedMark, Entered as EnteredMark, Left as LeftMark}
 use Rattle.idl_root_blocks.specs.Finding.{one_text, texts_in}
-use Rattle.idl_root_blocks.specs.Units.{parts_of_unit, text_of}
+use Rattle.idl_root_blocks.specs.Units.{text_of}
 use Rattle.idl_root_blocks.specs.declared.text.BlockPart.TheVariants.{Text, Enters, Leaves}
 use Rattle.idl_unit.specs.declared.unit.Unit.{Unit as RootUnit}
 use Rattle.idl_unit.specs.declared.unit.Unit.TheVariants.{Spelled, Entered, Left, End}

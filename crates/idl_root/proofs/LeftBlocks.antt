@@ -1,15 +1,12 @@
 -- A block that is entered, judged and left.
-use Rattle.std.proofs.Common.{◌≡◌, ◌≤◌, ◌<◌, ◌^◌, ◌∙◌, Bool, false, ℕ, List, [], ◌∷◌, ◌++◌, length, map, subst, sym, ap}
+use Rattle.std.proofs.Common.{◌≡◌, ◌≤◌, ◌∙◌, Bool, false, ℕ, List, [], ◌∷◌, ◌++◌, length, subst, sym, ap}
 use Rattle.idl_check_blocks.specs.Standing.{IsBlock}
-use Rattle.idl_check_laws.specs.Closing.{AreTold}
-use Rattle.idl_env.specs.Facts.{UnitFacts, answers, count_in}
-use Rattle.idl_env.specs.Turns.{most_turns, turns_for}
-use Rattle.idl_env.specs.declared.keys.key.Key.TheVariants.{Nameless}
+use Rattle.idl_env.specs.Facts.{UnitFacts, answers}
 use Rattle.idl_memo.specs.Meter.{most_compared}
 use Rattle.idl_kept.specs.Texts.{BlockResult, IsLast, Texts, with_blocks, with_whole}
 use Rattle.idl_root.proofs.BlockLemmas.{keys-by, keys-inside, last-kept, left-kept}
 use Rattle.idl_root.proofs.OpenLemmas.{all-others}
-use Rattle.idl_root.specs.Passed.{AllGoOn, ArePassed, GoesOn, HasDrafts, MayBeLeft, WalksOnly, keys_behind, with_kept}
+use Rattle.idl_root.specs.Passed.{AllGoOn, ArePassed, GoesOn, HasDrafts, MayBeLeft, WalksOnly, keys_behind}
 use Rattle.idl_root.specs.declared.kept.keeping.Keeping.{Keeping}
 use Rattle.idl_root_blocks.proofs.Cuts.{cut-blocks, cut-whole}
 use Rattle.idl_root_blocks.specs.Asking.{kept_of}

@@ -1,5 +1,5 @@
 -- A block is passed, whichever way.
-use Rattle.std.proofs.Common.{◌≡◌, ◌≤◌, ◌∙◌, ◌+◌, ◌||◌, arith, ℕ, Bool, true, false, Some, List, [], ◌∷◌, ◌++◌, append_assoc, length, map, refl, subst, sym, ap, if◌then◌else◌}
+use Rattle.std.proofs.Common.{◌≡◌, ◌≤◌, ◌∙◌, ◌+◌, ◌||◌, arith, Bool, true, false, Some, List, [], ◌∷◌, ◌++◌, append_assoc, length, map, refl, subst, sym, ap, if◌then◌else◌}
 use Rattle.std.proofs.lemmas.List.{map-append}
 use Rattle.std.specs.List.{list_any}
 use Rattle.std.specs.Option.{option_eq}
@@ -17,7 +17,7 @@ use Rattle.idl_root.proofs.PiecesLemmas.{compared-none, facts-inside}
 use Rattle.idl_root.proofs.SharedLemmas.{none-known, one-known}
 use Rattle.idl_root.proofs.WholeLemmas.{block-holds}
 use Rattle.idl_root.specs.Followed.{IsKeeping}
-use Rattle.idl_root.specs.Passed.{AllGoOn, ArePassed, Compares, keys_behind, marks_in, part_mark}
+use Rattle.idl_root.specs.Passed.{AllGoOn, ArePassed, keys_behind, marks_in, part_mark}
 use Rattle.idl_root.specs.Results.{ChecksOnly, IsDeclarationPass}
 use Rattle.idl_root.specs.declared.kept.keeping.Keeping.{Keeping}
 use Rattle.idl_root.specs.declared.kept.marks.Mark.{Mark}
@@ -26,7 +26,7 @@ use Rattle.idl_root_blocks.proofs.Cuts.{cut-whole}
 use Rattle.idl_root_blocks.proofs.Meets.{met-block}
 use Rattle.idl_root_blocks.specs.Blocks.{Block, Nothing, Pieces, cut, text_in}
 use Rattle.idl_root_blocks.specs.Met.{Known, MetBlock, block_text_eq, compared, is_known, met_over, outermost_keys, shared_by, with_block}
-use Rattle.idl_root_blocks.specs.Places.{BlockPlace, DeclarationPlace, block_asks, block_at, block_query, block_result, declarations_over, facts_behind, facts_over, with_entering}
+use Rattle.idl_root_blocks.specs.Places.{BlockPlace, DeclarationPlace, block_asks, block_at, block_query, block_result, declarations_over, facts_behind, with_entering}
 use Rattle.idl_root_blocks.specs.declared.text.BlockPart.{BlockPart as Part}
 use Rattle.idl_root_blocks.specs.declared.text.BlockPart.TheVariants.{Enters, Leaves}
 use Rattle.idl_store.specs.Spots.{result_on}

@@ -1,5 +1,5 @@
 -- Pieces of a root's units that are passed, and more of them behind these.
-use Rattle.std.proofs.Common.{◌≡◌, ◌≢◌, ◌≤◌, ◌∙◌, ◌+◌, arith, ℕ, List, [], ◌∷◌, ◌++◌, append-nil, append_assoc, map, refl, subst, sym, ap}
+use Rattle.std.proofs.Common.{◌≡◌, ◌≤◌, ◌∙◌, ◌+◌, arith, ℕ, List, [], ◌∷◌, ◌++◌, append-nil, append_assoc, map, refl, subst, sym, ap}
 use Rattle.std.proofs.lemmas.List.{map-append}
 use Rattle.idl_check_laws.proofs.ToldLaws.{MoreTurns}
 use Rattle.idl_env.specs.Facts.{UnitFacts}
@@ -8,13 +8,13 @@ use Rattle.idl_memo.specs.Meter.{compared_after, most_compared}
 use Rattle.idl_memo.specs.declared.meter.Meter.{Meter}
 use Rattle.idl_root.proofs.KeptLemmas.{checks-more}
 use Rattle.idl_root.proofs.OpenLemmas.{all-more, all-none}
-use Rattle.idl_root.proofs.PiecesLemmas.{compared-joined, compared-none, declarations-joined, facts-joined, joined, kept-joined, kept-none, keys-joined, known-joined, marks-joined, text-joined}
+use Rattle.idl_root.proofs.PiecesLemmas.{compared-joined, compared-none, declarations-joined, facts-joined, joined, kept-joined, kept-none, keys-joined, marks-joined, text-joined}
 use Rattle.idl_root.proofs.SharedLemmas.{compared-more, compared-most}
 use Rattle.idl_root.proofs.StoredLemmas.{grown-results, has-grown}
 use Rattle.idl_root.specs.Compared.{AreOf}
 use Rattle.idl_root.specs.Followed.{IsKeeping}
 use Rattle.idl_root.specs.Passed.{AllGoOn, ArePassed, Compares, HasDrafts, keys_behind, marks_in, with_kept}
-use Rattle.idl_root.specs.Results.{ChecksOnly, DeclarationResult, IsDeclarationPass}
+use Rattle.idl_root.specs.Results.{DeclarationResult, IsDeclarationPass}
 use Rattle.idl_root.specs.declared.kept.keeping.Keeping.{Keeping}
 use Rattle.idl_root_blocks.proofs.Fronts.{Enough, Walked}
 use Rattle.idl_root_blocks.proofs.Wholes.{declarations-none}

@@ -1,20 +1,20 @@
 -- Pieces of a root's units, and more of them behind these: what is kept of all, and what they ask.
-use Rattle.std.proofs.Common.{◌≡◌, ◌≢◌, ◌∙◌, ◌+◌, arith, ℕ, false, Bool, List, [], ◌∷◌, ◌++◌, append-nil, append_assoc, length, map, refl, subst, sym, ap, if◌then◌else◌}
+use Rattle.std.proofs.Common.{◌≡◌, ◌≢◌, ◌∙◌, ◌+◌, arith, ℕ, false, List, [], ◌∷◌, ◌++◌, append_assoc, length, map, refl, sym, ap, if◌then◌else◌}
 use Rattle.std.proofs.lemmas.List.{length-append, length-map, map-append}
 use Rattle.std.proofs.lemmas.List.Sums.{sum_by-append, sum_by-cons}
 use Rattle.idl_env.specs.Facts.{UnitFacts}
 use Rattle.idl_kept.proofs.Begins.{count-units}
-use Rattle.idl_kept.specs.Texts.{BlockResult, DeclarationResult, Texts, begins_in, with_blocks, with_units}
+use Rattle.idl_kept.specs.Texts.{DeclarationResult, Texts, begins_in}
 use Rattle.idl_root.proofs.StoredLemmas.{grown-grown, grown-none}
-use Rattle.idl_root.specs.Passed.{HasDrafts, marks_in, part_mark, with_kept}
+use Rattle.idl_root.specs.Passed.{marks_in, part_mark, with_kept}
 use Rattle.idl_root.specs.Results.{HasDraft}
 use Rattle.idl_root_blocks.proofs.Meets.{met-block, met-loose}
 use Rattle.idl_root_blocks.proofs.Splits.{declarations-split, facts-first, facts-split}
 use Rattle.idl_root_blocks.proofs.Wholes.{blocks-block, blocks-loose, blocks-none, pieces-block, pieces-loose, pieces-none}
 use Rattle.idl_root_blocks.specs.Blocks.{Block, Loose, Nothing, Pieces, text_in}
 use Rattle.idl_root_blocks.specs.Finding.{one_text, texts_in}
-use Rattle.idl_root_blocks.specs.Met.{Known, MetBlock, MetUnit, block_keys, compared, is_known, met_over, outermost_keys, shared_by, unit_keys, with_block, with_part, with_pieces}
-use Rattle.idl_root_blocks.specs.Places.{BlockPlace, DeclarationPlace, block_at, block_result, blocks_over, declaration_at, declaration_result, declarations_over, facts_behind, facts_over, with_entering}
+use Rattle.idl_root_blocks.specs.Met.{Known, MetBlock, compared, is_known, met_over, outermost_keys, shared_by, with_block, with_part, with_pieces}
+use Rattle.idl_root_blocks.specs.Places.{BlockPlace, DeclarationPlace, block_at, block_result, blocks_over, declaration_result, declarations_over, facts_behind, facts_over, with_entering}
 use Rattle.idl_root_blocks.specs.declared.text.BlockPart.{BlockPart as Part}
 use Rattle.idl_root_blocks.specs.declared.text.BlockPart.TheVariants.{Enters, Leaves}
 use Rattle.idl_store.specs.Stored.{Stored, grown, last_draft, last_of, with_results}

@@ -22,11 +22,11 @@ use Rattle.idl_root.specs.Results.{DeclarationResult, HasDraft, IsDeclarationPas
 use Rattle.idl_root_blocks.proofs.Cuts.{cut-whole}
 use Rattle.idl_root_blocks.specs.Blocks.{IsOfBlock, Pieces, cut, text_in}
 use Rattle.idl_root_blocks.specs.Finding.{texts_in}
-use Rattle.idl_root_blocks.specs.Places.{DeclarationPlace, block_at, block_result, declaration_result, declarations_over, facts_behind, facts_over, with_entering}
+use Rattle.idl_root_blocks.specs.Places.{DeclarationPlace, block_at, block_result, declaration_result, declarations_over, facts_over, with_entering}
 use Rattle.idl_root_blocks.specs.Units.{text_of}
 use Rattle.idl_root_blocks.specs.declared.text.BlockPart.{BlockPart as Part}
 use Rattle.idl_store.specs.Spots.{results_from}
-use Rattle.idl_store.specs.Stored.{Stored, results_in}
+use Rattle.idl_store.specs.Stored.{results_in}
 use Rattle.idl_store.specs.declared.numbers.Spot.{Spot}
 use Rattle.idl_unit.specs.declared.unit.Unit.{Unit as RootUnit}
 

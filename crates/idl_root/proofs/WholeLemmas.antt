@@ -1,5 +1,5 @@
 -- A block that is taken whole: what it came to where it was kept it comes to here.
-use Rattle.std.proofs.Common.{◌≡◌, ◌≤◌, ◌<◌, ◌^◌, ◌∙◌, true, ℕ, List, [], ◌∷◌, ◌++◌, Option, append-nil, append_assoc, length, map, subst, sym, ap}
+use Rattle.std.proofs.Common.{◌≡◌, ◌≤◌, ◌<◌, ◌^◌, ◌∙◌, true, ℕ, List, [], ◌∷◌, ◌++◌, append-nil, append_assoc, length, map, subst, sym, ap}
 use Rattle.std.proofs.lemmas.List.{append_cancel_left}
 use Rattle.std.specs.Option.{option_eq}
 use Rattle.idl_check_blocks.specs.Standing.{AreStanding, IsBlock, block_end}

@@ -4,7 +4,7 @@ ghost use Rattle.std.specs.Prelude.{◌≡◌, ◌∷◌, [], OnErr, OnOk};
 ghost use Rattle.idl_store.specs.Spots.{result_on};
 ghost use Rattle.idl_store.specs.Stored.{committed, discarded, grown, nothing_stored, removed, with_draft};
 
-use crate::numbers::{Draft, Spot, exchange, number_on, push_numbers};
+use crate::numbers::{Draft, Spot, exchange, number_on, push_numbers, shrink_lists};
 use std::alloc::{AllocError, Global};
 use std::marker::Model;
 
@@ -88,8 +88,16 @@ impl Lists {
         self.drafts.clear();
     }
 
-    /// Takes a list out; those behind it move up. It takes no memory.
+    /// Takes a list out; those behind it move up, and room that isn't needed any more is given back. It is refused no memory.
     pub fn remove(&mut self, list: usize)
+        ensures { self.new ≡ removed self.old list }
+    {
+        self.take_out(list);
+        shrink_lists(&mut self.lists, &mut self.drafts);
+    }
+
+    // Takes a list out.
+    fn take_out(&mut self, list: usize)
         ensures { self.new ≡ removed self.old list }
     {
         if list < self.lists.len() {

@@ -1,5 +1,6 @@
 pub mod Literals
 pub mod Names
+pub mod Nesting
 pub mod Parses
 pub mod PragmaLemmas
 pub mod Steps

@@ -1,8 +1,10 @@
 //! The tree of a unit, or its fault.
 
-ghost use Rattle.std.specs.Prelude.{◌≡◌, None, Some, IfOk, IfErr};
+ghost use Rattle.std.specs.Prelude.{◌≡◌, ◌+◌, None, Some, IfOk, IfErr, length};
+ghost use Rattle.idl_syntax.specs.Gives.{Advances, Reads};
 ghost use Rattle.idl_syntax.specs.Parse.{IsFaultOf, IsTreeOf, pragma_faults, rule_faults};
 ghost use Rattle.idl_tree.specs.Pragma.{pragma_of};
+ghost use Rattle.idl_tree.specs.reading.ReadUnit.{unit_at};
 ghost use Rattle.idl_unit.specs.Faults.{least_fault};
 ghost use Rattle.idl_unit.specs.TokenRules.{token_faults};
 ghost use Rattle.idl_unit.specs.declared.unit.UnitText.TheVariants as unit;
@@ -13,9 +15,12 @@ use crate::unit::unit;
 use idl_fault::Code;
 use idl_lex::Token;
 use idl_text::TokenRange;
-use idl_tree::{Pragma, Tree, reading};
+use idl_tree::{Pragma, Tree, nesting, reading};
 use idl_unit::{Fault, UnitText, token_fault};
 use std::alloc::Global;
+
+// As many levels as brackets may stand in one another, and one more.
+const LEVELS: usize = 65;
 
 /// What a unit is.
 pub enum UnitTree {
@@ -61,7 +66,7 @@ fn tokens_tree(alloc: Global, tokens: &[Token]) -> Result<UnitTree, SyntaxFault>
     }
     // It does nothing: it carries the laws of what is read.
     reading();
-    match unit(alloc, tokens.len() + 1, tokens) {
+    match nested_unit(alloc, tokens) {
         Ok((tree, [])) => Ok(UnitTree::Tokens(tree)),
         Ok((_tree, rest)) => Err(SyntaxFault::NoTree(rest.len())),
         Err(SyntaxFault::Memory) => Err(SyntaxFault::Memory),
@@ -69,6 +74,17 @@ fn tokens_tree(alloc: Global, tokens: &[Token]) -> Result<UnitTree, SyntaxFault>
         // Where all tokens are the beginning of a tree, it is told at the last.
         Err(SyntaxFault::NoTree(left)) => Err(SyntaxFault::NoTree(left.max(1))),
     }
+}
+
+/// What is read of a unit in which the rules of tokens find nothing: its brackets need no more levels than are allowed here.
+fn nested_unit(alloc: Global, tokens: &[Token]) -> Result<(Tree, &[Token]), SyntaxFault>
+    requires { least_fault (token_faults tokens.now) ≡ None }
+    ensures reads { Reads (unit_at (length tokens.now + 1)) tokens.now result }
+    ensures shorter { Advances tokens.now result }
+{
+    // It does nothing: it carries the law that more levels change nothing.
+    nesting();
+    unit(alloc, LEVELS, tokens)
 }
 
 /// The tree of a pragma, which stands inside a unit of tokens or outside.

@@ -1,5 +1,6 @@
 pub mod ConstructionSpelling
 pub mod Laws
+pub mod Levels
 pub mod Many
 pub mod NameLemmas
 pub mod ReadAgain

@@ -4,6 +4,7 @@
 
 ghost use Rattle.std.specs.Prelude.{◌≡◌, ◌<◌, ◌∷◌, [], ℕ, length, Ok, Err};
 ghost use Rattle.idl_tree.specs.reading.Fault.{IsFaultAt};
+ghost use Rattle.idl_tree.specs.reading.Levels.{IsWithin};
 ghost use Rattle.idl_tree.specs.Lexeme.{Lexeme, Lexemes};
 ghost use Rattle.idl_tree.specs.reading.ReadUnit.{unit_at};
 ghost use Rattle.idl_tree.specs.Unit.{spell};
@@ -26,4 +27,11 @@ pub fn reading()
         → length tokens < n
         → unit_at n tokens ≡ Ok (tree, next ∷ more)
         → IsFaultAt spell tokens (length (next ∷ more)) }
+{}
+
+/// Reading that is allowed more levels than brackets open in one another gives the same, however many more.
+pub fn nesting()
+    ensures same { (levels n m : ℕ) (tokens : Lexemes) → IsWithin levels tokens → levels < n → levels < m
+        → unit_at n tokens ≡ unit_at m tokens }
+    ensures most { (tokens : Lexemes) → IsWithin (length tokens) tokens }
 {}

@@ -14,7 +14,7 @@ mod several;
 mod unit;
 
 pub use expression::Expression;
-pub use law::{one_spelling, reading};
+pub use law::{nesting, one_spelling, reading};
 pub use literal::Literal;
 pub use name::ScopedName;
 pub use name_parts::{last_at, name_length, part_at};

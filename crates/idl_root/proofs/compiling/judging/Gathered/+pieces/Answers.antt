@@ -1,4 +1,4 @@
-use Rattle.std.proofs.Common.{rules, ◌≡◌, ◌<◌, ◌≤◌, ◌^◌, ◌+◌, ◌*◌, ◌∙◌, ◌∷◌, ◌++◌, [], false, arith, List, ap, length, subst, sym}
+use Rattle.std.proofs.Common.{rules, ◌≡◌, ◌<◌, ◌≤◌, ◌^◌, ◌∙◌, ◌∷◌, ◌++◌, [], false, arith, List, ap, length, subst, sym}
 use Rattle.std.proofs.lemmas.List.{nil_from_length}
 use Rattle.idl_check_blocks.proofs.Told.{files-told}
 use Rattle.idl_check_laws.specs.Closing.{AreTold}
@@ -30,7 +30,7 @@ use Rattle.idl_root_blocks.proofs.Cuts.{cut-whole}
 use Rattle.idl_root_blocks.specs.Blocks.{Block, Nothing, Pieces, cut, text_in}
 use Rattle.idl_root_blocks.specs.Finding.{in_front}
 use Rattle.idl_root_blocks.specs.Met.{is_known}
-use Rattle.idl_root_blocks.specs.Places.{block_result, declarations_over, facts_over, with_entering}
+use Rattle.idl_root_blocks.specs.Places.{declarations_over, facts_over, with_entering}
 use Rattle.idl_root_blocks.specs.Units.{parts_of_unit, text_of}
 use Rattle.idl_root_blocks.specs.declared.text.BlockPart.TheVariants.{Enters, Leaves}
 use Rattle.idl_store.specs.Stored.{results_in}

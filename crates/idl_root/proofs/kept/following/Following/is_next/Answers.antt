@@ -1,4 +1,4 @@
-use Rattle.std.proofs.Common.{◌+◌, ◌∙◌, drop, rules, sym}
+use Rattle.std.proofs.Common.{◌+◌, drop, rules}
 use Rattle.idl_root.proofs.ResultLemmas.{first-next}
 use Rattle.idl_root.proofs.StoredLemmas.{item-drop}
 use Rattle.idl_store.specs.Stored.{list_at}

@@ -1,6 +1,5 @@
 use Rattle.std.proofs.Common.{◌≡◌, ◌++◌, ◌∷◌, ◌∙◌, [], ap, length, rules, subst, sym}
 use Rattle.std.specs.Prelude.{IfOk, IfSome}
-use Rattle.idl_check.specs.declared.walk.verdict.Verdict.{Verdict}
 use Rattle.idl_env.specs.Facts.{answers}
 use Rattle.idl_kept.specs.Texts.{Texts}
 use Rattle.idl_memo.specs.declared.task.TaskKind.TheVariants.{Check}

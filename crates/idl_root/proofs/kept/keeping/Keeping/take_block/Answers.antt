@@ -1,6 +1,6 @@
 use Rattle.std.proofs.Common.{◌≡◌, ◌∙◌, ap, subst, sym}
 use Rattle.std.proofs.lemmas.Option.{same_Some}
-use Rattle.idl_env.specs.Facts.{UnitFacts, answers}
+use Rattle.idl_env.specs.Facts.{answers}
 use Rattle.idl_kept.specs.Texts.{BlockResult}
 use Rattle.idl_memo.specs.Query.{HoldsIn}
 use Rattle.idl_root.proofs.WholeLemmas.{block-holds}

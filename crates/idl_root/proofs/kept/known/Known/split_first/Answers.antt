@@ -1,7 +1,6 @@
 use Rattle.std.proofs.Common.{◌≡◌, ◌∙◌, ◌∷◌, ◌+◌, ap, sym}
 use Rattle.idl_root.proofs.BlockLemmas.{from-next}
 use Rattle.idl_store.specs.Spots.{results_from}
-use Rattle.idl_store.specs.declared.numbers.Spot.{Spot}
 use Rattle.idl_root.proofs.kept.known.Known.split_first.Goals as goal
 
 pub returns-clause-behind : goal.returns-clause-behind

@@ -3,7 +3,7 @@ use Rattle.std.proofs.Common.{◌∙◌, ℕ, List, ap}
 use Rattle.idl_store.specs.Numbers.{drafts_of, lists_of}
 use Rattle.idl_store.specs.Stored.{Stored, removed}
 use Rattle.idl_store.proofs.Changing.{lists-removed}
-use Rattle.idl_store.proofs.lists.Lists.remove.Goals as goal
+use Rattle.idl_store.proofs.lists.Lists.take_out.Goals as goal
 
 pub returns-then-list-len : goal.returns-then-list-len
 returns-then-list-len c =

@@ -1,0 +1,19 @@
+//! The driver: refuses each growth of memory of each edit in turn, and tells how many it refused.
+//!
+//! After each refusal all that a session tells has to be as before, and the same edit, asked again, has to be accepted, with the rows and
+//! the work of a session that met no refusal. `examples/refused` runs it over an allocator that refuses what it is asked to; over any other
+//! one nothing is refused, and the edits are only compared.
+#![tactic(auto)]
+
+mod answers;
+mod below;
+mod calls;
+mod edits;
+mod growths;
+mod named;
+mod report;
+mod trial;
+
+fn main(rt: HostRuntime) -> anyhow::Result<()> {
+    report::tell_all(&rt, rt.alloc())
+}
