@@ -1,5 +1,6 @@
 pub mod Cause
 pub mod Classes
+pub mod Dated
 pub mod Forms
 pub mod Fresh
 pub mod Journal

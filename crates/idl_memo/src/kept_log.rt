@@ -3,13 +3,17 @@
 ghost use Rattle.std.specs.Prelude.{◌≡◌, ◌↔◌, ◌++◌, All, IfOk, IsFalse, IsTrue, OnOk, Option, flat_map, length, map, slice_get};
 ghost use Rattle.std.specs.Option.{option_copied, option_map, option_to_list};
 ghost use Rattle.idl_memo.specs.Cause.{IsCause};
+ghost use Rattle.idl_memo.specs.Dated.{dated_on, entries_before};
 ghost use Rattle.idl_memo.specs.Query.{HoldsIn, is_logged};
 ghost use Rattle.idl_memo.specs.Parts.{part_entries};
 ghost use Rattle.idl_memo.specs.Runs.{first_other, other_at};
 
 use crate::bank::{Bank, LentBank, PlainBank};
-use crate::log::{copied, is_same};
-use crate::run::{LogPart, Part};
+use crate::dated::{DatedLog, LogPage};
+use crate::log::is_same;
+use crate::log_entries::LogEntries;
+use crate::parted::{Parted, append_parts, is_in_parts, other_in_parts};
+use crate::run::LogPart;
 use crate::step::Digests;
 use idl_base::Datum;
 use idl_map::Digest;
@@ -19,52 +23,29 @@ use std::marker::Model;
 /// The keys asked of a bank with their answers, as a kept result has them. To every contract it is the list of its entries.
 ///
 /// It takes what memory the entries need. Where they are many, the digests of the keys stand by themselves too, for whoever looks
-/// for a key; and what steps of runs stand for is held once for all logs that have it.
+/// for a key; and what steps of runs stand for is held once for all logs that have it. So are entries on pages: logs that begin at
+/// other dates share them.
 pub struct KeptLog<B: Bank> {
-    form: Form<(B::Key, Option<B::Answer>), Digested<B>, Parted<B>>,
+    form: Form<(B::Key, Option<B::Answer>), Digested<B>, Parted<B>, DatedLog<B>>,
 }
 
 // How entries are held.
 #[derive(Drop)]
-enum Form<E, D, P> {
+enum Form<E, D, P, L> {
     /// One after another.
     Plain(Vec<E>),
     /// The same, and the digests of their keys by themselves.
     Digested(Box<D>),
     /// By parts, some of which are runs.
     Parted(Box<P>),
+    /// On pages that logs share.
+    Dated(Box<L>),
 }
 
 // Entries, and the digests of their keys.
 struct Digested<B: Bank> {
     digests: Vec<u64>,
     entries: Vec<(B::Key, Option<B::Answer>)>,
-}
-
-// Parts, and how many entries they have.
-struct Parted<B: Bank> {
-    parts: Vec<LogPart<B>>,
-    len: usize,
-}
-
-impl<B: Bank> Drop for Parted<B> {
-    fn drop(self) {
-        let Parted {
-            parts: _parts,
-            len: _len,
-        } = self;
-    }
-}
-
-impl<B: Bank> Model for Parted<B> {
-    ghost use Rattle.std.specs.Prelude.{◌≡◌, List, Option, flat_map, length};
-    ghost use Rattle.idl_memo.specs.Parts.{part_entries};
-
-    ghost Value = { List (B.Key × Option B.Answer) };
-
-    ghost view = { λ parted. flat_map part_entries parted.parts.items };
-
-    ghost invariant = { λ parted. parted.len ≡ length (flat_map part_entries parted.parts.items) };
 }
 
 impl<B: Bank> Drop for Digested<B> {
@@ -139,6 +120,20 @@ impl<B: Bank> KeptLog<B> {
         })
     }
 
+    /// The log of the entries of these pages before a date, which it shares with other logs.
+    pub fn dated(
+        alloc: Global,
+        pages: Vec<LogPage<B>>,
+        before: usize,
+    ) -> Result<KeptLog<B>, AllocError>
+        ensures { IfOk result (λ log. log ≡ entries_before before (dated_on pages.items)) }
+    {
+        let log = Box::new(alloc, DatedLog::new(pages, before)?)?;
+        Ok(KeptLog {
+            form: Form::Dated(log),
+        })
+    }
+
     /// How many keys were asked.
     pub fn len(&self) -> usize
         ensures { result ≡ length self.now }
@@ -147,6 +142,7 @@ impl<B: Bank> KeptLog<B> {
             Form::Plain(entries) => entries.len(),
             Form::Digested(both) => both.entries.len(),
             Form::Parted(parted) => parted.len,
+            Form::Dated(log) => log.len(),
         }
     }
 
@@ -158,6 +154,7 @@ impl<B: Bank> KeptLog<B> {
             Form::Plain(entries) => is_among(entries, key),
             Form::Digested(both) => both.contains(key),
             Form::Parted(parted) => { is_in_parts(&parted.parts, *parted.parts.allocator(), key) }
+            Form::Dated(log) => log.contains(key),
         }
     }
 
@@ -177,6 +174,7 @@ impl<B: Bank> KeptLog<B> {
             Form::Parted(parted) => {
                 other_in_parts(&parted.parts, *parted.parts.allocator(), bank)
             }
+            Form::Dated(log) => log.first_other(bank),
         }
     }
 
@@ -189,6 +187,7 @@ impl<B: Bank> KeptLog<B> {
             Form::Plain(entries) => shares_among(entries, digests),
             Form::Digested(both) => both.shares(digests),
             Form::Parted(parted) => parted.shares(digests),
+            Form::Dated(log) => log.shares(digests),
         }
     }
 
@@ -206,6 +205,10 @@ impl<B: Bank> KeptLog<B> {
             Form::Parted(parted) => {
                 room.clear();
                 append_parts(&parted.parts, alloc, room)?;
+                Ok(room)
+            }
+            Form::Dated(log) => {
+                log.copy_into(room)?;
                 Ok(room)
             }
         }
@@ -232,26 +235,20 @@ impl<B: PlainBank> KeptLog<B> {
             Form::Plain(entries) => entry_at(entries, index),
             Form::Digested(both) => entry_at(&both.entries, index),
             Form::Parted(parted) => parted.get(index),
+            Form::Dated(log) => log.get(index),
         }
     }
-}
 
-impl<B: PlainBank> Parted<B> {
-    // The entry at a place, or nothing past the last.
-    fn get(&self, index: usize) -> Option<(&B::Key, Option<&B::Answer>)>
-        ensures { option_map (λ e. (e.0.now, option_copied e.1)) result ≡ slice_get self.now index }
+    /// The entries, one after another. It takes no memory.
+    pub fn entries(&self) -> LogEntries<'_, B>
+        ensures { result ≡ self.now }
     {
-        one_at(&self.parts, index)
-    }
-}
-
-impl<B: Bank> Parted<B> {
-    // Whether a digest of one of the keys may be among these.
-    fn shares<D: Digests>(&self, digests: &D) -> bool
-        ensures { IsFalse result
-            → All (λ e. D.has digests.now (B.Key.digest_of e.0) → ⊥) self.now }
-    {
-        shares_in_parts(&self.parts, *self.parts.allocator(), digests)
+        match &self.form {
+            Form::Plain(entries) => LogEntries::plain(entries),
+            Form::Digested(both) => LogEntries::plain(&both.entries),
+            Form::Parted(parted) => LogEntries::parted(parted.entries()),
+            Form::Dated(log) => LogEntries::dated(log.entries()),
+        }
     }
 }
 
@@ -303,65 +300,11 @@ impl<B: Bank> Digested<B> {
     }
 }
 
-// Whether there is a run among these parts.
-pub(crate) fn are_parted<B: Bank>(parts: &[LogPart<B>]) -> bool {
-    parts.iter().any(|part| matches!(part, Part::Many(_)))
-}
-
 // Whether a key is among those of these entries.
 fn is_among<K: Datum, A>(entries: &[(K, Option<A>)], key: &K) -> bool
     ensures { result ≡ is_logged K.eq entries.now key.now }
 {
     entries.iter().any(|entry| *key == entry.0)
-}
-
-// Whether a key is among those of these parts.
-fn is_in_parts<B: Bank>(parts: &[LogPart<B>], alloc: Global, key: &B::Key) -> bool
-    ensures { result ≡ is_logged B.Key.eq (flat_map part_entries parts.now) key.now }
-{
-    for part in parts {
-        let has = match part {
-            Part::One(own, _answer) => *key == *own,
-            Part::Many(run) => run.has(alloc, key),
-        };
-        if has {
-            return true;
-        }
-    }
-    false
-}
-
-// Puts copies of the entries of these parts behind others.
-fn append_parts<B: Bank>(
-    parts: &[LogPart<B>],
-    alloc: Global,
-    entries: &mut Vec<(B::Key, Option<B::Answer>)>,
-) -> Result<(), AllocError>
-    ensures { OnOk result
-        (entries.new.items ≡ entries.old.items ++ flat_map part_entries parts.now) }
-{
-    for part in parts {
-        append_part(part, alloc, entries)?;
-    }
-    Ok(())
-}
-
-// The same of a part.
-fn append_part<B: Bank>(
-    part: &LogPart<B>,
-    alloc: Global,
-    entries: &mut Vec<(B::Key, Option<B::Answer>)>,
-) -> Result<(), AllocError>
-    ensures { OnOk result (entries.new.items ≡ entries.old.items ++ part_entries part.now) }
-{
-    match part {
-        Part::One(key, answer) => {
-            let answer = copied(answer.as_ref())?;
-            entries.push((key.clone()?, answer))?;
-            Ok(())
-        }
-        Part::Many(run) => run.append_to(alloc, entries),
-    }
 }
 
 // The first of these answers that isn't the bank's, with the bank's.
@@ -379,39 +322,6 @@ fn other_among<'a, B: Bank>(
         }
     }
     None
-}
-
-// The same of parts.
-fn other_in_parts<'a, B: LentBank>(
-    parts: &'a [LogPart<B>],
-    alloc: Global,
-    bank: &'a B,
-) -> Option<(Option<&'a B::Answer>, Option<&'a B::Answer>)>
-    ensures { option_map (λ p. (option_copied p.0, option_copied p.1)) result
-        ≡ first_other B.Answer.eq (B.at bank.now) (flat_map part_entries parts.now) }
-{
-    for part in parts {
-        let other = other_in(part, alloc, bank);
-        if other.is_some() {
-            return other;
-        }
-    }
-    None
-}
-
-// The same of a part.
-fn other_in<'a, B: LentBank>(
-    part: &'a LogPart<B>,
-    alloc: Global,
-    bank: &'a B,
-) -> Option<(Option<&'a B::Answer>, Option<&'a B::Answer>)>
-    ensures { option_map (λ p. (option_copied p.0, option_copied p.1)) result
-        ≡ first_other B.Answer.eq (B.at bank.now) (part_entries part.now) }
-{
-    match part {
-        Part::One(key, answer) => other_at(answer.as_ref(), bank.answer(key)),
-        Part::Many(run) => run.first_other(alloc, bank),
-    }
 }
 
 /// An answer and the one that is found in its place, where that is another.
@@ -440,52 +350,12 @@ fn shares_among<K: Digest, A, D: Digests>(entries: &[(K, Option<A>)], digests: &
     false
 }
 
-// The same of parts.
-fn shares_in_parts<B: Bank, D: Digests>(parts: &[LogPart<B>], alloc: Global, digests: &D) -> bool
-    ensures { IsFalse result
-        → All (λ e. D.has digests.now (B.Key.digest_of e.0) → ⊥) (flat_map part_entries parts.now) }
-{
-    for part in parts {
-        if shares_in(part, alloc, digests) {
-            return true;
-        }
-    }
-    false
-}
-
-// The same of a part.
-fn shares_in<B: Bank, D: Digests>(part: &LogPart<B>, alloc: Global, digests: &D) -> bool
-    ensures { IsFalse result
-        → All (λ e. D.has digests.now (B.Key.digest_of e.0) → ⊥) (part_entries part.now) }
-{
-    match part {
-        Part::One(key, _answer) => digests.has(key.digest()),
-        Part::Many(run) => run.shares(alloc, digests),
-    }
-}
-
 // The entry at a place, or nothing past the last.
 fn entry_at<K, A>(entries: &[(K, Option<A>)], index: usize) -> Option<(&K, Option<&A>)>
     ensures { option_map (λ e. (e.0.now, option_copied e.1)) result ≡ slice_get entries.now index }
 {
     let (key, answer) = entries.get(index)?;
     Some((key, answer.as_ref()))
-}
-
-// The same of parts, where no step stands for an entry.
-fn one_at<B: PlainBank>(parts: &[LogPart<B>], index: usize) -> Option<(&B::Key, Option<&B::Answer>)>
-    ensures { option_map (λ e. (e.0.now, option_copied e.1)) result
-        ≡ slice_get (flat_map part_entries parts.now) index }
-{
-    let mut before = index;
-    for part in parts {
-        match part {
-            Part::One(key, answer) if before == 0 => return Some((key, answer.as_ref())),
-            Part::One(_key, _answer) => before -= 1,
-            Part::Many(run) => run.has_none(),
-        }
-    }
-    None
 }
 
 // The digests of the keys of these entries.

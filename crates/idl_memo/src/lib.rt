@@ -6,11 +6,14 @@
 
 mod asked;
 mod bank;
+mod dated;
 mod journal;
 mod keeping;
 mod kept_log;
 mod log;
+mod log_entries;
 mod meter;
+mod parted;
 pub mod query;
 mod run;
 mod runs;
@@ -21,6 +24,7 @@ mod told;
 
 pub use asked::Asked;
 pub use bank::{Bank, LentBank, PlainBank};
+pub use dated::{Dated, LogPage, Page};
 pub use journal::Journal;
 pub use keeping::anew::run_anew;
 pub use keeping::edited::Edited;
@@ -30,6 +34,7 @@ pub use keeping::passes::passing;
 pub use keeping::places::placement;
 pub use kept_log::{KeptLog, other_at};
 pub use log::Log;
+pub use log_entries::LogEntries;
 pub use meter::Meter;
 pub use runs::Runs;
 pub use step::{Digests, Step};

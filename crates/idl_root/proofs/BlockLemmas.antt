@@ -22,7 +22,7 @@ use Rattle.idl_root.specs.Results.{DeclarationResult, IsDeclarationPass}
 use Rattle.idl_root_blocks.proofs.Wholes.{blocks-block, blocks-none, declarations-block, declarations-none}
 use Rattle.idl_root_blocks.specs.Blocks.{Block, Nothing, Pieces, text_in}
 use Rattle.idl_root_blocks.specs.Places.{BlockPlace, DeclarationPlace, block_at, block_result, blocks_over, declaration_result, declarations_over, facts_behind, with_entering}
-use Rattle.idl_root_blocks.specs.declared.open.OpenBlock.{OpenBlock}
+use Rattle.idl_root_blocks.specs.Asking.{OpenBlock}
 use Rattle.idl_store.specs.Spots.{lists_among, result_on, results_from}
 use Rattle.idl_store.specs.Stored.{Stored, grown, last_draft, list_at, results_in, results_of_drafts}
 use Rattle.idl_store.specs.declared.numbers.Spot.{Spot}

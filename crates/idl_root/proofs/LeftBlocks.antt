@@ -9,11 +9,10 @@ use Rattle.idl_root.proofs.OpenLemmas.{all-others}
 use Rattle.idl_root.specs.Passed.{AllGoOn, ArePassed, GoesOn, HasDrafts, MayBeLeft, WalksOnly, keys_behind}
 use Rattle.idl_root.specs.declared.kept.keeping.Keeping.{Keeping}
 use Rattle.idl_root_blocks.proofs.Cuts.{cut-blocks, cut-whole}
-use Rattle.idl_root_blocks.specs.Asking.{kept_of}
+use Rattle.idl_root_blocks.specs.Asking.{OpenBlock, kept_of}
 use Rattle.idl_root_blocks.specs.Blocks.{IsOfBlock, Pieces, cut, parts_of, text_in}
 use Rattle.idl_root_blocks.specs.Met.{outermost_keys}
 use Rattle.idl_root_blocks.specs.Places.{Stands, block_at, block_result, facts_over, with_entering}
-use Rattle.idl_root_blocks.specs.declared.open.OpenBlock.{OpenBlock}
 use Rattle.idl_root_blocks.specs.declared.text.BlockPart.{BlockPart as Part}
 use Rattle.idl_root_blocks.specs.declared.text.BlockPart.TheVariants.{Enters, Leaves}
 use Rattle.idl_store.specs.Stored.{last_draft}
@@ -21,7 +20,7 @@ use Rattle.idl_store.specs.Stored.{last_draft}
 module _ (facts : List UnitFacts) (text : List Part) (whole : IsOfBlock text) (parts : (text : List Part) → IsOfBlock text → IsBlock (parts_of text))
     (kept between : Texts) (old first inside later : Keeping) (has : HasDrafts kept)
     (walks : WalksOnly old first)
-    (enters : inside.blocks.items ≡ first.blocks.items ++ record { text = text; start = length (with_entering facts); log = [] } ∷ [])
+    (enters : inside.blocks.blocks ≡ first.blocks.blocks ++ record { text = text; start = length (with_entering facts); log = [] } ∷ [])
     (rest : inside ≡ record first { blocks = inside.blocks })
     (passed : ArePassed (with_entering facts) (cut text) kept inside between later)
   where
@@ -34,16 +33,16 @@ module _ (facts : List UnitFacts) (text : List Part) (whole : IsOfBlock text) (p
     abbrev begin : ℕ
     begin = length (last_draft kept.declarations)
 
-    blocks-are : inside.blocks.items ≡ old.blocks.items ++ entered ∷ []
-    blocks-are = enters ∙ ap (λ (k : Keeping). k.blocks.items ++ entered ∷ []) walks
+    blocks-are : inside.blocks.blocks ≡ old.blocks.blocks ++ entered ∷ []
+    blocks-are = enters ∙ ap (λ (k : Keeping). k.blocks.blocks ++ entered ∷ []) walks
 
     -- the others, and the block itself
-    pub others : (left : List OpenBlock) × (block : OpenBlock) × (later.blocks.items ≡ left ++ block ∷ [])
-        × AllGoOn (with_entering facts) text old.blocks.items left × GoesOn (with_entering facts) text entered block
+    pub others : (left : List OpenBlock) × (block : OpenBlock) × (later.blocks.blocks ≡ left ++ block ∷ [])
+        × AllGoOn (with_entering facts) text old.blocks.blocks left × GoesOn (with_entering facts) text entered block
     others =
-        all-others (with_entering facts) text old.blocks.items entered later.blocks.items
-        (subst (λ (t : List Part). AllGoOn (with_entering facts) t (old.blocks.items ++ entered ∷ []) later.blocks.items) (cut-whole text)
-        (subst (λ (bs : List OpenBlock). AllGoOn (with_entering facts) (text_in own) bs later.blocks.items) blocks-are passed.blocks))
+        all-others (with_entering facts) text old.blocks.blocks entered later.blocks.blocks
+        (subst (λ (t : List Part). AllGoOn (with_entering facts) t (old.blocks.blocks ++ entered ∷ []) later.blocks.blocks) (cut-whole text)
+        (subst (λ (bs : List OpenBlock). AllGoOn (with_entering facts) (text_in own) bs later.blocks.blocks) blocks-are passed.blocks))
 
     abbrev pub left : List OpenBlock
     left = others.0
@@ -51,7 +50,7 @@ module _ (facts : List UnitFacts) (text : List Part) (whole : IsOfBlock text) (p
     abbrev pub block : OpenBlock
     block = others.1
 
-    pub innermost : later.blocks.items ≡ left ++ block ∷ []
+    pub innermost : later.blocks.blocks ≡ left ++ block ∷ []
     innermost = others.2
 
     module _ (stands : Stands facts text) (law : (before : List UnitFacts) (text : List Part) (old new : OpenBlock) → IsBlock (parts_of text) → Stands before text
@@ -63,7 +62,7 @@ module _ (facts : List UnitFacts) (text : List Part) (whole : IsOfBlock text) (p
       kept-at = kept-are ∙ ap (λ (t : List Part). block_result (t, answers facts)) (sym (cut-whole text))
 
       -- it may be left
-      pub may-be-left : MayBeLeft between begin facts own left later.blocks.items
+      pub may-be-left : MayBeLeft between begin facts own left later.blocks.blocks
       may-be-left = record {
         block = block;
         innermost = innermost;
@@ -82,24 +81,24 @@ module _ (facts : List UnitFacts) (text : List Part) (whole : IsOfBlock text) (p
 
       -- what it asks is counted, where it stands in no block
       pub keys-left : (keys : ℕ) → keys ≡ keys_behind left later.keys (length block.log) → old.keys ≤ most_compared
-          → keys ≡ keys_behind old.blocks.items old.keys (length (block_result (text, answers facts)).log)
+          → keys ≡ keys_behind old.blocks.blocks old.keys (length (block_result (text, answers facts)).log)
       keys-left keys is within =
           let more : ℕ = outermost_keys (with_entering facts) own in
           let same : later.keys ≡ old.keys =
           passed.keys (subst (λ (k : Keeping). k.keys ≤ most_compared) (sym rest) (subst (λ (k : Keeping). k.keys ≤ most_compared) (sym walks) within))
           ∙ ap (λ (bs : List OpenBlock). keys_behind bs inside.keys more) blocks-are
-          ∙ keys-inside old.blocks.items entered inside.keys more
+          ∙ keys-inside old.blocks.blocks entered inside.keys more
           ∙ ap (λ (k : Keeping). k.keys) rest
           ∙ ap (λ (k : Keeping). k.keys) walks in
           let asked : length block.log ≡ length (block_result (text, answers facts)).log = ap (λ (r : BlockResult). length r.log) kept-are in
           is
           ∙ (λ i. keys_behind (others.3.all i) (same i) (asked i))
-          ∙ keys-by old.blocks.items others.3.by old.keys (length (block_result (text, answers facts)).log)
+          ∙ keys-by old.blocks.blocks others.3.by old.keys (length (block_result (text, answers facts)).log)
 
     -- the blocks around it go on with all of it
     pub around : ((facts : List UnitFacts) (b : Bool) (blocks : List OpenBlock) → AllGoOn facts (Enters b ∷ []) blocks blocks × AllGoOn facts (Leaves b ∷ []) blocks blocks)
         → ((facts : List UnitFacts) (a b : List Part) (old between new : List OpenBlock) → AllGoOn facts a old between → AllGoOn (facts_over facts a) b between new → AllGoOn facts (a ++ b) old new)
-        → AllGoOn facts (Enters false ∷ (text ++ Leaves false ∷ [])) old.blocks.items left
+        → AllGoOn facts (Enters false ∷ (text ++ Leaves false ∷ [])) old.blocks.blocks left
     around boundary more =
-        more facts (Enters false ∷ []) (text ++ Leaves false ∷ []) old.blocks.items old.blocks.items left (boundary facts false old.blocks.items).0
-        (more (with_entering facts) text (Leaves false ∷ []) old.blocks.items left left others.3 (boundary (facts_over (with_entering facts) text) false left).1)
+        more facts (Enters false ∷ []) (text ++ Leaves false ∷ []) old.blocks.blocks old.blocks.blocks left (boundary facts false old.blocks.blocks).0
+        (more (with_entering facts) text (Leaves false ∷ []) old.blocks.blocks left left others.3 (boundary (facts_over (with_entering facts) text) false left).1)

@@ -59,8 +59,8 @@ module _ (none : (old : List DeclarationResult) (count : ℕ) → IsDeclarationP
         → IsDeclarationLast (text, answers facts) kept.declarations new.declarations old.meter behind.meter result → UnitsOnly kept new
         → behind.marks.items ≡ old.marks.items ++ Judged ∷ []
         → IsKeeping new.declarations.lists behind (facts ++ (verdict_over facts text).writes ∷ []) → behind.earlier ≡ old.earlier
-        → AllGoOn facts (Text text ∷ []) old.blocks.items behind.blocks.items
-        → behind.keys ≡ keys_behind old.blocks.items old.keys (unit_keys (text, answers facts))
+        → AllGoOn facts (Text text ∷ []) old.blocks.blocks behind.blocks.blocks
+        → behind.keys ≡ keys_behind old.blocks.blocks old.keys (unit_keys (text, answers facts))
         → ArePassed facts (Loose (Text text) Nothing) kept old new behind
     passed-unit text result has last only marks walks earlier blocks keys =
         let here : DeclarationPlace = (text, answers facts) in
@@ -84,14 +84,14 @@ module _ (none : (old : List DeclarationResult) (count : ℕ) → IsDeclarationP
             | inr fresh ↦ subst (λ (n : Meter). n ≡ record old.meter { checked = n.checked; compared = n.compared }) (sym fresh.1) refl
           ];
           blocks = blocks;
-          keys = λ within. keys ∙ (let all = sum_by-cons unit_keys here [] in let same : unit_keys here ≡ outermost_keys facts (Loose (Text text) Nothing) = omega (arith, all) in ap (keys_behind old.blocks.items old.keys) same);
+          keys = λ within. keys ∙ (let all = sum_by-cons unit_keys here [] in let same : unit_keys here ≡ outermost_keys facts (Loose (Text text) Nothing) = omega (arith, all) in ap (keys_behind old.blocks.blocks old.keys) same);
         }
 
     -- a file boundary, of which nothing is kept
     pub passed-boundary : (part : Part) → declaration_at facts part ≡ [] → new ≡ kept
         → behind.marks.items ≡ old.marks.items ++ part_mark part ∷ []
         → IsKeeping kept.declarations.lists behind (facts_over facts (part ∷ []))
-        → WalksOnly old behind → AllGoOn facts (part ∷ []) old.blocks.items old.blocks.items
+        → WalksOnly old behind → AllGoOn facts (part ∷ []) old.blocks.blocks old.blocks.blocks
         → ArePassed facts (Loose part Nothing) kept old new behind
     passed-boundary part bare same marks walks only blocks =
         let places : declarations_over facts (part ∷ []) ≡ [] = places-loose facts part ∙ bare in
@@ -108,10 +108,10 @@ module _ (none : (old : List DeclarationResult) (count : ℕ) → IsDeclarationP
               (subst (λ (ps : List DeclarationPlace). IsDeclarationPass ps (results_in kept.declarations) (results_in kept.declarations) old.meter.checked old.meter.checked) (sym places)
               (none (results_in kept.declarations) old.meter.checked)));
           others = subst (λ (n : Meter). n ≡ record old.meter { checked = n.checked; compared = n.compared }) (sym (ap (λ (k : Keeping). k.meter) only)) refl;
-          blocks = subst (λ (k : Keeping). AllGoOn facts (part ∷ []) old.blocks.items k.blocks.items) (sym only) blocks;
+          blocks = subst (λ (k : Keeping). AllGoOn facts (part ∷ []) old.blocks.blocks k.blocks.blocks) (sym only) blocks;
           keys = λ within.
               let none : outermost_keys facts (Loose part Nothing) ≡ 0 = (let empty = ap (λ (ps : List DeclarationPlace). sum_by unit_keys ps) bare in omega (arith, empty)) in
-              ap (λ (k : Keeping). k.keys) only ∙ keys-none old.blocks.items old.keys within ∙ ap (keys_behind old.blocks.items old.keys) (sym none);
+              ap (λ (k : Keeping). k.keys) only ∙ keys-none old.blocks.blocks old.keys within ∙ ap (keys_behind old.blocks.blocks old.keys) (sym none);
         }
 
 -- ---- what is compared

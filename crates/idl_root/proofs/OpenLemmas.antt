@@ -10,11 +10,10 @@ use Rattle.idl_facts.specs.Written.{boundary}
 use Rattle.idl_root.specs.Passed.{AllGoOn, GoesOn}
 use Rattle.idl_root_blocks.proofs.Fronts.{Enough, Walked, front-block, front-stands}
 use Rattle.idl_root_blocks.proofs.Splits.{facts-split}
-use Rattle.idl_root_blocks.specs.Asking.{IsOpen, kept_of, with_asked}
+use Rattle.idl_root_blocks.specs.Asking.{IsOpen, OpenBlock, kept_of, with_asked}
 use Rattle.idl_root_blocks.specs.Blocks.{IsOfBlock, parts_of}
 use Rattle.idl_root_blocks.specs.Outer.{Log, noted_over, outer_log}
 use Rattle.idl_root_blocks.specs.Places.{Stands, block_result, declaration_result, facts_over, with_entering}
-use Rattle.idl_root_blocks.specs.declared.open.OpenBlock.{OpenBlock}
 use Rattle.idl_root_blocks.specs.declared.text.BlockPart.{BlockPart as Part}
 use Rattle.idl_root_blocks.specs.declared.text.BlockPart.TheVariants.{Text, Enters, Leaves}
 use Rattle.idl_unit.specs.declared.unit.UnitText.{UnitText}

@@ -62,8 +62,8 @@ module _ (asks : (here : BlockPlace) → (block_result here).log ≡ log_at key_
       → IsKeeping kept.declarations.lists behind (facts_behind facts own) → behind.earlier ≡ old.earlier
       → IsDeclarationPass (declarations_over (with_entering facts) (text_in own)) (results_in kept.declarations) (results_in new.declarations) old.meter.checked behind.meter.checked
       → ChecksOnly old.meter behind.meter
-      → AllGoOn facts (Enters false ∷ (text ++ Leaves false ∷ [])) old.blocks.items behind.blocks.items
-      → (old.keys ≤ most_compared → behind.keys ≡ keys_behind old.blocks.items old.keys (length (block_result (text, answers facts)).log))
+      → AllGoOn facts (Enters false ∷ (text ++ Leaves false ∷ [])) old.blocks.blocks behind.blocks.blocks
+      → (old.keys ≤ most_compared → behind.keys ≡ keys_behind old.blocks.blocks old.keys (length (block_result (text, answers facts)).log))
       → ArePassed facts pieces kept old new behind
   passed-block kept new old behind grows marks walks earlier counts others blocks keys = record {
     kept_is = grows ∙ whole-kept kept facts own;
@@ -74,8 +74,8 @@ module _ (asks : (here : BlockPlace) → (block_result here).log ≡ log_at key_
         subst (λ (places : List DeclarationPlace). IsDeclarationPass places (results_in kept.declarations) (results_in new.declarations) old.meter.checked behind.meter.checked)
         (sym (places-are kept facts own)) counts;
     others = others;
-    blocks = subst (λ (t : List Part). AllGoOn facts t old.blocks.items behind.blocks.items) (sym whole-text) blocks;
-    keys = λ within. keys within ∙ ap (keys_behind old.blocks.items old.keys) keys-block;
+    blocks = subst (λ (t : List Part). AllGoOn facts t old.blocks.blocks behind.blocks.blocks) (sym whole-text) blocks;
+    keys = λ within. keys within ∙ ap (keys_behind old.blocks.blocks old.keys) keys-block;
   }
 
   -- ---- what is compared

@@ -21,7 +21,7 @@ use Rattle.idl_root_blocks.proofs.Wholes.{declarations-none}
 use Rattle.idl_root_blocks.specs.Blocks.{Nothing, Pieces, text_in}
 use Rattle.idl_root_blocks.specs.Met.{Known, compared, met_over, outermost_keys, with_pieces}
 use Rattle.idl_root_blocks.specs.Places.{BlockPlace, DeclarationPlace, block_result, blocks_over, declaration_result, declarations_over, facts_over}
-use Rattle.idl_root_blocks.specs.declared.open.OpenBlock.{OpenBlock}
+use Rattle.idl_root_blocks.specs.Asking.{OpenBlock}
 use Rattle.idl_root_blocks.specs.declared.text.BlockPart.{BlockPart as Part}
 use Rattle.idl_store.specs.Stored.{results_in}
 
@@ -107,8 +107,8 @@ module _ (none : (old : List DeclarationResult) (count : ℕ) → IsDeclarationP
           subst (λ (places : List DeclarationPlace). IsDeclarationPass places (results_in kept.declarations) (results_in kept.declarations) keeping.meter.checked keeping.meter.checked)
           (sym (declarations-none facts)) (none (results_in kept.declarations) keeping.meter.checked);
       others = refl;
-      blocks = all-none facts keeping.blocks.items;
-      keys = λ within. keys-none keeping.blocks.items keeping.keys within;
+      blocks = all-none facts keeping.blocks.blocks;
+      keys = λ within. keys-none keeping.blocks.blocks keeping.keys within;
     }
 
     pub passed-more : Enough → Walked → MoreTurns → (facts : List UnitFacts) (pieces others : Pieces) (kept between new : Texts) (keeping at behind : Keeping) → HasDrafts kept
@@ -135,11 +135,11 @@ module _ (none : (old : List DeclarationResult) (count : ℕ) → IsDeclarationP
               keeping.meter.checked at.meter.checked behind.meter.checked first.counts second.counts);
           others = checks-more keeping.meter at.meter behind.meter first.others second.others;
           blocks =
-              subst (λ (t : List Part). AllGoOn facts t keeping.blocks.items behind.blocks.items) (sym (text-joined pieces others))
-              (all-more enough walked more facts (text_in pieces) (text_in others) keeping.blocks.items at.blocks.items behind.blocks.items first.blocks second.blocks);
+              subst (λ (t : List Part). AllGoOn facts t keeping.blocks.blocks behind.blocks.blocks) (sym (text-joined pieces others))
+              (all-more enough walked more facts (text_in pieces) (text_in others) keeping.blocks.blocks at.blocks.blocks behind.blocks.blocks first.blocks second.blocks);
           keys = λ within.
-              second.keys (subst (λ n. n ≤ most_compared) (sym (first.keys within)) (keys-most keeping.blocks.items keeping.keys (outermost_keys facts pieces) within))
-              ∙ ap (λ n. keys_behind at.blocks.items n (outermost_keys over others)) (first.keys within)
-              ∙ keys-more keeping.blocks.items at.blocks.items first.blocks.by keeping.keys (outermost_keys facts pieces) (outermost_keys over others) first.blocks.all
-              ∙ ap (keys_behind keeping.blocks.items keeping.keys) (sym (keys-joined pieces others facts));
+              second.keys (subst (λ n. n ≤ most_compared) (sym (first.keys within)) (keys-most keeping.blocks.blocks keeping.keys (outermost_keys facts pieces) within))
+              ∙ ap (λ n. keys_behind at.blocks.blocks n (outermost_keys over others)) (first.keys within)
+              ∙ keys-more keeping.blocks.blocks at.blocks.blocks first.blocks.by keeping.keys (outermost_keys facts pieces) (outermost_keys over others) first.blocks.all
+              ∙ ap (keys_behind keeping.blocks.blocks keeping.keys) (sym (keys-joined pieces others facts));
         }

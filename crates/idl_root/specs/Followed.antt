@@ -1,5 +1,5 @@
 -- What was kept of a root, beside the facts of the units that stand there now.
-use Rattle.std.specs.Prelude.{◌≡◌, ℕ, Bool, true, false, List, [], ◌∷◌, ◌++◌, Some, All, Contains, IfSome, drop, map}
+use Rattle.std.specs.Prelude.{◌≡◌, ℕ, Bool, true, false, List, [], ◌∷◌, ◌++◌, Option, Some, All, Contains, IfSome, drop, map}
 use Rattle.idl_env.specs.Facts.{UnitFacts, World, answers, world}
 use Rattle.idl_env.specs.Outside.{WorldsAgreeAround, WorldsAgreeOutside, looked_at_by}
 use Rattle.idl_env.specs.declared.additions.addition.Step.TheVariants.{Enters, Leaves, Stays}
@@ -16,6 +16,7 @@ use Rattle.idl_root.specs.Changed.{ShareNone}
 use Rattle.idl_root.specs.Compared.{IsMetAt}
 use Rattle.idl_facts.specs.Written.{boundary}
 use Rattle.idl_root.specs.Places.{EntryPlace, declarations_after}
+use Rattle.idl_root_blocks.specs.Asking.{AreNoted as HaveNoted, Opened}
 use Rattle.idl_root_blocks.specs.Places.{DeclarationPlace, declaration_result}
 use Rattle.idl_root.specs.Results.{DeclarationResult, EntryResult, entry_result, marks_of}
 use Rattle.idl_root.specs.declared.kept.course.Course.{Course}
@@ -201,9 +202,21 @@ abbrev pub IsPrinting : List (List EntryResult) → Printing → List UnitFacts 
 IsPrinting lists printing facts = IfSome printing.reprinting (λ r. AreBeside lists r facts)
 
 -- what is followed, if anything is, beside the facts of the units so far
+abbrev pub IsFollowing : List (List DeclarationResult) → Keeping → List UnitFacts → Type 0
+IsFollowing lists keeping facts =
+    IfSome keeping.following (λ f. IsFollowed lists keeping.earlier f facts)
+
+-- what may be followed is beside these facts, and open blocks have noted rightly behind them
+pub record AreInStep (lists : List (List DeclarationResult)) (earlier : Course)
+    (following : Option Following) (opened : Opened) (facts : List UnitFacts)
+    : Type 0 where
+  pub follows : IfSome following (λ f. IsFollowed lists earlier f facts)
+  pub noted : HaveNoted facts opened
+
+-- the judging of a root has come as far as these facts
 abbrev pub IsKeeping : List (List DeclarationResult) → Keeping → List UnitFacts → Type 0
 IsKeeping lists keeping facts =
-    IfSome keeping.following (λ f. IsFollowed lists keeping.earlier f facts)
+    AreInStep lists keeping.earlier keeping.following keeping.blocks facts
 
 -- a declaration is obtained at the place, if there is one
 abbrev pub IsJudgedAt : List DeclarationPlace → List DeclarationResult → Meter → Meter → Type 0

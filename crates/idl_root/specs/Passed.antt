@@ -13,11 +13,10 @@ use Rattle.idl_root.specs.declared.kept.keeping.Keeping.{Keeping}
 use Rattle.idl_root.specs.declared.kept.known.Known.{Known}
 use Rattle.idl_root.specs.declared.kept.marks.Mark.{Mark}
 use Rattle.idl_root.specs.declared.kept.marks.Mark.TheVariants as mark
-use Rattle.idl_root_blocks.specs.Asking.{IsOpen, kept_of}
+use Rattle.idl_root_blocks.specs.Asking.{IsOpen, OpenBlock, kept_of}
 use Rattle.idl_root_blocks.specs.Blocks.{Pieces, cut, parts_of, text_in}
 use Rattle.idl_root_blocks.specs.Met.{Known as KnownTasks, compared, met_over, outermost_keys}
 use Rattle.idl_root_blocks.specs.Places.{Stands, block_at, block_result, blocks_over, declaration_result, declarations_over, facts_over, with_entering}
-use Rattle.idl_root_blocks.specs.declared.open.OpenBlock.{OpenBlock}
 use Rattle.idl_root_blocks.specs.declared.text.BlockPart.{BlockPart}
 use Rattle.idl_root_blocks.specs.declared.text.BlockPart.TheVariants.{Text, Enters, Leaves}
 use Rattle.idl_store.specs.Spots.{results_from}
@@ -127,9 +126,9 @@ pub record ArePassed (facts : List UnitFacts) (pieces : Pieces) (kept : Texts) (
       (results_in kept.declarations) (results_in kept_behind.declarations)
       keeping.meter.checked behind.meter.checked
   pub others : ChecksOnly keeping.meter behind.meter
-  pub blocks : AllGoOn facts (text_in pieces) keeping.blocks.items behind.blocks.items
+  pub blocks : AllGoOn facts (text_in pieces) keeping.blocks.blocks behind.blocks.blocks
   pub keys : keeping.keys ≤ most_compared
-      → behind.keys ≡ keys_behind keeping.blocks.items keeping.keys (outermost_keys facts pieces)
+      → behind.keys ≡ keys_behind keeping.blocks.blocks keeping.keys (outermost_keys facts pieces)
 
 -- and at so many keys known tasks are compared where they are met among these pieces
 abbrev pub Compares : List UnitFacts → Pieces → Texts → Meter → Meter → Type 0

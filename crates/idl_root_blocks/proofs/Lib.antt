@@ -1,8 +1,10 @@
 pub mod Comes
 pub mod Cuts
+pub mod Dates
 pub mod Depths
 pub mod Finds
 pub mod Fronts
+pub mod Helds
 pub mod Insides
 pub mod LogLaws
 pub mod Meets

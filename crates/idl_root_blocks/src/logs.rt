@@ -1,8 +1,9 @@
-//! The law of the log of a block.
+//! The laws of the log of a block.
 
 ghost use Rattle.std.specs.Prelude.{◌≡◌, ◌++◌, ◌∷◌, [], Bool, List, false, length, suc};
 ghost use Rattle.idl_check_blocks.specs.Standing.{IsBlock};
 ghost use Rattle.idl_env.specs.Facts.{UnitFacts, answers};
+ghost use Rattle.idl_root_blocks.specs.Asking.{AreNoted, Opened};
 ghost use Rattle.idl_root_blocks.specs.Blocks.{IsOfBlock, parts_of};
 ghost use Rattle.idl_root_blocks.specs.Outer.{noted_over, outer_log};
 ghost use Rattle.idl_root_blocks.specs.Places.{Stands, block_result, declaration_result, facts_over, with_entering};
@@ -41,3 +42,9 @@ pub fn logging()
     enough();
     nested();
 }
+
+/// What open blocks have noted rightly stays so behind one more of the facts.
+pub fn noting_on()
+    ensures { (facts : List UnitFacts) (more : UnitFacts) (opened : Opened)
+        → AreNoted facts opened → AreNoted (facts ++ more ∷ []) opened }
+{}

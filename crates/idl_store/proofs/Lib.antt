@@ -1,6 +1,5 @@
 pub mod Bucketed
 pub mod Changing
-pub mod Comparing
 pub mod Drafting
 pub mod Exactness
 pub mod Finding

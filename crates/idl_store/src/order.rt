@@ -14,9 +14,8 @@ where
     ensures { result
         ≡ place_cmp X.cmp (option_cmp B.Answer.cmp) kept.now text.now (B.at bank.now) }
 {
-    let order = kept.text().cmp(text);
-    if order.is_ne() {
-        return order;
+    if *kept.text() != *text {
+        return kept.text().cmp(text);
     }
     order_in(kept.log(), bank)
 }
@@ -42,9 +41,8 @@ where
     B::Answer: Ord,
     ensures { result ≡ results_cmp X.cmp (option_cmp B.Answer.cmp) kept.now other.now }
 {
-    let order = kept.text().cmp(other.text());
-    if order.is_ne() {
-        return order;
+    if *kept.text() != *other.text() {
+        return kept.text().cmp(other.text());
     }
     order_of_logs(kept.log(), other.log())
 }
@@ -55,8 +53,10 @@ where
     B::Answer: Ord,
     ensures { result ≡ logs_cmp (option_cmp B.Answer.cmp) log.now other.now }
 {
-    for index in 0..log.len() {
-        let (Some(mine), Some(theirs)) = (log.get(index), other.get(index)) else {
+    let mut these = log.entries();
+    let mut those = other.entries();
+    'entries: while let Some(mine) = these.next() {
+        let Some(theirs) = those.next() else {
             return Ordering::Greater;
         };
         let order = mine.1.cmp(&theirs.1);
@@ -64,5 +64,8 @@ where
             return order;
         }
     }
-    log.len().cmp(&other.len())
+    match those.next() {
+        Some(_theirs) => Ordering::Less,
+        None => Ordering::Equal,
+    }
 }

@@ -130,7 +130,7 @@ impl<'a> Judging<'a> {
         requires keeping { IsKeeping kept.old.declarations.lists keeping.old self.env }
         requires told { AreTold self.env }
         requires drafts { HasDrafts kept.old }
-        requires blocks { keeping.old.blocks.items ≡ [] }
+        requires blocks { keeping.old.blocks.blocks ≡ [] }
         ensures held { IfOk result (λ judging. held judging ≡ to_come (held self.entry) units.now) }
         ensures kept { let pieces = cut (text_of units.now) in
             OnOk result (kept.new ≡ with_kept kept.old self.entry.env pieces) }
@@ -145,7 +145,7 @@ impl<'a> Judging<'a> {
             (results_in kept.new.declarations)
             keeping.old.meter.checked keeping.new.meter.checked) }
         ensures others { OnOk result (ChecksOnly keeping.old.meter keeping.new.meter) }
-        ensures blocks { OnOk result (keeping.new.blocks.items ≡ []) }
+        ensures blocks { OnOk result (keeping.new.blocks.blocks ≡ []) }
         ensures keys { let pieces = cut (text_of units.now) in
             OnOk result (keeping.old.keys ≤ most_compared → keeping.new.keys
             ≡ compared_after keeping.old.keys (outermost_keys self.entry.env pieces)) }

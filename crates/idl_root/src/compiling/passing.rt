@@ -128,7 +128,7 @@ impl<'a> Gathered<'a> {
         keeping.enter(env.get(), task)?;
         let env = self.add_all(keeping, kept, env, units)?;
         bound(env.get());
-        keeping.leave(kept, env.get(), begin)?;
+        keeping.leave(kept, begin)?;
         let env = beyond(keeping, env, Mark::Left(false))?;
         Ok(env)
     }

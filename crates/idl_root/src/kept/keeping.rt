@@ -5,10 +5,10 @@ ghost use Rattle.idl_env.specs.Facts.{UnitFacts, answers};
 ghost use Rattle.idl_memo.specs.Query.{HoldsIn};
 ghost use Rattle.idl_store.specs.Spots.{result_on};
 ghost use Rattle.idl_store.specs.Stored.{list_at};
-ghost use Rattle.idl_root.specs.Followed.{AreBeside, ArePrinted, IsDeclarationLast, IsFollowed, IsKeeping, UnitsOnly, WereThere, added_by, facts_of, results_from};
+ghost use Rattle.idl_root.specs.Followed.{AreBeside, ArePrinted, IsDeclarationLast, IsFollowed, IsFollowing, IsKeeping, UnitsOnly, WereThere, added_by, facts_of, results_from};
 ghost use Rattle.idl_root.specs.Judged.{verdict_over};
 ghost use Rattle.idl_root.specs.Passed.{AllGoOn, JudgesOnly, WalksOnly, keys_behind};
-ghost use Rattle.idl_root_blocks.specs.Asking.{with_asked};
+ghost use Rattle.idl_root_blocks.specs.Asking.{AreNoted as HaveNoted, with_asked};
 ghost use Rattle.idl_root_blocks.specs.Met.{unit_keys};
 ghost use Rattle.idl_root_blocks.specs.Places.{DeclarationPlace};
 ghost use Rattle.idl_root_blocks.specs.declared.text.BlockPart.TheVariants.{Text};
@@ -27,7 +27,7 @@ use idl_check::{DeclarationTask, Scratch};
 use idl_env::{Answer, DigestedKey, Env, Facts};
 use idl_kept::{Declarations, KeptDeclaration, KeptTexts};
 use idl_memo::{KeptLog, Meter};
-use idl_root_blocks::{OpenBlock, ask_each};
+use idl_root_blocks::{OpenBlocks, noting_on};
 use idl_unit::UnitText;
 use std::alloc::{AllocError, Global};
 use std::mem::replace;
@@ -40,8 +40,7 @@ pub struct Keeping<'k> {
     // The root's units as they were when it was compiled last.
     earlier: Course<'k>,
     following: Option<Following<'k>>,
-    // The innermost last.
-    pub(crate) blocks: Vec<OpenBlock>,
+    pub(crate) blocks: OpenBlocks,
     // For what stands in logs for several entries.
     room: Vec<(DigestedKey, Option<Answer>)>,
     /// In which verdicts are made.
@@ -81,7 +80,7 @@ impl<'k> Keeping<'k> {
             → WereThere [] earlier.entry.marks.now (results_from lists earlier.entry)
             → IsKeeping lists keeping []) }
         ensures meter { IfOk result (λ keeping. keeping.meter ≡ meter) }
-        ensures blocks { IfOk result (λ keeping. keeping.blocks.items ≡ []) }
+        ensures blocks { IfOk result (λ keeping. keeping.blocks.blocks ≡ []) }
         ensures keys { IfOk result (λ keeping. keeping.keys ≡ 0) }
     {
         let marks = Vec::with_capacity(alloc, count)?;
@@ -90,7 +89,7 @@ impl<'k> Keeping<'k> {
             marks,
             earlier,
             following: Some(following),
-            blocks: Vec::new(alloc),
+            blocks: OpenBlocks::new(alloc),
             room: Vec::new(alloc),
             scratch: Scratch::new(alloc),
             meter,
@@ -118,12 +117,13 @@ impl<'k> Keeping<'k> {
             (env.now ++ (verdict_over env.now text.now).writes ∷ [])) }
         ensures earlier { self.new.earlier ≡ self.old.earlier }
         ensures blocks { OnOk result (AllGoOn env.now (Text text.now ∷ [])
-            self.old.blocks.items self.new.blocks.items) }
+            self.old.blocks.blocks self.new.blocks.blocks) }
         ensures keys { let place : DeclarationPlace = (text.now, answers env.now) in
             OnOk result (self.new.keys
-            ≡ keys_behind self.old.blocks.items self.old.keys (unit_keys place)) }
+            ≡ keys_behind self.old.blocks.blocks self.old.keys (unit_keys place)) }
     {
         noting();
+        noting_on();
         self.marks.push(Mark::Judged)?;
         let declaration = match self.caught_up(kept.declarations(), text)? {
             Some(following) => self.judged(following, kept, env, text)?,
@@ -135,11 +135,13 @@ impl<'k> Keeping<'k> {
 
     // A unit asks these keys: those that stand in no block are counted, and each block notes what it asks.
     fn ask(&mut self, env: &Env, log: &KeptLog<Env>) -> Result<(), AllocError>
-        requires { HoldsIn (answers env.now) log.now }
+        requires held { HoldsIn (answers env.now) log.now }
+        requires noted { HaveNoted env.now self.old.blocks }
         ensures blocks { OnOk result
-            (self.new.blocks.items ≡ map (with_asked env.now log.now) self.old.blocks.items) }
+            (self.new.blocks.blocks ≡ map (with_asked env.now log.now) self.old.blocks.blocks) }
+        ensures noted { OnOk result (HaveNoted env.now self.new.blocks) }
         ensures keys { OnOk result (self.new.keys
-            ≡ keys_behind self.old.blocks.items self.old.keys (length log.now)) }
+            ≡ keys_behind self.old.blocks.blocks self.old.keys (length log.now)) }
         ensures rest { self.new ≡ record self.old {
           blocks = self.new.blocks;
           keys = self.new.keys;
@@ -152,7 +154,7 @@ impl<'k> Keeping<'k> {
         }
         self.room.clear();
         let entries = log.entries_in(env.alloc(), &mut self.room)?;
-        ask_each(&mut self.blocks, env, entries)
+        self.blocks.ask(env, entries)
     }
 
     // The same beside what is followed.
@@ -169,7 +171,7 @@ impl<'k> Keeping<'k> {
             kept.new.declarations self.old.meter self.new.meter declaration.value) }
         ensures units { UnitsOnly kept.old kept.new }
         ensures lists { kept.new.declarations.lists ≡ kept.old.declarations.lists }
-        ensures keeping { OnOk result (IsKeeping kept.new.declarations.lists self.new
+        ensures follows { OnOk result (IsFollowing kept.new.declarations.lists self.new
             (env.now ++ (verdict_over env.now text.now).writes ∷ [])) }
         ensures rest { JudgesOnly self.old self.new }
     {
@@ -197,7 +199,7 @@ impl<'k> Keeping<'k> {
             kept.new.declarations self.old.meter self.new.meter declaration.value) }
         ensures units { UnitsOnly kept.old kept.new }
         ensures lists { kept.new.declarations.lists ≡ kept.old.declarations.lists }
-        ensures keeping { OnOk result (IsKeeping kept.new.declarations.lists self.new
+        ensures follows { OnOk result (IsFollowing kept.new.declarations.lists self.new
             (env.now ++ (verdict_over env.now text.now).writes ∷ [])) }
         ensures rest { JudgesOnly self.old self.new }
     {
@@ -244,7 +246,7 @@ impl<'k> Keeping<'k> {
         text: &UnitText,
     ) -> Result<Option<Following<'k>>, AllocError>
         ensures followed { IfOk result (λ found. IfSome found (λ f. (facts : List UnitFacts)
-            → IsKeeping kept.now.lists self.old facts
+            → IsFollowing kept.now.lists self.old facts
             → IsFollowed kept.now.lists self.old.earlier f facts)) }
         ensures none { self.new.following ≡ None }
         ensures rest { self.new ≡ record self.old { following = self.new.following } }
@@ -264,6 +266,7 @@ impl<'k> Keeping<'k> {
         ensures marks { OnOk result (self.new.marks.items ≡ self.old.marks.items ++ mark ∷ []) }
         ensures rest { WalksOnly self.old self.new }
     {
+        noting_on();
         self.marks.push(mark)?;
         let following = replace(&mut self.following, None);
         self.following = across(following, env, mark, facts)?;
@@ -286,6 +289,7 @@ impl<'k> Keeping<'k> {
             (self.new.marks.items ≡ self.old.marks.items ++ Judged ∷ []) }
         ensures rest { WalksOnly self.old self.new }
     {
+        noting_on();
         self.marks.push(Mark::Judged)?;
         match self.caught_up(known.declarations(), declaration.text())? {
             Some(following) => {
@@ -301,7 +305,7 @@ impl<'k> Keeping<'k> {
         ensures marks { result.0 ≡ self.entry.marks }
         ensures reprinting { IfSome result.1 (λ r. (lists : List (List DeclarationResult))
             (facts : List UnitFacts) (entries : List (List EntryResult))
-            → IsKeeping lists self.entry facts
+            → IsFollowing lists self.entry facts
             → ArePrinted (facts_of lists self.entry.earlier)
             (list_at entries self.entry.earlier.list)
             → AreBeside entries r facts) }

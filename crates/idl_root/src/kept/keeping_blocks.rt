@@ -6,18 +6,17 @@ ghost use Rattle.idl_kept.specs.Texts.{AreListsOf, IsTaken, with_blocks};
 ghost use Rattle.idl_memo.specs.Meter.{compared_after};
 ghost use Rattle.idl_memo.specs.Query.{HoldsIn};
 ghost use Rattle.idl_root.specs.Passed.{MayBeLeft, keys_behind};
-ghost use Rattle.idl_root_blocks.specs.Asking.{kept_of, with_asked};
+ghost use Rattle.idl_root_blocks.specs.Asking.{AreNoted as HaveNoted, OpenBlock, kept_of, with_asked};
 ghost use Rattle.idl_root_blocks.specs.Blocks.{Pieces};
 ghost use Rattle.idl_root_blocks.specs.Places.{block_result};
 ghost use Rattle.idl_root_blocks.specs.Units.{text_of};
-ghost use Rattle.idl_root_blocks.specs.declared.open.OpenBlock.{OpenBlock as SeenBlock};
 ghost use Rattle.idl_store.specs.Spots.{result_on};
 
 use crate::kept::comparing::compare;
 use crate::kept::keeping::Keeping;
 use idl_env::{Env, PlainEnv};
 use idl_kept::KeptTexts;
-use idl_root_blocks::{BlockTask, KeptBlock, OpenBlock, ask_each, blocks_in, texts_in};
+use idl_root_blocks::{BlockTask, KeptBlock, blocks_in, texts_in};
 use idl_store::Spot;
 use idl_unit::Unit;
 use std::alloc::AllocError;
@@ -25,35 +24,37 @@ use std::alloc::AllocError;
 impl<'k> Keeping<'k> {
     /// A block was entered by the last of the facts.
     pub fn enter(&mut self, env: &Env, task: BlockTask) -> Result<(), AllocError>
-        ensures blocks { OnOk result (self.new.blocks.items ≡ self.old.blocks.items
+        requires { (before : List UnitFacts) × (f : UnitFacts) × (env.now ≡ before ++ f ∷ [])
+            × HaveNoted before self.old.blocks }
+        ensures blocks { OnOk result (self.new.blocks.blocks ≡ self.old.blocks.blocks
             ++ record { text = task.text; start = length env.now; log = [] } ∷ []) }
+        ensures noted { OnOk result (HaveNoted env.now self.new.blocks) }
         ensures rest { self.new ≡ record self.old { blocks = self.new.blocks } }
     {
-        self.blocks
-            .push(OpenBlock::new(env.alloc(), env, task.text))?;
-        Ok(())
+        self.blocks.enter(env, task.text)
     }
 
     /// The innermost block is left next, the results of whose units begin there in what is made of the root: what is kept of it goes last
     /// there.
-    pub fn leave(&mut self, kept: &mut KeptTexts, env: &Env, begin: usize) -> Result<(), AllocError>
-        requires { (before : List UnitFacts) × (inside : Pieces) × (others : List SeenBlock)
-            × MayBeLeft kept.old begin before inside others self.old.blocks.items }
-        ensures blocks { OnOk result ((others : List SeenBlock) (block : SeenBlock)
-            → self.old.blocks.items ≡ others ++ block ∷ [] → self.new.blocks.items ≡ others) }
-        ensures kept { OnOk result ((others : List SeenBlock) (block : SeenBlock)
-            → self.old.blocks.items ≡ others ++ block ∷ []
+    pub fn leave(&mut self, kept: &mut KeptTexts, begin: usize) -> Result<(), AllocError>
+        requires { (before : List UnitFacts) × (inside : Pieces) × (others : List OpenBlock)
+            × MayBeLeft kept.old begin before inside others self.old.blocks.blocks }
+        ensures blocks { OnOk result ((others : List OpenBlock) (block : OpenBlock)
+            → self.old.blocks.blocks ≡ others ++ block ∷ [] → self.new.blocks.blocks ≡ others) }
+        ensures kept { OnOk result ((others : List OpenBlock) (block : OpenBlock)
+            → self.old.blocks.blocks ≡ others ++ block ∷ []
             → kept.new ≡ with_blocks kept.old (kept_of block ∷ []) (begin ∷ [])) }
-        ensures keys { OnOk result ((others : List SeenBlock) (block : SeenBlock)
-            → self.old.blocks.items ≡ others ++ block ∷ []
+        ensures keys { OnOk result ((others : List OpenBlock) (block : OpenBlock)
+            → self.old.blocks.blocks ≡ others ++ block ∷ []
             → self.new.keys ≡ keys_behind others self.old.keys (length block.log)) }
         ensures lists { AreListsOf kept.old kept.new }
+        ensures noted { OnOk result ((facts : List UnitFacts)
+            → HaveNoted facts self.old.blocks → HaveNoted facts self.new.blocks) }
         ensures rest { self.new ≡ record self.old { blocks = self.new.blocks; keys = self.new.keys } }
     {
-        let Some(block) = self.blocks.pop() else {
+        let Some(block) = self.blocks.leave()? else {
             return Ok(());
         };
-        let block = block.kept(env.alloc())?;
         self.count(block.log().len());
         kept.put_block(block, begin)
     }
@@ -61,7 +62,7 @@ impl<'k> Keeping<'k> {
     // So many keys are asked next: they are counted where they are asked in no block.
     fn count(&mut self, keys: usize)
         ensures { self.new ≡ record self.old {
-          keys = keys_behind self.old.blocks.items self.old.keys keys;
+          keys = keys_behind self.old.blocks.blocks self.old.keys keys;
         } }
     {
         if self.blocks.is_empty() {
@@ -78,17 +79,19 @@ impl<'k> Keeping<'k> {
         spot: Spot,
         units: &[Unit],
     ) -> Result<Spot, AllocError>
-        requires { result_on kept.old.blocks spot
+        requires found { result_on kept.old.blocks spot
             ≡ Some (block_result (text_of units.now, answers env.now)) }
+        requires noted { HaveNoted env.now self.old.blocks }
         ensures taken { let block = block_result (text_of units.now, answers env.now) in
             IfOk result (λ from. IsTaken kept.old kept.new block from) }
         ensures lists { AreListsOf kept.old kept.new }
         ensures blocks { let block = block_result (text_of units.now, answers env.now) in
             OnOk result
-            (self.new.blocks.items ≡ map (with_asked env.now block.log) self.old.blocks.items) }
+            (self.new.blocks.blocks ≡ map (with_asked env.now block.log) self.old.blocks.blocks) }
+        ensures noted { OnOk result (HaveNoted env.now self.new.blocks) }
         ensures keys { let block = block_result (text_of units.now, answers env.now) in
             OnOk result
-            (self.new.keys ≡ keys_behind self.old.blocks.items self.old.keys (length block.log)) }
+            (self.new.keys ≡ keys_behind self.old.blocks.blocks self.old.keys (length block.log)) }
         ensures meter { let block = block_result (text_of units.now, answers env.now) in
             OnOk result (self.new.meter ≡ record self.old.meter {
               compared = compared_after self.old.meter.compared (length block.log);
@@ -107,11 +110,13 @@ impl<'k> Keeping<'k> {
 
     // A block is met that is alike to this one.
     fn ask_block(&mut self, env: &Env, block: &KeptBlock) -> Result<(), AllocError>
-        requires { HoldsIn (answers env.now) block.now.log }
+        requires held { HoldsIn (answers env.now) block.now.log }
+        requires noted { HaveNoted env.now self.old.blocks }
         ensures blocks { OnOk result
-            (self.new.blocks.items ≡ map (with_asked env.now block.now.log) self.old.blocks.items) }
+            (self.new.blocks.blocks ≡ map (with_asked env.now block.now.log) self.old.blocks.blocks) }
+        ensures noted { OnOk result (HaveNoted env.now self.new.blocks) }
         ensures keys { OnOk result (self.new.keys
-            ≡ keys_behind self.old.blocks.items self.old.keys (length block.now.log)) }
+            ≡ keys_behind self.old.blocks.blocks self.old.keys (length block.now.log)) }
         ensures meter { OnOk result (self.new.meter ≡ record self.old.meter {
           compared = compared_after self.old.meter.compared (length block.now.log);
         }) }
@@ -129,6 +134,6 @@ impl<'k> Keeping<'k> {
         }
         let mut room = Vec::new(env.alloc());
         let entries = block.log().entries_in(env.alloc(), &mut room)?;
-        ask_each(&mut self.blocks, env, entries)
+        self.blocks.ask(env, entries)
     }
 }

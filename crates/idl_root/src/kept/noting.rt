@@ -4,10 +4,9 @@ ghost use Rattle.std.specs.Prelude.{◌≡◌, ◌∷◌, ◌++◌, [], Bool, Li
 ghost use Rattle.idl_check_blocks.specs.Standing.{IsBlock};
 ghost use Rattle.idl_env.specs.Facts.{UnitFacts, answers};
 ghost use Rattle.idl_root.specs.Passed.{AllGoOn, GoesOn};
-ghost use Rattle.idl_root_blocks.specs.Asking.{kept_of, with_asked};
+ghost use Rattle.idl_root_blocks.specs.Asking.{OpenBlock, kept_of, with_asked};
 ghost use Rattle.idl_root_blocks.specs.Blocks.{IsOfBlock, parts_of};
 ghost use Rattle.idl_root_blocks.specs.Places.{Stands, block_result, declaration_result, facts_over, with_entering};
-ghost use Rattle.idl_root_blocks.specs.declared.open.OpenBlock.{OpenBlock};
 ghost use Rattle.idl_root_blocks.specs.declared.text.BlockPart.{BlockPart as Part};
 ghost use Rattle.idl_root_blocks.specs.declared.text.BlockPart.TheVariants.{Text, Enters, Leaves};
 ghost use Rattle.idl_unit.specs.declared.unit.UnitText.{UnitText};

@@ -1,5 +1,5 @@
 -- Step by step: what is left tells.
-use Rattle.std.proofs.Common.{◌≡◌, ◌+◌, ◌-◌, ◌≤◌, ◌||◌, ◌∙◌, List, Option, sym, ap, flat_map, take, arith}
+use Rattle.std.proofs.Common.{◌+◌, ◌-◌, ◌≤◌, ◌||◌, ◌∙◌, List, Option, sym, ap, flat_map, take, arith}
 use Rattle.std.proofs.lemmas.List.Folds.{list_any-append}
 use Rattle.idl_memo.specs.Query.{is_logged}
 use Rattle.idl_memo.proofs.RunLaws.{all-left, none-left, no-steps, one-left}

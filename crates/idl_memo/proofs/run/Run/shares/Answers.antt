@@ -1,5 +1,5 @@
 -- Step by step: what is left tells.
-use Rattle.std.proofs.Common.{◌≡◌, ◌+◌, ◌-◌, ◌≤◌, ◌∙◌, Option, sym, ap, subst, flat_map, take, arith}
+use Rattle.std.proofs.Common.{◌+◌, ◌-◌, ◌≤◌, ◌∙◌, Option, sym, ap, subst, flat_map, take, arith}
 use Rattle.std.specs.Prelude.{All}
 use Rattle.std.proofs.lemmas.List.Elements.{All-append, All-nil}
 use Rattle.idl_memo.proofs.RunLaws.{all-left, none-left, no-steps, one-left}

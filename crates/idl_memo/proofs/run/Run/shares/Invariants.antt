@@ -1,4 +1,4 @@
-use Rattle.std.proofs.Common.{◌≡◌, ◌-◌, flat_map, take}
+use Rattle.std.proofs.Common.{◌-◌, flat_map, take}
 use Rattle.std.specs.Prelude.{All}
 use Rattle.idl_memo.proofs.run.Run.shares.Given as goal
 

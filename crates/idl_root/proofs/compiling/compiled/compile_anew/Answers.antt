@@ -6,7 +6,7 @@ use Rattle.idl_env.specs.Facts.{UnitFacts}
 use Rattle.idl_env.specs.Turns.{most_turns, turns_for}
 use Rattle.idl_kept.specs.Texts.{Texts}
 use Rattle.idl_memo.specs.Meter.{compared_after, most_compared}
-use Rattle.idl_store.specs.Stored.{Stored, begun, grown, list_at, results_in}
+use Rattle.idl_store.specs.Stored.{Stored, begun, grown, results_in}
 use Rattle.idl_memo.specs.declared.meter.Meter.{Meter}
 use Rattle.idl_root.specs.AsBefore.{kept_lists}
 use Rattle.idl_root.specs.Compared.{entry_keys, shared_entries}
@@ -14,8 +14,8 @@ use Rattle.idl_root.specs.Compile.{Outcome, compile, outcome_of, told}
 use Rattle.idl_root.specs.Followed.{AreBeside}
 use Rattle.idl_root.specs.Held.{held, listed_at}
 use Rattle.idl_root.specs.Passed.{HasDrafts}
-use Rattle.idl_root.specs.Places.{EntryPlace, entries_of, entries_over}
-use Rattle.idl_root.specs.Results.{DeclarationResult, EntryResult, HasDraft, IsEntryPass, PrintsOnly, entry_result, marks_of}
+use Rattle.idl_root.specs.Places.{entries_of, entries_over}
+use Rattle.idl_root.specs.Results.{EntryResult, HasDraft, IsEntryPass, PrintsOnly, entry_result, marks_of}
 use Rattle.idl_root.specs.declared.compiling.printing.Listed.{Listed as HeldListed}
 use Rattle.idl_root.proofs.CompileLemmas.{declarations-passed, entries-are, entries-drafted, entries-passed, expands-none, judged-all, printed-there, start-keeping, start-printed, start-there}
 use Rattle.idl_root.proofs.JudgingLemmas.{told-ended}
@@ -61,7 +61,7 @@ printed-requires c =
     (start-printed old.texts.declarations.lists course root.at root.marks.now c.new-earlier.ensures.list c.new-earlier.ensures.place c.new-earlier.ensures.marks
     c.requires.kept.0 (kept_lists old root.at) refl c.requires.kept.1) in
     subst (λ o. IfSome o (λ r. AreBeside entries r env)) (sym c.new-printing.ensures.reprinting)
-    (some-weaker c.ended-marks.result.1 _ _ (λ r told. told lists env entries c.in_ok-judging.ensures.keeping printed) c.ended-marks.ensures.reprinting)
+    (some-weaker c.ended-marks.result.1 _ _ (λ r told. told lists env entries c.in_ok-judging.ensures.keeping.follows printed) c.ended-marks.ensures.reprinting)
 
 pub returns-clause-compiled : goal.returns-clause-compiled
 unfolding compile

@@ -1,5 +1,5 @@
 -- What stands there is what the number there stands for.
-use Rattle.std.proofs.Common.{◌≡◌, ◌∙◌, None, Some, ap, sym}
+use Rattle.std.proofs.Common.{◌∙◌, None, Some, ap, sym}
 use Rattle.idl_store.specs.Numbers.{numbers_of}
 use Rattle.idl_store.specs.Spots.{result_on}
 use Rattle.idl_store.proofs.Reading.{result-under}

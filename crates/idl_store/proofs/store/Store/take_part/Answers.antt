@@ -1,5 +1,5 @@
 -- The numbers there go into the last draft.
-use Rattle.std.proofs.Common.{◌≡◌, ◌∙◌, ℕ, All, List, ap, arith, subst, sym}
+use Rattle.std.proofs.Common.{◌∙◌, All, arith, subst, sym}
 use Rattle.std.specs.Prelude.{IsSome}
 use Rattle.slab.specs.Slab.{get}
 use Rattle.idl_store.specs.Numbers.{drafts_of, numbers_of}

@@ -18,7 +18,9 @@ use Rattle.idl_root.proofs.PassedLemmas.{compares-none}
 use Rattle.idl_root.proofs.PiecesLemmas.{facts-inside}
 use Rattle.idl_root.proofs.TextLaws.{facts-text}
 use Rattle.idl_root.specs.Added.{told_by}
-use Rattle.idl_root.specs.Followed.{IsKeeping, added_by}
+use Rattle.idl_root.specs.Followed.{IsFollowing, IsKeeping, added_by}
+use Rattle.idl_facts.specs.Written.{boundary}
+use Rattle.idl_root_blocks.specs.Asking.{AreNoted as HaveNoted}
 use Rattle.idl_root.specs.Held.{to_come, with_gathered, with_units}
 use Rattle.idl_root.specs.Judged.{added, facts_after, judged_after, judged_at}
 use Rattle.idl_root.specs.Passed.{AllGoOn, ArePassed, Compares, MayBeLeft, marks_in}
@@ -157,6 +159,14 @@ add_all-returns-clause-compared t c =
     let meter = c.units.keeping.meter in
     c.units.invariant.8 meter (subst (λ (p : Pieces). Compares env p kept meter meter) (sym (cut-none c.units.left.now none)) (compares-none env kept meter))
 
+pub add_block-enter-requires : goal.add_block-enter-requires
+add_block-enter-requires t c = (
+  c.args.env,
+  boundary EntersFile,
+  c.get-2.ensures ∙ c.in_ok-env.ensures.env,
+  subst (λ (k : Keeping). HaveNoted c.args.env k.blocks) (sym c.in_ok-env.ensures.rest) c.requires.keeping.noted,
+)
+
 pub add_block-add_all-requires : goal.add_block-add_all-requires
 add_block-add_all-requires t c =
     let kept = c.args.kept.now in
@@ -165,7 +175,10 @@ add_block-add_all-requires t c =
     let own = c.in_ok-env.ensures.keeping lists c.requires.keeping in (
       omega arith,
       (
-        subst (λ (k : Keeping). IsKeeping lists k env) (sym c.in_ok-enter.ensures.rest) own,
+        record {
+          follows = subst (λ (k : Keeping). IsFollowing lists k env) (sym c.in_ok-enter.ensures.rest) own.follows;
+          noted = subst (λ (fs : List UnitFacts). HaveNoted fs c.enter.new.self.blocks) c.get-2.ensures c.in_ok-enter.ensures.noted;
+        },
         (subst AreTold (sym c.in_ok-env.ensures.env) (files-told c.args.env EntersFile tt c.requires.told), c.requires.drafts),
       ),
     )
@@ -182,8 +195,8 @@ add_block-leave-requires t c =
     let inside = c.enter.new.self in
     let later = c.add_all.new.keeping in
     let start : c.in_ok-env.env ≡ with_entering facts = c.in_ok-env.ensures.env in
-    let enters : inside.blocks.items ≡ first.blocks.items ++ record { text = text; start = length (with_entering facts); log = [] } ∷ [] =
-    c.in_ok-enter.ensures.blocks ∙ (λ i. first.blocks.items ++ record { text = c.in_ok-text_of.ensures i; start = length ((c.get-2.ensures ∙ start) i); log = [] } ∷ []) in
+    let enters : inside.blocks.blocks ≡ first.blocks.blocks ++ record { text = text; start = length (with_entering facts); log = [] } ∷ [] =
+    c.in_ok-enter.ensures.blocks ∙ (λ i. first.blocks.blocks ++ record { text = c.in_ok-text_of.ensures i; start = length ((c.get-2.ensures ∙ start) i); log = [] } ∷ []) in
     let passed : ArePassed (with_entering facts) (cut text) kept inside between later = subst (λ (fs : List UnitFacts). ArePassed fs (cut text) kept inside between later) start c.in_ok-env-2.ensures.passed in
     let end : c.in_ok-env-2.env ≡ facts_over (with_entering facts) text =
     c.in_ok-env-2.ensures.env ∙ ap (λ (fs : List UnitFacts). facts_after fs units) start ∙ facts-text units (with_entering facts) in
@@ -193,7 +206,7 @@ add_block-leave-requires t c =
       facts,
       cut text,
       left facts text c.requires.block c.taking.ensures.parts kept between old first inside later c.requires.drafts c.in_ok-env.ensures.rest enters c.in_ok-enter.ensures.rest passed,
-      subst (λ n. MayBeLeft between n facts (cut text) (left facts text c.requires.block c.taking.ensures.parts kept between old first inside later c.requires.drafts c.in_ok-env.ensures.rest enters c.in_ok-enter.ensures.rest passed) later.blocks.items) (sym c.drafted-begin.ensures) (may-be-left facts text c.requires.block c.taking.ensures.parts kept between old first inside later c.requires.drafts c.in_ok-env.ensures.rest enters c.in_ok-enter.ensures.rest passed stands c.noting.ensures.left),
+      subst (λ n. MayBeLeft between n facts (cut text) (left facts text c.requires.block c.taking.ensures.parts kept between old first inside later c.requires.drafts c.in_ok-env.ensures.rest enters c.in_ok-enter.ensures.rest passed) later.blocks.blocks) (sym c.drafted-begin.ensures) (may-be-left facts text c.requires.block c.taking.ensures.parts kept between old first inside later c.requires.drafts c.in_ok-env.ensures.rest enters c.in_ok-enter.ensures.rest passed stands c.noting.ensures.left),
     )
 
 pub add_block-returns-clause-env : goal.add_block-returns-clause-env
@@ -220,8 +233,8 @@ add_block-returns-clause-passed t c =
     let inside = c.enter.new.self in
     let later = c.add_all.new.keeping in
     let start : c.in_ok-env.env ≡ with_entering facts = c.in_ok-env.ensures.env in
-    let enters : inside.blocks.items ≡ first.blocks.items ++ record { text = text; start = length (with_entering facts); log = [] } ∷ [] =
-    c.in_ok-enter.ensures.blocks ∙ (λ i. first.blocks.items ++ record { text = c.in_ok-text_of.ensures i; start = length ((c.get-2.ensures ∙ start) i); log = [] } ∷ []) in
+    let enters : inside.blocks.blocks ≡ first.blocks.blocks ++ record { text = text; start = length (with_entering facts); log = [] } ∷ [] =
+    c.in_ok-enter.ensures.blocks ∙ (λ i. first.blocks.blocks ++ record { text = c.in_ok-text_of.ensures i; start = length ((c.get-2.ensures ∙ start) i); log = [] } ∷ []) in
     let passed : ArePassed (with_entering facts) (cut text) kept inside between later = subst (λ (fs : List UnitFacts). ArePassed fs (cut text) kept inside between later) start c.in_ok-env-2.ensures.passed in
     let end : c.in_ok-env-2.env ≡ facts_over (with_entering facts) text =
     c.in_ok-env-2.ensures.env ∙ ap (λ (fs : List UnitFacts). facts_after fs units) start ∙ facts-text units (with_entering facts) in
@@ -245,7 +258,10 @@ add_block-returns-clause-passed t c =
     ∙ passed.marks
     ∙ (λ i. (ap (λ (k : Keeping). k.marks.items) c.in_ok-enter.ensures.rest ∙ c.in_ok-env.ensures.marks) i ++ marks_in (cut-whole text i))) in
     let walks-on : IsKeeping lists without c.in_ok-env-2.env =
-    subst (λ (k : Keeping). IsKeeping lists k c.in_ok-env-2.env) (sym c.in_ok-leave.ensures.rest) (subst (IsKeeping lists later) (sym whole) passed.keeping_is) in
+    (let there : IsKeeping lists later c.in_ok-env-2.env = subst (IsKeeping lists later) (sym whole) passed.keeping_is in record {
+      follows = subst (λ (k : Keeping). IsFollowing lists k c.in_ok-env-2.env) (sym c.in_ok-leave.ensures.rest) there.follows;
+      noted = c.in_ok-leave.ensures.noted c.in_ok-env-2.env there.noted;
+    }) in
     let into : inside.meter ≡ old.meter = ap (λ (k : Keeping). k.meter) c.in_ok-enter.ensures.rest ∙ ap (λ (k : Keeping). k.meter) c.in_ok-env.ensures.rest in
     let out : after.meter ≡ later.meter = ap (λ (k : Keeping). k.meter) c.in_ok-env-3.ensures.rest ∙ ap (λ (k : Keeping). k.meter) c.in_ok-leave.ensures.rest in
     let earlier : after.earlier ≡ old.earlier =
@@ -259,8 +275,8 @@ add_block-returns-clause-passed t c =
     (subst (λ (m : Meter). IsDeclarationPass places (results_in kept.declarations) (results_in between.declarations) old.meter.checked m.checked) (sym out)
     (subst (λ (m : Meter). IsDeclarationPass places (results_in kept.declarations) (results_in between.declarations) m.checked later.meter.checked) into passed.counts)))
     (subst (λ (m : Meter). ChecksOnly old.meter m) (sym out) (subst (λ (m : Meter). ChecksOnly m later.meter) into passed.others))
-    (subst (AllGoOn facts (Enters false ∷ (text ++ Leaves false ∷ [])) old.blocks.items)
-    (sym (ap (λ (k : Keeping). k.blocks.items) c.in_ok-env-3.ensures.rest ∙ c.in_ok-leave.ensures.blocks others own in-front)) (around facts text c.requires.block c.taking.ensures.parts kept between old first inside later c.requires.drafts c.in_ok-env.ensures.rest enters c.in_ok-enter.ensures.rest passed c.noting.ensures.boundary c.noting.ensures.more))
+    (subst (AllGoOn facts (Enters false ∷ (text ++ Leaves false ∷ [])) old.blocks.blocks)
+    (sym (ap (λ (k : Keeping). k.blocks.blocks) c.in_ok-env-3.ensures.rest ∙ c.in_ok-leave.ensures.blocks others own in-front)) (around facts text c.requires.block c.taking.ensures.parts kept between old first inside later c.requires.drafts c.in_ok-env.ensures.rest enters c.in_ok-enter.ensures.rest passed c.noting.ensures.boundary c.noting.ensures.more))
     (λ within. keys-left facts text c.requires.block c.taking.ensures.parts kept between old first inside later c.requires.drafts c.in_ok-env.ensures.rest enters c.in_ok-enter.ensures.rest passed stands c.noting.ensures.left after.keys (ap (λ (k : Keeping). k.keys) c.in_ok-env-3.ensures.rest ∙ c.in_ok-leave.ensures.keys others own in-front) within)
 
 pub add_block-returns-clause-compared : goal.add_block-returns-clause-compared

@@ -49,7 +49,7 @@ returns-in_ok-crossed-in-Entered-clause-passed c =
     let is = c.in_ok-crossed-in-Entered.ensures in
     subst (λ u. ArePassed env (in_front (parts_of_unit u) Nothing) kept c.args.keeping.now kept c.crossed.new.keeping) (sym c.in-Entered.is)
     (passed-boundary c.passing.ensures.none c.passing.ensures.one env kept kept c.args.keeping.now c.crossed.new.keeping (Enters c.in-Entered.inside) refl refl is.marks
-    (is.keeping kept.declarations.lists c.requires.keeping) is.rest (c.noting.ensures.boundary env c.in-Entered.inside c.args.keeping.now.blocks.items).0)
+    (is.keeping kept.declarations.lists c.requires.keeping) is.rest (c.noting.ensures.boundary env c.in-Entered.inside c.args.keeping.now.blocks.blocks).0)
 
 pub returns-in_ok-crossed-in-Entered-clause-compared : goal.returns-in_ok-crossed-in-Entered-clause-compared
 returns-in_ok-crossed-in-Entered-clause-compared c =
@@ -63,7 +63,7 @@ returns-in_ok-crossed-in-Left-clause-passed c =
     let is = c.in_ok-crossed-in-Left.ensures in
     subst (λ u. ArePassed env (in_front (parts_of_unit u) Nothing) kept c.args.keeping.now kept c.crossed-in-Left.new.keeping) (sym c.in-Left.is)
     (passed-boundary c.passing.ensures.none c.passing.ensures.one env kept kept c.args.keeping.now c.crossed-in-Left.new.keeping (Leaves c.in-Left.inside) refl refl is.marks
-    (is.keeping kept.declarations.lists c.requires.keeping) is.rest (c.noting.ensures.boundary env c.in-Left.inside c.args.keeping.now.blocks.items).1)
+    (is.keeping kept.declarations.lists c.requires.keeping) is.rest (c.noting.ensures.boundary env c.in-Left.inside c.args.keeping.now.blocks.blocks).1)
 
 pub returns-in_ok-crossed-in-Left-clause-compared : goal.returns-in_ok-crossed-in-Left-clause-compared
 returns-in_ok-crossed-in-Left-clause-compared c =

@@ -8,7 +8,7 @@ use Rattle.idl_root.proofs.KnownLemmas.{marks-text}
 use Rattle.idl_root.proofs.PassedBlocks.{compares-taken, is-known, passed-block, some-on}
 use Rattle.idl_root.proofs.TakenWhole.{facts-are, judged-are, kept-are, none-run, same}
 use Rattle.idl_root.specs.AsBefore.{judged_beside}
-use Rattle.idl_root.specs.Followed.{IsKeeping, added_by}
+use Rattle.idl_root.specs.Followed.{IsFollowing, IsKeeping, added_by}
 use Rattle.idl_root.specs.Held.{with_gathered, with_units}
 use Rattle.idl_root.specs.Passed.{AllGoOn, known_results, marks_in}
 use Rattle.idl_root.specs.Results.{IsDeclarationPass, marks_of}
@@ -25,6 +25,19 @@ use Rattle.idl_root_blocks.specs.Met.{is_known}
 use Rattle.idl_store.specs.Spots.{results_from}
 use Rattle.idl_store.specs.Stored.{results_in}
 use Rattle.idl_root.proofs.compiling.judging.Gathered.add_taken.Goals as goal
+
+pub add_known-requires : goal.add_known-requires
+add_known-requires c =
+    let facts = c.args.env in
+    let kept = c.args.kept.now in
+    let first = c.take_block.new.self in
+    let lists = kept.declarations.lists in
+    let taken : IsKeeping lists first facts = record {
+      follows = subst (λ (k : Keeping). IsFollowing lists k facts) (sym c.in_ok-first.ensures.rest) c.requires.keeping.follows;
+      noted = c.in_ok-first.ensures.noted;
+    } in
+    subst (λ ls. IsKeeping ls c.beyond.new.keeping c.in_ok-env.env)
+    (sym (ap (λ s. s.lists) (c.new-known.ensures.declarations ∙ c.declarations.ensures) ∙ c.take_block.ensures.lists.declarations)) (c.in_ok-env.ensures.keeping lists taken)
 
 pub returns-clause-env : goal.returns-clause-env
 returns-clause-env c =
@@ -94,13 +107,13 @@ returns-clause-passed c =
     let earlier : after.earlier ≡ old.earlier =
     ap (λ (k : Keeping). k.earlier) c.in_ok-env-3.ensures.rest ∙ ap (λ (k : Keeping). k.earlier) c.in_ok-env-2.ensures.rest ∙ ap (λ (k : Keeping). k.earlier) c.in_ok-env.ensures.rest
     ∙ ap (λ (k : Keeping). k.earlier) c.in_ok-first.ensures.rest in
-    let blocks = ap (λ (k : Keeping). k.blocks.items) c.in_ok-env-3.ensures.rest ∙ ap (λ (k : Keeping). k.blocks.items) c.in_ok-env-2.ensures.rest ∙ ap (λ (k : Keeping). k.blocks.items) c.in_ok-env.ensures.rest ∙ c.in_ok-first.ensures.blocks in
+    let blocks = ap (λ (k : Keeping). k.blocks.blocks) c.in_ok-env-3.ensures.rest ∙ ap (λ (k : Keeping). k.blocks.blocks) c.in_ok-env-2.ensures.rest ∙ ap (λ (k : Keeping). k.blocks.blocks) c.in_ok-env.ensures.rest ∙ c.in_ok-first.ensures.blocks in
     let keys = ap (λ (k : Keeping). k.keys) c.in_ok-env-3.ensures.rest ∙ ap (λ (k : Keeping). k.keys) c.in_ok-env-2.ensures.rest ∙ ap (λ (k : Keeping). k.keys) c.in_ok-env.ensures.rest ∙ c.in_ok-first.ensures.keys in
     let stands = (same c.repeated.ensures facts units kept new from c.in_ok-first.ensures.taken c.requires.block c.requires.told behind is turns count).stands in
     passed-block (λ here. (c.taking.ensures.asks here here).1) facts text kept new old after (kept-are c.repeated.ensures facts units kept new from c.in_ok-first.ensures.taken c.requires.block c.requires.told behind is turns count) marks walks earlier
     (subst (λ n. IsDeclarationPass (declarations_over (with_entering facts) (text_in (cut text))) (results_in kept.declarations) (results_in new.declarations) old.meter.checked n) (sym (ap (λ (m : Meter). m.checked) count-is)) (none-run c.repeated.ensures facts units kept new from c.in_ok-first.ensures.taken c.requires.block c.requires.told behind is turns count c.passing.ensures.none c.passing.ensures.one c.passing.ensures.both c.requires.drafts.declarations old.meter.checked))
     (subst (λ (m : Meter). m ≡ record old.meter { checked = m.checked; compared = m.compared }) (sym count-is) refl)
-    (subst (AllGoOn facts (Enters false ∷ (text ++ Leaves false ∷ [])) old.blocks.items) (sym blocks) (c.noting.ensures.block facts text old.blocks.items c.requires.block stands))
+    (subst (AllGoOn facts (Enters false ∷ (text ++ Leaves false ∷ [])) old.blocks.blocks) (sym blocks) (c.noting.ensures.block facts text old.blocks.blocks c.requires.block stands))
     (λ within. keys)
 
 pub returns-clause-compared : goal.returns-clause-compared

@@ -1,5 +1,4 @@
 use Rattle.std.proofs.Common.{rules, subst, sym}
-use Rattle.std.specs.Prelude.{IfSome}
 use Rattle.idl_root.specs.AsBefore.{IsBehindSame}
 use Rattle.idl_root.proofs.BesideLemmas.{behind-entered, behind-left, behind-spelled}
 use Rattle.idl_root.proofs.TakenLemmas.{some-weaker}

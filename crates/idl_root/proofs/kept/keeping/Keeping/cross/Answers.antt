@@ -5,5 +5,7 @@ use Rattle.idl_root.proofs.kept.keeping.Keeping.cross.Goals as goal
 
 pub returns-clause-keeping : goal.returns-clause-keeping
 returns-clause-keeping c = λ lists k.
-    let earlier = c.args.self.now.earlier in
-    c.in_ok-self.ensures lists earlier (subst (λ o. IfSome o (λ f. IsFollowed lists earlier f c.args.env.now)) (sym c.replace-following.ensures.value) k)
+    let earlier = c.args.self.now.earlier in record {
+      follows = c.in_ok-self.ensures lists earlier (subst (λ o. IfSome o (λ f. IsFollowed lists earlier f c.args.env.now)) (sym c.replace-following.ensures.value) k.follows);
+      noted = c.noting_on.ensures c.args.env.now c.args.facts.now c.args.self.now.blocks k.noted;
+    }

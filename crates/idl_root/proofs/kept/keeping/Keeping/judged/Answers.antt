@@ -24,8 +24,8 @@ pub returns-in_ok-self-in-Some-clause-lists : goal.returns-in_ok-self-in-Some-cl
 returns-in_ok-self-in-Some-clause-lists c =
     ap (λ (s : Stored DeclarationResult). s.lists) (at-some c.in_ok-declaration.field-0 c.in-Some.declaration _ c.in-Some.is c.in_ok-declaration.ensures.again c.args.self.now.earlier c.args.env.now c.requires).new_is
 
-pub returns-in_ok-self-in-Some-clause-keeping : goal.returns-in_ok-self-in-Some-clause-keeping
-returns-in_ok-self-in-Some-clause-keeping c =
+pub returns-in_ok-self-in-Some-clause-follows : goal.returns-in_ok-self-in-Some-clause-follows
+returns-in_ok-self-in-Some-clause-follows c =
     let env = c.args.env.now in
     let before = c.args.following in
     let lists = c.args.kept.now.declarations.lists in

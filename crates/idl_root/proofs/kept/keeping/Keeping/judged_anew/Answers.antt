@@ -7,8 +7,8 @@ use Rattle.idl_root.proofs.TakenLemmas.{some-weaker}
 use Rattle.idl_store.specs.Stored.{Stored}
 use Rattle.idl_root.proofs.kept.keeping.Keeping.judged_anew.Goals as goal
 
-pub returns-clause-keeping : goal.returns-clause-keeping
-returns-clause-keeping c =
+pub returns-clause-follows : goal.returns-clause-follows
+returns-clause-follows c =
     let env = c.args.env.now in
     let before = c.args.following in
     let kept = c.obtained.new.kept.declarations in

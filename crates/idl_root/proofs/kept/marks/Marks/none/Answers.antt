@@ -1,6 +1,5 @@
 -- Of a root that expands to nothing there are no units, and no results.
 use Rattle.std.proofs.Common.{◌≡◌, [], refl}
-use Rattle.idl_kept.specs.Texts.{begins_in}
 use Rattle.idl_root.specs.Compared.{root_keys}
 use Rattle.idl_root.specs.Judged.{judged_after}
 use Rattle.idl_root.specs.Places.{begins_of, blocks_of, declarations_after, declarations_of, entries_of}
