@@ -1,5 +1,5 @@
 -- What the program does with a request.
-use Rattle.std.specs.Prelude.{◌≡◌, ℕ, List, Option, IfSome}
+use Rattle.std.specs.Prelude.{◌≡◌, ℕ, List, [], Option, IfSome}
 use Rattle.std.specs.String.{string_bytes}
 use Rattle.idl_session.specs.Answers.{IsReply}
 use Rattle.idl_source.specs.devices.Device.{append}
@@ -25,7 +25,7 @@ pub record AreAnswered (input : Option (List ℕ)) (before after : Written) (sta
   pub output : IfSome input (λ bytes.
       (replies : List ℕ) × (after.output ≡ append before.output replies)
       × (last : State)
-      × IsReply (record { project = no_project; work = no_work }) bytes replies last)
+      × IsReply (record { project = no_project; work = no_work; touched = [] }) bytes replies last)
   pub errors : after.errors ≡ before.errors
   pub sound : status ≡ Sound
 

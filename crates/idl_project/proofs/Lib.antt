@@ -1,6 +1,7 @@
 pub mod AddedLemmas
 pub mod AskedLemmas
 pub mod BankLemmas
+pub mod DetailLemmas
 pub mod EditLemmas
 pub mod FileLemmas
 pub mod FormLemmas
@@ -10,3 +11,4 @@ pub mod MetLemmas
 pub mod RenewedLemmas
 pub mod RootLemmas
 pub mod StoreLemmas
+pub mod TouchedLemmas

@@ -32,7 +32,7 @@ use Rattle.idl_project.specs.Renewed.{IsKeeperLeft, IsRenewed}
 use Rattle.idl_project.specs.Tasks.{kept_entries, kept_texts, lists_for}
 use Rattle.idl_project.specs.UpToDate.{AreKept, IsKept, IsUpToDate, State, project_held}
 use Rattle.idl_project.specs.WellFormed.{IsWellFormed}
-use Rattle.idl_project.specs.Work.{work_between, work_of}
+use Rattle.idl_project.specs.Work.{touched_between, touched_of, work_between, work_of}
 use Rattle.idl_project.specs.declared.work.Work.{Work}
 use Rattle.idl_project.specs.declared.kept_root.KeptRoot.{KeptRoot}
 use Rattle.idl_project.proofs.FormLemmas.{none-formed}
@@ -166,7 +166,7 @@ pub remaining-there : (held : List (List ℕ × KeptRoot)) (test : List ℕ → 
 remaining-there held test = All-map-remove_entry test (λ (e : List ℕ × KeptRoot). e.0) (Contains (keys_of held)) held (All-contains_itself (keys_of held))
 
 -- After an edit that changes one answer: the same roots, with what is kept of them over the changed answers.
-pub IsUpToDate-edited : (now new : Inputs) (held : List (List ℕ × KeptRoot)) (renewed : List (List ℕ × KeptRoot) × Work) (made keeper : Keeper) (asked at : RootKey) (given answer : Option RootAnswer)
+pub IsUpToDate-edited : (now new : Inputs) (held : List (List ℕ × KeptRoot)) (renewed : List (List ℕ × KeptRoot) × Work × List (List ℕ)) (made keeper : Keeper) (asked at : RootKey) (given answer : Option RootAnswer)
     → IsRenewed (project_held now held) asked given made renewed → keeper.texts ≡ committed_texts made.texts → keeper.entries ≡ committed made.entries
     → asked ≡ at → given ≡ answer → bank_of new ≡ changed key_eq (bank_of now) at answer
     → IsWellFormed (record { inputs = new; roots = keys_of renewed.0 }) → IsUpToDate new renewed.0 keeper
@@ -179,14 +179,18 @@ IsUpToDate-edited now new held renewed made keeper asked at given answer again t
       entries = entries ∙ again.entries ∙ (λ i. kept_entries (banks i) (sym again.roots i));
     }
 
--- and the work is that between the two projects
-pub work-edited : (state : State) (now new : Inputs) (held : List (List ℕ × KeptRoot)) (renewed : List (List ℕ × KeptRoot) × Work) (made : Keeper) (asked at : RootKey) (given answer : Option RootAnswer) (work : Work)
-    → record { project = record { inputs = now; roots = keys_of held }; work = work } ≡ state
+-- and the work is that between the two projects, as the roots are that were expanded anew
+pub work-edited : (state : State) (now new : Inputs) (held : List (List ℕ × KeptRoot)) (renewed : List (List ℕ × KeptRoot) × Work × List (List ℕ)) (made : Keeper) (asked at : RootKey) (given answer : Option RootAnswer)
+    (work : Work) (touched : List (List ℕ))
+    → record { project = record { inputs = now; roots = keys_of held }; work = work; touched = touched } ≡ state
     → IsRenewed (project_held now held) asked given made renewed
     → asked ≡ at → given ≡ answer → bank_of new ≡ changed key_eq (bank_of now) at answer
-    → renewed.1 ≡ work_of state.project (record { inputs = new; roots = keys_of renewed.0 })
-work-edited state now new held renewed made asked at given answer work is again asks gives changes =
+    → (renewed.1 ≡ work_of state.project (record { inputs = new; roots = keys_of renewed.0 })) × (renewed.2 ≡ touched_of state.project (record { inputs = new; roots = keys_of renewed.0 }))
+work-edited state now new held renewed made asked at given answer work touched is again asks gives changes =
     let banks : changed key_eq (bank_of now) asked given ≡ bank_of new =
-    ap (λ (k : RootKey). changed key_eq (bank_of now) k given) asks ∙ ap (changed key_eq (bank_of now) at) gives ∙ sym changes in
-    again.work ∙ (λ i. work_between (bank_of now) (keys_of held) (banks i) (sym again.roots i))
-    ∙ ap (λ (s : State). work_of s.project (record { inputs = new; roots = keys_of renewed.0 })) is
+    ap (λ (k : RootKey). changed key_eq (bank_of now) k given) asks ∙ ap (changed key_eq (bank_of now) at) gives ∙ sym changes in (
+      again.work ∙ (λ i. work_between (bank_of now) (keys_of held) (banks i) (sym again.roots i))
+          ∙ ap (λ (s : State). work_of s.project (record { inputs = new; roots = keys_of renewed.0 })) is,
+      again.touched ∙ (λ i. touched_between (bank_of now) (keys_of held) (banks i) (sym again.roots i))
+          ∙ ap (λ (s : State). touched_of s.project (record { inputs = new; roots = keys_of renewed.0 })) is,
+    )

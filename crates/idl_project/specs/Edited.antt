@@ -4,7 +4,7 @@ use Rattle.idl_source.specs.declared.refusal.Refusal.{Refusal}
 use Rattle.idl_source.specs.declared.refusal.Refusal.TheVariants.{NoMemory}
 use Rattle.idl_project.specs.Edits.{Edit, DropRoot, after}
 use Rattle.idl_project.specs.UpToDate.{State}
-use Rattle.idl_project.specs.Work.{work_of}
+use Rattle.idl_project.specs.Work.{touched_of, work_of}
 use Rattle.idl_project.specs.declared.work.Work.{Work}
 
 -- all edits take memory but one: a root is dropped without
@@ -13,11 +13,12 @@ takes_memory (DropRoot name) = false
 takes_memory other = true
 
 -- an accepted edit: the project is the one after it, and the work is that between the two projects,
--- which is told and kept
+-- which is told and kept, and the roots that it expanded anew are kept
 pub record IsAccepted (edit : Edit) (old new : State) (work : Work) : Type 0 where
   pub project : after old.project edit ≡ Ok new.project
   pub kept : new.work ≡ work
   pub told : work ≡ work_of old.project new.project
+  pub touched : new.touched ≡ touched_of old.project new.project
 
 -- a refused edit: nothing has changed, and the refusal is the least that applies, or else want of
 -- memory

@@ -2,6 +2,7 @@ pub mod Asked
 pub mod Bank
 pub mod Compared
 pub mod Compile
+pub mod Details
 pub mod Edited
 pub mod Edits
 pub mod Made

@@ -14,7 +14,7 @@ use Rattle.idl_project.specs.Bank.{bank_of, bank_with}
 use Rattle.idl_project.specs.Project.{Inputs, Project}
 use Rattle.idl_project.specs.Tasks.{alike_root, kept_entries, kept_texts}
 use Rattle.idl_project.specs.UpToDate.{AreKept, IsKept}
-use Rattle.idl_project.specs.Work.{work_between}
+use Rattle.idl_project.specs.Work.{touched_between, work_between}
 use Rattle.idl_project.specs.declared.kept_root.KeptRoot.{KeptRoot}
 use Rattle.idl_project.specs.declared.work.Work.{Work}
 
@@ -67,10 +67,11 @@ pub record IsAdded (inputs : Inputs) (root : List ℕ) (old new : List (List ℕ
   pub is_kept : IsKept (bank_of inputs) (root, kept)
   pub last : new ≡ old ++ (root, kept) ∷ []
 
--- the same roots, with what is kept of them once this key has another answer, and the work of that;
--- what is kept of their tasks then comes of the keeper once its drafts are in place
+-- the same roots, with what is kept of them once this key has another answer, the work of that, and
+-- those of them that were expanded anew; what is kept of their tasks then comes of the keeper once
+-- its drafts are in place
 pub record IsRenewed (project : Project) (key : RootKey) (answer : Option RootAnswer)
-    (keeper : Keeper) (renewed : List (List ℕ × KeptRoot) × Work) : Type 0 where
+    (keeper : Keeper) (renewed : List (List ℕ × KeptRoot) × Work × List (List ℕ)) : Type 0 where
   pub roots : keys_of renewed.0 ≡ project.roots
   pub kept : AreKept (bank_with project.inputs key answer) renewed.0
   pub texts : committed_texts keeper.texts
@@ -80,3 +81,6 @@ pub record IsRenewed (project : Project) (key : RootKey) (answer : Option RootAn
   pub work : renewed.1
       ≡ work_between (bank_of project.inputs) project.roots (bank_with project.inputs key answer)
       project.roots
+  pub touched : renewed.2
+      ≡ touched_between (bank_of project.inputs) project.roots
+      (bank_with project.inputs key answer) project.roots

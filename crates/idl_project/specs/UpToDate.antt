@@ -14,17 +14,19 @@ use Rattle.idl_root.specs.declared.compiling.finding.Finding.{Finding}
 use Rattle.idl_root.specs.declared.kept.keeper.Keeper.{Keeper}
 use Rattle.idl_project.specs.Bank.{bank_of}
 use Rattle.idl_project.specs.Compile.{compiled_root, compile_over}
-use Rattle.idl_project.specs.Project.{Inputs, Project, project_code, is_root}
+use Rattle.idl_project.specs.Project.{Inputs, Project, project_code, is_root, names_code}
 use Rattle.idl_project.specs.Tasks.{kept_entries, kept_texts}
 use Rattle.idl_project.specs.WellFormed.{IsWellFormed}
 use Rattle.idl_project.specs.declared.compile.CompiledRoot.{CompiledRoot}
 use Rattle.idl_project.specs.declared.kept_root.KeptRoot.{KeptRoot}
 use Rattle.idl_project.specs.declared.work.Work.{Work}
 
--- what contracts see of a session: the project, and the work of the last accepted edit
+-- what contracts see of a session: the project, the work of the last accepted edit, and the roots
+-- that this expanded anew
 pub record State : Type 0 where
   pub project : Project
   pub work : Work
+  pub touched : List (List ℕ)
 
 -- what a root compiles to from scratch; another name compiles to nothing
 abbrev pub compiled_of : Project → List ℕ → Option CompiledRoot
@@ -89,19 +91,24 @@ keys_asked (root ∷ held) = length root.1.result.value.log + keys_asked held
 -- a state is stored as the tuple of its parts
 abbrev pub state_code : Coded State
 state_code =
-    code_by (Project × ((ℕ × ℕ) × (ℕ × ℕ)))
-    (coded× project_code (coded× (coded× coded_ℕ coded_ℕ) (coded× coded_ℕ coded_ℕ)))
+    code_by (Project × (((ℕ × ℕ) × (ℕ × ℕ)) × List (List ℕ)))
+    (coded× project_code
+    (coded× (coded× (coded× coded_ℕ coded_ℕ) (coded× coded_ℕ coded_ℕ)) names_code))
     (λ s. (
       s.project,
-      ((s.work.expanded, s.work.checked), (s.work.printed, s.work.compared)),
+      (
+        ((s.work.expanded, s.work.checked), (s.work.printed, s.work.compared)),
+        s.touched,
+      ),
     ))
     (λ t. record {
       project = t.0;
       work = record {
-        expanded = t.1.0.0;
-        checked = t.1.0.1;
-        printed = t.1.1.0;
-        compared = t.1.1.1;
+        expanded = t.1.0.0.0;
+        checked = t.1.0.0.1;
+        printed = t.1.0.1.0;
+        compared = t.1.0.1.1;
       };
+      touched = t.1.1;
     })
     (λ _. refl)

@@ -1,5 +1,6 @@
 -- What an edit costs.
-use Rattle.std.specs.Prelude.{ℕ, List, Option}
+use Rattle.std.specs.Prelude.{ℕ, Bool, ◌&&◌, List, Option, filter, not}
+use Rattle.std.specs.List.{list_any}
 use Rattle.std.specs.Option.{option_eq}
 use Rattle.std.specs.Str.{bytes_eq}
 use Rattle.idl_event.specs.declared.asked.key.RootAnswer.{RootAnswer}
@@ -11,7 +12,7 @@ use Rattle.idl_root.specs.Results.{fresh_declarations, fresh_entries}
 use Rattle.idl_project.specs.Bank.{bank_of}
 use Rattle.idl_project.specs.Compared.{PlaceMet, compared_in, met_between}
 use Rattle.idl_project.specs.Project.{Project}
-use Rattle.idl_project.specs.Tasks.{answer_eq, declarations_among, entries_among}
+use Rattle.idl_project.specs.Tasks.{alike_root, answer_eq, declarations_among, entries_among}
 use Rattle.idl_project.specs.declared.work.Work.{Work}
 
 -- no work
@@ -39,6 +40,23 @@ work_between old before new roots = record {
 -- the work of an edit, by the project before it and the one after it
 abbrev pub work_of : Project → Project → Work
 work_of old new = work_between (bank_of old.inputs) old.roots (bank_of new.inputs) new.roots
+
+-- a root of before that is alike in the new project: it comes to what it came to
+abbrev pub is_untouched : (RootKey → Option RootAnswer) → List (List ℕ)
+    → (RootKey → Option RootAnswer) → List ℕ → Bool
+is_untouched old before new root =
+    list_any (bytes_eq root) before && alike_root (root, new) (root, old)
+
+-- the other ones of these roots, in order
+abbrev pub touched_between : (RootKey → Option RootAnswer) → List (List ℕ)
+    → (RootKey → Option RootAnswer) → List (List ℕ) → List (List ℕ)
+touched_between old before new roots =
+    filter (λ root. not (is_untouched old before new root)) roots
+
+-- those that an edit expands anew, by the project before it and the one after it
+abbrev pub touched_of : Project → Project → List (List ℕ)
+touched_of old new =
+    touched_between (bank_of old.inputs) old.roots (bank_of new.inputs) new.roots
 
 -- what is met at such an edit
 abbrev pub met_of : Project → Project → List PlaceMet

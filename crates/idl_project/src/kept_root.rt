@@ -7,6 +7,7 @@ ghost use Rattle.idl_memo.specs.Cause.{IsCause};
 ghost use Rattle.idl_memo.specs.Meter.{most_compared};
 ghost use Rattle.idl_prep.specs.Root.{expanded};
 ghost use Rattle.idl_root.specs.AsBefore.{AreListsLeft, IsAsBefore, IsCompiledOf, kept_lists};
+ghost use Rattle.idl_root.specs.Details.{details};
 ghost use Rattle.idl_root.specs.Results.{IsKeptOf, nothing_kept};
 ghost use Rattle.idl_project.specs.Asked.{asked_files};
 ghost use Rattle.idl_project.specs.Bank.{bank_of, bank_with};
@@ -21,7 +22,7 @@ use crate::no_step::NoStep;
 use idl_event::{RootBank, RootKey};
 use idl_memo::{Edited, Meter, run_anew};
 use idl_prep::RootTask;
-use idl_root::{Compiled, Keeper, Marks};
+use idl_root::{Compiled, Details, Keeper, Marks};
 use idl_source::Name;
 use std::alloc::{AllocError, Global};
 use std::rc::Rc;
@@ -150,6 +151,13 @@ impl KeptRoot {
         ensures { IfOk result (λ names. names.items ≡ asked_files self.now.result.value.log) }
     {
         Ok(asked(alloc, self.result.log())?)
+    }
+
+    /// The details of the root, whose units are judged for that alone.
+    pub fn details(&self, alloc: Global) -> Result<Details, AllocError>
+        ensures { IfOk result (λ d. d ≡ details self.now.result.value.out) }
+    {
+        idl_root::details_of(alloc, self.result.out())
     }
 
     /// How many keys the root asked.

@@ -7,6 +7,7 @@
 mod asked;
 mod bank;
 mod compile;
+mod detailed;
 mod directories;
 mod kept_root;
 mod limits;
@@ -20,7 +21,8 @@ mod work;
 
 pub use bank::answers_come_from_inputs;
 pub use compile::{CompiledRoot, diagnostics_are_findings};
-pub use idl_root::{Compiled, Finding, Row};
+pub use detailed::listing_is_details;
+pub use idl_root::{Compiled, DetailedEntry, Details, Finding, Row};
 pub use idl_source::Span;
 pub use limits::{
     MAX_BODY, MAX_DIRECTORIES, MAX_MACROS, MAX_ROOTS, edits_keep_form, edits_keep_limits,
@@ -28,4 +30,4 @@ pub use limits::{
 pub use no_step::NoStep;
 pub use session::Session;
 pub use sources::Sources;
-pub use work::{Work, compared_is_bounded};
+pub use work::{Work, compared_is_bounded, untouched_roots_stay};

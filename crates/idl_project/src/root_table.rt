@@ -18,6 +18,7 @@ use crate::compile::CompiledRoot;
 use crate::kept_root::{Change, KeptRoot};
 use crate::limits::MAX_ROOTS;
 use crate::work::Work;
+use idl_base::Seq;
 use idl_memo::{Edited, Meter, one_bank};
 use idl_prep::RootTask;
 use idl_root::{Keeper, comparing, fresh_tasks};
@@ -153,15 +154,15 @@ impl RootTable {
         self.roots.shrink_to_fit();
     }
 
-    /// The same roots after an edit of the bank, each with what is kept of it, and the work of that: one look-up for each, and
-    /// those that asked for what has changed are expanded and compiled anew.
+    /// The same roots after an edit of the bank, each with what is kept of it, the work of that, and which were expanded anew: one
+    /// look-up for each, and those that asked for what has changed are expanded and compiled anew.
     ///
     /// What is made of these waits in the keeper to be put in place. Want of memory leaves it as it was.
     pub fn renewed<'a>(
         &self,
         keeper: &mut Keeper,
         edited: &Edited<'a, SessionBank>,
-    ) -> Result<(RootTable, Work), AllocError>
+    ) -> Result<(RootTable, Work, Seq<Name>), AllocError>
         requires { IsUpToDate edited.now.base.now self.now keeper.old }
         ensures renewed { let project = project_held edited.now.base.now self.now in
             let answer = option_copied edited.now.answer in
@@ -183,7 +184,7 @@ impl RootTable {
         &self,
         keeper: &mut Keeper,
         edited: &Edited<'a, SessionBank>,
-    ) -> Result<(RootTable, Work), AllocError>
+    ) -> Result<(RootTable, Work, Seq<Name>), AllocError>
         requires { IsUpToDate edited.now.base.now self.now keeper.old }
         ensures renewed { let project = project_held edited.now.base.now self.now in
             let answer = option_copied edited.now.answer in
@@ -198,11 +199,14 @@ impl RootTable {
         let cause = edited.cause();
         let change = Change { edited, cause };
         let mut table = RootTable::new(keeper.alloc());
+        let mut touched = Seq::new(keeper.alloc());
         for (root, kept) in self.roots.iter() {
+            let expanded = meter.expanded;
             let next = kept.renewed(keeper, table.len(), change, &mut meter)?;
+            note_touched(&mut touched, root, expanded, meter.expanded)?;
             table.add(root.copied(), next)?;
         }
-        Ok((table, Work::counted(&meter)))
+        Ok((table, Work::counted(&meter), touched))
     }
 
     /// How many roots there are.
@@ -240,4 +244,21 @@ impl RootTable {
         }
         keys
     }
+}
+
+// Puts in the name of a root that was expanded anew: then more roots were behind it than before.
+fn note_touched(
+    names: &mut Seq<Name>,
+    root: &Name,
+    before: u64,
+    behind: u64,
+) -> Result<(), AllocError>
+    ensures same { before ≡ behind → OnOk result (names.new ≡ names.old) }
+    ensures more { (before ≡ behind → ⊥)
+        → OnOk result (names.new ≡ names.old ++ root.now ∷ []) }
+{
+    if before == behind {
+        return Ok(());
+    }
+    names.push(root.copied())
 }

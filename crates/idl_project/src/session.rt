@@ -3,14 +3,16 @@
 ghost use Rattle.std.specs.Prelude.{◌≡◌, ℕ, All, List, [], true, Ok, Err, IfOk, IfNone, IfSome, IsTrue, map, slice_get};
 ghost use Rattle.std.specs.FinMap as finite;
 ghost use Rattle.std.specs.Map.{lookup};
-ghost use Rattle.std.specs.Option.{option_copied};
+ghost use Rattle.std.specs.Option.{option_copied, option_map};
 ghost use Rattle.std.specs.Str.{bytes_eq};
 ghost use Rattle.idl_source.specs.names.Name.{is_name};
 ghost use Rattle.idl_event.specs.declared.asked.key.RootKey.TheVariants as keys;
 ghost use Rattle.idl_project.specs.Asked.{asked_files, asked_of};
 ghost use Rattle.idl_prep.specs.Root.{expanded};
+ghost use Rattle.idl_root.specs.Details.{details};
 ghost use Rattle.idl_root.specs.Turns.{IsWithinTurns};
 ghost use Rattle.idl_project.specs.Bank.{IsSameBeside, bank_of};
+ghost use Rattle.idl_project.specs.Details.{details_of};
 ghost use Rattle.idl_project.specs.Project.{no_project, with_files};
 ghost use Rattle.idl_project.specs.Work.{no_work};
 ghost use Rattle.idl_project.specs.Edited.{IsEdited, takes_memory};
@@ -40,13 +42,15 @@ use std::marker::Model;
 /// A well-formed project, and for each of its roots what it compiles to.
 ///
 /// An edit is accepted, and then all rows are those of the project after it, or it is refused, and then nothing has
-/// changed. Queries take no memory, but that `asked` makes a list.
+/// changed. Queries take no memory, but that `asked` makes a list, and `details` compiles a root.
 #[derive(Drop)]
 pub struct Session {
     keeper: Keeper,
     bank: SessionBank,
     roots: RootTable,
     work: Work,
+    // The roots that the last accepted edit expanded anew.
+    touched: Seq<Name>,
 }
 
 impl Model for Session {
@@ -60,6 +64,7 @@ impl Model for Session {
     ghost view = { λ session. record {
       project = record { inputs = session.bank; roots = keys_of session.roots };
       work = session.work;
+      touched = session.touched;
     } };
 
     ghost invariant = { λ session. IsUpToDate session.bank session.roots session.keeper };
@@ -68,13 +73,14 @@ impl Model for Session {
 impl Session {
     /// A session without files, macros, directories and roots. It takes no memory.
     pub fn new(alloc: Global) -> Session
-        ensures { result ≡ record { project = no_project; work = no_work } }
+        ensures { result ≡ record { project = no_project; work = no_work; touched = [] } }
     {
         Session {
             keeper: Keeper::new(alloc),
             bank: SessionBank::new(alloc),
             roots: RootTable::new(alloc),
             work: Work::none(),
+            touched: Seq::new(alloc),
         }
     }
 
@@ -139,6 +145,7 @@ impl Session {
         self.roots = renewed.0;
         self.keeper.commit();
         self.work = renewed.1;
+        self.touched = renewed.2;
         Ok(self.work)
     }
 
@@ -165,6 +172,7 @@ impl Session {
         self.roots = renewed.0;
         self.keeper.commit();
         self.work = renewed.1;
+        self.touched = renewed.2;
         Ok(self.work)
     }
 
@@ -188,6 +196,7 @@ impl Session {
         self.roots = renewed.0;
         self.keeper.commit();
         self.work = renewed.1;
+        self.touched = renewed.2;
         Ok(self.work)
     }
 
@@ -218,11 +227,14 @@ impl Session {
             compared: self.roots.keys_asked(),
         };
         // First, so that no root is compiled where there is no room for it.
+        let mut touched = Seq::new(self.keeper.alloc());
+        touched.push(root.copied())?;
         self.roots.reserve_one()?;
         self.roots
             .add_anew(&mut self.keeper, root, &self.bank, &mut meter)?;
         self.keeper.commit();
         self.work = Work::counted(&meter);
+        self.touched = touched;
         Ok(self.work)
     }
 
@@ -250,6 +262,7 @@ impl Session {
             printed: 0,
             compared: self.roots.keys_asked(),
         };
+        self.touched = Seq::new(self.keeper.alloc());
         Ok(self.work)
     }
 
@@ -363,6 +376,14 @@ impl Session {
         self.work
     }
 
+    /// The roots that the last accepted edit expanded anew, which its work counts, in their order: every other root answers each query
+    /// as before. It takes no memory.
+    pub fn touched(&self) -> &[Name]
+        ensures { result.now ≡ self.now.touched }
+    {
+        self.touched.as_slice()
+    }
+
     /// Tells that the project is well-formed, whatever edits it comes of: names, words and directories obey their rules, each
     /// macro and each root is there once, and nothing is more or longer than the limits allow.
     ///
@@ -427,10 +448,12 @@ impl Session {
     }
 
     // What is kept of the root of this name.
-    fn kept(&self, root: &[u8]) -> Option<&KeptRoot>
+    pub(crate) fn kept(&self, root: &[u8]) -> Option<&KeptRoot>
         ensures some { IfSome result (λ kept.
             asked_files kept.now.result.value.log ≡ asked_of self.now.project root.now) }
         ensures none { IfNone result (asked_of self.now.project root.now ≡ []) }
+        ensures details { option_map (λ kept. details kept.result.value.out) (option_copied result)
+            ≡ details_of self.now.project root.now }
     {
         let roots = &self.roots;
         roots.kept(&Name::new(root)?)
@@ -462,6 +485,7 @@ impl Session {
         self.roots = renewed.0;
         self.keeper.commit();
         self.work = renewed.1;
+        self.touched = renewed.2;
         Ok(self.work)
     }
 }

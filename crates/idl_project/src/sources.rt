@@ -7,6 +7,7 @@ ghost use Rattle.idl_root.specs.Turns.{IsWithinTurns};
 ghost use Rattle.idl_project.specs.Asked.{asked_over};
 ghost use Rattle.idl_project.specs.Bank.{bank_of};
 ghost use Rattle.idl_project.specs.Compile.{compiled_root};
+ghost use Rattle.idl_project.specs.Details.{details_over};
 ghost use Rattle.idl_project.specs.Edits.{Define, Put, Search, Undef};
 ghost use Rattle.idl_project.specs.Made.{IsMade, rootless};
 ghost use Rattle.idl_project.specs.Project.{no_inputs};
@@ -14,6 +15,7 @@ ghost use Rattle.idl_project.specs.WellFormed.{IsWellFormed};
 
 use crate::bank::SessionBank;
 use crate::compile::{CompiledRoot, asked_alone, compile_alone};
+use crate::detailed::details_alone;
 use crate::directories::directories;
 use crate::macro_body::MacroBody;
 use crate::no_step::NoStep;
@@ -23,7 +25,7 @@ use idl_event::{RootAnswer, RootKey};
 use idl_fault::FileName;
 use idl_macro::is_macro_word;
 use idl_memo::{Bank, PlainBank};
-use idl_root::Memory;
+use idl_root::{Details, Memory};
 use idl_source::{Line, Name, Refusal};
 use std::alloc::{AllocError, Global};
 use std::marker::Model;
@@ -134,6 +136,13 @@ impl Sources {
         ensures { IfOk result (λ names. names.items ≡ asked_over (bank_of self.now) root.now) }
     {
         asked_alone(self.memory.alloc(), &self.bank, root)
+    }
+
+    /// What the listing of the root of this name tells, as data, and of a root with an error what is declared in it.
+    pub fn details(&self, root: &Name) -> Result<Details, AllocError>
+        ensures { IfOk result (λ details. details ≡ details_over (bank_of self.now) root.now) }
+    {
+        details_alone(self.memory.alloc(), &self.bank, root)
     }
 
     /// Whether there is a file of this name.

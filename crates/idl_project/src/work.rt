@@ -1,13 +1,18 @@
 //! What an edit cost.
 
-ghost use Rattle.std.specs.Prelude.{◌≡◌, ◌≤◌};
+ghost use Rattle.std.specs.Prelude.{◌≡◌, ◌≤◌, ℕ, List, false, length, true};
+ghost use Rattle.std.specs.List.{IsDistinct, list_any};
+ghost use Rattle.std.specs.Str.{bytes_eq};
 ghost use Rattle.idl_memo.specs.Meter.{compared_after};
+ghost use Rattle.idl_project.specs.Asked.{asked_of};
 ghost use Rattle.idl_project.specs.Compared.{compared_in, most_compared_in};
-ghost use Rattle.idl_project.specs.Project.{Project};
-ghost use Rattle.idl_project.specs.Work.{met_of, no_work, work_of};
+ghost use Rattle.idl_project.specs.Details.{details_of};
+ghost use Rattle.idl_project.specs.Project.{Project, is_root};
+ghost use Rattle.idl_project.specs.UpToDate.{compiled_of};
+ghost use Rattle.idl_project.specs.Work.{met_of, no_work, touched_of, work_of};
 
 use crate::bank::SessionBank;
-use idl_memo::{Meter, sharing};
+use idl_memo::{Meter, freshness, reliance, sharing};
 use idl_prep::RootTask;
 use idl_root::comparing;
 use idl_root_blocks::meeting;
@@ -69,4 +74,25 @@ pub fn compared_is_bounded()
     sharing::<SessionBank, RootTask>();
     meeting();
     comparing();
+}
+
+/// A root of before and after an edit that the edit doesn't expand anew compiles to what it did, has the same details, and asks for the
+/// same files; and as many are expanded anew as the work counts.
+///
+/// This does nothing: it carries the laws.
+pub fn untouched_roots_stay()
+    ensures compiled { (old new : Project) (root : List ℕ) → is_root old root ≡ true
+        → is_root new root ≡ true → list_any (bytes_eq root) (touched_of old new) ≡ false
+        → compiled_of new root ≡ compiled_of old root }
+    ensures details { (old new : Project) (root : List ℕ) → is_root old root ≡ true
+        → is_root new root ≡ true → list_any (bytes_eq root) (touched_of old new) ≡ false
+        → details_of new root ≡ details_of old root }
+    ensures asked { (old new : Project) (root : List ℕ) → is_root old root ≡ true
+        → is_root new root ≡ true → list_any (bytes_eq root) (touched_of old new) ≡ false
+        → asked_of new root ≡ asked_of old root }
+    ensures count { (old new : Project) → IsDistinct bytes_eq new.roots
+        → length (touched_of old new) ≡ (work_of old new).expanded }
+{
+    freshness::<SessionBank, RootTask>();
+    reliance::<SessionBank, RootTask>();
 }

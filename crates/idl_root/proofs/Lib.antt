@@ -32,3 +32,4 @@ mod TakenWhole
 mod TextLaws
 mod ToldLemmas
 mod WholeLemmas
+mod DetailLemmas

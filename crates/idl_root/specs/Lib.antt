@@ -14,3 +14,4 @@ pub mod Told
 pub mod Turns
 pub mod AsBefore
 pub mod Passed
+pub mod Details

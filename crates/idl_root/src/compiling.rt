@@ -1,6 +1,7 @@
 //! The compilation of a root from its units.
 
 pub(crate) mod compiled;
+pub(crate) mod detailing;
 pub(crate) mod finding;
 pub(crate) mod judging;
 pub(crate) mod laws;

@@ -8,8 +8,9 @@ mod compiling;
 mod kept;
 
 pub use compiling::compiled::{Compiled, KeptSource, Recompiled, Row, compile, compile_kept};
+pub use compiling::detailing::{DetailedEntry, Details, details_of};
 pub use compiling::finding::Finding;
-pub use compiling::laws::{facts, ordering, telling, texts};
+pub use compiling::laws::{detailing, facts, ordering, telling, texts};
 pub use compiling::memory::Memory;
 pub use kept::comparing::comparing;
 pub use kept::fresh::fresh_tasks;

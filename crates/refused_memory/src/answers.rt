@@ -15,7 +15,8 @@ const PLACES: usize = 5;
 // All replies to the questions about those have room in so many bytes.
 const ROOM: usize = 65_536;
 
-/// All that a session tells: the answers to its queries, one behind the other, and the work of its last edit.
+/// All that a session tells: the answers to its queries, one behind the other, the roots that its last edit expanded anew, and the work
+/// of that.
 #[derive(Drop)]
 pub struct Answers {
     lines: Vec<u8>,
@@ -89,7 +90,7 @@ fn push_answers(lines: &mut Vec<u8>, session: &Session) -> Result<(), AllocError
         push_answer(lines, session.directory(at))?;
         push_answer(lines, name_of(session.root(at)))?;
     }
-    Ok(())
+    push_names(lines, session.touched())
 }
 
 fn name_of(root: Option<&Name>) -> Option<&[u8]> {

@@ -1,12 +1,13 @@
 //! The laws of what is told.
 
-ghost use Rattle.std.specs.Prelude.{◌≡◌, ◌++◌, [], ℕ, All, List, filter, map, nat_eq};
+ghost use Rattle.std.specs.Prelude.{◌≡◌, ◌++◌, [], ℕ, All, List, false, filter, map, nat_eq};
 ghost use Rattle.idl_block.specs.Blocks.{walk};
 ghost use Rattle.idl_env.specs.Facts.{UnitFacts, answers};
 ghost use Rattle.idl_event.specs.declared.told.event.Event.{Event};
 ghost use Rattle.idl_fault.specs.declared.place.Place.{Place};
 ghost use Rattle.idl_check_laws.specs.Closing.{AreTold};
 ghost use Rattle.idl_root.specs.Compile.{compile};
+ghost use Rattle.idl_root.specs.Details.{details, printed};
 ghost use Rattle.idl_root.specs.Judged.{HasTurns, facts_after, judged_after};
 ghost use Rattle.idl_root.specs.Places.{declarations_after};
 ghost use Rattle.idl_root_blocks.specs.Blocks.{parts_of};
@@ -20,6 +21,8 @@ ghost use Rattle.idl_root.specs.Findings.{finding_row, in_order};
 ghost use Rattle.idl_root.specs.declared.compiling.finding.EventFinding.{EventFinding};
 
 use idl_check_laws::{more_turns, numbering};
+use idl_details::printing;
+use idl_repo::listed_row;
 
 /// What is found is told in the order of events: no finding names an event before that of an earlier one, and each event has
 /// the findings that it had, in their order. This does nothing: it carries the law.
@@ -39,6 +42,16 @@ pub fn telling()
 {
     // It does nothing: it carries a law of verdicts.
     numbering();
+}
+
+/// The listing of a root without an error is what its details are printed as. This does nothing: it carries the law.
+pub fn detailing()
+    ensures { (end : Place) (events : List Event) → (compile end events).is_faulty ≡ false
+        → (compile end events).listing ≡ printed (details events) }
+{
+    // They do nothing: they carry laws of the listing, and of trees.
+    listed_row();
+    printing();
 }
 
 /// The facts of a root are what verdicts tell, each over those before it: of them the law of closed interfaces speaks

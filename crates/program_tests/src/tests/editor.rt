@@ -56,9 +56,12 @@ fn open_all(rt: &(impl Abort + AllocGlobal), session: &mut Session) -> Result<()
     )
 }
 
-// An edit of the other file, and the work that it was. A refused edit changes nothing.
+// An edit of the other file, the roots that it expanded anew, and how many these are. A refused edit changes nothing.
 fn edit(rt: &(impl Abort + AllocGlobal), session: &mut Session) -> Result<(), Fail> {
     assert!(rt; type_line(session, "money.idl", 1, "typedef long Money;").is_ok());
+    let touched = session.touched();
+    assert_eq!(rt; touched.len(), 1);
+    assert_eq!(rt; touched[0].as_bytes(), b"shop.idl".as_slice());
     assert_eq!(rt; session.work().expanded, 1);
     has_rows(rt, session.diagnostics(b"shop.idl"), "")?;
     let refused = open(session, "no name", "");
@@ -67,9 +70,25 @@ fn edit(rt: &(impl Abort + AllocGlobal), session: &mut Session) -> Result<(), Fa
     has_rows(rt, session.dump(b"shop.idl"), want)
 }
 
+// What is declared, as data: of each name that has an id, in the order of the listing.
+fn ask(rt: &(impl Abort + AllocGlobal), session: &Session) -> Result<(), Fail> {
+    let details = session.details(b"shop.idl")?;
+    let mut ids = String::new(rt.alloc());
+    if let Some(details) = &details {
+        for entry in details.entries.as_slice() {
+            ids.push_str(str::from_utf8(entry.tree.id.as_bytes()).unwrap_or(""))?;
+            ids.push('\n')?;
+        }
+    }
+    let want = "IDL:Money:1.0\nIDL:Shop:1.0\nIDL:Shop/price:1.0\n";
+    assert_eq!(rt; ids.as_str(), want);
+    Ok(())
+}
+
 #[test]
 fn an_editor_holds_a_project(rt: HostRuntime) -> Result<(), Fail> {
     let mut session = Session::new(rt.alloc());
     open_all(&rt, &mut session)?;
-    edit(&rt, &mut session)
+    edit(&rt, &mut session)?;
+    ask(&rt, &session)
 }

@@ -41,26 +41,19 @@ fn root(headers: &Headers<'_>) -> Result<Vec<u8>, AllocError> {
     Vec::from_slice(headers.alloc, text.as_bytes())
 }
 
+// The first lines of a root, the second of which begins a group that the first turns away.
+const GUARD: &str = "#include \"a.idl\"\n#ifndef A\n";
+
+const TOO_MANY: &str = "2 err idlc: f4093.idl: refused 5 /";
+
 // Words, the first line, how many headers, the last line, and what is given.
 static ROWS: [(&str, &str, usize, &str, &str); 3] = [
     // Each header has a copy in the directory, which isn't asked for, since the header is there.
     ("-Iinc r.idl", "", 2_100, "", "0"),
     // With the root and `a.idl` the headers would be too many, but `b.idl` turns them away.
-    (
-        "r.idl",
-        "#include \"a.idl\"\n#ifndef A\n",
-        4_094,
-        "#endif\n",
-        "0",
-    ),
+    ("r.idl", GUARD, 4_094, "#endif\n", "0"),
     // These are too many.
-    (
-        "r.idl",
-        "#include \"a.idl\"\n",
-        4_094,
-        "",
-        "2 err idlc: f4093.idl: refused 5 /",
-    ),
+    ("r.idl", "#include \"a.idl\"\n", 4_094, "", TOO_MANY),
 ];
 
 #[test]

@@ -1,4 +1,4 @@
-use Rattle.std.proofs.Common.{refl, subst, sym}
+use Rattle.std.proofs.Common.{[], refl, subst, sym}
 use Rattle.idl_project.specs.Project.{no_project}
 use Rattle.idl_project.specs.Work.{no_work}
 use Rattle.idl_program.specs.Compiled.{Written}
@@ -15,7 +15,7 @@ returns-in_ok-run-in-Serve-clause-done g c =
     let before : Written = record { errors = g.E.Sink.written c.args.devices.now.errors; output = g.O.Sink.written c.args.devices.now.output } in
     let after : Written = record { errors = g.E.Sink.written c.args.devices.now.errors; output = g.O.Sink.written c.run.new.sink } in
     let are : AreAnswered input before after Sound = record {
-      output = answered input before.output after.output c.new-session.result (record { project = no_project; work = no_work }) c.run.new.session c.new-session.ensures c.in_ok-run-in-Serve.ensures.replied;
+      output = answered input before.output after.output c.new-session.result (record { project = no_project; work = no_work; touched = [] }) c.run.new.session c.new-session.ensures c.in_ok-run-in-Serve.ensures.replied;
       errors = refl;
       sound = refl;
     } in

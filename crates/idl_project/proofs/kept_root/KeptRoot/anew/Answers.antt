@@ -1,5 +1,5 @@
 -- Nothing is kept of it yet.
-use Rattle.std.proofs.Common.{◌≡◌, [], subst, sym}
+use Rattle.std.proofs.Common.{[], subst, sym}
 use Rattle.idl_root.specs.AsBefore.{kept_lists}
 use Rattle.idl_root.specs.Results.{IsKeptOf, KeptLists, RootMarks}
 use Rattle.idl_project.proofs.kept_root.KeptRoot.anew.Goals as goal

@@ -21,12 +21,14 @@ use Rattle.idl_project.specs.Compared.{KnownTasks, compared_in, met_among, met_a
 use Rattle.idl_project.specs.Renewed.{IsRenewedAt}
 use Rattle.idl_project.specs.Tasks.{answer_eq, begin_list, block_list, blocks_at, declaration_list, declarations_at, entries_at, entry_list}
 use Rattle.idl_project.specs.UpToDate.{AreKept, IsKept}
+use Rattle.idl_project.specs.Work.{touched_between}
 use Rattle.idl_project.specs.declared.kept_root.KeptRoot.{KeptRoot}
 use Rattle.idl_project.proofs.KeptLemmas.{IsKept-at, stale_most, stale_roots, work-same}
 use Rattle.idl_project.proofs.MetLemmas.{alike-known, compared-first, list_any-behind, tasks-append, tasks-none}
 use Rattle.idl_project.proofs.RenewedLemmas.{begins-way, blocks-way, compared-renewed, declarations-way, entries-way, expanded-count, stays-or-drafted}
 use Rattle.idl_project.proofs.RootLemmas.{list_any-before, keys_of-push}
 use Rattle.idl_project.proofs.StoreLemmas.{IsPlacing, IsUnderWay, list_at-middle, placing-begins, placing-ends, uncounted, way-begins, way-ends}
+use Rattle.idl_project.proofs.TouchedLemmas.{there-middle, touched-on}
 use Rattle.idl_project.proofs.root_table.RootTable.all_renewed.Goals as goal
 
 pub loop-root-init : goal.loop-root-init
@@ -65,6 +67,7 @@ loop-root-init c =
       kept_left = subst (AreKept before) (sym left) c.requires.kept;
       expanded = omega (arith, expanded, stale);
       compared = λ i. compared_after (compared i) (compared_in (met_among (known i) after (names_left i)));
+      touched = λ i. c.new-touched.ensures i ++ touched_between before names after (names_left i);
       fits = omega (arith, compared);
       room = omega (arith, expanded, many);
       lists = record { texts = record { declarations = refl; blocks = refl; begins = refl }; entries = refl };
@@ -182,6 +185,11 @@ loop-root-preserved c =
       kept_left = All-tail P entry rest lefts;
       expanded = omega (arith, fresh, counted);
       compared = omega (arith, costs, step, later, compared);
+      touched =
+          touched-on before names after c.len.result root was now m n behind c.loop-root.touched c.note_touched.new.names renewed
+          (ap (λ (ns : List (List ℕ)). list_any (bytes_eq root) ns) (sym whole) ∙ there-middle done root behind) c.in_ok-note_touched.ensures.same c.in_ok-note_touched.ensures.more
+          ∙ ap (λ (es : List (List ℕ × KeptRoot)). c.loop-root.touched ++ touched_between before names after (keys_of es)) (sym left)
+          ∙ inv.touched;
       fits = omega (arith, costs);
       room = omega (arith, fresh, most, within);
       lists = record {
@@ -224,6 +232,10 @@ returns-clause-renewed c =
       kept = inv.kept;
       texts = λ i. record { declarations = declarations.0 i; blocks = blocks.0 i; begins = begins i };
       entries = entries.0;
+      touched =
+          sym (append-nil c.loop-root.touched)
+          ∙ ap (λ (ns : List (List ℕ)). c.loop-root.touched ++ touched_between before names after ns) (sym none_left)
+          ∙ inv.touched;
       work =
           c.counted.ensures
           ∙ work-same before after names m.expanded m.checked m.printed m.compared (c.one_bank.ensures.same_places before after names c.requires.formed.roots_once) expanded compared declarations.1 entries.1;

@@ -13,6 +13,7 @@ use Rattle.idl_project.specs.Bank.{bank_of}
 use Rattle.idl_project.specs.Compared.{compared_in, met_among, met_between, tasks_of, with_tasks}
 use Rattle.idl_project.specs.Tasks.{begin_list, blocks_at, declarations_at, entries_at}
 use Rattle.idl_project.specs.UpToDate.{AreKept}
+use Rattle.idl_project.specs.Work.{touched_between}
 use Rattle.idl_project.proofs.KeptLemmas.{stale_roots}
 use Rattle.idl_project.proofs.StoreLemmas.{IsPlacing, IsUnderWay, uncounted}
 use Rattle.idl_project.proofs.root_table.RootTable.all_renewed.Given as goal
@@ -31,6 +32,7 @@ invariant-loop-root l =
       expanded : l.meter.expanded + stale_roots before after (keys_of l.root-iterator) ≡ stale_roots before after (keys_of l.fn.self);
       compared : compared_after l.meter.compared (compared_in (met_among (with_tasks (tasks_of before names) (tasks_of after (keys_of l.table))) after (keys_of l.root-iterator)))
           ≡ compared_after 0 (compared_in (met_between before names after names));
+      touched : l.touched ++ touched_between before names after (keys_of l.root-iterator) ≡ touched_between before names after names;
       fits : l.meter.compared ≤ most_compared;
       room : l.meter.expanded + length l.root-iterator ≤ length l.fn.self;
       lists : AreListsLeft l.fn.keeper l.keeper;

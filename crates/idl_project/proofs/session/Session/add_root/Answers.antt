@@ -27,13 +27,14 @@ use Rattle.idl_project.specs.Tasks.{alike_root, begin_list, block_list, declarat
 use Rattle.idl_project.specs.Edits.{AddRoot, after, result_map, roots_with}
 use Rattle.idl_project.specs.Project.{Project, is_root, with_roots}
 use Rattle.idl_project.specs.UpToDate.{IsUpToDate, State}
-use Rattle.idl_project.specs.Work.{work_of}
+use Rattle.idl_project.specs.Work.{touched_between, touched_of, work_of}
 use Rattle.idl_project.specs.declared.kept_root.KeptRoot.{KeptRoot}
 use Rattle.idl_project.proofs.FormLemmas.{after-formed}
 use Rattle.idl_project.proofs.AddedLemmas.{compared-added}
 use Rattle.idl_project.proofs.KeptLemmas.{answer_eq-derived, keys_asked-kept, work-roots}
 use Rattle.idl_project.proofs.RootLemmas.{IsUpToDate-left, IsUpToDate-push, list-more}
 use Rattle.idl_project.proofs.StoreLemmas.{fresh-more}
+use Rattle.idl_project.proofs.TouchedLemmas.{touched-added}
 use Rattle.idl_project.proofs.session.Session.add_root.Goals as goal
 
 -- a root that isn't refused
@@ -134,4 +135,9 @@ returns c =
           ∙ (λ i. record { expanded = c.in_ok-add_anew.ensures.count i; checked = meter.checked; printed = meter.printed; compared = meter.compared })
           ∙ work-roots bank (keys_of held) (keys_of more) 1 meter.checked meter.printed meter.compared fresh checked printed compared
           ∙ ap (λ (state : State). work_of state.project after_add) c.self.view_is;
+      touched =
+          c.in_ok-push.ensures.items
+          ∙ (λ i. c.new-touched.ensures i ++ c.copied.ensures i ∷ [])
+          ∙ sym (ap (λ (ns : List (List ℕ)). touched_between bank (keys_of held) bank ns) names ∙ touched-added bank itself (keys_of held) root new)
+          ∙ ap (λ (state : State). touched_of state.project after_add) c.self.view_is;
     }

@@ -34,14 +34,14 @@ invariant_of-self-2 c =
     (subst (λ (p : Project). IsWellFormed p) is c.requires.formed)
 
 pub returns : goal.returns
-returns c = λ edit memory is. record {
-  project = is
-      ∙ ap Ok
-      (filed c.args.self.now.project c.args.files c.set_files.new.self (keys_of c.in_ok-renewed.renewed.0)
-      (c.in_default.ensures.ok ∙ ap (λ (state : State). record state.project.inputs { files = c.args.files }) c.self.view_is)
-      (c.in_ok-renewed.ensures.renewed.roots ∙ ap (λ (state : State). state.project.roots) c.self.view_is));
-  kept = refl;
-  told =
-      work-edited c.args.self.now c.self.inside.bank c.set_files.new.self c.self.inside.roots c.in_ok-renewed.renewed c.renewed.new.keeper _ (keys.File c.in_ok-name.name) _ c.in_ok-answer.answer c.self.inside.work
-      c.self.view_is c.in_ok-renewed.ensures.renewed (ap keys.File c.in_ok-clone.ensures.cases) c.as_ref-given.ensures.value c.in_default.ensures.bank;
-}
+returns c = λ edit memory is. let both = work-edited c.args.self.now c.self.inside.bank c.set_files.new.self c.self.inside.roots c.in_ok-renewed.renewed c.renewed.new.keeper _ (keys.File c.in_ok-name.name) _ c.in_ok-answer.answer c.self.inside.work c.self.inside.touched c.self.view_is c.in_ok-renewed.ensures.renewed (ap keys.File c.in_ok-clone.ensures.cases) c.as_ref-given.ensures.value c.in_default.ensures.bank in
+    record {
+      project = is
+          ∙ ap Ok
+          (filed c.args.self.now.project c.args.files c.set_files.new.self (keys_of c.in_ok-renewed.renewed.0)
+          (c.in_default.ensures.ok ∙ ap (λ (state : State). record state.project.inputs { files = c.args.files }) c.self.view_is)
+          (c.in_ok-renewed.ensures.renewed.roots ∙ ap (λ (state : State). state.project.roots) c.self.view_is));
+      kept = refl;
+      told = both.0;
+      touched = both.1;
+    }

@@ -56,6 +56,7 @@ returns c =
     let project : Project = record { inputs = c.self.inside.bank; roots = keys_of c.self.inside.roots } in
     let word = c.in_ok-word.word in
     let none : None ≡ result_err (macros_with project.inputs.macros word c.args.body) = c.in_default.ensures in
+    let both = work-edited c.args.self.now c.self.inside.bank c.define.new.self c.self.inside.roots c.in_ok-renewed.renewed c.renewed.new.keeper _ (keys.Macro word) (Some c.answer.result.now) (Some (answers.Macro (c.in_ok-body.body ∷ []))) c.self.inside.work c.self.inside.touched c.self.view_is c.in_ok-renewed.ensures.renewed (ap keys.Macro c.in_ok-clone.ensures.cases) (ap Some c.answer.ensures) c.in_default-define.ensures.bank in
     record {
       project =
           ap (λ (state : State). after state.project (Define c.args.word.now c.args.body)) (sym c.self.view_is)
@@ -64,8 +65,6 @@ returns c =
           (c.in_default-define.ensures.ok ∙ ap (λ (b : List ℕ). record project.inputs { macros = insert_entry bytes_eq project.inputs.macros word b }) c.in_ok-body.ensures)
           c.in_ok-renewed.ensures.renewed.roots;
       kept = refl;
-      told =
-          work-edited c.args.self.now c.self.inside.bank c.define.new.self c.self.inside.roots c.in_ok-renewed.renewed c.renewed.new.keeper _ (keys.Macro word)
-          (Some c.answer.result.now) (Some (answers.Macro (c.in_ok-body.body ∷ []))) c.self.inside.work
-          c.self.view_is c.in_ok-renewed.ensures.renewed (ap keys.Macro c.in_ok-clone.ensures.cases) (ap Some c.answer.ensures) c.in_default-define.ensures.bank;
+      told = both.0;
+      touched = both.1;
     }

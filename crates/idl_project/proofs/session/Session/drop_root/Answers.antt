@@ -26,12 +26,13 @@ use Rattle.idl_project.specs.Project.{Project, is_root, with_roots}
 use Rattle.idl_project.specs.Tasks.{alike_root, begin_list, block_list, declaration_list, declarations_at, entries_at, entry_list, lists_for}
 use Rattle.idl_project.specs.UpToDate.{AreKept, State, keys_asked, project_held}
 use Rattle.idl_project.specs.declared.kept_root.KeptRoot.{KeptRoot}
-use Rattle.idl_project.specs.Work.{work_of}
+use Rattle.idl_project.specs.Work.{touched_of, work_of}
 use Rattle.idl_project.proofs.FormLemmas.{after-formed}
 use Rattle.idl_project.proofs.KeptLemmas.{answer_eq-derived, keys_asked-kept, work-roots}
 use Rattle.idl_project.proofs.MetLemmas.{all-alike, compared-stay}
 use Rattle.idl_project.proofs.RootLemmas.{AreKept-remove, remaining-there}
 use Rattle.idl_project.proofs.StoreLemmas.{fresh-fewer, lists-removed}
+use Rattle.idl_project.proofs.TouchedLemmas.{touched-none}
 use Rattle.idl_project.proofs.session.Session.drop_root.Goals as goal
 
 dropped : (project : Project) (name root : List ℕ) (roots : List (List ℕ)) → root ≡ name → is_name name ≡ true → is_root project root ≡ true → remove_key (bytes_eq root) project.roots ≡ roots
@@ -92,8 +93,8 @@ returns c =
     let itself : (name : List ℕ) → alike_root (name, bank) (name, bank) ≡ true = λ name.
     subst (λ (e : RootAnswer → RootAnswer → Bool). is_alike bytes_eq (option_eq e) expansion (name, bank) (name, bank) ≡ true) answer_eq-derived
     ((c.freshness.ensures.class (name, bank) (name, bank)).1 (refl, refl)) in
-    let known = all-alike bank itself (keys_of held) (keys_of left)
-    (All-weaker (Contains (keys_of held)) (λ name. list_any (bytes_eq name) (keys_of held) ≡ true) (λ name h. list_any-from_Contains nat_list_eq_equiv name (keys_of held) h) (keys_of left) there) in
+    let stayed = All-weaker (Contains (keys_of held)) (λ name. list_any (bytes_eq name) (keys_of held) ≡ true) (λ name h. list_any-from_Contains nat_list_eq_equiv name (keys_of held) h) (keys_of left) there in
+    let known = all-alike bank itself (keys_of held) (keys_of left) stayed in
     let met : keys_asked left ≡ compared_in (met_between bank (keys_of held) bank (keys_of left)) =
     sym (compared-stay bank itself (keys_of left) (tasks_of bank (keys_of held)) known ∙ keys_asked-kept bank left kept) in
     record {
@@ -109,4 +110,8 @@ returns c =
           (fresh-fewer entry_result (entries_at bank) fresh_entries c.fresh_tasks.ensures.entries_aside c.fresh_tasks.ensures.entries_none (bytes_eq root) (keys_of held) (keys_of left) names)
           (c.keys_asked.ensures ∙ ap (compared_after 0) met)
           ∙ ap (λ (state : State). work_of state.project after_drop) c.self.view_is;
+      touched =
+          c.new-2.ensures
+          ∙ sym (touched-none bank (keys_of held) bank (keys_of left) itself stayed)
+          ∙ ap (λ (state : State). touched_of state.project after_drop) c.self.view_is;
     }

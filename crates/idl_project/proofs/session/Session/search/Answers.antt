@@ -28,6 +28,7 @@ pub returns : goal.returns
 returns c =
     let project : Project = record { inputs = c.self.inside.bank; roots = keys_of c.self.inside.roots } in
     let given : List (List ℕ) = map (λ (bytes : Bor (List ℕ)). bytes.now) c.args.list.now in
+    let both = work-edited c.args.self.now c.self.inside.bank c.set_search.new.self c.self.inside.roots c.in_ok-renewed.renewed c.renewed.new.keeper keys.Search keys.Search _ _ c.self.inside.work c.self.inside.touched c.self.view_is c.in_ok-renewed.ensures.renewed refl refl c.set_search.ensures.bank in
     record {
       project =
           ap (λ (state : State). after state.project (Search given)) (sym c.self.view_is)
@@ -35,7 +36,6 @@ returns c =
           (c.set_search.ensures.set ∙ ap (λ (list : List (List ℕ)). record project.inputs { search = list }) c.from_vec.ensures)
           c.in_ok-renewed.ensures.renewed.roots;
       kept = refl;
-      told =
-          work-edited c.args.self.now c.self.inside.bank c.set_search.new.self c.self.inside.roots c.in_ok-renewed.renewed c.renewed.new.keeper keys.Search keys.Search _ _ c.self.inside.work
-          c.self.view_is c.in_ok-renewed.ensures.renewed refl refl c.set_search.ensures.bank;
+      told = both.0;
+      touched = both.1;
     }

@@ -27,6 +27,7 @@ pub returns : goal.returns
 returns c =
     let project : Project = record { inputs = c.self.inside.bank; roots = keys_of c.self.inside.roots } in
     let word = c.in_ok-word.word in
+    let both = work-edited c.args.self.now c.self.inside.bank c.undef.new.self c.self.inside.roots c.in_ok-renewed.renewed c.renewed.new.keeper _ (keys.Macro word) _ None c.self.inside.work c.self.inside.touched c.self.view_is c.in_ok-renewed.ensures.renewed (ap keys.Macro c.in_ok-clone.ensures.cases) c.as_ref-answer.ensures.value c.undef.ensures.bank in
     record {
       project =
           ap (λ (state : State). after state.project (Undef c.args.word.now)) (sym c.self.view_is)
@@ -35,8 +36,6 @@ returns c =
           c.undef.ensures.left
           c.in_ok-renewed.ensures.renewed.roots;
       kept = refl;
-      told =
-          work-edited c.args.self.now c.self.inside.bank c.undef.new.self c.self.inside.roots c.in_ok-renewed.renewed c.renewed.new.keeper _ (keys.Macro word)
-          _ None c.self.inside.work
-          c.self.view_is c.in_ok-renewed.ensures.renewed (ap keys.Macro c.in_ok-clone.ensures.cases) c.as_ref-answer.ensures.value c.undef.ensures.bank;
+      told = both.0;
+      touched = both.1;
     }

@@ -1,0 +1,2 @@
+mod PrintLemmas
+mod TextLemmas

@@ -1,0 +1,45 @@
+//! Types as trees.
+
+use idl_base::{Bytes, Seq};
+use idl_entity::{Layer, Unvalued};
+use idl_value::ConstantType;
+
+/// What a type is of, without the sequences and arrays around it.
+#[derive(PartialEq, Eq)]
+pub enum ElementTree {
+    /// No type: an operation that gives nothing back has it.
+    Void,
+    /// A type of keywords of which there are constants. It is never an enum, which has an id.
+    Constants(ConstantType),
+    /// Another type of keywords.
+    Unvalued(Unvalued),
+    /// The type that has this id.
+    Named(Bytes),
+}
+
+/// A type: what it is of, and what is around that, the innermost first.
+#[derive(PartialEq, Eq)]
+pub struct TypeTree {
+    pub element: ElementTree,
+    pub layers: Seq<Layer>,
+}
+
+impl Drop for ElementTree {
+    fn drop(self) {
+        match self {
+            ElementTree::Void => {}
+            ElementTree::Constants(_target) => {}
+            ElementTree::Unvalued(_kind) => {}
+            ElementTree::Named(_id) => {}
+        }
+    }
+}
+
+impl Drop for TypeTree {
+    fn drop(self) {
+        let TypeTree {
+            element: _element,
+            layers: _layers,
+        } = self;
+    }
+}

@@ -1,0 +1,56 @@
+//! The details of a root, which are worked out when they are asked for.
+
+ghost use Rattle.std.specs.Prelude.{◌≡◌, ℕ, IfOk, List, Some, false};
+ghost use Rattle.std.specs.Option.{option_map};
+ghost use Rattle.idl_root.specs.Details.{printed};
+ghost use Rattle.idl_project.specs.Bank.{bank_of};
+ghost use Rattle.idl_project.specs.Compile.{compiled_root};
+ghost use Rattle.idl_project.specs.Details.{details_of, details_over};
+ghost use Rattle.idl_project.specs.Project.{Inputs, Project};
+ghost use Rattle.idl_project.specs.UpToDate.{is_faulty_of, listing_of};
+
+use crate::bank::SessionBank;
+use crate::compile::KeptExpansion;
+use crate::session::Session;
+use idl_memo::{Meter, run_anew};
+use idl_prep::RootTask;
+use idl_root::{Details, detailing};
+use idl_source::Name;
+use std::alloc::{AllocError, Global};
+use std::rc::Rc;
+
+impl Session {
+    /// What the listing of a root tells, as data, and of a root with an error what is declared in it; nothing where the name isn't one
+    /// of a root. The root's units are judged for it, and nothing of that is kept.
+    pub fn details(&self, root: &[u8]) -> Result<Option<Details>, AllocError>
+        ensures { IfOk result (λ details. details ≡ details_of self.now.project root.now) }
+    {
+        match self.kept(root) {
+            Some(kept) => Ok(Some(kept.details(self.allocator())?)),
+            None => Ok(None),
+        }
+    }
+}
+
+/// The details of a root over a bank. It is expanded, and its units judged, for them alone.
+pub fn details_alone(alloc: Global, bank: &SessionBank, root: &Name) -> Result<Details, AllocError>
+    ensures { IfOk result (λ details. details ≡ details_over (bank_of bank.now) root.now) }
+{
+    let root = RootTask::new(root.copied());
+    let kept: Rc<KeptExpansion> = run_anew(alloc, &root, bank, &mut Meter::new())?;
+    idl_root::details_of(alloc, kept.out())
+}
+
+/// Where a root has no error, the rows of its listing are what its details are printed as. This does nothing: it carries the law.
+pub fn listing_is_details()
+    ensures compiled { (inputs : Inputs) (name : List ℕ)
+        → (compiled_root inputs name).rows.is_faulty ≡ false
+        → (compiled_root inputs name).rows.listing
+        ≡ printed (details_over (bank_of inputs) name) }
+    ensures answered { (project : Project) (name : List ℕ)
+        → is_faulty_of project name ≡ Some false
+        → listing_of project name ≡ option_map printed (details_of project name) }
+{
+    // It does nothing: it carries the law of a root's details.
+    detailing();
+}
