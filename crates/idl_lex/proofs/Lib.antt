@@ -1,6 +1,8 @@
 pub mod ApartLemmas
 pub mod ByteLemmas
+pub mod ColumnLemmas
 pub mod CountLemmas
+pub mod GapLemmas
 pub mod KindLaws
 pub mod LineLemmas
 pub mod LogicalLemmas

@@ -3,3 +3,4 @@
 pub(crate) mod byte;
 pub(crate) mod context;
 pub(crate) mod state;
+pub(crate) mod text_left;

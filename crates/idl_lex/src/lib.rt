@@ -8,6 +8,7 @@ mod bytes;
 pub mod kinds;
 mod tokens;
 
+pub use bytes::text_left::{TextByte, TextLeft};
 pub use kinds::word::is_word;
 pub use tokens::block_tokens::{BlockTokens, TokenBuffer, TokenPlace};
 pub use tokens::lexer::{Before, Opening, push_line};

@@ -1,5 +1,6 @@
 pub mod Asked
 pub mod Bank
+pub mod Columns
 pub mod Compared
 pub mod Compile
 pub mod Details

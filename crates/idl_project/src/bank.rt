@@ -10,6 +10,7 @@ ghost use Rattle.indexmap.specs.IndexMap.{insert_entry};
 ghost use Rattle.idl_event.specs.declared.asked.key.RootAnswer.TheVariants as answers;
 ghost use Rattle.idl_event.specs.declared.asked.key.RootKey.TheVariants as keys;
 ghost use Rattle.idl_project.specs.Bank.{IsSameBeside, bank_of, bank_with};
+ghost use Rattle.idl_project.specs.Columns.{column_at};
 ghost use Rattle.idl_project.specs.Edits.{macros_with};
 ghost use Rattle.idl_prep.specs.Candidate.{AnswersFrom};
 ghost use Rattle.idl_prep.specs.Include.{directories_in};
@@ -21,7 +22,7 @@ use crate::macro_body::MacroBody;
 use crate::no_step::NoStep;
 use idl_base::{Bytes, Seq};
 use idl_event::{LexedFile, RootAnswer, RootKey};
-use idl_fault::FileName;
+use idl_fault::{FileName, Place};
 use idl_macro::is_macro_word;
 use idl_memo::{Bank, PlainBank};
 use idl_source::{Files, Line, Refusal};
@@ -116,6 +117,16 @@ impl SessionBank {
                 None => None,
             },
             RootAnswer::Macro(_) | RootAnswer::File(_) => None,
+        }
+    }
+
+    /// How many bytes of its line are before a token of a file, by its place, its number there and its spelling.
+    pub fn column(&self, place: &Place, number: Option<usize>, text: &[u8]) -> Option<usize>
+        ensures { result ≡ column_at self.now.files place.now number text.now }
+    {
+        match self.texts.get(&place.file) {
+            Some(RootAnswer::File(file)) => file.column(place.line, number, text),
+            Some(RootAnswer::Macro(_) | RootAnswer::Search(_)) | None => None,
         }
     }
 

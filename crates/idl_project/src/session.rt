@@ -12,6 +12,7 @@ ghost use Rattle.idl_prep.specs.Root.{expanded};
 ghost use Rattle.idl_root.specs.Details.{details};
 ghost use Rattle.idl_root.specs.Turns.{IsWithinTurns};
 ghost use Rattle.idl_project.specs.Bank.{IsSameBeside, bank_of};
+ghost use Rattle.idl_project.specs.Columns.{column_of};
 ghost use Rattle.idl_project.specs.Details.{details_of};
 ghost use Rattle.idl_project.specs.Project.{no_project, with_files};
 ghost use Rattle.idl_project.specs.Work.{no_work};
@@ -30,7 +31,7 @@ use crate::word::spelled;
 use crate::work::Work;
 use idl_base::{Bytes, Seq};
 use idl_event::{RootAnswer, RootKey};
-use idl_fault::FileName;
+use idl_fault::{FileName, Place};
 use idl_macro::is_macro_word;
 use idl_memo::{Edited, Meter, freshness, one_bank};
 use idl_prep::RootTask;
@@ -275,6 +276,15 @@ impl Session {
             Some(compiled) => Some(compiled.rows.findings.as_slice()),
             None => None,
         }
+    }
+
+    /// Where a token begins that is found in a file: how many bytes of its line are before it. By its number among the tokens of that
+    /// line where that one is spelled so, or else by its spelling, if only one is spelled so there; what goes over joined lines has none.
+    /// It takes no memory.
+    pub fn column(&self, place: &Place, number: Option<usize>, text: &[u8]) -> Option<usize>
+        ensures { result ≡ column_of self.now.project place.now number text.now }
+    {
+        self.bank.column(place, number, text)
     }
 
     /// The diagnostics of a root, or nothing where the name isn't one of a root. It takes no memory.

@@ -1,12 +1,12 @@
 -- Blocks of a file: their tokens, end to end, are those of the file.
 use Rattle.std.proofs.Common.{◌≡◌, ◌∙◌, ◌⊎◌, inl, inr, ◌+◌, ◌-◌, ◌<◌, ◌≤◌, ◌++◌, ◌∷◌, ℕ, zero, suc, Bool, true, false, if◌then◌else◌, List, [], append_assoc, append-nil, drop, get_or, length, length-append, length-drop, take, refl, sym, ap, subst, arith}
 use Rattle.std.proofs.Math.Seq.{drop-append_seam, take-add, take-append_seam, take-length}
-use Rattle.std.proofs.lemmas.List.{drop-drop, drop_all, length-map, length-take-le, map-append, take-append-drop, take_all, take_more}
+use Rattle.std.proofs.lemmas.List.{drop-drop, drop_all, get_or-drop, get_or-take, length-map, length-take-le, map-append, take-append-drop, take_all, take_more}
 use Rattle.std.proofs.lemmas.List.Sums.{sum_by-cons}
 use Rattle.std.specs.List.{Contains, slice_index_or}
 use Rattle.idl_lex.proofs.LogicalLemmas.{Begins-some, first_then, joined_count-some}
 use Rattle.idl_text.proofs.MovedLemmas.{joined-moved, tokens_after-moved}
-use Rattle.idl_text.specs.Block.{AreBlocks, AreBlocksOf, IsApart, IsBlock, lines_in_blocks, tokens_in_blocks, tokens_there}
+use Rattle.idl_text.specs.Block.{AreBlocks, AreBlocksOf, IsApart, IsBlock, IsEnded, lines_in_blocks, tokens_in_blocks, tokens_there}
 use Rattle.idl_lex.specs.bytes.Context.{line_start}
 use Rattle.idl_lex.specs.tokens.Lexer.{ended}
 use Rattle.idl_lex.specs.tokens.Logical.{continued, joined_count}
@@ -142,6 +142,30 @@ CutMore-joined lines rest start end here is within closed =
           ∙ ap (λ ls. ls ++ rest) (ap (λ k. take start lines ++ take k left) (sym size) ∙ sym (take-add start n lines) ∙ ap (λ k. take k lines) (sym is));
     }
 
+-- none behind those that are joined is joined to them
+joined_count-ends : (lines : List (List ℕ)) → joined_count lines < length lines → is_continued (get_or lines (joined_count lines - 1) []) ≡ false
+joined_count-ends [] less = absurd (omega (arith, less))
+joined_count-ends (bytes ∷ lines) less = by (is_continued bytes) refl less (λ within. joined_count-ends lines within)
+  where
+    by : (b : Bool) → is_continued bytes ≡ b → (if b then suc (joined_count lines) else 1) < suc (length lines)
+        → (joined_count lines < length lines → is_continued (get_or lines (joined_count lines - 1) []) ≡ false) → is_continued (get_or (bytes ∷ lines) ((if b then suc (joined_count lines) else 1) - 1) []) ≡ false
+    by true e more later =
+        let within : joined_count lines < length lines = omega (arith, more) in
+        let some = joined_count-pos lines (omega (arith, within)) in
+        let n : suc (joined_count lines) - 1 ≡ suc (joined_count lines - 1) = omega (arith, some) in
+        ap (λ k. is_continued (get_or (bytes ∷ lines) k [])) n ∙ later within
+    by false e more later = e
+
+pub ended-more : (lines : List (List ℕ)) (start end : ℕ) → start < length lines → end ≡ start + joined_count (drop start lines) → IsEnded lines end
+ended-more lines start end here is some less =
+    let left = drop start lines in
+    let n = joined_count left in
+    let size = length-drop start lines in
+    let pos : 0 < n = joined_count-pos left (omega (arith, here, size)) in
+    let place : end - 1 ≡ start + (n - 1) = omega (arith, is, pos) in
+    ap is_continued (ap (λ k. get_or lines k []) place ∙ sym (get_or-drop start lines (n - 1) []))
+    ∙ joined_count-ends left (omega (arith, is, less, size))
+
 -- ---- blocks
 
 -- the tokens of lines are those of a block and, further down, those of the lines behind it
@@ -158,7 +182,7 @@ IsBlock-tokens lines block is = by is.apart
         ap tokens_of (sym (take-append-drop block.lines lines)) ∙ apart (drop block.lines lines)
         ∙ (λ i. sym is.own i ++ moved_tokens (length-take-le block.lines lines is.within i) (tokens_of (drop block.lines lines)))
 
-lines-there : (b : PlacedBlock) (blocks : List PlacedBlock) → lines_in_blocks (b ∷ blocks) ≡ b.block.value.lines + lines_in_blocks blocks
+pub lines-there : (b : PlacedBlock) (blocks : List PlacedBlock) → lines_in_blocks (b ∷ blocks) ≡ b.block.value.lines + lines_in_blocks blocks
 lines-there b blocks = sum_by-cons (λ (x : PlacedBlock). x.block.value.lines) b blocks
 
 no_lines : (lines : List (List ℕ)) → 0 ≡ length lines → tokens_of lines ≡ []
@@ -180,6 +204,9 @@ AreBlocks-tokens lines lb tb (b ∷ blocks) are all =
 -- the tokens of the blocks of a file are those of the file
 pub AreBlocks-all : (lines : List (List ℕ)) (blocks : List PlacedBlock) → AreBlocks lines 0 0 blocks → lines_in_blocks blocks ≡ length lines → tokens_in_blocks blocks ≡ tokens_of lines
 AreBlocks-all lines blocks are all = AreBlocks-tokens lines 0 0 blocks are all ∙ moved_tokens-zero (tokens_of lines)
+
+pub AreBlocksOf-tokens : (lines : List (List ℕ)) (blocks : List PlacedBlock) → AreBlocksOf lines blocks → tokens_in_blocks blocks ≡ tokens_of lines
+AreBlocksOf-tokens lines blocks are = AreBlocks-all lines blocks are.each are.whole
 
 -- how many tokens a block and those after it have
 length-there : (b : PlacedBlock) (blocks : List PlacedBlock) → length (tokens_in_blocks (b ∷ blocks)) ≡ length b.block.value.tokens + length (tokens_in_blocks blocks)
@@ -211,8 +238,18 @@ IsBlock-same own lines block is same within end =
       within = within;
       own = is.own ∙ ap tokens_of (sym same);
       apart = by end is.apart;
+      ends = λ some less. ap is_continued (last some) ∙ is.ends some (behind end less);
     }
   where
+    last : 0 < block.lines → get_or lines (block.lines - 1) [] ≡ get_or own (block.lines - 1) []
+    last some =
+        let within : block.lines - 1 < block.lines = omega (arith, some) in
+        sym (get_or-take block.lines lines (block.lines - 1) [] within) ∙ ap (λ (ls : List (List ℕ)). get_or ls (block.lines - 1) []) same ∙ get_or-take block.lines own (block.lines - 1) [] within
+
+    behind : (block.lines < length own) ⊎ (block.lines ≡ length lines) → block.lines < length lines → block.lines < length own
+    behind (inl more) less = more
+    behind (inr all) less = absurd (omega (arith, all, less))
+
     by : (block.lines < length own) ⊎ (block.lines ≡ length lines) → (block.lines ≡ length own) ⊎ IsApart (take block.lines own) → (block.lines ≡ length lines) ⊎ IsApart (take block.lines lines)
     by (inr all) h = inl all
     by (inl more) (inl none) = absurd (omega (arith, more, none))

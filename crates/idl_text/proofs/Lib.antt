@@ -1,10 +1,14 @@
+pub mod BeginningLemmas
 pub mod BlockLemmas
+pub mod BlockStarts
+pub mod ColumnLaws
 pub mod CutLemmas
 pub mod GroupTextLemmas
 pub mod LeftLemmas
 pub mod MatchedLemmas
 pub mod MatchingLemmas
 pub mod MovedLemmas
+pub mod StartLemmas
 pub mod TextLemmas
 pub mod TreeLawLemmas
 pub mod TreeLemmas

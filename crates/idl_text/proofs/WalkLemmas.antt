@@ -339,12 +339,28 @@ IsParted-first blocks before place b count left here line rest first e some same
 
 -- ---- the block of a token
 
+-- further blocks have no fewer lines before them
+AreBlocks-rises : (lines : List (List ℕ)) (lines_before tokens_before : ℕ) (blocks : List PlacedBlock) (i j : ℕ) (d : PlacedBlock) → AreBlocks lines lines_before tokens_before blocks → i ≤ j → j < length blocks
+    → (get_or blocks i d).lines_before ≤ (get_or blocks j d).lines_before
+AreBlocks-rises lines lb tb [] i j d are le lt = absurd (omega (arith, lt))
+AreBlocks-rises lines lb tb (b ∷ blocks) zero j d are le lt =
+    let at = AreBlocks-at lines lb tb (b ∷ blocks) j d are lt in
+    omega (arith, at.is, are.0)
+AreBlocks-rises lines lb tb (b ∷ blocks) (suc i) zero d are le lt = absurd (omega (arith, le))
+AreBlocks-rises lines lb tb (b ∷ blocks) (suc i) (suc j) d are le lt =
+    let block = b.block.value in
+    AreBlocks-rises (drop block.lines lines) (lb + block.lines) (tb + length block.tokens) blocks i j d are.3 (omega (arith, le)) (omega (arith, lt))
+
 -- further blocks have no fewer tokens before them
 pub tokens_before-rises : (lines : List (List ℕ)) (blocks : List PlacedBlock) → AreBlocksOf lines blocks → IsNonDecreasingBy (λ (b : PlacedBlock). b.tokens_before) blocks
 tokens_before-rises lines blocks are = λ i j d le lt.
     let first = AreBlocks-at lines 0 0 blocks i d are.each (omega (arith, le, lt)) in
     let second = AreBlocks-at lines 0 0 blocks j d are.each lt in
     omega (arith, first.tokens, second.tokens, tokens_in-first (take j blocks) i, ap (λ bs. length (tokens_in_blocks bs)) (take-take i j blocks le))
+
+-- and no fewer lines
+pub lines_before-rises : (lines : List (List ℕ)) (blocks : List PlacedBlock) → AreBlocksOf lines blocks → IsNonDecreasingBy (λ (b : PlacedBlock). b.lines_before) blocks
+lines_before-rises lines blocks are = λ i j d le lt. AreBlocks-rises lines 0 0 blocks i j d are.each le lt
 
 -- The place of a token: its block is the last of those that have so few tokens before them.
 pub record IsNear (blocks : List PlacedBlock) (before block : ℕ) (b : PlacedBlock) : Type 0 where

@@ -1,7 +1,8 @@
 -- A file in blocks: lines that are cut into tokens as if they were a file of their own.
-use Rattle.std.specs.Prelude.{◌≡◌, ◌⊎◌, ◌≤◌, ◌<◌, ◌+◌, ◌^◌, ℕ, List, [], ◌∷◌, ◌++◌, drop, length, take}
+use Rattle.std.specs.Prelude.{◌≡◌, ◌⊎◌, ◌≤◌, ◌<◌, ◌+◌, ◌-◌, ◌^◌, ℕ, false, List, [], ◌∷◌, ◌++◌, drop, get_or, length, take}
 use Rattle.std.specs.List.{flat_map, sum_by}
 use Rattle.idl_text.specs.Moved.{moved_tokens}
+use Rattle.idl_lex.specs.bytes.Text.{is_continued}
 use Rattle.idl_lex.specs.tokens.Tokens.{tokens_of}
 use Rattle.idl_text.specs.declared.tokens.block.Block.{Block}
 use Rattle.idl_text.specs.declared.tokens.block.PlacedBlock.{PlacedBlock}
@@ -15,13 +16,19 @@ IsApart lines =
     → tokens_of (lines ++ rest)
     ≡ tokens_of lines ++ moved_tokens (length lines) (tokens_of rest)
 
+-- no line behind the first so many is joined to them
+abbrev pub IsEnded : List (List ℕ) → ℕ → Type 0
+IsEnded lines count =
+    0 < count → count < length lines → is_continued (get_or lines (count - 1) []) ≡ false
+
 -- the first of these lines, with the tokens of a file of their own; unless they are the last ones,
--- they stand apart
+-- they stand apart, and no line is joined to them
 pub record IsBlock (lines : List (List ℕ)) (block : Block) : Type 0 where
   pub some : 0 < block.lines
   pub within : block.lines ≤ length lines
   pub own : block.tokens ≡ tokens_of (take block.lines lines)
   pub apart : (block.lines ≡ length lines) ⊎ IsApart (take block.lines lines)
+  pub ends : IsEnded lines block.lines
 
 -- the tokens of a block where it stands in a file
 abbrev pub tokens_there : PlacedBlock → List PlacedToken
@@ -63,3 +70,11 @@ pub record IsPlace (blocks : List PlacedBlock) (block place before : ℕ) : Type
   pub within :
       (before < length (tokens_in_blocks (take (block + 1) blocks)))
       ⊎ ((length blocks ≤ block) × (before ≡ length (tokens_in_blocks blocks)))
+
+-- The block of a line: the last one that begins above it, or else the first.
+pub record IsBlockOfLine (blocks : List PlacedBlock) (line : ℕ) (b : PlacedBlock) : Type 0 where
+  pub place : ℕ
+  pub within : place < length blocks
+  pub is : get_or blocks place b ≡ b
+  pub above : (place ≡ 0) ⊎ (b.lines_before < line)
+  pub others : (j : ℕ) → place < j → j < length blocks → line ≤ (get_or blocks j b).lines_before

@@ -4,5 +4,6 @@ pub mod Jump
 pub mod Line
 pub mod Matching
 pub mod Moved
+pub mod Starts
 pub mod Tree
 pub mod TreeLaw

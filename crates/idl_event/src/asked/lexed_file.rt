@@ -5,31 +5,28 @@ ghost use Rattle.std.specs.Cmp.{partial_equiv_from_equiv};
 ghost use Rattle.std.specs.Cmp.Lexicographic.{pointwise, pointwise_decides, bytes_decides, lists_per, lists_equiv, nat_list_eq_equiv};
 ghost use Rattle.std.specs.Str.{bytes_eq};
 ghost use Rattle.idl_lex.specs.tokens.Tokens.{tokens_of};
+ghost use Rattle.idl_text.specs.Starts.{column_in};
 
 use idl_base::Datum;
 use idl_source::File;
-use idl_text::{GroupedTokens, LinesLeft, lex};
+use idl_text::{GroupedTokens, LinesLeft, column_in, lex};
 use std::alloc::{AllocError, Global};
 use std::marker::Model;
 use std::rc::Rc;
 
-/// A file, and beside it its tokens and the branches of its groups, so that they are made once. Its lines alone are its
-/// value, and a clone shares both.
+/// A file with its tokens and the branches of its groups, so that they are made once. Its lines alone are its value, and a
+/// clone shares all.
 #[derive(Drop)]
 pub struct LexedFile {
-    file: File,
     tokens: Rc<GroupedTokens>,
 }
 
 impl Model for LexedFile {
-    ghost use Rattle.std.specs.Prelude.{◌≡◌, List, ℕ};
-    ghost use Rattle.idl_lex.specs.tokens.Tokens.{tokens_of};
+    ghost use Rattle.std.specs.Prelude.{List, ℕ};
 
     ghost Value = { List (List ℕ) };
 
-    ghost view = { λ it. it.file };
-
-    ghost invariant = { λ it. it.tokens.value ≡ tokens_of it.file };
+    ghost view = { λ it. it.tokens.value };
 }
 
 impl LexedFile {
@@ -41,7 +38,6 @@ impl LexedFile {
         let tokens = GroupedTokens::new(alloc, lex(alloc, &file, old)?)?;
         Ok(LexedFile {
             tokens: Rc::new(alloc, tokens)?,
-            file,
         })
     }
 
@@ -49,7 +45,7 @@ impl LexedFile {
     pub fn file(&self) -> &File
         ensures { result.now ≡ self.now }
     {
-        &self.file
+        self.tokens.lexed().file()
     }
 
     /// Its lines.
@@ -58,15 +54,23 @@ impl LexedFile {
     {
         self.tokens.all()
     }
+
+    /// How many bytes of a line are before the token with this number there, from 0 on, if it is spelled so, or else before the only one
+    /// there that is. What goes over joined lines has no column. It takes no memory.
+    pub fn column(&self, line: u32, number: Option<usize>, text: &[u8]) -> Option<usize>
+        ensures { result ≡ column_in self.now line number text.now }
+    {
+        column_in(self.tokens.lexed(), line, number, text)
+    }
 }
 
 impl Clone for LexedFile {
     ghost is_clone = { λ it copy. copy ≡ it };
 
     fn clone(&self) -> Result<LexedFile, AllocError> {
-        let tokens = self.tokens.clone()?;
-        let file = self.file.clone()?;
-        Ok(LexedFile { file, tokens })
+        Ok(LexedFile {
+            tokens: self.tokens.clone()?,
+        })
     }
 }
 
@@ -79,7 +83,7 @@ impl PartialEq for LexedFile {
         ensures by_line { result ≡ pointwise bytes_eq self.now other.now }
         ensures exact { IsTrue result ↔ (self.now ≡ other.now) }
     {
-        self.file == other.file
+        self.file() == other.file()
     }
 }
 

@@ -120,6 +120,11 @@ further-plain includes b bs other =
     kept true = refl
     kept false = refl
 
+-- a white byte is a piece of its own
+pub further-white : (includes : Bool) (b : ℕ) (bs : List ℕ) → is_space b ≡ true → further includes b bs ≡ 0
+further-white includes b bs space =
+    further-plain includes b bs (one_of (λ b. nat_eq b 60 ≡ false) white-less b space) ∙ one_of (λ b. taken (start_of b) bs ≡ 0) (white-taken bs) b space
+
 -- past a white byte
 pub tokens_after-space : (c : Context) (line : List Placed) (i last_number : ℕ) (rest : List Placed) → i < length line → is_space (get_or (bytes_of line) i 0) ≡ true
     → tokens_after c 0 (drop i line ++ ended last_number rest)
@@ -127,8 +132,7 @@ pub tokens_after-space : (c : Context) (line : List Placed) (i last_number : ℕ
 tokens_after-space c line i last_number rest lt space =
     let b = get_or (bytes_of line) i 0 in
     let bs = drop (i + 1) (bytes_of line) in
-    let none : further (is_include c.beginning) b bs ≡ 0 =
-    further-plain (is_include c.beginning) b bs (one_of (λ b. nat_eq b 60 ≡ false) white-less b space) ∙ one_of (λ b. taken (start_of b) bs ≡ 0) (white-taken bs) b space in
+    let none : further (is_include c.beginning) b bs ≡ 0 = further-white (is_include c.beginning) b bs space in
     let is : EndsAt c line i (i + 1) = omega (arith, none) in
     let piece : piece_of line i (i + 1) ≡ b ∷ [] = piece_of-cons line i (i + 1) 0 lt (omega arith) in
     let closed : is_open (b ∷ []) ≡ false = ap (λ s. if s then opens [] else false) (one_of (λ b. nat_eq b 47 ≡ false) white-slash b space) in

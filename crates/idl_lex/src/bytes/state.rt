@@ -55,7 +55,7 @@ impl Inside {
     }
 
     /// The state after one more byte, or none where the piece ends before it.
-    fn step(self, b: u8) -> Option<Inside>
+    pub(crate) fn step(self, b: u8) -> Option<Inside>
         ensures { result ≡ step_of self b }
     {
         match self {

@@ -127,15 +127,15 @@ fn push_number(numbers: &mut Vec<u32>, number: u32, count: usize) -> Result<(), 
     Ok(())
 }
 
-// Whether a line's last byte is a backslash.
-fn is_continued(bytes: &[u8]) -> bool
+/// Whether a line's last byte is a backslash.
+pub(crate) fn is_continued(bytes: &[u8]) -> bool
     ensures { result ≡ is_continued bytes.now }
 {
     !bytes.is_empty() && bytes[bytes.len() - 1] == b'\\'
 }
 
-// All bytes but the last.
-fn front(bytes: &[u8]) -> &[u8]
+/// All bytes but the last.
+pub(crate) fn front(bytes: &[u8]) -> &[u8]
     ensures { result.now ≡ front bytes.entry.now }
 {
     &bytes[..bytes.len().saturating_sub(1)]

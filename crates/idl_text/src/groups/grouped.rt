@@ -1,7 +1,7 @@
 //! The tokens of a file with the branches of its groups.
 
 ghost use Rattle.std.specs.Prelude.{◌≡◌, ◌≤◌, ◌<◌, ◌++◌, ◌∷◌, ◌↔◌, [], IsTrue, drop, length, map, IfOk, IfSome};
-ghost use Rattle.idl_lex.specs.tokens.Tokens.{lines_of};
+ghost use Rattle.idl_lex.specs.tokens.Tokens.{lines_of, tokens_of};
 ghost use Rattle.idl_text.specs.Jump.{IsJump};
 ghost use Rattle.idl_text.specs.Line.{Text, lines_from};
 ghost use Rattle.idl_text.specs.Matching.{IsTableOf};
@@ -16,22 +16,22 @@ use crate::tokens::tokens_left::TokensLeft;
 use std::alloc::{AllocError, Global};
 use std::marker::Model;
 
-/// The tokens of a file, and beside them the branches of its groups. Its tokens alone are its value.
+/// A file with its tokens, and beside them the branches of its groups. To every contract it is the lines of the file.
 pub struct GroupedTokens {
     lexed: Lexed,
     table: BranchTable,
 }
 
 impl Model for GroupedTokens {
-    ghost use Rattle.std.specs.Prelude.{List};
+    ghost use Rattle.std.specs.Prelude.{List, ℕ};
+    ghost use Rattle.idl_lex.specs.tokens.Tokens.{tokens_of};
     ghost use Rattle.idl_text.specs.Matching.{IsTableOf};
-    ghost use Rattle.idl_lex.specs.declared.tokens.token.PlacedToken.{PlacedToken};
 
-    ghost Value = { List PlacedToken };
+    ghost Value = { List (List ℕ) };
 
     ghost view = { λ it. it.lexed };
 
-    ghost invariant = { λ it. IsTableOf it.lexed it.table };
+    ghost invariant = { λ it. IsTableOf (tokens_of it.lexed) it.table };
 }
 
 impl Drop for GroupedTokens {
@@ -44,7 +44,7 @@ impl Drop for GroupedTokens {
 }
 
 impl GroupedTokens {
-    /// The tokens, with the branches of their groups.
+    /// The file, with the branches of its groups.
     pub fn new(alloc: Global, lexed: Lexed) -> Result<GroupedTokens, AllocError>
         ensures { IfOk result (λ it. it ≡ lexed) }
     {
@@ -52,7 +52,7 @@ impl GroupedTokens {
         Ok(GroupedTokens { lexed, table })
     }
 
-    /// The tokens, which a later text of the file can take over.
+    /// The file with its tokens, which a later text can take over.
     pub fn lexed(&self) -> &Lexed
         ensures { result.now ≡ self.now }
     {
@@ -61,7 +61,7 @@ impl GroupedTokens {
 
     /// All lines.
     pub fn all(&self) -> LinesLeft<'_>
-        ensures { result ≡ self.now }
+        ensures { result ≡ tokens_of self.now }
     {
         LinesLeft {
             file: self,
@@ -82,14 +82,16 @@ pub struct LinesLeft<'a> {
 
 impl<'a> Model for LinesLeft<'a> {
     ghost use Rattle.std.specs.Prelude.{◌≡◌, ◌≤◌, ◌<◌, ◌^◌, List, drop, length};
+    ghost use Rattle.idl_lex.specs.tokens.Tokens.{tokens_of};
     ghost use Rattle.idl_lex.specs.declared.tokens.token.PlacedToken.{PlacedToken};
 
     ghost Value = { List PlacedToken };
 
     ghost view = { λ left. left.tokens };
 
-    ghost invariant = { λ left. (left.tokens ≡ drop left.before left.file.now)
-        × (left.before ≤ length left.file.now) × (length left.file.now < 2 ^ 64) };
+    ghost invariant = { λ left. let tokens = tokens_of left.file.now in
+        (left.tokens ≡ drop left.before tokens)
+        × (left.before ≤ length tokens) × (length tokens < 2 ^ 64) };
 }
 
 impl<'a> LinesLeft<'a> {
@@ -154,7 +156,7 @@ impl<'a> LinesLeft<'a> {
 
 // Matches the groups of a file.
 fn match_groups(alloc: Global, lexed: &Lexed) -> Result<BranchTable, AllocError>
-    ensures { IfOk result (λ table. IsTableOf lexed.now table) }
+    ensures { IfOk result (λ table. IsTableOf (tokens_of lexed.now) table) }
 {
     let mut matching = Matching::new(alloc);
     let mut left = lexed.all();

@@ -1,8 +1,8 @@
 //! The blocks of a text, of which a later text takes over what is the same.
 
-ghost use Rattle.std.specs.Prelude.{◌≡◌, ◌⊎◌, ◌≤◌, ◌<◌, IsTrue, length, take, IfSome};
+ghost use Rattle.std.specs.Prelude.{◌≡◌, ◌⊎◌, ◌≤◌, ◌<◌, [], IsTrue, length, take, IfSome, MatchOption};
 ghost use Rattle.std.specs.List.{Contains};
-ghost use Rattle.idl_text.specs.Block.{AreBlocksOf, IsBlock};
+ghost use Rattle.idl_text.specs.Block.{AreBlocksOf, IsBlock, IsBlockOfLine};
 
 use crate::tokens::block::{Block, PlacedBlock};
 use idl_source::{File, Line};
@@ -22,6 +22,21 @@ impl Blocks {
             Some(before) => self.block_behind(before).is_some(),
             None => false,
         }
+    }
+
+    /// The block in which this line is, if it is one of the file, else the last one; of no lines there is none.
+    pub fn block_of(&self, line: usize) -> Option<&PlacedBlock>
+        requires { AreBlocksOf self.now.file self.now.placed.items }
+        ensures { MatchOption result (self.now.placed.items ≡ [])
+            (λ b. IsBlockOfLine self.now.placed.items line b.now) }
+    {
+        if self.placed.is_empty() {
+            return None;
+        }
+        let count = self
+            .placed
+            .partition_point(|placed| placed.lines_before < line);
+        Some(&self.placed[count.saturating_sub(1)])
     }
 
     // The block that begins behind so many lines.

@@ -1,16 +1,20 @@
 //! The tokens of a file.
 
-ghost use Rattle.std.specs.Prelude.{◌≡◌, ◌≤◌, ◌+◌, ◌<◌, ◌^◌, ◌++◌, ◌∷◌, ◌↔◌, [], ℕ, List, drop, length, IfOk, IfSome, OnOk};
+ghost use Rattle.std.specs.Prelude.{◌≡◌, ◌≤◌, ◌+◌, ◌<◌, ◌^◌, ◌++◌, ◌∷◌, ◌↔◌, [], ℕ, List, drop, length, IfOk, IfSome, MatchOption, OnOk};
 ghost use Rattle.idl_text.specs.Block.{AreBlocks, IsBlock, lines_in_blocks};
 ghost use Rattle.idl_lex.specs.bytes.Context.{line_start};
 ghost use Rattle.idl_text.specs.Cut.{AreTokensOf};
+ghost use Rattle.idl_text.specs.Starts.{on_line, starts_left, starts_of};
 ghost use Rattle.idl_lex.specs.bytes.Text.{joined};
 ghost use Rattle.idl_lex.specs.tokens.Tokens.{tokens_of};
 ghost use Rattle.idl_lex.specs.declared.tokens.token.PlacedToken.{PlacedToken};
 
 use crate::tokens::block::{Block, Ends, PlacedBlock, cut_block};
 use crate::tokens::blocks::Blocks;
+use crate::tokens::file_tokens::FileTokens;
+use crate::tokens::starts_left::StartsLeft;
 use crate::tokens::tokens_left::TokensLeft;
+use idl_lex::TextLeft;
 use idl_source::{File, Line};
 use std::alloc::{AllocError, Global};
 use std::marker::Model;
@@ -19,37 +23,44 @@ use std::rc::Rc;
 // A block has at least so many lines, unless another follows that is taken over.
 const BLOCK_LINES: usize = 64;
 
-/// The tokens of a file, in order: its blocks end to end. A later text of the file can take blocks over.
+/// A file, and its tokens in order: its blocks end to end. A later text of the file can take blocks over. To every contract it is
+/// the lines of the file.
 #[derive(Drop)]
 pub struct Lexed {
     blocks: Blocks,
 }
 
 impl Model for Lexed {
-    ghost use Rattle.std.specs.Prelude.{List};
-    ghost use Rattle.idl_text.specs.Block.{AreBlocksOf, tokens_in_blocks};
-    ghost use Rattle.idl_lex.specs.declared.tokens.token.PlacedToken.{PlacedToken};
+    ghost use Rattle.std.specs.Prelude.{List, ℕ};
+    ghost use Rattle.idl_text.specs.Block.{AreBlocksOf};
 
-    ghost Value = { List PlacedToken };
+    ghost Value = { List (List ℕ) };
 
-    ghost view = { λ lexed. tokens_in_blocks lexed.blocks.placed.items };
+    ghost view = { λ lexed. lexed.blocks.file };
 
     ghost invariant = { λ lexed. AreBlocksOf lexed.blocks.file lexed.blocks.placed.items };
 }
 
 impl Lexed {
+    /// The file.
+    pub fn file(&self) -> &File
+        ensures { result.now ≡ self.now }
+    {
+        &self.blocks.file
+    }
+
     /// All tokens.
     pub fn all(&self) -> TokensLeft<'_>
-        ensures tokens { result ≡ self.now }
-        ensures room { length self.now < 2 ^ 64 }
+        ensures tokens { result ≡ tokens_of self.now }
+        ensures room { length (tokens_of self.now) < 2 ^ 64 }
     {
         TokensLeft::new(&self.blocks.placed, 0, 0, 0)
     }
 
     /// The tokens behind so many.
     pub fn behind(&self, before: usize) -> TokensLeft<'_>
-        requires { before ≤ length self.now }
-        ensures { result ≡ drop before self.now }
+        requires { before ≤ length (tokens_of self.now) }
+        ensures { result ≡ drop before (tokens_of self.now) }
     {
         let count = self
             .blocks
@@ -61,6 +72,24 @@ impl Lexed {
             None => 0,
         };
         TokensLeft::new(&self.blocks.placed, block, place, before)
+    }
+
+    /// The tokens of the block in which this line is, each where it begins.
+    pub(crate) fn starts_around(&self, line: u32) -> Option<StartsLeft<'_>>
+        ensures { MatchOption result (on_line line (starts_of self.now) ≡ [])
+            (λ starts. on_line line (starts_left starts) ≡ on_line line (starts_of self.now)) }
+    {
+        let Some(placed) = self.blocks.block_of(line as usize) else {
+            return None;
+        };
+        let before = placed.lines_before;
+        let (_before, from) = self.blocks.file.lines().split_at(before);
+        let (own, _later) = from.split_at(placed.block.lines);
+        let before = before as u32;
+        Some(StartsLeft::new(
+            FileTokens::new(&placed.block, before, 0),
+            TextLeft::new(own, before),
+        ))
     }
 
     /// Whether a block begins so many lines before the end.
@@ -76,10 +105,10 @@ impl Lexed {
     }
 }
 
-/// The tokens of a file. Blocks of `old`, the tokens of an earlier text, are taken over where their lines are the same,
+/// The file with its tokens. Blocks of `old`, an earlier text, are taken over where their lines are the same,
 /// which changes nothing in the answer.
 pub fn lex(alloc: Global, file: &File, old: Option<&Lexed>) -> Result<Lexed, AllocError>
-    ensures { IfOk result (λ lexed. lexed ≡ tokens_of file.now) }
+    ensures { IfOk result (λ lexed. lexed ≡ file.now) }
 {
     let mut placed = Vec::new(alloc);
     let lines = file.lines();

@@ -1,6 +1,6 @@
 use Rattle.std.proofs.Common.{◌≡◌, ◌≤◌, ◌+◌, ◌++◌, ◌∷◌, List, ℕ, ap, sym, subst, ◌∙◌, IfOk, Result, Ok, Err, [], arith, drop, length, map, true}
 use Rattle.std.proofs.lemmas.List.{drop_all, length-drop}
-use Rattle.idl_lex.specs.tokens.Tokens.{is_text, lines_of}
+use Rattle.idl_lex.specs.tokens.Tokens.{is_text, lines_of, tokens_of}
 use Rattle.idl_lex.specs.declared.tokens.token.PlacedToken.{PlacedToken}
 use Rattle.idl_text.specs.Line.{Line, Text, lines_from, read}
 use Rattle.idl_text.specs.Matching.{IsMatchedBy, IsSpan, lines_at}
@@ -34,17 +34,17 @@ lines_at-text tokens left text rest at count is lines texts all size =
     ∙ ap (λ (ts : List PlacedToken). map Text (lines_of text) ++ lines_from ts) (behind-first tokens left text rest at count is all size)
 
 pub lines-init : goal.lines-init
-lines-init c = record { within = omega arith; left = c.all-left.ensures.tokens; matched = c.new-matching.ensures (lines_at c.args.lexed.now) }
+lines-init c = record { within = omega arith; left = c.all-left.ensures.tokens; matched = c.new-matching.ensures (lines_at (tokens_of c.args.lexed.now)) }
 
 pub overflow_add-at : goal.overflow_add-at
 overflow_add-at c =
-    let tokens = c.args.lexed.now in
+    let tokens = tokens_of c.args.lexed.now in
     let here = c.lines.invariant in
     omega (arith, within-first tokens c.lines.left c.first_text-text.result.0 c.first_text-text.result.1 c.lines.at c.len-at.result here.left c.first_text-text.ensures.all c.len-at.ensures here.within, c.all-left.ensures.room)
 
 pub lines-preserved-then-not-is_empty : goal.lines-preserved-then-not-is_empty
 lines-preserved-then-not-is_empty c =
-    let tokens = c.args.lexed.now in
+    let tokens = tokens_of c.args.lexed.now in
     let left = c.lines.left in
     let text = c.first_text-text.result.0 in
     let rest = c.first_text-text.result.1 in
@@ -63,7 +63,7 @@ lines-preserved-then-not-is_empty c =
 
 pub overflow_add-after : goal.overflow_add-after
 overflow_add-after c =
-    let tokens = c.args.lexed.now in
+    let tokens = tokens_of c.args.lexed.now in
     let left = c.lines.left in
     let line = c.first_line-line.result.0 in
     let rest = c.first_line-line.result.1 in
@@ -75,7 +75,7 @@ overflow_add-after c =
 
 pub lines-preserved-in_ok-step : goal.lines-preserved-in_ok-step
 lines-preserved-in_ok-step c =
-    let tokens = c.args.lexed.now in
+    let tokens = tokens_of c.args.lexed.now in
     let left = c.lines.left in
     let line = c.first_line-line.result.0 in
     let rest = c.first_line-line.result.1 in
@@ -94,7 +94,7 @@ lines-preserved-in_ok-step c =
 
 pub lines-preserved : goal.lines-preserved
 lines-preserved c =
-    let tokens = c.args.lexed.now in
+    let tokens = tokens_of c.args.lexed.now in
     let left = c.lines.left in
     let line = c.first_line-line.result.0 in
     let rest = c.first_line-line.result.1 in
@@ -122,7 +122,7 @@ table-whole tokens at m (Ok table) within end matched told =
 
 pub returns : goal.returns
 returns c =
-    let tokens = c.args.lexed.now in
+    let tokens = tokens_of c.args.lexed.now in
     let here = c.lines.invariant in
     let none : drop c.lines.at tokens ≡ [] = sym here.left ∙ c.is_empty.ensures.0 c.lines-test.false in
     table-whole tokens c.lines.at c.lines.matching c.finish.result here.within (omega (arith, ap length none, length-drop c.lines.at tokens)) here.matched c.finish.ensures

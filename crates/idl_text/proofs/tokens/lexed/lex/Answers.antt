@@ -1,10 +1,9 @@
 use Rattle.std.proofs.Common.{◌≡◌, ◌∙◌, ◌+◌, ◌≤◌, ◌++◌, ◌∷◌, [], ap, arith, drop, length, length-drop, rules, subst, sym}
 use Rattle.std.proofs.lemmas.List.{take_rest}
 use Rattle.idl_text.specs.Block.{AreBlocks, IsBlock, lines_in_blocks, tokens_in_blocks}
-use Rattle.idl_lex.specs.tokens.Tokens.{tokens_of}
 use Rattle.idl_text.specs.declared.tokens.block.Block.{Block}
 use Rattle.idl_text.specs.declared.tokens.block.PlacedBlock.{PlacedBlock}
-use Rattle.idl_text.proofs.BlockLemmas.{AreBlocks-push, AreBlocks-all, lines_in-push, tokens_in-push}
+use Rattle.idl_text.proofs.BlockLemmas.{AreBlocks-push, lines_in-push, tokens_in-push}
 use Rattle.idl_text.proofs.tokens.lexed.lex.Goals as goal
 
 pub next_block-requires-clause-room : goal.next_block-requires-clause-room
@@ -48,7 +47,4 @@ invariant_of-result c =
     }
 
 pub returns : goal.returns
-returns c =
-    let lines = c.lines-lines.result.now in
-    let here = c.cut.invariant in
-    AreBlocks-all lines c.cut.placed.items here.blocks (omega (arith, here.lines, here.within, c.cut-test.false, c.line_count-total.ensures.count, ap length c.lines-lines.ensures)) ∙ ap tokens_of c.lines-lines.ensures
+returns c = c.in_ok-clone.ensures.cases

@@ -1,10 +1,11 @@
+use Rattle.idl_lex.specs.tokens.Tokens.{tokens_of}
 use Rattle.idl_text.proofs.LeftLemmas.{behind-first, within-first}
 use Rattle.idl_text.proofs.groups.grouped.LinesLeft.first_line.Goals as goal
 
 pub invariant_of-rest : goal.invariant_of-rest
 invariant_of-rest c =
     let it = c.self.inside in
-    let tokens = it.file.now in
+    let tokens = tokens_of it.file.now in
     let line = c.first_line-line.result.0 in
     let rest = c.first_line-line.result.1 in
     let all = c.first_line-line.ensures.all in

@@ -1,5 +1,6 @@
 use Rattle.std.proofs.Common.{◌∙◌, ap, sym}
 use Rattle.idl_text.specs.Line.{lines_from}
+use Rattle.idl_lex.specs.tokens.Tokens.{tokens_of}
 use Rattle.idl_text.proofs.LeftLemmas.{behind-first, within-first}
 use Rattle.idl_text.proofs.GroupTextLemmas.{lines_from-text}
 use Rattle.idl_text.proofs.groups.grouped.LinesLeft.first_text.Goals as goal
@@ -7,7 +8,7 @@ use Rattle.idl_text.proofs.groups.grouped.LinesLeft.first_text.Goals as goal
 pub invariant_of-rest : goal.invariant_of-rest
 invariant_of-rest c =
     let it = c.self.inside in
-    let tokens = it.file.now in
+    let tokens = tokens_of it.file.now in
     let text = c.first_text-text.result.0 in
     let rest = c.first_text-text.result.1 in
     let all = c.first_text-text.ensures.all in

@@ -1,9 +1,10 @@
-use Rattle.std.proofs.Common.{◌≡◌, ◌≤◌, ◌<◌, ap, arith, get_or, length, sym, rules, leb, take}
+use Rattle.std.proofs.Common.{◌≡◌, ◌∙◌, ◌≤◌, ◌<◌, ap, arith, drop, get_or, length, sym, rules, leb, take}
 use Rattle.std.proofs.lemmas.Bool.{ltb-false}
 use Rattle.std.proofs.lemmas.List.Sorted.{IsPartitionPoint-from_clause, IsPartitionedBy-leb}
+use Rattle.idl_lex.specs.tokens.Tokens.{tokens_of}
 use Rattle.idl_text.specs.Block.{tokens_in_blocks}
 use Rattle.idl_text.specs.declared.tokens.block.PlacedBlock.{PlacedBlock}
-use Rattle.idl_text.proofs.BlockLemmas.{tokens_in-all}
+use Rattle.idl_text.proofs.BlockLemmas.{AreBlocksOf-tokens, tokens_in-all}
 use Rattle.idl_text.proofs.WalkLemmas.{IsNear-point, no_tokens, tokens_before-rises}
 use Rattle.idl_text.proofs.tokens.lexed.Lexed.behind.Goals as goal
 use Rattle.idl_text.proofs.tokens.lexed.Lexed.behind.Goals.{in-Some, in-None}
@@ -32,6 +33,7 @@ new-requires-clause-place c =
     let point = IsPartitionPoint-from_clause (λ (x : PlacedBlock). leb x.tokens_before before) blocks count (rw c.deref.ensures.value at c.partition_point-count.ensures.partitioned)
     (IsPartitionedBy-leb (λ (x : PlacedBlock). x.tokens_before) blocks before (tokens_before-rises file blocks c.self.invariant)) (λ a r q k. search rules) in
     let all = c.deref-3.ensures.value in
+    let same : tokens_in_blocks blocks ≡ tokens_of c.args.self.now = AreBlocksOf-tokens file blocks c.self.invariant ∙ ap tokens_of c.self.view_is in
     elim c.match-get.branch [
       | in-Some w ↦
           let b = w.in-Some.placed.now in
@@ -44,9 +46,22 @@ new-requires-clause-place c =
             arith,
             w.place-is,
             c.requires,
-            ap length c.self.view_is,
+            ap length same,
             ap length (tokens_in-all blocks block past),
             ap (λ bs. length (tokens_in_blocks (take block bs))) all,
             no_tokens blocks (omega (arith, past, c.saturating_sub-block.ensures, c.partition_point-count.ensures.bound, ap length c.deref.ensures.value)),
           )
     ]
+
+pub new-requires-clause-within : goal.new-requires-clause-within
+new-requires-clause-within c =
+    let it = c.self.inside.blocks in
+    let same : tokens_in_blocks it.placed.items ≡ tokens_of c.args.self.now = AreBlocksOf-tokens it.file it.placed.items c.self.invariant ∙ ap tokens_of c.self.view_is in
+    omega (arith, c.requires, ap length same, ap (λ bs. length (tokens_in_blocks bs)) c.deref-3.ensures.value)
+
+pub returns : goal.returns
+returns c =
+    let it = c.self.inside.blocks in
+    c.new.ensures
+    ∙ (λ i. drop c.args.before (tokens_in_blocks (c.deref-3.ensures.value i)))
+    ∙ ap (drop c.args.before) (AreBlocksOf-tokens it.file it.placed.items c.self.invariant ∙ ap tokens_of c.self.view_is)
