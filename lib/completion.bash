@@ -27,7 +27,7 @@ _idlc() {
 _idltool() {
     local word=${COMP_WORDS[COMP_CWORD]} before=${COMP_WORDS[COMP_CWORD - 1]}
     if [ "$COMP_CWORD" = 1 ]; then
-        mapfile -t COMPREPLY < <(compgen -W 'explain deps --help --version' -- "$word")
+        mapfile -t COMPREPLY < <(compgen -W 'explain deps check json diff --help --version' -- "$word")
         return
     fi
     case ${COMP_WORDS[1]} in
@@ -41,6 +41,30 @@ _idltool() {
                 *)
                     case $word in
                         -*) mapfile -t COMPREPLY < <(compgen -W '-D -U -I -t --generated --help' -- "$word") ;;
+                        *) _idl_files "$word" ;;
+                    esac
+                    ;;
+            esac
+            ;;
+        check | json)
+            case $before in
+                -I) _idl_directories "$word" ;;
+                -D | -U) ;;
+                *)
+                    case $word in
+                        -*) mapfile -t COMPREPLY < <(compgen -W '-D -U -I --help' -- "$word") ;;
+                        *) _idl_files "$word" ;;
+                    esac
+                    ;;
+            esac
+            ;;
+        diff)
+            case $before in
+                -I | --old-I | --new-I) _idl_directories "$word" ;;
+                -D | -U) ;;
+                *)
+                    case $word in
+                        -*) mapfile -t COMPREPLY < <(compgen -W '-D -U -I --old-I --new-I --help' -- "$word") ;;
                         *) _idl_files "$word" ;;
                     esac
                     ;;

@@ -291,10 +291,7 @@ pub static REPEATED_TYPEPREFIX: Explanation = Explanation {
 
 pub static INTERFACE_NEVER_DEFINED: Explanation = Explanation {
     told: Told::Row(1, Code::InterfaceNeverDefined, "F"),
-    words: Words::Around(
-        "warning: the interface `",
-        "` is declared forward and never defined",
-    ),
+    words: Words::Around("the interface `", "` is declared forward and never defined"),
     example: "interface F;",
     mended: "interface F { };",
     hint: "It may stay so: no code can call it through this file. Include the file that defines it.",

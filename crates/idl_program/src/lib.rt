@@ -17,4 +17,4 @@ pub use loader::{Loaded, Loader};
 pub use loading::compile_all;
 pub use preparing::prepared;
 pub use program::{Devices, run_program};
-pub use request::{Options, options_of, with_options};
+pub use request::{Options, options_of, values_of, with_options};

@@ -26,7 +26,10 @@ pub fn compile_all<L: Loader>(
     loader: &mut L,
 ) -> Result<(Sources, Vec<CompiledRoot>), CompileFault>
     requires { sources.files ≡ finite.empty }
-    ensures { IfOk result (λ p. AreCompiled (L.told loader.old) sources p.0 roots.now p.1.items) }
+    ensures compiled { IfOk result
+        (λ p. AreCompiled (L.told loader.old) sources p.0 roots.now p.1.items) }
+    // The loader tells what it told.
+    ensures still { OnOk result (L.told loader.new ≡ L.told loader.old) }
 {
     let mut loading = Loading::new(sources);
     let mut rounds_left = u64::MAX;

@@ -227,7 +227,8 @@ pub fn options_of<'a>(alloc: Global, matches: &ArgMatches<'a>) -> Result<Options
     })
 }
 
-fn values_of<'a>(
+/// The values that stand for an option, in the order of the words.
+pub fn values_of<'a>(
     alloc: Global,
     matches: &ArgMatches<'a>,
     id: &str,

@@ -1,3 +1,6 @@
+mod CheckLemmas
 mod DepsLemmas
+mod DiffLemmas
 mod ExplainLemmas
+mod JsonLemmas
 mod RequestLemmas

@@ -1,5 +1,9 @@
 pub mod Answered
+pub mod Checked
+pub mod Compared
 pub mod Deps
+pub mod Json
 pub mod Messages
+pub mod Report
 pub mod Served
 pub mod Words

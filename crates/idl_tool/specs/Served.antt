@@ -8,9 +8,12 @@ use Rattle.idl_program.specs.Served.{IsShownText}
 use Rattle.idl_program.specs.declared.failure.Status.{Status}
 use Rattle.idl_program.specs.declared.failure.Status.TheVariants.{Sound}
 use Rattle.idl_tool.specs.Answered.{IsExplained}
+use Rattle.idl_tool.specs.Checked.{IsChecked}
+use Rattle.idl_tool.specs.Compared.{IsCompared}
 use Rattle.idl_tool.specs.Deps.{IsServed}
+use Rattle.idl_tool.specs.Json.{IsWritten}
 use Rattle.idl_tool.specs.declared.request.Request.{Request}
-use Rattle.idl_tool.specs.declared.request.Request.TheVariants.{Show, Explain, Deps}
+use Rattle.idl_tool.specs.declared.request.Request.TheVariants.{Show, Explain, Deps, Check, Json, Diff}
 
 -- what a word asks for, or nothing else, was explained
 pub record IsToldOf (word : Option (List ℕ)) (before after : Written) (status : Status)
@@ -25,3 +28,6 @@ IsDone told before after status (Show text) = IsShownText (string_bytes text) be
 IsDone told before after status (Explain word) =
     IsToldOf (option_map (λ w. w.now) word) before after status
 IsDone told before after status (Deps deps) = IsServed told deps before after status
+IsDone told before after status (Check options) = IsChecked told options before after status
+IsDone told before after status (Json options) = IsWritten told options before after status
+IsDone told before after status (Diff diff) = IsCompared told diff before after status

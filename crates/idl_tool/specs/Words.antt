@@ -1,14 +1,16 @@
 -- What the words behind the program's name ask for: the options that there are, and what each word
 -- is to them by clap's `subcommand_of`, or what is wrong with the words by its `fault_of`.
-use Rattle.std.specs.Prelude.{◌≡◌, ◌≢◌, ◌⊎◌, List, [], ◌∷◌, ◌++◌, Option, Some, true, codes}
-use Rattle.std.specs.Option.{option_map}
+use Rattle.std.specs.Prelude.{◌≡◌, ◌≢◌, ◌⊎◌, List, [], ◌∷◌, ◌++◌, Option, Some, true, codes, map}
+use Rattle.std.specs.Option.{option_map, option_to_list}
 use Rattle.clap.specs.Words.{App, IsAmong, Kinds, Row, Rule, Shape, Text, fault_of, first_of, new_app, new_rule, subcommand_of, with_subcommand}
 use Rattle.clap.specs.Simple.{new_shape, on_top}
-use Rattle.clap.specs.declared.builder.action.ArgAction.TheVariants.{Set}
+use Rattle.clap.specs.declared.builder.action.ArgAction.TheVariants.{Append, Set}
 use Rattle.clap.specs.declared.error.kind.ErrorKind.{ErrorKind}
 use Rattle.clap.specs.declared.error.kind.ErrorKind.TheVariants.{DisplayHelp, DisplayVersion, OutOfMemory}
-use Rattle.idl_program.specs.Words.{AreOptionsOf, file_rule, flag_rule, option_rules, stands}
+use Rattle.idl_program.specs.Words.{AreOptionsOf, file_rule, flag_rule, option_rules, stands, values_of}
+use Rattle.idl_program.specs.declared.request.Options.{Options}
 use Rattle.idl_tool.specs.declared.request.Deps.{Deps}
+use Rattle.idl_tool.specs.declared.request.Diff.{Diff}
 use Rattle.idl_tool.specs.declared.request.Request.{Request}
 use Rattle.idl_tool.specs.declared.request.Request.TheVariants as request
 use Rattle.idl_tool.specs.declared.request.WordsFault.{WordsFault}
@@ -36,6 +38,36 @@ deps_shape = record (new_shape (codes "deps")) {
       ++ target_rule ∷ generated_rule ∷ record file_rule { required = true } ∷ [];
 }
 
+-- `-D`, `-U`, `-I`, and FILEs, of which there is one at least
+abbrev pub check_shape : Shape
+check_shape = record (new_shape (codes "check")) {
+  rules = option_rules ++ record file_rule { required = true } ∷ [];
+}
+
+-- the same
+abbrev pub json_shape : Shape
+json_shape = record (new_shape (codes "json")) {
+  rules = option_rules ++ record file_rule { required = true } ∷ [];
+}
+
+-- `--old-I DIR` or `--new-I DIR`, which may stand again
+abbrev pub side_rule : Text → Text → Rule
+side_rule id long =
+    record (new_rule id) { long = Some long; action = Some Append; value_names = 1 }
+
+-- OLD or NEW
+abbrev pub version_rule : Text → Rule
+version_rule id = record (new_rule id) { required = true; action = Some Set; value_names = 1 }
+
+-- `-D`, `-U`, `-I`, these two, OLD and NEW
+abbrev pub diff_shape : Shape
+diff_shape = record (new_shape (codes "diff")) {
+  rules = option_rules
+      ++ side_rule (codes "old-directory") (codes "old-I")
+      ∷ side_rule (codes "new-directory") (codes "new-I")
+      ∷ version_rule (codes "old") ∷ version_rule (codes "new") ∷ [];
+}
+
 -- a program whose words are all its own, which has a version, and of which a subcommand is wanted
 abbrev pub bare : App
 bare = on_top (λ top. record top {
@@ -48,7 +80,12 @@ bare = on_top (λ top. record top {
 
 -- the program
 unfoldable pub idltool : App
-idltool = with_subcommand (with_subcommand bare explain_shape) deps_shape
+idltool =
+    with_subcommand
+    (with_subcommand
+    (with_subcommand (with_subcommand (with_subcommand bare explain_shape) deps_shape) check_shape)
+    json_shape)
+    diff_shape
 
 -- the subcommand that words name and what clap finds for its options, and what it tells of words
 -- that it doesn't take
@@ -68,6 +105,19 @@ pub record AreDepsOf (rows : List Row) (deps : Deps) : Type 0 where
   pub target : option_map (λ w. w.now) deps.target ≡ first_of (codes "target") rows
   pub generated : deps.has_generated ≡ stands (codes "generated") rows
 
+-- what is asked for of one of two files: the one that this argument names, with the directories of
+-- this option before those of `-I`
+pub record AreSideOf (file directory : Text) (rows : List Row) (options : Options) : Type 0 where
+  pub defines : map (λ w. w.now) options.defines.items ≡ values_of (codes "define") rows
+  pub undefines : map (λ w. w.now) options.undefines.items ≡ values_of (codes "undefine") rows
+  pub directories : map (λ w. w.now) options.directories.items
+      ≡ values_of directory rows ++ values_of (codes "directory") rows
+  pub files : map (λ w. w.now) options.files.items ≡ option_to_list (first_of file rows)
+
+pub record AreDiffOf (rows : List Row) (diff : Diff) : Type 0 where
+  pub old : AreSideOf (codes "old") (codes "old-directory") rows diff.old
+  pub new : AreSideOf (codes "new") (codes "new-directory") rows diff.new
+
 -- clap's error shows how the program is used, or its version
 abbrev pub IsDisplay : ErrorKind → Type 0
 IsDisplay kind = (kind ≡ DisplayHelp) ⊎ (kind ≡ DisplayVersion)
@@ -80,7 +130,8 @@ IsRefusal kind = (kind ≢ DisplayHelp) × (kind ≢ DisplayVersion) × (kind �
 abbrev pub Tells : (ErrorKind → Type 0) → List Text → Type 0
 Tells sort words = (kind : ErrorKind) × IsAmong kind (faults_in words) × sort kind
 
--- what words ask for: to show a text, to explain a word or all, or to write rules
+-- what words ask for: to show a text, to explain a word or all, to write rules, to check files, to
+-- write JSON, or to tell what changes
 abbrev pub IsRequestOf : List Text → Request → Type 0
 IsRequestOf words (request.Show text) = Tells IsDisplay words
 IsRequestOf words (request.Explain word) =
@@ -88,17 +139,26 @@ IsRequestOf words (request.Explain word) =
     × (option_map (λ w. w.now) word ≡ first_of (codes "word") rows)
 IsRequestOf words (request.Deps deps) =
     (rows : List Row) × Enters (codes "deps") words rows × AreDepsOf rows deps
+IsRequestOf words (request.Check options) =
+    (rows : List Row) × Enters (codes "check") words rows × AreOptionsOf rows options
+IsRequestOf words (request.Json options) =
+    (rows : List Row) × Enters (codes "json") words rows × AreOptionsOf rows options
+IsRequestOf words (request.Diff diff) =
+    (rows : List Row) × Enters (codes "diff") words rows × AreDiffOf rows diff
 
 -- an error of this kind is such a fault
 abbrev pub IsFaultBy : ErrorKind → WordsFault → Type 0
 IsFaultBy kind (Wrong text) = IsRefusal kind
 IsFaultBy kind NoMemory = Unit {0}
 
--- clap takes the words, and they name neither subcommand
+-- clap takes the words, and they name no subcommand
 abbrev pub NamesNone : List Text → Type 0
 NamesNone words = (faults_in words ≡ [])
     × ((rows : List Row) → entered_in words ≢ Some (codes "explain", rows))
     × ((rows : List Row) → entered_in words ≢ Some (codes "deps", rows))
+    × ((rows : List Row) → entered_in words ≢ Some (codes "check", rows))
+    × ((rows : List Row) → entered_in words ≢ Some (codes "json", rows))
+    × ((rows : List Row) → entered_in words ≢ Some (codes "diff", rows))
 
 -- words that ask for nothing, if there was memory to read them
 abbrev pub AreWrong : List Text → WordsFault → Type 0

@@ -172,8 +172,11 @@ fn push_empty_rules(
     Ok(())
 }
 
-// Writes what is told of these roots, each in turn.
-fn tell_errors<K: Sink>(compiled: &[CompiledRoot], errors: &mut K) -> Result<Status, WriteFailed>
+/// Writes what is told of these roots, each in turn.
+pub(crate) fn tell_errors<K: Sink>(
+    compiled: &[CompiledRoot],
+    errors: &mut K,
+) -> Result<Status, WriteFailed>
     requires counts { K.failures errors.old < 2 ^ 64 - 1 }
 
     ensures told { OnOk result (K.written errors.new

@@ -1,11 +1,21 @@
-//! A law of the rules that go out.
+//! Laws of the rules, of the reports and of the changes that go out.
 
-ghost use Rattle.std.specs.Prelude.{◌≡◌, ℕ, All, List, flat_map};
+ghost use Rattle.std.specs.Prelude.{◌≡◌, ℕ, All, List, [], flat_map};
+ghost use Rattle.std.specs.List.{IsDistinct};
+ghost use Rattle.std.specs.Str.{bytes_eq};
+ghost use Rattle.idl_source.specs.texts.Texts.{Texts};
 ghost use Rattle.idl_make.specs.Make.{IsMakeRule, rules_read, rules_text};
+ghost use Rattle.idl_root.specs.declared.compiling.finding.Finding.{Finding};
+ghost use Rattle.idl_program.specs.Compiled.{Written};
+ghost use Rattle.idl_program.specs.declared.failure.Status.{Status};
+ghost use Rattle.idl_program.specs.declared.failure.Status.TheVariants.{Sound};
+ghost use Rattle.idl_tool.specs.Checked.{AreReported, IsTold};
+ghost use Rattle.idl_tool.specs.Compared.{AreCompared, AreKept, Version};
 ghost use Rattle.idl_tool.specs.Deps.{needs_in, needs_of, rules_in};
 ghost use Rattle.idl_tool.specs.declared.request.Deps.{Deps};
 ghost use Rattle.idl_project.specs.Project.{Inputs};
 
+use idl_changes::nothing_breaks;
 use idl_make::rules_read_back;
 
 /// Who reads the rules of roots finds what compiling the roots asks for: each file, in order, and whether it has to be there. This
@@ -18,4 +28,23 @@ pub fn rules_tell_what_is_asked()
 {
     // It does nothing: it carries the law of what is read of rules.
     rules_read_back();
+}
+
+/// Of findings each is told, and no two reports of them are alike. This does nothing: it carries the laws.
+pub fn findings_are_told_once()
+    ensures told { (files : Texts) (findings : List Finding) (reports : List (List ℕ))
+        → AreReported files findings [] reports
+        → All (λ finding. IsTold files reports finding) findings }
+    ensures once { (files : Texts) (findings : List Finding) (reports : List (List ℕ))
+        → AreReported files findings [] reports → IsDistinct bytes_eq reports }
+{}
+
+/// Where comparing two versions ends soundly, each entry of the old one is in the new one, with its kind, and goes over the wire as it
+/// did. This does nothing: it carries the law.
+pub fn sound_changes_break_nothing()
+    ensures { (old new : Version) (before after : Written) (status : Status)
+        → AreCompared old new before after status → status ≡ Sound → AreKept old new }
+{
+    // It does nothing: it carries the law of changes that break nothing.
+    nothing_breaks();
 }

@@ -1,14 +1,19 @@
-//! The work of the second program, for people and builds: what rows mean, and what files stand on.
+//! The work of the second program, for people, builds and programs: what is found in files, what rows mean, what files stand on, what changes
+//! from one version of a file to another, and all that is told of files as JSON.
 //!
 //! Nothing here opens a disk or a terminal: a caller hands in the words, where files come from, and where the answers go.
 #![tactic(auto)]
 
+mod check;
 mod deps;
+mod diff;
 mod explain;
 mod failure;
+mod json;
 mod laws;
 mod program;
+mod report;
 mod request;
 
-pub use laws::rules_tell_what_is_asked;
+pub use laws::{findings_are_told_once, rules_tell_what_is_asked, sound_changes_break_nothing};
 pub use program::{Devices, run_tool};

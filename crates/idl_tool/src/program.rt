@@ -6,9 +6,12 @@ ghost use Rattle.idl_tool.specs.Served.{IsDone};
 ghost use Rattle.idl_tool.specs.Words.{IsRequestOf};
 ghost use Rattle.idl_tool.specs.declared.request.Request.{Request};
 
+use crate::check::check;
 use crate::deps::write_deps;
+use crate::diff::write_diff;
 use crate::explain::explain;
 use crate::failure::Failure;
+use crate::json::write_json;
 use crate::request::{Request, request_of};
 use idl_program::{Loader, Status};
 use idl_session::{Sink, write_all};
@@ -106,6 +109,9 @@ fn fulfil<'a, L: Loader, O: Sink, E: Sink>(
             Ok(Status::Sound)
         }
         Request::Deps(deps) => write_deps(alloc, deps, devices),
+        Request::Check(options) => check(alloc, options, devices),
+        Request::Json(options) => write_json(alloc, options, devices),
+        Request::Diff(diff) => write_diff(alloc, diff, devices),
     }
 }
 

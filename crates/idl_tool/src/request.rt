@@ -1,14 +1,15 @@
 //! The words that the program is given.
 
-ghost use Rattle.std.specs.Prelude.{◌≡◌, IfErr, IfOk, [], false, map, true};
-ghost use Rattle.clap.specs.Words.{FailsBy, app_of, found_of, kind_of, rows_of, rule_of, shape_of, subcommand_rows_of};
+ghost use Rattle.std.specs.Prelude.{◌≡◌, IfErr, IfOk, [], codes, false, map, true};
+ghost use Rattle.std.specs.Option.{option_to_list};
+ghost use Rattle.clap.specs.Words.{FailsBy, app_of, first_of, found_of, kind_of, rows_of, rule_of, shape_of, subcommand_rows_of};
 ghost use Rattle.clap.specs.declared.builder.command.Command.TheViews.{out-Command as fields_of};
 ghost use Rattle.idl_program.specs.Words.{file_rule};
-ghost use Rattle.idl_tool.specs.Words.{AreDepsOf, AreWrong, IsDisplay, IsFaultBy, IsRequestOf, bare, deps_shape, entered_in, explain_shape, faults_in, generated_rule, idltool, target_rule, word_rule};
+ghost use Rattle.idl_tool.specs.Words.{AreDepsOf, AreWrong, IsDisplay, IsFaultBy, AreDiffOf, AreSideOf, IsRequestOf, bare, check_shape, deps_shape, diff_shape, entered_in, explain_shape, faults_in, generated_rule, idltool, json_shape, side_rule, target_rule, version_rule, word_rule};
 
 use clap::error::ErrorKind;
 use clap::{Arg, ArgAction, ArgMatches, Command, Error};
-use idl_program::{Options, options_of, with_options};
+use idl_program::{Options, options_of, values_of, with_options};
 use std::alloc::{AllocError, Global};
 
 /// Whose rules of make are to be written, and how.
@@ -22,6 +23,15 @@ pub struct Deps<'a> {
     pub has_generated: bool,
 }
 
+/// Which files are to be compared, and what each is compiled over.
+#[derive(Drop)]
+pub struct Diff<'a> {
+    /// The old file.
+    pub old: Options<'a>,
+    /// The new one.
+    pub new: Options<'a>,
+}
+
 /// What the words ask for.
 #[derive(Drop)]
 pub enum Request<'a> {
@@ -31,6 +41,12 @@ pub enum Request<'a> {
     Explain(Option<&'a str>),
     /// To write rules of make.
     Deps(Deps<'a>),
+    /// To tell what is found in files.
+    Check(Options<'a>),
+    /// To write what is told of files as JSON.
+    Json(Options<'a>),
+    /// To tell what changes from one file to another.
+    Diff(Diff<'a>),
 }
 
 /// Why words make no request.
@@ -81,9 +97,18 @@ fn chosen<'a>(
     if let Some(explain) = matches.subcommand_matches("explain") {
         return Ok(Request::Explain(explain.get_str("word")));
     }
-    match matches.subcommand_matches("deps") {
-        Some(deps) => Ok(Request::Deps(deps_of(alloc, deps)?)),
-        // One of the two is wanted.
+    if let Some(deps) = matches.subcommand_matches("deps") {
+        return Ok(Request::Deps(deps_of(alloc, deps)?));
+    }
+    if let Some(check) = matches.subcommand_matches("check") {
+        return Ok(Request::Check(options_of(alloc, check)?));
+    }
+    if let Some(json) = matches.subcommand_matches("json") {
+        return Ok(Request::Json(options_of(alloc, json)?));
+    }
+    match matches.subcommand_matches("diff") {
+        Some(diff) => Ok(Request::Diff(diff_of(alloc, diff)?)),
+        // One of the five is wanted.
         None => Err(WordsFault::Wrong(String::new(alloc))),
     }
 }
@@ -114,7 +139,15 @@ fn command<'a>(alloc: Global) -> Result<Command<'a>, AllocError>
 {
     let explain = explain_command(alloc)?;
     let deps = deps_command(alloc)?;
-    bare(alloc).subcommand(explain)?.subcommand(deps)
+    let check = check_command(alloc)?;
+    let json = json_command(alloc)?;
+    let diff = diff_command(alloc)?;
+    bare(alloc)
+        .subcommand(explain)?
+        .subcommand(deps)?
+        .subcommand(check)?
+        .subcommand(json)?
+        .subcommand(diff)
 }
 
 // The program without a subcommand.
@@ -127,9 +160,11 @@ fn bare<'a>(alloc: Global) -> Command<'a>
         .subcommand_required(true)
         .arg_required_else_help(true)
         .version("0.1.0")
-        .about("Tells what the rows of idlc mean, and what files stand on.")
+        .about(
+            "Checks files, tells what the rows of idlc mean, what files stand on and what changes from one to another, and writes JSON.",
+        )
         .after_help(
-            "The status is 0; or 1 where a FILE has errors; or 2 for wrong words and other trouble, which standard error tells.",
+            "The status is 0; or 1 where a FILE has errors, or a change breaks something; or 2 for wrong words and other trouble, which standard error tells.",
         )
 }
 
@@ -154,6 +189,42 @@ fn deps_command<'a>(alloc: Global) -> Result<Command<'a>, AllocError>
         .arg(target(alloc))?
         .arg(generated(alloc))?
         .arg(file(alloc))
+}
+
+fn check_command<'a>(alloc: Global) -> Result<Command<'a>, AllocError>
+    ensures shape { IfOk result (λ command. shape_of command ≡ check_shape) }
+    ensures local { IfOk result (λ command. (fields_of command).has_globals ≡ false) }
+{
+    let command = Command::new(alloc, "check")
+        .about("Tells the errors and warnings of each FILE, with their lines")
+        .override_usage("idltool check [OPTIONS] FILE..");
+    with_options(alloc, command)?.arg(file(alloc))
+}
+
+fn json_command<'a>(alloc: Global) -> Result<Command<'a>, AllocError>
+    ensures shape { IfOk result (λ command. shape_of command ≡ json_shape) }
+    ensures local { IfOk result (λ command. (fields_of command).has_globals ≡ false) }
+{
+    let command = Command::new(alloc, "json")
+        .about(
+            "Writes what each FILE has as JSON, an object on a line: what is found, and what is declared",
+        )
+        .override_usage("idltool json [OPTIONS] FILE..");
+    with_options(alloc, command)?.arg(file(alloc))
+}
+
+fn diff_command<'a>(alloc: Global) -> Result<Command<'a>, AllocError>
+    ensures shape { IfOk result (λ command. shape_of command ≡ diff_shape) }
+    ensures local { IfOk result (λ command. (fields_of command).has_globals ≡ false) }
+{
+    let command = Command::new(alloc, "diff")
+        .about("Tells what changes from one version of a FILE to another, and what of that breaks")
+        .override_usage("idltool diff [OPTIONS] OLD NEW");
+    with_options(alloc, command)?
+        .arg(old_directory(alloc))?
+        .arg(new_directory(alloc))?
+        .arg(old_file(alloc))?
+        .arg(new_file(alloc))
 }
 
 fn word<'a>(alloc: Global) -> Arg<'a>
@@ -198,6 +269,50 @@ fn file<'a>(alloc: Global) -> Arg<'a>
         .help("A file to compile")
 }
 
+fn old_directory<'a>(alloc: Global) -> Arg<'a>
+    ensures rule { rule_of result ≡ side_rule (codes "old-directory") (codes "old-I") }
+    ensures global { result.global ≡ false }
+{
+    Arg::new(alloc, "old-directory")
+        .long("old-I")
+        .value_name("DIR")
+        .action(ArgAction::Append)
+        .help("Searches DIR, before those of -I, for files that OLD includes")
+}
+
+fn new_directory<'a>(alloc: Global) -> Arg<'a>
+    ensures rule { rule_of result ≡ side_rule (codes "new-directory") (codes "new-I") }
+    ensures global { result.global ≡ false }
+{
+    Arg::new(alloc, "new-directory")
+        .long("new-I")
+        .value_name("DIR")
+        .action(ArgAction::Append)
+        .help("Searches DIR, before those of -I, for files that NEW includes")
+}
+
+fn old_file<'a>(alloc: Global) -> Arg<'a>
+    ensures rule { rule_of result ≡ version_rule (codes "old") }
+    ensures global { result.global ≡ false }
+{
+    Arg::new(alloc, "old")
+        .value_name("OLD")
+        .required(true)
+        .action(ArgAction::Set)
+        .help("The file as it was")
+}
+
+fn new_file<'a>(alloc: Global) -> Arg<'a>
+    ensures rule { rule_of result ≡ version_rule (codes "new") }
+    ensures global { result.global ≡ false }
+{
+    Arg::new(alloc, "new")
+        .value_name("NEW")
+        .required(true)
+        .action(ArgAction::Set)
+        .help("The file as it is")
+}
+
 fn deps_of<'a>(alloc: Global, matches: &ArgMatches<'a>) -> Result<Deps<'a>, AllocError>
     ensures { IfOk result (AreDepsOf (rows_of (found_of matches.now))) }
 {
@@ -206,4 +321,49 @@ fn deps_of<'a>(alloc: Global, matches: &ArgMatches<'a>) -> Result<Deps<'a>, Allo
         target: matches.get_str("target"),
         has_generated: matches.get_count("generated") > 0,
     })
+}
+
+fn diff_of<'a>(alloc: Global, matches: &ArgMatches<'a>) -> Result<Diff<'a>, AllocError>
+    ensures { IfOk result (AreDiffOf (rows_of (found_of matches.now))) }
+{
+    let old = side_of(alloc, matches, "old", "old-directory")?;
+    let new = side_of(alloc, matches, "new", "new-directory")?;
+    Ok(Diff { old, new })
+}
+
+// What is asked for of the file that this argument names, and of which this option has the directories.
+fn side_of<'a>(
+    alloc: Global,
+    matches: &ArgMatches<'a>,
+    file: &str,
+    directory: &str,
+) -> Result<Options<'a>, AllocError>
+    ensures { IfOk result
+        (AreSideOf file.now directory.now (rows_of (found_of matches.now))) }
+{
+    let mut directories = values_of(alloc, matches, directory)?;
+    directories.extend_from_slice(&values_of(alloc, matches, "directory")?)?;
+    Ok(Options {
+        defines: values_of(alloc, matches, "define")?,
+        undefines: values_of(alloc, matches, "undefine")?,
+        directories,
+        files: file_of(alloc, matches, file)?,
+        shows_dump: false,
+        shows_listing: false,
+    })
+}
+
+// The file that an argument names, if it does.
+fn file_of<'a>(
+    alloc: Global,
+    matches: &ArgMatches<'a>,
+    id: &str,
+) -> Result<Vec<&'a str>, AllocError>
+    ensures { IfOk result (λ files. map (λ f. f.now) files.items
+        ≡ option_to_list (first_of id.now (rows_of (found_of matches.now)))) }
+{
+    match matches.get_str(id) {
+        Some(file) => Vec::from_slice(alloc, &[file]),
+        None => Ok(Vec::new(alloc)),
+    }
 }

@@ -1,6 +1,6 @@
-//! The second program, for people and builds: what rows mean, and what files stand on.
+//! The second program, for people and builds: what is found in files, what rows mean, and what files stand on.
 //!
-//! `idltool explain E35` explains a code, and `idltool deps FILE..` writes rules of make.
+//! `idltool check FILE..` tells what is found, `idltool explain E35` explains a code, and `idltool deps FILE..` writes rules of make.
 #![tactic(auto)]
 
 use idl_disk::{Disk, StandardOutput, texts, words};

@@ -1,6 +1,8 @@
 //! The tests, by subject.
 
+mod checks;
 mod devices;
+mod diffs;
 mod editor;
 mod examples;
 mod explains;

@@ -1,13 +1,11 @@
-//! What is seen from outside of runs over devices that move one byte a call, and that fail at a call; and what comes of an edit that is
-//! refused memory.
+//! What is seen from outside of runs over devices that move one byte a call, and that fail at a call.
 
-ghost use Rattle.std.specs.Prelude.{◌≡◌, IfOk, None};
+ghost use Rattle.std.specs.Prelude.{◌≡◌, None};
 
-use super::support::Host;
 use idl_session::{
     BufferSink, ReadFailed, Session, Sink, SliceSource, Source, Stop, WriteFailed, run,
 };
-use std::alloc::{AllocError, Global};
+use std::alloc::Global;
 use std::test::Fail;
 
 // Bytes that a sink takes.
@@ -206,76 +204,7 @@ fn runs_stop_where_a_call_fails(rt: HostRuntime) -> Result<(), Fail> {
 // What a session replies to a script.
 fn served(alloc: Global, session: &mut Session, script: &str) -> Result<BufferSink, Fail> {
     let mut source = SliceSource::new(script.as_bytes());
-    let mut sink = empty_sink(alloc)?;
+    let mut sink = BufferSink::new(alloc, ROOM)?;
     run(session, &mut source, &mut sink)?;
     Ok(sink)
-}
-
-// An empty sink, asked for twice, since the test of want of memory has one allocation refused.
-fn empty_sink(alloc: Global) -> Result<BufferSink, AllocError>
-    ensures { IfOk result (λ sink. sink.failures ≡ 0) }
-{
-    match BufferSink::new(alloc, ROOM) {
-        Ok(sink) => Ok(sink),
-        Err(_no_memory) => BufferSink::new(alloc, ROOM),
-    }
-}
-
-fn answers(rt: &impl Host, session: &mut Session, given: &str, want: &str) -> Result<(), Fail> {
-    let found = served(rt.alloc(), session, given)?;
-    assert_eq!(rt; found.as_bytes(), want.as_bytes(), "{given}");
-    Ok(())
-}
-
-const QUERIES: &str =
-    "work\ndiagnostics a.idl\ndump a.idl\nabsent a.idl\ndiagnostics b.idl\ndump b.idl\nabsent b.idl\n";
-
-// Edits, with ` ¶ ` between one and the next, each with its work behind `=`.
-const EDITS: &str =
-    "put a.idl 3\n#include <b.idl>\ntypedef T X;\n#pragma once\n=work 0 0 0\n ¶ root a.idl\n=work 1 1 0\n ¶ root b.idl\n\
-     =work 1 0 0\n ¶ define T long\n=work 1 1 1\n ¶ search d .\n=work 1 0 0\n ¶ put b.idl 8\nmodule M {\nstruct S;\n\
-     interface I { void f(in T x); };\ninterface J : I { };\nconst long C = 2 * 3;\nunion V switch (long) { case C: T x; };\n\
-     };\ntypedef M::V Z;\n=work 2 11 8\n ¶ splice b.idl 4 1 1\ninterface J : I, K { S g(); };\n=work 2 3 0\n ¶ define T \
-     short\n=work 2 4 3\n ¶ define U T T\n=work 0 0 0\n ¶ put d/b.idl 4\n#if defined T && T2\n#error x\n#endif\n\
-     #define T2 1\n=work 1 0 0\n ¶ undef T\n=work 2 5 1\n ¶ remove d/b.idl\n=work 1 0 0\n ¶ splice a.idl 2 1 0\n\
-     =work 1 0 0\n ¶ remove b.idl\n=work 2 0 0\n ¶ search\n=work 1 0 0\n ¶ unroot b.idl\n=work 0 0 0\n";
-
-// Run with each allocation refused in turn, too: a refused edit changes nothing, and is accepted when it is asked again.
-#[test]
-fn an_edit_that_was_refused_memory_is_accepted_later(rt: HostRuntime) -> Result<(), Fail> {
-    let mut session = Session::new(rt.alloc());
-    for edit in EDITS.split(" ¶ ") {
-        is_made(&rt, &mut session, edit)?;
-    }
-    let want =
-        "work 0 0 0\nrows 1\na.idl:1: E10 <b.idl>\nrows 0\nrows 0\nrefused 7\nrefused 7\nrefused 7\n";
-    answers(&rt, &mut session, QUERIES, want)
-}
-
-// The edit is made, and has this work.
-fn is_made(rt: &impl Host, session: &mut Session, edit: &str) -> Result<(), Fail> {
-    let (edit, work) = edit.rsplit_once('=').unwrap_or((edit, ""));
-    make(rt, session, edit)?;
-    answers(rt, session, "work\n", work)
-}
-
-// The edit is accepted, or refused memory; then it changed nothing, and is accepted when it is asked again.
-fn make(rt: &impl Host, session: &mut Session, edit: &str) -> Result<(), Fail> {
-    let before = served(rt.alloc(), session, QUERIES)?;
-    if is_accepted(rt, session, edit)? {
-        return Ok(());
-    }
-    let after = served(rt.alloc(), session, QUERIES)?;
-    assert_eq!(rt; after.as_bytes(), before.as_bytes(), "{edit}");
-    answers(rt, session, edit, "ok\n")
-}
-
-// Whether the edit is accepted. If it isn't, it is refused memory.
-fn is_accepted(rt: &impl Host, session: &mut Session, edit: &str) -> Result<bool, Fail> {
-    let reply = served(rt.alloc(), session, edit)?;
-    if reply.as_bytes() == b"ok\n".as_slice() {
-        return Ok(true);
-    }
-    assert_eq!(rt; reply.as_bytes(), b"refused 9\n".as_slice(), "{edit}");
-    Ok(false)
 }

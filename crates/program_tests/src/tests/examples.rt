@@ -67,20 +67,6 @@ fn replied(alloc: Global, lines: &str) -> Result<String, AllocError> {
     replies(alloc, commands.as_str())
 }
 
-#[test]
-fn so_many_directories_are_over_a_limit(rt: HostRuntime) -> Result<(), Fail> {
-    let mut command = String::from_str(rt.alloc(), "search")?;
-    for directory in 0..256 {
-        write!(command, " d{directory}")?;
-    }
-    let got = replied(rt.alloc(), &command)?;
-    assert_eq!(rt; got.as_str(), "0 out ok /");
-    command.push_str(" d256")?;
-    let got = replied(rt.alloc(), &command)?;
-    assert_eq!(rt; got.as_str(), "0 out refused 5 /");
-    Ok(())
-}
-
 // The text of a refusal itself and the one that explains it are alike.
 #[test]
 fn a_refusal_says_what_explains_it(rt: HostRuntime) -> Result<(), Fail> {

@@ -6,14 +6,12 @@ use idl_session::BufferSink;
 use idl_tool::{Devices, run_tool};
 use std::test::Fail;
 
-static ROWS: [&str; 3] = [
+static ROWS: [&str; 2] = [
     "idltool explain E35 =>  => 0 out E35: `T` was used in this scope before, as a name of another one /    typedef \
      long T; /    module M { typedef T U; typedef short T; }; /a.idl:2: E35 T      mended: /    typedef long T; /    \
      module M { typedef ::T U; typedef short T; }; /Declare it before the use, write the use in full with `::` before \
      it, or give it another name. Upper and lower case make no difference. /",
-    "idltool explain 7 =>  => 0 out refused 7: no such root /    listing a.idl /refused 7      mended: /    root a.idl \
-     /    listing a.idl /Questions are for roots: say root NAME first. /",
-    "idltool explain w80 =>  => 0 out W80: warning: the interface `F` is declared forward and never defined /    \
+    "idltool explain w80 =>  => 0 out W80: the interface `F` is declared forward and never defined /    \
      interface F; /a.idl:1: W80 F      mended: /    interface F { }; /It may stay so: no code can call it through this \
      file. Include the file that defines it. /",
 ];
@@ -42,11 +40,12 @@ fn all_are_told_without_a_word(rt: HostRuntime) -> Result<(), Fail> {
 
 #[test]
 fn wrong_words_are_told(rt: HostRuntime) -> Result<(), Fail> {
-    let wrong = ", explain E35 E36, explain --long, deps, deps -t a.idl, E35, deps --session a.idl";
+    let wrong =
+        ", explain E35 E36, explain -l, deps, deps -t a.idl, check, check -d a.idl, E35, deps --session a.idl, json, diff a";
     for words in wrong.split(',') {
         tells_its_usage(&rt, words, "2 err ")?;
     }
-    for words in "--help, -h, explain --help, deps --help".split(',') {
+    for words in "--help, -h, explain -h, deps -h, check -h, json -h, diff -h".split(',') {
         tells_its_usage(&rt, words, "0 out ")?;
     }
     is_given(&rt, "idltool --version =>  => 0 out idltool 0.1.0 /")
@@ -65,13 +64,19 @@ fn tells_its_usage(rt: &impl Host, words: &str, begin: &str) -> Result<(), Fail>
 fn a_closed_output_is_told(rt: HostRuntime) -> Result<(), Fail> {
     tells_a_closed_output(&rt, &["explain", "E35"])?;
     tells_a_closed_output(&rt, &["deps", "a.idl"])?;
+    tells_a_closed_output(&rt, &["check", "b.idl"])?;
+    tells_a_closed_output(&rt, &["json", "b.idl"])?;
+    tells_a_closed_output(&rt, &["diff", "a.idl", "c.idl"])?;
     tells_a_closed_output(&rt, &["deps", "-h"])
 }
 
 // Where the output takes no more, the program fails, and says so.
 fn tells_a_closed_output(rt: &impl Host, words: &[&str]) -> Result<(), Fail> {
     let mut devices = Devices {
-        loader: Files::new(rt.alloc(), "a.idl: typedef long T;"),
+        loader: Files::new(
+            rt.alloc(),
+            "a.idl: typedef long T; ¶ b.idl: typedef No T; ¶ c.idl",
+        ),
         output: BufferSink::new(rt.alloc(), 4)?,
         errors: BufferSink::new(rt.alloc(), 100)?,
     };

@@ -3,7 +3,7 @@
 use super::support::have_replies;
 use std::test::Fail;
 
-static LISTINGS: [&str; 12] = [
+static LISTINGS: [&str; 11] = [
     // Prefixes, versions and ids.
     "put m.idl 14\nmodule M1 {\ntypedef long T1;\ntypedef long T2;\n#pragma ID T2 \
      \"DCE:d62207a2-011e-11ce-88b4-0800090b5d3e:3\"\n};\n#pragma prefix \"P1\"\nmodule M2 {\nmodule M3 {\n#pragma \
@@ -73,8 +73,6 @@ static LISTINGS: [&str; 12] = [
      tk_struct(IDL:C/E:1.0,E) base(@IDL:A:1.0)\nput d.idl 3\nstruct A { long x; };\nstruct B : A { };\nstruct C : B { \
      long y; };\n=ok\ndiagnostics d.idl\n=rows 0\nsplice d.idl 1 1 1\nstruct A { long y; };\n=ok\ndiagnostics d.idl\n\
      =rows 1\n=d.idl:3: E44 y",
-    // Names without a root, and a name that is none.
-    "listing y.idl\n=refused 7\nlisting a//b\n=refused 2\nlisting\n=refused 1",
     // Listings with the ids that the whole root leaves.
     "put a 6\nmodule M {\ntypedef long T;\ntypedef long U;\n};\ntypeprefix M \"P\";\ntypeid M::T \"IDL:X/T:2.0\";\n\
      =ok\nroot a\n=ok\nlisting a\n=rows 3\n=module M IDL:P/M:1.0\n=alias M::T IDL:X/T:2.0 \

@@ -26,7 +26,7 @@ static SCRIPTS: [&str; 10] = [
     // Names that are not allowed, and files that aren't there.
     "remove a//b\n=refused 2\nremove a.idl\n=refused 3\nsplice a.idl 0 0 0\n=refused 3\nsplice a//b 1 0 0\n=refused 2\n\
      diagnostics a//b\n=refused 2\ndump a//b\n=refused 2\nabsent a//b\n=refused 2\nabsent a.idl\n=refused 7\nroot \
-     a//b\n=refused 2",
+     a//b\n=refused 2\nlisting y.idl\n=refused 7\nlisting a//b\n=refused 2\nlisting\n=refused 1",
     // Announced lines are no commands, also where the edit is refused.
     "put a//b 1\nroot z.idl\n=refused 2\nsplice y.idl 1 0 2\nroot z.idl\nfrob\n=refused 3\nroot z.idl\n=ok\nput a.idl \
      1\nfrob\n=ok\nroot z.idl\n=refused 8",

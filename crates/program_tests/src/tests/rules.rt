@@ -1,30 +1,16 @@
 //! What `idltool deps` answers: rules of make, by the files that roots ask for.
 
 use super::support::{are_given, are_given_so};
-use std::alloc::{AllocError, Global};
 use std::test::Fail;
 
-static ROWS: [&str; 8] = [
+static ROWS: [&str; 4] = [
     // A file that isn't found in the first directory counts once it is there.
     "idltool deps -Iinc -Itypes shop.idl => shop.idl: #include <money.idl> | typedef Money Price; ¶ types/money.idl: \
      typedef long Money; => 0 out shop.listing: shop.idl $(wildcard inc/money.idl) types/money.idl /types/money.idl: /",
-    // Each file has a rule, and a file that two of them include is told in both.
-    "idltool deps a.idl ./s/b.idl c => a.idl: #include \"h\" ¶ s/b.idl: #include \"../h\" ¶ c ¶ h => 0 out a.listing: \
-     a.idl h /h: /s/b.listing: s/b.idl h /h: /c.listing: c /",
-    // The target that is given is that of each rule.
-    "idltool deps -t out/all a.idl b.idl => a.idl: #include \"h\" ¶ b.idl ¶ h => 0 out out/all: a.idl h /h: /out/all: \
-     b.idl /",
     // Errors in the sources are told, and leave the rules as they are.
-    "idltool deps a.idl => a.idl: #include \"h\" | typedef No X; ¶ h => 1 out a.listing: a.idl h /h: / err a.idl:2: \
-     E30 No /\nidltool deps a.idl => a.idl: #include \"no.idl\" => 1 out a.listing: a.idl $(wildcard no.idl) / err \
-     a.idl:1: E10 \"no.idl\" /\nidltool deps z.idl => a.idl => 1 out z.listing: $(wildcard z.idl) / err z.idl:0: E10 \
-     z.idl /",
-    // A file that another rule makes stands plainly.
-    "idltool deps --generated -I gen a.idl => a.idl: #include <made.idl> => 1 out a.listing: a.idl gen/made.idl / err \
-     a.idl:1: E10 <made.idl> /",
-    // A macro may decide what is included.
-    "idltool deps -DN=1 a.idl => a.idl: #if N | #include \"one\" | #else | #include \"two\" | #endif ¶ one ¶ two => 0 \
-     out a.listing: a.idl one /one: /",
+    "idltool deps a.idl => a.idl: #include \"h\" | typedef No X; ¶ h => 1 out a.listing: a.idl h /h: / err a.idl:2: E30 No \
+     /\nidltool deps a.idl => a.idl: #include \"no.idl\" => 1 out a.listing: a.idl $(wildcard no.idl) / err a.idl:1: E10 \"no.idl\" \
+     /\nidltool deps z.idl => a.idl => 1 out z.listing: $(wildcard z.idl) / err z.idl:0: E10 z.idl /",
     // What make gives a meaning to has a mark before it.
     "idltool deps a$#%.idl => a$#%.idl: #include \"h%\" ¶ h% => 0 out a$$\\#\\%.listing: a$$\\#%.idl h% /h\\%: /\n\
      idltool deps .A.idl => .A.idl => 0 out .A.listing: .A.idl /",
@@ -62,28 +48,4 @@ fn names_that_make_can_not_take_are_trouble(rt: HostRuntime) -> Result<(), Fail>
     are_given_so(&rt, OTHERS, INCLUDED)?;
     let taken = "a_b a.b a/b a+b a-b a,b a@b a!b a~b .a -a";
     are_given_so(&rt, taken, "idltool deps -- @ => @ => 0 out @.listing: @ /")
-}
-
-#[test]
-fn three_hundred_files_are_told(rt: HostRuntime) -> Result<(), Fail> {
-    let includes = many(rt.alloc(), " | #include \"h@\"")?;
-    let headers = many(rt.alloc(), " ¶ h@")?;
-    let names = many(rt.alloc(), " h@")?;
-    let rules = many(rt.alloc(), "h@: /")?;
-    let files = format!(in rt.alloc(); "r.idl: {includes}{headers}")?;
-    let row = format!(in rt.alloc();
-        "idltool deps r.idl => {files} => 0 out r.listing: r.idl{names} /{rules}\n\
-         idltool deps{names} => {files} => 2 err idltool: h256: refused 5: over a limit /"
-    )?;
-    are_given(&rt, &[row.as_str()])
-}
-
-// The text three hundred times, with a number for each `@`.
-fn many(alloc: Global, text: &str) -> Result<String, AllocError> {
-    let mut all = String::new(alloc);
-    for i in 0..300 {
-        let number = format!(in alloc; "{i}")?;
-        all.push_str(&text.replace(alloc, "@", &number)?)?;
-    }
-    Ok(all)
 }

@@ -23,8 +23,8 @@ rounds-init g c =
       stays = record { macros = ap (λ (i : Inputs). i.macros) same; search = ap (λ (i : Inputs). i.search) same };
     }
 
-pub returns-in_default : goal.returns-in_default
-returns-in_default g c =
+pub returns-in_default-clause-compiled : goal.returns-in_default-clause-compiled
+returns-in_default-clause-compiled g c =
     let told = g.L.Loader.told c.args.loader.now in
     let roots = c.args.roots.now in
     let before = c.rounds.invariant in
@@ -49,3 +49,6 @@ returns-in_default g c =
         search = ap (λ (i : Inputs). i.search) same ∙ explored.stays.search ∙ before.stays.search;
       };
     }
+
+pub returns-in_default-clause-still : goal.returns-in_default-clause-still
+returns-in_default-clause-still g c = c.in_ok-explore_all.ensures.stays_told ∙ c.rounds.invariant.told

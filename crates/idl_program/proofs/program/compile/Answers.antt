@@ -18,7 +18,7 @@ returns-clause-compiled g c =
     let before : Written = record { errors = g.E.Sink.written c.args.devices.now.errors; output = g.O.Sink.written c.args.devices.now.output } in
     let after : Written = record { errors = g.E.Sink.written c.show_all.new.devices.errors; output = g.O.Sink.written c.show_all.new.devices.output } in
     let first = c.in_ok-sources.ensures.asked in
-    let are = subst (λ (rs : List (List ℕ)). AreCompiled told c.in_ok-sources.sources inputs rs compiled) c.as_slice.ensures.keys c.in_ok-sources-2.ensures in
+    let are = subst (λ (rs : List (List ℕ)). AreCompiled told c.in_ok-sources.sources inputs rs compiled) c.as_slice.ensures.keys c.in_ok-sources-2.ensures.compiled in
     let asked : AreAsked options inputs roots = record { macros = are.stays.macros ∙ first.macros; search = first.search ∙ ap Some (sym are.stays.search); named = first.named } in
     record {
       inputs = inputs;

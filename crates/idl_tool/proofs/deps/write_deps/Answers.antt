@@ -17,7 +17,7 @@ returns-clause-served g c =
     let roots = c.in_ok-sources.roots.keys in
     let compiled = c.in_ok-sources-2.compiled.items in
     let first = c.in_ok-sources.ensures.asked in
-    let are = subst (λ (rs : List (List ℕ)). AreCompiled told c.in_ok-sources.sources inputs rs compiled) c.as_slice.ensures.keys c.in_ok-sources-2.ensures in
+    let are = subst (λ (rs : List (List ℕ)). AreCompiled told c.in_ok-sources.sources inputs rs compiled) c.as_slice.ensures.keys c.in_ok-sources-2.ensures.compiled in
     let asked : AreAsked options inputs roots = record { macros = are.stays.macros ∙ first.macros; search = first.search ∙ ap Some (sym are.stays.search); named = first.named } in
     record {
       inputs = inputs;

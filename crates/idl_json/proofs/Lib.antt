@@ -1,0 +1,5 @@
+mod FloatLemmas
+mod TextLemmas
+mod LineLemmas
+mod ListLemmas
+mod ReadingLemmas

@@ -1,0 +1,17 @@
+//! Rows and what is found, as JSON.
+//!
+//! Nothing here knows where rows come from, or where JSON goes.
+#![tactic(auto)]
+
+mod diagnostic;
+mod laws;
+mod objects;
+mod root;
+mod rows;
+mod text;
+mod type_codes;
+mod types;
+
+pub use diagnostic::Diagnostic;
+pub use laws::nothing_is_lost;
+pub use root::{RootTold, root_line};

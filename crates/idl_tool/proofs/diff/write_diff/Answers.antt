@@ -1,0 +1,32 @@
+use Rattle.std.proofs.Common.{◌≡◌, ◌∙◌, ℕ, List, ap, ap₂, subst}
+use Rattle.idl_source.specs.devices.Device.{append}
+use Rattle.idl_program.specs.Holding.{Holding}
+use Rattle.idl_program.specs.Compiled.{errors_in, lines_of}
+use Rattle.idl_program.specs.Rows.{lines_with}
+use Rattle.idl_tool.specs.Compared.{IsVersion, seen}
+use Rattle.idl_tool.proofs.DepsLemmas.{told-of}
+use Rattle.idl_tool.proofs.diff.write_diff.Goals as goal
+
+pub returns-clause-compared : goal.returns-clause-compared
+returns-clause-compared g c =
+    let old = c.in_ok-old.old in
+    let new = c.in_ok-new.new in
+    let before = g.E.Sink.written c.args.devices.now.errors in
+    let rows = lines_with (λ root. root.rows.diagnostics) in
+    let first : rows c.deref.result.now ≡ lines_of (errors_in old.sources) old.roots.keys =
+    ap rows c.deref.ensures.value ∙ told-of old.sources old.roots.keys old.compiled.items c.in_ok-old.ensures.compiled
+    in
+    let second : rows c.deref-2.result.now ≡ lines_of (errors_in new.sources) new.roots.keys =
+    ap rows c.deref-2.ensures.value ∙ told-of new.sources new.roots.keys new.compiled.items c.in_ok-new.ensures.compiled
+    in
+    record {
+      old = seen old;
+      new = seen new;
+      old_is = c.in_ok-old.ensures.version;
+      new_is = subst (λ (told : List ℕ → Holding). IsVersion told c.args.diff.now.new (seen new)) c.in_ok-old.ensures.still c.in_ok-new.ensures.version;
+      compared = record {
+        errors = c.in_ok-tell_errors-2.ensures.told ∙ ap₂ append (c.in_ok-tell_errors.ensures.told ∙ ap (append before) first) second;
+        output = c.in_ok-status.ensures.written;
+        ending = c.in_ok-status.ensures.status;
+      };
+    }

@@ -1,0 +1,94 @@
+-- The report of a finding: where it is and what it says, its line, and marks below its token.
+use Rattle.std.specs.Prelude.{ℕ, ◌+◌, ◌/◌, ◌%◌, ◌&&◌, List, [], ◌∷◌, ◌++◌, codes, decimal, map, nat_eq, nat_le, nat_lt, take, Option, None, Some, unwrap_or, if◌then◌else◌}
+use Rattle.std.specs.List.{flat_map}
+use Rattle.idl_explain.specs.Explained.{ended, said}
+use Rattle.idl_explain.specs.declared.explanation.Words.{Words}
+use Rattle.idl_fault.specs.Code.{code_text, is_error}
+use Rattle.idl_fault.specs.declared.code.Code.{Code}
+use Rattle.idl_fault.specs.declared.place.Place.{Place}
+use Rattle.idl_root.specs.declared.compiling.finding.Finding.{Finding}
+
+-- a hexadecimal digit
+abbrev pub hex_digit : ℕ → ℕ
+hex_digit n = if nat_lt n 10 then 48 + n else 87 + n
+
+-- a byte as a terminal can show it: one that is none of 32 to 126 by its number
+abbrev pub shown_byte : ℕ → List ℕ
+shown_byte b =
+    if nat_le 32 b && nat_le b 126 then b ∷ []
+    else codes "\\x" ++ hex_digit (b / 16) ∷ hex_digit (b % 16) ∷ []
+
+-- a token as a terminal can show it
+abbrev pub shown_token : List ℕ → List ℕ
+shown_token token = flat_map shown_byte token
+
+-- a byte of a line: a tab stays, and what else is white is a blank
+abbrev pub line_byte : ℕ → List ℕ
+line_byte b =
+    if nat_eq b 9 then 9 ∷ []
+    else (if nat_le 11 b && nat_le b 13 then 32 ∷ [] else shown_byte b)
+
+-- bytes of a line
+abbrev pub shown_line : List ℕ → List ℕ
+shown_line bytes = flat_map line_byte bytes
+
+-- what is as wide as a byte that is shown, and shows nothing
+abbrev pub gap_below : ℕ → ℕ
+gap_below b = if nat_eq b 9 then 9 else 32
+
+-- a mark
+abbrev pub mark_below : ℕ → ℕ
+mark_below b = 94
+
+-- below a line: a gap up to this column, and then a mark below each byte that is shown of the token
+abbrev pub marks : List ℕ → ℕ → List ℕ → List ℕ
+marks line column token =
+    map gap_below (shown_line (take column line)) ++ map mark_below (shown_line token)
+
+-- a line, and marks below a token of which the column is known
+abbrev pub excerpt : List ℕ → Option ℕ → List ℕ → List ℕ
+excerpt line None token = ended (shown_line line)
+excerpt line (Some column) token =
+    ended (shown_line line) ++ ended (marks line column token)
+
+-- the excerpt of a line, if there is one
+abbrev pub excerpt_of : Option (List ℕ) → Option ℕ → List ℕ → List ℕ
+excerpt_of None column token = []
+excerpt_of (Some line) column token = excerpt line column token
+
+-- a column, where it is known: people count from 1
+abbrev pub column_text : Option ℕ → List ℕ
+column_text None = []
+column_text (Some column) = codes ":" ++ decimal (column + 1)
+
+-- `FILE:LINE:COLUMN`, or `FILE:LINE`
+abbrev pub place_text : Place → Option ℕ → List ℕ
+place_text place column =
+    place.file ++ codes ":" ++ decimal place.line ++ column_text column
+
+abbrev pub severity : Code → List ℕ
+severity code = if is_error code then codes "error" else codes "warning"
+
+-- what a row shows behind its code
+abbrev pub token_in : Finding → List ℕ
+token_in finding = unwrap_or finding.text []
+
+-- `FILE:LINE:COLUMN: error: `
+abbrev pub beginning : Finding → Option ℕ → List ℕ
+beginning finding column =
+    place_text finding.place column ++ codes ": " ++ severity finding.code ++ codes ": "
+
+-- `WORDS [CODE]`, and the line's end
+abbrev pub saying : Finding → Words → List ℕ
+saying finding words =
+    said words (shown_token (token_in finding))
+    ++ codes " [" ++ code_text finding.code ++ ended (codes "]")
+
+-- `FILE:LINE:COLUMN: error: WORDS [CODE]`
+abbrev pub heading : Finding → Option ℕ → Words → List ℕ
+heading finding column words = beginning finding column ++ saying finding words
+
+-- what is told of a finding in a line of this text, at this column, with these words
+abbrev pub report : Option (List ℕ) → Option ℕ → Finding → Words → List ℕ
+report line column finding words =
+    heading finding column words ++ excerpt_of line column (token_in finding)

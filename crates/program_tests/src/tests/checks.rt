@@ -1,0 +1,37 @@
+//! What `idltool check` tells: each finding once, with its line.
+
+use super::support::are_given;
+use std::test::Fail;
+
+static ROWS: [&str; 6] = [
+    // The line, and marks below the token; of a sound file nothing is told.
+    "idltool check shop.idl => shop.idl: #include \"money.idl\" | interface Shop { |     Money price(); |     Mony total(); \
+     | }; ¶ money.idl: typedef long Money; => 1 out shop.idl:4:5: error: `Mony` isn't declared here or in a scope around \
+     [E30] /    Mony total(); /    ^^^^ /\nidltool check a.idl => a.idl: typedef long T; => 0",
+    // A finding of two roots is told once, where the first is.
+    "idltool check a.idl b.idl => a.idl: #include \"h\" | typedef No A; ¶ b.idl: typedef No B; | #include \"h\" ¶ h: \
+     typedef Non X; => 1 out h:1:9: error: `Non` isn't declared here or in a scope around [E30] /typedef Non X; /        \
+     ^^^ /a.idl:2:9: error: `No` isn't declared here or in a scope around [E30] /typedef No A; /        ^^ /b.idl:1:9: \
+     error: `No` isn't declared here or in a scope around [E30] /typedef No B; /        ^^ /",
+    // Of two findings with one row both are told.
+    "idltool check a.idl => a.idl: typedef No A; typedef No B; => 1 out a.idl:1:9: error: `No` isn't declared here or in a \
+     scope around [E30] /typedef No A; typedef No B; /        ^^ /a.idl:1:23: error: `No` isn't declared here or in a scope \
+     around [E30] /typedef No A; typedef No B; /                      ^^ /",
+    // A warning leaves the status 0.
+    "idltool check w.idl => w.idl: interface F; => 0 out w.idl:1:11: warning: the interface `F` is declared forward and never \
+     defined [W80] /interface F; /          ^ /",
+    // A token that comes of a macro, and one that goes over joined lines, have no column.
+    "idltool check a.idl => a.idl: #define T No | typedef T X; => 1 out a.idl:2: error: `No` isn't declared here or in a scope \
+     around [E30] /typedef T X; /\nidltool check a.idl => a.idl: typedef N\\ | o X; => 1 out a.idl:1: error: `No` isn't \
+     declared here or in a scope around [E30] /typedef N\\ /",
+    // A tab stays a tab, another white byte is a blank, and what no terminal can show goes out by its number.
+    "idltool check a.idl => a.idl: \ttypedef\tNo X; // ¬. => 1 out a.idl:1:10: error: `No` isn't declared here or in a scope \
+     around [E30] /\ttypedef\tNo X; //  . /\t       \t^^ /\nidltool check a.idl => a.idl: /* \u{1b} */ typedef long ä; => 1 \
+     out a.idl:1:22: error: `\\xc3` begins no token of IDL [E01] //* \\x1b */ typedef long \\xc3\\xa4; /                        \
+     ^^^^ /",
+];
+
+#[test]
+fn findings_are_told_with_their_lines(rt: HostRuntime) -> Result<(), Fail> {
+    are_given(&rt, &ROWS)
+}
