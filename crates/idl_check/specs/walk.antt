@@ -3,6 +3,7 @@ pub mod AllFaults
 pub mod Held
 pub mod Hint
 pub mod Judging
+pub mod Names
 pub mod Placing
 pub mod Sections
 pub mod Verdict

@@ -1,6 +1,7 @@
 //! The walk over the sites of a unit, and its verdict.
 
 pub(crate) mod judge;
+pub(crate) mod names;
 pub(crate) mod naming;
 pub(crate) mod placing;
 pub(crate) mod scratch;

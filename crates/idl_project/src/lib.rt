@@ -22,7 +22,9 @@ mod work;
 pub use bank::answers_come_from_inputs;
 pub use compile::{CompiledRoot, diagnostics_are_findings};
 pub use detailed::listing_is_details;
-pub use idl_root::{Compiled, DetailedEntry, Details, Finding, Row};
+pub use idl_root::{
+    Compiled, DeclaredPlace, DetailedEntry, Details, Finding, Row, SitedToken, UsedName,
+};
 pub use idl_source::Span;
 pub use limits::{
     MAX_BODY, MAX_DIRECTORIES, MAX_MACROS, MAX_ROOTS, edits_keep_form, edits_keep_limits,

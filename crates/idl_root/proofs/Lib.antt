@@ -6,6 +6,7 @@ mod ChangedLemmas
 mod ComeLemmas
 mod ComparedLemmas
 mod CompileLemmas
+mod DetailLemmas
 mod DigestLemmas
 mod FactsTold
 mod FindingLemmas
@@ -15,8 +16,10 @@ mod JudgingLemmas
 mod KeptLemmas
 mod KnownLemmas
 mod LeftBlocks
+mod LineNumberLemmas
 mod LooseLemmas
 mod MadeLemmas
+mod NamingLemmas
 mod NumberLemmas
 mod OpenLemmas
 mod OrderLemmas
@@ -32,4 +35,3 @@ mod TakenWhole
 mod TextLaws
 mod ToldLemmas
 mod WholeLemmas
-mod DetailLemmas

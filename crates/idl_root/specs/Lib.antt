@@ -14,4 +14,6 @@ pub mod Told
 pub mod Turns
 pub mod AsBefore
 pub mod Passed
+pub mod Named
+pub mod NamePlaces
 pub mod Details

@@ -1,5 +1,5 @@
 -- The number of a token in its line.
-use Rattle.std.specs.Prelude.{ℕ, zero, suc, Bool, false, ◌&&◌, List, nat_eq, slice_get, Option, None, Some, if◌then◌else◌}
+use Rattle.std.specs.Prelude.{◌≡◌, ℕ, zero, suc, Bool, false, ◌&&◌, List, nat_eq, slice_get, Option, None, Some, if◌then◌else◌}
 use Rattle.std.specs.Str.{bytes_eq}
 use Rattle.idl_event.specs.declared.told.event.Event.{Event}
 use Rattle.idl_event.specs.declared.told.event.Event.TheVariants as event
@@ -25,3 +25,8 @@ number_of_event events n other = None
 -- the number of the token that an event is, among those of its line that stand together, from 0
 abbrev pub token_number : List Event → ℕ → Option ℕ
 token_number events n = number_of_event events n (slice_get events n)
+
+-- the numbers of events from the first on, as far as there are any
+abbrev pub AreNumbersOf : List Event → List (Option ℕ) → Type 0
+AreNumbersOf events numbers =
+    (n : ℕ) (number : Option ℕ) → slice_get numbers n ≡ Some number → number ≡ token_number events n

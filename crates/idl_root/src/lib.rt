@@ -12,6 +12,7 @@ pub use compiling::detailing::{DetailedEntry, Details, details_of};
 pub use compiling::finding::Finding;
 pub use compiling::laws::{detailing, facts, ordering, telling, texts};
 pub use compiling::memory::Memory;
+pub use compiling::places::{DeclaredPlace, SitedToken, UsedName};
 pub use kept::comparing::comparing;
 pub use kept::fresh::fresh_tasks;
 pub use kept::keeper::Keeper;

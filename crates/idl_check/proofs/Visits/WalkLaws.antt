@@ -36,7 +36,7 @@ pub none-append : (fs gs : List Fault) → fs ++ gs ≡ [] → (fs ≡ []) × (g
 none-append [] gs h = (refl, h)
 none-append (f ∷ fs) gs h = (cc, cc)
 
-not-over : (o : Option Fault) (begin : Option ℕ) (at : ℕ) → o ≡ None → over_by o begin at ≡ false
+pub not-over : (o : Option Fault) (begin : Option ℕ) (at : ℕ) → o ≡ None → over_by o begin at ≡ false
 not-over None begin at h = refl
 not-over (Some f) begin at h = cc
 
@@ -89,7 +89,7 @@ module _ (turns : ℕ) (answers : Key → Option Answer) where
     name-alike None false is = refl
 
   -- what is looked at of a site tells as much as the whole
-  abbrev looked : Item → Walk → Visit
+  abbrev pub looked : Item → Walk → Visit
   looked site w = outcome (looked_at turns site w) answers
 
   looked-alike : (site : Item) (sites : List Item) (w : Walk)
@@ -106,7 +106,7 @@ module _ (turns : ℕ) (answers : Key → Option Answer) where
   name-whole way name w None true h = cc
   name-whole way name w None false h = refl
 
-  looked-whole : (site : Item) (w : Walk) → w.fault ≡ None → looked site w ≡ visited turns answers site w
+  pub looked-whole : (site : Item) (w : Walk) → w.fault ≡ None → looked site w ≡ visited turns answers site w
   unfolding visit
   looked-whole (item.Uses way name) w none = name-whole way name w (purpose_of way) (is_known (w.at + 1) w) (not-over w.fault w.values.begin (w.at + 1) none)
   looked-whole other w none = refl

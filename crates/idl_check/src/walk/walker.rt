@@ -145,9 +145,9 @@ impl<'a> Walker<'a> {
         self.fault = Some(least_of(self.fault, fault));
     }
 
-    // A site. Most are tokens.
+    /// A site. Most are tokens.
     #[tactic(auto, unfolding(crate::specs::walk::Walk::visit))]
-    fn visit(&mut self, log: &mut Journal<Env>, site: &UnitPart<'_>) -> Result<(), AllocError>
+    pub fn visit(&mut self, log: &mut Journal<Env>, site: &UnitPart<'_>) -> Result<(), AllocError>
         requires { HasRoomFor (held self.old) (item_at site.now ∷ []) }
         ensures visited { OnOk result ((turns : ℕ) → turns_for self.old.env.now ≤ turns →
             (held self.new, log.new)

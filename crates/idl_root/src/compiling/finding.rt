@@ -118,7 +118,7 @@ impl<'a> Spelled<'a> {
     }
 
     // Where the token with this number stands.
-    fn site(self, index: usize) -> Result<Option<Site>, AllocError>
+    pub(crate) fn site(self, index: usize) -> Result<Option<Site>, AllocError>
         ensures { IfOk result (λ site.
             site ≡ site_of self.entry.text.now self.entry.sites.now index) }
     {
@@ -129,7 +129,7 @@ impl<'a> Spelled<'a> {
     }
 
     // The bytes of the token with this number.
-    fn token(self, index: usize) -> Option<&'a [u8]>
+    pub(crate) fn token(self, index: usize) -> Option<&'a [u8]>
         ensures { option_copied result
             ≡ slice_get (tokens_of self.entry.text.now) index }
     {

@@ -1,6 +1,6 @@
 //! The verdicts of a root's units.
 
-ghost use Rattle.std.specs.Prelude.{◌≡◌, ◌≤◌, ◌++◌, ◌∷◌, [], IfOk, List, OnOk, flat_map, option_to_list};
+ghost use Rattle.std.specs.Prelude.{◌≡◌, ◌≤◌, ◌++◌, ◌∷◌, [], IfOk, List, OnOk, flat_map, map, option_to_list};
 ghost use Rattle.idl_check_laws.specs.Closing.{AreTold};
 ghost use Rattle.idl_env.specs.Facts.{UnitFacts};
 ghost use Rattle.idl_facts.specs.Written.{boundary};
@@ -12,6 +12,7 @@ ghost use Rattle.idl_root.specs.Compile.{is_open};
 ghost use Rattle.idl_root.specs.Followed.{IsBoundary, IsKeeping, added_by};
 ghost use Rattle.idl_root.specs.Held.{IsEnded, held, to_come, with_gathered, with_judged, with_units};
 ghost use Rattle.idl_root.specs.Judged.{added, judged_at, verdict_over};
+ghost use Rattle.idl_root.specs.Named.{named_after, named_as};
 ghost use Rattle.idl_root.specs.Passed.{ArePassed, Compares, HasDrafts, WalksOnly, with_kept};
 ghost use Rattle.idl_root.specs.Places.{declarations_after};
 ghost use Rattle.idl_root.specs.Printed.{closing_finding, entry_row};
@@ -24,6 +25,7 @@ ghost use Rattle.idl_root_blocks.specs.Units.{parts_of_unit, text_of};
 use crate::compiling::compiled::Row;
 use crate::compiling::finding::{EventFinding, Spelled, push_fault};
 use crate::compiling::memory::Memory;
+use crate::compiling::naming::Naming;
 use crate::compiling::printing::{Listed, Printed, push_listed};
 use crate::kept::added::Added;
 use crate::kept::keeping::Keeping;
@@ -120,6 +122,29 @@ impl<'a> Judging<'a> {
         Ok(Judging { env, gathered })
     }
 
+    /// After these units, with their names. Nothing is kept of them.
+    pub fn with_all_named(self, alloc: Global, units: &'a [Unit]) -> Result<Naming<'a>, AllocError>
+        ensures judging { IfOk result (λ n.
+            held n.judging ≡ to_come (held self.entry) units.now) }
+        ensures units { IfOk result (λ n.
+            map named_as n.units.items ≡ named_after self.entry.env units.now) }
+    {
+        let Judging {
+            mut env,
+            mut gathered,
+        } = self;
+        let mut named = Vec::with_capacity(alloc, units.len())?;
+        let mut scratch = Scratch::new(alloc);
+        for unit in units {
+            let added = gathered.add_named(&mut named, &mut scratch, &env, unit)?;
+            env = added.behind(env, &mut scratch.room)?;
+        }
+        Ok(Naming {
+            judging: Judging { env, gathered },
+            units: named,
+        })
+    }
+
     /// After these units, whose results are kept.
     pub fn with_all_kept(
         self,
@@ -197,7 +222,7 @@ impl<'a> Gathered<'a> {
     }
 
     // Puts in what comes of one unit more over these facts; what it adds to them.
-    fn add(
+    pub(crate) fn add(
         &mut self,
         alloc: Global,
         scratch: &mut Scratch,
@@ -328,7 +353,11 @@ fn step_of(mark: Mark) -> Step
 }
 
 // The verdict of a text over facts. What it asks is not kept.
-fn verdict_over(scratch: &mut Scratch, env: &Env, text: &UnitText) -> Result<Verdict, AllocError>
+pub(crate) fn verdict_over(
+    scratch: &mut Scratch,
+    env: &Env,
+    text: &UnitText,
+) -> Result<Verdict, AllocError>
     ensures { IfOk result (λ verdict. verdict ≡ verdict_over env.now text.now) }
 {
     verdict_of(scratch, env, &mut Journal::told(), text)
