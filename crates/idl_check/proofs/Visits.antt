@@ -4,6 +4,7 @@ pub mod JudgeLemmas
 pub mod NamesLemmas
 pub mod RemarkLaws
 pub mod SiteLaws
+pub mod StepsLemmas
 pub mod VerdictLaws
 pub mod VisitLemmas
 pub mod WalkLaws

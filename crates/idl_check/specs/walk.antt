@@ -6,5 +6,6 @@ pub mod Judging
 pub mod Names
 pub mod Placing
 pub mod Sections
+pub mod Steps
 pub mod Verdict
 pub mod Walk

@@ -13,5 +13,6 @@ mod walk;
 
 pub use walk::names::{NameRole, NamedSite, names_of};
 pub use walk::scratch::Scratch;
+pub use walk::steps::Steps;
 pub use walk::task::{DeclarationTask, verdict_of};
 pub use walk::verdict::Verdict;

@@ -6,6 +6,7 @@ pub(crate) mod naming;
 pub(crate) mod placing;
 pub(crate) mod scratch;
 pub(crate) mod speaking;
+pub(crate) mod steps;
 pub(crate) mod task;
 pub(crate) mod valuing;
 pub(crate) mod verdict;

@@ -1,5 +1,7 @@
 -- What a walk leaves behind the sites of a unit.
+pub mod FirstLaws
 pub mod MoreTurns
+pub mod NameLaws
 pub mod RowLaws
 pub mod SpokenLaws
 pub mod StepLaws

@@ -4,8 +4,10 @@
 #![tactic(auto)]
 
 mod laws;
+mod unit_names;
 
 pub use laws::{
     acceptance, bracketing, denoting, evaluating, fitting, identification, inheriting, least,
     more_turns, naming, numbering, questions, refusal, speaking, stopping, wording,
 };
+pub use unit_names::names;

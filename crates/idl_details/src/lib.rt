@@ -20,7 +20,4 @@ pub use row_tree::{
 pub use rows::tree_of;
 pub use type_code_tree::{CaseTree, MemberTree, TypeCodeParts, TypeCodeTree, UnionTree};
 pub use type_tree::{ElementTree, TypeTree};
-pub use words::{
-    code_word, direction_word, integer_word, kind_word, push_default, push_number, push_path,
-    push_type, unvalued_word,
-};
+pub use words::{code_word, direction_word, kind_word, push_type};

@@ -5,19 +5,19 @@ ghost use Rattle.idl_details.specs.Tree.{attribute_over, coded_over, constant_ov
 ghost use Rattle.idl_env.specs.Facts.{answers};
 ghost use Rattle.std.specs.Option.{option_copied};
 ghost use Rattle.idl_repo.specs.Referred.{listed_bases};
-ghost use Rattle.idl_repo.specs.Row.{context_word, contexts_of, path_text, raised_by_set_of, raised_of};
+ghost use Rattle.idl_repo.specs.Row.{context_word, path_text};
 
 use crate::row_tree::{
     AttributeTree, ConstantTree, DeclaredType, OperationTree, ParameterTree, RowDetails, RowTree,
 };
 use crate::type_code_tree::TypeCodeTree;
-use crate::type_codes::{declared_members, parts_of, signature_of};
+use crate::type_codes::parts_of;
 use crate::types::{id_at, ids_at, listed, member_of, type_of};
-use crate::words::push_path;
 use idl_base::{Bytes, Seq};
 use idl_entity::{Entity, Kind, Member, Path};
 use idl_env::Env;
-use idl_value::{Value, push_value};
+use idl_repo::{contexts_of, members_of, push_context, push_path, raised_by_set_of, raised_of};
+use idl_value::Value;
 use std::alloc::{AllocError, Global};
 
 /// The tree of what is declared so, over an environment: each id in it is what a row tells there.
@@ -119,9 +119,9 @@ fn operation_of(env: &Env, entity: &Entity) -> Result<OperationTree, AllocError>
     ensures { IfOk result (λ tree. tree ≡ operation_over (answers env.now) entity.now) }
 {
     let data_type = type_of(env, entity.data_type())?;
-    let parameters = parameters_of(env, declared_members(entity))?;
+    let parameters = parameters_of(env, members_of(entity))?;
     let raised = ids_at(env, raised_of(entity))?;
-    let contexts = contexts_of(env.alloc(), contexts(entity))?;
+    let contexts = context_texts(env.alloc(), contexts_of(entity))?;
     Ok(OperationTree {
         is_oneway: entity.is_oneway(),
         data_type,
@@ -147,7 +147,7 @@ fn parameters_of(env: &Env, members: &[Member]) -> Result<Seq<ParameterTree>, Al
 }
 
 // The texts of a context, as they are listed.
-fn contexts_of(alloc: Global, contexts: &[Seq<u16>]) -> Result<Seq<Bytes>, AllocError>
+fn context_texts(alloc: Global, contexts: &[Seq<u16>]) -> Result<Seq<Bytes>, AllocError>
     ensures { IfOk result (λ texts. texts ≡ map context_word contexts.now) }
 {
     let mut texts = Vec::with_capacity(alloc, contexts.len())?;
@@ -162,36 +162,6 @@ fn context_of(alloc: Global, context: &Seq<u16>) -> Result<Bytes, AllocError>
     ensures { IfOk result (λ text. text ≡ context_word context.now) }
 {
     let mut text = Vec::new(alloc);
-    push_value(&mut text, &Value::Text(context.clone()?))?;
+    push_context(&mut text, context)?;
     Bytes::from_slice(alloc, text.as_slice())
-}
-
-// What an operation, or the reading of an attribute, raises.
-fn raised_of(entity: &Entity) -> &[Path]
-    ensures { result.now ≡ raised_of entity.now }
-{
-    match signature_of(entity) {
-        Some(signature) => signature.raised.as_slice(),
-        None => &[],
-    }
-}
-
-// What the writing of an attribute raises.
-fn raised_by_set_of(entity: &Entity) -> &[Path]
-    ensures { result.now ≡ raised_by_set_of entity.now }
-{
-    match signature_of(entity) {
-        Some(signature) => signature.raised_by_set.as_slice(),
-        None => &[],
-    }
-}
-
-// The texts of an operation's context.
-fn contexts(entity: &Entity) -> &[Seq<u16>]
-    ensures { result.now ≡ contexts_of entity.now }
-{
-    match signature_of(entity) {
-        Some(signature) => signature.contexts.as_slice(),
-        None => &[],
-    }
 }

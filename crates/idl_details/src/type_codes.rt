@@ -1,16 +1,17 @@
 //! The trees of TypeCodes.
 
 ghost use Rattle.std.specs.Prelude.{◌≡◌, ◌++◌, IfOk, OnOk};
-ghost use Rattle.std.specs.Option.{option_copied, option_map};
+ghost use Rattle.std.specs.Option.{option_map};
 ghost use Rattle.idl_details.specs.Tree.{case_over, cases_of, default_in, parts_over, union_over};
 ghost use Rattle.idl_env.specs.Facts.{answers};
-ghost use Rattle.idl_repo.specs.TypeCode.{kind_in, members_of};
+ghost use Rattle.idl_repo.specs.TypeCode.{kind_in};
 
 use crate::type_code_tree::{CaseTree, TypeCodeParts, UnionTree};
-use crate::types::{listed, member_of, members_of, type_of};
+use crate::types::{listed, member_of, member_trees, type_of};
 use idl_base::Seq;
-use idl_entity::{Entity, Kind, Member, Signature};
+use idl_entity::{Entity, Kind, Member};
 use idl_env::Env;
+use idl_repo::members_of;
 use idl_value::Value;
 use std::alloc::AllocError;
 
@@ -23,8 +24,8 @@ pub fn parts_of(env: &Env, entity: &Entity) -> Result<Option<TypeCodeParts>, All
         Kind::Interface if entity.is_local() => TypeCodeParts::LocalInterface,
         Kind::Interface => TypeCodeParts::ObjectReference,
         Kind::Native => TypeCodeParts::Native,
-        Kind::Structure => TypeCodeParts::Structure(members_of(env, declared_members(entity))?),
-        Kind::Exception => TypeCodeParts::Exception(members_of(env, declared_members(entity))?),
+        Kind::Structure => TypeCodeParts::Structure(member_trees(env, members_of(entity))?),
+        Kind::Exception => TypeCodeParts::Exception(member_trees(env, members_of(entity))?),
         Kind::Union => TypeCodeParts::Union(union_of(env, entity)?),
         Kind::Enumeration => {
             let names = Vec::from_clones(env.alloc(), entity.enumerators())?;
@@ -39,7 +40,7 @@ pub fn parts_of(env: &Env, entity: &Entity) -> Result<Option<TypeCodeParts>, All
 fn union_of(env: &Env, entity: &Entity) -> Result<UnionTree, AllocError>
     ensures { IfOk result (λ tree. tree ≡ union_over (answers env.now) entity.now) }
 {
-    let members = declared_members(entity);
+    let members = members_of(entity);
     let discriminator = type_of(env, entity.data_type())?;
     let mut cases = Vec::new(env.alloc());
     for member in members {
@@ -82,24 +83,4 @@ fn default_in(cases: &[CaseTree]) -> Option<usize>
         }
     }
     None
-}
-
-/// The members of what is declared so, or the parameters.
-pub fn declared_members(entity: &Entity) -> &[Member]
-    ensures { result.now ≡ members_of entity.now }
-{
-    match signature_of(entity) {
-        Some(signature) => signature.members.as_slice(),
-        None => &[],
-    }
-}
-
-/// What it shows behind its name, if that is told.
-pub fn signature_of(entity: &Entity) -> Option<&Signature>
-    ensures { option_copied result ≡ entity.now.signature }
-{
-    match entity.signature() {
-        Some(signature) => Some(signature.get()),
-        None => None,
-    }
 }

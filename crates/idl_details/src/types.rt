@@ -12,8 +12,8 @@ use idl_base::{Bytes, Seq, Shared};
 use idl_entity::{DataType, Element, Member, Path};
 use idl_env::Env;
 use idl_memo::Journal;
-use idl_repo::RowWriter;
-use idl_value::{Value, push_value};
+use idl_repo::{RowWriter, push_listed};
+use idl_value::Value;
 use std::alloc::{AllocError, Global};
 
 /// The id of what is declared at a path.
@@ -76,7 +76,7 @@ pub fn member_of(env: &Env, member: &Member) -> Result<MemberTree, AllocError>
 }
 
 /// Each of these.
-pub fn members_of(env: &Env, members: &[Member]) -> Result<Seq<MemberTree>, AllocError>
+pub fn member_trees(env: &Env, members: &[Member]) -> Result<Seq<MemberTree>, AllocError>
     ensures { IfOk result (λ trees. trees ≡ map (member_over (answers env.now)) members.now) }
 {
     let mut trees = Vec::with_capacity(env.alloc(), members.len())?;
@@ -90,13 +90,10 @@ pub fn members_of(env: &Env, members: &[Member]) -> Result<Seq<MemberTree>, Allo
 pub fn listed(alloc: Global, value: Option<&Value>) -> Result<Option<Bytes>, AllocError>
     ensures { IfOk result (λ text. text ≡ option_map listed_value (option_copied value.entry)) }
 {
-    Ok(match value {
-        None => None,
-        Some(Value::Enumerator(_enumeration, name)) => Some(name.clone()?),
-        Some(value) => {
-            let mut text = Vec::new(alloc);
-            push_value(&mut text, value)?;
-            Some(Bytes::from_slice(alloc, text.as_slice())?)
-        }
-    })
+    let Some(value) = value else {
+        return Ok(None);
+    };
+    let mut text = Vec::new(alloc);
+    push_listed(&mut text, value)?;
+    Ok(Some(Bytes::from_slice(alloc, text.as_slice())?))
 }

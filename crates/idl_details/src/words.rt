@@ -1,17 +1,14 @@
 //! How the parts of a tree are written, by themselves.
 
-ghost use Rattle.std.specs.Prelude.{◌≡◌, ◌++◌, OnOk, decimal, flat_map};
+ghost use Rattle.std.specs.Prelude.{◌≡◌, ◌++◌, OnOk};
 ghost use Rattle.idl_details.specs.Print.{element_text, parts_kind, reference_text, type_text};
-ghost use Rattle.idl_repo.specs.Row.{direction_word, kind_word, path_text};
-ghost use Rattle.idl_repo.specs.TypeCode.{code_word, default_word, integer_word, layer_end, layer_word, layers_begin, size_of, string_word, target_word, unvalued_word};
+ghost use Rattle.idl_repo.specs.Row.{direction_word, kind_word};
+ghost use Rattle.idl_repo.specs.TypeCode.{code_word};
 
 use crate::type_code_tree::TypeCodeParts;
 use crate::type_tree::{ElementTree, TypeTree};
-use idl_entity::paths::Names;
-use idl_entity::{Kind, Layer, Unvalued};
-use idl_repo::TypeCodeKind;
-use idl_value::{ConstantType, IntegerKind};
-use itoa::Buffer;
+use idl_entity::Kind;
+use idl_repo::{TypeCodeKind, begin_layers, end_layers, push_target, unvalued_word};
 use std::alloc::AllocError;
 
 /// Writes a type: a named one is told by its id, and another one is written in place.
@@ -21,39 +18,6 @@ pub fn push_type(text: &mut Vec<u8>, data_type: &TypeTree) -> Result<(), AllocEr
     begin_layers(text, data_type.layers.as_slice())?;
     push_element(text, &data_type.element)?;
     end_layers(text, data_type.layers.as_slice())
-}
-
-/// Writes the names of a path, the outermost first, with `::` between them.
-pub fn push_path(text: &mut Vec<u8>, names: Names<'_>) -> Result<(), AllocError>
-    ensures { OnOk result (text.new.items ≡ text.old.items ++ path_text names.entry) }
-{
-    let Some((name, outer)) = names.split_first() else {
-        return Ok(());
-    };
-    if !outer.is_empty() {
-        push_path(text, outer)?;
-        text.extend_from_slice(b"::")?;
-    }
-    text.extend_from_slice(name)?;
-    Ok(())
-}
-
-/// Writes the number of the case of `default`, or -1.
-pub fn push_default(text: &mut Vec<u8>, number: Option<usize>) -> Result<(), AllocError>
-    ensures { OnOk result (text.new.items ≡ text.old.items ++ default_word number) }
-{
-    match number {
-        Some(number) => push_number(text, number),
-        None => text.extend_from_slice(b"-1"),
-    }
-}
-
-/// Writes a number in decimal.
-pub fn push_number(text: &mut Vec<u8>, number: usize) -> Result<(), AllocError>
-    ensures { OnOk result (text.new.items ≡ text.old.items ++ decimal number) }
-{
-    let mut buffer = Buffer::new();
-    text.extend_from_slice(buffer.format(number).as_bytes())
 }
 
 /// The word of a row.
@@ -121,109 +85,4 @@ fn push_reference(text: &mut Vec<u8>, id: &[u8]) -> Result<(), AllocError>
 {
     text.extend_from_slice(b"@")?;
     text.extend_from_slice(id)
-}
-
-// Where the layers around a type begin, from the outermost on.
-fn begin_layers(text: &mut Vec<u8>, layers: &[Layer]) -> Result<(), AllocError>
-    ensures { OnOk result
-        (text.new.items ≡ text.old.items ++ layers_begin layers.now) }
-{
-    let count = layers.len();
-    for back in 0..count {
-        text.extend_from_slice(layer_word(layers[count - 1 - back]))?;
-    }
-    Ok(())
-}
-
-// How a sequence or an array begins.
-fn layer_word(layer: Layer) -> &'static [u8]
-    ensures { result.now ≡ layer_word layer }
-{
-    match layer {
-        Layer::Sequence(_bound) => b"tk_sequence(",
-        Layer::Array(_length) => b"tk_array(",
-    }
-}
-
-// Where they end, from the innermost on: with the bound of each, or its length.
-fn end_layers(text: &mut Vec<u8>, layers: &[Layer]) -> Result<(), AllocError>
-    ensures { OnOk result
-        (text.new.items ≡ text.old.items ++ flat_map layer_end layers.now) }
-{
-    for layer in layers {
-        text.extend_from_slice(b",")?;
-        push_number(text, size_of(*layer) as usize)?;
-        text.extend_from_slice(b")")?;
-    }
-    Ok(())
-}
-
-// The bound of a sequence, or the length of an array.
-fn size_of(layer: Layer) -> u32
-    ensures { result ≡ size_of layer }
-{
-    match layer {
-        Layer::Sequence(bound) => bound,
-        Layer::Array(length) => length,
-    }
-}
-
-// A type of keywords of which there are constants. An enum has an id.
-fn push_target(text: &mut Vec<u8>, target: &ConstantType) -> Result<(), AllocError>
-    ensures { OnOk result
-        (text.new.items ≡ text.old.items ++ target_word target.now) }
-{
-    match target {
-        ConstantType::Integer(kind) => text.extend_from_slice(integer_word(*kind)),
-        ConstantType::Boolean => text.extend_from_slice(b"tk_boolean"),
-        ConstantType::Character => text.extend_from_slice(b"tk_char"),
-        ConstantType::WideCharacter => text.extend_from_slice(b"tk_wchar"),
-        ConstantType::Text(bound) => push_string(text, b"tk_string(", *bound),
-        ConstantType::WideText(bound) => push_string(text, b"tk_wstring(", *bound),
-        ConstantType::Enumeration(_path) => Ok(()),
-    }
-}
-
-// A string type, with its bound, or 0 if it has none.
-fn push_string(text: &mut Vec<u8>, word: &[u8], bound: Option<u32>) -> Result<(), AllocError>
-    ensures { OnOk result
-        (text.new.items ≡ text.old.items ++ string_word word.now bound) }
-{
-    text.extend_from_slice(word)?;
-    match bound {
-        Some(bound) => push_number(text, bound as usize)?,
-        None => text.extend_from_slice(b"0")?,
-    }
-    text.extend_from_slice(b")")?;
-    Ok(())
-}
-
-/// The word of an integer type.
-pub fn integer_word(kind: IntegerKind) -> &'static [u8]
-    ensures { result.now ≡ integer_word kind }
-{
-    match kind {
-        IntegerKind::Octet => b"tk_octet",
-        IntegerKind::Int8 => b"tk_int8",
-        IntegerKind::Uint8 => b"tk_uint8",
-        IntegerKind::Short => b"tk_short",
-        IntegerKind::UnsignedShort => b"tk_ushort",
-        IntegerKind::Long => b"tk_long",
-        IntegerKind::UnsignedLong => b"tk_ulong",
-        IntegerKind::LongLong => b"tk_longlong",
-        IntegerKind::UnsignedLongLong => b"tk_ulonglong",
-    }
-}
-
-/// The text of a type of which there are no constants.
-pub fn unvalued_word(kind: Unvalued) -> &'static [u8]
-    ensures { result.now ≡ unvalued_word kind }
-{
-    match kind {
-        Unvalued::Float => b"tk_float",
-        Unvalued::Double => b"tk_double",
-        Unvalued::LongDouble => b"tk_longdouble",
-        Unvalued::Any => b"tk_any",
-        Unvalued::Object => b"tk_objref(IDL:omg.org/CORBA/Object:1.0,Object)",
-    }
 }

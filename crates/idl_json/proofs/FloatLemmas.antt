@@ -24,8 +24,8 @@ use Rattle.idl_details.specs.declared.type_code_tree.TypeCodeTree.{TypeCodeTree}
 use Rattle.idl_details.specs.declared.type_tree.ElementTree.{ElementTree}
 use Rattle.idl_details.specs.declared.type_tree.ElementTree.TheVariants as tree
 use Rattle.idl_details.specs.declared.type_tree.TypeTree.{TypeTree}
-use Rattle.idl_json.specs.Diagnostic.{IsDiagnosticJson, Located, severity, token_fields}
-use Rattle.idl_json.specs.Objects.{number_json, object_of}
+use Rattle.idl_json.specs.Diagnostic.{IsDiagnosticJson, Located, Second, column_fields, second_json, severity, token_fields}
+use Rattle.idl_json.specs.Objects.{list_json, number_json, object_of}
 use Rattle.idl_json.specs.Rows.{json_of, parameter_json, value_json}
 use Rattle.idl_json.specs.Text.{text_json}
 use Rattle.idl_json.specs.TypeCodes.{case_json, member_json, type_code_json}
@@ -42,7 +42,7 @@ put-at Equal k l d e ms p q r s = rw (p, r) refl
 put-at Greater k l d e ms p q r s = rw (q, s) refl
 
 -- a member more
-put-plain : (k : List ℕ) (d : Data) (ms : Members) → has_float d ≡ false → members_have_float ms ≡ false → members_have_float (put k d ms) ≡ false
+pub put-plain : (k : List ℕ) (d : Data) (ms : Members) → has_float d ≡ false → members_have_float ms ≡ false → members_have_float (put k d ms) ≡ false
 put-plain k d no_members p q = rw p refl
 put-plain k d (member l e ms) p q =
     let both = neither (has_float e) (members_have_float ms) q in
@@ -152,23 +152,38 @@ row-plain t = row-by t t.details
 
 -- ---- roots
 
--- the object of what is found, by its parts
-found-by : (file text code kind : List ℕ) (line : ℕ) (column : Option ℕ) (token : Option (List ℕ)) →
-    has_float (object_of (
-    (codes "file", text_json file) ∷ (codes "line", number_json line) ∷ (codes "code", text_json code)
-    ∷ (codes "severity", text_json kind) ∷ (codes "text", text_json text) ∷ token_fields column token)) ≡ false
-found-by file text code kind line column None = refl
-found-by file text code kind line None (Some token) = refl
-found-by file text code kind line (Some before) (Some token) = by (nat_lt (before + length token) (2 ^ 53))
+-- a second place
+second-by : (reason file token : List ℕ) (line : ℕ) (column : Option ℕ) → has_float (object_of (
+    (codes "reason", text_json reason) ∷ (codes "file", text_json file) ∷ (codes "line", number_json line) ∷ (codes "token", text_json token) ∷ column_fields column token)) ≡ false
+second-by reason file token line None = refl
+second-by reason file token line (Some before) = by (nat_lt (before + length token) (2 ^ 53))
   where
     by : (fits : Bool) → has_float (object_of (
-        (codes "file", text_json file) ∷ (codes "line", number_json line) ∷ (codes "code", text_json code)
-        ∷ (codes "severity", text_json kind) ∷ (codes "text", text_json text) ∷ (codes "token", text_json token)
+        (codes "reason", text_json reason) ∷ (codes "file", text_json file) ∷ (codes "line", number_json line) ∷ (codes "token", text_json token)
         ∷ (if fits then (codes "column", number_json (before + 1)) ∷ (codes "end", number_json (before + length token + 1)) ∷ [] else []))) ≡ false
     by true = refl
     by false = refl
 
+seconds-plain : (seconds : List Second) → items_have_float (items_of (map second_json seconds)) ≡ false
+seconds-plain seconds = list-plain second_json (λ s. second-by s.reason s.place.file s.token s.place.line s.column) seconds
+
+-- the object of what is found, by its parts
+found-by : (file text code kind : List ℕ) (line : ℕ) (seconds : List Second) (column : Option ℕ) (token : Option (List ℕ)) →
+    has_float (object_of (
+    (codes "file", text_json file) ∷ (codes "line", number_json line) ∷ (codes "code", text_json code)
+    ∷ (codes "severity", text_json kind) ∷ (codes "text", text_json text) ∷ (codes "related", list_json second_json seconds) ∷ token_fields column token)) ≡ false
+found-by file text code kind line seconds column None = rw (seconds-plain seconds) refl
+found-by file text code kind line seconds None (Some token) = rw (seconds-plain seconds) refl
+found-by file text code kind line seconds (Some before) (Some token) = by (nat_lt (before + length token) (2 ^ 53))
+  where
+    by : (fits : Bool) → has_float (object_of (
+        (codes "file", text_json file) ∷ (codes "line", number_json line) ∷ (codes "code", text_json code)
+        ∷ (codes "severity", text_json kind) ∷ (codes "text", text_json text) ∷ (codes "related", list_json second_json seconds) ∷ (codes "token", text_json token)
+        ∷ (if fits then (codes "column", number_json (before + 1)) ∷ (codes "end", number_json (before + length token + 1)) ∷ [] else []))) ≡ false
+    by true = rw (seconds-plain seconds) refl
+    by false = rw (seconds-plain seconds) refl
+
 pub one-plain : (found : Located) (json : Data) → IsDiagnosticJson found json → has_float json ≡ false
 one-plain found json is =
     ap has_float is.2
-    ∙ found-by found.place.file (said is.0.words (unwrap_or found.token [])) (code_text found.code) (severity found.code) found.place.line found.column found.token
+    ∙ found-by found.place.file (said is.0.words (unwrap_or found.token [])) (code_text found.code) (severity found.code) found.place.line found.related found.column found.token

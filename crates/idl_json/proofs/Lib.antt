@@ -2,4 +2,5 @@ mod FloatLemmas
 mod TextLemmas
 mod LineLemmas
 mod ListLemmas
+mod ListedLemmas
 mod ReadingLemmas

@@ -1,12 +1,12 @@
 -- The text of a root's line, part by part.
-use Rattle.std.proofs.Common.{◌≡◌, ◌∙◌, ◌+◌, ◌<◌, ◌++◌, ◌∷◌, [], ℕ, suc, Bool, Bor, true, false, List, ap, append_assoc, arith, get_or, length, map, nat_lt, refl, sym, take}
+use Rattle.std.proofs.Common.{◌≡◌, ◌∙◌, ◌+◌, ◌<◌, ◌++◌, ◌∷◌, [], ℕ, suc, Bool, true, false, List, ap, append_assoc, arith, get_or, length, map, nat_lt, refl, sym, take}
 use Rattle.std.proofs.lemmas.List.{append-nil, map-append, take_more}
 use Rattle.std.specs.List.{AllZip}
 use Rattle.serde_json.specs.Data.{Data}
 use Rattle.serde_json.specs.View.{items_of}
 use Rattle.serde_json.specs.Written.{comma_if, compact_text, items_text}
-use Rattle.idl_details.specs.declared.row_tree.RowTree.{RowTree}
-use Rattle.idl_json.specs.Rows.{json_of}
+use Rattle.idl_json.specs.Listed.{row_json, row_of}
+use Rattle.idl_json.specs.declared.listed.ListedRow.{ListedRow}
 
 -- ---- the texts of items
 
@@ -71,9 +71,9 @@ pub row-behind : (a b d e f g h i j k l m n t : List ℕ)
     → (a ++ (b ++ (d ++ (e ++ (f ++ (g ++ (h ++ (i ++ (j ++ (k ++ (l ++ (m ++ n)))))))))))) ++ t ≡ a ++ (b ++ (d ++ (e ++ (f ++ (g ++ (h ++ (i ++ (j ++ (k ++ (l ++ (m ++ (n ++ t))))))))))))
 row-behind a b d e f g h i j k l m n t = simp append_assoc refl
 
--- the trees of one row more
-pub rows-next : (rows : List (Bor RowTree)) (i : ℕ) (row : Bor RowTree) → i < length rows → row ≡ get_or rows i row
-    → map json_of (map (λ tree. tree.now) (take (i + 1) rows)) ≡ map json_of (map (λ tree. tree.now) (take i rows)) ++ json_of row.now ∷ []
+-- what is told of one row more
+pub rows-next : (rows : List ListedRow) (i : ℕ) (row : ListedRow) → i < length rows → row ≡ get_or rows i row
+    → map row_json (map row_of (take (i + 1) rows)) ≡ map row_json (map row_of (take i rows)) ++ row_json (row_of row) ∷ []
 rows-next rows i row within is =
-    ap (λ rs. map json_of (map (λ tree. tree.now) rs)) (take_more rows i row within ∙ ap (λ r. take i rows ++ r ∷ []) (sym is))
-    ∙ ap (map json_of) (map-append (λ tree. tree.now) (take i rows) (row ∷ [])) ∙ map-append json_of (map (λ tree. tree.now) (take i rows)) (row.now ∷ [])
+    ap (λ rs. map row_json (map row_of rs)) (take_more rows i row within ∙ ap (λ r. take i rows ++ r ∷ []) (sym is))
+    ∙ ap (map row_json) (map-append row_of (take i rows) (row ∷ [])) ∙ map-append row_json (map row_of (take i rows)) (row_of row ∷ [])

@@ -1,5 +1,5 @@
 -- What is found in a root, in JSON.
-use Rattle.std.specs.Prelude.{◌≡◌, ◌+◌, ◌^◌, ℕ, List, [], ◌∷◌, codes, length, nat_lt, Option, None, Some, if◌then◌else◌}
+use Rattle.std.specs.Prelude.{◌≡◌, ◌+◌, ◌^◌, ℕ, List, [], ◌∷◌, codes, length, map, nat_lt, Option, None, Some, if◌then◌else◌}
 use Rattle.std.specs.Option.{unwrap_or}
 use Rattle.serde_json.specs.Data.{Data}
 use Rattle.idl_fault.specs.Code.{code_text, is_error}
@@ -9,9 +9,26 @@ use Rattle.idl_explain.specs.declared.explanation.Explanation.{Explanation}
 use Rattle.idl_explain.specs.declared.explanation.Topic.TheVariants as topic
 use Rattle.idl_explain.specs.declared.explanation.Words.{Words}
 use Rattle.idl_fault.specs.declared.place.Place.{Place}
-use Rattle.idl_json.specs.Objects.{Field, number_json, object_of}
+use Rattle.idl_json.specs.Objects.{Field, list_json, number_json, object_of}
 use Rattle.idl_json.specs.Text.{text_json}
 use Rattle.idl_json.specs.declared.diagnostic.Diagnostic.{Diagnostic}
+use Rattle.idl_json.specs.declared.diagnostic.SecondPlace.{SecondPlace}
+
+-- a second place of what is found, why it is told, in words, and how many bytes of its line are before
+-- its token, if that is known
+pub record Second : Type 0 where
+  pub reason : List ℕ
+  pub place : Place
+  pub token : List ℕ
+  pub column : Option ℕ
+
+abbrev pub second_of : SecondPlace → Second
+second_of told = record {
+  reason = told.reason.now;
+  place = told.place.now;
+  token = told.token.now;
+  column = told.column;
+}
 
 -- what is found, and how many bytes of its line are before its token, if that is known
 pub record Located : Type 0 where
@@ -19,6 +36,7 @@ pub record Located : Type 0 where
   pub code : Code
   pub token : Option (List ℕ)
   pub column : Option ℕ
+  pub related : List Second
 
 abbrev pub located : Diagnostic → Located
 located told = record {
@@ -26,6 +44,7 @@ located told = record {
   code = told.code;
   token = told.token.now;
   column = told.column;
+  related = map second_of told.related;
 }
 
 abbrev pub severity : Code → List ℕ
@@ -50,6 +69,14 @@ abbrev pub token_fields : Option ℕ → Option (List ℕ) → List Field
 token_fields column None = []
 token_fields column (Some token) = (codes "token", text_json token) ∷ column_fields column token
 
+abbrev pub second_json : Second → Data
+second_json second = object_of (
+    (codes "reason", text_json second.reason)
+    ∷ (codes "file", text_json second.place.file)
+    ∷ (codes "line", number_json second.place.line)
+    ∷ (codes "token", text_json second.token)
+    ∷ column_fields second.column second.token)
+
 -- what is found, in these words
 abbrev pub diagnostic_json : Located → Words → Data
 diagnostic_json told words = object_of (
@@ -58,6 +85,7 @@ diagnostic_json told words = object_of (
     ∷ (codes "code", text_json (code_text told.code))
     ∷ (codes "severity", text_json (severity told.code))
     ∷ (codes "text", text_json (said words (unwrap_or told.token [])))
+    ∷ (codes "related", list_json second_json told.related)
     ∷ token_fields told.column told.token)
 
 -- the words are those of its code

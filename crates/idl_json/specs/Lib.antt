@@ -3,6 +3,7 @@ pub mod Text
 pub mod Types
 pub mod TypeCodes
 pub mod Rows
+pub mod Listed
 pub mod Reading
 pub mod Diagnostic
 pub mod Root

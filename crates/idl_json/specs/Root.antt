@@ -4,20 +4,19 @@ use Rattle.std.specs.List.{AllZip}
 use Rattle.serde_json.specs.Data.{Data, array, boolean}
 use Rattle.serde_json.specs.View.{items_of}
 use Rattle.serde_json.specs.Written.{compact_text}
-use Rattle.idl_details.specs.declared.row_tree.RowTree.{RowTree}
 use Rattle.idl_json.specs.Diagnostic.{IsDiagnosticJson, Located, located}
+use Rattle.idl_json.specs.Listed.{LocatedRow, row_json, row_of}
 use Rattle.idl_json.specs.Objects.{list_json, object_of}
-use Rattle.idl_json.specs.Rows.{json_of}
 use Rattle.idl_json.specs.Text.{text_json, texts_json}
 use Rattle.idl_json.specs.declared.root.RootTold.{RootTold}
 
--- a root's name, whether it has an error, what is found in it, the trees of its listing, the files
+-- a root's name, whether it has an error, what is found in it, the rows of its listing, the files
 -- that it asks for, and those that aren't there
 pub record Root : Type 0 where
   pub name : List ℕ
   pub is_faulty : Bool
   pub found : List Located
-  pub listing : List RowTree
+  pub listing : List LocatedRow
   pub asked : List (List ℕ)
   pub absent : List (List ℕ)
 
@@ -26,7 +25,7 @@ root_of told = record {
   name = told.name.now;
   is_faulty = told.is_faulty;
   found = map located told.found.now;
-  listing = map (λ tree. tree.now) told.listing.now;
+  listing = map row_of told.listing.now;
   asked = told.asked.now;
   absent = told.absent.now;
 }
@@ -37,7 +36,7 @@ root_json root diagnostics = object_of (
     (codes "root", text_json root.name)
     ∷ (codes "faulty", boolean root.is_faulty)
     ∷ (codes "diagnostics", array (items_of diagnostics))
-    ∷ (codes "listing", list_json json_of root.listing)
+    ∷ (codes "listing", list_json row_json root.listing)
     ∷ (codes "asked", texts_json root.asked)
     ∷ (codes "absent", texts_json root.absent) ∷ [])
 

@@ -73,8 +73,11 @@ details_fields (row.Attribute a) = attribute_fields a
 details_fields (row.Operation o) = operation_fields o
 
 -- the tree of a row
-abbrev pub json_of : RowTree → Data
-json_of t = object_of (
+abbrev pub row_fields : RowTree → List Field
+row_fields t =
     (codes "kind", text_json (kind_name t.kind))
     ∷ (codes "path", text_json t.path)
-    ∷ (codes "id", text_json t.id) ∷ details_fields t.details)
+    ∷ (codes "id", text_json t.id) ∷ details_fields t.details
+
+abbrev pub json_of : RowTree → Data
+json_of t = object_of (row_fields t)

@@ -1,14 +1,14 @@
 //! What is found in a root, in JSON.
 
-ghost use Rattle.std.specs.Prelude.{◌≡◌, IfOk, OnOk, []};
+ghost use Rattle.std.specs.Prelude.{◌≡◌, IfOk, OnOk, [], map};
 ghost use Rattle.std.specs.Option.{unwrap_or};
 ghost use Rattle.serde_json.specs.View.{members_view, view};
 ghost use Rattle.idl_explain.specs.Explained.{said};
-ghost use Rattle.idl_json.specs.Diagnostic.{IsDiagnosticJson, column_fields, located, placed_fields, severity, token_fields};
-ghost use Rattle.idl_json.specs.Objects.{with_fields};
+ghost use Rattle.idl_json.specs.Diagnostic.{IsDiagnosticJson, column_fields, located, placed_fields, second_json, second_of, severity, token_fields};
+ghost use Rattle.idl_json.specs.Objects.{list_json, with_fields};
 
 use crate::objects::Object;
-use idl_base::Bytes;
+use idl_base::{Bytes, Seq};
 use idl_explain::{Topic, Words, explanation_of};
 use idl_fault::{Code, Place};
 use serde_json::Value;
@@ -18,17 +18,38 @@ use std::alloc::{AllocError, Global};
 const TOO_FAR: usize = 9_007_199_254_740_992;
 
 /// What is found, and how many bytes of its line are before its token, if that is known.
-#[derive(Clone, Copy)]
 pub struct Diagnostic<'a> {
     pub place: &'a Place,
     pub code: Code,
     pub token: &'a Option<Bytes>,
     pub column: Option<usize>,
+    pub related: Seq<SecondPlace<'a>>,
+}
+
+impl<'a> Drop for Diagnostic<'a> {
+    fn drop(self) {
+        let Diagnostic {
+            place: _place,
+            code: _code,
+            token: _token,
+            column: _column,
+            related: _related,
+        } = self;
+    }
+}
+
+/// A second place of what is found: why it is told, in words, and how many bytes of its line are before its token, if that is known.
+#[derive(Clone, Copy)]
+pub struct SecondPlace<'a> {
+    pub reason: &'a [u8],
+    pub place: &'a Place,
+    pub token: &'a Bytes,
+    pub column: Option<usize>,
 }
 
 /// What is found, with what its code says.
-pub(crate) fn diagnostic_value(alloc: Global, told: Diagnostic<'_>) -> Result<Value, AllocError>
-    ensures { IfOk result (λ value. IsDiagnosticJson (located told.entry) (view value)) }
+pub(crate) fn diagnostic_value(alloc: Global, told: &Diagnostic<'_>) -> Result<Value, AllocError>
+    ensures { IfOk result (λ value. IsDiagnosticJson (located told.now) (view value)) }
 {
     let explanation = explanation_of(Topic::Code(told.code));
     let text = words_about(alloc, explanation.words, told.token)?;
@@ -38,7 +59,33 @@ pub(crate) fn diagnostic_value(alloc: Global, told: Diagnostic<'_>) -> Result<Va
     object.put_text("code", &told.code.text())?;
     object.put_text("severity", severity(told.code))?;
     object.put_text("text", &text)?;
+    object.put("related", second_values(alloc, told.related.as_slice())?)?;
     put_token(&mut object, told.token, told.column)?;
+    Ok(object.into_value())
+}
+
+// Second places, in order.
+fn second_values(alloc: Global, seconds: &[SecondPlace<'_>]) -> Result<Value, AllocError>
+    ensures { IfOk result (λ value.
+        view value ≡ list_json second_json (map second_of seconds.entry.now)) }
+{
+    let mut values = Vec::with_capacity(alloc, seconds.len())?;
+    'seconds: for second in seconds {
+        values.push(second_value(alloc, *second)?)?;
+    }
+    Ok(Value::Array(values))
+}
+
+// A second place.
+fn second_value(alloc: Global, second: SecondPlace<'_>) -> Result<Value, AllocError>
+    ensures { IfOk result (λ value. view value ≡ second_json (second_of second.entry)) }
+{
+    let mut object = Object::new(alloc);
+    object.put_text("reason", second.reason)?;
+    object.put_text("file", second.place.file.as_bytes())?;
+    object.put("line", Value::from(second.place.line))?;
+    object.put_text("token", second.token.as_bytes())?;
+    put_column(&mut object, second.token.as_bytes(), second.column)?;
     Ok(object.into_value())
 }
 

@@ -5,6 +5,7 @@
 
 mod diagnostic;
 mod laws;
+mod listed;
 mod objects;
 mod root;
 mod rows;
@@ -12,6 +13,7 @@ mod text;
 mod type_codes;
 mod types;
 
-pub use diagnostic::Diagnostic;
+pub use diagnostic::{Diagnostic, SecondPlace};
 pub use laws::nothing_is_lost;
+pub use listed::{ListedRow, NamePlace};
 pub use root::{RootTold, root_line};

@@ -6,14 +6,13 @@ ghost use Rattle.serde_json.specs.Data.{Data, boolean};
 ghost use Rattle.serde_json.specs.View.{items_of, view};
 ghost use Rattle.serde_json.specs.Written.{comma_if, compact_text, has_float, items_text};
 ghost use Rattle.idl_json.specs.Diagnostic.{IsDiagnosticJson, located};
+ghost use Rattle.idl_json.specs.Listed.{row_json, row_of};
 ghost use Rattle.idl_json.specs.Root.{IsRootLine, root_of};
-ghost use Rattle.idl_json.specs.Rows.{json_of};
 ghost use Rattle.idl_json.specs.Text.{text_json, texts_json};
 
 use crate::diagnostic::{Diagnostic, diagnostic_value};
-use crate::rows::row_value;
+use crate::listed::{ListedRow, row_value};
 use crate::text::text_value;
-use idl_details::RowTree;
 use idl_source::Name;
 use serde_json::Value;
 use std::alloc::{AllocError, Global};
@@ -24,8 +23,8 @@ pub struct RootTold<'a> {
     pub name: &'a Name,
     pub is_faulty: bool,
     pub found: &'a [Diagnostic<'a>],
-    /// The trees of its rows.
-    pub listing: &'a [&'a RowTree],
+    /// Its rows.
+    pub listing: &'a [ListedRow<'a>],
     /// The files that it asks for, and those that aren't there.
     pub asked: &'a [Name],
     pub absent: &'a [Name],
@@ -71,16 +70,16 @@ fn push_diagnostics(out: &mut Vec<u8>, found: &[Diagnostic<'_>]) -> Result<(), A
     let alloc = *out.allocator();
     'found: for index in 0..found.len() {
         push_comma(out, index)?;
-        push_value(out, &diagnostic_value(alloc, found[index])?)?;
+        push_value(out, &diagnostic_value(alloc, &found[index])?)?;
     }
     out.push(b']')?;
     Ok(())
 }
 
-// Writes the trees of rows, in order, and the bracket behind them.
-fn push_rows(out: &mut Vec<u8>, listing: &[&RowTree]) -> Result<(), AllocError>
+// Writes rows, in order, and the bracket behind them.
+fn push_rows(out: &mut Vec<u8>, listing: &[ListedRow<'_>]) -> Result<(), AllocError>
     ensures { OnOk result (out.new.items ≡ out.old.items
-        ++ items_text false (items_of (map json_of (map (λ tree. tree.now) listing.entry.now)))) }
+        ++ items_text false (items_of (map row_json (map row_of listing.entry.now)))) }
 {
     let alloc = *out.allocator();
     'rows: for index in 0..listing.len() {

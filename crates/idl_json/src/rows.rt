@@ -3,7 +3,7 @@
 ghost use Rattle.std.specs.Prelude.{◌≡◌, IfOk, OnOk};
 ghost use Rattle.serde_json.specs.View.{members_view, view};
 ghost use Rattle.idl_json.specs.Objects.{list_json, with_fields};
-ghost use Rattle.idl_json.specs.Rows.{attribute_fields, bases_fields, constant_fields, declared_fields, details_fields, direction_name, json_of, kind_name, operation_fields, parameter_json, value_json};
+ghost use Rattle.idl_json.specs.Rows.{attribute_fields, bases_fields, constant_fields, declared_fields, details_fields, direction_name, kind_name, operation_fields, parameter_json, row_fields, value_json};
 
 use crate::objects::Object;
 use crate::text::text_value;
@@ -18,16 +18,15 @@ use idl_entity::Kind;
 use serde_json::Value;
 use std::alloc::{AllocError, Global};
 
-/// The tree of a row.
-pub(crate) fn row_value(alloc: Global, row: &RowTree) -> Result<Value, AllocError>
-    ensures { IfOk result (λ value. view value ≡ json_of row.now) }
+/// Puts in the tree of a row.
+pub(crate) fn put_row(alloc: Global, object: &mut Object, row: &RowTree) -> Result<(), AllocError>
+    ensures { OnOk result (members_view object.new.members.entries
+        ≡ with_fields (members_view object.old.members.entries) (row_fields row.now)) }
 {
-    let mut object = Object::new(alloc);
     object.put_text("kind", kind_name(row.kind))?;
     object.put_text("path", row.path.as_bytes())?;
     object.put_text("id", row.id.as_bytes())?;
-    put_details(alloc, &mut object, &row.details)?;
-    Ok(object.into_value())
+    put_details(alloc, object, &row.details)
 }
 
 // The word of a row; what has no row has a word as well.

@@ -1,5 +1,5 @@
 -- What is compared where a root more is made.
-use Rattle.std.proofs.Common.{◌≡◌, ◌∙◌, ℕ, ◌+◌, ◌||◌, true, false, All, Contains, List, [], ◌∷◌, ◌++◌, Option, append-nil, arith, map, refl, sym, ap}
+use Rattle.std.proofs.Common.{◌≡◌, ◌∙◌, ℕ, ◌+◌, ◌||◌, true, false, Contains, List, [], ◌∷◌, ◌++◌, Option, append-nil, arith, map, ap}
 use Rattle.std.proofs.lemmas.List.Elements.{All-append, All-contains_itself, All-weaker, Contains-append_left}
 use Rattle.std.proofs.lemmas.List.Folds.{list_any-append}
 use Rattle.std.proofs.lemmas.Map.Views.{list_any-from_Contains}
@@ -22,7 +22,7 @@ use Rattle.idl_root.specs.declared.kept.keeper.Keeper.{Keeper}
 use Rattle.idl_root_blocks.specs.Met.{Known}
 use Rattle.idl_root_blocks.specs.Places.{block_result, declaration_result}
 use Rattle.idl_store.specs.Stored.{Stored, results_in}
-use Rattle.idl_project.specs.Compared.{KnownTasks, compared_in, met_among, met_at, met_between, tasks_of, with_tasks}
+use Rattle.idl_project.specs.Compared.{KnownTasks, compared_in, met_between, tasks_of, with_tasks}
 use Rattle.idl_project.specs.Tasks.{alike_root, answer_eq, blocks_at, declarations_at, entries_at, kept_entries, kept_texts, lists_for}
 use Rattle.idl_project.proofs.MetLemmas.{alike-none, all-alike, compared-append, compared-first, compared-stale, compared-stay}
 use Rattle.idl_project.proofs.StoreLemmas.{flat-lists}

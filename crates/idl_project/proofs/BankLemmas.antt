@@ -1,7 +1,5 @@
 -- Banks of inputs of which one part is another.
-use Rattle.std.proofs.Common.{◌≡◌, ℕ, Bool, true, false, cond, List, [], ◌∷◌, Option, Some, refl, sym, ap, ◌∙◌, if◌then◌else◌}
-use Rattle.std.specs.Cmp.Lexicographic.{bytes_decides}
-use Rattle.std.specs.FinMap as finite
+use Rattle.std.proofs.Common.{◌≡◌, ℕ, Bool, true, false, cond, List, [], ◌∷◌, Option, Some, refl, ap, ◌∙◌, if◌then◌else◌}
 use Rattle.std.specs.Map.{lookup}
 use Rattle.std.specs.Option.{option_map}
 use Rattle.std.specs.Str.{bytes_eq}
@@ -10,8 +8,7 @@ use Rattle.idl_event.specs.declared.asked.key.RootKey.{RootKey}
 use Rattle.idl_event.specs.declared.asked.key.RootKey.TheVariants as key
 use Rattle.idl_event.specs.Key.{key_eq}
 use Rattle.idl_memo.specs.Cause.{changed}
-use Rattle.idl_source.specs.texts.Texts.{Texts}
-use Rattle.idl_project.specs.Bank.{IsSameBeside, bank_of}
+use Rattle.idl_project.specs.Bank.{bank_of}
 use Rattle.idl_project.specs.Project.{Inputs, Macros}
 
 one_of : {X Y : Type 0} (f : X → Y) (b : Bool) (w old : Option X) → option_map f (cond b w old) ≡ (if b then option_map f w else option_map f old)
@@ -29,22 +26,6 @@ module _ (inputs : Inputs) (macros : Macros) (word : List ℕ) (body : Option (L
   -- macros that are the same, but for one word
   pub macros-changed : bank_of (record inputs { macros = macros }) ≡ changed key_eq (bank_of inputs) (key.Macro word) (option_map (λ b. answer.Macro (b ∷ [])) body)
   macros-changed i k = macro_at k i
-
-module _ (inputs : Inputs) (files : Texts) (name : List ℕ) (beside : IsSameBeside name inputs.files files) where
-  file_by : (q : List ℕ) (b : Bool) → bytes_eq name q ≡ b
-      → option_map answer.File (finite.get files q) ≡ (if b then option_map answer.File (finite.get files name) else option_map answer.File (finite.get inputs.files q))
-  file_by q true same = ap (λ n. option_map answer.File (finite.get files n)) (sym ((bytes_decides name q).0 same))
-  file_by q false other = ap (option_map answer.File) (beside q other)
-
-  file_at : (k : RootKey) → bank_of (record inputs { files = files }) k ≡ changed key_eq (bank_of inputs) (key.File name) (option_map answer.File (finite.get files name)) k
-  unfolding bank_of changed
-  file_at (key.Macro word) = refl
-  file_at (key.File q) = file_by q (bytes_eq name q) refl
-  file_at key.Search = refl
-
-  -- files that are the same, but for one name
-  pub files-changed : bank_of (record inputs { files = files }) ≡ changed key_eq (bank_of inputs) (key.File name) (option_map answer.File (finite.get files name))
-  files-changed i k = file_at k i
 
 search_at : (inputs : Inputs) (directories : List (List ℕ)) (k : RootKey) → bank_of (record inputs { search = directories }) k ≡ changed key_eq (bank_of inputs) key.Search (Some (answer.Search directories)) k
 unfolding bank_of changed

@@ -45,6 +45,29 @@ lookup-detailed bank (e ∷ es) name h = by (bytes_eq name e.0) refl (lookup-det
         ap Some (details-kept bank e.0 e.1 kept ∙ ap (details_over bank) (sym ((bytes_decides name e.0).0 same)))
     by false other rest = rest
 
+abbrev pub kept_expansion : KeptRoot → List Event
+kept_expansion kept = kept.result.value.out
+
+-- what is kept of a root is what the root expands to
+expansion-kept : (bank : RootKey → Option RootAnswer) (name : List ℕ) (kept : KeptRoot) → IsKept bank (name, kept) → kept_expansion kept ≡ (expanded name bank).0
+expansion-kept bank name kept is =
+    ap (λ (left : List Event × List (RootKey × Option RootAnswer)). left.0) is.over ∙ ap (λ (text : List ℕ). (expanded text bank).0) is.text
+
+-- of roots that are kept a name is found with what it expands to, and no other name is found
+pub lookup-expanded : (bank : RootKey → Option RootAnswer) (held : List (List ℕ × KeptRoot)) (name : List ℕ) → AreKept bank held
+    → option_map kept_expansion (lookup (bytes_eq name) held) ≡ (if list_any (bytes_eq name) (keys_of held) then Some (expanded name bank).0 else None)
+lookup-expanded bank [] name h = refl
+lookup-expanded bank (e ∷ es) name h = by (bytes_eq name e.0) refl (lookup-expanded bank es name (All-tail (λ (root : List ℕ × KeptRoot). IsKept bank root) e es h))
+  where
+    by : (b : Bool) → bytes_eq name e.0 ≡ b
+        → option_map kept_expansion (lookup (bytes_eq name) es) ≡ (if list_any (bytes_eq name) (keys_of es) then Some (expanded name bank).0 else None)
+        → option_map kept_expansion (cond b (Some e.1) (lookup (bytes_eq name) es))
+        ≡ (if (b || list_any (bytes_eq name) (keys_of es)) then Some (expanded name bank).0 else None)
+    by true same rest =
+        let kept : IsKept bank e = All-head (λ (root : List ℕ × KeptRoot). IsKept bank root) e es h in
+        ap Some (expansion-kept bank e.0 e.1 kept ∙ ap (λ (text : List ℕ). (expanded text bank).0) (sym ((bytes_decides name e.0).0 same)))
+    by false other rest = rest
+
 -- the listing of a root without an error is what its details are printed as
 module _ (law : (end : Place) (events : List Event) → (compile end events).is_faulty ≡ false → (compile end events).listing ≡ printed (details events)) where
   pub listing-over : (bank : RootKey → Option RootAnswer) (name : List ℕ) → (compile_over bank name).rows.is_faulty ≡ false → (compile_over bank name).rows.listing ≡ printed (details_over bank name)

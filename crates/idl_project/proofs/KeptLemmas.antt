@@ -14,7 +14,6 @@ use Rattle.idl_event.specs.declared.asked.key.RootKey.{RootKey}
 use Rattle.idl_event.specs.declared.asked.key.RootKey.TheVariants as key
 use Rattle.idl_memo.specs.Fresh.{asked_among, fresh_among, is_alike, places_over, stale_among, stale_at}
 use Rattle.idl_memo.specs.Meter.{compared_after}
-use Rattle.idl_memo.specs.Renewal.{IsTold}
 use Rattle.idl_memo.specs.declared.meter.Meter.{Meter}
 use Rattle.idl_memo.specs.Kept.{Kept, HoldsOver}
 use Rattle.idl_memo.specs.Query.{asked, is_logged, noted_all}
@@ -187,20 +186,6 @@ IsKeptOf-held bank kept lists is are = record {
   begins_are = ap (λ (l : KeptLists). l.begins) are;
   entries_are = ap (λ (l : KeptLists). l.entries) are;
 }
-
--- what is told of a kept result, by the test of equality of the answers
-pub told-of : (old new : RootKey → Option RootAnswer) (kept : Kept RootKey (Option RootAnswer) (List ℕ) (List Event)) (holds : Bool)
-    → IsTold bytes_eq (option_eq ghosts.eq) key_eq expansion old new kept holds → IsTold bytes_eq (option_eq answer_eq) key_eq expansion old new kept holds
-told-of old new kept holds told = subst (λ (e : RootAnswer → RootAnswer → Bool). IsTold bytes_eq (option_eq e) key_eq expansion old new kept holds) answer_eq-derived told
-
--- a task of which nothing is told but that it is stale, or is not
-pub alike-when : (b : Bool) → ◌≡◌ {A = ℕ} (if b then 0 else 1) 0 → b ≡ true
-alike-when true h = refl
-alike-when false h = cc
-
-pub stale-when : (b : Bool) → ◌≡◌ {A = ℕ} (if b then 0 else 1) 1 → b ≡ false
-stale-when false h = refl
-stale-when true h = cc
 
 -- the meter where a result holds still: so many keys more
 pub held-meter : (old new : Meter) (keys asked : ℕ) → new ≡ record old { compared = compared_after old.compared keys } → keys ≡ asked → new ≡ record old { compared = compared_after old.compared asked }

@@ -1,6 +1,8 @@
 pub mod AddedLemmas
 pub mod AskedLemmas
 pub mod BankLemmas
+pub mod BatchLemmas
+pub mod CauseLemmas
 pub mod DetailLemmas
 pub mod EditLemmas
 pub mod FileLemmas
@@ -8,6 +10,7 @@ pub mod FormLemmas
 pub mod KeptLemmas
 pub mod LimitLemmas
 pub mod MetLemmas
+pub mod RefiledLemmas
 pub mod RenewedLemmas
 pub mod RootLemmas
 pub mod StoreLemmas

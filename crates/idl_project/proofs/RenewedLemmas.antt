@@ -1,6 +1,6 @@
 -- What becomes of a root, beside those before it.
-use Rattle.std.proofs.Common.{◌≡◌, ◌⊎◌, ◌∙◌, ℕ, ◌+◌, ◌<◌, Bool, true, false, All, Contains, List, [], ◌∷◌, ◌++◌, Option, inl, inr, arith, if◌then◌else◌, length, map, refl, sym, ap, subst}
-use Rattle.std.proofs.lemmas.List.Elements.{All-append, All-contains_itself, All-weaker, Contains-append_left}
+use Rattle.std.proofs.Common.{◌≡◌, ◌⊎◌, ◌∙◌, ℕ, ◌+◌, Bool, true, false, All, Contains, List, [], ◌∷◌, ◌++◌, Option, inl, inr, arith, if◌then◌else◌, length, refl, sym, ap, subst}
+use Rattle.std.proofs.lemmas.List.Elements.{All-weaker, Contains-append_left}
 use Rattle.std.specs.List.{flat_map, list_any}
 use Rattle.std.specs.Option.{option_eq}
 use Rattle.std.specs.Str.{bytes_eq}
@@ -19,9 +19,8 @@ use Rattle.idl_root.specs.declared.kept.keeper.Keeper.{Keeper}
 use Rattle.idl_root_blocks.specs.Blocks.{Pieces}
 use Rattle.idl_root_blocks.specs.Met.{Known}
 use Rattle.idl_root_blocks.specs.Places.{DeclarationPlace, block_result, blocks_over, declaration_result}
-use Rattle.idl_store.specs.Stored.{results_in}
 use Rattle.idl_project.specs.Compared.{KnownTasks, compared_in, met_at, tasks_of, with_tasks}
-use Rattle.idl_project.specs.Renewed.{IsDrafted, IsExpanded, IsHeld, IsLeft, IsRenewedAt}
+use Rattle.idl_project.specs.Renewed.{IsDrafted, IsHeld, IsLeft, IsRenewedAt}
 use Rattle.idl_project.specs.Tasks.{alike_root, answer_eq, begin_list, blocks_at, declarations_at, entries_at}
 use Rattle.idl_project.proofs.MetLemmas.{compared-held, compared-stale}
 use Rattle.idl_project.proofs.StoreLemmas.{IsPlacing, IsUnderWay, places-among, placing-left, placing-made, uncounted, way-known, way-left, way-made, way-same}

@@ -3,13 +3,13 @@ use Rattle.std.proofs.Common.{◌≡◌, ℕ, Bool, true, false, cond, ◌||◌,
 use Rattle.std.proofs.lemmas.Bool.{le-ltb, true≢false}
 use Rattle.std.proofs.lemmas.Map.Keys.{IsDistinct-head, IsDistinct-tail}
 use Rattle.std.proofs.lemmas.Map.Made.{is_some-lookup}
-use Rattle.std.proofs.lemmas.List.{append-nil, length-map, map-append}
+use Rattle.std.proofs.lemmas.List.{length-map, map-append}
 use Rattle.std.proofs.lemmas.List.Elements.{All-cons, All-head, All-nil, All-tail, All-push, All-contains_itself}
 use Rattle.std.specs.List.{list_any, AllByRecursion, IsDistinct}
 use Rattle.std.specs.Prelude.{nat_lt, slice_set}
 use Rattle.std.specs.Map.{lookup, keys_of, remove_entry}
 use Rattle.std.specs.Option.{option_map}
-use Rattle.std.proofs.lemmas.Map.Views.{All-map-remove_entry, list_any-from_Contains}
+use Rattle.std.proofs.lemmas.Map.Views.{All-map-remove_entry}
 use Rattle.std.specs.Str.{bytes_eq}
 use Rattle.std.specs.Cmp.Lexicographic.{bytes_decides, nat_list_eq_equiv}
 use Rattle.idl_event.specs.Key.{key_eq}
@@ -165,32 +165,48 @@ AreKept-remove bank held test are =
 pub remaining-there : (held : List (List ℕ × KeptRoot)) (test : List ℕ → Bool) → All (Contains (keys_of held)) (keys_of (remove_entry test held))
 remaining-there held test = All-map-remove_entry test (λ (e : List ℕ × KeptRoot). e.0) (Contains (keys_of held)) held (All-contains_itself (keys_of held))
 
--- After an edit that changes one answer: the same roots, with what is kept of them over the changed answers.
+-- After an edit: the same roots, with what is kept of them over the answers of the new inputs.
+pub IsUpToDate-renewed : (now new : Inputs) (held : List (List ℕ × KeptRoot)) (renewed : List (List ℕ × KeptRoot) × Work × List (List ℕ)) (made keeper : Keeper) (after : RootKey → Option RootAnswer)
+    → IsRenewed (project_held now held) after made renewed → keeper.texts ≡ committed_texts made.texts → keeper.entries ≡ committed made.entries
+    → after ≡ bank_of new → IsWellFormed (record { inputs = new; roots = keys_of renewed.0 }) → IsUpToDate new renewed.0 keeper
+IsUpToDate-renewed now new held renewed made keeper after again texts entries banks formed = record {
+  formed = formed;
+  kept = subst (λ (bank : RootKey → Option RootAnswer). AreKept bank renewed.0) banks again.kept;
+  texts = texts ∙ again.texts ∙ (λ i. kept_texts (banks i) (sym again.roots i));
+  entries = entries ∙ again.entries ∙ (λ i. kept_entries (banks i) (sym again.roots i));
+}
+
+-- and the work is that between the two projects, as the roots are that were expanded anew
+pub work-renewed : (state : State) (now new : Inputs) (held : List (List ℕ × KeptRoot)) (renewed : List (List ℕ × KeptRoot) × Work × List (List ℕ)) (made : Keeper) (after : RootKey → Option RootAnswer)
+    (work : Work) (touched : List (List ℕ))
+    → record { project = record { inputs = now; roots = keys_of held }; work = work; touched = touched } ≡ state
+    → IsRenewed (project_held now held) after made renewed → after ≡ bank_of new
+    → (renewed.1 ≡ work_of state.project (record { inputs = new; roots = keys_of renewed.0 })) × (renewed.2 ≡ touched_of state.project (record { inputs = new; roots = keys_of renewed.0 }))
+work-renewed state now new held renewed made after work touched is again banks = (
+  again.work ∙ (λ i. work_between (bank_of now) (keys_of held) (banks i) (sym again.roots i))
+      ∙ ap (λ (s : State). work_of s.project (record { inputs = new; roots = keys_of renewed.0 })) is,
+  again.touched ∙ (λ i. touched_between (bank_of now) (keys_of held) (banks i) (sym again.roots i))
+      ∙ ap (λ (s : State). touched_of s.project (record { inputs = new; roots = keys_of renewed.0 })) is,
+)
+
+-- the same after an edit that changes one answer
+banks-edited : (now new : Inputs) (asked at : RootKey) (given answer : Option RootAnswer) → asked ≡ at → given ≡ answer → bank_of new ≡ changed key_eq (bank_of now) at answer
+    → changed key_eq (bank_of now) asked given ≡ bank_of new
+banks-edited now new asked at given answer asks gives changes =
+    ap (λ (k : RootKey). changed key_eq (bank_of now) k given) asks ∙ ap (changed key_eq (bank_of now) at) gives ∙ sym changes
+
 pub IsUpToDate-edited : (now new : Inputs) (held : List (List ℕ × KeptRoot)) (renewed : List (List ℕ × KeptRoot) × Work × List (List ℕ)) (made keeper : Keeper) (asked at : RootKey) (given answer : Option RootAnswer)
-    → IsRenewed (project_held now held) asked given made renewed → keeper.texts ≡ committed_texts made.texts → keeper.entries ≡ committed made.entries
+    → IsRenewed (project_held now held) (changed key_eq (bank_of now) asked given) made renewed → keeper.texts ≡ committed_texts made.texts → keeper.entries ≡ committed made.entries
     → asked ≡ at → given ≡ answer → bank_of new ≡ changed key_eq (bank_of now) at answer
     → IsWellFormed (record { inputs = new; roots = keys_of renewed.0 }) → IsUpToDate new renewed.0 keeper
 IsUpToDate-edited now new held renewed made keeper asked at given answer again texts entries asks gives changes formed =
-    let banks = ap (λ (k : RootKey). changed key_eq (bank_of now) k given) asks ∙ ap (changed key_eq (bank_of now) at) gives ∙ sym changes in
-    record {
-      formed = formed;
-      kept = subst (λ (bank : RootKey → Option RootAnswer). AreKept bank renewed.0) banks again.kept;
-      texts = texts ∙ again.texts ∙ (λ i. kept_texts (banks i) (sym again.roots i));
-      entries = entries ∙ again.entries ∙ (λ i. kept_entries (banks i) (sym again.roots i));
-    }
+    IsUpToDate-renewed now new held renewed made keeper (changed key_eq (bank_of now) asked given) again texts entries (banks-edited now new asked at given answer asks gives changes) formed
 
--- and the work is that between the two projects, as the roots are that were expanded anew
 pub work-edited : (state : State) (now new : Inputs) (held : List (List ℕ × KeptRoot)) (renewed : List (List ℕ × KeptRoot) × Work × List (List ℕ)) (made : Keeper) (asked at : RootKey) (given answer : Option RootAnswer)
     (work : Work) (touched : List (List ℕ))
     → record { project = record { inputs = now; roots = keys_of held }; work = work; touched = touched } ≡ state
-    → IsRenewed (project_held now held) asked given made renewed
+    → IsRenewed (project_held now held) (changed key_eq (bank_of now) asked given) made renewed
     → asked ≡ at → given ≡ answer → bank_of new ≡ changed key_eq (bank_of now) at answer
     → (renewed.1 ≡ work_of state.project (record { inputs = new; roots = keys_of renewed.0 })) × (renewed.2 ≡ touched_of state.project (record { inputs = new; roots = keys_of renewed.0 }))
 work-edited state now new held renewed made asked at given answer work touched is again asks gives changes =
-    let banks : changed key_eq (bank_of now) asked given ≡ bank_of new =
-    ap (λ (k : RootKey). changed key_eq (bank_of now) k given) asks ∙ ap (changed key_eq (bank_of now) at) gives ∙ sym changes in (
-      again.work ∙ (λ i. work_between (bank_of now) (keys_of held) (banks i) (sym again.roots i))
-          ∙ ap (λ (s : State). work_of s.project (record { inputs = new; roots = keys_of renewed.0 })) is,
-      again.touched ∙ (λ i. touched_between (bank_of now) (keys_of held) (banks i) (sym again.roots i))
-          ∙ ap (λ (s : State). touched_of s.project (record { inputs = new; roots = keys_of renewed.0 })) is,
-    )
+    work-renewed state now new held renewed made (changed key_eq (bank_of now) asked given) work touched is again (banks-edited now new asked at given answer asks gives changes)

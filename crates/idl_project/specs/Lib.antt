@@ -1,5 +1,6 @@
 pub mod Asked
 pub mod Bank
+pub mod Batch
 pub mod Columns
 pub mod Compared
 pub mod Compile
@@ -8,6 +9,8 @@ pub mod Edited
 pub mod Edits
 pub mod Made
 pub mod Project
+pub mod Refiled
+pub mod Related
 pub mod Renewed
 pub mod Tasks
 pub mod UpToDate

@@ -10,7 +10,7 @@ use Rattle.idl_memo.specs.declared.meter.Meter.{Meter}
 use Rattle.idl_prep.specs.Root.{expanded}
 use Rattle.idl_root.specs.AsBefore.{IsAsBefore, IsMade}
 use Rattle.idl_root.specs.declared.kept.keeper.Keeper.{Keeper}
-use Rattle.idl_project.specs.Bank.{bank_of, bank_with}
+use Rattle.idl_project.specs.Bank.{bank_of}
 use Rattle.idl_project.specs.Project.{Inputs, Project}
 use Rattle.idl_project.specs.Tasks.{alike_root, kept_entries, kept_texts}
 use Rattle.idl_project.specs.UpToDate.{AreKept, IsKept}
@@ -67,20 +67,15 @@ pub record IsAdded (inputs : Inputs) (root : List ℕ) (old new : List (List ℕ
   pub is_kept : IsKept (bank_of inputs) (root, kept)
   pub last : new ≡ old ++ (root, kept) ∷ []
 
--- the same roots, with what is kept of them once this key has another answer, the work of that, and
--- those of them that were expanded anew; what is kept of their tasks then comes of the keeper once
--- its drafts are in place
-pub record IsRenewed (project : Project) (key : RootKey) (answer : Option RootAnswer)
-    (keeper : Keeper) (renewed : List (List ℕ × KeptRoot) × Work × List (List ℕ)) : Type 0 where
+-- the same roots, with what is kept of them over these answers in place of the project's, the work of
+-- that, and those of them that were expanded anew; what is kept of their tasks then comes of the
+-- keeper once its drafts are in place
+pub record IsRenewed (project : Project) (after : RootKey → Option RootAnswer) (keeper : Keeper)
+    (renewed : List (List ℕ × KeptRoot) × Work × List (List ℕ)) : Type 0 where
   pub roots : keys_of renewed.0 ≡ project.roots
-  pub kept : AreKept (bank_with project.inputs key answer) renewed.0
-  pub texts : committed_texts keeper.texts
-      ≡ kept_texts (bank_with project.inputs key answer) project.roots
-  pub entries : committed keeper.entries
-      ≡ kept_entries (bank_with project.inputs key answer) project.roots
-  pub work : renewed.1
-      ≡ work_between (bank_of project.inputs) project.roots (bank_with project.inputs key answer)
-      project.roots
+  pub kept : AreKept after renewed.0
+  pub texts : committed_texts keeper.texts ≡ kept_texts after project.roots
+  pub entries : committed keeper.entries ≡ kept_entries after project.roots
+  pub work : renewed.1 ≡ work_between (bank_of project.inputs) project.roots after project.roots
   pub touched : renewed.2
-      ≡ touched_between (bank_of project.inputs) project.roots
-      (bank_with project.inputs key answer) project.roots
+      ≡ touched_between (bank_of project.inputs) project.roots after project.roots

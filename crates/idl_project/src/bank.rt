@@ -1,15 +1,16 @@
 //! The bank of a session: what its roots are answered.
 
-ghost use Rattle.std.specs.Prelude.{◌≡◌, ◌||◌, ◌&&◌, [], ◌∷◌, IfOk, OnOk, OnErr, Some, None, length, nat_le, not, map, slice_get};
+ghost use Rattle.std.specs.Prelude.{◌≡◌, ◌<◌, ◌≤◌, ◌+◌, ◌||◌, ◌&&◌, [], ◌∷◌, ℕ, List, IfOk, OnOk, OnErr, Some, None, length, nat_le, not, map, slice_get};
 ghost use Rattle.std.specs.Map.{lookup, remove_entry};
-ghost use Rattle.std.specs.Option.{option_copied, option_map};
+ghost use Rattle.std.specs.Option.{option_copied, option_map, unwrap_or};
 ghost use Rattle.std.specs.Result.{result_err};
 ghost use Rattle.std.specs.FinMap as finite;
 ghost use Rattle.std.specs.Str.{bytes_eq};
-ghost use Rattle.indexmap.specs.IndexMap.{insert_entry};
+ghost use Rattle.indexmap.specs.IndexMap.{Updates, insert_entry, spare};
 ghost use Rattle.idl_event.specs.declared.asked.key.RootAnswer.TheVariants as answers;
 ghost use Rattle.idl_event.specs.declared.asked.key.RootKey.TheVariants as keys;
-ghost use Rattle.idl_project.specs.Bank.{IsSameBeside, bank_of, bank_with};
+ghost use Rattle.idl_project.specs.Bank.{bank_of, bank_with};
+ghost use Rattle.idl_project.specs.Refiled.{AreRefiled, files_after};
 ghost use Rattle.idl_project.specs.Columns.{column_at};
 ghost use Rattle.idl_project.specs.Edits.{macros_with};
 ghost use Rattle.idl_prep.specs.Candidate.{AnswersFrom};
@@ -17,6 +18,7 @@ ghost use Rattle.idl_prep.specs.Include.{directories_in};
 ghost use Rattle.idl_source.specs.Limits.{most_macros};
 ghost use Rattle.idl_project.specs.Project.{Inputs, is_defined, no_inputs};
 
+use crate::edited_files::EditedFiles;
 use crate::limits::{MAX_BODY, MAX_MACROS};
 use crate::macro_body::MacroBody;
 use crate::no_step::NoStep;
@@ -170,32 +172,21 @@ impl SessionBank {
         Ok(Some(RootAnswer::File(text)))
     }
 
-    /// Puts other files in place, of which the one of this name alone may be another, with the answer about it.
-    pub fn set_files(
-        &mut self,
-        name: FileName,
-        files: Files,
-        answer: Option<RootAnswer>,
-    ) -> Result<(), AllocError>
-        requires beside { IsSameBeside name self.old.files files }
-        requires answers { answer ≡ option_map answers.File (finite.get files name) }
-        ensures ok { OnOk result (self.new ≡ record self.old { files = files }) }
-        ensures bank { OnOk result
-            (bank_of self.new ≡ bank_with self.old (keys.File name) answer) }
+    /// Puts edited files in place, with the answers about them.
+    pub fn refile(&mut self, edited: EditedFiles) -> Result<(), AllocError>
+        requires { AreRefiled self.old edited }
+        ensures ok { let files = files_after self.old.files edited in
+            OnOk result (self.new ≡ record self.old { files = files }) }
         ensures err { OnErr result (self.new ≡ self.old) }
     {
-        match answer {
-            Some(answer) => {
-                self.texts.insert(name, answer)?;
+        let (files, answers) = edited.into_parts();
+        put_all(&mut self.texts, answers)?;
+        match files {
+            Some(files) => {
                 self.files = files;
                 Ok(())
             }
-            None => {
-                self.texts.swap_remove(&name);
-                self.texts.shrink_to_fit();
-                self.files = files;
-                Ok(())
-            }
+            None => Ok(()),
         }
     }
 
@@ -276,5 +267,52 @@ fn file_in(answer: Option<&RootAnswer>) -> Option<&LexedFile> {
     match answer? {
         RootAnswer::File(text) => Some(text),
         RootAnswer::Macro(_) | RootAnswer::Search(_) => None,
+    }
+}
+
+// Puts in these answers of files, and takes out files that have none.
+fn put_all(
+    texts: &mut IndexMap<FileName, RootAnswer>,
+    answers: IndexMap<FileName, Option<RootAnswer>>,
+) -> Result<(), AllocError>
+    ensures ok { OnOk result ((name : List ℕ) → lookup (bytes_eq name) texts.new.entries
+        ≡ unwrap_or (lookup (bytes_eq name) answers.entries)
+        (lookup (bytes_eq name) texts.old.entries)) }
+    ensures err { OnErr result (texts.new.entries ≡ texts.old.entries) }
+{
+    let before = texts.len();
+    let mut left = answers;
+    texts.reserve(left.len())?;
+    for _done in 0..left.len() {
+        // There are so many.
+        let (name, answer) = left.pop().unwrap();
+        put_one(texts, name, answer);
+    }
+    give_back(texts, before);
+    Ok(())
+}
+
+// Gives back what memory it can, where there are fewer texts than before.
+fn give_back(texts: &mut IndexMap<FileName, RootAnswer>, before: usize)
+    ensures { texts.new.entries ≡ texts.old.entries }
+{
+    if texts.len() < before {
+        texts.shrink_to_fit();
+    }
+}
+
+// Puts in the answer of a file, for which there is room, or takes the file out.
+fn put_one(texts: &mut IndexMap<FileName, RootAnswer>, name: FileName, answer: Option<RootAnswer>)
+    requires { 0 < spare texts.old }
+    ensures updates { Updates bytes_eq texts.old texts.new name answer }
+    ensures room { spare texts.old ≤ spare texts.new + 1 }
+{
+    match answer {
+        Some(answer) => {
+            texts.insert(name, answer).unwrap();
+        }
+        None => {
+            texts.swap_remove(&name);
+        }
     }
 }

@@ -1,31 +1,41 @@
 //! What is kept of a root.
 
-ghost use Rattle.std.specs.Prelude.{◌≡◌, ◌⊎◌, ◌+◌, ◌<◌, IfNone, IfOk, IfSome, List, OnOk, length};
+ghost use Rattle.std.specs.Prelude.{◌≡◌, ◌⊎◌, ◌+◌, ◌<◌, IfNone, IfOk, IfSome, IsTrue, List, OnOk, Option, length};
+ghost use Rattle.std.specs.List.{list_any};
 ghost use Rattle.std.specs.Option.{option_copied, unwrap_or};
 ghost use Rattle.idl_event.specs.declared.told.event.Event.{Event};
-ghost use Rattle.idl_memo.specs.Cause.{IsCause};
+ghost use Rattle.idl_event.specs.Key.{key_eq};
+ghost use Rattle.idl_event.specs.declared.asked.key.RootAnswer.{RootAnswer};
+ghost use Rattle.idl_event.specs.declared.asked.key.RootKey.{RootKey};
+ghost use Rattle.idl_memo.specs.Kept.{HoldsOver};
 ghost use Rattle.idl_memo.specs.Meter.{most_compared};
-ghost use Rattle.idl_prep.specs.Root.{expanded};
+ghost use Rattle.idl_related.specs.Related.{AreRelated};
+ghost use Rattle.idl_memo.specs.Query.{is_logged};
+ghost use Rattle.idl_prep.specs.Root.{expanded, expansion};
 ghost use Rattle.idl_root.specs.AsBefore.{AreListsLeft, IsAsBefore, IsCompiledOf, kept_lists};
 ghost use Rattle.idl_root.specs.Details.{details};
 ghost use Rattle.idl_root.specs.Results.{IsKeptOf, nothing_kept};
 ghost use Rattle.idl_project.specs.Asked.{asked_files};
 ghost use Rattle.idl_project.specs.Bank.{bank_of, bank_with};
+ghost use Rattle.idl_project.specs.Refiled.{AreCauses};
 ghost use Rattle.idl_project.specs.Renewed.{IsDrafted, IsRenewedAt};
-ghost use Rattle.idl_project.specs.Tasks.{root_lists};
+ghost use Rattle.idl_project.specs.Tasks.{alike_root, root_lists};
 ghost use Rattle.idl_project.specs.UpToDate.{IsKept};
 
 use crate::asked::asked;
 use crate::bank::SessionBank;
 use crate::compile::{CompiledAgain, CompiledRoot, KeptExpansion, KeptTask, compile_kept};
 use crate::no_step::NoStep;
+use idl_base::Seq;
 use idl_event::{RootBank, RootKey};
-use idl_memo::{Edited, Meter, run_anew};
+use idl_memo::{Edited, Meter, freshness, reliance, run_anew};
 use idl_prep::RootTask;
-use idl_root::{Compiled, Details, Keeper, Marks};
+use idl_related::Related;
+use idl_root::{Compiled, Details, Finding, Keeper, Marks};
 use idl_source::Name;
 use std::alloc::{AllocError, Global};
 use std::rc::Rc;
+use std::slice::from_ref;
 
 /// What is kept of a root: the result of its task, what the root compiles to, and what its units are. The results of its
 /// declarations, blocks and entries are a keeper's, at the root's place among all.
@@ -45,11 +55,26 @@ impl Drop for KeptRoot {
     }
 }
 
-/// An edit of what roots are answered, and its cause, if it has one: the key that has another answer than before.
+/// What roots are answered from now on, in place of what they were, and the causes of all that holds no longer: the keys that have
+/// other answers than before.
 #[derive(Clone, Copy)]
-pub struct Change<'a> {
-    pub edited: &'a Edited<'a, SessionBank>,
-    pub cause: Option<&'a RootKey>,
+pub struct Change<'a, B> {
+    pub base: &'a SessionBank,
+    pub bank: &'a B,
+    pub causes: &'a [RootKey],
+}
+
+/// The key of an edit, if its answer is another one: the only cause there is.
+pub fn causes_by<'a>(edited: &Edited<'a, SessionBank>) -> &'a [RootKey]
+    ensures { let before = bank_of edited.now.base.now in
+        let after = bank_with edited.now.base.now edited.now.key.now
+        (option_copied edited.now.answer) in
+        AreCauses before after result.now }
+{
+    match edited.cause() {
+        Some(key) => from_ref(key),
+        None => &[],
+    }
 }
 
 // A root of this name, which stands at this place among all: what its units were and what they came to when it was compiled last, if
@@ -92,51 +117,73 @@ impl KeptRoot {
         Ok(expanded(keeper, root, bank, meter)?)
     }
 
-    /// What is kept of the root at this place after an edit of the bank: the same where its result holds still, and else what
-    /// comes of the root anew.
+    /// What is kept of the root that stands at this place, of which this is kept, after an edit of the bank: the same where its result
+    /// holds still, and else what comes of the root anew.
     ///
     /// After want of memory nothing is said of the meter, and there may be drafts more.
-    pub fn renewed(
-        &self,
+    pub fn renewed<B: RootBank<Head = (), Step = NoStep>>(
         keeper: &mut Keeper,
-        at: usize,
-        change: Change<'_>,
+        root: (usize, &KeptRoot),
+        change: &Change<'_, B>,
         meter: &mut Meter,
     ) -> Result<KeptRoot, AllocError>
-        requires kept { let before = bank_of change.edited.now.base.now in
-            IsKept before (self.now.result.value.text, self.now) }
-        requires lists { let before = bank_of change.edited.now.base.now in
-            kept_lists keeper.old at ≡ root_lists before self.now.result.value.text }
-        requires cause { let edited = change.edited.now in
-            let after = bank_with edited.base.now edited.key.now (option_copied edited.answer) in
-            IsCause (bank_of edited.base.now) after (option_copied change.cause) }
+        requires kept { let before = bank_of change.now.base.now in
+            IsKept before (root.1.now.result.value.text, root.1.now) }
+        requires lists { let before = bank_of change.now.base.now in
+            kept_lists keeper.old root.0 ≡ root_lists before root.1.now.result.value.text }
+        requires causes { let before = bank_of change.now.base.now in
+            AreCauses before (B.at change.now.bank.now) change.now.causes.now }
         requires room { meter.old.expanded < most_compared }
-        ensures kept { let edited = change.entry.edited.now in
-            let after = bank_with edited.base.now edited.key.now (option_copied edited.answer) in
-            IfOk result (λ kept. IsKept after (self.now.result.value.text, kept)) }
-        ensures renewed { let edited = change.entry.edited.now in
-            let before = bank_of edited.base.now in
-            let after = bank_with edited.base.now edited.key.now (option_copied edited.answer) in
-            OnOk result (IsRenewedAt before after at self.now.result.value.text keeper.old keeper.new
+        ensures kept { let after = B.at change.now.bank.now in
+            IfOk result (λ kept. IsKept after (root.entry.1.now.result.value.text, kept)) }
+        ensures renewed { let before = bank_of change.now.base.now in
+            let after = B.at change.now.bank.now in
+            let name = root.entry.1.now.result.value.text in
+            OnOk result (IsRenewedAt before after root.entry.0 name keeper.old keeper.new
             meter.old meter.new) }
         ensures lists { AreListsLeft keeper.old keeper.new }
     {
-        // What is looked at is told by no count: the keys of a result that holds are.
-        if self.result.holds_after(change.cause, &mut Meter::new()) {
-            meter.compared = meter.compared.saturating_add(self.key_count() as u64);
+        let (at, kept) = root;
+        if kept.outlasts(change.causes) {
+            meter.compared = meter.compared.saturating_add(kept.key_count() as u64);
             return Ok(KeptRoot {
-                result: self.result.clone()?,
-                compiled: self.compiled.clone()?,
-                marks: self.marks.clone()?,
+                result: kept.result.clone()?,
+                compiled: kept.compiled.clone()?,
+                marks: kept.marks.clone()?,
             });
         }
         let root = Standing {
             at,
-            name: self.result.text().copied(),
-            marks: &self.marks,
-            compiled: Some(&self.compiled.rows),
+            name: kept.result.text().copied(),
+            marks: &kept.marks,
+            compiled: Some(&kept.compiled.rows),
         };
-        Ok(expanded(keeper, root, change.edited, meter)?)
+        Ok(expanded(keeper, root, change.bank, meter)?)
+    }
+
+    // Whether the root's own task is alike over other answers too, with these causes: it asked for none of them.
+    fn outlasts(&self, causes: &[RootKey]) -> bool
+        ensures over { (before after : RootKey → Option RootAnswer)
+            → AreCauses before after causes.now
+            → IsKept before (self.now.result.value.text, self.now)
+            → IsTrue result → HoldsOver key_eq expansion after self.now.result.value }
+        ensures alike { (before after : RootKey → Option RootAnswer)
+            → AreCauses before after causes.now
+            → IsKept before (self.now.result.value.text, self.now)
+            → alike_root (self.now.result.value.text, after) (self.now.result.value.text, before)
+            ≡ result }
+    {
+        freshness::<SessionBank, RootTask>();
+        reliance::<SessionBank, RootTask>();
+        !self.asks_one_of(causes)
+    }
+
+    // Whether the root's own task asked for one of these.
+    fn asks_one_of(&self, keys: &[RootKey]) -> bool
+        ensures { result ≡ list_any (is_logged key_eq self.now.result.value.log) keys.now }
+    {
+        let log = self.result.log();
+        keys.iter().any(|key| log.contains(key))
     }
 
     /// What the root compiles to.
@@ -158,6 +205,17 @@ impl KeptRoot {
         ensures { IfOk result (λ d. d ≡ details self.now.result.value.out) }
     {
         idl_root::details_of(alloc, self.result.out())
+    }
+
+    /// For each of these findings of the root, in order, its second places.
+    pub fn related(
+        &self,
+        alloc: Global,
+        findings: &[Finding],
+    ) -> Result<Seq<Seq<Related>>, AllocError>
+        ensures { IfOk result (AreRelated self.now.result.value.out findings.now) }
+    {
+        idl_related::related_of(alloc, self.result.out(), findings)
     }
 
     /// How many keys the root asked.

@@ -9,10 +9,14 @@ mod bank;
 mod compile;
 mod detailed;
 mod directories;
+mod edited_files;
+mod file_edit;
 mod kept_root;
 mod limits;
 mod macro_body;
 mod no_step;
+mod refiled;
+mod related;
 mod root_table;
 mod session;
 mod sources;
@@ -22,6 +26,8 @@ mod work;
 pub use bank::answers_come_from_inputs;
 pub use compile::{CompiledRoot, diagnostics_are_findings};
 pub use detailed::listing_is_details;
+pub use file_edit::FileEdit;
+pub use idl_related::{Reason, Related, follows};
 pub use idl_root::{
     Compiled, DeclaredPlace, DetailedEntry, Details, Finding, Row, SitedToken, UsedName,
 };

@@ -2,6 +2,7 @@
 
 ghost use Rattle.std.specs.Prelude.{◌≡◌, ◌+◌, ◌<◌, ◌∷◌, ◌++◌, [], false, IfOk, OnOk, OnErr, is_some, length, nat_le, slice_get};
 ghost use Rattle.idl_project.specs.Bank.{bank_of};
+ghost use Rattle.idl_project.specs.Refiled.{AreCauses};
 ghost use Rattle.idl_root.specs.AsBefore.{AreListsLeft};
 ghost use Rattle.idl_project.specs.Renewed.{IsAdded, IsKeeperLeft, IsDrafted, IsRenewed};
 ghost use Rattle.idl_project.specs.Tasks.{kept_entries, kept_texts};
@@ -17,9 +18,11 @@ use crate::bank::SessionBank;
 use crate::compile::CompiledRoot;
 use crate::kept_root::{Change, KeptRoot};
 use crate::limits::MAX_ROOTS;
+use crate::no_step::NoStep;
 use crate::work::Work;
 use idl_base::Seq;
-use idl_memo::{Edited, Meter, one_bank};
+use idl_event::RootBank;
+use idl_memo::{Meter, one_bank};
 use idl_prep::RootTask;
 use idl_root::{Keeper, comparing, fresh_tasks};
 use idl_source::Name;
@@ -154,23 +157,24 @@ impl RootTable {
         self.roots.shrink_to_fit();
     }
 
-    /// The same roots after an edit of the bank, each with what is kept of it, the work of that, and which were expanded anew: one
-    /// look-up for each, and those that asked for what has changed are expanded and compiled anew.
+    /// The same roots after a change of what they are answered, each with what is kept of it, the work of that, and which were expanded
+    /// anew: each cause is looked up in each, and those that asked for one are expanded and compiled anew, once.
     ///
     /// What is made of these waits in the keeper to be put in place. Want of memory leaves it as it was.
-    pub fn renewed<'a>(
+    pub fn renewed<B: RootBank<Head = (), Step = NoStep>>(
         &self,
         keeper: &mut Keeper,
-        edited: &Edited<'a, SessionBank>,
+        change: &Change<'_, B>,
     ) -> Result<(RootTable, Work, Seq<Name>), AllocError>
-        requires { IsUpToDate edited.now.base.now self.now keeper.old }
-        ensures renewed { let project = project_held edited.now.base.now self.now in
-            let answer = option_copied edited.now.answer in
-            IfOk result (IsRenewed project edited.now.key.now answer keeper.new) }
+        requires held { IsUpToDate change.now.base.now self.now keeper.old }
+        requires causes { let before = bank_of change.now.base.now in
+            AreCauses before (B.at change.now.bank.now) change.now.causes.now }
+        ensures renewed { let project = project_held change.now.base.now self.now in
+            IfOk result (IsRenewed project (B.at change.now.bank.now) keeper.new) }
         ensures lists { AreListsLeft keeper.old keeper.new }
         ensures err { OnErr result (IsKeeperLeft keeper.old keeper.new) }
     {
-        match self.all_renewed(keeper, edited) {
+        match self.all_renewed(keeper, change) {
             Ok(renewed) => Ok(renewed),
             Err(refusal) => {
                 keeper.discard();
@@ -180,15 +184,16 @@ impl RootTable {
     }
 
     // The same. Where memory is refused there may be drafts more.
-    fn all_renewed<'a>(
+    fn all_renewed<B: RootBank<Head = (), Step = NoStep>>(
         &self,
         keeper: &mut Keeper,
-        edited: &Edited<'a, SessionBank>,
+        change: &Change<'_, B>,
     ) -> Result<(RootTable, Work, Seq<Name>), AllocError>
-        requires { IsUpToDate edited.now.base.now self.now keeper.old }
-        ensures renewed { let project = project_held edited.now.base.now self.now in
-            let answer = option_copied edited.now.answer in
-            IfOk result (IsRenewed project edited.now.key.now answer keeper.new) }
+        requires held { IsUpToDate change.now.base.now self.now keeper.old }
+        requires causes { let before = bank_of change.now.base.now in
+            AreCauses before (B.at change.now.bank.now) change.now.causes.now }
+        ensures renewed { let project = project_held change.now.base.now self.now in
+            IfOk result (IsRenewed project (B.at change.now.bank.now) keeper.new) }
         ensures lists { AreListsLeft keeper.old keeper.new }
     {
         one_bank::<SessionBank, RootTask>();
@@ -196,13 +201,11 @@ impl RootTable {
         comparing();
         let _room = self.roots.len();
         let mut meter = Meter::new();
-        let cause = edited.cause();
-        let change = Change { edited, cause };
         let mut table = RootTable::new(keeper.alloc());
         let mut touched = Seq::new(keeper.alloc());
         for (root, kept) in self.roots.iter() {
             let expanded = meter.expanded;
-            let next = kept.renewed(keeper, table.len(), change, &mut meter)?;
+            let next = KeptRoot::renewed(keeper, (table.len(), kept), change, &mut meter)?;
             note_touched(&mut touched, root, expanded, meter.expanded)?;
             table.add(root.copied(), next)?;
         }

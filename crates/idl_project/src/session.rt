@@ -1,49 +1,50 @@
 //! The session: its edits, and its queries.
 
-ghost use Rattle.std.specs.Prelude.{◌≡◌, ℕ, All, List, [], true, Ok, Err, IfOk, IfNone, IfSome, IsTrue, map, slice_get};
+mod file_edits;
+
+ghost use Rattle.std.specs.Prelude.{◌≡◌, ℕ, All, List, [], true, Ok, Err, IfOk, IfNone, IfSome, map, slice_get};
 ghost use Rattle.std.specs.FinMap as finite;
 ghost use Rattle.std.specs.Map.{lookup};
 ghost use Rattle.std.specs.Option.{option_copied, option_map};
 ghost use Rattle.std.specs.Str.{bytes_eq};
-ghost use Rattle.idl_source.specs.names.Name.{is_name};
 ghost use Rattle.idl_event.specs.declared.asked.key.RootKey.TheVariants as keys;
 ghost use Rattle.idl_project.specs.Asked.{asked_files, asked_of};
 ghost use Rattle.idl_prep.specs.Root.{expanded};
 ghost use Rattle.idl_root.specs.Details.{details};
 ghost use Rattle.idl_root.specs.Turns.{IsWithinTurns};
-ghost use Rattle.idl_project.specs.Bank.{IsSameBeside, bank_of};
+ghost use Rattle.idl_project.specs.Bank.{bank_of};
 ghost use Rattle.idl_project.specs.Columns.{column_of};
-ghost use Rattle.idl_project.specs.Details.{details_of};
-ghost use Rattle.idl_project.specs.Project.{no_project, with_files};
+ghost use Rattle.idl_project.specs.Details.{details_of, expansion_of};
+ghost use Rattle.idl_project.specs.Project.{no_project};
 ghost use Rattle.idl_project.specs.Work.{no_work};
-ghost use Rattle.idl_project.specs.Edited.{IsEdited, takes_memory};
-ghost use Rattle.idl_project.specs.Edits.{Edit, Put, Splice, Remove, Define, Undef, Search, AddRoot, DropRoot, after, are_too_long};
+ghost use Rattle.idl_project.specs.Edited.{IsEdited};
+ghost use Rattle.idl_project.specs.Edits.{Put, Splice, Define, Undef, Search, AddRoot, DropRoot, after, are_too_long};
 ghost use Rattle.idl_project.specs.UpToDate.{compiled_of, diagnostics_of, findings_of, listing_of, dump_of, is_faulty_of, absent_of};
 ghost use Rattle.idl_project.specs.WellFormed.{IsWellFormed};
 
 use crate::bank::SessionBank;
 use crate::compile::CompiledRoot;
 use crate::directories::directories;
-use crate::kept_root::KeptRoot;
+use crate::kept_root::{Change, KeptRoot, causes_by};
 use crate::macro_body::MacroBody;
 use crate::root_table::RootTable;
 use crate::word::spelled;
 use crate::work::Work;
 use idl_base::{Bytes, Seq};
 use idl_event::{RootAnswer, RootKey};
-use idl_fault::{FileName, Place};
+use idl_fault::Place;
 use idl_macro::is_macro_word;
 use idl_memo::{Edited, Meter, freshness, one_bank};
 use idl_prep::RootTask;
 use idl_root::{Finding, Keeper, Row, comparing, fresh_tasks};
-use idl_source::{Files, Line, Name, Refusal, Span};
+use idl_source::{Line, Name, Refusal, Span};
 use std::alloc::{AllocError, Global};
 use std::marker::Model;
 
 /// A well-formed project, and for each of its roots what it compiles to.
 ///
 /// An edit is accepted, and then all rows are those of the project after it, or it is refused, and then nothing has
-/// changed. Queries take no memory, but that `asked` makes a list, and `details` compiles a root.
+/// changed. Queries take no memory, but that `asked` makes a list, and `details` and `related` compile a root.
 #[derive(Drop)]
 pub struct Session {
     keeper: Keeper,
@@ -85,39 +86,6 @@ impl Session {
         }
     }
 
-    /// Puts a file of these lines, in place of the one of that name if there is one. The name is a root or not as before.
-    ///
-    /// It is refused where the name isn't one, and then where a limit of files or lines is passed. Memory may be refused
-    /// too. A refusal gives up the lines.
-    pub fn put(&mut self, name: &[u8], lines: Vec<Line>) -> Result<Work, Refusal>
-        ensures { IsEdited (Put name.now lines.items) self.old self.new result }
-    {
-        let files = self.bank.files().put(name, lines)?;
-        self.change_files(name, files)
-    }
-
-    /// Puts these lines in the place of a span of a file.
-    ///
-    /// It is refused where the name isn't one, then where there is no such file, then where the span isn't all in it, and
-    /// then where a limit of lines is passed. Memory may be refused too. A refusal gives up the lines.
-    pub fn splice(&mut self, name: &[u8], span: Span, lines: Vec<Line>) -> Result<Work, Refusal>
-        ensures { let edit = Splice name.now span.from span.del lines.items in
-            IsEdited edit self.old self.new result }
-    {
-        let files = self.bank.files().splice(name, span, lines)?;
-        self.change_files(name, files)
-    }
-
-    /// Removes the file of this name. The name is a root or not as before.
-    ///
-    /// It is refused where the name isn't one, and then where there is no such file. Memory may be refused too.
-    pub fn remove(&mut self, name: &[u8]) -> Result<Work, Refusal>
-        ensures { IsEdited (Remove name.now) self.old self.new result }
-    {
-        let files = self.bank.files().remove(name)?;
-        self.change_files(name, files)
-    }
-
     /// Defines a macro that stands before the first line of every root, in place of the one of that word if there is one.
     ///
     /// It is refused where the body has more than [`MAX_BODY`](crate::MAX_BODY) bytes, or the word is new and there are
@@ -138,7 +106,12 @@ impl Session {
             key: &key,
             answer,
         };
-        let renewed = self.roots.renewed(&mut self.keeper, &edited)?;
+        let change = Change {
+            base: &self.bank,
+            bank: &edited,
+            causes: causes_by(&edited),
+        };
+        let renewed = self.roots.renewed(&mut self.keeper, &change)?;
         if let Err(refusal) = self.bank.define(word, body) {
             self.keeper.discard();
             return Err(refusal.into());
@@ -168,7 +141,12 @@ impl Session {
             key: &key,
             answer,
         };
-        let renewed = self.roots.renewed(&mut self.keeper, &edited)?;
+        let change = Change {
+            base: &self.bank,
+            bank: &edited,
+            causes: causes_by(&edited),
+        };
+        let renewed = self.roots.renewed(&mut self.keeper, &change)?;
         self.bank.undef(&word);
         self.roots = renewed.0;
         self.keeper.commit();
@@ -192,7 +170,12 @@ impl Session {
             key: &RootKey::Search,
             answer,
         };
-        let renewed = self.roots.renewed(&mut self.keeper, &edited)?;
+        let change = Change {
+            base: &self.bank,
+            bank: &edited,
+            causes: causes_by(&edited),
+        };
+        let renewed = self.roots.renewed(&mut self.keeper, &change)?;
         self.bank.set_search(search);
         self.roots = renewed.0;
         self.keeper.commit();
@@ -464,38 +447,10 @@ impl Session {
         ensures none { IfNone result (asked_of self.now.project root.now ≡ []) }
         ensures details { option_map (λ kept. details kept.result.value.out) (option_copied result)
             ≡ details_of self.now.project root.now }
+        ensures expansion { option_map (λ kept. kept.result.value.out) (option_copied result)
+            ≡ expansion_of self.now.project root.now }
     {
         let roots = &self.roots;
         roots.kept(&Name::new(root)?)
-    }
-
-    // Puts other files in place, of which the one of this name alone is another: an edit after which these are the files.
-    fn change_files(&mut self, name: &[u8], files: Files) -> Result<Work, Refusal>
-        requires allowed { IsTrue (is_name name.now) }
-        requires beside { IsSameBeside name.now self.old.project.inputs.files files }
-        requires formed { IsWellFormed (with_files self.old.project files) }
-        ensures { (edit : Edit) → takes_memory edit ≡ true
-            → after self.old.project edit ≡ Ok (with_files self.old.project files)
-            → IsEdited edit self.old self.new result }
-    {
-        let name = FileName::new(self.keeper.alloc(), &Name::new(name).unwrap())?;
-        let answer = self.bank.file_answer(self.keeper.alloc(), &files, &name)?;
-        let key = RootKey::File(name.clone()?);
-        let given = answer.as_ref();
-        let edited = Edited {
-            base: &self.bank,
-            key: &key,
-            answer: given,
-        };
-        let renewed = self.roots.renewed(&mut self.keeper, &edited)?;
-        if let Err(refusal) = self.bank.set_files(name, files, answer) {
-            self.keeper.discard();
-            return Err(refusal.into());
-        }
-        self.roots = renewed.0;
-        self.keeper.commit();
-        self.work = renewed.1;
-        self.touched = renewed.2;
-        Ok(self.work)
     }
 }

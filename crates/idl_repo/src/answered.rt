@@ -7,7 +7,7 @@ ghost use Rattle.idl_env.specs.Facts.{answers};
 
 use crate::entry::{Pushed, push_entry};
 use crate::row::kind_head;
-use crate::type_code::members_of;
+use crate::shown::members_of;
 use idl_base::Shared;
 use idl_entity::{DataType, Element, Entity, Path};
 use idl_env::{Answer, Env, LentKey, entity_in};

@@ -1,9 +1,8 @@
-//! What rows are made of: numbers, values, and what is answered of repository ids.
+//! What is answered of repository ids.
 
-ghost use Rattle.std.specs.Prelude.{◌≡◌, ◌++◌, IfOk, OnOk, decimal};
+ghost use Rattle.std.specs.Prelude.{◌≡◌, ◌++◌, IfOk, OnOk};
 ghost use Rattle.idl_memo.specs.Query.{run};
 ghost use Rattle.idl_repo.specs.Pieces.{told_id};
-ghost use Rattle.idl_repo.specs.TypeCode.{listed_value};
 ghost use Rattle.idl_env.specs.Facts.{answers};
 ghost use Rattle.idl_env.specs.keys.Key.{key_eq};
 ghost use Rattle.idl_scope.specs.Known.{id_of};
@@ -13,27 +12,7 @@ use idl_entity::Path;
 use idl_env::{Answer, Env, LentKey, push_id_at};
 use idl_memo::Journal;
 use idl_scope::typeprefix_around;
-use idl_value::{Value, push_value};
-use itoa::Buffer;
 use std::alloc::AllocError;
-
-/// A number in decimal.
-pub fn push_number(text: &mut Vec<u8>, number: usize) -> Result<(), AllocError>
-    ensures { OnOk result (text.new.items ≡ text.old.items ++ decimal number) }
-{
-    let mut buffer = Buffer::new();
-    text.extend_from_slice(buffer.format(number).as_bytes())
-}
-
-/// A value, and of an enumerator its name alone.
-pub fn push_listed(text: &mut Vec<u8>, value: &Value) -> Result<(), AllocError>
-    ensures { OnOk result (text.new.items ≡ text.old.items ++ listed_value value.now) }
-{
-    match value {
-        Value::Enumerator(_enumeration, name) => text.extend_from_slice(name.as_bytes()),
-        _ => push_value(text, value),
-    }
-}
 
 /// The id of the name at a path, by what is answered of it and of the typeprefixes around it: nothing of that is copied.
 #[derive(Clone, Copy)]

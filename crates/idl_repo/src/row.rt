@@ -2,16 +2,16 @@
 
 ghost use Rattle.std.specs.Prelude.{◌≡◌, ◌++◌, None, OnOk, codes};
 ghost use Rattle.idl_repo.specs.Pieces.{Writes, commas};
-ghost use Rattle.idl_repo.specs.Row.{attribute_pieces, base_pieces, bases_pieces, behind_id, constant_pieces, context_word, contexts_of, contexts_word, direction_word, flag, kind_word, operation_pieces, parameter_pieces, path_text, raised_by_set_of, raised_of, references, row_pieces};
+ghost use Rattle.idl_repo.specs.Row.{attribute_pieces, base_pieces, bases_pieces, behind_id, constant_pieces, contexts_word, direction_word, flag, kind_word, operation_pieces, parameter_pieces, references, row_pieces};
 ghost use Rattle.idl_repo.specs.TypeCode.{kind_in};
 
-use crate::piece::{id_of, push_listed};
+use crate::piece::id_of;
 use crate::row_writer::RowWriter;
-use crate::type_code::{TypeCode, members_of, signature_of};
+use crate::shown::{contexts_of, members_of, raised_by_set_of, raised_of};
+use crate::type_code::TypeCode;
+use crate::words::{push_context, push_listed, push_path};
 use idl_base::Seq;
-use idl_entity::paths::Names;
 use idl_entity::{Entity, Kind, Member, Path};
-use idl_value::Value;
 use std::alloc::AllocError;
 
 impl<'a> RowWriter<'a> {
@@ -182,56 +182,11 @@ pub fn kind_head(kind: Kind) -> &'static [u8]
     }
 }
 
-// The names of a path, the outermost first, with `::` between them.
-fn push_path(text: &mut Vec<u8>, names: Names<'_>) -> Result<(), AllocError>
-    ensures { OnOk result (text.new.items ≡ text.old.items ++ path_text names.entry) }
-{
-    let Some((name, outer)) = names.split_first() else {
-        return Ok(());
-    };
-    if !outer.is_empty() {
-        push_path(text, outer)?;
-        text.extend_from_slice(b"::")?;
-    }
-    text.extend_from_slice(name)?;
-    Ok(())
-}
-
 // A word between blanks where it is to stand, and else one blank.
 fn flag(stands: bool, word: &'static [u8]) -> &'static [u8]
     ensures { result.now ≡ flag stands word.now }
 {
     if stands { word } else { b" " }
-}
-
-// What an operation, or the reading of an attribute, raises.
-fn raised_of(entity: &Entity) -> &[Path]
-    ensures { result.now ≡ raised_of entity.now }
-{
-    match signature_of(entity) {
-        Some(signature) => signature.raised.as_slice(),
-        None => &[],
-    }
-}
-
-// What the writing of an attribute raises.
-fn raised_by_set_of(entity: &Entity) -> &[Path]
-    ensures { result.now ≡ raised_by_set_of entity.now }
-{
-    match signature_of(entity) {
-        Some(signature) => signature.raised_by_set.as_slice(),
-        None => &[],
-    }
-}
-
-// The texts of an operation's context.
-fn contexts_of(entity: &Entity) -> &[Seq<u16>]
-    ensures { result.now ≡ contexts_of entity.now }
-{
-    match signature_of(entity) {
-        Some(signature) => signature.contexts.as_slice(),
-        None => &[],
-    }
 }
 
 // Where a parameter goes, with a blank behind it.
@@ -259,12 +214,4 @@ fn push_contexts(text: &mut Vec<u8>, contexts: &[Seq<u16>]) -> Result<(), AllocE
         push_context(text, context)?;
     }
     Ok(())
-}
-
-// A text.
-fn push_context(text: &mut Vec<u8>, context: &Seq<u16>) -> Result<(), AllocError>
-    ensures { OnOk result
-        (text.new.items ≡ text.old.items ++ context_word context.now) }
-{
-    push_listed(text, &Value::Text(context.clone()?))
 }

@@ -1,15 +1,19 @@
 //! TypeCodes, and how they and types are written.
 
 ghost use Rattle.std.specs.Prelude.{◌≡◌, ◌++◌, IfOk, IfSome, OnOk, codes, flat_map};
-ghost use Rattle.std.specs.Option.{option_copied, option_map};
+ghost use Rattle.std.specs.Option.{option_map};
 ghost use Rattle.idl_repo.specs.Pieces.{Writes, told_id};
-ghost use Rattle.idl_repo.specs.TypeCode.{code_head, code_word, default_at, default_word, element_pieces, entries_of, enumerator_word, integer_word, kind_in, label_word, labelled_pieces, layer_end, layer_word, layers_begin, member_pieces, members_of, part_pieces, reference, rest_pieces, size_of, string_word, target_word, type_behind, type_pieces, typed_pieces, unvalued_word};
+ghost use Rattle.idl_repo.specs.TypeCode.{code_head, code_word, default_at, element_pieces, entries_of, enumerator_word, kind_in, label_word, labelled_pieces, member_pieces, part_pieces, reference, rest_pieces, type_behind, type_pieces, typed_pieces};
 
-use crate::piece::{AnsweredId, push_listed, push_number};
+use crate::piece::AnsweredId;
 use crate::row_writer::RowWriter;
+use crate::shown::members_of;
+use crate::words::{
+    begin_layers, end_layers, push_default, push_listed, push_target, unvalued_word,
+};
 use idl_base::{Bytes, Shared};
-use idl_entity::{DataType, Element, Entity, Kind, Layer, Member, Path, Signature, Unvalued};
-use idl_value::{ConstantType, IntegerKind, Value};
+use idl_entity::{DataType, Element, Entity, Kind, Member, Path};
+use idl_value::Value;
 use std::alloc::AllocError;
 
 /// What a TypeCode is of.
@@ -207,36 +211,6 @@ impl<'a> RowWriter<'a> {
     }
 }
 
-/// The members of what is declared so, or the parameters.
-pub fn members_of(entity: &Entity) -> &[Member]
-    ensures { result.now ≡ members_of entity.now }
-{
-    match signature_of(entity) {
-        Some(signature) => signature.members.as_slice(),
-        None => &[],
-    }
-}
-
-/// What it shows behind its name, if that is told.
-pub fn signature_of(entity: &Entity) -> Option<&Signature>
-    ensures { option_copied result ≡ entity.now.signature }
-{
-    match entity.signature() {
-        Some(signature) => Some(signature.get()),
-        None => None,
-    }
-}
-
-// The number of the entry of `default`, or -1.
-fn push_default(text: &mut Vec<u8>, number: Option<usize>) -> Result<(), AllocError>
-    ensures { OnOk result (text.new.items ≡ text.old.items ++ default_word number) }
-{
-    match number {
-        Some(number) => push_number(text, number),
-        None => text.extend_from_slice(b"-1"),
-    }
-}
-
 // The number of the entry of `default`, if there is one.
 fn default_at(members: &[Member]) -> Result<Option<usize>, AllocError>
     ensures { IfOk result
@@ -279,109 +253,4 @@ fn push_enumerators(text: &mut Vec<u8>, names: &[Bytes]) -> Result<(), AllocErro
         text.extend_from_slice(name.as_bytes())?;
     }
     Ok(())
-}
-
-// Where the layers around a type begin, from the outermost on.
-fn begin_layers(text: &mut Vec<u8>, layers: &[Layer]) -> Result<(), AllocError>
-    ensures { OnOk result
-        (text.new.items ≡ text.old.items ++ layers_begin layers.now) }
-{
-    let count = layers.len();
-    for back in 0..count {
-        text.extend_from_slice(layer_word(layers[count - 1 - back]))?;
-    }
-    Ok(())
-}
-
-// How a sequence or an array begins.
-fn layer_word(layer: Layer) -> &'static [u8]
-    ensures { result.now ≡ layer_word layer }
-{
-    match layer {
-        Layer::Sequence(_bound) => b"tk_sequence(",
-        Layer::Array(_length) => b"tk_array(",
-    }
-}
-
-// Where they end, from the innermost on: with the bound of each, or its length.
-fn end_layers(text: &mut Vec<u8>, layers: &[Layer]) -> Result<(), AllocError>
-    ensures { OnOk result
-        (text.new.items ≡ text.old.items ++ flat_map layer_end layers.now) }
-{
-    for layer in layers {
-        text.extend_from_slice(b",")?;
-        push_number(text, size_of(*layer) as usize)?;
-        text.extend_from_slice(b")")?;
-    }
-    Ok(())
-}
-
-// The bound of a sequence, or the length of an array.
-fn size_of(layer: Layer) -> u32
-    ensures { result ≡ size_of layer }
-{
-    match layer {
-        Layer::Sequence(bound) => bound,
-        Layer::Array(length) => length,
-    }
-}
-
-// A type of keywords of which there are constants. An enum has a name.
-fn push_target(text: &mut Vec<u8>, target: &ConstantType) -> Result<(), AllocError>
-    ensures { OnOk result
-        (text.new.items ≡ text.old.items ++ target_word target.now) }
-{
-    match target {
-        ConstantType::Integer(kind) => text.extend_from_slice(integer_word(*kind)),
-        ConstantType::Boolean => text.extend_from_slice(b"tk_boolean"),
-        ConstantType::Character => text.extend_from_slice(b"tk_char"),
-        ConstantType::WideCharacter => text.extend_from_slice(b"tk_wchar"),
-        ConstantType::Text(bound) => push_string(text, b"tk_string(", *bound),
-        ConstantType::WideText(bound) => push_string(text, b"tk_wstring(", *bound),
-        ConstantType::Enumeration(_path) => Ok(()),
-    }
-}
-
-// A string type, with its bound, or 0 if it has none.
-fn push_string(text: &mut Vec<u8>, word: &[u8], bound: Option<u32>) -> Result<(), AllocError>
-    ensures { OnOk result
-        (text.new.items ≡ text.old.items ++ string_word word.now bound) }
-{
-    text.extend_from_slice(word)?;
-    match bound {
-        Some(bound) => push_number(text, bound as usize)?,
-        None => text.extend_from_slice(b"0")?,
-    }
-    text.extend_from_slice(b")")?;
-    Ok(())
-}
-
-// The word of an integer type.
-fn integer_word(kind: IntegerKind) -> &'static [u8]
-    ensures { result.now ≡ integer_word kind }
-{
-    match kind {
-        IntegerKind::Octet => b"tk_octet",
-        IntegerKind::Int8 => b"tk_int8",
-        IntegerKind::Uint8 => b"tk_uint8",
-        IntegerKind::Short => b"tk_short",
-        IntegerKind::UnsignedShort => b"tk_ushort",
-        IntegerKind::Long => b"tk_long",
-        IntegerKind::UnsignedLong => b"tk_ulong",
-        IntegerKind::LongLong => b"tk_longlong",
-        IntegerKind::UnsignedLongLong => b"tk_ulonglong",
-    }
-}
-
-// The text of a type of which there are no constants.
-fn unvalued_word(kind: Unvalued) -> &'static [u8]
-    ensures { result.now ≡ unvalued_word kind }
-{
-    match kind {
-        Unvalued::Float => b"tk_float",
-        Unvalued::Double => b"tk_double",
-        Unvalued::LongDouble => b"tk_longdouble",
-        Unvalued::Any => b"tk_any",
-        Unvalued::Object => b"tk_objref(IDL:omg.org/CORBA/Object:1.0,Object)",
-    }
 }

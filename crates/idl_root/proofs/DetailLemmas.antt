@@ -1,5 +1,5 @@
 -- The details of a root, and its listing.
-use Rattle.std.proofs.Common.{◌≡◌, ◌∙◌, ℕ, Bool, true, false, List, [], ◌∷◌, ◌++◌, Option, None, Some, refl, sym, ap, flat_map, map}
+use Rattle.std.proofs.Common.{◌≡◌, ◌∙◌, ℕ, false, List, [], ◌∷◌, ◌++◌, Option, None, Some, refl, sym, ap, flat_map, map}
 use Rattle.std.specs.Prelude.{option_to_list}
 use Rattle.std.proofs.lemmas.List.{map-append}
 use Rattle.idl_details.specs.Print.{row_of}
@@ -15,8 +15,8 @@ use Rattle.idl_repo.specs.Entry.{closing_fault, entry, no_entry}
 use Rattle.idl_repo.specs.Pieces.{text_over}
 use Rattle.idl_repo.specs.Row.{row_pieces}
 use Rattle.idl_repo.specs.declared.entry.Entry.{Entry}
-use Rattle.idl_root.specs.Compile.{Outcome, all_findings, compile, has_error, outcome_of, rows_beside}
-use Rattle.idl_root.specs.Details.{details, details_after, entries_at, entry_text, listed_entries, printed}
+use Rattle.idl_root.specs.Compile.{Outcome, compile, outcome_of, rows_beside}
+use Rattle.idl_root.specs.Details.{details, details_after, entry_text, listed_entries, printed}
 use Rattle.idl_root.specs.Held.{to_come}
 use Rattle.idl_root.specs.Named.{NamedUnit, named_after}
 use Rattle.idl_root.specs.NamePlaces.{declared_names, places_at}

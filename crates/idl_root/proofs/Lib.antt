@@ -26,6 +26,7 @@ mod OrderLemmas
 mod PassedBlocks
 mod PassedLemmas
 mod PiecesLemmas
+mod PlacedLemmas
 mod PrintLemmas
 mod ResultLemmas
 mod SharedLemmas

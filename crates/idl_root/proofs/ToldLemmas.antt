@@ -28,11 +28,11 @@ use Rattle.idl_unit.specs.declared.unit.UnitText.{UnitText}
 use Rattle.idl_unit.specs.declared.unit.UnitText.TheVariants.{Tokens, Pragma}
 
 -- each token has a site, and the word of a pragma has one
-abbrev AreSited : UnitText → List Site → Type 0
+abbrev pub AreSited : UnitText → List Site → Type 0
 AreSited (Tokens tokens) sites = (tokens ≢ []) × (length tokens ≡ length sites)
 AreSited (Pragma tokens inside) sites = 1 ≡ length sites
 
-abbrev IsSited : RootUnit → Type 0
+abbrev pub IsSited : RootUnit → Type 0
 IsSited (Spelled text sites) = AreSited text sites
 IsSited other = Unit {0}
 
@@ -67,14 +67,14 @@ stretches-sited (stretch ∷ stretches) =
     (append-sited (spelled (tokens_in stretch) (sites_in stretch)) _ (spelled-sited (tokens_in stretch) (sites_in stretch) (sites-len stretch)) (others-sited _ stretch))
     (stretches-sited stretches)
 
-units-sited : (events : List Event) → AllByRecursion IsSited (units_of events)
+pub units-sited : (events : List Event) → AllByRecursion IsSited (units_of events)
 unfolding units_of
 units-sited events = append-sited _ (End ∷ []) (stretches-sited (parts stretch_ends (enumerate_from 0 events))) (tt, tt)
 
-site-there : (sites : List Site) (i : ℕ) → i < length sites → (site : Site) × (slice_get sites i ≡ Some site)
-site-there [] i lt = absurd (omega arith)
-site-there (s ∷ sites) zero lt = (s, refl)
-site-there (s ∷ sites) (suc i) lt = site-there sites i (omega arith)
+pub item-there : {X : Type 0} (xs : List X) (i : ℕ) → i < length xs → (x : X) × (slice_get xs i ≡ Some x)
+item-there [] i lt = absurd (omega arith)
+item-there (x ∷ xs) zero lt = (x, refl)
+item-there (x ∷ xs) (suc i) lt = item-there xs i (omega arith)
 
 first-there : (sites : List Site) → 1 ≡ length sites → (site : Site) × (first sites ≡ Some site)
 first-there [] e = absurd (omega arith)
@@ -92,7 +92,7 @@ module _
   where
     there : (facts : List UnitFacts) (text : UnitText) (sites : List Site) → AreSited text sites → (fault : Fault) → (verdict_over facts text).fault ≡ Some fault
         → (site : Site) × (site_of text sites fault.index ≡ Some site)
-    there facts (Tokens tokens) sites are fault is = site-there sites fault.index (omega (arith, are.1, numbered most_turns tokens (answers facts) fault are.0 is))
+    there facts (Tokens tokens) sites are fault is = item-there sites fault.index (omega (arith, are.1, numbered most_turns tokens (answers facts) fault are.0 is))
     there facts (Pragma tokens inside) sites are fault is = first-there sites are
 
     judged-told : (facts : List UnitFacts) (units : List RootUnit) → AllByRecursion IsSited units → AllByRecursion IsTold (judged_after facts units)

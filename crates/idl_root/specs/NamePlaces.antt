@@ -1,9 +1,8 @@
 -- Where the names of a root stand: each with the place of its token, its number in its line and its
 -- spelling.
-use Rattle.std.specs.Prelude.{◌≡◌, ℕ, ◌-◌, Bool, List, [], ◌∷◌, ◌++◌, filter, flat_map, length, map, slice_get, Option, None, Some, option_to_list}
+use Rattle.std.specs.Prelude.{◌≡◌, ℕ, ◌-◌, Bool, List, [], ◌∷◌, ◌++◌, filter, flat_map, length, map, slice_get, Option, None, Some}
 use Rattle.std.specs.Map.{lookup}
 use Rattle.std.specs.Option.{unwrap_or}
-use Rattle.idl_check.specs.declared.walk.names.NameRole.{NameRole}
 use Rattle.idl_check.specs.declared.walk.names.NameRole.TheVariants.{Declared, Used}
 use Rattle.idl_check.specs.declared.walk.names.NamedSite.{NamedSite}
 use Rattle.idl_entity.specs.Path.{path_eq}
@@ -19,7 +18,6 @@ use Rattle.idl_root.specs.declared.compiling.places.DeclaredPlace.{DeclaredPlace
 use Rattle.idl_root.specs.declared.compiling.places.RootNames.{RootNames}
 use Rattle.idl_root.specs.declared.compiling.places.SitedToken.{SitedToken}
 use Rattle.idl_root.specs.declared.compiling.places.UsedName.{UsedName}
-use Rattle.idl_unit.specs.declared.unit.UnitText.{UnitText}
 
 -- a token at its site, among the events of its root
 abbrev pub sited : List Event → Option Site → Option Token → Option SitedToken

@@ -18,8 +18,8 @@ mod stop;
 
 pub use commands::run;
 pub use idl_project::{
-    DetailedEntry, Details, Finding, MAX_BODY, MAX_DIRECTORIES, MAX_MACROS, MAX_ROOTS, Row,
-    Session, Span, Work,
+    DetailedEntry, Details, FileEdit, Finding, MAX_BODY, MAX_DIRECTORIES, MAX_MACROS, MAX_ROOTS,
+    Row, Session, Span, Work,
 };
 pub use idl_source::devices::{BufferSink, ReadFailed, SliceSource, WriteFailed, write_all};
 pub use idl_source::{Line, Name, Refusal, Sink, Source};

@@ -13,7 +13,6 @@ use Rattle.idl_project.specs.Bank.{bank_of}
 use Rattle.idl_project.specs.Details.{details_over}
 use Rattle.idl_project.specs.Project.{Inputs}
 use Rattle.idl_program.specs.Rows.{are_faulty}
-use Rattle.idl_program.specs.declared.failure.Status.{Status}
 use Rattle.idl_program.specs.declared.failure.Status.TheVariants.{Failed, Faulty, Sound}
 use Rattle.idl_tool.specs.Compared.{IsCompiled, Version, all_trees, are_breaking, change_lines, changes_between, ending_of, has_error, is_breaking, seen, shown_between, trees_in}
 use Rattle.idl_tool.specs.declared.diff.CompiledVersion.{CompiledVersion}

@@ -1,20 +1,24 @@
 -- What `check` tells of files.
-use Rattle.std.specs.Prelude.{◌≡◌, ℕ, zero, suc, List, [], All, Contains, Option, None, map, option_and_then, slice_get, if◌then◌else◌}
+use Rattle.std.specs.Prelude.{◌≡◌, ◌++◌, ◌∷◌, ℕ, zero, suc, List, [], All, Contains, Option, None, flat_map, fold, map, not, option_and_then, slice_get, if◌then◌else◌}
 use Rattle.std.specs.FinMap as finite
-use Rattle.std.specs.List.{concat, flat_map}
+use Rattle.std.specs.List.{AllZip, filter, list_any, zip}
+use Rattle.std.specs.Map.{keys_of}
 use Rattle.std.specs.Str.{bytes_eq}
-use Rattle.indexmap.specs.IndexSet.{insert_all}
 use Rattle.idl_explain.specs.Explained.{topic_of}
 use Rattle.idl_explain.specs.declared.explanation.Explanation.{Explanation}
 use Rattle.idl_explain.specs.declared.explanation.Topic.TheVariants as topic
 use Rattle.idl_fault.specs.declared.place.Place.{Place}
+use Rattle.idl_related.specs.Follows.{follows}
+use Rattle.idl_related.specs.declared.second.Related.{Related}
 use Rattle.idl_root.specs.declared.compiling.finding.Finding.{Finding}
 use Rattle.idl_source.specs.devices.Device.{append}
 use Rattle.idl_source.specs.texts.Texts.{Texts}
+use Rattle.idl_project.specs.Bank.{bank_of}
 use Rattle.idl_project.specs.Columns.{column_at}
 use Rattle.idl_project.specs.Compile.{compiled_root}
 use Rattle.idl_project.specs.Made.{rootless}
 use Rattle.idl_project.specs.Project.{Inputs}
+use Rattle.idl_project.specs.Related.{AreRelatedOver}
 use Rattle.idl_project.specs.WellFormed.{IsWellFormed}
 use Rattle.idl_program.specs.Compiled.{Written, is_faulty}
 use Rattle.idl_program.specs.Holding.{Holding}
@@ -23,7 +27,7 @@ use Rattle.idl_program.specs.Options.{AreAsked}
 use Rattle.idl_program.specs.declared.failure.Status.{Status}
 use Rattle.idl_program.specs.declared.failure.Status.TheVariants.{Sound, Faulty}
 use Rattle.idl_program.specs.declared.request.Options.{Options}
-use Rattle.idl_tool.specs.Report.{report}
+use Rattle.idl_tool.specs.Report.{report, second_line}
 
 -- the line with this number, from 1 on
 abbrev pub numbered_line : List (List ℕ) → ℕ → Option (List ℕ)
@@ -40,42 +44,87 @@ abbrev pub column_of : Texts → Finding → Option ℕ
 column_of files finding =
     option_and_then (λ text. column_at files finding.place finding.number text) finding.text
 
--- a finding, and what explains its code
+-- a finding with its second places
+abbrev pub Told : Type 0
+Told = Finding × List Related
+
+-- what is told, with what explains the finding's code
 abbrev pub Explained : Type 0
-Explained = Finding × Explanation
+Explained = Told × Explanation
 
 abbrev pub Explains : Explained → Type 0
-Explains (finding, explanation) = topic_of explanation.told ≡ topic.Code finding.code
+Explains (told, explanation) = topic_of explanation.told ≡ topic.Code told.0.code
 
 -- the report of a finding over these files
 abbrev pub report_in : Texts → Explained → List ℕ
-report_in files (finding, explanation) =
-    report (line_at files finding.place) (column_of files finding) finding explanation.words
+report_in files (told, explanation) =
+    report (line_at files told.0.place) (column_of files told.0) told.0 explanation.words
+
+-- the lines of its second places, which stand behind the report
+abbrev pub second_in : Texts → Related → List ℕ
+second_in files second =
+    second_line second (column_at files second.place second.number second.text)
+
+abbrev pub seconds_in : Texts → List Related → List ℕ
+seconds_in files related = flat_map (second_in files) related
+
+-- a report, and the lines behind it
+abbrev pub Entry : Type 0
+Entry = List ℕ × List ℕ
+
+abbrev pub entry_in : Texts → Explained → Entry
+entry_in files explained = (report_in files explained, seconds_in files explained.0.1)
+
+-- reports, and then one more, unless one is there that tells the same of its finding
+abbrev pub with_entry : List Entry → Entry → List Entry
+with_entry entries entry =
+    if list_any (bytes_eq entry.0) (keys_of entries) then entries else entries ++ entry ∷ []
 
 -- reports, and then those of these findings that aren't there: findings of several roots that tell
 -- the same are told once, where the first is
-abbrev pub AreReported : Texts → List Finding → List (List ℕ) → List (List ℕ) → Type 0
-AreReported files findings before after =
+abbrev pub AreReported : Texts → List Told → List Entry → List Entry → Type 0
+AreReported files told before after =
     (explained : List Explained) × All Explains explained
-    × (map (λ e. e.0) explained ≡ findings)
-    × (after ≡ insert_all bytes_eq before (map (report_in files) explained))
+    × (map (λ e. e.0) explained ≡ told)
+    × (after ≡ fold with_entry before (map (entry_in files) explained))
 
 -- one of these reports tells of a finding
-abbrev pub IsTold : Texts → List (List ℕ) → Finding → Type 0
-IsTold files reports finding =
-    (explanation : Explanation) × Explains (finding, explanation)
-    × Contains reports (report_in files (finding, explanation))
+abbrev pub IsTold : Texts → List Entry → Told → Type 0
+IsTold files entries told =
+    (explanation : Explanation) × Explains (told, explanation)
+    × Contains (keys_of entries) (report_in files (told, explanation))
 
--- what is found in roots, each in turn
-abbrev pub findings_in : Inputs → List (List ℕ) → List Finding
-findings_in inputs roots = flat_map (λ root. (compiled_root inputs root).rows.findings) roots
+-- findings with their second places, those last that follow from an error elsewhere
+abbrev pub in_order : List Told → List Told
+in_order told = filter (λ t. not (follows t.1)) told ++ filter (λ t. follows t.1) told
+
+-- what is told of a root: all that is found in it, with second places
+abbrev pub IsToldOf : Inputs → List ℕ → List Told → Type 0
+IsToldOf inputs root told =
+    let findings = (compiled_root inputs root).rows.findings in
+    (related : List (List Related))
+    × AreRelatedOver (bank_of inputs) root findings related
+    × (told ≡ in_order (zip findings related))
+
+-- what is told of roots, each in turn
+abbrev pub AreToldOf : Inputs → List (List ℕ) → List (List Told) → Type 0
+AreToldOf inputs roots told = AllZip (IsToldOf inputs) roots told
+
+abbrev pub all_of : List (List Told) → List Told
+all_of told = flat_map (λ one. one) told
+
+-- reports that go out, each with the lines behind it
+abbrev pub entry_text : Entry → List ℕ
+entry_text entry = entry.0 ++ entry.1
 
 -- what went out of the roots over these inputs, and how the program ends
 pub record AreTold (inputs : Inputs) (roots : List (List ℕ)) (before after : Written)
     (status : Status) : Type 0 where
-  pub reports : List (List ℕ)
-  pub reported : AreReported inputs.files (findings_in inputs roots) [] reports
-  pub output : after.output ≡ append before.output (concat reports)
+  pub told : List (List Told)
+  pub each : AreToldOf inputs roots told
+  pub reports : List Entry
+  pub reported : AreReported inputs.files (all_of told) [] reports
+  pub output : after.output ≡ append before.output (flat_map entry_text reports)
   pub errors : after.errors ≡ before.errors
   pub ending : status ≡ (if is_faulty inputs roots then Faulty else Sound)
 

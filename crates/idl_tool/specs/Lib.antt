@@ -1,5 +1,6 @@
 pub mod Answered
 pub mod Checked
+pub mod ToldAt
 pub mod Compared
 pub mod Deps
 pub mod Json

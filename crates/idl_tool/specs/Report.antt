@@ -6,6 +6,8 @@ use Rattle.idl_explain.specs.declared.explanation.Words.{Words}
 use Rattle.idl_fault.specs.Code.{code_text, is_error}
 use Rattle.idl_fault.specs.declared.code.Code.{Code}
 use Rattle.idl_fault.specs.declared.place.Place.{Place}
+use Rattle.idl_related.specs.Reasons.{reason_words}
+use Rattle.idl_related.specs.declared.second.Related.{Related}
 use Rattle.idl_root.specs.declared.compiling.finding.Finding.{Finding}
 
 -- a hexadecimal digit
@@ -92,3 +94,9 @@ heading finding column words = beginning finding column ++ saying finding words
 abbrev pub report : Option (List ℕ) → Option ℕ → Finding → Words → List ℕ
 report line column finding words =
     heading finding column words ++ excerpt_of line column (token_in finding)
+
+-- the line of a second place: `  near: TOKEN, FILE:LINE:COLUMN`
+abbrev pub second_line : Related → Option ℕ → List ℕ
+second_line second column =
+    codes "  " ++ reason_words second.reason ++ codes ": " ++ shown_token second.text
+    ++ codes ", " ++ ended (place_text second.place column)

@@ -1,23 +1,26 @@
 //! What is found in files, for who reads it: each finding is told once, with its line.
 
-ghost use Rattle.std.specs.Prelude.{◌≡◌, ◌<◌, ◌-◌, ◌^◌, [], IfOk, OnOk, if◌then◌else◌};
-ghost use Rattle.std.specs.List.{concat, flat_map};
+ghost use Rattle.std.specs.Prelude.{◌≡◌, ◌<◌, ◌-◌, ◌^◌, [], IfOk, List, OnOk, flat_map, if◌then◌else◌, length, map};
+ghost use Rattle.std.specs.List.{zip};
 ghost use Rattle.std.specs.Option.{option_copied};
 ghost use Rattle.idl_explain.specs.declared.explanation.Explanation.{Explanation};
 ghost use Rattle.idl_program.specs.Rows.{are_faulty};
 ghost use Rattle.idl_program.specs.declared.failure.Status.TheVariants.{Faulty, Sound};
-ghost use Rattle.idl_tool.specs.Checked.{AreReported, Explains, IsChecked, column_of, line_at, report_in};
+ghost use Rattle.idl_project.specs.Compile.{compiled_root};
+ghost use Rattle.idl_tool.specs.Checked.{AreReported, AreToldOf, Explains, IsChecked, Told as ToldFinding, all_of, column_of, entry_text, in_order, line_at, report_in, seconds_in};
+ghost use Rattle.idl_tool.specs.ToldAt.{told_at};
 
 use crate::failure::Failure;
 use crate::program::Devices;
-use crate::report::Found;
-use idl_base::Bytes;
+use crate::report::{Found, push_second};
+use idl_base::{Bytes, Seq};
 use idl_explain::{Topic, explanation_of};
 use idl_fault::Place;
 use idl_program::{Loader, Options, Status, compile_all, prepared};
-use idl_project::{CompiledRoot, Finding, Sources};
+use idl_project::{CompiledRoot, Finding, Related, Sources, follows};
 use idl_session::{Sink, write_all};
-use indexmap::IndexSet;
+use idl_source::Name;
+use indexmap::IndexMap;
 use std::alloc::{AllocError, Global};
 use std::mem::forget;
 
@@ -38,8 +41,8 @@ pub fn check<'a, L: Loader, O: Sink, E: Sink>(
 {
     let (sources, roots) = prepared(alloc, options)?;
     let (sources, compiled) = compile_all(sources, roots.as_slice(), &mut devices.loader)?;
-    let reports = reports_of(&sources, &compiled)?;
-    let text = joined(alloc, reports.as_slice())?;
+    let reports = reports_of(&sources, roots.as_slice(), &compiled)?;
+    let text = joined(alloc, &reports)?;
     let status = status_of(&compiled);
     write_all(&mut devices.output, &text)?;
     // The program ends here, and all memory goes back at once.
@@ -47,41 +50,101 @@ pub fn check<'a, L: Loader, O: Sink, E: Sink>(
     Ok(status)
 }
 
-// The reports of what is found in these roots, each once.
-fn reports_of(sources: &Sources, compiled: &[CompiledRoot]) -> Result<IndexSet<Bytes>, AllocError>
-    ensures { let findings = flat_map (λ root. root.rows.findings) compiled.now in
-        IfOk result (λ reports.
-        AreReported sources.now.files findings [] reports.keys) }
+// The reports of what is found in these roots, each once, with the lines behind it.
+fn reports_of(
+    sources: &Sources,
+    roots: &[Name],
+    compiled: &[CompiledRoot],
+) -> Result<IndexMap<Bytes, Bytes>, AllocError>
+    requires { compiled.now ≡ map (compiled_root sources.now) roots.now }
+    ensures { IfOk result (λ reports. (told : List (List ToldFinding))
+        × AreToldOf sources.now roots.now told
+        × AreReported sources.now.files (all_of told) [] reports.entries) }
 {
-    let mut reports = IndexSet::new(sources.allocator());
-    'roots: for root in compiled {
-        add_reports(sources, root.rows.findings.as_slice(), &mut reports)?;
+    let mut reports = IndexMap::new(sources.allocator());
+    'roots: for index in 0..roots.len() {
+        let findings = compiled[index].rows.findings.as_slice();
+        let related = sources.related(&roots[index], findings)?;
+        let told = told_of(sources.allocator(), findings, related.as_slice())?;
+        let told = in_order(sources.allocator(), &told)?;
+        add_reports(sources, &told, &mut reports)?;
     }
     Ok(reports)
+}
+
+// A finding with its second places.
+#[derive(Clone, Copy)]
+struct Told<'a> {
+    finding: &'a Finding,
+    related: &'a [Related],
+}
+
+// These findings, each with its second places.
+fn told_of<'f>(
+    alloc: Global,
+    findings: &'f [Finding],
+    related: &'f [Seq<Related>],
+) -> Result<Vec<Told<'f>>, AllocError>
+    requires { length related.now ≡ length findings.now }
+    ensures { IfOk result (λ told. map told_at told.items ≡ zip findings.now related.now) }
+{
+    let mut told = Vec::with_capacity(alloc, findings.len())?;
+    'findings: for index in 0..findings.len() {
+        told.push(Told {
+            finding: &findings[index],
+            related: related[index].as_slice(),
+        })?;
+    }
+    Ok(told)
+}
+
+// The same, those last that follow from an error elsewhere.
+fn in_order<'f>(alloc: Global, told: &[Told<'f>]) -> Result<Vec<Told<'f>>, AllocError>
+    ensures { IfOk result (λ ordered. map told_at ordered.items ≡ in_order (map told_at told.now)) }
+{
+    let mut ordered = Vec::with_capacity(alloc, told.len())?;
+    'leading: for one in told {
+        if follows(one.related) {
+            continue;
+        }
+        ordered.push(*one)?;
+    }
+    'following: for one in told {
+        if !follows(one.related) {
+            continue;
+        }
+        ordered.push(*one)?;
+    }
+    Ok(ordered)
 }
 
 // Puts in the reports of these findings that aren't there.
 fn add_reports(
     sources: &Sources,
-    findings: &[Finding],
-    reports: &mut IndexSet<Bytes>,
+    told: &[Told<'_>],
+    reports: &mut IndexMap<Bytes, Bytes>,
 ) -> Result<(), AllocError>
-    ensures { OnOk result
-        (AreReported sources.now.files findings.now reports.old.keys reports.new.keys) }
+    ensures { OnOk result (AreReported sources.now.files (map told_at told.entry.now)
+        reports.old.entries reports.new.entries) }
 {
-    'findings: for finding in findings {
-        let report = report_of(sources, finding)?;
-        reports.insert(report)?;
+    'findings: for one in told {
+        let report = report_of(sources, *one)?;
+        if reports.contains_key(&report) {
+            continue;
+        }
+        let behind = behind_of(sources, one.related)?;
+        reports.insert(report, behind)?;
     }
     Ok(())
 }
 
 // The report of a finding.
-fn report_of(sources: &Sources, finding: &Finding) -> Result<Bytes, AllocError>
+fn report_of(sources: &Sources, told: Told<'_>) -> Result<Bytes, AllocError>
     ensures { IfOk result (λ bytes. (explanation : Explanation)
-        × Explains (finding.now, explanation)
-        × (bytes ≡ report_in sources.now.files (finding.now, explanation))) }
+        × Explains (told_at told.entry, explanation)
+        × (bytes ≡ report_in sources.now.files (told_at told.entry, explanation))) }
 {
+    let finding = told.finding;
     let found = Found {
         finding,
         line: line_at(sources, &finding.place),
@@ -89,6 +152,18 @@ fn report_of(sources: &Sources, finding: &Finding) -> Result<Bytes, AllocError>
     };
     let mut text = Vec::new(sources.allocator());
     found.push(explanation_of(Topic::Code(finding.code)).words, &mut text)?;
+    Bytes::from_vec(text)
+}
+
+// The lines behind it: its second places.
+fn behind_of(sources: &Sources, related: &[Related]) -> Result<Bytes, AllocError>
+    ensures { IfOk result (λ bytes. bytes ≡ seconds_in sources.now.files related.now) }
+{
+    let mut text = Vec::new(sources.allocator());
+    'related: for second in related {
+        let column = sources.column(&second.place, second.number, second.text.as_bytes());
+        push_second(second, column, &mut text)?;
+    }
     Bytes::from_vec(text)
 }
 
@@ -110,13 +185,14 @@ pub(crate) fn column_of(sources: &Sources, finding: &Finding) -> Option<usize>
     sources.column(&finding.place, finding.number, text.as_bytes())
 }
 
-// These texts, one after the other.
-fn joined(alloc: Global, texts: &[Bytes]) -> Result<Vec<u8>, AllocError>
-    ensures { IfOk result (λ text. text.items ≡ concat texts.now) }
+// These reports, each with what stands behind it, one after the other.
+fn joined(alloc: Global, reports: &IndexMap<Bytes, Bytes>) -> Result<Vec<u8>, AllocError>
+    ensures { IfOk result (λ text. text.items ≡ flat_map entry_text reports.now.entries) }
 {
     let mut all = Vec::new(alloc);
-    'texts: for text in texts {
-        all.extend_from_slice(text.as_bytes())?;
+    'reports: for (report, behind) in reports.iter() {
+        all.extend_from_slice(report.as_bytes())?;
+        all.extend_from_slice(behind.as_bytes())?;
     }
     Ok(all)
 }

@@ -1,20 +1,23 @@
 //! What is told of files as JSON: an object a file, on a line each.
 
-ghost use Rattle.std.specs.Prelude.{◌≡◌, ◌<◌, ◌-◌, ◌^◌, ℕ, IfOk, List, OnOk, map};
-ghost use Rattle.std.specs.List.{AllZip, concat};
-ghost use Rattle.idl_json.specs.Diagnostic.{located};
+ghost use Rattle.std.specs.Prelude.{◌≡◌, ◌<◌, ◌-◌, ◌^◌, ℕ, IfOk, List, OnOk, length, map};
+ghost use Rattle.std.specs.List.{AllZip, concat, zip};
+ghost use Rattle.idl_json.specs.Diagnostic.{located, second_of};
+ghost use Rattle.idl_json.specs.Listed.{place_of, row_of};
 ghost use Rattle.idl_json.specs.Root.{IsRootLine};
 ghost use Rattle.idl_project.specs.Compile.{compiled_root};
-ghost use Rattle.idl_tool.specs.Json.{IsLineOf, IsWritten, listing_of, located_in, told_of};
+ghost use Rattle.idl_tool.specs.Json.{IsLineOf, IsLineWith, IsWritten, declared_in, listing_of, located_in, row_in, second_at, told_of};
 
 use crate::check::{column_of, status_of};
 use crate::failure::Failure;
 use crate::program::Devices;
 use idl_base::Seq;
 use idl_details::RowTree;
-use idl_json::{Diagnostic, RootTold, root_line};
+use idl_json::{Diagnostic, ListedRow, NamePlace, RootTold, SecondPlace, root_line};
 use idl_program::{Loader, Options, Status, compile_all, prepared};
-use idl_project::{CompiledRoot, DetailedEntry, Details, Finding, Sources};
+use idl_project::{
+    CompiledRoot, DeclaredPlace, DetailedEntry, Details, Finding, Related, SitedToken, Sources,
+};
 use idl_session::{Sink, write_all};
 use idl_source::Name;
 use std::alloc::{AllocError, Global};
@@ -66,11 +69,27 @@ fn lines_of(
 // The line of a root, which compiles to this.
 fn line_of(sources: &Sources, root: &Name, compiled: &CompiledRoot) -> Result<Vec<u8>, AllocError>
     ensures { IfOk result (λ line.
-        IsRootLine (told_of sources.now root.now compiled.now) line.items) }
+        IsLineWith sources.now root.now compiled.now line.items) }
+{
+    let findings = compiled.rows.findings.as_slice();
+    let related = sources.related(root, findings)?;
+    line_with(sources, root, compiled, related.as_slice())
+}
+
+// The same, with these second places.
+fn line_with(
+    sources: &Sources,
+    root: &Name,
+    compiled: &CompiledRoot,
+    related: &[Seq<Related>],
+) -> Result<Vec<u8>, AllocError>
+    requires { length related.now ≡ length compiled.now.rows.findings }
+    ensures { IfOk result (λ line.
+        IsRootLine (told_of sources.now root.now compiled.now related.now) line.items) }
 {
     let details = details_of(sources, root, compiled.rows.is_faulty)?;
-    let listing = trees_of(sources.allocator(), details.entries.as_slice())?;
-    let found = diagnostics_of(sources, compiled.rows.findings.as_slice())?;
+    let listing = rows_of(sources, root, details.entries.as_slice())?;
+    let found = diagnostics_of(sources, compiled.rows.findings.as_slice(), related)?;
     let asked = sources.asked(root)?;
     let told = RootTold {
         name: root,
@@ -86,7 +105,8 @@ fn line_of(sources: &Sources, root: &Name, compiled: &CompiledRoot) -> Result<Ve
 // What the listing of a root tells, which is nothing where it has an error.
 fn details_of(sources: &Sources, root: &Name, has_error: bool) -> Result<Details, AllocError>
     ensures { IfOk result (λ details.
-        map (λ entry. entry.tree) details.entries ≡ listing_of sources.now root.now has_error) }
+        map (row_in sources.now.files root.now) details.entries
+        ≡ listing_of sources.now root.now has_error) }
 {
     if has_error {
         return Ok(Details {
@@ -95,6 +115,52 @@ fn details_of(sources: &Sources, root: &Name, has_error: bool) -> Result<Details
         });
     }
     sources.details(root)
+}
+
+// The rows of entries, each with where its name is declared first.
+fn rows_of<'d>(
+    sources: &Sources,
+    root: &Name,
+    entries: &'d [DetailedEntry],
+) -> Result<Vec<ListedRow<'d>>, AllocError>
+    ensures { IfOk result (λ rows.
+        map row_of rows.items ≡ map (row_in sources.now.files root.now) entries.entry.now) }
+{
+    let mut rows = Vec::with_capacity(sources.allocator(), entries.len())?;
+    'entries: for entry in entries {
+        rows.push(row_in(sources, root, entry))?;
+    }
+    Ok(rows)
+}
+
+// The row of an entry.
+fn row_in<'d>(sources: &Sources, root: &Name, entry: &'d DetailedEntry) -> ListedRow<'d>
+    ensures { row_of result ≡ row_in sources.now.files root.now entry.entry.now }
+{
+    let declared = match entry.places.as_slice().first() {
+        Some(declared) => Some(declared_in(sources, root, declared)),
+        None => None,
+    };
+    ListedRow {
+        tree: &entry.tree,
+        declared,
+    }
+}
+
+// Where a name of a root is declared.
+fn declared_in<'d>(sources: &Sources, root: &Name, declared: &'d DeclaredPlace) -> NamePlace<'d>
+    ensures { place_of result ≡ declared_in sources.now.files root.now declared.entry.now }
+{
+    let SitedToken {
+        place,
+        number,
+        text,
+    } = &declared.name;
+    NamePlace {
+        place,
+        column: sources.column(place, *number, text.as_bytes()),
+        is_main: place.file.as_bytes() == root.as_bytes(),
+    }
 }
 
 /// The trees of entries.
@@ -112,22 +178,66 @@ pub(crate) fn trees_of<'d>(
     Ok(trees)
 }
 
-// What is found, each with its column.
+// What is found, each with its column and its second places.
 fn diagnostics_of<'s>(
     sources: &Sources,
     findings: &'s [Finding],
+    related: &'s [Seq<Related>],
 ) -> Result<Vec<Diagnostic<'s>>, AllocError>
+    requires { length related.now ≡ length findings.now }
     ensures { IfOk result (λ found. map located found.items
-        ≡ map (located_in sources.now.files) findings.entry.now) }
+        ≡ map (located_in sources.now.files) (zip findings.entry.now related.entry.now)) }
 {
     let mut found = Vec::with_capacity(sources.allocator(), findings.len())?;
-    'findings: for finding in findings {
-        found.push(Diagnostic {
-            place: &finding.place,
-            code: finding.code,
-            token: &finding.text,
-            column: column_of(sources, finding),
-        })?;
+    'findings: for index in 0..findings.len() {
+        let seconds = related[index].as_slice();
+        found.push(diagnostic_of(sources, &findings[index], seconds)?)?;
     }
     Ok(found)
+}
+
+// What is found, with its column and its second places.
+fn diagnostic_of<'s>(
+    sources: &Sources,
+    finding: &'s Finding,
+    related: &'s [Related],
+) -> Result<Diagnostic<'s>, AllocError>
+    ensures { IfOk result (λ told.
+        located told ≡ located_in sources.now.files (finding.entry.now, related.entry.now)) }
+{
+    let related = seconds_of(sources, related)?;
+    Ok(Diagnostic {
+        place: &finding.place,
+        code: finding.code,
+        token: &finding.text,
+        column: column_of(sources, finding),
+        related,
+    })
+}
+
+// Second places, each with its column.
+fn seconds_of<'s>(
+    sources: &Sources,
+    related: &'s [Related],
+) -> Result<Seq<SecondPlace<'s>>, AllocError>
+    ensures { IfOk result (λ seconds.
+        map second_of seconds ≡ map (second_at sources.now.files) related.entry.now) }
+{
+    let mut seconds = Vec::with_capacity(sources.allocator(), related.len())?;
+    'related: for second in related {
+        seconds.push(second_of(sources, second))?;
+    }
+    Ok(Seq::from_vec(seconds))
+}
+
+// A second place, with its column.
+fn second_of<'s>(sources: &Sources, second: &'s Related) -> SecondPlace<'s>
+    ensures { second_of result ≡ second_at sources.now.files second.entry.now }
+{
+    SecondPlace {
+        reason: second.reason.words(),
+        place: &second.place,
+        token: &second.text,
+        column: sources.column(&second.place, second.number, second.text.as_bytes()),
+    }
 }

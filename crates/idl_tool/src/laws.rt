@@ -2,14 +2,14 @@
 
 ghost use Rattle.std.specs.Prelude.{◌≡◌, ℕ, All, List, [], flat_map};
 ghost use Rattle.std.specs.List.{IsDistinct};
+ghost use Rattle.std.specs.Map.{keys_of};
 ghost use Rattle.std.specs.Str.{bytes_eq};
 ghost use Rattle.idl_source.specs.texts.Texts.{Texts};
 ghost use Rattle.idl_make.specs.Make.{IsMakeRule, rules_read, rules_text};
-ghost use Rattle.idl_root.specs.declared.compiling.finding.Finding.{Finding};
 ghost use Rattle.idl_program.specs.Compiled.{Written};
 ghost use Rattle.idl_program.specs.declared.failure.Status.{Status};
 ghost use Rattle.idl_program.specs.declared.failure.Status.TheVariants.{Sound};
-ghost use Rattle.idl_tool.specs.Checked.{AreReported, IsTold};
+ghost use Rattle.idl_tool.specs.Checked.{AreReported, Entry, IsTold, Told};
 ghost use Rattle.idl_tool.specs.Compared.{AreCompared, AreKept, Version};
 ghost use Rattle.idl_tool.specs.Deps.{needs_in, needs_of, rules_in};
 ghost use Rattle.idl_tool.specs.declared.request.Deps.{Deps};
@@ -32,11 +32,10 @@ pub fn rules_tell_what_is_asked()
 
 /// Of findings each is told, and no two reports of them are alike. This does nothing: it carries the laws.
 pub fn findings_are_told_once()
-    ensures told { (files : Texts) (findings : List Finding) (reports : List (List ℕ))
-        → AreReported files findings [] reports
-        → All (λ finding. IsTold files reports finding) findings }
-    ensures once { (files : Texts) (findings : List Finding) (reports : List (List ℕ))
-        → AreReported files findings [] reports → IsDistinct bytes_eq reports }
+    ensures told { (files : Texts) (told : List Told) (reports : List Entry)
+        → AreReported files told [] reports → All (IsTold files reports) told }
+    ensures once { (files : Texts) (told : List Told) (reports : List Entry)
+        → AreReported files told [] reports → IsDistinct bytes_eq (keys_of reports) }
 {}
 
 /// Where comparing two versions ends soundly, each entry of the old one is in the new one, with its kind, and goes over the wire as it

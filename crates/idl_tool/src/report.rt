@@ -2,11 +2,11 @@
 
 ghost use Rattle.std.specs.Prelude.{◌≡◌, ◌++◌, ◌<◌, IfOk, OnOk, map};
 ghost use Rattle.std.specs.Option.{option_copied};
-ghost use Rattle.idl_tool.specs.Report.{beginning, column_text, excerpt, gap_below, heading, hex_digit, line_byte, mark_below, place_text, report, saying, severity, shown_byte, shown_line, shown_token, token_in};
+ghost use Rattle.idl_tool.specs.Report.{beginning, column_text, excerpt, gap_below, heading, hex_digit, line_byte, mark_below, place_text, report, saying, second_line, severity, shown_byte, shown_line, shown_token, token_in};
 
 use idl_explain::Words;
 use idl_fault::{Code, Place};
-use idl_project::Finding;
+use idl_project::{Finding, Related};
 use itoa::Buffer;
 use std::alloc::{AllocError, Global};
 
@@ -67,6 +67,25 @@ fn push_saying(finding: &Finding, words: Words, out: &mut Vec<u8>) -> Result<(),
     out.extend_from_slice(b" [")?;
     out.extend_from_slice(&finding.code.text())?;
     out.extend_from_slice(b"]\n")
+}
+
+/// Writes the line of a second place: `  near: TOKEN, FILE:LINE:COLUMN`.
+pub fn push_second(
+    second: &Related,
+    column: Option<usize>,
+    out: &mut Vec<u8>,
+) -> Result<(), AllocError>
+    ensures { OnOk result
+        (out.new.items ≡ out.old.items ++ second_line second.now column) }
+{
+    let token = shown_token(*out.allocator(), second.text.as_bytes())?;
+    out.extend_from_slice(b"  ")?;
+    out.extend_from_slice(second.reason.words())?;
+    out.extend_from_slice(b": ")?;
+    out.extend_from_slice(&token)?;
+    out.extend_from_slice(b", ")?;
+    push_place(&second.place, column, out)?;
+    out.extend_from_slice(b"\n")
 }
 
 // What a row shows behind its code.

@@ -1,10 +1,11 @@
 //! The tests, by subject.
 
+mod batches;
 mod commands;
 mod compared;
+mod copies;
 mod expansions;
 mod files;
-mod journals;
 mod rows;
 mod support;
 mod tokens;

@@ -1,5 +1,5 @@
 -- The names of a unit, in the order of its tokens, and the path of what each of them denotes.
-use Rattle.std.specs.Prelude.{ℕ, List, [], ◌∷◌, ◌++◌, Option, None, Some, Result, Ok, Err, flat_map, if◌then◌else◌, length, map, option_to_list, slice_get}
+use Rattle.std.specs.Prelude.{ℕ, List, [], ◌∷◌, ◌++◌, Option, None, Some, Ok, Err, flat_map, if◌then◌else◌, length, map, option_to_list, slice_get}
 use Rattle.std.specs.Option.{option_map}
 use Rattle.idl_check.specs.walk.Held.{visited}
 use Rattle.idl_check.specs.walk.Verdict.{first_faults, placed_walk, tree_of}

@@ -91,11 +91,11 @@ use Rattle.idl_tree.specs.NameParts.{last_at}
 none-more : (n : ℕ) → n ≡ n + 0
 none-more n = omega arith
 
-unfound-faulty : (n : ℕ) (w : Walk) (way : Use) (name : ScopedName) (fault : NameFault) → IsUpTo {A = Found} n (Err fault) → (unfound_visit w way name fault).faults ≡ [] → ⊥
+pub unfound-faulty : (n : ℕ) (w : Walk) (way : Use) (name : ScopedName) (fault : NameFault) → IsUpTo {A = Found} n (Err fault) → (unfound_visit w way name fault).faults ≡ [] → ⊥
 unfound-faulty n w way name (At why part) up h = cc
 unfound-faulty n w way name Memory up h = up
 
-valued-found : (w : Walk) (way : Purpose) (o : Outcome) → (value_visit w way o).after.found ≡ w.found
+pub valued-found : (w : Walk) (way : Purpose) (o : Outcome) → (value_visit w way o).after.found ≡ w.found
 valued-found w purpose.Bound (comes.Value v) = refl
 valued-found w purpose.Constant (comes.Value v) = refl
 valued-found w purpose.Length (comes.Value v) = refl
@@ -107,12 +107,12 @@ union-found : (w : Walk) (b : Bool) → (union_visit w b).after.found ≡ w.foun
 union-found w true = refl
 union-found w false = refl
 
-end-found : (w : Walk) (o : Option Scope) → (end_visit w o).after.found ≡ w.found
+pub end-found : (w : Walk) (o : Option Scope) → (end_visit w o).after.found ≡ w.found
 end-found w None = refl
 end-found w (Some s) = union-found w (kind_eq s.kind UnionKind)
 
 module _ (turns : ℕ) (answers : Key → Option Answer) where
-  declared-found : (way : Declaration) (name : List ℕ) (w : Walk) (o : Option Scope) → (outcome (declared_by turns answers way name w o) answers).after.found ≡ w.found
+  pub declared-found : (way : Declaration) (name : List ℕ) (w : Walk) (o : Option Scope) → (outcome (declared_by turns answers way name w o) answers).after.found ≡ w.found
   declared-found way name w None = refl
   declared-found way name w (Some s) =
       ap (λ (v : Visit). v.after.found)

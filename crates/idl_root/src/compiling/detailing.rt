@@ -20,7 +20,8 @@ use idl_memo::Bank;
 use idl_unit::split;
 use std::alloc::{AllocError, Global};
 
-/// What is told of a name that has an id: its row, as a tree, and where it is declared, in order.
+/// What is told of a name that has an id: its row, as a tree, and where it is declared, in order: there is one place at least
+/// (`placing`).
 pub struct DetailedEntry {
     pub tree: RowTree,
     pub places: Seq<DeclaredPlace>,

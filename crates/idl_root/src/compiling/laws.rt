@@ -1,6 +1,6 @@
 //! The laws of what is told.
 
-ghost use Rattle.std.specs.Prelude.{◌≡◌, ◌++◌, [], ℕ, All, List, false, filter, map, nat_eq};
+ghost use Rattle.std.specs.Prelude.{◌≡◌, ◌<◌, ◌++◌, [], ℕ, All, List, false, filter, length, map, nat_eq};
 ghost use Rattle.idl_block.specs.Blocks.{walk};
 ghost use Rattle.idl_env.specs.Facts.{UnitFacts, answers};
 ghost use Rattle.idl_event.specs.declared.told.event.Event.{Event};
@@ -20,7 +20,7 @@ ghost use Rattle.std.specs.List.Sorted.{IsNonDecreasingBy};
 ghost use Rattle.idl_root.specs.Findings.{finding_row, in_order};
 ghost use Rattle.idl_root.specs.declared.compiling.finding.EventFinding.{EventFinding};
 
-use idl_check_laws::{more_turns, numbering};
+use idl_check_laws::{acceptance, more_turns, names, numbering, refusal};
 use idl_details::printing;
 use idl_repo::listed_row;
 
@@ -52,6 +52,17 @@ pub fn detailing()
     // They do nothing: they carry laws of the listing, and of trees.
     listed_row();
     printing();
+}
+
+/// Each name that the details of a root tell of has a place where it is declared. This does nothing: it carries the law.
+pub fn placing()
+    ensures { (events : List Event)
+        → All (λ entry. 0 < length entry.places) (details events).entries }
+{
+    // They do nothing: they carry laws of names, and of verdicts.
+    names();
+    refusal();
+    acceptance();
 }
 
 /// The facts of a root are what verdicts tell, each over those before it: of them the law of closed interfaces speaks

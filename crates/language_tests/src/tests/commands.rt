@@ -1,13 +1,6 @@
-//! Commands that are malformed, the words of refusals and stops; the limits of commands, of a project and of a root, and what goes
-//! past none.
-
-ghost use Rattle.idl_project.specs.WithinLimits.{IsWithinLimits};
+//! Commands that are malformed, the words of stops; the limits of commands, of a project and of a root, and what goes past none.
 
 use super::support::{answers, have_replies, have_rows};
-use idl_session::Refusal::{
-    BadMacro, BadName, Malformed, NoMemory, NoSuchFile, NoSuchRoot, OutsideFile, OverLimit,
-    RootThere, Unfinished,
-};
 use idl_session::Session;
 use idl_session::Stop::{ReadFailed, WriteFailed};
 use std::test::Fail;
@@ -22,15 +15,9 @@ fn a_last_line_without_newline_counts_if_it_has_a_byte(rt: HostRuntime) -> Resul
 }
 
 #[test]
-fn refusals_and_stops_have_words(rt: HostRuntime) -> Result<(), Fail> {
-    let mut said = String::new(rt.alloc());
-    write!(said, "{Malformed};{BadName};{NoSuchFile};{OutsideFile};")?;
-    write!(said, "{OverLimit};{BadMacro};{NoSuchRoot};{RootThere};")?;
-    write!(said, "{NoMemory};{Unfinished};{ReadFailed};{WriteFailed}")?;
-    let want =
-        "malformed command;name not allowed;no such file;lines outside the file;over a limit;macro not allowed;\
-         no such root;root already there;no memory;input ended inside a command;read failed;write failed";
-    assert_eq!(rt; said.as_str(), want);
+fn stops_have_words(rt: HostRuntime) -> Result<(), Fail> {
+    let said = format!(in rt.alloc(); "{ReadFailed};{WriteFailed}")?;
+    assert_eq!(rt; said.as_str(), "read failed;write failed");
     Ok(())
 }
 
@@ -77,19 +64,4 @@ fn files_commands_and_projects_are_bounded(rt: HostRuntime) -> Result<(), Fail> 
 #[test]
 fn the_turns_of_a_root_are_bounded(rt: HostRuntime) -> Result<(), Fail> {
     have_rows(&rt, &ROOTS)
-}
-
-// Whatever commands a session has served, a proof knows this of it.
-fn tells_its_limits(session: &Session)
-    ensures { IsWithinLimits session.now.project }
-{
-    session.keeps_form();
-}
-
-#[test]
-fn a_session_tells_that_it_keeps_the_limits(rt: HostRuntime) -> Result<(), Fail> {
-    let mut session = Session::new(rt.alloc());
-    answers(&rt, &mut session, "define X 1\nroot a.idl\n", "ok\nok\n")?;
-    tells_its_limits(&session);
-    answers(&rt, &mut session, "absent a.idl\n", "rows 1\na.idl\n")
 }

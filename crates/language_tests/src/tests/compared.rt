@@ -1,12 +1,12 @@
-//! What edits compare, where files are included: as many keys as known tasks asked that are alike where they are met, and no more than all
-//! asked of the texts that are met. Both are reckoned here from what each task of the projects before and after an edit asks.
+//! What edits compare, where files are included: as many keys as known tasks asked that are alike where they are met. It is reckoned here
+//! from what each task of the projects before and after an edit asks.
 
 use super::expansions::Answers;
-use super::support::{Host, answers};
+use super::support::replies;
 use idl_check::{DeclarationTask, Scratch, Verdict};
 use idl_entity::Path;
 use idl_env::{Addition, Env, Facts, Step};
-use idl_memo::{Bank, Log, Runnable};
+use idl_memo::{Bank, Log, Runnable, other_at};
 use idl_prep::RootTask;
 use idl_repo::EntryTask;
 use idl_root_blocks::{BlockText, block_at, text_of};
@@ -36,11 +36,7 @@ enum Text {
 fn holds_in<B: Bank>(log: &Log<B>, bank: &B) -> bool {
     for index in 0..log.len() {
         if let Some((key, answer)) = log.get(index) {
-            let is_same = match (bank.answer(key), answer) {
-                (Some(here), Some(there)) => *here == *there,
-                (here, there) => here.is_none() && there.is_none(),
-            };
-            if !is_same {
+            if other_at(answer, bank.answer(key)).is_some() {
                 return false;
             }
         }
@@ -48,29 +44,14 @@ fn holds_in<B: Bank>(log: &Log<B>, bank: &B) -> bool {
     true
 }
 
-// How many keys known tasks asked: those that are alike where they are met, and all those of the texts that are met.
-#[derive(Clone, Copy)]
-struct Sums {
-    least: u64,
-    most: u64,
-}
-
-impl Sums {
-    // A text stands over a bank, and is met there or not: whether a known task is alike.
-    fn meet<T: Eq, B: Bank>(&mut self, known: &[Task<T, B>], here: (&T, &B), is_met: bool) -> bool {
-        let mut is_known = false;
-        for task in known {
-            if task.text == *here.0 {
-                let keys = if is_met { task.log.len() as u64 } else { 0 };
-                self.most = self.most.saturating_add(keys);
-                if holds_in(&task.log, here.1) {
-                    self.least = self.least.saturating_add(keys);
-                    is_known = true;
-                }
-            }
+// How many keys the known task of this text asked that is alike over a bank, if one is.
+fn alike<T: Eq, B: Bank>(known: &[Task<T, B>], text: &T, bank: &B) -> Option<u64> {
+    for task in known {
+        if task.text == *text && holds_in(&task.log, bank) {
+            return Some(task.log.len() as u64);
         }
-        is_known
     }
+    None
 }
 
 // A block that isn't left: its text with what it has asked so far and hadn't written, the number of its entering among the facts, how many
@@ -97,17 +78,16 @@ impl Open {
     }
 }
 
-// A project, in a session and beside it: its files and roots, its tasks, each of those that are alike once, and the sums over those that are met. Of the root that is
-// gone through: which blocks aren't left, the innermost last, and the names that have an id.
+// A project beside a session of it: its files and roots, its tasks, each of those that are alike once, and how many keys are compared where
+// they are met. Of the root that is gone through: which blocks aren't left, the innermost last, and the names that have an id.
 #[derive(Drop)]
 struct Project {
     alloc: Global,
-    session: Session,
     files: Answers,
     roots: Vec<Name>,
     expansions: Vec<Task<Name, Answers>>,
     tasks: Vec<Task<Text, Env>>,
-    sums: Sums,
+    compared: u64,
     open: Vec<Open>,
     names: Vec<Path>,
 }
@@ -116,20 +96,34 @@ impl Project {
     fn new(alloc: Global) -> Project {
         Project {
             alloc,
-            session: Session::new(alloc),
             files: Answers::new(alloc),
             roots: Vec::new(alloc),
             expansions: Vec::new(alloc),
             tasks: Vec::new(alloc),
-            sums: Sums { least: 0, most: 0 },
+            compared: 0,
             open: Vec::new(alloc),
             names: Vec::new(alloc),
         }
     }
 
+    // Only what is met before an edit is known behind it.
+    fn take(&mut self, edit: &str) -> Result<(), AllocError> {
+        self.expansions.clear();
+        self.tasks.clear();
+        self.meet_all()?;
+        let (command, lines) = edit.split_once('\n').unwrap_or((edit, ""));
+        let name = command.split(' ').nth(1).unwrap_or("");
+        match Name::new(name.as_bytes()) {
+            Some(name) if command.starts_with("put") => self.files.put(self.alloc, &name, lines)?,
+            Some(name) if command.starts_with("root") => self.roots.push(name)?,
+            _ => {}
+        }
+        self.meet_all()
+    }
+
     // Goes through all roots: their tasks become known, too.
     fn meet_all(&mut self) -> Result<(), AllocError> {
-        self.sums = Sums { least: 0, most: 0 };
+        self.compared = 0;
         for root in self.roots.clone()? {
             self.meet_root(root)?;
         }
@@ -137,15 +131,18 @@ impl Project {
     }
 
     fn meet_root(&mut self, root: Name) -> Result<(), AllocError> {
+        if let Some(keys) = alike(&self.expansions, &root, &self.files) {
+            self.count(keys);
+            return Ok(());
+        }
         let mut log = Log::new(self.alloc);
         let task = RootTask::new(root.copied());
         let expansion = task.run(self.alloc, &self.files, &mut (), &mut log)?;
-        if self.sums.meet(&self.expansions, (&root, &self.files), true) {
-            return Ok(());
-        }
         self.expansions.push(Task { text: root, log })?;
-        let units = split(self.alloc, &expansion)?;
-        let units = units.as_slice();
+        self.meet_units(split(self.alloc, &expansion)?.as_slice())
+    }
+
+    fn meet_units(&mut self, units: &[Unit]) -> Result<(), AllocError> {
         let mut env = Env::new(self.alloc)?;
         for place in 0..units.len() {
             env = self.meet_unit(env, &units[place], &units[place + 1..])?;
@@ -165,49 +162,60 @@ impl Project {
 
     // The facts behind the next unit, behind which these stand.
     fn meet_unit(&mut self, env: Env, unit: &Unit, behind: &[Unit]) -> Result<Env, AllocError> {
-        let mut facts = Facts::new(self.alloc);
-        match unit {
-            Unit::Spelled(text, _sites) => {
-                let verdict = self.judge(&env, text)?;
-                return env.add(verdict.writes.get());
-            }
-            Unit::Entered(_file, _inside) => {
-                if let Some((inside, others)) = block_at(unit, behind) {
-                    self.enter(&env, inside, others.len())?;
-                }
-                facts.then(Step::Enters);
-            }
-            Unit::Left(_file, _inside) => {
-                self.leave(behind.len())?;
-                facts.then(Step::Leaves);
-            }
-            Unit::End => {}
+        if let Unit::Spelled(text, _sites) = unit {
+            let verdict = self.judge(&env, text)?;
+            return env.add(verdict.writes.get());
         }
+        let step = self.pass(&env, unit, behind)?;
+        let mut facts = Facts::new(self.alloc);
+        facts.then(step);
         env.add(&facts)
     }
 
+    // The step of a boundary.
+    fn pass(&mut self, env: &Env, unit: &Unit, behind: &[Unit]) -> Result<Step, AllocError> {
+        match unit {
+            Unit::Entered(_file, _inside) => {
+                if let Some((inside, others)) = block_at(unit, behind) {
+                    self.enter(env, inside, others.len())?;
+                }
+                Ok(Step::Enters)
+            }
+            Unit::Left(_file, _inside) => {
+                self.leave(behind.len())?;
+                Ok(Step::Leaves)
+            }
+            _ => Ok(Step::Stays),
+        }
+    }
+
     fn judge(&mut self, env: &Env, text: &UnitText) -> Result<Verdict, AllocError> {
-        let mut log = Log::new(self.alloc);
         let text = text.clone()?;
         let task = DeclarationTask { text };
+        let mut log = Log::new(self.alloc);
         let verdict = task.run(self.alloc, env, &mut Scratch::new(self.alloc), &mut log)?;
+        self.note(env, &log, verdict.writes.get())?;
+        self.meet(Text::Declaration(task.text), log, env)?;
+        Ok(verdict)
+    }
+
+    // The blocks that aren't left ask what was asked in them, and the names that appear have an id.
+    fn note(&mut self, env: &Env, log: &Log<Env>, facts: &Facts) -> Result<(), AllocError> {
         for block in self.open.iter_mut() {
-            block.ask(env, &log)?;
+            block.ask(env, log)?;
         }
-        let facts = verdict.writes.get();
         for index in 0..facts.len() {
             if let Some(Addition::Appears(path, _)) = facts.addition(index) {
                 self.names.push(path.clone()?)?;
             }
         }
-        self.meet(Text::Declaration(task.text), log, env)?;
-        Ok(verdict)
+        Ok(())
     }
 
     fn meet(&mut self, text: Text, log: Log<Env>, env: &Env) -> Result<(), AllocError> {
-        let is_met = self.is_next_met();
-        if !self.sums.meet(&self.tasks, (&text, env), is_met) {
-            self.tasks.push(Task { text, log })?;
+        match alike(&self.tasks, &text, env) {
+            Some(keys) => self.count(keys),
+            None => self.tasks.push(Task { text, log })?,
         }
         Ok(())
     }
@@ -219,26 +227,35 @@ impl Project {
         }
     }
 
+    // A known task that asked so many keys is alike next.
+    fn count(&mut self, keys: u64) {
+        if self.is_next_met() {
+            self.compared = self.compared.saturating_add(keys);
+        }
+    }
+
     // The block of these units, behind whose leaving so many stand, is entered next.
     fn enter(&mut self, env: &Env, inside: &[Unit], behind: usize) -> Result<(), AllocError> {
         let is_met = self.is_next_met();
         let text = Text::Block(text_of(self.alloc, inside)?);
-        let is_known = self.sums.meet(&self.tasks, (&text, env), is_met);
+        let known = alike(&self.tasks, &text, env);
+        self.count(known.unwrap_or(0));
         let log = Log::new(self.alloc);
         self.open.push(Open {
             task: Task { text, log },
             start: env.len().saturating_add(1),
             behind,
-            is_known,
-            is_met: is_met && !is_known,
+            is_known: known.is_some(),
+            is_met: is_met && known.is_none(),
         })?;
         Ok(())
     }
 
     // The innermost block is left next, if so many units stand behind its leaving.
     fn leave(&mut self, behind: usize) -> Result<(), AllocError> {
-        if !self.open.last().is_some_and(|block| block.behind == behind) {
-            return Ok(());
+        match self.open.last() {
+            Some(block) if block.behind == behind => {}
+            _ => return Ok(()),
         }
         if let Some(block) = self.open.pop() {
             if !block.is_known {
@@ -249,24 +266,11 @@ impl Project {
     }
 }
 
-// What an edit of a project compares is the lower sum, and no more than the upper one. A macro is asked by no root here.
-fn compares_so(rt: &impl Host, project: &mut Project, edit: &str) -> Result<(), Fail> {
-    project.expansions.clear();
-    project.tasks.clear();
-    project.meet_all()?;
-    answers(rt, &mut project.session, edit, "ok\n")?;
-    let (command, lines) = edit.split_once('\n').unwrap_or((edit, ""));
-    let name = command.split(' ').nth(1).unwrap_or("");
-    match Name::new(name.as_bytes()) {
-        Some(name) if command.starts_with("put") => project.files.put(rt.alloc(), &name, lines)?,
-        Some(name) if command.starts_with("root") => project.roots.push(name)?,
-        _ => {}
-    }
-    project.meet_all()?;
-    let Sums { least, most } = project.sums;
-    assert_eq!(rt; project.session.work().compared, least, "{edit}");
-    assert!(rt; least <= most, "{edit}");
-    Ok(())
+// What an edit of a project compares is that sum. A macro is asked by no root here.
+fn compares_so(session: &mut Session, project: &mut Project, edit: &str) -> Result<bool, Fail> {
+    project.take(edit)?;
+    let found = replies(project.alloc, session, edit)?;
+    Ok(found.as_bytes() == b"ok\n".as_slice() && session.work().compared == project.compared)
 }
 
 // Edits, with ` ¶ ` between one and the next.
@@ -296,11 +300,12 @@ static SCRIPTS: [&str; 4] = [
 ];
 
 #[test]
-fn edits_compare_the_lower_sum(rt: HostRuntime) -> Result<(), Fail> {
+fn edits_compare_that_sum(rt: HostRuntime) -> Result<(), Fail> {
     for script in &SCRIPTS {
+        let mut session = Session::new(rt.alloc());
         let mut project = Project::new(rt.alloc());
         for edit in script.split(" ¶ ") {
-            compares_so(&rt, &mut project, edit)?;
+            assert!(rt; compares_so(&mut session, &mut project, edit)?, "{edit}");
         }
     }
     Ok(())

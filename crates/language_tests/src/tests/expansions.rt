@@ -59,7 +59,8 @@ pub fn expansion_of(alloc: Global, text: &str) -> Result<Expansion, AllocError> 
     let Some(name) = Name::new(b"a.idl") else {
         return ExpansionBuilder::new(alloc).build(alloc);
     };
-    let bank = answers_of(alloc, &name, text)?;
+    let mut bank = Answers::new(alloc);
+    bank.put(alloc, &name, text)?;
     let mut log = Log::new(alloc);
     RootTask::new(name).run(alloc, &bank, &mut (), &mut log)
 }
@@ -78,13 +79,6 @@ impl Answers {
         self.entries
             .insert(RootKey::File(name), RootAnswer::File(file))
     }
-}
-
-/// The one file of this name and text.
-pub fn answers_of(alloc: Global, name: &Name, text: &str) -> Result<Answers, AllocError> {
-    let mut answers = Answers::new(alloc);
-    answers.put(alloc, name, text)?;
-    Ok(answers)
 }
 
 fn emitted(alloc: Global, expansion: &Expansion) -> Result<String, AllocError> {

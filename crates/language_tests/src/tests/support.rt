@@ -148,12 +148,11 @@ pub fn have_rows(rt: &impl Host, texts: &[&str]) -> Result<(), Fail> {
 
 /// A root `a` of these lines has these rows: diagnostics, which begin with its name, or else its dump.
 pub fn has_rows(rt: &impl Host, lines: &str, rows: &str) -> Result<(), Fail> {
-    let (count, told) = (lines.lines().count(), rows.lines().count());
+    let count = lines.lines().count();
     let script = format!(in rt.alloc(); "put a {count}\n{lines}root a\ndiagnostics a\ndump a\n")?;
-    let want = if rows.starts_with("a:") {
-        format!(in rt.alloc(); "ok\nok\nrows {told}\n{rows}rows 0\n")?
-    } else {
-        format!(in rt.alloc(); "ok\nok\nrows 0\nrows {told}\n{rows}")?
-    };
+    let told = if rows.starts_with("a:") { rows } else { "" };
+    let dump = if told.is_empty() { rows } else { "" };
+    let (findings, entries) = (told.lines().count(), dump.lines().count());
+    let want = format!(in rt.alloc(); "ok\nok\nrows {findings}\n{told}rows {entries}\n{dump}")?;
     has_replies(rt, script.as_str(), want.as_str())
 }

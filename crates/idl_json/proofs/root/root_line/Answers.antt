@@ -3,8 +3,8 @@ use Rattle.serde_json.proofs.OnLiterals.{serde_json_on_literals}
 use Rattle.serde_json.specs.Data.{boolean}
 use Rattle.serde_json.specs.View.{items_of}
 use Rattle.serde_json.specs.Written.{compact_text, items_text}
+use Rattle.idl_json.specs.Listed.{row_json}
 use Rattle.idl_json.specs.Root.{Root, root_json, root_of}
-use Rattle.idl_json.specs.Rows.{json_of}
 use Rattle.idl_json.specs.Text.{text_json, texts_json}
 use Rattle.serde_json.specs.Data.{Data}
 use Rattle.idl_json.proofs.LineLemmas.{behind, in-a-row, row-behind}
@@ -14,11 +14,11 @@ use Rattle.idl_json.proofs.root.root_line.Goals as goal
 parts : (root : Root) (found : List Data) → compact_text (root_json root found) ++ 10 ∷ []
     ≡ codes "{\"absent\":" ++ (compact_text (texts_json root.absent) ++ (codes ",\"asked\":" ++ (compact_text (texts_json root.asked)
     ++ (codes ",\"diagnostics\":[" ++ (items_text false (items_of found) ++ (codes ",\"faulty\":" ++ (compact_text (boolean root.is_faulty)
-    ++ (codes ",\"listing\":[" ++ (items_text false (items_of (map json_of root.listing)) ++ (codes ",\"root\":" ++ (compact_text (text_json root.name) ++ (125 ∷ 10 ∷ []))))))))))))
+    ++ (codes ",\"listing\":[" ++ (items_text false (items_of (map row_json root.listing)) ++ (codes ",\"root\":" ++ (compact_text (text_json root.name) ++ (125 ∷ 10 ∷ []))))))))))))
 unfolding serde_json_on_literals
 parts root found =
     row-behind (codes "{\"absent\":") (compact_text (texts_json root.absent)) (codes ",\"asked\":") (compact_text (texts_json root.asked)) (codes ",\"diagnostics\":[")
-    (items_text false (items_of found)) (codes ",\"faulty\":") (compact_text (boolean root.is_faulty)) (codes ",\"listing\":[") (items_text false (items_of (map json_of root.listing)))
+    (items_text false (items_of found)) (codes ",\"faulty\":") (compact_text (boolean root.is_faulty)) (codes ",\"listing\":[") (items_text false (items_of (map row_json root.listing)))
     (codes ",\"root\":") (compact_text (text_json root.name)) (125 ∷ []) (10 ∷ [])
 
 pub returns : goal.returns
@@ -40,6 +40,6 @@ returns c =
     let n = behind _ _ _ (125 ∷ 10 ∷ []) m c.in_ok-extend_from_slice-8.ensures.items in
     let row =
     in-a-row (codes "{\"absent\":") (compact_text (texts_json root.absent)) (codes ",\"asked\":") (compact_text (texts_json root.asked)) (codes ",\"diagnostics\":[")
-    (items_text false (items_of found.0)) (codes ",\"faulty\":") (compact_text (boolean root.is_faulty)) (codes ",\"listing\":[") (items_text false (items_of (map json_of root.listing)))
+    (items_text false (items_of found.0)) (codes ",\"faulty\":") (compact_text (boolean root.is_faulty)) (codes ",\"listing\":[") (items_text false (items_of (map row_json root.listing)))
     (codes ",\"root\":") (compact_text (text_json root.name)) (125 ∷ 10 ∷ []) in
     (found.0, found.1, n ∙ row ∙ sym (parts root found.0))

@@ -4,7 +4,6 @@ use Rattle.std.proofs.lemmas.List.Sums.{sum_by-cons}
 use Rattle.std.specs.Option.{option_eq}
 use Rattle.std.specs.Str.{bytes_eq}
 use Rattle.idl_event.specs.Key.{key_eq}
-use Rattle.idl_event.specs.contracts.asked.key.RootAnswerPartialEq.TheImpl.{ghosts}
 use Rattle.idl_event.specs.declared.asked.key.RootAnswer.{RootAnswer}
 use Rattle.std.specs.Prelude.{Bool}
 use Rattle.idl_memo.specs.Fresh.{most_shared_at, shared_at}
@@ -13,7 +12,7 @@ use Rattle.idl_root.specs.Compared.{most_shared_entry, shared_entry}
 use Rattle.idl_root.specs.Places.{EntryPlace}
 use Rattle.idl_root_blocks.specs.Met.{Met, compared, most_compared, most_shared_by, shared_by}
 use Rattle.idl_project.specs.Compared.{MetEntry, MetRoot, MetText, PlaceMet, compared_in, most_compared_in, most_shared_keys, shared_keys}
-use Rattle.idl_project.specs.Tasks.{RootPlace, answer_eq}
+use Rattle.idl_project.specs.Tasks.{RootPlace}
 use Rattle.idl_project.specs.Work.{met_of}
 use Rattle.idl_project.proofs.KeptLemmas.{answer_eq-derived}
 use Rattle.idl_project.proofs.work.compared_is_bounded.Goals as goal

@@ -1,8 +1,9 @@
 use Rattle.std.proofs.Common.{◌≡◌, map, take}
+use Rattle.std.specs.List.{zip}
 use Rattle.idl_json.specs.Diagnostic.{located}
 use Rattle.idl_tool.specs.Json.{located_in}
 use Rattle.idl_tool.proofs.json.diagnostics_of.Given as goal
 
 -- those of the findings before
 abbrev pub invariant-findings : goal.invariant-findings
-invariant-findings l = map located l.found.items ≡ map (located_in l.sources.files) (take l.finding-index l.findings)
+invariant-findings l = map located l.found.items ≡ map (located_in l.sources.files) (take l.index (zip l.findings l.related))

@@ -4,17 +4,15 @@ use Rattle.std.proofs.lemmas.Map.Entries.{length-keys_of}
 use Rattle.std.proofs.lemmas.List.Elements.{All-head, All-tail, All-push, All-nil}
 use Rattle.std.specs.List.{list_any, IsDistinct}
 use Rattle.std.specs.Map.{keys_of}
-use Rattle.std.specs.Option.{option_copied, option_eq}
+use Rattle.std.specs.Option.{option_eq}
 use Rattle.std.specs.Str.{bytes_eq}
-use Rattle.idl_event.specs.Key.{key_eq}
 use Rattle.idl_kept.specs.Texts.{Texts}
-use Rattle.idl_memo.specs.Cause.{changed}
 use Rattle.idl_memo.specs.Fresh.{stale_at}
 use Rattle.idl_memo.specs.Meter.{compared_after}
 use Rattle.idl_memo.specs.declared.meter.Meter.{Meter}
 use Rattle.idl_prep.specs.Root.{expansion}
-use Rattle.idl_store.specs.Stored.{Stored, list_at}
-use Rattle.idl_root.specs.Results.{EntryResult, entry_result, fresh_declarations, fresh_entries}
+use Rattle.idl_store.specs.Stored.{list_at}
+use Rattle.idl_root.specs.Results.{entry_result, fresh_declarations, fresh_entries}
 use Rattle.idl_root_blocks.specs.Places.{block_result, declaration_result}
 use Rattle.idl_project.specs.Bank.{bank_of}
 use Rattle.idl_project.specs.Compared.{KnownTasks, compared_in, met_among, met_at, tasks_of, with_tasks}
@@ -32,9 +30,9 @@ use Rattle.idl_project.proofs.TouchedLemmas.{there-middle, touched-on}
 use Rattle.idl_project.proofs.root_table.RootTable.all_renewed.Goals as goal
 
 pub loop-root-init : goal.loop-root-init
-loop-root-init c =
-    let before = bank_of c.args.edited.now.base.now in
-    let after = changed key_eq before c.args.edited.now.key.now (option_copied c.args.edited.now.answer) in
+loop-root-init g c =
+    let before = bank_of c.args.change.now.base.now in
+    let after = g.B.Bank.at c.args.change.now.bank.now in
     let names = keys_of c.args.self.now in
     let left : c.into_iter-root-iterator.result ≡ c.args.self.now = c.into_iter-root-iterator.ensures.into_iter_gives ∙ c.iter-root-items.ensures.rest ∙ c.self.view_is in
     let none : c.new-table.result ≡ [] = c.new-table.ensures in
@@ -50,21 +48,21 @@ loop-root-init c =
     let old : KnownTasks = tasks_of before names in
     let known : with_tasks old (tasks_of after (keys_of c.new-table.result)) ≡ old =
     ap (λ (es : List (List ℕ × KeptRoot)). with_tasks old (tasks_of after (keys_of es))) none ∙ tasks-none old after in
-    let texts = c.requires.texts in
+    let texts = c.requires.held.texts in
     let declarations = way-begins declaration_result (declarations_at before) (declarations_at after) fresh_declarations c.fresh_tasks.ensures.declarations_none names
     c.args.keeper.now.texts.declarations c.new-meter.result.checked (ap (λ (t : Texts). t.declarations) texts) checked in
     let blocks = way-begins block_result (blocks_at before) (blocks_at after) uncounted (λ known. refl) names c.args.keeper.now.texts.blocks 0 (ap (λ (t : Texts). t.blocks) texts) refl in
     let begins = placing-begins (begin_list before) (begin_list after) names c.args.keeper.now.texts.begins (ap (λ (t : Texts). t.begins) texts) in
     let entries = way-begins entry_result (entries_at before) (entries_at after) fresh_entries c.fresh_tasks.ensures.entries_none names
-    c.args.keeper.now.entries c.new-meter.result.printed c.requires.entries printed in
+    c.args.keeper.now.entries c.new-meter.result.printed c.requires.held.entries printed in
     let whole : List (List ℕ) × List (List ℕ) = ([], names) in
     let parts : List (List ℕ) × List (List ℕ) = (keys_of c.new-table.result, keys_of c.into_iter-root-iterator.result) in
     let begun : whole ≡ parts = λ i. (keys_of (sym none i), sym names_left i) in
     record {
       roots = all;
-      distinct = subst (λ (ns : List (List ℕ)). IsDistinct bytes_eq ns) (sym all) c.requires.formed.roots_once;
+      distinct = subst (λ (ns : List (List ℕ)). IsDistinct bytes_eq ns) (sym all) c.requires.held.formed.roots_once;
       kept = subst (AreKept after) (sym none) (All-nil (λ (e : List ℕ × KeptRoot). IsKept after e));
-      kept_left = subst (AreKept before) (sym left) c.requires.kept;
+      kept_left = subst (AreKept before) (sym left) c.requires.held.kept;
       expanded = omega (arith, expanded, stale);
       compared = λ i. compared_after (compared i) (compared_in (met_among (known i) after (names_left i)));
       touched = λ i. c.new-touched.ensures i ++ touched_between before names after (names_left i);
@@ -78,15 +76,15 @@ loop-root-init c =
     }
 
 pub add-requires : goal.add-requires
-add-requires c =
+add-requires g c =
     let left : c.loop-root.root-iterator ≡ (c.in-Some.root.now, c.in-Some.kept.now) ∷ c.next.new.self = c.in-Some.ensures.steps in
     ap (λ (name : List ℕ). list_any (bytes_eq name) (keys_of c.loop-root.table)) c.copied.ensures
     ∙ list_any-before (keys_of c.loop-root.table) c.in-Some.root.now (keys_of c.next.new.self)
     (subst (λ (es : List (List ℕ × KeptRoot)). IsDistinct bytes_eq (keys_of c.loop-root.table ++ keys_of es)) left c.loop-root.invariant.distinct)
 
 pub renewed-requires-clause-kept : goal.renewed-requires-clause-kept
-renewed-requires-clause-kept c =
-    let before = bank_of c.args.edited.now.base.now in
+renewed-requires-clause-kept g c =
+    let before = bank_of c.args.change.now.base.now in
     let left : c.loop-root.root-iterator ≡ (c.in-Some.root.now, c.in-Some.kept.now) ∷ c.next.new.self = c.in-Some.ensures.steps in
     let one : IsKept before (c.in-Some.root.now, c.in-Some.kept.now) =
     All-head (λ (e : List ℕ × KeptRoot). IsKept before e) (c.in-Some.root.now, c.in-Some.kept.now) c.next.new.self (subst (AreKept before) left c.loop-root.invariant.kept_left) in
@@ -99,8 +97,8 @@ own-list {R} list lists names done root text left at are all place same =
     ap (λ (ls : List (List R)). list_at ls at) (are ∙ ap (λ (ns : List (List ℕ)). map list ns) all) ∙ list_at-middle list done root left at place ∙ ap list (sym same)
 
 pub renewed-requires-clause-lists : goal.renewed-requires-clause-lists
-renewed-requires-clause-lists c =
-    let before = bank_of c.args.edited.now.base.now in
+renewed-requires-clause-lists g c =
+    let before = bank_of c.args.change.now.base.now in
     let root = c.in-Some.root.now in
     let rest : List (List ℕ × KeptRoot) = c.next.new.self in
     let left : c.loop-root.root-iterator ≡ (root, c.in-Some.kept.now) ∷ rest = c.in-Some.ensures.steps in
@@ -120,9 +118,9 @@ renewed-requires-clause-lists c =
     }
 
 pub loop-root-preserved : goal.loop-root-preserved
-loop-root-preserved c =
-    let before = bank_of c.args.edited.now.base.now in
-    let after = changed key_eq before c.args.edited.now.key.now (option_copied c.args.edited.now.answer) in
+loop-root-preserved g c =
+    let before = bank_of c.args.change.now.base.now in
+    let after = g.B.Bank.at c.args.change.now.bank.now in
     let names = keys_of c.args.self.now in
     let table = c.loop-root.table in
     let done = keys_of table in
@@ -207,9 +205,9 @@ loop-root-preserved c =
     }
 
 pub returns-clause-renewed : goal.returns-clause-renewed
-returns-clause-renewed c =
-    let before = bank_of c.args.edited.now.base.now in
-    let after = changed key_eq before c.args.edited.now.key.now (option_copied c.args.edited.now.answer) in
+returns-clause-renewed g c =
+    let before = bank_of c.args.change.now.base.now in
+    let after = g.B.Bank.at c.args.change.now.bank.now in
     let names = keys_of c.args.self.now in
     let m = c.loop-root.meter in
     let inv = c.loop-root.invariant in
@@ -238,5 +236,5 @@ returns-clause-renewed c =
           ∙ inv.touched;
       work =
           c.counted.ensures
-          ∙ work-same before after names m.expanded m.checked m.printed m.compared (c.one_bank.ensures.same_places before after names c.requires.formed.roots_once) expanded compared declarations.1 entries.1;
+          ∙ work-same before after names m.expanded m.checked m.printed m.compared (c.one_bank.ensures.same_places before after names c.requires.held.formed.roots_once) expanded compared declarations.1 entries.1;
     }

@@ -1,10 +1,7 @@
 use Rattle.std.proofs.Common.{◌≡◌, ◌+◌, ◌≤◌, ◌++◌, length}
 use Rattle.std.specs.List.{IsDistinct}
 use Rattle.std.specs.Map.{keys_of}
-use Rattle.std.specs.Option.{option_copied}
 use Rattle.std.specs.Str.{bytes_eq}
-use Rattle.idl_event.specs.Key.{key_eq}
-use Rattle.idl_memo.specs.Cause.{changed}
 use Rattle.idl_memo.specs.Meter.{compared_after, most_compared}
 use Rattle.idl_root.specs.AsBefore.{AreListsLeft}
 use Rattle.idl_root.specs.Results.{entry_result, fresh_declarations, fresh_entries}
@@ -20,9 +17,9 @@ use Rattle.idl_project.proofs.root_table.RootTable.all_renewed.Given as goal
 
 -- what was counted and what is still to be counted are all
 abbrev pub invariant-loop-root : goal.invariant-loop-root
-invariant-loop-root l =
-    let before = bank_of l.fn.edited.base.now in
-    let after = changed key_eq before l.fn.edited.key.now (option_copied l.fn.edited.answer) in
+invariant-loop-root g l =
+    let before = bank_of l.fn.change.base.now in
+    let after = g.B.Bank.at l.fn.change.bank.now in
     let names = keys_of l.fn.self in
     record {
       roots : keys_of l.table ++ keys_of l.root-iterator ≡ keys_of l.fn.self;

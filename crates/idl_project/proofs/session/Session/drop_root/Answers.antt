@@ -17,7 +17,7 @@ use Rattle.idl_source.specs.names.Name.{is_name}
 use Rattle.idl_source.specs.declared.refusal.Refusal.{Refusal}
 use Rattle.idl_source.specs.declared.refusal.Refusal.TheVariants.{BadName, NoSuchRoot}
 use Rattle.idl_store.specs.Stored.{Stored, removed}
-use Rattle.idl_root.specs.Results.{EntryResult, entry_result, fresh_declarations, fresh_entries}
+use Rattle.idl_root.specs.Results.{entry_result, fresh_declarations, fresh_entries}
 use Rattle.idl_root_blocks.specs.Places.{declaration_result}
 use Rattle.idl_project.specs.Bank.{bank_of}
 use Rattle.idl_project.specs.Compared.{compared_in, met_between, tasks_of}

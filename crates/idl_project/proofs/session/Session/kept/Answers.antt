@@ -6,11 +6,11 @@ use Rattle.std.specs.Option.{IfNone, IfSome, option_copied, option_map}
 use Rattle.std.specs.Str.{bytes_eq}
 use Rattle.idl_project.specs.Asked.{asked_files, asked_of}
 use Rattle.idl_project.specs.Bank.{bank_of}
-use Rattle.idl_project.specs.Details.{details_of}
+use Rattle.idl_project.specs.Details.{details_of, expansion_of}
 use Rattle.idl_project.specs.UpToDate.{State}
 use Rattle.idl_project.specs.declared.kept_root.KeptRoot.{KeptRoot}
 use Rattle.idl_project.proofs.AskedLemmas.{none-asked, some-asked}
-use Rattle.idl_project.proofs.DetailLemmas.{kept_details, lookup-detailed}
+use Rattle.idl_project.proofs.DetailLemmas.{kept_details, kept_expansion, lookup-detailed, lookup-expanded}
 use Rattle.idl_project.proofs.RootLemmas.{list_any-bad_name}
 use Rattle.idl_project.proofs.session.Session.kept.Goals as goal
 
@@ -58,3 +58,22 @@ returns-clause-details c =
     ap (option_map kept_details) found
     ∙ lookup-detailed (bank_of c.self.inside.bank) held name c.self.invariant.kept
     ∙ ap (λ (state : State). details_of state.project name) c.self.view_is
+
+pub returns-in_err-new-clause-expansion : goal.returns-in_err-new-clause-expansion
+returns-in_err-new-clause-expansion c =
+    let held = c.self.inside.roots in
+    let name = c.args.root.now in
+    let none : expansion_of c.args.self.now.project name ≡ None =
+    ap (λ (state : State). expansion_of state.project name) (sym c.self.view_is)
+    ∙ cond-false (list_any (bytes_eq name) (keys_of held)) _ _
+    (list_any-bad_name (keys_of held) name c.self.invariant.formed.roots (λ allowed. false≢true (c.in_err-new.ensures.allowed.1 allowed))) in
+    ap (λ (found : Option (Bor KeptRoot)). option_map kept_expansion (option_copied found)) c.from_residual.ensures ∙ sym none
+
+pub returns-clause-expansion : goal.returns-clause-expansion
+returns-clause-expansion c =
+    let held = c.self.inside.roots in
+    let name = c.args.root.now in
+    let found = c.kept.ensures ∙ ap (λ (bytes : List ℕ). lookup (bytes_eq bytes) held) c.in_ok-new.ensures.same in
+    ap (option_map kept_expansion) found
+    ∙ lookup-expanded (bank_of c.self.inside.bank) held name c.self.invariant.kept
+    ∙ ap (λ (state : State). expansion_of state.project name) c.self.view_is

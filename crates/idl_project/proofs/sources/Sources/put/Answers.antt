@@ -1,30 +1,51 @@
-use Rattle.std.proofs.Common.{◌≡◌, ◌∙◌, ℕ, List, Ok, ap, subst, sym}
-use Rattle.idl_source.specs.texts.Texts.{Texts, after_put}
-use Rattle.idl_project.specs.Bank.{IsSameBeside}
-use Rattle.idl_project.specs.Edits.{Put, after, result_map}
+use Rattle.std.proofs.Common.{◌≡◌, ◌∙◌, ℕ, List, Ok, Option, ap, refl, sym}
+use Rattle.std.specs.Option.{unwrap_or}
+use Rattle.idl_source.specs.texts.Texts.{Texts}
+use Rattle.idl_project.specs.Edits.{Put, after}
 use Rattle.idl_project.specs.Made.{rootless}
 use Rattle.idl_project.specs.Project.{Inputs, with_files}
-use Rattle.idl_project.proofs.FileLemmas.{put-beside}
+use Rattle.idl_project.specs.Refiled.{files_after}
+use Rattle.idl_project.specs.declared.file_edit.FileEdit.TheVariants as file
 use Rattle.idl_project.proofs.FormLemmas.{after-formed}
+use Rattle.idl_project.proofs.RefiledLemmas.{accepted-by, refiled-none, refused-by}
 use Rattle.idl_project.proofs.sources.Sources.put.Goals as goal
 
-pub set_files-requires-clause-beside : goal.set_files-requires-clause-beside
-set_files-requires-clause-beside c =
-    let old = c.files.result.now in
-    let new = c.in_ok-files.files in
-    let bytes = c.as_bytes.result.now in
-    let named : bytes ≡ c.in_ok-name.name = c.as_bytes.ensures.bytes ∙ sym c.in_ok-name.ensures in
-    subst (λ (files : Texts). IsSameBeside c.in_ok-name.name files new) c.files.ensures
-    (subst (λ (name : List ℕ). IsSameBeside name old new) named (put-beside old new bytes c.args.lines.items c.in_ok-files.ensures.ok))
+pub edit-requires : goal.edit-requires
+edit-requires c = refiled-none c.self.inside.bank c.new-edited.result c.new-edited.ensures.files c.new-edited.ensures.answers
 
 pub invariant_of-self-2 : goal.invariant_of-self-2
 invariant_of-self-2 c =
     let old : Inputs = c.self.inside.bank in
-    let new : Inputs = c.set_files.new.self in
-    let name = c.args.name.now in
+    let first = files_after old.files c.new-edited.result in
+    let last = files_after old.files c.edit.new.self in
+    let same : old.files ≡ first = ap (λ (fs : Option Texts). unwrap_or fs old.files) (sym c.new-edited.ensures.files) in
+    let is : after (rootless old) (Put c.as_bytes.result.now c.args.lines.items) ≡ Ok (with_files (rootless old) last) = accepted-by (rootless old) first last (file.Put c.as_bytes.result c.args.lines) same c.in_default.ensures.ok in
+    after-formed (rootless old) (rootless c.refile.new.self) (Put c.as_bytes.result.now c.args.lines.items) c.self.invariant
+    (is ∙ ap (λ (inputs : Inputs). Ok (rootless inputs)) (sym c.in_ok-refile.ensures.ok))
+
+pub returns : goal.returns
+returns c =
+    let old : Inputs = c.self.inside.bank in
     let lines = c.args.lines.items in
-    let is : after (rootless old) (Put name lines) ≡ Ok (rootless new) =
-    (λ i. result_map (with_files (rootless old)) (after_put (sym c.files.ensures i) (sym c.as_bytes.ensures.bytes i) lines))
-    ∙ ap (result_map (with_files (rootless old))) c.in_ok-files.ensures.ok
-    ∙ ap (λ (inputs : Inputs). Ok (rootless inputs)) (sym c.in_ok-set_files.ensures.ok) in
-    after-formed (rootless old) (rootless new) (Put name lines) c.self.invariant is
+    let first = files_after old.files c.new-edited.result in
+    let last = files_after old.files c.edit.new.self in
+    let same : old.files ≡ first = ap (λ (fs : Option Texts). unwrap_or fs old.files) (sym c.new-edited.ensures.files) in
+    let is : after (rootless old) (Put c.as_bytes.result.now lines) ≡ Ok (with_files (rootless old) last) = accepted-by (rootless old) first last (file.Put c.as_bytes.result c.args.lines) same c.in_default.ensures.ok in
+    ap (λ (inputs : Inputs). after (rootless inputs) (Put c.args.name.now lines)) (sym c.self.view_is)
+    ∙ ap (λ (name : List ℕ). after (rootless old) (Put name lines)) (sym c.as_bytes.ensures.bytes)
+    ∙ is
+    ∙ ap (λ (inputs : Inputs). Ok (rootless inputs)) (sym c.in_ok-refile.ensures.ok)
+
+pub returns-in-Err : goal.returns-in-Err
+returns-in-Err c =
+    let old : Inputs = c.self.inside.bank in
+    let lines = c.args.lines.items in
+    let first = files_after old.files c.new-edited.result in
+    let same : old.files ≡ first = ap (λ (fs : Option Texts). unwrap_or fs old.files) (sym c.new-edited.ensures.files) in
+    record {
+      unchanged = refl;
+      least = λ other.
+          ap (λ (inputs : Inputs). after (rootless inputs) (Put c.args.name.now lines)) (sym c.self.view_is)
+          ∙ ap (λ (name : List ℕ). after (rootless old) (Put name lines)) (sym c.as_bytes.ensures.bytes)
+          ∙ refused-by (rootless old) first (file.Put c.as_bytes.result c.args.lines) c.in-Err.refusal same (c.in-Err.ensures.err other);
+    }

@@ -1,4 +1,4 @@
-use Rattle.std.proofs.Common.{◌≡◌, ◌≤◌, Some, drop, length, map, reverse, slice_get}
+use Rattle.std.proofs.Common.{◌≤◌, drop, length, map, reverse}
 use Rattle.idl_root.specs.Named.{AreNumbersIn, closings_in, ends_of, named_as}
 use Rattle.idl_root.proofs.compiling.naming.ends_of.Given as goal
 

@@ -1,6 +1,5 @@
-use Rattle.std.proofs.Common.{◌≤◌, ◌++◌, [], map, ap, ◌∙◌, arith}
+use Rattle.std.proofs.Common.{◌≤◌, ◌++◌, map, ap, ◌∙◌, arith}
 use Rattle.idl_check.proofs.Visits.JudgeLemmas.{sites-length}
-use Rattle.idl_check.specs.walk.Held.{held}
 use Rattle.idl_check.specs.walk.Names.{site_names}
 use Rattle.idl_check.specs.walk.Walk.{first_walk}
 use Rattle.idl_env.specs.Facts.{answers}

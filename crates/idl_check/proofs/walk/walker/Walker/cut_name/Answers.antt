@@ -3,7 +3,6 @@ use Rattle.std.proofs.Common.{◌∙◌, sym}
 use Rattle.std.proofs.lemmas.Bool.{false≢true}
 use Rattle.idl_check.proofs.Visits.VisitLemmas.{cut-global, cut-head, cut-whole}
 use Rattle.idl_check.specs.walk.Held.{held}
-use Rattle.idl_tree.specs.NameParts.{last_at}
 use Rattle.idl_env.specs.Facts.{answers}
 use Rattle.idl_check.proofs.walk.walker.Walker.cut_name.Goals as goal
 

@@ -1,0 +1,4 @@
+pub mod Reasons
+pub mod Follows
+pub mod Related
+pub mod Judged

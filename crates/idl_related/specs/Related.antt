@@ -1,0 +1,35 @@
+-- Second places of what is found in a root.
+use Rattle.std.specs.Prelude.{◌≡◌, ℕ, List, All, Contains, length, slice_get, Some}
+use Rattle.idl_event.specs.declared.told.event.Event.{Event}
+use Rattle.idl_event.specs.declared.told.site.Site.{Site}
+use Rattle.idl_event.specs.Apart.{place_in}
+use Rattle.idl_related.specs.declared.second.Related.{Related}
+use Rattle.idl_root.specs.Findings.{site_of, tokens_of}
+use Rattle.idl_root.specs.Number.{token_number}
+use Rattle.idl_root.specs.declared.compiling.finding.Finding.{Finding}
+use Rattle.idl_unit.specs.Units.{units_of}
+use Rattle.idl_unit.specs.declared.unit.Unit.{Unit as RootUnit}
+use Rattle.idl_unit.specs.declared.unit.Unit.TheVariants.{Spelled}
+use Rattle.idl_unit.specs.declared.unit.UnitText.{UnitText}
+
+-- it is told of a token of one of these units as a finding there would be: where the token stands, its
+-- number, and how it is spelled
+pub record IsAtToken (events : List Event) (units : List RootUnit) (related : Related) : Type 0 where
+  pub text : UnitText
+  pub sites : List Site
+  pub index : ℕ
+  pub site : Site
+  pub unit : Contains units (Spelled text sites)
+  pub stands : site_of text sites index ≡ Some site
+  pub spelled : slice_get (tokens_of text) index ≡ Some related.text
+  pub place : related.place ≡ place_in site
+  pub number : related.number ≡ token_number events site.event
+
+-- second places, each at a token of what a root expands to
+abbrev pub AreAtTokens : List Event → List Related → Type 0
+AreAtTokens events related = All (IsAtToken events (units_of events)) related
+
+-- those of findings of that root, a list for each
+abbrev pub AreRelated : List Event → List Finding → List (List Related) → Type 0
+AreRelated events findings related =
+    (length related ≡ length findings) × All (AreAtTokens events) related

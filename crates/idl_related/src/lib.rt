@@ -1,0 +1,17 @@
+//! Second places of what is found in a root: where what a finding speaks of is declared, used or given, or what may have been meant.
+//!
+//! The units of the root are judged for it once more, and nothing is kept. Nothing here knows files, or how a place is shown.
+#![tactic(auto)]
+
+mod about;
+mod denoting;
+mod given;
+mod known;
+mod names;
+mod near;
+mod related;
+mod repeated;
+mod second;
+
+pub use related::{related_of, unrelated};
+pub use second::{Reason, Related, follows};

@@ -1,0 +1,148 @@
+//! The names that a unit declares, by its tree alone.
+
+use idl_entity::Path;
+use idl_parts::{UnitPart, sites};
+use idl_syntax::{SyntaxFault, UnitTree, parse};
+use idl_tree::{ScopedName, Tree};
+use idl_unit::UnitText;
+use std::alloc::{AllocError, Global};
+
+/// A declared name of a unit: its path, and the number of its token.
+pub struct DeclaredName {
+    pub path: Path,
+    pub token: usize,
+}
+
+impl Drop for DeclaredName {
+    fn drop(self) {
+        let DeclaredName {
+            path: _path,
+            token: _token,
+        } = self;
+    }
+}
+
+/// The names that a unit declares in the scope at a path, whether it is faulty or not; none where it has no tree.
+pub fn declared_names(
+    alloc: Global,
+    text: &UnitText,
+    around: &Path,
+) -> Result<Vec<DeclaredName>, AllocError> {
+    let tree = tree_of(alloc, text)?;
+    match &tree {
+        Some(UnitTree::Tokens(tree)) => names_in(alloc, tree, around),
+        Some(UnitTree::Pragma(_)) | None => Ok(Vec::new(alloc)),
+    }
+}
+
+/// The tree of a unit, if it has one.
+pub fn tree_of(alloc: Global, text: &UnitText) -> Result<Option<UnitTree>, AllocError> {
+    match parse(alloc, text) {
+        Ok(tree) => Ok(Some(tree)),
+        Err(SyntaxFault::Memory) => Err(AllocError),
+        Err(SyntaxFault::Rule(_) | SyntaxFault::NoTree(_)) => Ok(None),
+    }
+}
+
+// Those of a unit with this tree.
+fn names_in(alloc: Global, tree: &Tree, around: &Path) -> Result<Vec<DeclaredName>, AllocError> {
+    let sites = sites(alloc, tree)?;
+    let mut gathered = Gathered::new(alloc, around)?;
+    for site in sites.as_slice() {
+        gathered.pass(site)?;
+    }
+    Ok(gathered.into_names())
+}
+
+// The names that are declared up to a token of a unit.
+struct Gathered {
+    alloc: Global,
+    names: Vec<DeclaredName>,
+    // The paths of the scopes that are open there, the innermost last.
+    scopes: Vec<Path>,
+    at: usize,
+}
+
+impl Drop for Gathered {
+    fn drop(self) {
+        let Gathered {
+            alloc: _alloc,
+            names: _names,
+            scopes: _scopes,
+            at: _at,
+        } = self;
+    }
+}
+
+impl Gathered {
+    // Before the first token of a unit in the scope at a path.
+    fn new(alloc: Global, around: &Path) -> Result<Gathered, AllocError> {
+        let mut scopes = Vec::new(alloc);
+        scopes.push(around.clone()?)?;
+        Ok(Gathered {
+            alloc,
+            names: Vec::new(alloc),
+            scopes,
+            at: 0,
+        })
+    }
+
+    // The names, taken out.
+    fn into_names(self) -> Vec<DeclaredName> {
+        let Gathered {
+            alloc: _alloc,
+            names,
+            scopes: _scopes,
+            at: _at,
+        } = self;
+        names
+    }
+
+    // Behind the next site, of which the name is put in that it declares.
+    fn pass(&mut self, site: &UnitPart<'_>) -> Result<(), AllocError> {
+        match (*site, self.scopes.last()) {
+            (UnitPart::Declared(_way, name), Some(scope)) => {
+                let path = scope.child(self.alloc, name)?;
+                let token = self.at;
+                self.names.push(DeclaredName { path, token })?;
+            }
+            (UnitPart::ScopeBegins(_way, name), Some(scope)) => {
+                let inner = scope.child(self.alloc, name)?;
+                self.scopes.push(inner)?;
+            }
+            (UnitPart::ScopeEnds, _) => {
+                let _ended = self.scopes.pop();
+            }
+            _ => {}
+        }
+        self.at = self.at.saturating_add(length_of(site));
+        Ok(())
+    }
+}
+
+/// How many tokens a site is.
+pub fn length_of(site: &UnitPart<'_>) -> usize {
+    match *site {
+        UnitPart::Tokens(count) => count,
+        UnitPart::Declared(_way, _name) => 1,
+        UnitPart::Used(_way, name) => length_of_name(name),
+        UnitPart::Joined(_purpose, text) => text.rest.len().saturating_add(1),
+        _ => 0,
+    }
+}
+
+/// The number of the token that is the part of a name with this number, where the name begins at this token.
+pub fn part_at(at: usize, name: &ScopedName, part: usize) -> usize {
+    at.saturating_add(usize::from(name.is_global))
+        .saturating_add(part.saturating_mul(2))
+}
+
+/// That of the last part.
+pub fn last_at(at: usize, name: &ScopedName) -> usize {
+    part_at(at, name, name.rest.len())
+}
+
+// How many tokens a name is.
+fn length_of_name(name: &ScopedName) -> usize {
+    last_at(1, name)
+}
