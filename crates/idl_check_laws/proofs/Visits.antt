@@ -1,5 +1,8 @@
 -- What a walk leaves behind the sites of a unit.
+pub mod AheadLaws
 pub mod FirstLaws
+pub mod FurtherLaws
+pub mod KnownLaws
 pub mod MoreTurns
 pub mod NameLaws
 pub mod RowLaws

@@ -10,4 +10,4 @@ pub use laws::{
     acceptance, bracketing, denoting, evaluating, fitting, identification, inheriting, least,
     more_turns, naming, numbering, questions, refusal, speaking, stopping, wording,
 };
-pub use unit_names::names;
+pub use unit_names::{ahead, names};

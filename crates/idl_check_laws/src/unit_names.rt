@@ -2,14 +2,18 @@
 //!
 //! The function does nothing: it carries its laws as clauses.
 
-ghost use Rattle.std.specs.Prelude.{◌≡◌, ◌<◌, ℕ, List, All, Contains, None, Option, length};
+ghost use Rattle.std.specs.Prelude.{◌≡◌, ◌<◌, ◌-◌, ℕ, Bool, List, [], ◌∷◌, All, Contains, None, Option, length};
+ghost use Rattle.std.specs.Option.{IsSome};
 ghost use Rattle.idl_check.specs.walk.Judging.{walked};
 ghost use Rattle.idl_check.specs.walk.Names.{declared_paths, unit_names, used_paths};
 ghost use Rattle.idl_check.specs.walk.Verdict.{verdict};
 ghost use Rattle.idl_check.specs.walk.Walk.{first_walk};
+ghost use Rattle.idl_check.specs.declared.walk.names.NameRole.TheVariants.{Declared};
+ghost use Rattle.idl_entity.specs.declared.entity.Entity.{Entity};
 ghost use Rattle.idl_entity.specs.declared.identity.Prefix.{Prefix};
-ghost use Rattle.idl_env.specs.Facts.{scopes_in};
-ghost use Rattle.idl_env.specs.declared.additions.addition.Addition.TheVariants.{Appears};
+ghost use Rattle.idl_entity.specs.declared.kind.Stage.TheVariants.{Ahead};
+ghost use Rattle.idl_env.specs.Facts.{entity_in, entity_key, over, scopes_in};
+ghost use Rattle.idl_env.specs.declared.additions.addition.Addition.TheVariants.{Appears, Declares};
 ghost use Rattle.idl_env.specs.declared.answering.answer.Answer.{Answer};
 ghost use Rattle.idl_env.specs.declared.keys.key.Key.{Key};
 ghost use Rattle.idl_env.specs.declared.keys.key.Key.TheVariants.{Cursor};
@@ -41,4 +45,33 @@ pub fn names()
         (path : List (List ℕ)) (prefix : Prefix)
         → Contains (outcome (verdict turns text) answers).writes.additions (Appears path prefix)
         → Contains (declared_paths (unit_names turns answers text)) path }
+{}
+
+/// What a unit without fault declares is known behind it. What appears by a unit wasn't declared before it. What a unit adds that
+/// is declared ahead and no further wasn't declared before either: the unit has one name, which is that, at the token before the
+/// last. A pragma declares nothing.
+pub fn ahead()
+    ensures known { (turns : ℕ) (text : UnitText) (answers : Key → Option Answer)
+        (path : List (List ℕ))
+        → (outcome (verdict turns text) answers).fault ≡ None
+        → Contains (declared_paths (unit_names turns answers text)) path
+        → IsSome (entity_in (over (outcome (verdict turns text) answers).writes.additions
+        (entity_key path) (answers (entity_key path)))) }
+    ensures fresh { (turns : ℕ) (text : UnitText) (answers : Key → Option Answer)
+        (path : List (List ℕ)) (prefix : Prefix)
+        → Contains (outcome (verdict turns text) answers).writes.additions (Appears path prefix)
+        → entity_in (answers (entity_key path)) ≡ None }
+    ensures ahead { (turns : ℕ) (tokens : List Token) (answers : Key → Option Answer)
+        (e : Entity)
+        → Contains (outcome (verdict turns (unit.Tokens tokens)) answers).writes.additions
+        (Declares e)
+        → e.stage ≡ Ahead
+        → (unit_names turns answers (unit.Tokens tokens)
+        ≡ record { index = length tokens - 2; role = Declared; path = e.path } ∷ [])
+        × (entity_in (answers (entity_key e.path)) ≡ None) }
+    ensures pragma { (turns : ℕ) (tokens : List Token) (inside : Bool)
+        (answers : Key → Option Answer) (e : Entity)
+        → Contains (outcome (verdict turns (unit.Pragma tokens inside)) answers).writes.additions
+        (Declares e)
+        → ⊥ }
 {}

@@ -3,6 +3,7 @@ mod AsBeforeLemmas
 mod BesideLemmas
 mod BlockLemmas
 mod ChangedLemmas
+mod ClosingLemmas
 mod ComeLemmas
 mod ComparedLemmas
 mod CompileLemmas

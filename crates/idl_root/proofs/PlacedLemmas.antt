@@ -74,7 +74,7 @@ use Rattle.idl_unit.specs.declared.unit.UnitText.TheVariants.{Tokens, Pragma as 
 -- ---- lists
 
 module _ {X : Type 0} (P : X → Type 0) where
-  both-lists : (xs ys : List X) → AllByRecursion P xs → AllByRecursion P ys → AllByRecursion P (xs ++ ys)
+  pub both-lists : (xs ys : List X) → AllByRecursion P xs → AllByRecursion P ys → AllByRecursion P (xs ++ ys)
   both-lists [] ys p q = q
   both-lists (x ∷ xs) ys p q = (p.0, both-lists xs ys p.1 q)
 
@@ -82,7 +82,7 @@ module _ {X : Type 0} (P : X → Type 0) where
   behind-first [] p = tt
   behind-first (x ∷ xs) p = p.1
 
-  weaker-list : (Q : X → Type 0) → ((x : X) → Q x → P x) → (xs : List X) → AllByRecursion Q xs → AllByRecursion P xs
+  pub weaker-list : (Q : X → Type 0) → ((x : X) → Q x → P x) → (xs : List X) → AllByRecursion Q xs → AllByRecursion P xs
   weaker-list Q f [] p = tt
   weaker-list Q f (x ∷ xs) p = (f x p.0, weaker-list Q f xs p.1)
 
@@ -108,16 +108,16 @@ counted-own path name is =
 
 -- ---- tokens of units
 
-abbrev IsThere : Option SitedToken → Type 0
+abbrev pub IsThere : Option SitedToken → Type 0
 IsThere o = (token : SitedToken) × (o ≡ Some token)
 
 -- Each token of a unit has a site, and each name stands at a token. A pragma has no name, and closes
 -- nothing.
-abbrev ArePlaced : UnitText → List Site → List NamedSite → Step → Type 0
+abbrev pub ArePlaced : UnitText → List Site → List NamedSite → Step → Type 0
 ArePlaced (Tokens tokens) sites names step = AreSited (Tokens tokens) sites × AllByRecursion (λ (s : NamedSite). s.index < length tokens) names
 ArePlaced (OfPragma tokens inside) sites names step = (names ≡ []) × (closes step ≡ false)
 
-abbrev IsPlaced : NamedUnit → Type 0
+abbrev pub IsPlaced : NamedUnit → Type 0
 IsPlaced n = ArePlaced n.text n.sites n.names n.step
 
 module _ (events : List Event) where
@@ -125,20 +125,20 @@ module _ (events : List Event) where
   sited-there s t site token = (record { place = place_in site.0; number = token_number events site.0.event; text = token.0 }, (λ i. sited events (site.1 i) (token.1 i)))
 
   -- the token with a number of a text
-  abbrev token_of : UnitText → List Site → ℕ → Option SitedToken
+  abbrev pub token_of : UnitText → List Site → ℕ → Option SitedToken
   token_of text sites i = sited events (site_of text sites i) (slice_get (tokens_of text) i)
 
   token-there : (tokens : List Token) (sites : List Site) → AreSited (Tokens tokens) sites → (i : ℕ) → i < length tokens → IsThere (token_of (Tokens tokens) sites i)
   token-there tokens sites are i lt = sited-there (slice_get sites i) (slice_get tokens i) (item-there sites i (omega (arith, are.1, lt))) (item-there tokens i lt)
 
-  first-token : (tokens : List Token) (sites : List Site) → AreSited (Tokens tokens) sites → IsThere (token_of (Tokens tokens) sites 0)
+  pub first-token : (tokens : List Token) (sites : List Site) → AreSited (Tokens tokens) sites → IsThere (token_of (Tokens tokens) sites 0)
   first-token tokens sites are = token-there tokens sites are 0 (some-there tokens are.0)
 
-  last-token : (tokens : List Token) (sites : List Site) → AreSited (Tokens tokens) sites → IsThere (token_of (Tokens tokens) sites (length tokens - 1))
+  pub last-token : (tokens : List Token) (sites : List Site) → AreSited (Tokens tokens) sites → IsThere (token_of (Tokens tokens) sites (length tokens - 1))
   last-token tokens sites are = let some = some-there tokens are.0 in token-there tokens sites are (length tokens - 1) (omega (arith, some))
 
   -- a unit that closes has a last token
-  abbrev LastThere : NamedUnit → Type 0
+  abbrev pub LastThere : NamedUnit → Type 0
   LastThere n = IsThere (last_in events n)
 
   closing-last : (text : UnitText) (sites : List Site) (names : List NamedSite) (step : Step) → ArePlaced text sites names step → closes step ≡ true
@@ -146,7 +146,7 @@ module _ (events : List Event) where
   closing-last (Tokens tokens) sites names step are h = last-token tokens sites are.0
   closing-last (OfPragma tokens inside) sites names step are h = absurd (false≢true (sym are.1 ∙ h))
 
-  closings-there : (units : List NamedUnit) → AllByRecursion IsPlaced units → AllByRecursion LastThere (closings_in units)
+  pub closings-there : (units : List NamedUnit) → AllByRecursion IsPlaced units → AllByRecursion LastThere (closings_in units)
   closings-there [] are = tt
   closings-there (n ∷ units) are = by (closings-there units are.1) (opens n.step) (closes n.step) refl
     where
@@ -156,7 +156,7 @@ module _ (events : List Event) where
       by more false true is = (closing-last n.text n.sites n.names n.step are.0 is, more)
       by more false false is = more
 
-  end-there : (n : NamedUnit) (closings : List NamedUnit) → LastThere n → AllByRecursion LastThere closings → LastThere (end_before n.step n closings)
+  pub end-there : (n : NamedUnit) (closings : List NamedUnit) → LastThere n → AllByRecursion LastThere closings → LastThere (end_before n.step n closings)
   end-there n closings own more = by (opens n.step) closings more
     where
       by : (b : Bool) (closings : List NamedUnit) → AllByRecursion LastThere closings → LastThere (if b then unwrap_or (first closings) n else n)
@@ -242,7 +242,7 @@ module _ (turns : ℕ) (answers : Key → Option Answer) where
 -- ---- units
 
 -- what appears is among what is added
-first-in : (path : List (List ℕ)) (more : List Addition) → IsIn path (first_paths more) → (prefix : Prefix) × IsIn (Appears path prefix) more
+pub first-in : (path : List (List ℕ)) (more : List Addition) → IsIn path (first_paths more) → (prefix : Prefix) × IsIn (Appears path prefix) more
 first-in path [] i = absurd i
 first-in path (Declares e ∷ more) i = let found = first-in path more i in (found.0, inr found.1)
 first-in path (Uses n p body ∷ more) i = let found = first-in path more i in (found.0, inr found.1)
@@ -269,11 +269,11 @@ module _
     (spoken : (turns : ℕ) (tokens : List Token) (inside : Bool) (answers : Key → Option Answer)
     → (outcome (verdict turns (OfPragma tokens inside)) answers).fault ≡ None → IsSpoken turns answers tokens inside (outcome (verdict turns (OfPragma tokens inside)) answers))
   where
-    faulty-none : (facts : List UnitFacts) (text : UnitText) (fault : Fault) → (verdict_over facts text).fault ≡ Some fault → (verdict_over facts text).writes.additions ≡ []
+    pub faulty-none : (facts : List UnitFacts) (text : UnitText) (fault : Fault) → (verdict_over facts text).fault ≡ Some fault → (verdict_over facts text).writes.additions ≡ []
     faulty-none facts (Tokens tokens) fault is = ap (λ (v : Verdict). v.writes.additions) (refused most_turns tokens (answers facts) fault is)
     faulty-none facts (OfPragma tokens inside) fault is = ap (λ (v : Verdict). v.writes.additions) (refused-pragma most_turns tokens inside (answers facts) fault is)
 
-    first-named : (facts : List UnitFacts) (text : UnitText) (path : List (List ℕ)) → IsIn path (first_paths (verdict_over facts text).writes.additions) → IsIn path (declared_paths (names_over facts text))
+    pub first-named : (facts : List UnitFacts) (text : UnitText) (path : List (List ℕ)) → IsIn path (first_paths (verdict_over facts text).writes.additions) → IsIn path (declared_paths (names_over facts text))
     first-named facts text path i = by (verdict_over facts text).fault refl
       where
         by : (o : Option Fault) → (verdict_over facts text).fault ≡ o
@@ -302,7 +302,7 @@ module _
             ap (λ (v : Verdict). closes v.writes.step) s.is ∙ said-stands most_turns (answers facts) (scopes_in (answers facts Cursor)) s.pragma
         stands (Some fault) is = ap (λ (v : Verdict). closes v.writes.step) (refused-pragma most_turns tokens inside (answers facts) fault is)
 
-    named-placed : (facts : List UnitFacts) (units : List RootUnit) → AllByRecursion IsSited units → AllByRecursion IsPlaced (named_after facts units)
+    pub named-placed : (facts : List UnitFacts) (units : List RootUnit) → AllByRecursion IsSited units → AllByRecursion IsPlaced (named_after facts units)
     unfolding named_after
     named-placed facts [] are = tt
     named-placed facts (Spelled text sites ∷ units) are = (placed-at facts text sites are.0, named-placed (facts ++ (verdict_over facts text).writes ∷ []) units are.1)

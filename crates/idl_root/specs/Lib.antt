@@ -4,6 +4,7 @@ pub mod Number
 pub mod Findings
 pub mod Printed
 pub mod Compile
+pub mod Closing
 pub mod Places
 pub mod Compared
 pub mod Held

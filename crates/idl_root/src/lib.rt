@@ -10,7 +10,7 @@ mod kept;
 pub use compiling::compiled::{Compiled, KeptSource, Recompiled, Row, compile, compile_kept};
 pub use compiling::detailing::{DetailedEntry, Details, details_of};
 pub use compiling::finding::Finding;
-pub use compiling::laws::{detailing, facts, ordering, placing, telling, texts};
+pub use compiling::laws::{closing, detailing, facts, ordering, placing, telling, texts};
 pub use compiling::memory::Memory;
 pub use compiling::number::token_number;
 pub use compiling::places::{DeclaredPlace, SitedToken, UsedName};

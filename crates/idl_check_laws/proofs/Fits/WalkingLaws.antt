@@ -127,7 +127,7 @@ pub record IsFresh (e : Entity) (way : Declaration) : Type 0 where
 
 module _ (turns : ℕ) (bank : Key → Option Answer) where
   -- what stands there is told
-  standing-there : (s : Scope) (e : Entity) → (outcome (standing turns s e) bank).there ≡ entity_in (bank (Declared (folded (name_of e.path)) s.path))
+  pub standing-there : (s : Scope) (e : Entity) → (outcome (standing turns s e) bank).there ≡ entity_in (bank (Declared (folded (name_of e.path)) s.path))
   standing-there s e =
       let n = folded (name_of e.path) in
       let here = entity_in (bank (Declared n s.path)) in

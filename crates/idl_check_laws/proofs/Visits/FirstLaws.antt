@@ -115,7 +115,7 @@ all-ids-first : (more : List Addition) → All IsOfIds more → NoneFirst more
 all-ids-first [] all = tt
 all-ids-first (a ∷ more) all = (ids-first a (All-head IsOfIds a more all), all-ids-first more (All-tail IsOfIds a more all))
 
-finished-first : (finish : Entity → Entity) (es : List Entity) → NoneFirst (map (λ e. Declares (finish e)) es)
+pub finished-first : (finish : Entity → Entity) (es : List Entity) → NoneFirst (map (λ e. Declares (finish e)) es)
 finished-first finish [] = tt
 finished-first finish (e ∷ es) = (tt, finished-first finish es)
 
@@ -135,10 +135,10 @@ module _ (path : List (List ℕ)) (prefix : Prefix) where
   abbrev IsFirst : List Addition → Type 0
   IsFirst own = IsIn (Appears path prefix) own
 
-  with-none : (a : Addition) (own : List Addition) → NoFirst a → IsFirst (with_addition own a) → IsFirst own
+  pub with-none : (a : Addition) (own : List Addition) → NoFirst a → IsFirst (with_addition own a) → IsFirst own
   with-none a own none i = elim (with-one (Appears path prefix) a own i) as (λ _. IsFirst own) [ inl j ↦ j | inr e ↦ absurd (subst NoFirst e none) ]
 
-  fold-none : (more own : List Addition) → NoneFirst more → IsFirst (fold with_addition own more) → IsFirst own
+  pub fold-none : (more own : List Addition) → NoneFirst more → IsFirst (fold with_addition own more) → IsFirst own
   fold-none [] own none i = i
   fold-none (a ∷ more) own none i = with-none a own none.0 (fold-none more (with_addition own a) none.1 i)
 
@@ -146,11 +146,11 @@ module _ (path : List (List ℕ)) (prefix : Prefix) where
   own-first AsStructBase (Some e) own i = with-none (Declares e) own tt i
   own-first other o own i = i
 
-  array-first : (lengths : List ℕ) (o : Option Entity) (own : List Addition) → IsFirst (with_array lengths o own) → IsFirst own
+  pub array-first : (lengths : List ℕ) (o : Option Entity) (own : List Addition) → IsFirst (with_array lengths o own) → IsFirst own
   array-first lengths None own i = i
   array-first lengths (Some e) own i = with-none (Declares (array_of lengths e)) own tt i
 
-  valued-first : (w : Walk) (way : Purpose) (o : Outcome) → (value_visit w way o).after.own ≡ w.own
+  pub valued-first : (w : Walk) (way : Purpose) (o : Outcome) → (value_visit w way o).after.own ≡ w.own
   valued-first w purpose.Bound (comes.Value v) = refl
   valued-first w purpose.Constant (comes.Value v) = refl
   valued-first w purpose.Length (comes.Value v) = refl
@@ -162,7 +162,7 @@ module _ (path : List (List ℕ)) (prefix : Prefix) where
   union-first w true = refl
   union-first w false = refl
 
-  end-first : (w : Walk) (o : Option Scope) → (end_visit w o).after.own ≡ w.own
+  pub end-first : (w : Walk) (o : Option Scope) → (end_visit w o).after.own ≡ w.own
   end-first w None = refl
   end-first w (Some s) = union-first w (kind_eq s.kind Union)
 
@@ -233,7 +233,7 @@ module _ (path : List (List ℕ)) (prefix : Prefix) where
         let query = under w.own (denoted (turns_at turns w) w.cursor name) in
         subst (Keeps w) (sym (outcome-and_then query (spoken_by turns answers p name w) answers)) (spoken-keeps p name w (outcome query answers))
 
-    any-keeps : (way : Use) (name : ScopedName) (w : Walk) → Keeps w (outcome (plain_name turns way name w) answers)
+    pub any-keeps : (way : Use) (name : ScopedName) (w : Walk) → Keeps w (outcome (plain_name turns way name w) answers)
     any-keeps way name w = by_purpose (purpose_of way)
       where
         by_purpose : (o : Option TextPurpose) → Keeps w (outcome (elim o as (λ _. Lookup Visit) [ None ↦ used turns way name w | Some p ↦ spoken_of turns p name w ]) answers)
@@ -334,7 +334,7 @@ module _ (turns : ℕ) (answers : Key → Option Answer) where
         subst (λ (s : Said). NoneFirst s.additions) (sym (outcome-and_then (about 2 turns scopes name (Id text)) (λ s. Done (with_faults (text_faults (last_at 2 name + 1) text) s)) answers)) (about-none scopes name (Id text))
     said-none scopes (pragma.Version name major minor) = about-none scopes name (Version major minor)
 
-    pragma-first : (tokens : List Token) (inside : Bool) → IsIn (Appears path prefix) (outcome (verdict turns (unit.Pragma tokens inside)) answers).writes.additions → ⊥
+    pub pragma-first : (tokens : List Token) (inside : Bool) → IsIn (Appears path prefix) (outcome (verdict turns (unit.Pragma tokens inside)) answers).writes.additions → ⊥
     pragma-first tokens inside i = by_fault (outcome (verdict turns (unit.Pragma tokens inside)) answers).fault refl
       where
         by_fault : (o : Option Fault) → (outcome (verdict turns (unit.Pragma tokens inside)) answers).fault ≡ o → ⊥

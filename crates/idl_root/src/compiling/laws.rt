@@ -6,9 +6,12 @@ ghost use Rattle.idl_env.specs.Facts.{UnitFacts, answers};
 ghost use Rattle.idl_event.specs.declared.told.event.Event.{Event};
 ghost use Rattle.idl_fault.specs.declared.place.Place.{Place};
 ghost use Rattle.idl_check_laws.specs.Closing.{AreTold};
-ghost use Rattle.idl_root.specs.Compile.{compile};
+ghost use Rattle.idl_root.specs.Closing.{ClosesAtFirst};
+ghost use Rattle.idl_root.specs.Compile.{compile, outcome_of};
 ghost use Rattle.idl_root.specs.Details.{details, printed};
 ghost use Rattle.idl_root.specs.Judged.{HasTurns, facts_after, judged_after};
+ghost use Rattle.idl_root.specs.Named.{named_after};
+ghost use Rattle.idl_root.specs.NamePlaces.{declared_names};
 ghost use Rattle.idl_root.specs.Places.{declarations_after};
 ghost use Rattle.idl_root_blocks.specs.Blocks.{parts_of};
 ghost use Rattle.idl_root_blocks.specs.Places.{declarations_over, facts_over, unit_ways};
@@ -20,7 +23,7 @@ ghost use Rattle.std.specs.List.Sorted.{IsNonDecreasingBy};
 ghost use Rattle.idl_root.specs.Findings.{finding_row, in_order};
 ghost use Rattle.idl_root.specs.declared.compiling.finding.EventFinding.{EventFinding};
 
-use idl_check_laws::{acceptance, more_turns, names, numbering, refusal};
+use idl_check_laws::{acceptance, ahead, more_turns, names, numbering, refusal};
 use idl_details::printing;
 use idl_repo::listed_row;
 
@@ -63,6 +66,22 @@ pub fn placing()
     names();
     refusal();
     acceptance();
+}
+
+/// What is never defined is told where it is declared first: what is wrong with a name at the end of a root stands at the first of
+/// its places. This does nothing: it carries the law.
+pub fn closing()
+    ensures { (events : List Event)
+        → let o = outcome_of events in
+        let names = declared_names events (named_after [] (units_of events)) in
+        All (ClosesAtFirst events o.facts names) o.listed }
+{
+    // They do nothing: they carry laws of names, of verdicts, and of the listing.
+    names();
+    ahead();
+    refusal();
+    acceptance();
+    listed_row();
 }
 
 /// The facts of a root are what verdicts tell, each over those before it: of them the law of closed interfaces speaks
