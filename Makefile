@@ -14,7 +14,7 @@ install: all
 	mkdir -p $(bin) $(share)/man/man1 $(share)/bash-completion/completions $(share)/idl
 	install -m 755 $(programs) $(bin)
 	lib/man crates/idlc/out/idlc idlc >$(share)/man/man1/idlc.1
-	lib/man crates/idltool/out/idltool idltool explain deps check json diff >$(share)/man/man1/idltool.1
+	lib/man crates/idltool/out/idltool idltool explain deps check json diff lsp >$(share)/man/man1/idltool.1
 	install -m 644 lib/completion.bash $(share)/bash-completion/completions/idlc
 	ln -sf idlc $(share)/bash-completion/completions/idltool
 	install -m 644 lib/orb.idl lib/rows.jq $(share)/idl

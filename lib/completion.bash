@@ -27,7 +27,7 @@ _idlc() {
 _idltool() {
     local word=${COMP_WORDS[COMP_CWORD]} before=${COMP_WORDS[COMP_CWORD - 1]}
     if [ "$COMP_CWORD" = 1 ]; then
-        mapfile -t COMPREPLY < <(compgen -W 'explain deps check json diff --help --version' -- "$word")
+        mapfile -t COMPREPLY < <(compgen -W 'explain deps check json diff lsp --help --version' -- "$word")
         return
     fi
     case ${COMP_WORDS[1]} in

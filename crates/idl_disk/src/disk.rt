@@ -3,7 +3,7 @@
 ghost use Rattle.idl_program.specs.Holding.{Untold};
 
 use crate::reading::read_file;
-use idl_program::{Loaded, Loader};
+use idl_program::{Loaded, Loader, PathLoader};
 use idl_source::Name;
 use std::fs;
 use std::io::{self, ErrorKind};
@@ -26,11 +26,21 @@ impl<'r> Disk<'r> {
     }
 }
 
-impl<'r> Loader for Disk<'r> {
-    ghost told = { λ _ _. Untold };
+impl<'r> Disk<'r> {
+    // Whether what is at this path isn't a file: a pipe or a device may have its reader wait.
+    fn is_no_file(&self, path: &[u8]) -> bool {
+        let Ok(path) = str::from_utf8(path) else {
+            return false;
+        };
+        match fs::metadata(self.runtime, path) {
+            Ok(found) => !found.is_file(),
+            Err(_) => false,
+        }
+    }
 
-    fn load(&mut self, name: &Name) -> Loaded {
-        let Ok(path) = str::from_utf8(name.as_bytes()) else {
+    // What comes of loading the file at this path.
+    fn loaded(&self, path: &[u8]) -> Loaded {
+        let Ok(path) = str::from_utf8(path) else {
             return Loaded::Missing;
         };
         match self.read(path) {
@@ -41,5 +51,25 @@ impl<'r> Loader for Disk<'r> {
                 _ => Loaded::Failed,
             },
         }
+    }
+}
+
+impl<'r> Loader for Disk<'r> {
+    ghost told = { λ _ _. Untold };
+
+    fn load(&mut self, name: &Name) -> Loaded {
+        self.loaded(name.as_bytes())
+    }
+}
+
+impl<'r> PathLoader for Disk<'r> {
+    ghost told_of = { λ _ _. Untold };
+
+    // No pipe is waited for, where paths stand in files.
+    fn load_path(&mut self, path: &[u8]) -> Loaded {
+        if self.is_no_file(path) {
+            return Loaded::Failed;
+        }
+        self.loaded(path)
     }
 }

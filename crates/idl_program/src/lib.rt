@@ -13,7 +13,7 @@ mod request;
 
 pub use failure::{CompileFault, OptionsFault, Status, Subject};
 pub use laws::{rows_of_a_session, single_fault, worked_words};
-pub use loader::{Loaded, Loader};
+pub use loader::{Loaded, Loader, PathLoader};
 pub use loading::compile_all;
 pub use preparing::prepared;
 pub use program::{Devices, run_program};

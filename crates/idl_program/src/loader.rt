@@ -28,3 +28,14 @@ pub trait Loader {
         ensures gives { IsLoadedBy (told self.old name.now) result }
         ensures stays { told self.new ≡ told self.old };
 }
+
+/// Where files come from by their paths.
+pub trait PathLoader {
+    /// What the loader tells of each path.
+    ghost told_of: { Self → List ℕ → Holding };
+
+    /// Loads the file at this path.
+    fn load_path(&mut self, path: &[u8]) -> Loaded
+        ensures gives { IsLoadedBy (told_of self.old path.now) result }
+        ensures stays { told_of self.new ≡ told_of self.old };
+}

@@ -50,4 +50,5 @@ IsMessage (failure.NoMakeName subject) text =
 IsMessage (failure.Options fault) text = IsOptionsMessage fault text
 IsMessage (failure.Compile fault) text = IsCompileMessage fault text
 IsMessage failure.NoMemory text = text ≡ line_of (codes "no memory")
+IsMessage failure.ReadFailed text = text ≡ line_of (codes "read failed")
 IsMessage failure.WriteFailed text = text ≡ line_of (codes "write failed")

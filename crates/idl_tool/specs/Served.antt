@@ -13,7 +13,7 @@ use Rattle.idl_tool.specs.Compared.{IsCompared}
 use Rattle.idl_tool.specs.Deps.{IsServed}
 use Rattle.idl_tool.specs.Json.{IsWritten}
 use Rattle.idl_tool.specs.declared.request.Request.{Request}
-use Rattle.idl_tool.specs.declared.request.Request.TheVariants.{Show, Explain, Deps, Check, Json, Diff}
+use Rattle.idl_tool.specs.declared.request.Request.TheVariants.{Show, Explain, Deps, Check, Json, Diff, Serve}
 
 -- what a word asks for, or nothing else, was explained
 pub record IsToldOf (word : Option (List ℕ)) (before after : Written) (status : Status)
@@ -31,3 +31,5 @@ IsDone told before after status (Deps deps) = IsServed told deps before after st
 IsDone told before after status (Check options) = IsChecked told options before after status
 IsDone told before after status (Json options) = IsWritten told options before after status
 IsDone told before after status (Diff diff) = IsCompared told diff before after status
+-- what an editor is told is no affair of standard error
+IsDone told before after status Serve = after.errors ≡ before.errors

@@ -68,6 +68,10 @@ diff_shape = record (new_shape (codes "diff")) {
       ∷ version_rule (codes "old") ∷ version_rule (codes "new") ∷ [];
 }
 
+-- no words of its own
+abbrev pub lsp_shape : Shape
+lsp_shape = new_shape (codes "lsp")
+
 -- a program whose words are all its own, which has a version, and of which a subcommand is wanted
 abbrev pub bare : App
 bare = on_top (λ top. record top {
@@ -83,9 +87,11 @@ unfoldable pub idltool : App
 idltool =
     with_subcommand
     (with_subcommand
+    (with_subcommand
     (with_subcommand (with_subcommand (with_subcommand bare explain_shape) deps_shape) check_shape)
     json_shape)
-    diff_shape
+    diff_shape)
+    lsp_shape
 
 -- the subcommand that words name and what clap finds for its options, and what it tells of words
 -- that it doesn't take
@@ -131,7 +137,7 @@ abbrev pub Tells : (ErrorKind → Type 0) → List Text → Type 0
 Tells sort words = (kind : ErrorKind) × IsAmong kind (faults_in words) × sort kind
 
 -- what words ask for: to show a text, to explain a word or all, to write rules, to check files, to
--- write JSON, or to tell what changes
+-- write JSON, to tell what changes, or to serve an editor
 abbrev pub IsRequestOf : List Text → Request → Type 0
 IsRequestOf words (request.Show text) = Tells IsDisplay words
 IsRequestOf words (request.Explain word) =
@@ -145,6 +151,7 @@ IsRequestOf words (request.Json options) =
     (rows : List Row) × Enters (codes "json") words rows × AreOptionsOf rows options
 IsRequestOf words (request.Diff diff) =
     (rows : List Row) × Enters (codes "diff") words rows × AreDiffOf rows diff
+IsRequestOf words request.Serve = (rows : List Row) × Enters (codes "lsp") words rows
 
 -- an error of this kind is such a fault
 abbrev pub IsFaultBy : ErrorKind → WordsFault → Type 0
@@ -159,6 +166,7 @@ NamesNone words = (faults_in words ≡ [])
     × ((rows : List Row) → entered_in words ≢ Some (codes "check", rows))
     × ((rows : List Row) → entered_in words ≢ Some (codes "json", rows))
     × ((rows : List Row) → entered_in words ≢ Some (codes "diff", rows))
+    × ((rows : List Row) → entered_in words ≢ Some (codes "lsp", rows))
 
 -- words that ask for nothing, if there was memory to read them
 abbrev pub AreWrong : List Text → WordsFault → Type 0

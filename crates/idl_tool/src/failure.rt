@@ -22,6 +22,7 @@ pub enum Failure<'a> {
     Options(OptionsFault<'a>),
     Compile(CompileFault),
     NoMemory,
+    ReadFailed,
     WriteFailed,
 }
 
@@ -41,6 +42,7 @@ impl<'a> Failure<'a> {
             Failure::Options(fault) => options_message(alloc, fault),
             Failure::Compile(fault) => compile_message(alloc, fault),
             Failure::NoMemory => line_of(alloc, b"no memory"),
+            Failure::ReadFailed => line_of(alloc, b"read failed"),
             Failure::WriteFailed => line_of(alloc, b"write failed"),
         }
     }

@@ -11,6 +11,7 @@ mod explain;
 mod failure;
 mod json;
 mod laws;
+mod lsp;
 mod program;
 mod report;
 mod request;

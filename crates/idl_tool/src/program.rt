@@ -12,9 +12,10 @@ use crate::diff::write_diff;
 use crate::explain::explain;
 use crate::failure::Failure;
 use crate::json::write_json;
+use crate::lsp::serve;
 use crate::request::{Request, request_of};
-use idl_program::{Loader, Status};
-use idl_session::{Sink, write_all};
+use idl_program::{Loader, PathLoader, Status};
+use idl_session::{Sink, Source, write_all};
 use std::alloc::Global;
 
 /// What the program reads and writes.
@@ -29,11 +30,13 @@ pub struct Devices<L, O, E> {
 }
 
 /// Does what the words behind the program's name ask for, and answers how the program ends.
-pub fn run_tool<L: Loader, O: Sink, E: Sink>(
+pub fn run_tool<L: Loader + PathLoader, S: Source, O: Sink, E: Sink>(
     alloc: Global,
     words: &[&str],
+    source: &mut S,
     devices: &mut Devices<L, O, E>,
 ) -> Status
+    requires reads { S.failures source.old < 2 ^ 64 - 1 }
     // A device that counts its failures from 0 can't come near.
     requires writes { O.failures devices.old.output < 2 ^ 64 - 1 }
     requires tells { E.failures devices.old.errors < 2 ^ 64 - 2 }
@@ -49,7 +52,7 @@ pub fn run_tool<L: Loader, O: Sink, E: Sink>(
         ((O.failures devices.new.output ≡ O.failures devices.old.output)
         × (E.failures devices.new.errors ≡ E.failures devices.old.errors)) }
 {
-    match perform(alloc, words, devices) {
+    match perform(alloc, words, source, devices) {
         Ok(status) => status,
         Err(failure) => {
             tell(alloc, &failure, &mut devices.errors);
@@ -58,11 +61,13 @@ pub fn run_tool<L: Loader, O: Sink, E: Sink>(
     }
 }
 
-fn perform<'a, L: Loader, O: Sink, E: Sink>(
+fn perform<'a, L: Loader + PathLoader, S: Source, O: Sink, E: Sink>(
     alloc: Global,
     words: &'a [&'a str],
+    source: &mut S,
     devices: &mut Devices<L, O, E>,
 ) -> Result<Status, Failure<'a>>
+    requires reads { S.failures source.old < 2 ^ 64 - 1 }
     requires writes { O.failures devices.old.output < 2 ^ 64 - 1 }
     requires tells { E.failures devices.old.errors < 2 ^ 64 - 2 }
 
@@ -78,15 +83,17 @@ fn perform<'a, L: Loader, O: Sink, E: Sink>(
     ensures most { E.failures devices.new.errors ≤ E.failures devices.old.errors + 1 }
 {
     let request = request_of(alloc, words)?;
-    fulfil(alloc, &request, devices)
+    fulfil(alloc, &request, source, devices)
 }
 
 // Does what is asked for.
-fn fulfil<'a, L: Loader, O: Sink, E: Sink>(
+fn fulfil<'a, L: Loader + PathLoader, S: Source, O: Sink, E: Sink>(
     alloc: Global,
     request: &Request<'a>,
+    source: &mut S,
     devices: &mut Devices<L, O, E>,
 ) -> Result<Status, Failure<'a>>
+    requires reads { S.failures source.old < 2 ^ 64 - 1 }
     requires writes { O.failures devices.old.output < 2 ^ 64 - 1 }
     requires tells { E.failures devices.old.errors < 2 ^ 64 - 2 }
 
@@ -112,6 +119,7 @@ fn fulfil<'a, L: Loader, O: Sink, E: Sink>(
         Request::Check(options) => check(alloc, options, devices),
         Request::Json(options) => write_json(alloc, options, devices),
         Request::Diff(diff) => write_diff(alloc, diff, devices),
+        Request::Serve => serve(alloc, source, devices),
     }
 }
 

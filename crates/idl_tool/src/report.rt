@@ -23,8 +23,8 @@ pub struct Found<'a> {
 impl<'a> Found<'a> {
     /// Writes the report, with these words on the token.
     pub fn push(self, words: Words, out: &mut Vec<u8>) -> Result<(), AllocError>
-        ensures { OnOk result (out.new.items ≡ out.old.items
-            ++ report (option_copied self.entry.line) self.entry.column self.entry.finding.now words) }
+        ensures { OnOk result (out.new.items ≡ out.old.items ++ report
+            (option_copied self.entry.line) self.entry.column self.entry.finding.now words) }
     {
         self.push_heading(words, out)?;
         match self.line {

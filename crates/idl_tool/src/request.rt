@@ -5,7 +5,7 @@ ghost use Rattle.std.specs.Option.{option_to_list};
 ghost use Rattle.clap.specs.Words.{FailsBy, app_of, first_of, found_of, kind_of, rows_of, rule_of, shape_of, subcommand_rows_of};
 ghost use Rattle.clap.specs.declared.builder.command.Command.TheViews.{out-Command as fields_of};
 ghost use Rattle.idl_program.specs.Words.{file_rule};
-ghost use Rattle.idl_tool.specs.Words.{AreDepsOf, AreWrong, IsDisplay, IsFaultBy, AreDiffOf, AreSideOf, IsRequestOf, bare, check_shape, deps_shape, diff_shape, entered_in, explain_shape, faults_in, generated_rule, idltool, json_shape, side_rule, target_rule, version_rule, word_rule};
+ghost use Rattle.idl_tool.specs.Words.{AreDepsOf, AreWrong, IsDisplay, IsFaultBy, AreDiffOf, AreSideOf, IsRequestOf, bare, check_shape, deps_shape, diff_shape, lsp_shape, entered_in, explain_shape, faults_in, generated_rule, idltool, json_shape, side_rule, target_rule, version_rule, word_rule};
 
 use clap::error::ErrorKind;
 use clap::{Arg, ArgAction, ArgMatches, Command, Error};
@@ -47,6 +47,8 @@ pub enum Request<'a> {
     Json(Options<'a>),
     /// To tell what changes from one file to another.
     Diff(Diff<'a>),
+    /// To serve an editor.
+    Serve,
 }
 
 /// Why words make no request.
@@ -106,9 +108,12 @@ fn chosen<'a>(
     if let Some(json) = matches.subcommand_matches("json") {
         return Ok(Request::Json(options_of(alloc, json)?));
     }
+    if let Some(_lsp) = matches.subcommand_matches("lsp") {
+        return Ok(Request::Serve);
+    }
     match matches.subcommand_matches("diff") {
         Some(diff) => Ok(Request::Diff(diff_of(alloc, diff)?)),
-        // One of the five is wanted.
+        // One of the six is wanted.
         None => Err(WordsFault::Wrong(String::new(alloc))),
     }
 }
@@ -138,16 +143,17 @@ fn command<'a>(alloc: Global) -> Result<Command<'a>, AllocError>
     ensures { IfOk result (λ command. app_of command ≡ idltool) }
 {
     let explain = explain_command(alloc)?;
+    let command = bare(alloc).subcommand(explain)?;
     let deps = deps_command(alloc)?;
+    let command = command.subcommand(deps)?;
     let check = check_command(alloc)?;
+    let command = command.subcommand(check)?;
     let json = json_command(alloc)?;
+    let command = command.subcommand(json)?;
     let diff = diff_command(alloc)?;
-    bare(alloc)
-        .subcommand(explain)?
-        .subcommand(deps)?
-        .subcommand(check)?
-        .subcommand(json)?
-        .subcommand(diff)
+    let command = command.subcommand(diff)?;
+    let lsp = lsp_command(alloc)?;
+    command.subcommand(lsp)
 }
 
 // The program without a subcommand.
@@ -225,6 +231,17 @@ fn diff_command<'a>(alloc: Global) -> Result<Command<'a>, AllocError>
         .arg(new_directory(alloc))?
         .arg(old_file(alloc))?
         .arg(new_file(alloc))
+}
+
+fn lsp_command<'a>(alloc: Global) -> Result<Command<'a>, AllocError>
+    ensures shape { IfOk result (λ command. shape_of command ≡ lsp_shape) }
+    ensures local { IfOk result (λ command. (fields_of command).has_globals ≡ false) }
+{
+    Ok(
+        Command::new(alloc, "lsp")
+            .about("Serves an editor over standard input and output, as a language server")
+            .override_usage("idltool lsp"),
+    )
 }
 
 fn word<'a>(alloc: Global) -> Arg<'a>

@@ -3,7 +3,7 @@
 //! `idltool check FILE..` tells what is found, `idltool explain E35` explains a code, and `idltool deps FILE..` writes rules of make.
 #![tactic(auto)]
 
-use idl_disk::{Disk, StandardOutput, texts, words};
+use idl_disk::{Disk, StandardInput, StandardOutput, texts, words};
 use idl_program::Status;
 use idl_tool::{Devices, run_tool};
 use std::process::ExitCode;
@@ -29,5 +29,6 @@ fn run(rt: &HostRuntime, words: &[String]) -> Status {
         output: StandardOutput::new(std::io::writer(rt)),
         errors: StandardOutput::new(rt.stderr()),
     };
-    run_tool(rt.alloc(), &texts, &mut devices)
+    let mut source = StandardInput::new(rt.reader());
+    run_tool(rt.alloc(), &texts, &mut source, &mut devices)
 }

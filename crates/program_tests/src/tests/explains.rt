@@ -2,7 +2,7 @@
 
 use super::support::{Files, Host, are_given, are_given_so, given, is_given};
 use idl_program::Status;
-use idl_session::BufferSink;
+use idl_session::{BufferSink, SliceSource};
 use idl_tool::{Devices, run_tool};
 use std::test::Fail;
 
@@ -80,7 +80,8 @@ fn tells_a_closed_output(rt: &impl Host, words: &[&str]) -> Result<(), Fail> {
         output: BufferSink::new(rt.alloc(), 4)?,
         errors: BufferSink::new(rt.alloc(), 100)?,
     };
-    let status = run_tool(rt.alloc(), words, &mut devices);
+    let mut source = SliceSource::new(b"");
+    let status = run_tool(rt.alloc(), words, &mut source, &mut devices);
     assert!(rt; matches!(status, Status::Failed));
     assert_eq!(rt;
         devices.errors.as_bytes(),

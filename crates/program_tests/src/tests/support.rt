@@ -2,7 +2,7 @@
 
 ghost use Rattle.idl_program.specs.Holding.{Untold};
 
-use idl_program::{Devices, Loaded, Loader, Status, run_program};
+use idl_program::{Devices, Loaded, Loader, PathLoader, Status, run_program};
 use idl_session::{BufferSink, SliceSource};
 use idl_source::Name;
 use idl_tool::run_tool;
@@ -52,6 +52,17 @@ impl<'a> Loader for Files<'a> {
     }
 }
 
+impl<'a> PathLoader for Files<'a> {
+    ghost told_of = { λ _ _. Untold };
+
+    fn load_path(&mut self, path: &[u8]) -> Loaded {
+        match Name::new(path) {
+            Some(name) => self.load(&name),
+            None => Loaded::Missing,
+        }
+    }
+}
+
 /// The bytes of a file, unless there was no memory for them.
 pub fn loaded(bytes: Result<Vec<u8>, AllocError>) -> Loaded {
     match bytes {
@@ -79,7 +90,7 @@ fn file_bytes(alloc: Global, lines: &str) -> Result<Vec<u8>, AllocError> {
 pub fn given(alloc: Global, command: &str, files: &str) -> Result<String, AllocError> {
     let loader = Files::new(alloc, files);
     if let Some(words) = command.strip_prefix("idltool") {
-        return tool_told(alloc, words, loader);
+        return tool_told(alloc, words, loader, "");
     }
     let words = command.strip_prefix("idlc").unwrap_or(command);
     told(alloc, words, loader, "")
@@ -103,14 +114,21 @@ pub fn told<L: Loader + Drop>(
     text_of(alloc, status, &devices.output, &devices.errors)
 }
 
-fn tool_told(alloc: Global, words: &str, loader: Files<'_>) -> Result<String, AllocError> {
+/// What `idltool` gives for these words, over files of a text and this input.
+pub fn tool_told(
+    alloc: Global,
+    words: &str,
+    loader: Files<'_>,
+    input: &str,
+) -> Result<String, AllocError> {
     let list = list_of(alloc, words)?;
     let mut devices = idl_tool::Devices {
         loader,
         output: BufferSink::new(alloc, ROOM)?,
         errors: BufferSink::new(alloc, ROOM)?,
     };
-    let status = run_tool(alloc, &list, &mut devices);
+    let mut source = SliceSource::new(input.as_bytes());
+    let status = run_tool(alloc, &list, &mut source, &mut devices);
     text_of(alloc, status, &devices.output, &devices.errors)
 }
 

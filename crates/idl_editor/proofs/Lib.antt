@@ -1,0 +1,4 @@
+pub mod ColumnLemmas
+pub mod CutLemmas
+pub mod PositionLemmas
+pub mod SpliceLemmas

@@ -1,0 +1,4 @@
+pub mod Columns
+pub mod Positions
+pub mod Changes
+pub mod Splices

@@ -1,0 +1,4 @@
+pub mod Message
+pub mod Heads
+pub mod Reading
+pub mod Written

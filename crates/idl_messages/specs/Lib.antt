@@ -1,0 +1,5 @@
+pub mod Fields
+pub mod Method
+pub mod Message
+pub mod Params
+pub mod Answers

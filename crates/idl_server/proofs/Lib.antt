@@ -1,0 +1,12 @@
+pub mod FoundLemmas
+pub mod FileLemmas
+pub mod WorkspaceLemmas
+pub mod HeldLemmas
+pub mod NoticeLemmas
+pub mod ServerLemmas
+pub mod RootLemmas
+pub mod CoveredLemmas
+pub mod PlaceLemmas
+pub mod DiagnosticLemmas
+pub mod NamedLemmas
+pub mod PublishedLemmas

@@ -1,0 +1,80 @@
+-- What is told of what is found.
+use Rattle.std.proofs.Common.{◌≡◌, ◌∙◌, ◌++◌, ◌∷◌, [], ℕ, All, List, Result, Ok, Err, ap, arith, length, subst, sym}
+use Rattle.std.proofs.lemmas.List.{append_assoc, append-nil}
+use Rattle.std.proofs.lemmas.List.Elements.{All-append, All-cons, All-nil}
+use Rattle.std.specs.Prelude.{codes}
+use Rattle.std.specs.Result.{OnOk}
+use Rattle.serde_json.specs.Data.{Data, member, no_members, object, string}
+use Rattle.idl_messages.specs.Answers.{answer_json, error_json, notice_json}
+use Rattle.idl_messages.specs.declared.answer.ErrorCode.{ErrorCode}
+use Rattle.idl_server.specs.Diagnostics.{AreDiagnostics}
+use Rattle.idl_server.specs.Uris.{uri_for}
+use Rattle.idl_server.specs.declared.workspace.Workspace.{Workspace}
+use Rattle.idl_server.specs.Published.{ArePublished, IsPublished, found_json, published_json}
+
+-- ---- one message
+
+list-same : (uri other : List ℕ) (list more : Data) → published_json uri list ≡ published_json other more → list ≡ more
+list-same uri other list more is = cc
+
+uri-same : (uri other : List ℕ) (list more : Data) → published_json uri list ≡ published_json other more → uri ≡ other
+uri-same uri other list more is = cc
+
+pub found-published : (w : Workspace) (name uri : List ℕ) (list params : Data) → params ≡ found_json uri list → uri ≡ uri_for w name → AreDiagnostics w.encoding w.session.project name list
+    → IsPublished w (notice_json (codes "textDocument/publishDiagnostics") params)
+found-published w name uri list params made named are = λ other more is.
+    let same : published_json uri list ≡ published_json other more = ap (notice_json (codes "textDocument/publishDiagnostics")) (sym made) ∙ is in (
+      name,
+      sym (uri-same uri other list more same) ∙ named,
+      subst (λ (l : Data). AreDiagnostics w.encoding w.session.project name l) (list-same uri other list more same) are,
+    )
+
+method-same : (a b : List ℕ) (params more : Data) → notice_json a params ≡ notice_json b more → a ≡ b
+method-same a b params more is = cc
+
+-- another notice
+pub shown-published : (w : Workspace) (params : Data) → IsPublished w (notice_json (codes "window/showMessage") params)
+shown-published w params = λ uri list is.
+    let lengths : ◌≡◌ {A = ℕ} 18 31 = ap length (method-same (codes "window/showMessage") (codes "textDocument/publishDiagnostics") params (found_json uri list) is) in
+    absurd (omega (arith, lengths))
+
+-- answers
+pub answer-published : (w : Workspace) (id outcome : Data) → IsPublished w (answer_json id outcome)
+answer-published w id outcome = λ uri list is.
+    let keys : codes "id" ≡ codes "jsonrpc" = cc in
+    let lengths : ◌≡◌ {A = ℕ} 2 7 = ap length keys in
+    absurd (omega (arith, lengths))
+
+pub error-published : (w : Workspace) (id : Data) (code : ErrorCode) → IsPublished w (error_json id code)
+error-published w id code = λ uri list is.
+    let keys : codes "error" ≡ codes "jsonrpc" = cc in
+    let lengths : ◌≡◌ {A = ℕ} 5 7 = ap length keys in
+    absurd (omega (arith, lengths))
+
+-- ---- messages
+
+pub none-published : (w : Workspace) (said : List Data) → ArePublished w said said
+none-published w said = ([], sym (append-nil said), All-nil (IsPublished w))
+
+pub one-published : (w : Workspace) (old new : List Data) (message : Data) → new ≡ old ++ message ∷ [] → IsPublished w message
+    → ArePublished w old new
+one-published w old new message is one =
+    (message ∷ [], is, All-cons (IsPublished w) message [] one (All-nil (IsPublished w)))
+
+pub both-published : (w : Workspace) (a b c : List Data) → ArePublished w a b → ArePublished w b c → ArePublished w a c
+both-published w a b c first second = (
+  first.0 ++ second.0,
+  second.1 ∙ ap (λ (said : List Data). said ++ second.0) first.1 ∙ append_assoc a first.0 second.0,
+  All-append (IsPublished w) first.0 second.0 first.2 second.2,
+)
+
+-- what is said last
+pub said-published : {T E : Type 0} (result : Result T E) (w : Workspace) (old new : List Data) (message : Data) → IsPublished w message
+    → OnOk result (new ≡ old ++ message ∷ []) → OnOk result (ArePublished w old new)
+said-published (Ok x) w old new message one is = one-published w old new message is one
+said-published (Err e) w old new message one is = tt
+
+pub then-published : {T E : Type 0} (result : Result T E) (w : Workspace) (a b c : List Data) → ArePublished w a b
+    → OnOk result (ArePublished w b c) → OnOk result (ArePublished w a c)
+then-published (Ok x) w a b c first second = both-published w a b c first second
+then-published (Err e) w a b c first second = tt

@@ -1,0 +1,9 @@
+use Rattle.std.proofs.Common.{◌≡◌, [], take}
+use Rattle.std.specs.List.{flat_map, fold}
+use Rattle.idl_server.specs.Found.{findings_in, found_by, told_with}
+use Rattle.idl_server.proofs.found.found_in.Given as goal
+
+-- what the roots before find
+abbrev pub invariant-roots : goal.invariant-roots
+invariant-roots l = findings_in l.found.items
+    ≡ fold told_with [] (flat_map (found_by l.session.project.inputs l.name) (take l.root l.session.project.roots))

@@ -1,0 +1,46 @@
+use Rattle.std.proofs.Common.{◌≡◌, ◌∙◌, ℕ, List, Ok, OnOk, Some, ap, refl, subst}
+use Rattle.idl_project.specs.Edits.{Splice, after}
+use Rattle.idl_project.specs.UpToDate.{State}
+use Rattle.idl_server.specs.Documents.{OnlyRefusedIsBehind}
+use Rattle.idl_server.specs.Files.{StaysBeside}
+use Rattle.idl_server.proofs.FileLemmas.{splice-alone, splice-lines}
+use Rattle.idl_server.proofs.WorkspaceLemmas.{beside-both, beside-edited, beside-kept, filed-kept, filed-open, on_ok}
+use Rattle.idl_server.proofs.workspace.Workspace.splice.Goals as goal
+
+pub returns-in-Ok-clause-beside : goal.returns-in-Ok-clause-beside
+returns-in-Ok-clause-beside c =
+    let name = c.args.name.now in
+    let old = c.args.self.now in
+    let splice = c.args.splice in
+    let new = record old { session = c.splice.new.self; documents = c.set_behind.new.documents } in
+    let made = subst (λ (n : List ℕ). after old.session.project (Splice n splice.span.from splice.span.del splice.lines.items) ≡ Ok new.session.project) c.as_bytes.ensures.bytes c.in-Ok.ensures.project in
+    on_ok c.keep_touched.result
+    (beside-both name old new c.keep_touched.new.self
+    (beside-edited name old new refl refl (splice-alone name splice.span.from splice.span.del splice.lines.items old.session.project new.session.project made) c.set_behind.ensures.beside refl refl)
+    (beside-kept name new c.keep_touched.new.self c.keep_touched.ensures))
+
+pub returns-in-Ok-clause-filed : goal.returns-in-Ok-clause-filed
+returns-in-Ok-clause-filed c = λ document lines is there splices.
+    let name = c.args.name.now in
+    let old = c.args.self.now in
+    let splice = c.args.splice in
+    let new = record old { session = c.splice.new.self; documents = c.set_behind.new.documents } in
+    let made = subst (λ (n : List ℕ). after old.session.project (Splice n splice.span.from splice.span.del splice.lines.items) ≡ Ok new.session.project) c.as_bytes.ensures.bytes c.in-Ok.ensures.project in
+    on_ok c.keep_touched.result (λ told.
+    filed-kept told name new c.keep_touched.new.self c.keep_touched.ensures
+    (filed-open told new name _ (c.set_behind.ensures.there document is)
+    (λ now.
+    splice-lines name lines splice.span.from splice.span.del splice.lines.items old.session.project new.session.project there made
+    ∙ ap (λ (l : List (List ℕ)). Some l) splices.gives)))
+
+pub returns-in-Err-clause-beside : goal.returns-in-Err-clause-beside
+returns-in-Err-clause-beside c =
+    let old = c.args.self.now in
+    subst (λ (s : State). OnOk c.put_whole.result (StaysBeside c.args.name.now (record old { session = s }) c.put_whole.new.self)) c.in-Err.ensures.unchanged c.put_whole.ensures.beside
+
+pub returns-in-Err-clause-filed : goal.returns-in-Err-clause-filed
+returns-in-Err-clause-filed c = λ document lines is there splices. c.put_whole.ensures.filed c.requires
+
+pub returns-in-Err-clause-held : goal.returns-in-Err-clause-held
+returns-in-Err-clause-held c =
+    subst (λ (s : State). OnOk c.put_whole.result (OnlyRefusedIsBehind s.project c.args.name.now c.put_whole.new.self.documents.entries)) c.in-Err.ensures.unchanged c.put_whole.ensures.held

@@ -1,0 +1,16 @@
+pub mod Json
+pub mod Params
+pub mod Places
+pub mod Documents
+pub mod Edited
+pub mod Files
+pub mod Uris
+pub mod OnDisk
+pub mod Loading
+pub mod Found
+pub mod Diagnostics
+pub mod Named
+pub mod Roots
+pub mod Notices
+pub mod Server
+pub mod Published

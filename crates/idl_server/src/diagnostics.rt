@@ -1,0 +1,175 @@
+//! What is found, as an editor is told.
+
+ghost use Rattle.std.specs.Prelude.{◌≡◌, ◌<◌, [], IfOk, length, unwrap_or};
+ghost use Rattle.serde_json.specs.View.{view};
+ghost use Rattle.idl_server.specs.Diagnostics.{AreDiagnostics, IsDiagnostic, IsSaid, finding_range, severity};
+
+use crate::found::found_in;
+use crate::places::{Token, line_range, location_value, range_of, range_value};
+use crate::shown::shown_value;
+use crate::workspace::Workspace;
+use idl_base::Seq;
+use idl_editor::{Encoding, Range};
+use idl_explain::{Topic, explanation_of};
+use idl_fault::Code;
+use idl_project::{Finding, Related, Session};
+use idl_source::Name;
+use serde_json::{Value, json};
+use std::alloc::{AllocError, Global};
+
+// The second places of all that a root finds.
+#[derive(Drop)]
+struct RootRelated {
+    root: usize,
+    related: Seq<Seq<Related>>,
+}
+
+impl Workspace {
+    /// What is found in a file, as it is told.
+    pub fn diagnostics_in(&self, name: &Name) -> Result<Value, AllocError>
+        ensures { IfOk result (λ value. AreDiagnostics self.now.encoding
+            self.now.session.project name.now (view value)) }
+    {
+        let found = found_in(&self.session, name)?;
+        let mut roots = Vec::new(self.alloc());
+        let held = found.as_slice();
+        let mut list = Vec::with_capacity(self.alloc(), held.len())?;
+        'each: for index in 0..held.len() {
+            let one = held[index];
+            let at = self.place_of_related(&mut roots, one.root)?;
+            let related = match roots[at].related.as_slice().get(one.index) {
+                Some(related) => related.as_slice(),
+                None => &[],
+            };
+            let related = self.related_value(related)?;
+            list.push(diagnostic_value(&self.session, self.encoding, one.finding, related)?)?;
+        }
+        Ok(Value::Array(list))
+    }
+
+    // At which place the second places of a root are, which are put there if they aren't.
+    fn place_of_related(
+        &self,
+        roots: &mut Vec<RootRelated>,
+        root: usize,
+    ) -> Result<usize, AllocError>
+        ensures { IfOk result (λ at. at < length roots.new.items) }
+    {
+        for (at, one) in roots.iter().enumerate() {
+            if one.root == root {
+                return Ok(at);
+            }
+        }
+        let related = self.related_at(root)?;
+        let at = roots.len();
+        roots.push(RootRelated { root, related })?;
+        Ok(at)
+    }
+
+    // The second places of all that the root with this number finds.
+    fn related_at(&self, root: usize) -> Result<Seq<Seq<Related>>, AllocError> {
+        if let Some(name) = self.session.root(root) {
+            if let Some(related) = self.session.related(name.as_bytes())? {
+                return Ok(related);
+            }
+        }
+        Ok(Seq::new(self.alloc()))
+    }
+
+    // Second places, as they are told.
+    fn related_value(&self, related: &[Related]) -> Result<Value, AllocError> {
+        let alloc = self.alloc();
+        let mut list = Vec::with_capacity(alloc, related.len())?;
+        'related: for second in related {
+            let uri = self.uri_for(&second.place.file.name())?;
+            let token = Token {
+                place: &second.place,
+                number: second.number,
+                text: second.text.as_bytes(),
+            };
+            let range = range_of(&self.session, self.encoding, token);
+            let location = location_value(alloc, &uri, range)?;
+            let message = second_message(alloc, second)?;
+            list.push(json!(in alloc; {"location": location, "message": message})?)?;
+        }
+        Ok(Value::Array(list))
+    }
+}
+
+// A finding, with what is told of its second places.
+fn diagnostic_value(
+    session: &Session,
+    encoding: Encoding,
+    finding: &Finding,
+    related: Value,
+) -> Result<Value, AllocError>
+    ensures { IfOk result (λ value. IsDiagnostic encoding session.now.project finding.now
+        (view related) (view value)) }
+{
+    let alloc = session.allocator();
+    let code = shown_value(alloc, &finding.code.text())?;
+    let message = message_of(alloc, finding)?;
+    let message = shown_value(alloc, &message)?;
+    let range = range_value(alloc, finding_range(session, encoding, finding))?;
+    json!(in alloc; {
+        "code": code,
+        "message": message,
+        "range": range,
+        "relatedInformation": related,
+        "severity": severity(finding.code),
+        "source": "idltool",
+    })
+}
+
+// The range of what a finding is about.
+fn finding_range(session: &Session, encoding: Encoding, finding: &Finding) -> Range
+    ensures { result ≡ finding_range encoding session.now.project finding.now }
+{
+    match &finding.text {
+        Some(text) => {
+            let token = Token {
+                place: &finding.place,
+                number: finding.number,
+                text: text.as_bytes(),
+            };
+            range_of(session, encoding, token)
+        }
+        None => line_range(session, encoding, &finding.place),
+    }
+}
+
+// What a finding says.
+fn message_of(alloc: Global, finding: &Finding) -> Result<Vec<u8>, AllocError>
+    ensures { IfOk result (λ message. IsSaid finding.now message.items) }
+{
+    let explanation = explanation_of(Topic::Code(finding.code));
+    let token = token_of(finding);
+    let mut message = Vec::new(alloc);
+    explanation.words.push(token, &mut message)?;
+    Ok(message)
+}
+
+// The token of a finding, if it tells one.
+fn token_of(finding: &Finding) -> &[u8]
+    ensures { result.now ≡ unwrap_or finding.now.text [] }
+{
+    match &finding.text {
+        Some(text) => text.as_bytes(),
+        None => b"",
+    }
+}
+
+// Why a second place is told, and its token.
+fn second_message(alloc: Global, second: &Related) -> Result<Value, AllocError> {
+    let mut text = Vec::from_slice(alloc, second.reason.words())?;
+    text.extend_from_slice(b": ")?;
+    text.extend_from_slice(second.text.as_bytes())?;
+    shown_value(alloc, &text)
+}
+
+// The number of an error, or of a warning.
+fn severity(code: Code) -> u8
+    ensures { result ≡ severity code }
+{
+    if code.is_error() { 1 } else { 2 }
+}

@@ -1,0 +1,134 @@
+//! Documents that are opened, changed and closed.
+
+ghost use Rattle.std.specs.Prelude.{◌≡◌, ℕ, List, IfOk, IsSome, OnOk, Some, map};
+ghost use Rattle.std.specs.FinMap as finite;
+ghost use Rattle.std.specs.Map.{lookup};
+ghost use Rattle.std.specs.Option.{option_map};
+ghost use Rattle.std.specs.Str.{bytes_eq};
+ghost use Rattle.idl_source.specs.texts.Cut.{cut_lines};
+ghost use Rattle.idl_editor.specs.Splices.{IsSplice};
+ghost use Rattle.idl_program.specs.Holding.{Holding};
+ghost use Rattle.idl_server.specs.Documents.{OnlyRefusedIsBehind, change_told, text_after_all, texts_of};
+ghost use Rattle.idl_server.specs.Files.{IsFiled, StaysBeside};
+ghost use Rattle.idl_server.specs.declared.document.Document.{Document};
+
+use crate::document::{Document, set_behind, set_text};
+use crate::workspace::Workspace;
+use idl_editor::{Change, LineSplice, after_change};
+use idl_source::{Name, Refusal, cut};
+use std::alloc::AllocError;
+
+impl Workspace {
+    /// A document is opened.
+    pub fn open_document(&mut self, name: &Name, uri: &str, text: &str) -> Result<(), AllocError>
+        ensures beside { OnOk result (StaysBeside name.now self.old self.new) }
+        ensures filed { OnOk result ((told : List ℕ → Holding) → IsFiled told self.new name.now) }
+        ensures text { OnOk result (texts_of self.new.documents.entries name.now ≡ Some text.now) }
+        ensures held { OnOk result (OnlyRefusedIsBehind self.old.session.project name.now
+            self.new.documents.entries) }
+    {
+        let alloc = self.alloc();
+        let uri = String::from_str(alloc, uri)?;
+        let text = Vec::from_slice(alloc, text.as_bytes())?;
+        self.documents
+            .insert(name.copied(), Document::new(uri, text))?;
+        self.tried.shift_remove(name);
+        self.unread.shift_remove(name);
+        self.turned_away.shift_remove(name);
+        self.put_whole(name)
+    }
+
+    /// A document changes, by one change after another. One alone is a splice of its file; the text after several is put as a whole.
+    pub fn change_document(&mut self, name: &Name, changes: &[Change<'_>]) -> Result<(), AllocError>
+        ensures beside { OnOk result (StaysBeside name.now self.old self.new) }
+        ensures filed { (told : List ℕ → Holding) → IsFiled told self.old name.now
+            → OnOk result (IsFiled told self.new name.now) }
+        ensures text { OnOk result (texts_of self.new.documents.entries name.now
+            ≡ option_map
+            (λ text. text_after_all self.old.encoding text (map change_told changes.now))
+            (texts_of self.old.documents.entries name.now)) }
+        ensures held { OnOk result (OnlyRefusedIsBehind self.old.session.project name.now
+            self.new.documents.entries) }
+    {
+        let Some(document) = self.documents.get(name) else {
+            return Ok(());
+        };
+        if let [change] = changes
+            && !document.is_behind
+        {
+            let after = after_change(self.alloc(), self.encoding, &document.text, *change)?;
+            set_text(&mut self.documents, name, after.text);
+            return self.splice(name, after.splice);
+        }
+        let text = self.text_after_all(&document.text, changes)?;
+        set_text(&mut self.documents, name, text);
+        self.put_whole(name)
+    }
+
+    // A text after changes.
+    fn text_after_all(&self, old: &[u8], changes: &[Change<'_>]) -> Result<Vec<u8>, AllocError>
+        ensures { IfOk result (λ text. text.items
+            ≡ text_after_all self.now.encoding old.now (map change_told changes.now)) }
+    {
+        let alloc = self.alloc();
+        let mut text = Vec::from_slice(alloc, old)?;
+        'changes: for change in changes {
+            let after = after_change(alloc, self.encoding, &text, *change)?;
+            text = after.text;
+        }
+        Ok(text)
+    }
+
+    // Splices the lines of a document's file. Where that is refused, puts its whole text. So where the splice makes its text the file, it is filed.
+    fn splice(&mut self, name: &Name, splice: LineSplice) -> Result<(), AllocError>
+        requires { IsSome (lookup (bytes_eq name.now) self.old.documents.entries) }
+        ensures beside { OnOk result (StaysBeside name.now self.old self.new) }
+        ensures text { OnOk result (texts_of self.new.documents.entries name.now
+            ≡ texts_of self.old.documents.entries name.now) }
+        ensures filed { (document : Document) → (lines : List (List ℕ))
+            → lookup (bytes_eq name.now) self.old.documents.entries ≡ Some document
+            → finite.get self.old.session.project.inputs.files name.now ≡ Some lines
+            → IsSplice lines splice (cut_lines document.text.items)
+            → OnOk result ((told : List ℕ → Holding) → IsFiled told self.new name.now) }
+        ensures held { OnOk result (OnlyRefusedIsBehind self.old.session.project name.now
+            self.new.documents.entries) }
+    {
+        match self
+            .session
+            .splice(name.as_bytes(), splice.span, splice.lines)
+        {
+            Ok(_) => {
+                set_behind(&mut self.documents, name, false);
+                self.keep_touched()
+            }
+            Err(_) => self.put_whole(name),
+        }
+    }
+
+    // Puts the whole text of a document into the session. Where that is refused, the document is behind.
+    fn put_whole(&mut self, name: &Name) -> Result<(), AllocError>
+        ensures beside { OnOk result (StaysBeside name.now self.old self.new) }
+        ensures text { OnOk result (texts_of self.new.documents.entries name.now
+            ≡ texts_of self.old.documents.entries name.now) }
+        ensures filed { IsSome (lookup (bytes_eq name.now) self.old.documents.entries)
+            → OnOk result ((told : List ℕ → Holding) → IsFiled told self.new name.now) }
+        ensures held { OnOk result (OnlyRefusedIsBehind self.old.session.project name.now
+            self.new.documents.entries) }
+    {
+        let Some(document) = self.documents.get(name) else {
+            return Ok(());
+        };
+        let lines = cut(self.alloc(), &document.text)?;
+        match self.session.put(name.as_bytes(), lines) {
+            Ok(_) => {
+                set_behind(&mut self.documents, name, false);
+                self.keep_touched()
+            }
+            Err(Refusal::NoMemory) => Err(AllocError),
+            Err(refusal) => {
+                set_behind(&mut self.documents, name, true);
+                self.keep_refused(name.as_bytes(), refusal)
+            }
+        }
+    }
+}

@@ -1,0 +1,252 @@
+//! Names at a position: where what they denote is declared, and what it is.
+
+ghost use Rattle.std.specs.Prelude.{◌≡◌, IfOk};
+ghost use Rattle.std.specs.Option.{option_copied, option_map};
+ghost use Rattle.serde_json.specs.View.{view};
+ghost use Rattle.idl_server.specs.Named.{declared_entry, declared_place, definition_at, definition_json, details_with, entry_at, entry_of, entry_text, has_path, is_declared_at, stands_at, used_at};
+
+use crate::places::{Token, is_up_to, location_value, range_of};
+use crate::shown::shown_value;
+use crate::workspace::Workspace;
+use idl_details::kind_word;
+use idl_editor::{Encoding, Position};
+use idl_project::{DeclaredPlace, DetailedEntry, Details, Session, SitedToken, UsedName};
+use idl_repo::push_path;
+use idl_source::Name;
+use serde_json::{Value, json};
+use std::alloc::{AllocError, Global};
+
+/// What is told of a root.
+#[derive(Drop)]
+pub(crate) struct RootDetails {
+    pub root: Name,
+    pub details: Details,
+}
+
+/// A position in a file.
+#[derive(Clone, Copy)]
+pub(crate) struct Spot<'a> {
+    pub name: &'a Name,
+    pub position: Position,
+}
+
+impl Workspace {
+    /// Where what the name at a position denotes is declared, and else nothing.
+    pub fn definition_at(&self, spot: Spot<'_>) -> Result<Value, AllocError>
+        ensures { IfOk result (λ value. view value ≡ definition_json self.now
+            (definition_at self.now.encoding self.now.session.project
+            spot.entry.name.now spot.entry.position)) }
+    {
+        match self.details_with(spot.name)? {
+            Some(told) => self.definition_in(&told.details, spot),
+            None => Ok(Value::Null),
+        }
+    }
+
+    // The same by what is told of a root.
+    fn definition_in(&self, details: &Details, spot: Spot<'_>) -> Result<Value, AllocError>
+        ensures { IfOk result (λ value. view value ≡ definition_json self.now
+            (declared_place self.now.encoding self.now.session.project details.now
+            spot.entry.name.now spot.entry.position)) }
+    {
+        let Some(declared) = declared_place(&self.session, self.encoding, details, spot)? else {
+            return Ok(Value::Null);
+        };
+        let token = &declared.name;
+        let uri = self.uri_for(&token.place.file.name())?;
+        let range = range_of(&self.session, self.encoding, Token::of(token));
+        location_value(self.alloc(), &uri, range)
+    }
+
+    /// What the name at a position denotes, and else nothing.
+    pub fn hover_at(&self, spot: Spot<'_>) -> Result<Value, AllocError> {
+        let alloc = self.alloc();
+        let Some(told) = self.details_with(spot.name)? else {
+            return Ok(Value::Null);
+        };
+        let Some(entry) = entry_at(&self.session, self.encoding, &told.details, spot)? else {
+            return Ok(Value::Null);
+        };
+        let mut text = entry_text(alloc, entry)?;
+        if let Some(row) = row_of(&self.session, &told, entry) {
+            text.extend_from_slice(b"\n")?;
+            text.extend_from_slice(row)?;
+        }
+        let text = shown_value(alloc, &text)?;
+        let contents = json!(in alloc; {"kind": "plaintext", "value": text})?;
+        json!(in alloc; {"contents": contents})
+    }
+
+    /// What is told of the first root that asks for a file.
+    pub fn details_with(&self, name: &Name) -> Result<Option<RootDetails>, AllocError>
+        ensures { IfOk result (λ told. option_map (λ told. told.details) told
+            ≡ details_with self.now.session.project name.now) }
+    {
+        let Some(root) = self.root_with(name)? else {
+            return Ok(None);
+        };
+        match self.session.details(root.as_bytes())? {
+            Some(details) => Ok(Some(RootDetails { root, details })),
+            None => Ok(None),
+        }
+    }
+}
+
+// The row of an entry in the listing of its root, which has one for each entry, and none where the root has an error.
+fn row_of<'a>(session: &'a Session, told: &RootDetails, entry: &DetailedEntry) -> Option<&'a [u8]> {
+    let rows = session.listing(told.root.as_bytes())?;
+    for (index, other) in told.details.entries.as_slice().iter().enumerate() {
+        if other.tree.path == entry.tree.path {
+            return Some(rows.get(index)?.as_bytes());
+        }
+    }
+    None
+}
+
+// The last place where what the name at a position denotes is declared.
+fn declared_place<'d>(
+    session: &Session,
+    encoding: Encoding,
+    details: &'d Details,
+    spot: Spot<'_>,
+) -> Result<Option<&'d DeclaredPlace>, AllocError>
+    ensures { IfOk result (λ place. option_copied place
+        ≡ declared_place encoding session.now.project details.now
+        spot.entry.name.now spot.entry.position) }
+{
+    match entry_at(session, encoding, details, spot)? {
+        Some(entry) => Ok(entry.places.as_slice().last()),
+        None => Ok(None),
+    }
+}
+
+// The entry of what the name at a position denotes: of what is declared there, and else of what the first name denotes that is used there.
+fn entry_at<'d>(
+    session: &Session,
+    encoding: Encoding,
+    details: &'d Details,
+    spot: Spot<'_>,
+) -> Result<Option<&'d DetailedEntry>, AllocError>
+    ensures { IfOk result (λ entry. option_copied entry ≡ entry_at encoding session.now.project
+        details.now spot.entry.name.now spot.entry.position) }
+{
+    if let Some(entry) = declared_entry(session, encoding, details, spot) {
+        return Ok(Some(entry));
+    }
+    let Some(used) = used_at(session, encoding, details, spot) else {
+        return Ok(None);
+    };
+    let mut path = Vec::new(session.allocator());
+    push_path(&mut path, used.path.lent())?;
+    Ok(entry_of(details, &path))
+}
+
+// The entry of what is declared at a position.
+fn declared_entry<'d>(
+    session: &Session,
+    encoding: Encoding,
+    details: &'d Details,
+    spot: Spot<'_>,
+) -> Option<&'d DetailedEntry>
+    ensures { option_copied result ≡ declared_entry encoding session.now.project
+        spot.entry.name.now spot.entry.position details.now }
+{
+    let entries = details.entries.as_slice();
+    'each: for index in 0..entries.len() {
+        let entry = &entries[index];
+        if is_declared_at(session, encoding, entry, spot) {
+            return Some(entry);
+        }
+    }
+    None
+}
+
+// The first name that is used at a position.
+fn used_at<'d>(
+    session: &Session,
+    encoding: Encoding,
+    details: &'d Details,
+    spot: Spot<'_>,
+) -> Option<&'d UsedName>
+    ensures { option_copied result ≡ used_at encoding session.now.project
+        spot.entry.name.now spot.entry.position details.now }
+{
+    let uses = details.uses.as_slice();
+    'each: for index in 0..uses.len() {
+        let used = &uses[index];
+        if stands_at(session, encoding, &used.name, spot) {
+            return Some(used);
+        }
+    }
+    None
+}
+
+// The entry of this path.
+fn entry_of<'d>(details: &'d Details, path: &[u8]) -> Option<&'d DetailedEntry>
+    ensures { option_copied result ≡ entry_of details.now path.now }
+{
+    let entries = details.entries.as_slice();
+    'each: for index in 0..entries.len() {
+        let entry = &entries[index];
+        if has_path(entry, path) {
+            return Some(entry);
+        }
+    }
+    None
+}
+
+// Whether an entry is of this path.
+fn has_path(entry: &DetailedEntry, path: &[u8]) -> bool
+    ensures { result ≡ has_path path.now entry.now }
+{
+    entry.tree.path.as_bytes() == path
+}
+
+// Whether what an entry is of is declared at a position.
+fn is_declared_at(
+    session: &Session,
+    encoding: Encoding,
+    entry: &DetailedEntry,
+    spot: Spot<'_>,
+) -> bool
+    ensures { result ≡ is_declared_at encoding session.now.project
+        spot.entry.name.now spot.entry.position entry.now }
+{
+    let places = entry.places.as_slice();
+    'each: for index in 0..places.len() {
+        let declared = &places[index];
+        if stands_at(session, encoding, &declared.name, spot) {
+            return true;
+        }
+    }
+    false
+}
+
+// Whether a token stands at a position.
+fn stands_at(session: &Session, encoding: Encoding, token: &SitedToken, spot: Spot<'_>) -> bool
+    ensures { result ≡ stands_at encoding session.now.project
+        spot.entry.name.now spot.entry.position token.now }
+{
+    if token.place.file.as_bytes() != spot.name.as_bytes() {
+        return false;
+    }
+    let column = session.column(&token.place, token.number, token.text.as_bytes());
+    if column.is_none() {
+        return false;
+    }
+    let range = range_of(session, encoding, Token::of(token));
+    is_up_to(range.start, spot.position) && is_up_to(spot.position, range.end)
+}
+
+// What is shown of an entry.
+fn entry_text(alloc: Global, entry: &DetailedEntry) -> Result<Vec<u8>, AllocError>
+    ensures { IfOk result (λ text. text.items ≡ entry_text entry.now) }
+{
+    let tree = &entry.tree;
+    let mut text = Vec::from_slice(alloc, kind_word(tree.kind))?;
+    text.extend_from_slice(b" ")?;
+    text.extend_from_slice(tree.path.as_bytes())?;
+    text.extend_from_slice(b"\n")?;
+    text.extend_from_slice(tree.id.as_bytes())?;
+    Ok(text)
+}

@@ -1,0 +1,193 @@
+//! Places in files as positions of an editor.
+
+ghost use Rattle.std.specs.Prelude.{◌≡◌, ◌≤◌, ◌<◌, ◌+◌, ◌*◌, ◌^◌, IfOk, length, string_bytes};
+ghost use Rattle.std.specs.List.{sum_by};
+ghost use Rattle.serde_json.specs.View.{view};
+ghost use Rattle.idl_source.specs.Limits.{longest_line};
+ghost use Rattle.idl_project.specs.WithinLimits.{IsAllowedFile};
+ghost use Rattle.idl_server.specs.Json.{location_json, position_json, range_json};
+ghost use Rattle.idl_server.specs.Places.{behind_return, is_around, is_up_to, line_range, lines_of, position_behind, position_in, range_of, returns};
+
+use idl_editor::{Encoding, Position, Range, units_of};
+use idl_fault::Place;
+use idl_project::{Session, SitedToken};
+use idl_source::Line;
+use memchr::{memchr_iter, memrchr};
+use serde_json::{Value, json};
+use std::alloc::{AllocError, Global};
+
+// What ends a line to an editor, and none in a file.
+const RETURN: u8 = b'\r';
+
+/// A token of a file: the line on which it is found, its number there, and how it is spelled.
+#[derive(Clone, Copy)]
+pub(crate) struct Token<'a> {
+    pub place: &'a Place,
+    pub number: Option<usize>,
+    pub text: &'a [u8],
+}
+
+impl<'a> Token<'a> {
+    /// This token.
+    pub fn of(token: &'a SitedToken) -> Token<'a>
+        ensures place { result.place.now ≡ token.now.place }
+        ensures number { result.number ≡ token.now.number }
+        ensures text { result.text.now ≡ token.now.text }
+    {
+        Token {
+            place: &token.place,
+            number: token.number,
+            text: token.text.as_bytes(),
+        }
+    }
+}
+
+/// The range of a token, or of its whole line where it isn't known where it begins.
+pub(crate) fn range_of(session: &Session, encoding: Encoding, token: Token<'_>) -> Range
+    ensures { result ≡ range_of encoding session.now.project
+        token.entry.place.now token.entry.number token.entry.text.now }
+{
+    match session.column(token.place, token.number, token.text) {
+        Some(column) => {
+            let lines = lines_of(session, token.place);
+            let end = column.saturating_add(token.text.len());
+            range_between(encoding, lines, token.place.line, (column, end))
+        }
+        None => line_range(session, encoding, token.place),
+    }
+}
+
+/// The range of a line.
+pub(crate) fn line_range(session: &Session, encoding: Encoding, place: &Place) -> Range
+    ensures { result ≡ line_range encoding (lines_of session.now.project place.now.file)
+        place.now.line }
+{
+    let lines = lines_of(session, place);
+    range_between(encoding, lines, place.line, (0, usize::MAX))
+}
+
+// The lines of the file in which a place is.
+fn lines_of<'a>(session: &'a Session, place: &Place) -> &'a [Line]
+    ensures lines { result.now ≡ lines_of session.now.project place.now.file }
+    ensures allowed { IsAllowedFile result.now }
+{
+    session.keeps_form();
+    match session.file(place.file.as_bytes()) {
+        Some(lines) => lines,
+        None => &[],
+    }
+}
+
+// From behind so many bytes of a line up to behind so many.
+fn range_between(encoding: Encoding, lines: &[Line], number: u32, columns: (usize, usize)) -> Range
+    requires { IsAllowedFile lines.now }
+    ensures start { result.start ≡ position_in encoding lines.now number columns.0 }
+    ensures end { result.end ≡ position_in encoding lines.now number columns.1 }
+{
+    Range {
+        start: position_in(encoding, lines, number, columns.0),
+        end: position_in(encoding, lines, number, columns.1),
+    }
+}
+
+/// The position behind so many bytes of a line of a file: the line has a number from 1 on. Each carriage return that is left in a line
+/// ends one, to an editor.
+pub(crate) fn position_in(
+    encoding: Encoding,
+    lines: &[Line],
+    number: u32,
+    column: usize,
+) -> Position
+    requires { IsAllowedFile lines.now }
+    ensures { result ≡ position_in encoding lines.now number column }
+{
+    let Some(index) = (number as usize).checked_sub(1) else {
+        return Position { line: 0, column: 0 };
+    };
+    let before = index + returns_in_all(&lines[..index.min(lines.len())]);
+    let bytes = match lines.get(index) {
+        Some(line) => line.as_bytes(),
+        None => b"",
+    };
+    position_behind(encoding, before, &bytes[..column.min(bytes.len())])
+}
+
+// The position behind these bytes of a line, behind so many lines of an editor.
+fn position_behind(encoding: Encoding, before: usize, bytes: &[u8]) -> Position
+    requires { before < 2 ^ 62 }
+    ensures { result ≡ position_behind encoding before bytes.now }
+{
+    Position {
+        line: before + returns_in(bytes),
+        column: units_of(encoding, behind_return(bytes)),
+    }
+}
+
+// The bytes behind the last carriage return.
+fn behind_return(bytes: &[u8]) -> &[u8]
+    ensures { result.now ≡ behind_return bytes.now }
+{
+    match memrchr(RETURN, bytes) {
+        Some(place) => &bytes[place + 1..],
+        None => bytes,
+    }
+}
+
+// How many carriage returns these lines have.
+fn returns_in_all(lines: &[Line]) -> usize
+    requires { IsAllowedFile lines.now }
+    ensures value { result ≡ sum_by returns lines.now }
+    ensures few { result ≤ longest_line * length lines.now }
+{
+    let mut count = 0;
+    'lines: for line in lines {
+        count += returns_in(line.as_bytes());
+    }
+    count
+}
+
+// How many carriage returns these bytes have.
+fn returns_in(bytes: &[u8]) -> usize
+    ensures value { result ≡ returns bytes.now }
+    ensures few { result ≤ length bytes.now }
+{
+    memchr_iter(RETURN, bytes).count()
+}
+
+/// Whether a range goes from nowhere before to nowhere behind another one.
+pub(crate) fn is_around(outer: Range, inner: Range) -> bool
+    ensures { result ≡ is_around outer inner }
+{
+    is_up_to(outer.start, inner.start) && is_up_to(inner.end, outer.end)
+}
+
+/// Whether a position is the same as another one, or before it.
+pub(crate) fn is_up_to(one: Position, other: Position) -> bool
+    ensures { result ≡ is_up_to one other }
+{
+    one.line < other.line || one.line == other.line && one.column <= other.column
+}
+
+/// A range, as it is told.
+pub(crate) fn range_value(alloc: Global, range: Range) -> Result<Value, AllocError>
+    ensures { IfOk result (λ value. view value ≡ range_json range) }
+{
+    let start = position_value(alloc, range.start)?;
+    let end = position_value(alloc, range.end)?;
+    json!(in alloc; {"end": end, "start": start})
+}
+
+/// A range of a document, as it is told.
+pub(crate) fn location_value(alloc: Global, uri: &String, range: Range) -> Result<Value, AllocError>
+    ensures { IfOk result (λ value. view value ≡ location_json (string_bytes uri.now) range) }
+{
+    let range = range_value(alloc, range)?;
+    json!(in alloc; {"range": range, "uri": uri})
+}
+
+// A position, as it is told.
+fn position_value(alloc: Global, position: Position) -> Result<Value, AllocError>
+    ensures { IfOk result (λ value. view value ≡ position_json position) }
+{
+    json!(in alloc; {"character": position.column, "line": position.line})
+}

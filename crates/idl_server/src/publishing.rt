@@ -1,0 +1,136 @@
+//! What is found is told, of each file of which it has become another.
+
+ghost use Rattle.std.specs.Prelude.{◌≡◌, IfOk, OnOk, string_bytes};
+ghost use Rattle.serde_json.specs.View.{view};
+ghost use Rattle.idl_server.specs.Files.{IsKept};
+ghost use Rattle.idl_server.specs.Json.{said_by};
+ghost use Rattle.idl_server.specs.Published.{ArePublished, found_json};
+
+use crate::outbox::Outbox;
+use crate::workspace::Workspace;
+use idl_source::Name;
+use indexmap::{IndexMap, IndexSet};
+use serde_json::{Value, json};
+use std::alloc::{AllocError, Global};
+
+/// What was told last of each file of which anything was, as text; in which files each root finds anything; and of which files it is to
+/// be told anew.
+#[derive(Drop)]
+pub(crate) struct Told {
+    texts: IndexMap<Name, Vec<u8>>,
+    finders: IndexMap<Name, IndexSet<Name>>,
+    pending: IndexSet<Name>,
+}
+
+impl Told {
+    /// Nothing was told.
+    pub fn new(alloc: Global) -> Told {
+        Told {
+            texts: IndexMap::new(alloc),
+            finders: IndexMap::new(alloc),
+            pending: IndexSet::new(alloc),
+        }
+    }
+
+    /// Tells what is found of each file of which that has become another since it was told last. Where memory is refused, what is left is
+    /// told the next time.
+    pub fn publish(&mut self, workspace: &mut Workspace, out: &mut Outbox) -> Result<(), AllocError>
+        ensures kept { IsKept workspace.old workspace.new }
+        ensures published { OnOk result (ArePublished workspace.new
+            (said_by out.old) (said_by out.new)) }
+    {
+        self.gather(workspace)?;
+        workspace.touched.clear();
+        workspace.dropped.clear();
+        'files: for _ in 0..u64::MAX {
+            let Some(name) = self.next_pending() else {
+                return Ok(());
+            };
+            self.publish_file(workspace, &name, out)?;
+            self.pending.swap_remove(&name);
+        }
+        Ok(())
+    }
+
+    // A file of which it is to be told anew what is found.
+    fn next_pending(&self) -> Option<Name> {
+        match self.pending.last() {
+            Some(name) => Some(name.copied()),
+            None => None,
+        }
+    }
+
+    // Adds the files in which touched and dropped roots found anything, or find it now.
+    fn gather(&mut self, workspace: &Workspace) -> Result<(), AllocError> {
+        'dropped: for root in workspace.dropped.iter() {
+            if let Some(before) = self.finders.get(root) {
+                add_all(&mut self.pending, before)?;
+            }
+            self.finders.shift_remove(root);
+        }
+        'touched: for root in workspace.touched.iter() {
+            if let Some(before) = self.finders.get(root) {
+                add_all(&mut self.pending, before)?;
+            }
+            let now = files_found_by(workspace, root)?;
+            add_all(&mut self.pending, &now)?;
+            self.finders.insert(root.copied(), now)?;
+        }
+        Ok(())
+    }
+
+    // Tells what is found in a file, if that is another than was told.
+    fn publish_file(
+        &mut self,
+        workspace: &Workspace,
+        name: &Name,
+        out: &mut Outbox,
+    ) -> Result<(), AllocError>
+        ensures { OnOk result (ArePublished workspace.now
+            (said_by out.old) (said_by out.new)) }
+    {
+        let list = workspace.diagnostics_in(name)?;
+        let text = list.to_vec(out.alloc())?;
+        if self.has_told(name, &text) {
+            return Ok(());
+        }
+        let uri = workspace.uri_for(name)?;
+        let params = params_of(out.alloc(), uri, list)?;
+        out.tell("textDocument/publishDiagnostics", &params)?;
+        self.texts.insert(name.copied(), text)?;
+        Ok(())
+    }
+
+    // Whether this is what was told last of a file. Of a file of which nothing was, that was no finding.
+    fn has_told(&self, name: &Name, text: &[u8]) -> bool {
+        match self.texts.get(name) {
+            Some(told) => told.as_slice() == text,
+            None => text == b"[]".as_slice(),
+        }
+    }
+}
+
+// The files in which a root finds anything, if it is one.
+fn files_found_by(workspace: &Workspace, root: &Name) -> Result<IndexSet<Name>, AllocError> {
+    let mut files = IndexSet::new(workspace.alloc());
+    if let Some(findings) = workspace.session.findings(root.as_bytes()) {
+        'findings: for finding in findings {
+            files.insert(finding.place.file.name())?;
+        }
+    }
+    Ok(files)
+}
+
+fn add_all(files: &mut IndexSet<Name>, more: &IndexSet<Name>) -> Result<(), AllocError> {
+    'more: for name in more.iter() {
+        files.insert(name.copied())?;
+    }
+    Ok(())
+}
+
+// What a notice of findings has.
+fn params_of(alloc: Global, uri: String, list: Value) -> Result<Value, AllocError>
+    ensures { IfOk result (λ value. view value ≡ found_json (string_bytes uri) (view list)) }
+{
+    json!(in alloc; {"diagnostics": list, "uri": uri})
+}

@@ -1,0 +1,225 @@
+//! The server: a step of it for each message.
+
+ghost use Rattle.std.specs.Prelude.{◌≡◌, ℕ, List, None, OnOk};
+ghost use Rattle.serde_json.specs.View.{view};
+ghost use Rattle.idl_program.specs.Holding.{Holding};
+ghost use Rattle.idl_server.specs.Files.{IsKept};
+ghost use Rattle.idl_server.specs.Json.{said_by};
+ghost use Rattle.idl_server.specs.Notices.{told_by_notice};
+ghost use Rattle.idl_server.specs.Published.{ArePublished};
+ghost use Rattle.idl_server.specs.Server.{HasTaken, IsSettled, if_running, told_to};
+ghost use Rattle.idl_server.specs.declared.workspace.Workspace.{Workspace};
+
+use crate::outbox::Outbox;
+use crate::publishing::Told;
+use crate::requests::Outcome;
+use crate::shown::shown_value;
+use crate::workspace::{Refused, Workspace};
+use idl_explain::{Topic, explanation_of};
+use idl_messages::{ErrorCode, Message, Method, message_of};
+use idl_program::PathLoader;
+use serde_json::{Value, json};
+use std::alloc::{AllocError, Global};
+
+// How far a server has come.
+#[derive(Clone, Copy, Debug, PartialEq, Eq)]
+enum Phase {
+    // It waits for `initialize`.
+    Waiting,
+    Running,
+    // It was told that no further request comes.
+    ShutDown,
+}
+
+/// What is next after a step.
+#[derive(Clone, Copy, Debug, PartialEq, Eq)]
+pub enum Next {
+    /// A further message.
+    Goes,
+    /// The end, as an editor has it: no further request was to come.
+    Ends,
+    /// The end without that.
+    BreaksOff,
+}
+
+/// A language server. What it tells of a file is what the texts that it was told, and the files of the loader, compile to.
+#[derive(Drop)]
+pub struct Server {
+    phase: Phase,
+    workspace: Workspace,
+    told: Told,
+}
+
+impl Server {
+    /// A server that was told nothing.
+    pub fn new(alloc: Global) -> Server
+        ensures { (told : List ℕ → Holding) → IsSettled told result }
+    {
+        Server {
+            phase: Phase::Waiting,
+            workspace: Workspace::new(alloc),
+            told: Told::new(alloc),
+        }
+    }
+
+    /// Does what a message asks for, and gathers what is to be said.
+    pub fn step<L: PathLoader>(
+        &mut self,
+        loader: &mut L,
+        body: &[u8],
+        out: &mut Outbox,
+    ) -> Result<Next, AllocError>
+        ensures settled { IsSettled (L.told_of loader.old) self.old
+            → OnOk result (IsSettled (L.told_of loader.old) self.new) }
+        ensures taken { OnOk result (HasTaken (told_to self.old body.now) self.old self.new) }
+        ensures published { OnOk result (ArePublished self.new.workspace
+            (said_by out.old) (said_by out.new)) }
+        ensures stays { L.told_of loader.new ≡ L.told_of loader.old }
+    {
+        let value = match Value::from_slice(out.alloc(), body) {
+            Ok(value) => value,
+            Err(error) => {
+                if error.is_memory() {
+                    return Err(AllocError);
+                }
+                out.refuse(&Value::Null, ErrorCode::NoJson)?;
+                return Ok(Next::Goes);
+            }
+        };
+        let nothing = Value::Null;
+        match message_of(&value) {
+            Message::Request(id, method, params) => {
+                self.take_request(id, method, params.unwrap_or(&nothing), out)?;
+                Ok(Next::Goes)
+            }
+            Message::Notice(Method::Exit, _) => Ok(self.end()),
+            Message::Notice(method, params) => {
+                self.take_notice(loader, method, params.unwrap_or(&nothing), out)?;
+                Ok(Next::Goes)
+            }
+            Message::Answer => Ok(Next::Goes),
+            Message::Invalid => {
+                out.refuse(&Value::Null, ErrorCode::NoMessage)?;
+                Ok(Next::Goes)
+            }
+        }
+    }
+
+    // What `exit` comes to.
+    fn end(&self) -> Next {
+        match self.phase {
+            Phase::ShutDown => Next::Ends,
+            Phase::Waiting | Phase::Running => Next::BreaksOff,
+        }
+    }
+
+    // Answers a request.
+    fn take_request(
+        &mut self,
+        id: &Value,
+        method: Method,
+        params: &Value,
+        out: &mut Outbox,
+    ) -> Result<(), AllocError>
+        ensures settled { (told : List ℕ → Holding)
+            → IsSettled told self.old → OnOk result (IsSettled told self.new) }
+        ensures taken { OnOk result (HasTaken None self.old self.new) }
+        ensures published { (w : Workspace)
+            → OnOk result (ArePublished w (said_by out.old) (said_by out.new)) }
+    {
+        say_outcome(id, self.outcome(method, params), out)?;
+        self.show_refused(out)
+    }
+
+    // What comes of a request.
+    fn outcome(&mut self, method: Method, params: &Value) -> Result<Outcome, AllocError>
+        ensures settled { (told : List ℕ → Holding)
+            → IsSettled told self.old → IsSettled told self.new }
+        ensures taken { HasTaken None self.old self.new }
+    {
+        match (self.phase, method) {
+            (Phase::Waiting, Method::Initialize) => {
+                let abilities = self.workspace.begin(params)?;
+                self.phase = Phase::Running;
+                Ok(Outcome::Done(abilities))
+            }
+            (Phase::Waiting, _) => Ok(Outcome::Refused(ErrorCode::NotInitialized)),
+            (Phase::Running, Method::Shutdown) => {
+                self.phase = Phase::ShutDown;
+                Ok(Outcome::Done(Value::Null))
+            }
+            (Phase::ShutDown, _) | (Phase::Running, Method::Initialize) => {
+                Ok(Outcome::Refused(ErrorCode::NoMessage))
+            }
+            (Phase::Running, _) => self.workspace.answer(method, params),
+        }
+    }
+
+    // Takes in what a notice tells, and tells what is found then.
+    fn take_notice<L: PathLoader>(
+        &mut self,
+        loader: &mut L,
+        method: Method,
+        params: &Value,
+        out: &mut Outbox,
+    ) -> Result<(), AllocError>
+        ensures settled { IsSettled (L.told_of loader.old) self.old
+            → OnOk result (IsSettled (L.told_of loader.old) self.new) }
+        ensures taken { OnOk result (HasTaken (if_running self.old.phase
+            (told_by_notice self.old.workspace.folders method (view params.now)))
+            self.old self.new) }
+        ensures published { OnOk result (ArePublished self.new.workspace
+            (said_by out.old) (said_by out.new)) }
+        ensures stays { L.told_of loader.new ≡ L.told_of loader.old }
+    {
+        let Phase::Running = self.phase else {
+            return Ok(());
+        };
+        self.workspace.take_in(loader, method, params)?;
+        self.show_refused(out)?;
+        self.told.publish(&mut self.workspace, out)
+    }
+
+    // Shows what was refused.
+    fn show_refused(&mut self, out: &mut Outbox) -> Result<(), AllocError>
+        ensures phase { self.new.phase ≡ self.old.phase }
+        ensures kept { IsKept self.old.workspace self.new.workspace }
+        ensures published { (w : Workspace)
+            → OnOk result (ArePublished w (said_by out.old) (said_by out.new)) }
+    {
+        'refused: for one in &self.workspace.refused {
+            let params = shown_params(out.alloc(), one)?;
+            out.tell("window/showMessage", &params)?;
+        }
+        self.workspace.refused.clear();
+        Ok(())
+    }
+}
+
+// Says what comes of a request.
+fn say_outcome(
+    id: &Value,
+    outcome: Result<Outcome, AllocError>,
+    out: &mut Outbox,
+) -> Result<(), AllocError>
+    ensures { (w : Workspace)
+        → OnOk result (ArePublished w (said_by out.old) (said_by out.new)) }
+{
+    match outcome {
+        Ok(Outcome::Done(value)) => out.answer(id, &value),
+        Ok(Outcome::Refused(code)) => out.refuse(id, code),
+        Err(_) => out.refuse(id, ErrorCode::Internal),
+    }
+}
+
+// What is shown of an edit that was refused.
+fn shown_params(alloc: Global, refused: &Refused) -> Result<Value, AllocError> {
+    let mut text = Vec::from_slice(alloc, &refused.subject)?;
+    text.extend_from_slice(b": ")?;
+    explanation_of(Topic::Refusal(refused.refusal)).push_headline(b"", &mut text)?;
+    if text.last() == Some(&b'\n') {
+        text.truncate(text.len() - 1);
+    }
+    let message = shown_value(alloc, &text)?;
+    json!(in alloc; {"message": message, "type": 1})
+}

@@ -1,0 +1,149 @@
+//! The names that are declared in a document, each in the one around it.
+
+ghost use Rattle.std.specs.Prelude.{◌<◌, IfSome, length};
+
+use crate::places::{Token, is_around, range_of, range_value};
+use crate::shown::shown_value;
+use crate::workspace::Workspace;
+use idl_editor::Range;
+use idl_entity::Kind;
+use idl_project::{DeclaredPlace, DetailedEntry, SitedToken};
+use idl_source::Name;
+use serde_json::{Value, json};
+use std::alloc::{AllocError, Global};
+
+// A name where it is declared in a document.
+#[derive(Clone, Copy)]
+struct Symbol<'d> {
+    entry: &'d DetailedEntry,
+    text: &'d [u8],
+    name: Range,
+    whole: Range,
+}
+
+impl Workspace {
+    /// The names that are declared in a file, as they are told.
+    pub fn symbols_in(&self, name: &Name) -> Result<Value, AllocError> {
+        let alloc = self.alloc();
+        let Some(told) = self.details_with(name)? else {
+            return Ok(Value::Null);
+        };
+        let mut symbols = Vec::new(alloc);
+        'entries: for entry in told.details.entries.as_slice() {
+            'places: for declared in entry.places.as_slice() {
+                if declared.name.place.file.as_bytes() == name.as_bytes() {
+                    symbols.push(self.symbol_of(entry, declared))?;
+                }
+            }
+        }
+        nested(alloc, &symbols)
+    }
+
+    // A name where it is declared. What is declared goes from its first token through its last one, where these are known.
+    fn symbol_of<'d>(&self, entry: &'d DetailedEntry, declared: &'d DeclaredPlace) -> Symbol<'d> {
+        let name = self.range_of_token(&declared.name);
+        let first = self.range_of_token(&declared.first);
+        let last = self.range_of_token(&declared.last);
+        let whole = Range {
+            start: first.start,
+            end: last.end,
+        };
+        let file = declared.name.place.file.as_bytes();
+        let is_here = declared.first.place.file.as_bytes() == file
+            && declared.last.place.file.as_bytes() == file;
+        Symbol {
+            entry,
+            text: declared.name.text.as_bytes(),
+            name,
+            whole: if is_here && is_around(whole, name) {
+                whole
+            } else {
+                name
+            },
+        }
+    }
+
+    // The range of a token.
+    fn range_of_token(&self, token: &SitedToken) -> Range {
+        range_of(&self.session, self.encoding, Token::of(token))
+    }
+}
+
+// These symbols, each in the one around it: of a symbol that is in another one, that comes before.
+fn nested(alloc: Global, symbols: &[Symbol<'_>]) -> Result<Value, AllocError> {
+    let mut inside: Vec<Vec<Value>> = Vec::with_capacity(alloc, symbols.len())?;
+    'symbols: for _symbol in symbols {
+        inside.push(Vec::new(alloc))?;
+    }
+    let mut outermost = Vec::new(alloc);
+    'backwards: while let Some(mut children) = inside.pop() {
+        let index = inside.len();
+        children.reverse();
+        let value = symbol_value(alloc, symbols[index], children)?;
+        match place_around(&symbols[..index], symbols[index]) {
+            Some(place) => inside[place].push(value)?,
+            None => outermost.push(value)?,
+        }
+    }
+    outermost.reverse();
+    Ok(Value::Array(outermost))
+}
+
+// The place of the symbol that a symbol stands in, among these: the last such one.
+fn place_around(symbols: &[Symbol<'_>], symbol: Symbol<'_>) -> Option<usize>
+    ensures { IfSome result (λ place. place < length symbols.entry.now) }
+{
+    for place in (0..symbols.len()).rev() {
+        if is_in(symbol, symbols[place]) {
+            return Some(place);
+        }
+    }
+    None
+}
+
+// Whether a symbol stands in another one: it does in the text, and its path is that one's and a name.
+fn is_in(symbol: Symbol<'_>, outer: Symbol<'_>) -> bool {
+    let path = symbol.entry.tree.path.as_bytes();
+    match path.strip_prefix(outer.entry.tree.path.as_bytes()) {
+        Some(rest) => rest.starts_with(b"::") && is_around(outer.whole, symbol.name),
+        None => false,
+    }
+}
+
+// A symbol, as it is told.
+fn symbol_value(
+    alloc: Global,
+    symbol: Symbol<'_>,
+    children: Vec<Value>,
+) -> Result<Value, AllocError> {
+    let name = shown_value(alloc, symbol.text)?;
+    let range = range_value(alloc, symbol.whole)?;
+    let selection = range_value(alloc, symbol.name)?;
+    let kind = symbol_kind(symbol.entry.tree.kind);
+    let children = Value::Array(children);
+    json!(in alloc; {
+        "children": children,
+        "kind": kind,
+        "name": name,
+        "range": range,
+        "selectionRange": selection,
+    })
+}
+
+// The number of a kind of symbols.
+fn symbol_kind(kind: Kind) -> u8 {
+    match kind {
+        Kind::Module => 2,
+        Kind::Interface => 11,
+        Kind::Structure | Kind::Union | Kind::Exception => 23,
+        Kind::Enumeration => 10,
+        Kind::Enumerator => 22,
+        Kind::Alias => 26,
+        Kind::Native => 5,
+        Kind::Constant => 14,
+        Kind::Attribute => 7,
+        Kind::Operation => 6,
+        Kind::Parameter => 13,
+        Kind::Member => 8,
+    }
+}

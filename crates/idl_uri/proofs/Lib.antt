@@ -1,0 +1,2 @@
+pub mod UriLemmas
+pub mod FolderLemmas
