@@ -9,7 +9,6 @@ ghost use Rattle.idl_event.specs.declared.asked.key.RootAnswer.{RootAnswer};
 ghost use Rattle.idl_event.specs.declared.asked.key.RootKey.{RootKey};
 ghost use Rattle.idl_memo.specs.Kept.{HoldsOver};
 ghost use Rattle.idl_memo.specs.Meter.{most_compared};
-ghost use Rattle.idl_related.specs.Related.{AreRelated};
 ghost use Rattle.idl_memo.specs.Query.{is_logged};
 ghost use Rattle.idl_prep.specs.Root.{expanded, expansion};
 ghost use Rattle.idl_root.specs.AsBefore.{AreListsLeft, IsAsBefore, IsCompiledOf, kept_lists};
@@ -26,12 +25,10 @@ use crate::asked::asked;
 use crate::bank::SessionBank;
 use crate::compile::{CompiledAgain, CompiledRoot, KeptExpansion, KeptTask, compile_kept};
 use crate::no_step::NoStep;
-use idl_base::Seq;
-use idl_event::{RootBank, RootKey};
+use idl_event::{Expansion, RootBank, RootKey};
 use idl_memo::{Edited, Meter, freshness, reliance, run_anew};
 use idl_prep::RootTask;
-use idl_related::Related;
-use idl_root::{Compiled, Details, Finding, Keeper, Marks};
+use idl_root::{Compiled, Details, Keeper, Marks};
 use idl_source::Name;
 use std::alloc::{AllocError, Global};
 use std::rc::Rc;
@@ -207,15 +204,11 @@ impl KeptRoot {
         idl_root::details_of(alloc, self.result.out())
     }
 
-    /// For each of these findings of the root, in order, its second places.
-    pub fn related(
-        &self,
-        alloc: Global,
-        findings: &[Finding],
-    ) -> Result<Seq<Seq<Related>>, AllocError>
-        ensures { IfOk result (AreRelated self.now.result.value.out findings.now) }
+    /// What the root expands to.
+    pub fn expansion(&self) -> &Expansion
+        ensures { result.now ≡ self.now.result.value.out }
     {
-        idl_related::related_of(alloc, self.result.out(), findings)
+        self.result.out()
     }
 
     /// How many keys the root asked.

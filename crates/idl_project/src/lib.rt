@@ -16,7 +16,6 @@ mod limits;
 mod macro_body;
 mod no_step;
 mod refiled;
-mod related;
 mod root_table;
 mod session;
 mod sources;
@@ -27,7 +26,6 @@ pub use bank::answers_come_from_inputs;
 pub use compile::{CompiledRoot, diagnostics_are_findings};
 pub use detailed::listing_is_details;
 pub use file_edit::FileEdit;
-pub use idl_related::{Reason, Related, follows};
 pub use idl_root::{
     Compiled, DeclaredPlace, DetailedEntry, Details, Finding, Row, SitedToken, UsedName,
 };

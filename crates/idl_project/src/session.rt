@@ -31,7 +31,7 @@ use crate::root_table::RootTable;
 use crate::word::spelled;
 use crate::work::Work;
 use idl_base::{Bytes, Seq};
-use idl_event::{RootAnswer, RootKey};
+use idl_event::{Expansion, RootAnswer, RootKey};
 use idl_fault::Place;
 use idl_macro::is_macro_word;
 use idl_memo::{Edited, Meter, freshness, one_bank};
@@ -44,7 +44,7 @@ use std::marker::Model;
 /// A well-formed project, and for each of its roots what it compiles to.
 ///
 /// An edit is accepted, and then all rows are those of the project after it, or it is refused, and then nothing has
-/// changed. Queries take no memory, but that `asked` makes a list, and `details` and `related` compile a root.
+/// changed. Queries take no memory, but that `asked` makes a list, and `details` compiles a root.
 #[derive(Drop)]
 pub struct Session {
     keeper: Keeper,
@@ -328,6 +328,16 @@ impl Session {
         match self.kept(root) {
             Some(kept) => Ok(kept.asked(self.keeper.alloc())?),
             None => Ok(Vec::new(self.keeper.alloc())),
+        }
+    }
+
+    /// What a root expands to, or nothing where the name isn't one of a root. It takes no memory.
+    pub fn expansion(&self, root: &[u8]) -> Option<&Expansion>
+        ensures { option_copied result ≡ expansion_of self.now.project root.now }
+    {
+        match self.kept(root) {
+            Some(kept) => Some(kept.expansion()),
+            None => None,
         }
     }
 

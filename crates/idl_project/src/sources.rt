@@ -13,7 +13,6 @@ ghost use Rattle.idl_project.specs.Details.{details_over};
 ghost use Rattle.idl_project.specs.Edits.{Define, Put, Search, Undef};
 ghost use Rattle.idl_project.specs.Made.{IsMade, rootless};
 ghost use Rattle.idl_project.specs.Project.{no_inputs};
-ghost use Rattle.idl_project.specs.Related.{AreRelatedOver};
 ghost use Rattle.idl_project.specs.WellFormed.{IsWellFormed};
 
 use crate::bank::SessionBank;
@@ -24,15 +23,13 @@ use crate::edited_files::EditedFiles;
 use crate::file_edit::FileEdit;
 use crate::macro_body::MacroBody;
 use crate::no_step::NoStep;
-use crate::related::related_alone;
 use crate::word::spelled;
 use idl_base::Seq;
 use idl_event::{RootAnswer, RootKey};
 use idl_fault::Place;
 use idl_macro::is_macro_word;
 use idl_memo::{Bank, PlainBank};
-use idl_related::Related;
-use idl_root::{Details, Finding, Memory};
+use idl_root::{Details, Memory};
 use idl_source::{Line, Name, Refusal};
 use std::alloc::{AllocError, Global};
 use std::marker::Model;
@@ -151,17 +148,6 @@ impl Sources {
         ensures { IfOk result (λ details. details ≡ details_over (bank_of self.now) root.now) }
     {
         details_alone(self.memory.alloc(), &self.bank, root)
-    }
-
-    /// For each of these findings of the root of this name, in order, its second places.
-    pub fn related(
-        &self,
-        root: &Name,
-        findings: &[Finding],
-    ) -> Result<Seq<Seq<Related>>, AllocError>
-        ensures { IfOk result (AreRelatedOver (bank_of self.now) root.now findings.now) }
-    {
-        related_alone(self.memory.alloc(), &self.bank, root, findings)
     }
 
     /// Whether there is a file of this name.

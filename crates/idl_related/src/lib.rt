@@ -1,11 +1,12 @@
 //! Second places of what is found in a root: where what a finding speaks of is declared, used or given, or what may have been meant.
 //!
-//! The units of the root are judged for it once more, and nothing is kept. Nothing here knows files, or how a place is shown.
+//! The units of the root are judged for it once more, and nothing is kept. Nothing here knows how a place is shown.
 #![tactic(auto)]
 
 mod about;
 mod denoting;
 mod given;
+mod in_project;
 mod known;
 mod names;
 mod near;
@@ -13,5 +14,6 @@ mod related;
 mod repeated;
 mod second;
 
+pub use in_project::{related_in, related_over};
 pub use related::{related_of, unrelated};
 pub use second::{Reason, Related, follows};

@@ -12,7 +12,8 @@ use idl_base::Seq;
 use idl_editor::{Encoding, Range};
 use idl_explain::{Topic, explanation_of};
 use idl_fault::Code;
-use idl_project::{Finding, Related, Session};
+use idl_project::{Finding, Session};
+use idl_related::{Related, related_in};
 use idl_source::Name;
 use serde_json::{Value, json};
 use std::alloc::{AllocError, Global};
@@ -69,7 +70,7 @@ impl Workspace {
     // The second places of all that the root with this number finds.
     fn related_at(&self, root: usize) -> Result<Seq<Seq<Related>>, AllocError> {
         if let Some(name) = self.session.root(root) {
-            if let Some(related) = self.session.related(name.as_bytes())? {
+            if let Some(related) = related_in(&self.session, name.as_bytes())? {
                 return Ok(related);
             }
         }

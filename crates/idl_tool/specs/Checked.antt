@@ -9,6 +9,7 @@ use Rattle.idl_explain.specs.declared.explanation.Explanation.{Explanation}
 use Rattle.idl_explain.specs.declared.explanation.Topic.TheVariants as topic
 use Rattle.idl_fault.specs.declared.place.Place.{Place}
 use Rattle.idl_related.specs.Follows.{follows}
+use Rattle.idl_related.specs.Related.{AreRelatedOver}
 use Rattle.idl_related.specs.declared.second.Related.{Related}
 use Rattle.idl_root.specs.declared.compiling.finding.Finding.{Finding}
 use Rattle.idl_source.specs.devices.Device.{append}
@@ -18,7 +19,6 @@ use Rattle.idl_project.specs.Columns.{column_at}
 use Rattle.idl_project.specs.Compile.{compiled_root}
 use Rattle.idl_project.specs.Made.{rootless}
 use Rattle.idl_project.specs.Project.{Inputs}
-use Rattle.idl_project.specs.Related.{AreRelatedOver}
 use Rattle.idl_project.specs.WellFormed.{IsWellFormed}
 use Rattle.idl_program.specs.Compiled.{Written, is_faulty}
 use Rattle.idl_program.specs.Holding.{Holding}

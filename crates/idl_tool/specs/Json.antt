@@ -8,6 +8,7 @@ use Rattle.idl_json.specs.Diagnostic.{Located, Second}
 use Rattle.idl_json.specs.Listed.{LocatedRow, NamePlace}
 use Rattle.idl_json.specs.Root.{IsRootLine, Root}
 use Rattle.idl_related.specs.Reasons.{reason_words}
+use Rattle.idl_related.specs.Related.{AreRelatedOver}
 use Rattle.idl_related.specs.declared.second.Related.{Related}
 use Rattle.idl_root.specs.declared.compiling.detailing.DetailedEntry.{DetailedEntry}
 use Rattle.idl_root.specs.declared.compiling.places.DeclaredPlace.{DeclaredPlace}
@@ -20,7 +21,6 @@ use Rattle.idl_project.specs.Compile.{compiled_root}
 use Rattle.idl_project.specs.Details.{details_over}
 use Rattle.idl_project.specs.Made.{rootless}
 use Rattle.idl_project.specs.Project.{Inputs}
-use Rattle.idl_project.specs.Related.{AreRelatedOver}
 use Rattle.idl_project.specs.WellFormed.{IsWellFormed}
 use Rattle.idl_project.specs.declared.compile.CompiledRoot.{CompiledRoot}
 use Rattle.idl_program.specs.Compiled.{Written, is_faulty}

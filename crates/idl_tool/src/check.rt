@@ -17,7 +17,8 @@ use idl_base::{Bytes, Seq};
 use idl_explain::{Topic, explanation_of};
 use idl_fault::Place;
 use idl_program::{Loader, Options, Status, compile_all, prepared};
-use idl_project::{CompiledRoot, Finding, Related, Sources, follows};
+use idl_project::{CompiledRoot, Finding, Sources};
+use idl_related::{Related, follows, related_over};
 use idl_session::{Sink, write_all};
 use idl_source::Name;
 use indexmap::IndexMap;
@@ -64,7 +65,7 @@ fn reports_of(
     let mut reports = IndexMap::new(sources.allocator());
     'roots: for index in 0..roots.len() {
         let findings = compiled[index].rows.findings.as_slice();
-        let related = sources.related(&roots[index], findings)?;
+        let related = related_over(sources, &roots[index], findings)?;
         let told = told_of(sources.allocator(), findings, related.as_slice())?;
         let told = in_order(sources.allocator(), &told)?;
         add_reports(sources, &told, &mut reports)?;

@@ -16,8 +16,9 @@ use idl_details::RowTree;
 use idl_json::{Diagnostic, ListedRow, NamePlace, RootTold, SecondPlace, root_line};
 use idl_program::{Loader, Options, Status, compile_all, prepared};
 use idl_project::{
-    CompiledRoot, DeclaredPlace, DetailedEntry, Details, Finding, Related, SitedToken, Sources,
+    CompiledRoot, DeclaredPlace, DetailedEntry, Details, Finding, SitedToken, Sources,
 };
+use idl_related::{Related, related_over};
 use idl_session::{Sink, write_all};
 use idl_source::Name;
 use std::alloc::{AllocError, Global};
@@ -72,7 +73,7 @@ fn line_of(sources: &Sources, root: &Name, compiled: &CompiledRoot) -> Result<Ve
         IsLineWith sources.now root.now compiled.now line.items) }
 {
     let findings = compiled.rows.findings.as_slice();
-    let related = sources.related(root, findings)?;
+    let related = related_over(sources, root, findings)?;
     line_with(sources, root, compiled, related.as_slice())
 }
 
