@@ -13,10 +13,6 @@ step_fails fault.Memory read next f = f
 step_fails (fault.Rule found) read next f = f
 step_fails (fault.NoTree left) read next f = ap (λ r. r >>= next) f
 
--- what was read, with what is left
-abbrev with_rest : {A : Type 0} → A → Lexemes → Result (A × Lexemes) ℕ
-with_rest x ts = Ok (x, ts)
-
 abbrev with_name : {A N : Type 0} → A → N × Lexemes → Result ((A × N) × Lexemes) ℕ
 with_name x n = Ok ((x, n.0), n.1)
 
@@ -26,21 +22,17 @@ last_name p = Ok (p.0.1, p.1)
 abbrev made : {A B : Type 0} → (A → B) → A × Lexemes → Result (B × Lexemes) ℕ
 made f x = Ok (f x.0, x.1)
 
--- where a mark or a name was read behind something, it is there, and the rest is what was read
-closed_read : {A : Type 0} (mark : Result Lexemes ℕ) (x y : A) (rest : Lexemes) → (mark >>= with_rest x) ≡ Ok (y, rest) → mark ≡ Ok rest
-closed_read (Ok ts) x y rest h = ap (λ r. r >>= λ p. Ok p.1) h
-closed_read (Err left) x y rest h = cc
-
+-- where a name was read behind something, it is there, and the rest is what was read
 named_read : {A N : Type 0} (name : Result (N × Lexemes) ℕ) (x : A) (y : A × N) (rest : Lexemes) → (name >>= with_name x) ≡ Ok (y, rest) → (name ≡ Ok (y.1, rest)) × (x ≡ y.0)
 named_read (Ok n) x y rest h = (ap (λ r. r >>= last_name) h, ap (λ r. elim r [ Ok p ↦ p.0.0 | Err left ↦ x ]) h)
 named_read (Err left) x y rest h = cc
 
 -- an operation whose context can't be read
 pub context_fails : {P R C O : Type 0} (opening : Result Lexemes ℕ) (parameters : Reader P) (closing : Lexemes → Result Lexemes ℕ) (raises : Reader R) (context : Reader C) (operation : P → R → C → O)
-    (why : SyntaxFault) (ts ts1 ts2 ts3 : Lexemes) (p q : P) (r : R) → opening ≡ Ok ts → parameters ts ≡ Ok (p, ts1) → (closing ts1 >>= with_rest p) ≡ Ok (q, ts2) → raises ts2 ≡ Ok (r, ts3) → Fails why (context ts3)
+    (why : SyntaxFault) (ts ts1 ts2 ts3 : Lexemes) (p : P) (r : R) → opening ≡ Ok ts → parameters ts ≡ Ok (p, ts1) → closing ts1 ≡ Ok ts2 → raises ts2 ≡ Ok (r, ts3) → Fails why (context ts3)
     → Fails why (opening >>= λ rest. parameters rest >>= λ ps. closing ps.1 >>= λ rest2. raises rest2 >>= λ rs. context rs.1 >>= made (operation ps.0 rs.0))
-context_fails opening parameters closing raises context operation why ts ts1 ts2 ts3 p q r opened listed closed raised f =
-    rw (opened, listed, closed_read (closing ts1) p q ts2 closed, raised) (step_fails why (context ts3) (made (operation p r)) f)
+context_fails opening parameters closing raises context operation why ts ts1 ts2 ts3 p r opened listed closed raised f =
+    rw (opened, listed, closed, raised) (step_fails why (context ts3) (made (operation p r)) f)
 
 -- an operation is what stands behind its name
 pub operation_step : {D N O : Type 0} (is_oneway : Bool) (result : Reader D) (name : Reader N) (rest : Bool → D → N → Reader O) (ts ts1 ts2 : Lexemes) (d : D) (head : (Bool × D) × N)

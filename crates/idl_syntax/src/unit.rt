@@ -12,7 +12,7 @@ ghost use Rattle.idl_tree.specs.declared.unit.Tree.TheVariants as tree;
 ghost use Rattle.idl_syntax.specs.Gives.{Advances, Reads, Remains, made};
 ghost use Rattle.idl_syntax.specs.Nested.{nested};
 
-use crate::cursor::{behind, behind_word, closed, identifier, is_at, keyword, named};
+use crate::cursor::{behind, behind_word, identifier, is_at, keyword};
 use crate::declarations::attribute::{attribute, readonly_attribute};
 use crate::declarations::construction::{
     enumeration, member_type, members, structure_rest, union_rest,
@@ -219,8 +219,8 @@ fn constant(alloc: Global, depth: usize, tokens: &[Token]) -> Result<(Tree, &[To
 {
     let rest = behind_word(tokens, Keyword::Const)?;
     let (kind, rest) = constant_type(alloc, depth, rest)?;
-    let (head, rest) = named(kind, rest)?;
-    let ((kind, name), rest) = closed(head, rest, Mark::Equals)?;
+    let (name, rest) = identifier(rest)?;
+    let rest = behind(rest, Mark::Equals)?;
     let (value, rest) = expression(alloc, depth, rest)?;
     Ok((Tree::Constant(Constant { kind, name, value }), rest))
 }

@@ -294,7 +294,7 @@ fn sequence(
     let rest = behind(rest, Mark::Less)?;
     let (element, rest) = data_type(alloc, depth, rest)?;
     let (bound, rest) = sequence_bound(alloc, depth, rest)?;
-    let ((element, bound), rest) = closed((element, bound), rest, Mark::Greater)?;
+    let rest = behind(rest, Mark::Greater)?;
     let sequence = Boxed::new(alloc, Sequence { element, bound })?;
     Ok((TypeTree::Sequence(sequence), rest))
 }

@@ -162,7 +162,7 @@ fn operation_rest(
 {
     let rest = behind(tokens, Mark::OpenParenthesis)?;
     let (parameters, rest) = parameters(alloc, depth, rest)?;
-    let (parameters, rest) = closed(parameters, rest, Mark::CloseParenthesis)?;
+    let rest = behind(rest, Mark::CloseParenthesis)?;
     let (raised, rest) = raises_if(alloc, Keyword::Raises, rest)?;
     let (context, rest) = context_if(alloc, rest)?;
     let ((is_oneway, result), name) = head;

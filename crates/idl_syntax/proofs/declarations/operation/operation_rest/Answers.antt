@@ -15,5 +15,5 @@ returns-in_err-context-clause-reads c =
     let head = c.args.head in
     let why = err_from_is_err_and c.from_residual-in_err-context.result c.from_residual-in_err-context.ensures.1 in
     rw (why.1, why.2) (context_fails (expect (is_mark mark.OpenParenthesis) (lexemes c.args.tokens.now)) (parameters_with (type_at c.args.depth)) (expect (is_mark mark.CloseParenthesis)) (raises_if word.Raises) context_if
-    (made_operation head.0.0 head.0.1 head.1) _ _ _ _ _ _ _ _
-    c.in_ok-rest.ensures.reads c.in_ok-parameters.ensures.reads c.in_ok-parameters-2.ensures.reads c.in_ok-raised.ensures.reads c.in_err-context.ensures.reads)
+    (made_operation head.0.0 head.0.1 head.1) _ _ _ _ _ _ _
+    c.in_ok-rest.ensures.reads c.in_ok-parameters.ensures.reads c.in_ok-rest-2.ensures.reads c.in_ok-raised.ensures.reads c.in_err-context.ensures.reads)
