@@ -10,6 +10,7 @@ mod loading;
 mod preparing;
 mod program;
 mod request;
+mod service;
 
 pub use failure::{CompileFault, OptionsFault, Status, Subject};
 pub use laws::{rows_of_a_session, single_fault, worked_words};
@@ -18,3 +19,4 @@ pub use loading::compile_all;
 pub use preparing::prepared;
 pub use program::{Devices, run_program};
 pub use request::{Options, options_of, values_of, with_options};
+pub use service::{Service, ServiceFault};

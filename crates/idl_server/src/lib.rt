@@ -1,6 +1,7 @@
-//! A language server: what it knows of an editor's documents, and one step of it for a message.
+//! A language server: what it knows of an editor's documents, one step of it for a message, and the service over an editor's streams.
 //!
-//! Nothing here reads a stream or a disk: a caller hands in messages and where files come from, and writes what is to be said.
+//! Nothing here opens a disk or a terminal, and nothing but the service reads a stream or writes one: a caller hands in where messages and
+//! files come from, and where what is to be said goes.
 #![tactic(auto)]
 
 mod beginning;
@@ -19,9 +20,11 @@ mod publishing;
 mod requests;
 mod roots;
 mod server;
+mod service;
 mod shown;
 mod symbols;
 mod workspace;
 
 pub use outbox::Outbox;
 pub use server::{Next, Server};
+pub use service::LanguageServer;

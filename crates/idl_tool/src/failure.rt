@@ -5,7 +5,7 @@ ghost use Rattle.idl_tool.specs.Messages.{IsCompileMessage, IsMessage, IsOptions
 
 use crate::request::WordsFault;
 use idl_explain::{Topic, explanation_of};
-use idl_program::{CompileFault, OptionsFault, Subject};
+use idl_program::{CompileFault, OptionsFault, ServiceFault, Subject};
 use idl_session::WriteFailed;
 use idl_source::Refusal;
 use std::alloc::{AllocError, Global};
@@ -127,6 +127,16 @@ impl<'a> From<OptionsFault<'a>> for Failure<'a> {
 impl<'a> From<CompileFault> for Failure<'a> {
     fn from(fault: CompileFault) -> Failure<'a> {
         Failure::Compile(fault)
+    }
+}
+
+impl<'a> From<ServiceFault> for Failure<'a> {
+    fn from(fault: ServiceFault) -> Failure<'a> {
+        match fault {
+            ServiceFault::NoMemory => Failure::NoMemory,
+            ServiceFault::ReadFailed => Failure::ReadFailed,
+            ServiceFault::WriteFailed => Failure::WriteFailed,
+        }
     }
 }
 

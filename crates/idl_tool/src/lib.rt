@@ -11,7 +11,6 @@ mod explain;
 mod failure;
 mod json;
 mod laws;
-mod lsp;
 mod program;
 mod report;
 mod request;

@@ -12,9 +12,8 @@ use crate::diff::write_diff;
 use crate::explain::explain;
 use crate::failure::Failure;
 use crate::json::write_json;
-use crate::lsp::serve;
 use crate::request::{Request, request_of};
-use idl_program::{Loader, PathLoader, Status};
+use idl_program::{Loader, PathLoader, Service, Status};
 use idl_session::{Sink, Source, write_all};
 use std::alloc::Global;
 
@@ -30,11 +29,12 @@ pub struct Devices<L, O, E> {
 }
 
 /// Does what the words behind the program's name ask for, and answers how the program ends.
-pub fn run_tool<L: Loader + PathLoader, S: Source, O: Sink, E: Sink>(
+pub fn run_tool<L: Loader + PathLoader, S: Source, O: Sink, E: Sink, V: Service>(
     alloc: Global,
     words: &[&str],
     source: &mut S,
     devices: &mut Devices<L, O, E>,
+    service: &V,
 ) -> Status
     requires reads { S.failures source.old < 2 ^ 64 - 1 }
     // A device that counts its failures from 0 can't come near.
@@ -52,7 +52,7 @@ pub fn run_tool<L: Loader + PathLoader, S: Source, O: Sink, E: Sink>(
         ((O.failures devices.new.output ≡ O.failures devices.old.output)
         × (E.failures devices.new.errors ≡ E.failures devices.old.errors)) }
 {
-    match perform(alloc, words, source, devices) {
+    match perform(alloc, words, source, devices, service) {
         Ok(status) => status,
         Err(failure) => {
             tell(alloc, &failure, &mut devices.errors);
@@ -61,11 +61,12 @@ pub fn run_tool<L: Loader + PathLoader, S: Source, O: Sink, E: Sink>(
     }
 }
 
-fn perform<'a, L: Loader + PathLoader, S: Source, O: Sink, E: Sink>(
+fn perform<'a, L: Loader + PathLoader, S: Source, O: Sink, E: Sink, V: Service>(
     alloc: Global,
     words: &'a [&'a str],
     source: &mut S,
     devices: &mut Devices<L, O, E>,
+    service: &V,
 ) -> Result<Status, Failure<'a>>
     requires reads { S.failures source.old < 2 ^ 64 - 1 }
     requires writes { O.failures devices.old.output < 2 ^ 64 - 1 }
@@ -83,15 +84,16 @@ fn perform<'a, L: Loader + PathLoader, S: Source, O: Sink, E: Sink>(
     ensures most { E.failures devices.new.errors ≤ E.failures devices.old.errors + 1 }
 {
     let request = request_of(alloc, words)?;
-    fulfil(alloc, &request, source, devices)
+    fulfil(alloc, &request, source, devices, service)
 }
 
 // Does what is asked for.
-fn fulfil<'a, L: Loader + PathLoader, S: Source, O: Sink, E: Sink>(
+fn fulfil<'a, L: Loader + PathLoader, S: Source, O: Sink, E: Sink, V: Service>(
     alloc: Global,
     request: &Request<'a>,
     source: &mut S,
     devices: &mut Devices<L, O, E>,
+    service: &V,
 ) -> Result<Status, Failure<'a>>
     requires reads { S.failures source.old < 2 ^ 64 - 1 }
     requires writes { O.failures devices.old.output < 2 ^ 64 - 1 }
@@ -119,7 +121,10 @@ fn fulfil<'a, L: Loader + PathLoader, S: Source, O: Sink, E: Sink>(
         Request::Check(options) => check(alloc, options, devices),
         Request::Json(options) => write_json(alloc, options, devices),
         Request::Diff(diff) => write_diff(alloc, diff, devices),
-        Request::Serve => serve(alloc, source, devices),
+        Request::Serve => {
+            let loader = &mut devices.loader;
+            Ok(service.serve(alloc, loader, source, &mut devices.output)?)
+        }
     }
 }
 

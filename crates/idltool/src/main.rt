@@ -5,6 +5,7 @@
 
 use idl_disk::{Disk, StandardInput, StandardOutput, texts, words};
 use idl_program::Status;
+use idl_server::LanguageServer;
 use idl_tool::{Devices, run_tool};
 use std::process::ExitCode;
 
@@ -30,5 +31,11 @@ fn run(rt: &HostRuntime, words: &[String]) -> Status {
         errors: StandardOutput::new(rt.stderr()),
     };
     let mut source = StandardInput::new(rt.reader());
-    run_tool(rt.alloc(), &texts, &mut source, &mut devices)
+    run_tool(
+        rt.alloc(),
+        &texts,
+        &mut source,
+        &mut devices,
+        &LanguageServer,
+    )
 }

@@ -2,6 +2,7 @@
 
 use super::support::{Files, Host, are_given, are_given_so, given, is_given};
 use idl_program::Status;
+use idl_server::LanguageServer;
 use idl_session::{BufferSink, SliceSource};
 use idl_tool::{Devices, run_tool};
 use std::test::Fail;
@@ -81,7 +82,13 @@ fn tells_a_closed_output(rt: &impl Host, words: &[&str]) -> Result<(), Fail> {
         errors: BufferSink::new(rt.alloc(), 100)?,
     };
     let mut source = SliceSource::new(b"");
-    let status = run_tool(rt.alloc(), words, &mut source, &mut devices);
+    let status = run_tool(
+        rt.alloc(),
+        words,
+        &mut source,
+        &mut devices,
+        &LanguageServer,
+    );
     assert!(rt; matches!(status, Status::Failed));
     assert_eq!(rt;
         devices.errors.as_bytes(),

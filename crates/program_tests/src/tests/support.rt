@@ -3,6 +3,7 @@
 ghost use Rattle.idl_program.specs.Holding.{Untold};
 
 use idl_program::{Devices, Loaded, Loader, PathLoader, Status, run_program};
+use idl_server::LanguageServer;
 use idl_session::{BufferSink, SliceSource};
 use idl_source::Name;
 use idl_tool::run_tool;
@@ -128,7 +129,7 @@ pub fn tool_told(
         errors: BufferSink::new(alloc, ROOM)?,
     };
     let mut source = SliceSource::new(input.as_bytes());
-    let status = run_tool(alloc, &list, &mut source, &mut devices);
+    let status = run_tool(alloc, &list, &mut source, &mut devices, &LanguageServer);
     text_of(alloc, status, &devices.output, &devices.errors)
 }
 

@@ -1,5 +1,5 @@
 use Rattle.std.proofs.Common.{◌≡◌}
-use Rattle.idl_tool.proofs.lsp.write_messages.Given as goal
+use Rattle.idl_server.proofs.service.write_messages.Given as goal
 
 -- all writes went well
 abbrev pub invariant-messages : goal.invariant-messages

@@ -1,0 +1,105 @@
+//! The language server over its streams: messages of an editor are read, and what is to be said is written.
+
+ghost use Rattle.std.specs.Prelude.{◌≡◌, ◌<◌, ◌-◌, ◌^◌, OnOk};
+
+use crate::outbox::Outbox;
+use crate::server::{Next, Server};
+use idl_frames::{ReadFault, Reader, Received, message_of};
+use idl_program::{PathLoader, Service, ServiceFault, Status};
+use idl_session::{Sink, Source, write_all};
+use serde_json::Value;
+use std::alloc::Global;
+
+/// Serves each editor by a [`Server`] of its own.
+pub struct LanguageServer;
+
+impl Service for LanguageServer {
+    /// Serves an editor till it ends the server, or its messages end.
+    fn serve<L: PathLoader, S: Source, O: Sink>(
+        &self,
+        alloc: Global,
+        loader: &mut L,
+        source: &mut S,
+        output: &mut O,
+    ) -> Result<Status, ServiceFault>
+        requires reads { S.failures source.old < 2 ^ 64 - 1 }
+        requires writes { O.failures output.old < 2 ^ 64 - 1 }
+        ensures well { OnOk result (O.failures output.new ≡ O.failures output.old) }
+    {
+        let mut server = Server::new(alloc);
+        answer_messages(alloc, &mut server, loader, source, output)
+    }
+}
+
+// Answers each message that comes.
+fn answer_messages<L: PathLoader, S: Source, O: Sink>(
+    alloc: Global,
+    server: &mut Server,
+    loader: &mut L,
+    source: &mut S,
+    output: &mut O,
+) -> Result<Status, ServiceFault>
+    requires reads { S.failures source.old < 2 ^ 64 - 1 }
+    requires writes { O.failures output.old < 2 ^ 64 - 1 }
+    ensures well { OnOk result (O.failures output.new ≡ O.failures output.old) }
+{
+    let mut reader = Reader::new(alloc);
+    'messages: for _ in 0..u64::MAX {
+        let Received::Body(body) = received(&mut reader, source)? else {
+            return Ok(Status::Faulty);
+        };
+        match answer_message(alloc, server, loader, &body, output)? {
+            Next::Goes => {}
+            Next::Ends => return Ok(Status::Sound),
+            Next::BreaksOff => return Ok(Status::Faulty),
+        }
+    }
+    Ok(Status::Faulty)
+}
+
+// The next message, or that there is none.
+fn received<S: Source>(reader: &mut Reader, source: &mut S) -> Result<Received, ServiceFault>
+    requires reads { S.failures source.old < 2 ^ 64 - 1 }
+    ensures ok { OnOk result (S.failures source.new ≡ S.failures source.old) }
+{
+    match reader.receive(source) {
+        Ok(received) => Ok(received),
+        // A stream that can't be read has ended.
+        Err(ReadFault::ReadFailed) => Err(ServiceFault::ReadFailed),
+        Err(ReadFault::NoMemory) => Err(ServiceFault::NoMemory),
+    }
+}
+
+// Does what a message asks for, and writes what is to be said.
+fn answer_message<L: PathLoader, O: Sink>(
+    alloc: Global,
+    server: &mut Server,
+    loader: &mut L,
+    body: &[u8],
+    output: &mut O,
+) -> Result<Next, ServiceFault>
+    requires writes { O.failures output.old < 2 ^ 64 - 1 }
+    ensures ok { OnOk result (O.failures output.new ≡ O.failures output.old) }
+{
+    let mut out = Outbox::new(alloc);
+    let next = server.step(loader, body, &mut out)?;
+    write_messages(alloc, out.messages(), output)?;
+    Ok(next)
+}
+
+// Writes messages, each with its head.
+fn write_messages<O: Sink>(
+    alloc: Global,
+    messages: &[Value],
+    output: &mut O,
+) -> Result<(), ServiceFault>
+    requires writes { O.failures output.old < 2 ^ 64 - 1 }
+    ensures ok { OnOk result (O.failures output.new ≡ O.failures output.old) }
+{
+    'messages: for value in messages {
+        let body = value.to_vec(alloc)?;
+        let message = message_of(alloc, &body)?;
+        write_all(output, &message)?;
+    }
+    Ok(())
+}
