@@ -8,7 +8,7 @@ ghost use Rattle.idl_memo.specs.Runs.{first_other};
 
 use crate::bank::{Bank, LentBank};
 use crate::kept_log::other_at;
-use crate::log::copied;
+use crate::log::push_copy;
 use crate::step::Digests;
 use idl_map::Digest;
 use std::alloc::AllocError;
@@ -137,8 +137,7 @@ impl<B: Bank> DatedLog<B> {
     {
         let mut left = self.entries();
         'entries: while let Some((key, answer)) = left.next() {
-            let answer = copied(answer)?;
-            entries.push((key.clone()?, answer))?;
+            push_copy(entries, key, answer)?;
         }
         Ok(())
     }

@@ -8,7 +8,7 @@ ghost use Rattle.idl_memo.specs.Runs.{first_other};
 
 use crate::bank::{Bank, LentBank, PlainBank};
 use crate::kept_log::other_at;
-use crate::log::copied;
+use crate::log::push_copy;
 use crate::run::{LogPart, Part};
 use crate::step::Digests;
 use idl_map::Digest;
@@ -112,11 +112,7 @@ fn append_part<B: Bank>(
     ensures { OnOk result (entries.new.items ≡ entries.old.items ++ part_entries part.now) }
 {
     match part {
-        Part::One(key, answer) => {
-            let answer = copied(answer.as_ref())?;
-            entries.push((key.clone()?, answer))?;
-            Ok(())
-        }
+        Part::One(key, answer) => push_copy(entries, key, answer.as_ref()),
         Part::Many(run) => run.append_to(alloc, entries),
     }
 }

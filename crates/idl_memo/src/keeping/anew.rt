@@ -29,5 +29,5 @@ pub fn run_anew<B: Bank, C: Bank<Key = B::Key, Answer = B::Answer>, T: Runnable<
     let mut log = Log::new(alloc);
     let out = task.run(alloc, bank, &mut (), &mut log)?;
     meter.raise(T::KIND);
-    Ok(keep(alloc, task.text(), log.kept(alloc)?, out)?)
+    keep(alloc, task.text(), log.kept(alloc)?, out)
 }

@@ -1,7 +1,8 @@
 -- A part more stands in front of what is left, until nothing is.
-use Rattle.std.proofs.Common.{◌++◌, append-nil, flat_map, sym, ap, ◌∙◌}
+use Rattle.std.proofs.Common.{◌++◌, append-nil, flat_map, sym, ap, ◌∙◌, arith}
 use Rattle.idl_memo.specs.Parts.{part_entries}
 use Rattle.idl_memo.proofs.RunLaws.{at-some, more-entries}
+use Rattle.std.proofs.lemmas.Grind.{common_steps}
 use Rattle.idl_memo.proofs.runs.Runs.parts.Goals as goal
 
 pub entries-preserved : goal.entries-preserved
@@ -14,3 +15,6 @@ pub returns : goal.returns
 returns g c =
     let parts = flat_map part_entries c.entries.parts.items in
     sym (append-nil parts) ∙ ap (λ r. parts ++ r) (sym (c.in_ok-part.ensures.none c.in_default.is)) ∙ c.entries.invariant
+
+pub entries-init : goal.entries-init
+entries-init g c = grind (arith, common_steps)
