@@ -1,10 +1,11 @@
-use Rattle.std.proofs.Common.{◌≡◌, ◌++◌, [], ◌∷◌, map, sym, ap, subst, ◌∙◌}
+use Rattle.std.proofs.Common.{◌≡◌, ◌++◌, [], ◌∷◌, map, sym, ap, subst, ◌∙◌, arith}
 use Rattle.std.proofs.lemmas.List.{map-append}
 use Rattle.std.specs.Map.{keys_of, lookup}
 use Rattle.idl_map.specs.Table.{AreDistinct}
 use Rattle.idl_base.proofs.Exactness.{Decides-eq}
 use Rattle.idl_map.proofs.TableLemmas.{AreDistinct-push, keys_of-push, nowhere-lookup}
 use Rattle.idl_map.proofs.EntryLemmas.{lookup-push, lookup-put_by_order, lookup-rest}
+use Rattle.std.proofs.lemmas.Grind.{common_steps}
 use Rattle.idl_map.proofs.arena.Arena.push.Goals as goal
 
 pub returns-then-branch-clause-sound : goal.returns-then-branch-clause-sound
@@ -47,3 +48,36 @@ returns-clause-each_key g c =
     let put = lookup-put_by_order eq g.K.Ord.cmp g.met.K.Ord.matches_eq g.met.K.Eq.laws rest more c.args.key c.args.value k (c.in_ok-insert.ensures.updates.0 k) in
     ap (λ fs. lookup (eq k) (fs ++ more)) c.in_ok-reserve.ensures.items
     ∙ lookup-rest eq g.met.K.Eq.laws g.met.K.Datum.same c.args.key c.args.value k es rest more c.requires.absent put
+
+pub returns-in_err-reserve-clause-sound : goal.returns-in_err-reserve-clause-sound
+returns-in_err-reserve-clause-sound g c = grind (arith, common_steps)
+
+pub returns-in_err-reserve-clause-err : goal.returns-in_err-reserve-clause-err
+returns-in_err-reserve-clause-err g c = grind (arith, common_steps)
+
+pub returns-in_err-push-clause-sound : goal.returns-in_err-push-clause-sound
+returns-in_err-push-clause-sound g c = grind (arith, common_steps)
+
+pub returns-in_err-push-clause-err : goal.returns-in_err-push-clause-err
+returns-in_err-push-clause-err g c = grind (arith, common_steps)
+
+pub returns-in_err-push-2-clause-sound : goal.returns-in_err-push-2-clause-sound
+returns-in_err-push-2-clause-sound g c = grind (arith, common_steps)
+
+pub returns-in_err-push-2-clause-err : goal.returns-in_err-push-2-clause-err
+returns-in_err-push-2-clause-err g c = grind (arith, common_steps)
+
+pub returns-in_err-insert-clause-sound : goal.returns-in_err-insert-clause-sound
+returns-in_err-insert-clause-sound g c = grind (arith, common_steps)
+
+pub returns-in_err-insert-clause-err : goal.returns-in_err-insert-clause-err
+returns-in_err-insert-clause-err g c = grind (arith, common_steps)
+
+pub returns-then-branch-clause-err : goal.returns-then-branch-clause-err
+returns-then-branch-clause-err g c = grind (arith, common_steps)
+
+pub returns-clause-sound : goal.returns-clause-sound
+returns-clause-sound g c = grind (arith, common_steps)
+
+pub returns-clause-err : goal.returns-clause-err
+returns-clause-err g c = grind (arith, common_steps)
