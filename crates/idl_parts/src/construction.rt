@@ -49,11 +49,15 @@ fn push_structure<'a>(
         base,
         members,
     } = structure;
-    sites.push(UnitPart::Tokens(1))?;
-    sites.push(UnitPart::Declared(Declaration::Structure, name))?;
+    sites.extend_from_slice(&[
+        UnitPart::Tokens(1),
+        UnitPart::Declared(Declaration::Structure, name),
+    ])?;
     push_base(sites, base)?;
-    sites.push(UnitPart::Tokens(1))?;
-    sites.push(UnitPart::ScopeBegins(Declaration::Structure, name))?;
+    sites.extend_from_slice(&[
+        UnitPart::Tokens(1),
+        UnitPart::ScopeBegins(Declaration::Structure, name),
+    ])?;
     for member in members.as_slice() {
         push_member(sites, member)?;
     }
@@ -70,8 +74,7 @@ fn push_base<'a>(
     ensures { OnOk result (Pushes sites.old.items sites.new.items (if_some base_parts base.now)) }
 {
     if let Some(name) = base {
-        sites.push(UnitPart::Tokens(1))?;
-        sites.push(UnitPart::Used(Use::AsStructBase, name))?;
+        sites.extend_from_slice(&[UnitPart::Tokens(1), UnitPart::Used(Use::AsStructBase, name)])?;
     }
     Ok(())
 }
@@ -116,12 +119,16 @@ fn push_union<'a>(sites: &mut Vec<UnitPart<'a>>, union: &'a Union) -> Result<(),
         first,
         rest,
     } = union;
-    sites.push(UnitPart::Tokens(1))?;
-    sites.push(UnitPart::Declared(Declaration::Union, name))?;
-    sites.push(UnitPart::Tokens(2))?;
+    sites.extend_from_slice(&[
+        UnitPart::Tokens(1),
+        UnitPart::Declared(Declaration::Union, name),
+        UnitPart::Tokens(2),
+    ])?;
     push_discriminator(sites, discriminator)?;
-    sites.push(UnitPart::Tokens(2))?;
-    sites.push(UnitPart::ScopeBegins(Declaration::Union, name))?;
+    sites.extend_from_slice(&[
+        UnitPart::Tokens(2),
+        UnitPart::ScopeBegins(Declaration::Union, name),
+    ])?;
     push_case(sites, first)?;
     for case in rest.as_slice() {
         push_case(sites, case)?;
@@ -174,8 +181,7 @@ fn push_label<'a>(sites: &mut Vec<UnitPart<'a>>, label: &'a Label) -> Result<(),
             sites.push(UnitPart::Tokens(1))?;
         }
         Label::Default => {
-            sites.push(UnitPart::Default)?;
-            sites.push(UnitPart::Tokens(2))?;
+            sites.extend_from_slice(&[UnitPart::Default, UnitPart::Tokens(2)])?;
         }
     }
     Ok(())
@@ -191,8 +197,10 @@ fn push_discriminator<'a>(
 {
     match discriminator {
         Discriminator::Discrete(discrete) => {
-            sites.push(UnitPart::Switches(*discrete))?;
-            sites.push(UnitPart::Tokens(discrete_len(*discrete)))?;
+            sites.extend_from_slice(&[
+                UnitPart::Switches(*discrete),
+                UnitPart::Tokens(discrete_len(*discrete)),
+            ])?;
         }
         Discriminator::Name(name) => sites.push(UnitPart::Used(Use::AsDiscriminator, name))?,
     }
@@ -207,10 +215,12 @@ fn push_enumeration<'a>(
     ensures { OnOk result
         (Pushes sites.old.items sites.new.items (enumeration_parts enumeration.now)) }
 {
-    sites.push(UnitPart::Tokens(1))?;
-    sites.push(UnitPart::Enumerates(&enumeration.enumerators))?;
-    sites.push(UnitPart::Declared(Declaration::Enumeration, &enumeration.name))?;
-    sites.push(UnitPart::Tokens(1))?;
+    sites.extend_from_slice(&[
+        UnitPart::Tokens(1),
+        UnitPart::Enumerates(&enumeration.enumerators),
+        UnitPart::Declared(Declaration::Enumeration, &enumeration.name),
+        UnitPart::Tokens(1),
+    ])?;
     push_declared(sites, Declaration::Enumerator, &enumeration.enumerators)?;
     sites.push(UnitPart::Tokens(1))?;
     Ok(())

@@ -31,9 +31,10 @@ pub fn push_type<'a>(
             sites.push(UnitPart::Tokens(2))?;
             push_type(sites, element, Use::AsElement)?;
             push_limit(sites, bound)?;
-            sites.push(UnitPart::Tokens(1))?;
-            sites.push(UnitPart::TypeEnds(Shape::Sequence(bound.is_some())))?;
-            Ok(())
+            sites.extend_from_slice(&[
+                UnitPart::Tokens(1),
+                UnitPart::TypeEnds(Shape::Sequence(bound.is_some())),
+            ])
         }
     }
 }
@@ -48,8 +49,10 @@ fn push_plain<'a>(
 {
     match plain {
         PlainType::Basic(basic) => {
-            sites.push(UnitPart::Tokens(basic_len(*basic)))?;
-            sites.push(UnitPart::TypeEnds(Shape::Basic(*basic)))?;
+            sites.extend_from_slice(&[
+                UnitPart::Tokens(basic_len(*basic)),
+                UnitPart::TypeEnds(Shape::Basic(*basic)),
+            ])?;
         }
         PlainType::String(string) => push_string(sites, string)?,
         PlainType::Name(name) => sites.push(UnitPart::Used(way, name))?,
@@ -130,8 +133,10 @@ pub fn push_constant_type<'a>(
 {
     match kind {
         ConstantTypeTree::Discrete(discrete) => {
-            sites.push(UnitPart::Tokens(discrete_len(*discrete)))?;
-            sites.push(UnitPart::TypeEnds(Shape::Basic(BasicType::Discrete(*discrete))))?;
+            sites.extend_from_slice(&[
+                UnitPart::Tokens(discrete_len(*discrete)),
+                UnitPart::TypeEnds(Shape::Basic(BasicType::Discrete(*discrete))),
+            ])?;
         }
         ConstantTypeTree::String(string) => push_string(sites, string)?,
         ConstantTypeTree::Name(name) => sites.push(UnitPart::Used(Use::AsConstantType, name))?,

@@ -27,8 +27,10 @@ pub fn push_interface<'a>(
         (Pushes sites.old.items sites.new.items (interface_parts interface.now)) }
 {
     let is_local = interface.is_local;
-    sites.push(UnitPart::Tokens(usize::from(is_local) + 1))?;
-    sites.push(UnitPart::Declared(Declaration::Interface(is_local), &interface.name))?;
+    sites.extend_from_slice(&[
+        UnitPart::Tokens(usize::from(is_local) + 1),
+        UnitPart::Declared(Declaration::Interface(is_local), &interface.name),
+    ])?;
     if let Some(bases) = &interface.bases {
         sites.push(UnitPart::Tokens(1))?;
         push_used(sites, Use::AsBase(is_local), bases)?;
@@ -55,9 +57,10 @@ pub fn push_forward<'a>(
         Forward::Structure(name) => (1, Declaration::StructureAhead, name),
         Forward::Union(name) => (1, Declaration::UnionAhead, name),
     };
-    sites.push(UnitPart::Tokens(tokens))?;
-    sites.push(UnitPart::Declared(declaration, name))?;
-    Ok(())
+    sites.extend_from_slice(&[
+        UnitPart::Tokens(tokens),
+        UnitPart::Declared(declaration, name),
+    ])
 }
 
 /// An attribute that is read alone.
@@ -296,11 +299,15 @@ fn push_texts<'a>(
 ) -> Result<(), AllocError>
     ensures { OnOk result (Pushes sites.old.items sites.new.items (context_parts texts.now)) }
 {
-    sites.push(UnitPart::Tokens(2))?;
-    sites.push(UnitPart::Joined(TextPurpose::Context, &texts.first))?;
+    sites.extend_from_slice(&[
+        UnitPart::Tokens(2),
+        UnitPart::Joined(TextPurpose::Context, &texts.first),
+    ])?;
     for text in texts.rest.as_slice() {
-        sites.push(UnitPart::Tokens(1))?;
-        sites.push(UnitPart::Joined(TextPurpose::Context, text))?;
+        sites.extend_from_slice(&[
+            UnitPart::Tokens(1),
+            UnitPart::Joined(TextPurpose::Context, text),
+        ])?;
     }
     sites.push(UnitPart::Tokens(1))?;
     Ok(())

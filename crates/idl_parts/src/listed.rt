@@ -21,8 +21,7 @@ pub fn push_declared<'a>(
 {
     sites.push(UnitPart::Declared(declaration, &names.first))?;
     for name in names.rest.as_slice() {
-        sites.push(UnitPart::Tokens(1))?;
-        sites.push(UnitPart::Declared(declaration, name))?;
+        sites.extend_from_slice(&[UnitPart::Tokens(1), UnitPart::Declared(declaration, name)])?;
     }
     Ok(())
 }
@@ -37,8 +36,7 @@ pub fn push_used<'a>(
 {
     sites.push(UnitPart::Used(way, &names.first))?;
     for name in names.rest.as_slice() {
-        sites.push(UnitPart::Tokens(1))?;
-        sites.push(UnitPart::Used(way, name))?;
+        sites.extend_from_slice(&[UnitPart::Tokens(1), UnitPart::Used(way, name)])?;
     }
     Ok(())
 }
@@ -51,8 +49,7 @@ pub fn push_raised<'a>(
 ) -> Result<(), AllocError>
     ensures { OnOk result (Pushes sites.old.items sites.new.items (raised way word.Raises names.now)) }
 {
-    sites.push(UnitPart::Tokens(1))?;
-    sites.push(UnitPart::Tokens(1))?;
+    sites.extend_from_slice(&[UnitPart::Tokens(1), UnitPart::Tokens(1)])?;
     push_used(sites, way, names)?;
     sites.push(UnitPart::Tokens(1))?;
     Ok(())

@@ -60,19 +60,21 @@ fn push_unit<'a>(sites: &mut Vec<UnitPart<'a>>, tree: &'a Tree) -> Result<(), Al
 fn push_module<'a>(sites: &mut Vec<UnitPart<'a>>, name: &'a Bytes) -> Result<(), AllocError>
     ensures { OnOk result (Pushes sites.old.items sites.new.items (module_parts name.now)) }
 {
-    sites.push(UnitPart::Tokens(1))?;
-    sites.push(UnitPart::Declared(Declaration::Module, name))?;
-    sites.push(UnitPart::Tokens(1))?;
-    Ok(())
+    sites.extend_from_slice(&[
+        UnitPart::Tokens(1),
+        UnitPart::Declared(Declaration::Module, name),
+        UnitPart::Tokens(1),
+    ])
 }
 
 /// A native type.
 fn push_native<'a>(sites: &mut Vec<UnitPart<'a>>, name: &'a Bytes) -> Result<(), AllocError>
     ensures { OnOk result (Pushes sites.old.items sites.new.items (native_parts name.now)) }
 {
-    sites.push(UnitPart::Tokens(1))?;
-    sites.push(UnitPart::Declared(Declaration::Native, name))?;
-    Ok(())
+    sites.extend_from_slice(&[
+        UnitPart::Tokens(1),
+        UnitPart::Declared(Declaration::Native, name),
+    ])
 }
 
 /// A typedef.
@@ -93,8 +95,10 @@ fn push_constant<'a>(
 {
     sites.push(UnitPart::Tokens(1))?;
     push_constant_type(sites, &constant.kind)?;
-    sites.push(UnitPart::Declared(Declaration::Constant, &constant.name))?;
-    sites.push(UnitPart::Tokens(1))?;
+    sites.extend_from_slice(&[
+        UnitPart::Declared(Declaration::Constant, &constant.name),
+        UnitPart::Tokens(1),
+    ])?;
     push_value(sites, Purpose::Constant, &constant.value)
 }
 
@@ -106,27 +110,28 @@ fn push_exception<'a>(
     ensures { OnOk result
         (Pushes sites.old.items sites.new.items (exception_parts exception.now)) }
 {
-    sites.push(UnitPart::Tokens(1))?;
-    sites.push(UnitPart::Declared(Declaration::Exception, &exception.name))?;
-    sites.push(UnitPart::Tokens(1))?;
-    sites.push(UnitPart::ScopeBegins(Declaration::Exception, &exception.name))?;
+    sites.extend_from_slice(&[
+        UnitPart::Tokens(1),
+        UnitPart::Declared(Declaration::Exception, &exception.name),
+        UnitPart::Tokens(1),
+        UnitPart::ScopeBegins(Declaration::Exception, &exception.name),
+    ])?;
     for member in exception.members.as_slice() {
         push_member(sites, member)?;
     }
-    sites.push(UnitPart::ScopeEnds)?;
-    sites.push(UnitPart::Tokens(1))?;
-    Ok(())
+    sites.extend_from_slice(&[UnitPart::ScopeEnds, UnitPart::Tokens(1)])
 }
 
 /// The id of a name.
 fn push_typeid<'a>(sites: &mut Vec<UnitPart<'a>>, typeid: &'a Typeid) -> Result<(), AllocError>
     ensures { OnOk result (Pushes sites.old.items sites.new.items (typeid_parts typeid.now)) }
 {
-    sites.push(UnitPart::Tokens(1))?;
-    sites.push(UnitPart::Identifies(&typeid.text))?;
-    sites.push(UnitPart::Used(Use::AsIdentified, &typeid.name))?;
-    sites.push(UnitPart::Joined(TextPurpose::Id, &typeid.text))?;
-    Ok(())
+    sites.extend_from_slice(&[
+        UnitPart::Tokens(1),
+        UnitPart::Identifies(&typeid.text),
+        UnitPart::Used(Use::AsIdentified, &typeid.name),
+        UnitPart::Joined(TextPurpose::Id, &typeid.text),
+    ])
 }
 
 /// The prefix of the ids in a scope.
@@ -137,9 +142,11 @@ fn push_typeprefix<'a>(
     ensures { OnOk result
         (Pushes sites.old.items sites.new.items (typeprefix_parts typeprefix.now)) }
 {
-    sites.push(UnitPart::Tokens(1))?;
-    sites.push(UnitPart::Identifies(&typeprefix.text))?;
-    sites.push(UnitPart::Used(Use::AsPrefixed, &typeprefix.name))?;
+    sites.extend_from_slice(&[
+        UnitPart::Tokens(1),
+        UnitPart::Identifies(&typeprefix.text),
+        UnitPart::Used(Use::AsPrefixed, &typeprefix.name),
+    ])?;
     if typeprefix.has_equals {
         sites.push(UnitPart::Tokens(1))?;
     }

@@ -54,13 +54,13 @@ push_structure-returns t c =
     let same : c.as_slice-member-items.result.now ≡ x.members = c.as_slice-member-items.ensures in
     let long = ap length same in
     let b = c.loop-member.sites.items in
-    let m = c.push-5.new.self.items in
-    let z = c.push-6.new.self.items in
+    let m = c.push.new.self.items in
+    let z = c.push-2.new.self.items in
     rw structure_parts-out
     (pushes-close_behind member_parts x.members c.loop-member.member-index c.args.sites.now.items b z (structure_opening x.name) (if_some base_parts x.base) (structure_brace x.name)
     (ScopeEnds ∷ punctuation mark.CloseBrace ∷ []) (omega arith) c.loop-member.invariant
-    (pushes-append b m z (ScopeEnds ∷ []) (punctuation mark.CloseBrace ∷ []) (pushes-one b m site.ScopeEnds ScopeEnds c.in_ok-push-5.ensures.items refl)
-    (pushes-one m z (site.Tokens 1) (punctuation mark.CloseBrace) c.in_ok-push-6.ensures.items refl)))
+    (pushes-append b m z (ScopeEnds ∷ []) (punctuation mark.CloseBrace ∷ []) (pushes-one b m site.ScopeEnds ScopeEnds c.in_ok-push.ensures.items refl)
+    (pushes-one m z (site.Tokens 1) (punctuation mark.CloseBrace) c.in_ok-push-2.ensures.items refl)))
 
 pub push_union-returns : goal.push_union-returns
 push_union-returns t c =
@@ -68,10 +68,10 @@ push_union-returns t c =
     let same : c.as_slice-case-items.result.now ≡ x.rest = c.as_slice-case-items.ensures in
     let long = ap length same in
     let b = c.loop-case.sites.items in
-    let m = c.push-6.new.self.items in
-    let z = c.push-7.new.self.items in
+    let m = c.push.new.self.items in
+    let z = c.push-2.new.self.items in
     rw union_parts-out
     (pushes-close_behind case_parts x.rest c.loop-case.case-index c.args.sites.now.items b z (union_opening x.name) (discriminator_parts x.discriminator) (union_brace x.name ++ case_parts x.first)
     (ScopeEnds ∷ punctuation mark.CloseBrace ∷ []) (omega arith) c.loop-case.invariant
-    (pushes-append b m z (ScopeEnds ∷ []) (punctuation mark.CloseBrace ∷ []) (pushes-one b m site.ScopeEnds ScopeEnds c.in_ok-push-6.ensures.items refl)
-    (pushes-one m z (site.Tokens 1) (punctuation mark.CloseBrace) c.in_ok-push-7.ensures.items refl)))
+    (pushes-append b m z (ScopeEnds ∷ []) (punctuation mark.CloseBrace ∷ []) (pushes-one b m site.ScopeEnds ScopeEnds c.in_ok-push.ensures.items refl)
+    (pushes-one m z (site.Tokens 1) (punctuation mark.CloseBrace) c.in_ok-push-2.ensures.items refl)))
