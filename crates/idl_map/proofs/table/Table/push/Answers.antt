@@ -6,6 +6,7 @@ use Rattle.idl_map.specs.Table.{AreDistinct, IsIndexOf, IsIndexed, places_behind
 use Rattle.idl_base.proofs.Exactness.{Decides-eq}
 use Rattle.idl_map.proofs.TableLemmas.{AreDistinct-push, IsIndexOf-front, IsIndexOf-push, keys_of-push, nothing, nowhere-lookup}
 use Rattle.idl_map.proofs.PlaceLemmas.{Decides-eq_of}
+use Rattle.std.proofs.lemmas.Grind.{common_steps}
 use Rattle.idl_map.proofs.table.Table.push.Goals as goal
 use Rattle.idl_map.proofs.table.Table.push.Goals.{in-Some+in_ok-clone+in_ok-insert, in_default}
 
@@ -81,3 +82,24 @@ invariant_of-self-2 g c =
         places = subst (λ o. IfSome (places_behind eq o) (λ places. IsIndexOf places (keys_of c.push.new.self.items))) (sym w.in_default.is) tt;
       }
     ]
+
+pub invariant_of-self : goal.invariant_of-self
+invariant_of-self g c = grind (arith, common_steps)
+
+pub returns-in_err-index_many-clause-err : goal.returns-in_err-index_many-clause-err
+returns-in_err-index_many-clause-err g c = grind (arith, common_steps)
+
+pub returns-in_err-clone-clause-err : goal.returns-in_err-clone-clause-err
+returns-in_err-clone-clause-err g c = grind (arith, common_steps)
+
+pub returns-in_err-insert-clause-err : goal.returns-in_err-insert-clause-err
+returns-in_err-insert-clause-err g c = grind (arith, common_steps)
+
+pub returns-in_err-push-clause-err : goal.returns-in_err-push-clause-err
+returns-in_err-push-clause-err g c = grind (arith, common_steps)
+
+pub returns-clause-entries : goal.returns-clause-entries
+returns-clause-entries g c = grind (arith, common_steps)
+
+pub returns-clause-err : goal.returns-clause-err
+returns-clause-err g c = grind (arith, common_steps)
