@@ -1,4 +1,5 @@
-use Rattle.std.proofs.Common.{◌∙◌, ap}
+use Rattle.std.proofs.Common.{◌∙◌, ap, arith}
+use Rattle.std.proofs.lemmas.Grind.{common_steps}
 use Rattle.idl_tree.specs.declared.expression.And.{out-And}
 use Rattle.idl_tree.specs.declared.expression.ExclusiveOr.{out-ExclusiveOr}
 use Rattle.idl_tree.specs.declared.expression.Expression.{out-Expression}
@@ -68,3 +69,39 @@ primary-returns-in-Parentheses t c =
     (c.expression.ensures
     ∙ ap (λ p. walk_term c.args.self.target.now c.args.self.operands.now p (expression_term c.get.result.now)) c.further.ensures
     ∙ ap (λ e. walk_term c.args.self.target.now c.args.self.operands.now (behind c.args.place 1 0) (expression_term e)) c.get.ensures))
+
+pub expression-loop-operand-preserved : goal.expression-loop-operand-preserved
+expression-loop-operand-preserved t c = grind (arith, common_steps)
+
+pub expression-returns : goal.expression-returns
+expression-returns t c = grind (arith, common_steps)
+
+pub exclusive_or-loop-operand-preserved : goal.exclusive_or-loop-operand-preserved
+exclusive_or-loop-operand-preserved t c = grind (arith, common_steps)
+
+pub exclusive_or-returns : goal.exclusive_or-returns
+exclusive_or-returns t c = grind (arith, common_steps)
+
+pub and-loop-operand-preserved : goal.and-loop-operand-preserved
+and-loop-operand-preserved t c = grind (arith, common_steps)
+
+pub and-returns : goal.and-returns
+and-returns t c = grind (arith, common_steps)
+
+pub shift-loop-operator-preserved : goal.shift-loop-operator-preserved
+shift-loop-operator-preserved t c = grind (arith, common_steps)
+
+pub shift-returns : goal.shift-returns
+shift-returns t c = grind (arith, common_steps)
+
+pub sum-loop-operator-preserved : goal.sum-loop-operator-preserved
+sum-loop-operator-preserved t c = grind (arith, common_steps)
+
+pub sum-returns : goal.sum-returns
+sum-returns t c = grind (arith, common_steps)
+
+pub product-loop-operator-preserved : goal.product-loop-operator-preserved
+product-loop-operator-preserved t c = grind (arith, common_steps)
+
+pub product-returns : goal.product-returns
+product-returns t c = grind (arith, common_steps)
