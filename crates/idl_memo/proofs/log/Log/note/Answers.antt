@@ -1,8 +1,9 @@
-use Rattle.std.proofs.Common.{◌≡◌, true, false, [], ◌∷◌, ◌++◌, is_some, sym, ap, ◌∙◌}
+use Rattle.std.proofs.Common.{◌≡◌, true, false, [], ◌∷◌, ◌++◌, is_some, sym, ap, ◌∙◌, arith}
 use Rattle.std.specs.Map.{lookup}
 use Rattle.std.specs.Option.{option_copied}
 use Rattle.idl_memo.specs.Query.{noted}
 use Rattle.idl_memo.proofs.Noting.{noted-absent, noted-present}
+use Rattle.std.proofs.lemmas.Grind.{common_steps}
 use Rattle.idl_memo.proofs.log.Log.note.Goals as goal
 
 pub returns-then-contains-clause-logged : goal.returns-then-contains-clause-logged
@@ -32,3 +33,18 @@ push-requires g c =
     let eq = g.B.Key.PartialEq.eq in
     let same_key : c.in_ok-clone.field-0 ≡ c.args.key.now = g.met.B.Key.Datum.copy c.args.key.now c.in_ok-clone.field-0 c.in_ok-clone.ensures.cases in
     ap (λ k. is_some (lookup (eq k) c.self.inside.entries)) same_key ∙ sym c.contains.ensures ∙ c.if-contains.false
+
+pub returns-clause-err : goal.returns-clause-err
+returns-clause-err g c = grind (arith, common_steps)
+
+pub returns-in_err-copy-clause-err : goal.returns-in_err-copy-clause-err
+returns-in_err-copy-clause-err g c = grind (arith, common_steps)
+
+pub returns-in_err-push-clause-err : goal.returns-in_err-push-clause-err
+returns-in_err-push-clause-err g c = grind (arith, common_steps)
+
+pub returns-in_err-clone-clause-err : goal.returns-in_err-clone-clause-err
+returns-in_err-clone-clause-err g c = grind (arith, common_steps)
+
+pub returns-then-contains-clause-err : goal.returns-then-contains-clause-err
+returns-then-contains-clause-err g c = grind (arith, common_steps)

@@ -1,0 +1,12 @@
+use Rattle.std.proofs.Common.{arith}
+use Rattle.std.proofs.lemmas.Grind.{common_steps}
+use Rattle.idl_memo.proofs.steps.Steps.append_to.Goals as goal
+
+pub returns : goal.returns
+returns g c = grind (arith, common_steps)
+
+pub steps-init : goal.steps-init
+steps-init g c = grind (arith, common_steps)
+
+pub steps-preserved : goal.steps-preserved
+steps-preserved g c = grind (arith, common_steps)
