@@ -5,7 +5,7 @@ ghost use Rattle.std.specs.Prelude.{◌≡◌, ◌<◌, ◌-◌, ◌^◌, OnOk};
 use crate::failure::Status;
 use crate::loader::PathLoader;
 use idl_session::{Sink, Source, WriteFailed};
-use std::alloc::{AllocError, Global};
+use std::alloc::AllocError;
 
 /// Why an editor is served no further.
 #[derive(Clone, Copy, Debug, PartialEq, Eq)]
@@ -35,7 +35,6 @@ pub trait Service {
     /// Serves an editor till it ends that, or its messages end.
     fn serve<L: PathLoader, S: Source, O: Sink>(
         &self,
-        alloc: Global,
         loader: &mut L,
         source: &mut S,
         output: &mut O,

@@ -62,6 +62,11 @@ impl Server {
         }
     }
 
+    /// Where its memory comes from.
+    pub(crate) fn alloc(&self) -> Global {
+        self.workspace.alloc()
+    }
+
     /// Does what a message asks for, and gathers what is to be said.
     pub fn step<L: PathLoader>(
         &mut self,

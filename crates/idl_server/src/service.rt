@@ -11,29 +11,33 @@ use serde_json::Value;
 use std::alloc::Global;
 
 /// Serves each editor by a [`Server`] of its own.
-pub struct LanguageServer;
+#[derive(Drop)]
+pub struct LanguageServer {
+    alloc: Global,
+}
+
+impl LanguageServer {
+    /// Servers whose memory comes from here.
+    pub fn new(alloc: Global) -> LanguageServer {
+        LanguageServer { alloc }
+    }
+}
 
 impl Service for LanguageServer {
     /// Serves an editor till it ends the server, or its messages end.
     fn serve<L: PathLoader, S: Source, O: Sink>(
         &self,
-        alloc: Global,
         loader: &mut L,
         source: &mut S,
         output: &mut O,
-    ) -> Result<Status, ServiceFault>
-        requires reads { S.failures source.old < 2 ^ 64 - 1 }
-        requires writes { O.failures output.old < 2 ^ 64 - 1 }
-        ensures well { OnOk result (O.failures output.new ≡ O.failures output.old) }
-    {
-        let mut server = Server::new(alloc);
-        answer_messages(alloc, &mut server, loader, source, output)
+    ) -> Result<Status, ServiceFault> {
+        let mut server = Server::new(self.alloc);
+        answer_messages(&mut server, loader, source, output)
     }
 }
 
 // Answers each message that comes.
 fn answer_messages<L: PathLoader, S: Source, O: Sink>(
-    alloc: Global,
     server: &mut Server,
     loader: &mut L,
     source: &mut S,
@@ -43,12 +47,12 @@ fn answer_messages<L: PathLoader, S: Source, O: Sink>(
     requires writes { O.failures output.old < 2 ^ 64 - 1 }
     ensures well { OnOk result (O.failures output.new ≡ O.failures output.old) }
 {
-    let mut reader = Reader::new(alloc);
+    let mut reader = Reader::new(server.alloc());
     'messages: for _ in 0..u64::MAX {
         let Received::Body(body) = received(&mut reader, source)? else {
             return Ok(Status::Faulty);
         };
-        match answer_message(alloc, server, loader, &body, output)? {
+        match answer_message(server, loader, &body, output)? {
             Next::Goes => {}
             Next::Ends => return Ok(Status::Sound),
             Next::BreaksOff => return Ok(Status::Faulty),
@@ -72,7 +76,6 @@ fn received<S: Source>(reader: &mut Reader, source: &mut S) -> Result<Received, 
 
 // Does what a message asks for, and writes what is to be said.
 fn answer_message<L: PathLoader, O: Sink>(
-    alloc: Global,
     server: &mut Server,
     loader: &mut L,
     body: &[u8],
@@ -81,9 +84,9 @@ fn answer_message<L: PathLoader, O: Sink>(
     requires writes { O.failures output.old < 2 ^ 64 - 1 }
     ensures ok { OnOk result (O.failures output.new ≡ O.failures output.old) }
 {
-    let mut out = Outbox::new(alloc);
+    let mut out = Outbox::new(server.alloc());
     let next = server.step(loader, body, &mut out)?;
-    write_messages(alloc, out.messages(), output)?;
+    write_messages(server.alloc(), out.messages(), output)?;
     Ok(next)
 }
 

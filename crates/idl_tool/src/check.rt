@@ -26,10 +26,10 @@ use std::alloc::{AllocError, Global};
 use std::mem::forget;
 
 /// Writes a report of each finding of these files, and what several of them tell alike once.
-pub fn check<'a, L: Loader, O: Sink, E: Sink>(
+pub fn check<'a, L: Loader, O: Sink, E: Sink, V>(
     alloc: Global,
     options: &Options<'a>,
-    devices: &mut Devices<L, O, E>,
+    devices: &mut Devices<L, O, E, V>,
 ) -> Result<Status, Failure<'a>>
     requires writes { O.failures devices.old.output < 2 ^ 64 - 1 }
 

@@ -19,10 +19,10 @@ use std::alloc::{AllocError, Global};
 use std::mem::forget;
 
 /// Writes a rule of make for each file, and what is told of the files.
-pub fn write_deps<'a, L: Loader, O: Sink, E: Sink>(
+pub fn write_deps<'a, L: Loader, O: Sink, E: Sink, V>(
     alloc: Global,
     deps: &Deps<'a>,
-    devices: &mut Devices<L, O, E>,
+    devices: &mut Devices<L, O, E, V>,
 ) -> Result<Status, Failure<'a>>
     requires writes { O.failures devices.old.output < 2 ^ 64 - 1 }
     requires tells { E.failures devices.old.errors < 2 ^ 64 - 2 }

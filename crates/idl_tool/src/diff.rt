@@ -42,10 +42,10 @@ impl Drop for CompiledVersion {
 }
 
 /// Writes what changes from one version of a file to another, and what is told of the two.
-pub fn write_diff<'a, L: Loader, O: Sink, E: Sink>(
+pub fn write_diff<'a, L: Loader, O: Sink, E: Sink, V>(
     alloc: Global,
     diff: &Diff<'a>,
-    devices: &mut Devices<L, O, E>,
+    devices: &mut Devices<L, O, E, V>,
 ) -> Result<Status, Failure<'a>>
     requires writes { O.failures devices.old.output < 2 ^ 64 - 1 }
     requires tells { E.failures devices.old.errors < 2 ^ 64 - 2 }

@@ -25,10 +25,10 @@ use std::alloc::{AllocError, Global};
 use std::mem::forget;
 
 /// Writes an object for each of these files, on a line.
-pub fn write_json<'a, L: Loader, O: Sink, E: Sink>(
+pub fn write_json<'a, L: Loader, O: Sink, E: Sink, V>(
     alloc: Global,
     options: &Options<'a>,
-    devices: &mut Devices<L, O, E>,
+    devices: &mut Devices<L, O, E, V>,
 ) -> Result<Status, Failure<'a>>
     requires writes { O.failures devices.old.output < 2 ^ 64 - 1 }
 

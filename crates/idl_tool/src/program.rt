@@ -17,15 +17,17 @@ use idl_program::{Loader, PathLoader, Service, Status};
 use idl_session::{Sink, Source, write_all};
 use std::alloc::Global;
 
-/// What the program reads and writes.
+/// What the program reads and writes, and what serves an editor over it.
 #[derive(Drop)]
-pub struct Devices<L, O, E> {
+pub struct Devices<L, O, E, V> {
     /// Where files come from.
     pub loader: L,
     /// Where answers go.
     pub output: O,
     /// Where errors go, and why the program fails.
     pub errors: E,
+    /// What serves an editor: the program stands on none.
+    pub service: V,
 }
 
 /// Does what the words behind the program's name ask for, and answers how the program ends.
@@ -33,8 +35,7 @@ pub fn run_tool<L: Loader + PathLoader, S: Source, O: Sink, E: Sink, V: Service>
     alloc: Global,
     words: &[&str],
     source: &mut S,
-    devices: &mut Devices<L, O, E>,
-    service: &V,
+    devices: &mut Devices<L, O, E, V>,
 ) -> Status
     requires reads { S.failures source.old < 2 ^ 64 - 1 }
     // A device that counts its failures from 0 can't come near.
@@ -52,7 +53,7 @@ pub fn run_tool<L: Loader + PathLoader, S: Source, O: Sink, E: Sink, V: Service>
         ((O.failures devices.new.output ≡ O.failures devices.old.output)
         × (E.failures devices.new.errors ≡ E.failures devices.old.errors)) }
 {
-    match perform(alloc, words, source, devices, service) {
+    match perform(alloc, words, source, devices) {
         Ok(status) => status,
         Err(failure) => {
             tell(alloc, &failure, &mut devices.errors);
@@ -65,8 +66,7 @@ fn perform<'a, L: Loader + PathLoader, S: Source, O: Sink, E: Sink, V: Service>(
     alloc: Global,
     words: &'a [&'a str],
     source: &mut S,
-    devices: &mut Devices<L, O, E>,
-    service: &V,
+    devices: &mut Devices<L, O, E, V>,
 ) -> Result<Status, Failure<'a>>
     requires reads { S.failures source.old < 2 ^ 64 - 1 }
     requires writes { O.failures devices.old.output < 2 ^ 64 - 1 }
@@ -84,7 +84,7 @@ fn perform<'a, L: Loader + PathLoader, S: Source, O: Sink, E: Sink, V: Service>(
     ensures most { E.failures devices.new.errors ≤ E.failures devices.old.errors + 1 }
 {
     let request = request_of(alloc, words)?;
-    fulfil(alloc, &request, source, devices, service)
+    fulfil(alloc, &request, source, devices)
 }
 
 // Does what is asked for.
@@ -92,8 +92,7 @@ fn fulfil<'a, L: Loader + PathLoader, S: Source, O: Sink, E: Sink, V: Service>(
     alloc: Global,
     request: &Request<'a>,
     source: &mut S,
-    devices: &mut Devices<L, O, E>,
-    service: &V,
+    devices: &mut Devices<L, O, E, V>,
 ) -> Result<Status, Failure<'a>>
     requires reads { S.failures source.old < 2 ^ 64 - 1 }
     requires writes { O.failures devices.old.output < 2 ^ 64 - 1 }
@@ -122,8 +121,8 @@ fn fulfil<'a, L: Loader + PathLoader, S: Source, O: Sink, E: Sink, V: Service>(
         Request::Json(options) => write_json(alloc, options, devices),
         Request::Diff(diff) => write_diff(alloc, diff, devices),
         Request::Serve => {
-            let loader = &mut devices.loader;
-            Ok(service.serve(alloc, loader, source, &mut devices.output)?)
+            let service = &devices.service;
+            Ok(service.serve(&mut devices.loader, source, &mut devices.output)?)
         }
     }
 }

@@ -29,13 +29,8 @@ fn run(rt: &HostRuntime, words: &[String]) -> Status {
         loader: Disk::new(rt),
         output: StandardOutput::new(std::io::writer(rt)),
         errors: StandardOutput::new(rt.stderr()),
+        service: LanguageServer::new(rt.alloc()),
     };
     let mut source = StandardInput::new(rt.reader());
-    run_tool(
-        rt.alloc(),
-        &texts,
-        &mut source,
-        &mut devices,
-        &LanguageServer,
-    )
+    run_tool(rt.alloc(), &texts, &mut source, &mut devices)
 }

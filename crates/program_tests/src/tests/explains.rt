@@ -80,15 +80,10 @@ fn tells_a_closed_output(rt: &impl Host, words: &[&str]) -> Result<(), Fail> {
         ),
         output: BufferSink::new(rt.alloc(), 4)?,
         errors: BufferSink::new(rt.alloc(), 100)?,
+        service: LanguageServer::new(rt.alloc()),
     };
     let mut source = SliceSource::new(b"");
-    let status = run_tool(
-        rt.alloc(),
-        words,
-        &mut source,
-        &mut devices,
-        &LanguageServer,
-    );
+    let status = run_tool(rt.alloc(), words, &mut source, &mut devices);
     assert!(rt; matches!(status, Status::Failed));
     assert_eq!(rt;
         devices.errors.as_bytes(),

@@ -127,9 +127,10 @@ pub fn tool_told(
         loader,
         output: BufferSink::new(alloc, ROOM)?,
         errors: BufferSink::new(alloc, ROOM)?,
+        service: LanguageServer::new(alloc),
     };
     let mut source = SliceSource::new(input.as_bytes());
-    let status = run_tool(alloc, &list, &mut source, &mut devices, &LanguageServer);
+    let status = run_tool(alloc, &list, &mut source, &mut devices);
     text_of(alloc, status, &devices.output, &devices.errors)
 }
 
