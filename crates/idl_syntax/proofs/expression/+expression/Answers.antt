@@ -1,6 +1,7 @@
 use Rattle.std.proofs.Common.{arith, refl, sym, ◌∙◌}
+use Rattle.std.proofs.lemmas.Grind.{common_steps}
 use Rattle.std.proofs.lemmas.Result.{err_from_is_err_and}
-use Rattle.idl_tree.specs.reading.ReadExpression.{product_operator_of, shift_operator_of, sum_operator_of}
+use Rattle.idl_tree.specs.reading.ReadExpression.{product_operator_of, shift_operator_of, sum_operator_of, expression_at, unary_with}
 use Rattle.idl_syntax.proofs.Turns.{turns_start, turns_stop, loop_behind, loop_behind_fails, loop_operator, loop_operator_ends, loop_operator_fails}
 use Rattle.idl_syntax.proofs.expression.+expression.Goals as goal
 
@@ -105,3 +106,15 @@ more_unaries-returns-in_err-operand-clause-reads t c =
 
 pub more_unaries-returns-clause-reads : goal.more_unaries-returns-clause-reads
 more_unaries-returns-clause-reads t c = rw c.from_vec.ensures (loop_operator_ends product_operator_of _ _ c.more_unaries.rest.now _ c.more_unaries.invariant.turns (sym c.product_operator.ensures ∙ c.in_default.is))
+
+pub expression-returns-then-depth-eq0-clause-reads : goal.expression-returns-then-depth-eq0-clause-reads
+unfolding expression_at
+expression-returns-then-depth-eq0-clause-reads t c = grind (arith, common_steps)
+
+pub unary-returns-clause-reads : goal.unary-returns-clause-reads
+unfolding unary_with
+unary-returns-clause-reads t c = grind (arith, common_steps)
+
+pub unary-returns-in_err-operand-clause-reads : goal.unary-returns-in_err-operand-clause-reads
+unfolding unary_with
+unary-returns-in_err-operand-clause-reads t c = grind (arith, common_steps)

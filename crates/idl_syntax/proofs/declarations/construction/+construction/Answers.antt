@@ -1,8 +1,9 @@
 use Rattle.std.proofs.Common.{◌≡◌, arith, rules, true, false}
-use Rattle.idl_tree.specs.Lexeme.{lexemes}
-use Rattle.idl_tree.specs.reading.ReadConstruction.{goes_on}
-use Rattle.idl_tree.specs.reading.Reading.{first}
+use Rattle.std.proofs.lemmas.Grind.{common_steps}
 use Rattle.std.proofs.lemmas.Result.{err_from_is_err_and}
+use Rattle.idl_tree.specs.Lexeme.{lexemes}
+use Rattle.idl_tree.specs.reading.ReadConstruction.{goes_on, construction_at}
+use Rattle.idl_tree.specs.reading.Reading.{first}
 use Rattle.idl_syntax.proofs.Turns.{turns_start, turns_stop, turns_fail, loop_step}
 use Rattle.idl_syntax.proofs.declarations.construction.+construction.Goals as goal
 
@@ -49,3 +50,7 @@ cases-returns-in_err-one-clause-reads t c =
     let test : goes_on (first (lexemes c.cases.rest.now)) ≡ true = search rules in
     let why = err_from_is_err_and c.from_residual.result c.from_residual.ensures.1 in
     rw (why.1, why.2) (turns_fail _ _ _ _ _ _ c.cases.invariant.turns test c.in_err-one.ensures.reads)
+
+pub construction-returns-then-depth-eq0-clause-reads : goal.construction-returns-then-depth-eq0-clause-reads
+unfolding construction_at
+construction-returns-then-depth-eq0-clause-reads t c = grind (arith, common_steps)

@@ -1,4 +1,5 @@
-use Rattle.std.proofs.Common.{◌≡◌, drop, if◌then◌else◌, sym, ap, subst, ◌∙◌}
+use Rattle.std.proofs.Common.{◌≡◌, drop, if◌then◌else◌, sym, ap, subst, ◌∙◌, arith}
+use Rattle.std.proofs.lemmas.Grind.{common_steps}
 use Rattle.idl_syntax.specs.Gives.{Gives}
 use Rattle.idl_syntax.proofs.Steps.{lexemes-rest, operation_step}
 use Rattle.idl_tree.specs.Lexeme.{lexemes}
@@ -22,3 +23,11 @@ returns-clause-reads c =
     let read : result_with type (if is_oneway.result then drop 1 ts else ts) ≡ _ = ap (result_with type) (sym behind) ∙ c.in_ok-result.ensures.reads in
     let step = operation_step is_oneway.result (result_with type) identifier_at (operation_rest_with type) _ _ _ _ c.in_ok-head.head read c.in_ok-head.ensures.reads in
     subst (λ r. Gives (λ x. (x.0, lexemes x.1.now)) c.operation_rest.result r) (sym (ap (λ b. result_with type (if b then drop 1 ts else ts) >>= λ r. identifier_at r.1 >>= λ n. operation_rest_with type b r.0 n.0 n.1) (sym is_oneway.ensures) ∙ step)) c.operation_rest.ensures.reads
+
+pub returns-in_err-head-clause-reads : goal.returns-in_err-head-clause-reads
+unfolding operation_with
+returns-in_err-head-clause-reads c = grind (arith, common_steps)
+
+pub returns-in_err-result-clause-reads : goal.returns-in_err-result-clause-reads
+unfolding operation_with
+returns-in_err-result-clause-reads c = grind (arith, common_steps)
