@@ -64,14 +64,13 @@ fn push_plain<'a>(
 fn push_string<'a>(sites: &mut Vec<UnitPart<'a>>, string: &'a StringType) -> Result<(), AllocError>
     ensures { OnOk result (Pushes sites.old.items sites.new.items (string_parts string.now)) }
 {
-    sites.push(UnitPart::Tokens(1))?;
-    if let Some(bound) = &string.bound {
-        sites.push(UnitPart::Tokens(1))?;
-        push_value(sites, Purpose::Bound, bound.get())?;
-        sites.push(UnitPart::Tokens(1))?;
-    }
-    sites.push(UnitPart::TypeEnds(Shape::Text(string.is_wide, string.bound.is_some())))?;
-    Ok(())
+    let end = UnitPart::TypeEnds(Shape::Text(string.is_wide, string.bound.is_some()));
+    let Some(bound) = &string.bound else {
+        return sites.extend_from_slice(&[UnitPart::Tokens(1), end]);
+    };
+    sites.extend_from_slice(&[UnitPart::Tokens(1), UnitPart::Tokens(1)])?;
+    push_value(sites, Purpose::Bound, bound.get())?;
+    sites.extend_from_slice(&[UnitPart::Tokens(1), end])
 }
 
 /// The bound of a sequence, if it has one.

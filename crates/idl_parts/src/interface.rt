@@ -30,13 +30,13 @@ pub fn push_interface<'a>(
     sites.extend_from_slice(&[
         UnitPart::Tokens(usize::from(is_local) + 1),
         UnitPart::Declared(Declaration::Interface(is_local), &interface.name),
+        UnitPart::Tokens(1),
     ])?;
-    if let Some(bases) = &interface.bases {
-        sites.push(UnitPart::Tokens(1))?;
-        push_used(sites, Use::AsBase(is_local), bases)?;
-    }
-    sites.push(UnitPart::Tokens(1))?;
-    Ok(())
+    let Some(bases) = &interface.bases else {
+        return Ok(());
+    };
+    push_used(sites, Use::AsBase(is_local), bases)?;
+    sites.extend_from_slice(&[UnitPart::Tokens(1)])
 }
 
 /// A declaration ahead.

@@ -147,9 +147,10 @@ fn push_typeprefix<'a>(
         UnitPart::Identifies(&typeprefix.text),
         UnitPart::Used(Use::AsPrefixed, &typeprefix.name),
     ])?;
+    let text = UnitPart::Joined(TextPurpose::Prefix, &typeprefix.text);
     if typeprefix.has_equals {
-        sites.push(UnitPart::Tokens(1))?;
+        sites.extend_from_slice(&[UnitPart::Tokens(1), text])
+    } else {
+        sites.extend_from_slice(&[text])
     }
-    sites.push(UnitPart::Joined(TextPurpose::Prefix, &typeprefix.text))?;
-    Ok(())
 }

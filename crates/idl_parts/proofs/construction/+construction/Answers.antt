@@ -1,13 +1,14 @@
 use Rattle.std.proofs.Common.{[], ◌∷◌, ◌++◌, ap, arith, length, refl, ◌≡◌}
+use Rattle.std.proofs.lemmas.Grind.{common_steps}
 use Rattle.idl_lex.specs.declared.kinds.mark.Mark.TheVariants as mark
-use Rattle.idl_parts.specs.ConstructionParts.{base_parts, case_parts, discriminator_parts, label_parts, member_parts, member_type_parts}
+use Rattle.idl_parts.specs.ConstructionParts.{base_parts, case_parts, discriminator_parts, label_parts, member_parts, member_type_parts, structure_parts, union_parts}
 use Rattle.idl_parts.specs.Part.{ScopeEnds, all_parts, if_some, listed, punctuation}
 use Rattle.idl_parts.specs.TypeParts.{declarator_parts}
 use Rattle.idl_parts.specs.declared.part.Declaration.TheVariants as declaration
 use Rattle.idl_parts.specs.declared.part.UnitPart.TheVariants as site
 use Rattle.idl_tree.specs.declared.declarations.construction.Structure.{out-Structure}
 use Rattle.idl_tree.specs.declared.declarations.construction.Union.{out-Union}
-use Rattle.idl_parts.proofs.ConstructionEquations.{case_parts-out, construction_parts-structure, construction_parts-union, member_parts-out, member_type_parts-construction, structure_brace, structure_opening, structure_parts-out, union_brace, union_opening, union_parts-out}
+use Rattle.idl_parts.proofs.ConstructionEquations.{case_parts-out, construction_parts-enumeration, construction_parts-structure, construction_parts-union, member_parts-out, member_type_parts-construction, member_type_parts-type, structure_brace, structure_opening, structure_parts-out, union_brace, union_opening, union_parts-out}
 use Rattle.idl_parts.proofs.PushLemmas.{pushes-append, pushes-close_behind, pushes-one}
 use Rattle.idl_parts.proofs.construction.+construction.Goals as goal
 
@@ -75,3 +76,25 @@ push_union-returns t c =
     (ScopeEnds ∷ punctuation mark.CloseBrace ∷ []) (omega arith) c.loop-case.invariant
     (pushes-append b m z (ScopeEnds ∷ []) (punctuation mark.CloseBrace ∷ []) (pushes-one b m site.ScopeEnds ScopeEnds c.in_ok-push.ensures.items refl)
     (pushes-one m z (site.Tokens 1) (punctuation mark.CloseBrace) c.in_ok-push-2.ensures.items refl)))
+
+pub push_structure-loop-member-preserved : goal.push_structure-loop-member-preserved
+unfolding structure_parts
+push_structure-loop-member-preserved t c = grind (arith, common_steps)
+
+pub push_structure-loop-member-init : goal.push_structure-loop-member-init
+unfolding structure_parts
+push_structure-loop-member-init t c = grind (arith, common_steps)
+
+pub push_union-loop-case-preserved : goal.push_union-loop-case-preserved
+unfolding union_parts
+push_union-loop-case-preserved t c = grind (arith, common_steps)
+
+pub push_union-loop-case-init : goal.push_union-loop-case-init
+unfolding union_parts
+push_union-loop-case-init t c = grind (arith, common_steps)
+
+pub push_construction-returns-in-Enumeration : goal.push_construction-returns-in-Enumeration
+push_construction-returns-in-Enumeration t c = rw (c.in-Enumeration.is, construction_parts-enumeration) c.push_enumeration.ensures
+
+pub push_member_type-returns-in-Type : goal.push_member_type-returns-in-Type
+push_member_type-returns-in-Type t c = rw (c.in-Type.is, member_type_parts-type) c.push_type.ensures

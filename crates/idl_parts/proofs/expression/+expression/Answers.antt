@@ -1,17 +1,19 @@
-use Rattle.std.proofs.Common.{[], ◌∷◌, ◌++◌, ap, arith, get_or, length, refl, subst, ◌≡◌}
+use Rattle.std.proofs.Common.{[], ◌∷◌, ◌++◌, ℕ, ap, arith, get_or, length, refl, subst, ◌≡◌}
+use Rattle.std.proofs.lemmas.Grind.{common_steps}
 use Rattle.idl_lex.specs.declared.kinds.mark.Mark.TheVariants.{Ampersand, Bar, Caret, OpenParenthesis, CloseParenthesis}
 use Rattle.idl_parts.specs.ExpressionParts.{and_parts, exclusive_or_parts, expression_parts, operator_parts, primary_parts, product_parts, shift_parts, sum_parts, unary_parts}
 use Rattle.idl_parts.specs.Item.{Pushes}
-use Rattle.idl_parts.specs.Part.{punctuation}
+use Rattle.idl_parts.specs.Part.{Plain, Uses, punctuation}
 use Rattle.idl_parts.specs.declared.part.UnitPart.TheVariants.{Tokens}
-use Rattle.idl_tree.specs.Expression.{product_mark, shift_mark, sum_mark}
+use Rattle.idl_parts.specs.declared.part.Use.TheVariants.{AsOperand}
+use Rattle.idl_tree.specs.Expression.{product_mark, shift_mark, spell_literal, sum_mark}
 use Rattle.idl_tree.specs.declared.expression.And.{out-And}
 use Rattle.idl_tree.specs.declared.expression.ExclusiveOr.{out-ExclusiveOr}
 use Rattle.idl_tree.specs.declared.expression.Expression.{out-Expression}
 use Rattle.idl_tree.specs.declared.expression.Product.{out-Product}
 use Rattle.idl_tree.specs.declared.expression.Shift.{out-Shift}
 use Rattle.idl_tree.specs.declared.expression.Sum.{out-Sum}
-use Rattle.idl_parts.proofs.ExpressionEquations.{and_parts-out, exclusive_or_parts-out, expression_parts-out, primary_parts-parentheses, product_parts-out, shift_parts-out, sum_parts-out, unary_parts-out}
+use Rattle.idl_parts.proofs.ExpressionEquations.{and_parts-out, exclusive_or_parts-out, expression_parts-out, primary_parts-literal, primary_parts-name, primary_parts-parentheses, product_parts-out, shift_parts-out, sum_parts-out, unary_parts-out}
 use Rattle.idl_parts.proofs.PushLemmas.{pushes-append, pushes-end, pushes-one, pushes-turn}
 use Rattle.idl_parts.proofs.expression.+expression.Goals as goal
 
@@ -127,3 +129,24 @@ push_product-loop-operator-preserved t c =
     (subst (λ xs. item ≡ get_or xs c.loop-operator._operator-index item) same c.loop-operator-item.is)
     c.loop-operator.invariant
     (pushes-append b m z (punctuation (product_mark item.0) ∷ []) (unary_parts item.1) (pushes-one b m (Tokens 1) (punctuation (product_mark item.0)) c.in_ok-push.ensures.items refl) c.in_ok-push_unary-2.ensures)
+
+pub push_expression-loop-operand-preserved : goal.push_expression-loop-operand-preserved
+unfolding expression_parts
+push_expression-loop-operand-preserved t c = grind (arith, common_steps)
+
+pub push_exclusive_or-loop-operand-preserved : goal.push_exclusive_or-loop-operand-preserved
+unfolding exclusive_or_parts
+push_exclusive_or-loop-operand-preserved t c = grind (arith, common_steps)
+
+pub push_and-loop-operand-preserved : goal.push_and-loop-operand-preserved
+unfolding and_parts
+push_and-loop-operand-preserved t c = grind (arith, common_steps)
+
+pub push_primary-returns-in_ok-push-in-Name : goal.push_primary-returns-in_ok-push-in-Name
+push_primary-returns-in_ok-push-in-Name t c =
+    rw (c.in-Name.is, primary_parts-name) (pushes-one _ _ _ (Uses AsOperand c.in-Name.name) c.in_ok-push-in-Name.ensures.items refl)
+
+pub push_primary-returns-in_ok-push-in-Literal : goal.push_primary-returns-in_ok-push-in-Literal
+push_primary-returns-in_ok-push-in-Literal t c =
+    rw (c.in-Literal.is, primary_parts-literal)
+    (pushes-one _ _ _ (Plain (spell_literal c.in-Literal.literal)) c.in_ok-push-in-Literal.ensures.items (ap (λ (n : ℕ). Plain n) c.literal_len.ensures))
