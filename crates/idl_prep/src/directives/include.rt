@@ -28,8 +28,7 @@ pub fn include<'b, B: RootBank>(
         root.fault_at(site.file, directive, Code::MalformedInclude)?;
         return Ok(None);
     };
-    let inclusion = included(root, site, directive, &operand)?;
-    Ok(inclusion)
+    included(root, site, directive, &operand)
 }
 
 // The file of the operand, if it is found and may be entered.

@@ -28,13 +28,11 @@ pub fn pragma<B: RootBank>(
     };
     let word = word.as_bytes();
     if is_once(word) {
-        root.mark_once(file)?;
-        return Ok(());
+        return root.mark_once(file);
     }
     if is_of_idl(word) {
         let tokens = directive.tokens().shared()?;
-        root.tell(Item::Kept(Event::Pragma(directive.word_place(file)?, tokens)))?;
-        return Ok(());
+        return root.tell(Item::Kept(Event::Pragma(directive.word_place(file)?, tokens)));
     }
     Ok(())
 }

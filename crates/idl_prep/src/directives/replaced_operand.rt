@@ -26,7 +26,7 @@ pub fn operand_of<B: RootBank>(
         ≡ arrival (B.at macros.now.bank.now) query progress.old) }
 {
     match tokens.split_first() {
-        Some((first, _rest)) => Ok(operand_at(macros, place, first.token(), progress)?),
+        Some((first, _rest)) => operand_at(macros, place, first.token(), progress),
         None => Ok(None),
     }
 }
@@ -56,7 +56,7 @@ fn operand_at<B: RootBank>(
         None => Ok(None),
         Some(_body) => {
             let given = replace_operand(macros, place, from_ref(token), progress)?;
-            Ok(operand_given(&given)?)
+            operand_given(&given)
         }
     }
 }

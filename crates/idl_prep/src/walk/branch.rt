@@ -101,8 +101,7 @@ pub fn end_group<B: RootBank>(
     if !group.is_live {
         return Ok(());
     }
-    root.turn(file, directive)?;
-    Ok(())
+    root.turn(file, directive)
 }
 
 // Whether a branch after the first is taken.

@@ -5,9 +5,11 @@
 //! each file that is entered is explored by who explores, inside the one that includes it. Nothing rests on what is found so:
 //! the expansion asks by itself.
 
-ghost use Rattle.std.specs.Prelude.{◌≡◌, ◌<◌, All, None, IfOk, OnOk, length};
+ghost use Rattle.std.specs.Prelude.{◌≡◌, ◌<◌, [], All, None, IfOk, OnOk, length};
+ghost use Rattle.idl_event.specs.Items.{beginning};
 ghost use Rattle.idl_event.specs.declared.asked.key.RootKey.TheVariants.{File};
 ghost use Rattle.idl_prep.specs.Explore.{StopsAt};
+ghost use Rattle.idl_prep.specs.Root.{absent_files};
 
 use crate::directives::find::{FoundFile, file_named, find};
 use crate::directives::line::{Directive, LineKind, read};
@@ -77,8 +79,8 @@ fn shared_file<B: RootBank>(
     name: &FileName,
     bank: &B,
 ) -> Result<Option<LexedFile>, AllocError> {
-    let mut progress = Progress::new(alloc, Log::new(alloc));
-    let file = file_named(name, bank, &mut progress)?;
+    let mut asking = Asking::new(alloc);
+    let file = file_named(name, bank, &mut asking.progress)?;
     copied(file)
 }
 
@@ -139,8 +141,8 @@ impl<'f> FileWalk<'f> {
         if let Some(open) = self.brought(root, &site)? {
             return Ok(Next::Entered(open));
         }
-        let mut asking = past_limits(root.allocator(), self.name)?;
-        self.walk_lines(root, &site, &mut asking)
+        let mut asking = Asking::past_limits(root.allocator(), self.name)?;
+        self.walk_lines(root, &site, &mut asking.progress)
     }
 
     // The file that the waiting include enters, whose files may have been brought since it was told.
@@ -235,17 +237,6 @@ fn stop_at<B: RootBank>(
     }
 }
 
-// A progress that is past its limits, so that it logs nothing of what is asked.
-fn past_limits<B: RootBank>(alloc: Global, file: &FileName) -> Result<Progress<B>, AllocError> {
-    let mut progress = Progress::new(alloc, Log::new(alloc));
-    let place = Place {
-        file: file.clone()?,
-        line: 0,
-    };
-    progress.tell(Item::TooDeep(place))?;
-    Ok(progress)
-}
-
 // A line that is no text: gives the operand of the include that it is, if it is one that isn't skipped.
 fn walk_one<B: RootBank>(
     root: &mut Root<B>,
@@ -281,6 +272,50 @@ struct Asked<'b> {
     found: Option<FoundFile<'b>>,
 }
 
+// What is asked of a bank by no root: nothing of it is kept.
+struct Asking<B: RootBank> {
+    progress: Progress<B>,
+}
+
+impl<B: RootBank> Drop for Asking<B> {
+    fn drop(self) {
+        let Asking {
+            progress: _progress,
+        } = self;
+    }
+}
+
+impl<B: RootBank> Asking<B> {
+    // Nothing was asked. It takes no memory.
+    fn new(alloc: Global) -> Asking<B>
+        ensures { result.progress ≡ beginning [] }
+    {
+        Asking {
+            progress: Progress::new(alloc, Log::new(alloc)),
+        }
+    }
+
+    // Nothing was asked, and it is past its limits, so that it logs nothing of what is asked.
+    fn past_limits(alloc: Global, file: &FileName) -> Result<Asking<B>, AllocError> {
+        let place = Place {
+            file: file.clone()?,
+            line: 0,
+        };
+        let mut asking = Asking::new(alloc);
+        asking.progress.tell(Item::TooDeep(place))?;
+        Ok(asking)
+    }
+
+    // The files that were asked for and that aren't there.
+    fn absent(self, alloc: Global) -> Result<Vec<Name>, AllocError>
+        ensures { IfOk result (λ names. names.items ≡ absent_files self.progress.log) }
+    {
+        let Asking { progress } = self;
+        let (_events, mut log) = progress.into_parts();
+        absent(alloc, &log.kept::<B>(alloc)?)
+    }
+}
+
 // What an include of this operand asks for.
 fn ask<'b, B: RootBank>(
     root: &Root<B>,
@@ -291,10 +326,9 @@ fn ask<'b, B: RootBank>(
         IfOk result (λ asked. All (λ name. bank (File name) ≡ None) asked.absent.items) }
 {
     let alloc = root.allocator();
-    let mut progress = Progress::new(alloc, Log::new(alloc));
-    let found = find(site.file, operand, site.bank, &mut progress)?;
-    let (_events, mut log) = progress.into_parts();
-    let absent = absent(alloc, &log.kept::<B>(alloc)?)?;
+    let mut asking = Asking::new(alloc);
+    let found = find(site.file, operand, site.bank, &mut asking.progress)?;
+    let absent = asking.absent(alloc)?;
     Ok(Asked { absent, found })
 }
 

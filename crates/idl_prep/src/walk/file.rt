@@ -42,8 +42,7 @@ pub fn walk_file<B: RootBank>(
         enter_file(root, room, inclusion, site.bank)?;
         left = jump(root, &groups, site.file, rest)?;
     }
-    end_file(root, groups, site.file)?;
-    Ok(())
+    end_file(root, groups, site.file)
 }
 
 // A file is entered, if there is one, unless it is too deep, and left when its lines are done.
@@ -61,12 +60,10 @@ fn enter_file<B: RootBank>(
         return Ok(());
     };
     if room == 0 {
-        root.tell(Item::TooDeep(inclusion.place))?;
-        return Ok(());
+        return root.tell(Item::TooDeep(inclusion.into_place()));
     }
     let file = &inclusion.name;
     root.tell(Item::Kept(Event::Entered(file.clone()?)))?;
     walk_file(root, room - 1, &WalkedFile { file, bank }, inclusion.file)?;
-    root.tell(Item::Kept(Event::Left(file.clone()?)))?;
-    Ok(())
+    root.tell(Item::Kept(Event::Left(file.clone()?)))
 }

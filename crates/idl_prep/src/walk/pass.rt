@@ -66,8 +66,7 @@ pub fn walk_texts<B: RootBank>(
     if !is_walked(groups) {
         return Ok(());
     }
-    root.emit(site, tokens)?;
-    Ok(())
+    root.emit(site, tokens)
 }
 
 // A line of text.
@@ -85,8 +84,7 @@ fn walk_text<B: RootBank>(
     if !is_walked(groups) {
         return Ok(());
     }
-    act_text(root, site, tokens)?;
-    Ok(())
+    act_text(root, site, tokens)
 }
 
 // A `#` alone.
@@ -103,8 +101,7 @@ fn walk_bare<B: RootBank>(
     if !is_walked(groups) {
         return Ok(());
     }
-    act_bare(root, file, line)?;
-    Ok(())
+    act_bare(root, file, line)
 }
 
 // A directive.
@@ -121,9 +118,9 @@ fn walk_directive<'b, B: RootBank>(
         ≡ to_come bank enter file groups.old (Directed directive.now ∷ lines) root.old) }
 {
     match directive.kind {
-        DirectiveKind::Alone(what) if is_walked(groups) => Ok(act_directive(
-            root, site, directive, what,
-        )?),
+        DirectiveKind::Alone(what) if is_walked(groups) => {
+            act_directive(root, site, directive, what)
+        }
         DirectiveKind::Alone(_) => Ok(None),
         DirectiveKind::Opening(what) if is_walked(groups) => {
             let group = begin_group(root, site, directive, what)?;

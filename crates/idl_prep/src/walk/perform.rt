@@ -35,8 +35,7 @@ pub fn act_text<B: RootBank>(
         → ended root.new
         ≡ onward bank (effect enter site.now.file.now (Text tokens.now)) root.old) }
 {
-    root.emit(site, tokens)?;
-    Ok(())
+    root.emit(site, tokens)
 }
 
 /// A `#` alone, which isn't skipped.
@@ -70,7 +69,7 @@ pub fn act_directive<'b, B: RootBank>(
 {
     root.turn(site.file, directive)?;
     match what {
-        Plain::Include => Ok(include(root, site, directive)?),
+        Plain::Include => include(root, site, directive),
         Plain::Define => {
             root.define(site, directive)?;
             Ok(None)
@@ -106,6 +105,5 @@ fn act_error<B: RootBank>(
         OnOk result (root.new ≡ telling (Kept fault) root.old) }
 {
     let text = parted(root.allocator(), directive.tokens().as_slice())?;
-    root.fault(directive.place(file)?, Code::Error, &text)?;
-    Ok(())
+    root.fault(directive.place(file)?, Code::Error, &text)
 }

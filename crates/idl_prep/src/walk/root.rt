@@ -225,9 +225,9 @@ impl<B: RootBank> Root<B> {
         let macros = Macros { definitions, bank };
         let progress = &mut self.progress;
         match what {
-            Test::If => Ok(condition(&macros, &stated, progress)?),
-            Test::Ifdef => Ok(ifdef(&macros, &stated, progress)?),
-            Test::Ifndef => Ok(ifndef(&macros, &stated, progress)?),
+            Test::If => condition(&macros, &stated, progress),
+            Test::Ifdef => ifdef(&macros, &stated, progress),
+            Test::Ifndef => ifndef(&macros, &stated, progress),
         }
     }
 
@@ -247,8 +247,7 @@ impl<B: RootBank> Root<B> {
         let definitions = &self.definitions;
         let bank = site.bank;
         let macros = Macros { definitions, bank };
-        let operand = operand_of(&macros, &place, directive.operands(), &mut self.progress)?;
-        Ok(operand)
+        operand_of(&macros, &place, directive.operands(), &mut self.progress)
     }
 
     /// The file that an operand finds.
@@ -282,8 +281,7 @@ impl<B: RootBank> Root<B> {
             &stated,
             site.bank,
             &mut self.progress,
-        )?;
-        Ok(())
+        )
     }
 
     /// `undef`.
@@ -294,8 +292,7 @@ impl<B: RootBank> Root<B> {
             self.old) }
     {
         let stated = directive.stated(file)?;
-        undef(&mut self.definitions, &stated, &mut self.progress)?;
-        Ok(())
+        undef(&mut self.definitions, &stated, &mut self.progress)
     }
 
     /// The file isn't to be entered again.

@@ -94,14 +94,8 @@ fn expand<B: RootBank>(root: &mut Root<B>, file: &FileName, bank: &B) -> Result<
         ≡ reached (B.at bank.now) (spec.root file.now) root.old.progress) }
 {
     match root.file_named(file, bank)? {
-        Some(lexed) => {
-            walk_file(root, MAX_DEPTH - 1, &WalkedFile { file, bank }, lexed)?;
-            Ok(())
-        }
-        None => {
-            fault_absent(root, file)?;
-            Ok(())
-        }
+        Some(lexed) => walk_file(root, MAX_DEPTH - 1, &WalkedFile { file, bank }, lexed),
+        None => fault_absent(root, file),
     }
 }
 
@@ -115,8 +109,7 @@ fn fault_absent<B: RootBank>(root: &mut Root<B>, file: &FileName) -> Result<(), 
         file: file.clone()?,
         line: 0,
     };
-    root.fault(place, Code::NotFound, &text)?;
-    Ok(())
+    root.fault(place, Code::NotFound, &text)
 }
 
 /// The files that a root asked for and that aren't there, in the order in which they were first asked.

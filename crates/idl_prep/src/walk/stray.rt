@@ -30,8 +30,7 @@ pub fn stray_inside<B: RootBank>(
         → to_come bank enter file (group.now ∷ groups) lines root.new
         ≡ to_come bank enter file (group.now ∷ groups) (Directed directive.now ∷ lines) root.old) }
 {
-    stray(root, group.is_active, file, directive)?;
-    Ok(())
+    stray(root, group.is_active, file, directive)
 }
 
 /// A group would go on or end where none is open.
@@ -45,8 +44,7 @@ pub fn stray_outside<B: RootBank>(
         → to_come bank enter file.now [] lines root.new
         ≡ to_come bank enter file.now [] (Directed directive.now ∷ lines) root.old) }
 {
-    stray(root, true, file, directive)?;
-    Ok(())
+    stray(root, true, file, directive)
 }
 
 // A directive that is out of place, in lines that are walked or skipped.

@@ -1,4 +1,5 @@
 use Rattle.std.proofs.Common.{Option, None, Some, ap, sym, ◌∙◌}
+use Rattle.std.proofs.lemmas.Result.{IfOk-weaker}
 use Rattle.idl_event.specs.Expanding.{arrived}
 use Rattle.idl_prep.specs.Include.{Operand}
 use Rattle.idl_prep.specs.State.{ended}
@@ -14,9 +15,9 @@ returns-in_default g c = λ enter.
     ∙ onward-including (g.B.Bank.at site.bank.now) enter site.file.now c.args.directive.now None c.args.root.now first c.in_ok-operand.ensures.state read
 
 pub returns : goal.returns
-returns g c = λ enter.
+returns g c = IfOk-weaker c.included.result _ _ (λ _ came enter.
     let site = c.args.site.now in
     let first = c.operand_of.new.self in
     let read = ap (λ (o : Option Operand). arrived o first.progress) (sym c.in-Some.is) ∙ c.in_ok-operand.ensures.arrival in
-    c.in_ok-inclusion.ensures enter
-    ∙ onward-including (g.B.Bank.at site.bank.now) enter site.file.now c.args.directive.now (Some c.in-Some.operand) c.args.root.now first c.in_ok-operand.ensures.state read
+    came enter
+    ∙ onward-including (g.B.Bank.at site.bank.now) enter site.file.now c.args.directive.now (Some c.in-Some.operand) c.args.root.now first c.in_ok-operand.ensures.state read) c.included.ensures

@@ -1,4 +1,5 @@
 use Rattle.std.proofs.Common.{◌≡◌, ℕ, List, Option, None, Some, ap, sym, ◌∙◌}
+use Rattle.std.proofs.lemmas.Result.{IfOk-weaker}
 use Rattle.std.specs.Option.{option_copied}
 use Rattle.idl_event.specs.Expanding.{arrival, arrived}
 use Rattle.idl_lex.specs.tokens.Tokens.{Token}
@@ -22,8 +23,8 @@ returns-in-None g c =
     ∙ c.in_ok-macro_of.ensures ∙ ap (λ (w : List ℕ). arrival bank (macro_of definitions w) p) c.spelling.ensures in
     arrival-operand_at-word bank c.args.place.now definitions t None p mid none word came
 
-pub returns-in_ok-operand_given-in-Some-2 : goal.returns-in_ok-operand_given-in-Some-2
-returns-in_ok-operand_given-in-Some-2 g c =
+pub returns-in_ok-given-in-Some-2 : goal.returns-in_ok-given-in-Some-2
+returns-in_ok-given-in-Some-2 g c = IfOk-weaker c.operand_given.result _ _ (λ _ is.
     let bank = g.B.Bank.at c.args.macros.now.bank.now in
     let place = c.args.place.now in
     let definitions = c.args.macros.now.definitions.now in
@@ -38,7 +39,7 @@ returns-in_ok-operand_given-in-Some-2 g c =
     let came : arrived (Some body) mid ≡ arrival bank (macro_of definitions t) p =
     ap (λ o. arrived (option_copied o) mid) (sym c.in-Some-2.is)
     ∙ c.in_ok-macro_of.ensures ∙ ap (λ (w : List ℕ). arrival bank (macro_of definitions w) p) c.spelling.ensures in
-    ap (λ (o : Option Operand). arrived o new) (c.in_ok-operand_given-in-Some-2.ensures ∙ ap operand_given c.deref.ensures.value)
+    ap (λ (o : Option Operand). arrived o new) (is ∙ ap operand_given c.deref.ensures.value)
     ∙ arrived-operand_by bank place definitions t body given mid new
     (c.in_ok-given-in-Some-2.ensures ∙ ap (λ (ts : List Token). arrival bank (operand place definitions ts) mid) c.from_ref.ensures.value)
-    ∙ arrival-operand_at-word bank place definitions t (Some body) p mid none word came
+    ∙ arrival-operand_at-word bank place definitions t (Some body) p mid none word came) c.operand_given.ensures

@@ -1,9 +1,11 @@
 use Rattle.idl_memo.specs.Query.{and_then}
 use Rattle.std.proofs.Common.{◌≡◌, ◌<◌, ◌-◌, [], suc, length, ◌+◌, map, refl, ap, sym, ◌∙◌, arith}
 use Rattle.std.proofs.lemmas.List.{length-append}
+use Rattle.std.proofs.lemmas.Result.{IfOk-weaker}
 use Rattle.idl_lex.specs.tokens.Tokens.{lines_of}
 use Rattle.idl_event.specs.declared.told.event.Event.TheVariants.{Entered, Left}
-use Rattle.idl_event.specs.declared.told.event.Item.TheVariants.{Kept}
+use Rattle.idl_event.specs.declared.told.event.Item.TheVariants.{Kept, TooDeep}
+use Rattle.idl_fault.specs.declared.place.Place.{Place}
 use Rattle.idl_text.specs.Line.{read}
 use Rattle.idl_text.specs.Tree.{part}
 use Rattle.idl_prep.specs.Pass.{coming, entered, to_come}
@@ -17,8 +19,10 @@ pub enter_file-returns-then-room-eq0 : goal.enter_file-returns-then-room-eq0
 enter_file-returns-then-room-eq0 g t c =
     let i = c.in-Some.inclusion in
     let bank = g.B.Bank.at c.args.bank.now in
-    onward-too_deep bank c.args.room i.place i.name i.file.now c.args.root.now c.tell.new.self c.if-room-eq0.true c.in_ok-tell.ensures
-    ∙ ap (λ found. onward bank (entered (enter c.args.room) found) c.args.root.now) (sym c.in-Some.is)
+    IfOk-weaker c.tell.result _ _ (λ _ told.
+    onward-too_deep bank c.args.room i.place i.name i.file.now c.args.root.now c.tell.new.self c.if-room-eq0.true
+    (told ∙ ap (λ (place : Place). telling (TooDeep place) c.args.root.now) c.into_place.ensures)
+    ∙ ap (λ found. onward bank (entered (enter c.args.room) found) c.args.root.now) (sym c.in-Some.is)) c.tell.ensures
 
 pub enter_file-walk_file-requires : goal.enter_file-walk_file-requires
 enter_file-walk_file-requires g t c κs within = (omega (arith, c.if-room-eq0.false), within)
@@ -29,10 +33,11 @@ enter_file-returns g t c =
     let bank = g.B.Bank.at c.args.bank.now in
     let room = c.args.room in
     let more : room ≡ suc (room - 1) = omega (arith, c.if-room-eq0.false) in
+    IfOk-weaker c.tell-3.result _ _ (λ _ left.
     onward-enter bank room (room - 1) i.place i.name i.file.now c.args.root.now c.tell-2.new.self c.walk_file.new.root c.tell-3.new.self more
-    (c.in_ok-tell-2.ensures ∙ ap (λ f. telling (Kept (Entered f)) c.args.root.now) c.in_ok-clone.ensures.cases) c.in_ok-walk_file.ensures
-    (c.in_ok-tell-3.ensures ∙ ap (λ f. telling (Kept (Left f)) c.walk_file.new.root) c.in_ok-clone-2.ensures.cases)
-    ∙ ap (λ found. onward bank (entered (enter room) found) c.args.root.now) (sym c.in-Some.is)
+    (c.in_ok-tell.ensures ∙ ap (λ f. telling (Kept (Entered f)) c.args.root.now) c.in_ok-clone.ensures.cases) c.in_ok-walk_file.ensures
+    (left ∙ ap (λ f. telling (Kept (Left f)) c.walk_file.new.root) c.in_ok-clone-2.ensures.cases)
+    ∙ ap (λ found. onward bank (entered (enter room) found) c.args.root.now) (sym c.in-Some.is)) c.tell-3.ensures
 
 pub walk_file-lines-init : goal.walk_file-lines-init
 walk_file-lines-init g t c =
@@ -97,6 +102,7 @@ pub walk_file-returns : goal.walk_file-returns
 walk_file-returns g t c =
     let bank = g.B.Bank.at c.args.site.now.bank.now in
     let next = enter c.args.room in
-    c.in_ok-end_file.ensures next bank
+    IfOk-weaker c.end_file.result _ _ (λ _ closed.
+    closed next bank
     ∙ sym (to_come-no_line bank next c.args.site.now.file.now c.lines.groups c.lines.left c.lines.root (c.lines-test.ensures.0 refl))
-    ∙ c.lines.invariant
+    ∙ c.lines.invariant) c.end_file.ensures

@@ -1,4 +1,5 @@
 use Rattle.std.proofs.Common.{◌≡◌, ◌∷◌, ap, sym, ◌∙◌}
+use Rattle.std.proofs.lemmas.Result.{IfOk-weaker}
 use Rattle.idl_text.specs.Line.{Directive, Directed}
 use Rattle.idl_text.specs.Tree.{part}
 use Rattle.idl_text.specs.declared.groups.kind.DirectiveKind.TheVariants.{Alone, Opening}
@@ -7,14 +8,14 @@ use Rattle.idl_prep.specs.Pass.{entered}
 use Rattle.idl_prep.proofs.WalkLaws.WalkLemmas.{to_come-act_first, to_come-opening-skipped, to_come-skipped}
 use Rattle.idl_prep.proofs.walk.pass.walk_directive.Goals as goal
 
-pub returns-in_ok-act_directive-in-Alone : goal.returns-in_ok-act_directive-in-Alone
-returns-in_ok-act_directive-in-Alone g c = λ enter lines.
+pub returns-in-Alone : goal.returns-in-Alone
+returns-in-Alone g c = IfOk-weaker c.act_directive.result _ _ (λ inclusion acted enter lines.
     let site = c.args.site.now in
     let d = c.args.directive.now in
     let alone : d.kind ≡ Alone c.in-Alone.what = ap (λ (d : Directive). d.kind) (sym c.directive.view_is) ∙ c.in-Alone.is in
     to_come-act_first (g.B.Bank.at site.bank.now) enter site.file.now c.args.groups.now (Directed d) lines (before-alone d c.in-Alone.what (part lines) alone)
-    (entered enter c.in_ok-act_directive-in-Alone.field-0) c.args.root.now c.act_directive.new.root (sym c.is_walked.ensures ∙ c.if-is_walked.true)
-    (c.in_ok-act_directive-in-Alone.ensures enter)
+    (entered enter inclusion) c.args.root.now c.act_directive.new.root (sym c.is_walked.ensures ∙ c.if-is_walked.true)
+    (acted enter)) c.act_directive.ensures
 
 pub returns-in-Alone-2 : goal.returns-in-Alone-2
 returns-in-Alone-2 g c = λ enter lines.

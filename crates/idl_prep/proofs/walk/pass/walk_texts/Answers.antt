@@ -1,4 +1,5 @@
 use Rattle.std.proofs.Common.{◌∙◌, List, ap, sym}
+use Rattle.std.proofs.lemmas.Result.{IfOk-weaker}
 use Rattle.idl_text.proofs.TextLemmas.{lines_of-joined}
 use Rattle.idl_lex.specs.tokens.Tokens.{lines_of}
 use Rattle.idl_lex.specs.declared.tokens.token.PlacedToken.{PlacedToken}
@@ -12,10 +13,10 @@ returns-then-not-is_walked g c = λ enter lines.
     (sym c.is_walked.ensures ∙ c.if-not-is_walked.true)
 
 pub returns : goal.returns
-returns g c = λ enter lines.
+returns g c = IfOk-weaker c.emit.result _ _ (λ _ emitted enter lines.
     let bank = g.B.Bank.at c.args.site.now.bank.now in
     let file = c.args.site.now.file.now in
     let way = c.args.root.now in
     ap (to_come bank enter file c.args.groups.now lines)
-    (c.in_ok-emit.ensures ∙ ap (λ (ts : List PlacedToken). texted bank enter file ts way) (sym (lines_of-joined c.args.tokens.now)))
-    ∙ to_come-texts bank enter file c.args.groups.now lines (lines_of c.args.tokens.now) way (sym c.is_walked.ensures ∙ c.if-not-is_walked.false)
+    (emitted ∙ ap (λ (ts : List PlacedToken). texted bank enter file ts way) (sym (lines_of-joined c.args.tokens.now)))
+    ∙ to_come-texts bank enter file c.args.groups.now lines (lines_of c.args.tokens.now) way (sym c.is_walked.ensures ∙ c.if-not-is_walked.false)) c.emit.ensures

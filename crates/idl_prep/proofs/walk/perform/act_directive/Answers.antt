@@ -1,13 +1,14 @@
 use Rattle.std.proofs.Common.{refl, ap}
+use Rattle.std.proofs.lemmas.Result.{IfOk-weaker}
 use Rattle.idl_text.specs.declared.groups.kind.Plain.TheVariants.{Include, Define, Undef, Error, Pragma, Ignored, Unknown}
 use Rattle.idl_prep.specs.State.{ended}
 use Rattle.idl_prep.proofs.DirectiveLemmas.{acted}
 use Rattle.idl_prep.proofs.walk.perform.act_directive.Goals as goal
 
-pub returns-in_ok-include-in-Include : goal.returns-in_ok-include-in-Include
-returns-in_ok-include-in-Include g c = λ enter.
+pub returns-in-Include : goal.returns-in-Include
+returns-in-Include g c = IfOk-weaker c.include.result _ _ (λ _ came enter.
     let bank = g.B.Bank.at c.args.site.now.bank.now in
-    acted bank enter c.args.site.now.file.now c.args.directive.now c.args.what Include c.args.root.now c.turn.new.self _ c.requires c.in-Include.is c.in_ok-turn.ensures (c.in_ok-include-in-Include.ensures enter)
+    acted bank enter c.args.site.now.file.now c.args.directive.now c.args.what Include c.args.root.now c.turn.new.self _ c.requires c.in-Include.is c.in_ok-turn.ensures (came enter)) c.include.ensures
 
 pub returns-in_ok-define-in-Define : goal.returns-in_ok-define-in-Define
 returns-in_ok-define-in-Define g c = λ enter.

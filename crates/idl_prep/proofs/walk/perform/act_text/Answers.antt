@@ -1,4 +1,5 @@
 use Rattle.std.proofs.Common.{ap, sym, ◌∙◌}
+use Rattle.std.proofs.lemmas.Result.{IfOk-weaker}
 use Rattle.idl_memo.specs.Query.{Done}
 use Rattle.idl_macro.specs.Replace.{text}
 use Rattle.idl_prep.specs.Directive.{effect}
@@ -8,8 +9,8 @@ use Rattle.idl_prep.proofs.walk.perform.act_text.Goals as goal
 
 pub returns : goal.returns
 unfolding effect
-returns g c = λ enter.
+returns g c = IfOk-weaker c.emit.result _ _ (λ _ emitted enter.
     let way = c.args.root.now in
     let bank = g.B.Bank.at c.args.site.now.bank.now in
-    ap ended c.in_ok-emit.ensures
-    ∙ sym (arrival-and_then bank (text c.args.site.now.file.now way.state.definitions c.args.tokens.now) (λ _. Done way.state) way.progress)
+    ap ended emitted
+    ∙ sym (arrival-and_then bank (text c.args.site.now.file.now way.state.definitions c.args.tokens.now) (λ _. Done way.state) way.progress)) c.emit.ensures
