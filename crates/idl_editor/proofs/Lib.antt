@@ -2,3 +2,10 @@ pub mod ColumnLemmas
 pub mod CutLemmas
 pub mod PositionLemmas
 pub mod SpliceLemmas
+pub mod HeadLemmas
+pub mod MessageLemmas
+pub mod ReadingLemmas
+pub mod WrittenLemmas
+pub mod DigitLemmas
+pub mod UriLemmas
+pub mod FolderLemmas

@@ -5,9 +5,12 @@
 
 mod change;
 mod column;
+pub mod frames;
 mod laws;
+pub mod messages;
 mod position;
 mod splice;
+pub mod uris;
 
 pub use change::{Change, Changed, Range, after_change};
 pub use column::{Encoding, column_of, units_of};

@@ -10,9 +10,9 @@ use Rattle.serde_json.specs.Data.{Data, null}
 use Rattle.serde_json.specs.Read.{read}
 use Rattle.serde_json.specs.View.{items_of, items_view, view}
 use Rattle.serde_json.specs.declared.value.Value.{Value, Null, the_lemmas}
-use Rattle.idl_messages.specs.Message.{id_in, method_in, params_in, seen}
-use Rattle.idl_messages.specs.Params.{both, told_in}
-use Rattle.idl_messages.specs.declared.method.Method.{Method}
+use Rattle.idl_editor.specs.messages.Message.{id_in, method_in, params_in, seen}
+use Rattle.idl_editor.specs.messages.Params.{both, told_in}
+use Rattle.idl_editor.specs.declared.messages.method.Method.{Method}
 use Rattle.idl_server.specs.Documents.{AreSameBeside, HaveTexts, TextChange, Told, texts_of, with_text}
 use Rattle.idl_server.specs.Files.{IsKept}
 use Rattle.idl_server.specs.Notices.{all_changes, json_of, told_by_message, told_by_notice}
@@ -22,7 +22,7 @@ use Rattle.idl_server.specs.declared.server.Phase.{Phase}
 use Rattle.idl_server.specs.declared.server.Phase.TheVariants.{Running, ShutDown, Waiting}
 use Rattle.idl_server.specs.declared.server.Server.{Server}
 use Rattle.idl_server.specs.declared.workspace.Workspace.{Workspace}
-use Rattle.idl_uri.specs.Folders.{FolderNamed}
+use Rattle.idl_editor.specs.uris.Folders.{FolderNamed}
 use Rattle.idl_server.proofs.HeldLemmas.{held-after, held-same}
 use Rattle.idl_server.proofs.WorkspaceLemmas.{set-both, set-kept}
 

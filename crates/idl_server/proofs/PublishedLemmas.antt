@@ -5,8 +5,8 @@ use Rattle.std.proofs.lemmas.List.Elements.{All-append, All-cons, All-nil}
 use Rattle.std.specs.Prelude.{codes}
 use Rattle.std.specs.Result.{OnOk}
 use Rattle.serde_json.specs.Data.{Data, member, no_members, object, string}
-use Rattle.idl_messages.specs.Answers.{answer_json, error_json, notice_json}
-use Rattle.idl_messages.specs.declared.answer.ErrorCode.{ErrorCode}
+use Rattle.idl_editor.specs.messages.Answers.{answer_json, error_json, notice_json}
+use Rattle.idl_editor.specs.declared.messages.answer.ErrorCode.{ErrorCode}
 use Rattle.idl_server.specs.Diagnostics.{AreDiagnostics}
 use Rattle.idl_server.specs.Uris.{uri_for}
 use Rattle.idl_server.specs.declared.workspace.Workspace.{Workspace}

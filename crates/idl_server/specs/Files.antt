@@ -9,8 +9,8 @@ use Rattle.idl_project.specs.Bank.{IsSameBeside}
 use Rattle.idl_project.specs.Compile.{compiled_root}
 use Rattle.idl_program.specs.Holding.{Holding, NoFile, Allows}
 use Rattle.idl_program.specs.Loading.{IsFileOf}
-use Rattle.idl_uri.specs.Folders.{FolderNamed, name_of, named, path_for}
-use Rattle.idl_uri.specs.Uri.{path_of}
+use Rattle.idl_editor.specs.uris.Folders.{FolderNamed, name_of, named, path_for}
+use Rattle.idl_editor.specs.uris.Uri.{path_of}
 use Rattle.idl_server.specs.Documents.{AreSameBeside}
 use Rattle.idl_server.specs.Roots.{AddsNoRoot}
 use Rattle.idl_server.specs.declared.document.Document.{Document}

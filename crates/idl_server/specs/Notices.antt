@@ -4,11 +4,11 @@ use Rattle.std.specs.Option.{option_map}
 use Rattle.std.specs.Str.{is_utf8}
 use Rattle.serde_json.specs.Data.{Data, Items, no_items, item, null}
 use Rattle.serde_json.specs.Read.{read}
-use Rattle.idl_messages.specs.Message.{id_in, method_in, params_in}
-use Rattle.idl_messages.specs.Params.{both, changes_in, told_in, uri_in}
-use Rattle.idl_messages.specs.declared.method.Method.{Method}
-use Rattle.idl_messages.specs.declared.method.Method.TheVariants.{Initialize, Initialized, Shutdown, Exit, Cancel, DidOpen, DidChange, DidClose, DidSave, DidChangeWatchedFiles, DocumentSymbol, Definition, Hover, Unknown}
-use Rattle.idl_uri.specs.Folders.{FolderNamed}
+use Rattle.idl_editor.specs.messages.Message.{id_in, method_in, params_in}
+use Rattle.idl_editor.specs.messages.Params.{both, changes_in, told_in, uri_in}
+use Rattle.idl_editor.specs.declared.messages.method.Method.{Method}
+use Rattle.idl_editor.specs.declared.messages.method.Method.TheVariants.{Initialize, Initialized, Shutdown, Exit, Cancel, DidOpen, DidChange, DidClose, DidSave, DidChangeWatchedFiles, DocumentSymbol, Definition, Hover, Unknown}
+use Rattle.idl_editor.specs.uris.Folders.{FolderNamed}
 use Rattle.idl_server.specs.Documents.{Changed, Closed, Opened, TextChange, Told}
 use Rattle.idl_server.specs.Files.{name_for}
 use Rattle.idl_server.specs.Params.{opened_text}

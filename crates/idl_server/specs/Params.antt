@@ -2,7 +2,7 @@
 use Rattle.std.specs.Prelude.{ℕ, List, codes, Option, None, Some, option_and_then, unwrap_or}
 use Rattle.serde_json.specs.Data.{Data, Items, no_items}
 use Rattle.serde_json.specs.Find.{as_array, get}
-use Rattle.idl_messages.specs.Fields.{text_at}
+use Rattle.idl_editor.specs.messages.Fields.{text_at}
 
 -- the text of a document that is opened
 abbrev pub opened_text : Data → Option (List ℕ)

@@ -1,7 +1,7 @@
 -- What is told of what is found.
 use Rattle.std.specs.Prelude.{◌≡◌, ◌++◌, ℕ, List, All, codes}
 use Rattle.serde_json.specs.Data.{Data, member, no_members, object, string}
-use Rattle.idl_messages.specs.Answers.{notice_json}
+use Rattle.idl_editor.specs.messages.Answers.{notice_json}
 use Rattle.idl_server.specs.Diagnostics.{AreDiagnostics}
 use Rattle.idl_server.specs.Uris.{uri_for}
 use Rattle.idl_server.specs.declared.workspace.Workspace.{Workspace}

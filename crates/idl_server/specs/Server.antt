@@ -3,7 +3,7 @@ use Rattle.std.specs.Prelude.{◌≡◌, ℕ, List, [], Option, None, option_and
 use Rattle.std.specs.FinMap as finite
 use Rattle.idl_program.specs.Holding.{Holding}
 use Rattle.idl_project.specs.Project.{Inputs, Project}
-use Rattle.idl_uri.specs.Folders.{FolderNamed}
+use Rattle.idl_editor.specs.uris.Folders.{FolderNamed}
 use Rattle.idl_server.specs.Documents.{HaveTexts, OnlyRefusedAreBehind, Open, Told, open_after_told, texts_of}
 use Rattle.idl_server.specs.Files.{AreFiled, AreTried, StaysSet, told_by}
 use Rattle.idl_server.specs.Notices.{json_of, told_by_message}

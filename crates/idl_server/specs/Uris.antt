@@ -2,8 +2,8 @@
 use Rattle.std.specs.Prelude.{ℕ, List, None, Some, string_bytes, unwrap_or}
 use Rattle.std.specs.Map.{lookup}
 use Rattle.std.specs.Str.{bytes_eq}
-use Rattle.idl_uri.specs.Folders.{path_for}
-use Rattle.idl_uri.specs.Uri.{uri_of}
+use Rattle.idl_editor.specs.uris.Folders.{path_for}
+use Rattle.idl_editor.specs.uris.Uri.{uri_of}
 use Rattle.idl_server.specs.declared.workspace.Workspace.{Workspace}
 
 -- the URI of a file: the editor's own of a document that is open, and else that of its path

@@ -5,10 +5,10 @@ ghost use Rattle.idl_server.specs.Server.{OnlySets};
 use crate::params::items_at;
 use crate::workspace::Workspace;
 use idl_editor::Encoding;
-use idl_messages::text_at;
+use idl_editor::messages::text_at;
+use idl_editor::uris::{Folders, path_of};
 use idl_source::path::{directory_at, is_rooted};
 use idl_source::{Directory, Line, Refusal, first_part};
-use idl_uri::{Folders, path_of};
 use serde_json::{Value, json};
 use std::alloc::AllocError;
 

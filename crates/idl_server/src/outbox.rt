@@ -2,10 +2,10 @@
 
 ghost use Rattle.std.specs.Prelude.{◌≡◌, ◌++◌, ◌∷◌, [], OnOk};
 ghost use Rattle.serde_json.specs.View.{view};
-ghost use Rattle.idl_messages.specs.Answers.{answer_json, error_json, notice_json};
+ghost use Rattle.idl_editor.specs.messages.Answers.{answer_json, error_json, notice_json};
 ghost use Rattle.idl_server.specs.Json.{said_by};
 
-use idl_messages::{ErrorCode, answer_value, error_value, notice_value};
+use idl_editor::messages::{ErrorCode, answer_value, error_value, notice_value};
 use serde_json::Value;
 use std::alloc::{AllocError, Global};
 

@@ -5,7 +5,7 @@ ghost use Rattle.std.specs.Option.{option_copied};
 ghost use Rattle.serde_json.specs.View.{items_view, view};
 ghost use Rattle.idl_server.specs.Params.{items_at, items_of, opened_text};
 
-use idl_messages::text_at;
+use idl_editor::messages::text_at;
 use serde_json::Value;
 
 /// The text of a document that is opened.

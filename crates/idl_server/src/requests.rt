@@ -2,7 +2,7 @@
 
 use crate::named::Spot;
 use crate::workspace::Workspace;
-use idl_messages::{ErrorCode, Method, position_at};
+use idl_editor::messages::{ErrorCode, Method, position_at};
 use idl_source::Name;
 use serde_json::Value;
 use std::alloc::AllocError;

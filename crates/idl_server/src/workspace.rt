@@ -7,9 +7,9 @@ ghost use Rattle.idl_server.specs.Uris.{uri_for};
 
 use crate::document::Document;
 use idl_editor::Encoding;
+use idl_editor::uris::{Folders, path_of, uri_of};
 use idl_project::Session;
 use idl_source::{Name, Refusal};
-use idl_uri::{Folders, path_of, uri_of};
 use indexmap::{IndexMap, IndexSet};
 use std::alloc::{AllocError, Global};
 

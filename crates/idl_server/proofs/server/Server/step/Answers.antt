@@ -1,8 +1,8 @@
 use Rattle.std.proofs.Common.{◌≡◌, ◌∙◌, None, Option, ap, subst, sym, true≢false}
 use Rattle.serde_json.specs.View.{view}
 use Rattle.serde_json.specs.declared.value.Value.{Null}
-use Rattle.idl_messages.specs.declared.answer.ErrorCode.TheVariants.{NoJson}
-use Rattle.idl_messages.specs.Message.{seen}
+use Rattle.idl_editor.specs.declared.messages.answer.ErrorCode.TheVariants.{NoJson}
+use Rattle.idl_editor.specs.messages.Message.{seen}
 use Rattle.idl_server.specs.Documents.{Told}
 use Rattle.idl_server.specs.Notices.{told_by_notice}
 use Rattle.idl_server.specs.Server.{HasTaken, if_running, told_to}

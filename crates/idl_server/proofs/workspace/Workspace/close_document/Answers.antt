@@ -1,5 +1,5 @@
 use Rattle.std.proofs.Common.{◌∙◌, List, refl, sym, subst, true≢false}
-use Rattle.idl_uri.specs.Folders.{FolderNamed}
+use Rattle.idl_editor.specs.uris.Folders.{FolderNamed}
 use Rattle.idl_server.specs.Files.{IsClosed, told_by}
 use Rattle.idl_server.proofs.FileLemmas.{lost, same-self}
 use Rattle.idl_server.proofs.WorkspaceLemmas.{beside-both, beside-edited, beside-filed, text-none}

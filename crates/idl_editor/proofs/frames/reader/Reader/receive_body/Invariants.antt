@@ -1,0 +1,16 @@
+use Rattle.std.proofs.Common.{◌≡◌, ◌≤◌}
+use Rattle.idl_source.specs.devices.Device.{prepend}
+use Rattle.idl_editor.specs.frames.Heads.{IsHeadAt}
+use Rattle.idl_editor.specs.frames.Reading.{fuel}
+use Rattle.idl_editor.proofs.frames.reader.Reader.receive_body.Given as goal
+
+abbrev pub invariant-pieces : goal.invariant-pieces
+invariant-pieces g l = record {
+  same : prepend l.self (g.S.Source.remaining l.source) ≡ prepend l.fn.self (g.S.Source.remaining l.fn.source);
+  head : IsHeadAt l.self l.len l.count;
+  nearer : fuel (g.S.Source.reads_left l.source) l.self ≤ fuel (g.S.Source.reads_left l.fn.source) l.fn.self;
+  failures : g.S.Source.failures l.source ≡ g.S.Source.failures l.fn.source;
+}
+
+abbrev pub decreases-pieces : goal.decreases-pieces
+decreases-pieces g l = fuel (g.S.Source.reads_left l.source) l.self

@@ -1,0 +1,15 @@
+//! What an editor and a language server say to each other: requests, notices and answers, as values of JSON.
+//!
+//! Nothing here reads a stream, and nothing does what a message asks for.
+
+mod answer;
+mod fields;
+mod message;
+mod method;
+mod params;
+
+pub use answer::{ErrorCode, answer_value, error_value, notice_value};
+pub use fields::text_at;
+pub use message::{Message, message_of};
+pub use method::{Method, method_of};
+pub use params::{change_of, changes_of, position_at, uri_of};

@@ -1,7 +1,0 @@
-use Rattle.std.proofs.Common.{rules}
-use Rattle.idl_frames.specs.Message.{is_length}
-use Rattle.idl_frames.proofs.head.is_length.Goals as goal
-
-pub returns : goal.returns
-unfolding is_length
-returns c = search rules

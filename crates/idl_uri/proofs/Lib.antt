@@ -1,2 +1,0 @@
-pub mod UriLemmas
-pub mod FolderLemmas
