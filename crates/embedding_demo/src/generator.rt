@@ -1,10 +1,10 @@
 //! What a generator of C makes of the details of a root. It is the second example of docs/EMBEDDING.md.
 
-use idl_details::{
+use idl_entity::{Layer, Unvalued};
+use idl_repo::details::{
     ElementTree, MemberTree, OperationTree, ParameterTree, RowDetails, RowTree, TypeCodeParts,
     TypeTree,
 };
-use idl_entity::{Layer, Unvalued};
 use idl_session::{Details, Session};
 use idl_source::cut;
 use idl_value::{ConstantType, IntegerKind};

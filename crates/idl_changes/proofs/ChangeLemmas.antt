@@ -14,7 +14,7 @@ use Rattle.idl_changes.specs.declared.change.Weight.{Weight}
 use Rattle.idl_changes.specs.declared.change.Weight.TheVariants.{Breaks, Names}
 use Rattle.idl_changes.proofs.AllLemmas.{All-back, All-front, All-unmap}
 use Rattle.idl_changes.proofs.DifferenceLemmas.{Bars, same-details, same-nameless, same-parameter, same-text, with-own}
-use Rattle.idl_details.specs.declared.row_tree.RowTree.{RowTree}
+use Rattle.idl_repo.specs.declared.details.row_tree.RowTree.{RowTree}
 use Rattle.idl_entity.specs.Kind.{kind_eq, same_kind}
 use Rattle.idl_repo.specs.Row.{kind_word}
 

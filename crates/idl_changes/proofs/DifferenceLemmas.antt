@@ -13,21 +13,21 @@ use Rattle.idl_changes.specs.declared.change.Difference.{Difference}
 use Rattle.idl_changes.specs.declared.change.Weight.{Weight}
 use Rattle.idl_changes.specs.declared.change.Weight.TheVariants.{Breaks, Names}
 use Rattle.idl_changes.proofs.SetLemmas.{one-set}
-use Rattle.idl_details.specs.Same.{same_type_tree, type_tree_eq}
-use Rattle.idl_details.specs.declared.row_tree.AttributeTree.{AttributeTree}
-use Rattle.idl_details.specs.declared.row_tree.ConstantTree.{ConstantTree}
-use Rattle.idl_details.specs.declared.row_tree.DeclaredType.{DeclaredType}
-use Rattle.idl_details.specs.declared.row_tree.OperationTree.{OperationTree}
-use Rattle.idl_details.specs.declared.row_tree.ParameterTree.{ParameterTree}
-use Rattle.idl_details.specs.declared.row_tree.RowDetails.{RowDetails}
-use Rattle.idl_details.specs.declared.row_tree.RowDetails.TheVariants as row
-use Rattle.idl_details.specs.declared.type_code_tree.CaseTree.{CaseTree}
-use Rattle.idl_details.specs.declared.type_code_tree.MemberTree.{MemberTree}
-use Rattle.idl_details.specs.declared.type_code_tree.TypeCodeParts.{TypeCodeParts}
-use Rattle.idl_details.specs.declared.type_code_tree.TypeCodeParts.TheVariants as parts
-use Rattle.idl_details.specs.declared.type_code_tree.TypeCodeTree.{TypeCodeTree}
-use Rattle.idl_details.specs.declared.type_code_tree.UnionTree.{UnionTree}
-use Rattle.idl_details.specs.declared.type_tree.TypeTree.{TypeTree}
+use Rattle.idl_repo.specs.details.Same.{same_type_tree, type_tree_eq}
+use Rattle.idl_repo.specs.declared.details.row_tree.AttributeTree.{AttributeTree}
+use Rattle.idl_repo.specs.declared.details.row_tree.ConstantTree.{ConstantTree}
+use Rattle.idl_repo.specs.declared.details.row_tree.DeclaredType.{DeclaredType}
+use Rattle.idl_repo.specs.declared.details.row_tree.OperationTree.{OperationTree}
+use Rattle.idl_repo.specs.declared.details.row_tree.ParameterTree.{ParameterTree}
+use Rattle.idl_repo.specs.declared.details.row_tree.RowDetails.{RowDetails}
+use Rattle.idl_repo.specs.declared.details.row_tree.RowDetails.TheVariants as row
+use Rattle.idl_repo.specs.declared.details.type_code_tree.CaseTree.{CaseTree}
+use Rattle.idl_repo.specs.declared.details.type_code_tree.MemberTree.{MemberTree}
+use Rattle.idl_repo.specs.declared.details.type_code_tree.TypeCodeParts.{TypeCodeParts}
+use Rattle.idl_repo.specs.declared.details.type_code_tree.TypeCodeParts.TheVariants as parts
+use Rattle.idl_repo.specs.declared.details.type_code_tree.TypeCodeTree.{TypeCodeTree}
+use Rattle.idl_repo.specs.declared.details.type_code_tree.UnionTree.{UnionTree}
+use Rattle.idl_repo.specs.declared.details.type_tree.TypeTree.{TypeTree}
 
 -- a test that bars differences of a weight
 abbrev pub Bars : (Difference → Type 0) → Weight → Type 0

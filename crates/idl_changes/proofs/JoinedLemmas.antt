@@ -13,7 +13,7 @@ use Rattle.idl_changes.specs.Joined.{joined, joined_behind, of_id, partner}
 use Rattle.idl_changes.specs.Numbered.{AreCounts, ArePlaces, numbered_eq, place_of}
 use Rattle.idl_changes.specs.declared.change.Change.{Change}
 use Rattle.idl_changes.specs.declared.joined.Numbered.{Numbered}
-use Rattle.idl_details.specs.declared.row_tree.RowTree.{RowTree}
+use Rattle.idl_repo.specs.declared.details.row_tree.RowTree.{RowTree}
 
 -- ---- one entry more
 

@@ -14,19 +14,19 @@ use Rattle.idl_changes.specs.declared.change.Difference.{Difference}
 use Rattle.idl_changes.specs.declared.change.Weight.{Weight}
 use Rattle.idl_changes.specs.declared.change.Weight.TheVariants.{Breaks, Names}
 use Rattle.idl_changes.proofs.SetLemmas.{set_differences-none}
-use Rattle.idl_details.specs.contracts.type_tree.TypeTreeEq.TheImpl.Laws.{laws-law as type_tree_equiv}
-use Rattle.idl_details.specs.Same.{type_tree_eq}
-use Rattle.idl_details.specs.declared.row_tree.ParameterTree.{ParameterTree}
-use Rattle.idl_details.specs.declared.row_tree.RowDetails.{RowDetails}
-use Rattle.idl_details.specs.declared.row_tree.RowDetails.TheVariants as row
-use Rattle.idl_details.specs.declared.row_tree.RowTree.{RowTree}
-use Rattle.idl_details.specs.declared.type_code_tree.CaseTree.{CaseTree}
-use Rattle.idl_details.specs.declared.type_code_tree.MemberTree.{MemberTree}
-use Rattle.idl_details.specs.declared.type_code_tree.TypeCodeParts.{TypeCodeParts}
-use Rattle.idl_details.specs.declared.type_code_tree.TypeCodeParts.TheVariants as parts
-use Rattle.idl_details.specs.declared.type_code_tree.TypeCodeTree.{TypeCodeTree}
-use Rattle.idl_details.specs.declared.type_code_tree.UnionTree.{UnionTree}
-use Rattle.idl_details.specs.declared.type_tree.TypeTree.{TypeTree}
+use Rattle.idl_repo.specs.contracts.details.type_tree.TypeTreeEq.TheImpl.Laws.{laws-law as type_tree_equiv}
+use Rattle.idl_repo.specs.details.Same.{type_tree_eq}
+use Rattle.idl_repo.specs.declared.details.row_tree.ParameterTree.{ParameterTree}
+use Rattle.idl_repo.specs.declared.details.row_tree.RowDetails.{RowDetails}
+use Rattle.idl_repo.specs.declared.details.row_tree.RowDetails.TheVariants as row
+use Rattle.idl_repo.specs.declared.details.row_tree.RowTree.{RowTree}
+use Rattle.idl_repo.specs.declared.details.type_code_tree.CaseTree.{CaseTree}
+use Rattle.idl_repo.specs.declared.details.type_code_tree.MemberTree.{MemberTree}
+use Rattle.idl_repo.specs.declared.details.type_code_tree.TypeCodeParts.{TypeCodeParts}
+use Rattle.idl_repo.specs.declared.details.type_code_tree.TypeCodeParts.TheVariants as parts
+use Rattle.idl_repo.specs.declared.details.type_code_tree.TypeCodeTree.{TypeCodeTree}
+use Rattle.idl_repo.specs.declared.details.type_code_tree.UnionTree.{UnionTree}
+use Rattle.idl_repo.specs.declared.details.type_tree.TypeTree.{TypeTree}
 use Rattle.idl_entity.specs.Kind.{kind_number}
 use Rattle.idl_repo.specs.Row.{kind_word}
 

@@ -7,23 +7,23 @@ use Rattle.std.specs.List.{list_any}
 use Rattle.std.specs.Option.{option_eq, unwrap_or}
 use Rattle.std.specs.Ordering.{nat_cmp}
 use Rattle.std.specs.Str.{bytes_eq}
-use Rattle.idl_details.specs.Print.{parts_kind, type_text}
-use Rattle.idl_details.specs.Same.{type_tree_eq}
-use Rattle.idl_details.specs.declared.row_tree.AttributeTree.{AttributeTree}
-use Rattle.idl_details.specs.declared.row_tree.ConstantTree.{ConstantTree}
-use Rattle.idl_details.specs.declared.row_tree.DeclaredType.{DeclaredType}
-use Rattle.idl_details.specs.declared.row_tree.OperationTree.{OperationTree}
-use Rattle.idl_details.specs.declared.row_tree.ParameterTree.{ParameterTree}
-use Rattle.idl_details.specs.declared.row_tree.RowDetails.{RowDetails}
-use Rattle.idl_details.specs.declared.row_tree.RowDetails.TheVariants as row
-use Rattle.idl_details.specs.declared.row_tree.RowTree.{RowTree}
-use Rattle.idl_details.specs.declared.type_code_tree.CaseTree.{CaseTree}
-use Rattle.idl_details.specs.declared.type_code_tree.MemberTree.{MemberTree}
-use Rattle.idl_details.specs.declared.type_code_tree.TypeCodeParts.{TypeCodeParts}
-use Rattle.idl_details.specs.declared.type_code_tree.TypeCodeParts.TheVariants as parts
-use Rattle.idl_details.specs.declared.type_code_tree.TypeCodeTree.{TypeCodeTree}
-use Rattle.idl_details.specs.declared.type_code_tree.UnionTree.{UnionTree}
-use Rattle.idl_details.specs.declared.type_tree.TypeTree.{TypeTree}
+use Rattle.idl_repo.specs.details.Print.{parts_kind, type_text}
+use Rattle.idl_repo.specs.details.Same.{type_tree_eq}
+use Rattle.idl_repo.specs.declared.details.row_tree.AttributeTree.{AttributeTree}
+use Rattle.idl_repo.specs.declared.details.row_tree.ConstantTree.{ConstantTree}
+use Rattle.idl_repo.specs.declared.details.row_tree.DeclaredType.{DeclaredType}
+use Rattle.idl_repo.specs.declared.details.row_tree.OperationTree.{OperationTree}
+use Rattle.idl_repo.specs.declared.details.row_tree.ParameterTree.{ParameterTree}
+use Rattle.idl_repo.specs.declared.details.row_tree.RowDetails.{RowDetails}
+use Rattle.idl_repo.specs.declared.details.row_tree.RowDetails.TheVariants as row
+use Rattle.idl_repo.specs.declared.details.row_tree.RowTree.{RowTree}
+use Rattle.idl_repo.specs.declared.details.type_code_tree.CaseTree.{CaseTree}
+use Rattle.idl_repo.specs.declared.details.type_code_tree.MemberTree.{MemberTree}
+use Rattle.idl_repo.specs.declared.details.type_code_tree.TypeCodeParts.{TypeCodeParts}
+use Rattle.idl_repo.specs.declared.details.type_code_tree.TypeCodeParts.TheVariants as parts
+use Rattle.idl_repo.specs.declared.details.type_code_tree.TypeCodeTree.{TypeCodeTree}
+use Rattle.idl_repo.specs.declared.details.type_code_tree.UnionTree.{UnionTree}
+use Rattle.idl_repo.specs.declared.details.type_tree.TypeTree.{TypeTree}
 use Rattle.idl_changes.specs.Wire.{ordered}
 use Rattle.idl_changes.specs.declared.change.Difference.{Difference}
 use Rattle.idl_changes.specs.declared.change.Weight.{Weight}

@@ -1,7 +1,7 @@
 -- Entries of two listings that belong together: those of one id, one after another.
 use Rattle.std.specs.Prelude.{ℕ, List, [], ◌∷◌, ◌++◌, Option, filter, length, slice_get}
 use Rattle.std.specs.Str.{bytes_eq}
-use Rattle.idl_details.specs.declared.row_tree.RowTree.{RowTree}
+use Rattle.idl_repo.specs.declared.details.row_tree.RowTree.{RowTree}
 
 -- the entries that have an id
 abbrev pub of_id : List ℕ → List RowTree → List RowTree

@@ -7,7 +7,7 @@ use Rattle.std.specs.Str.{bytes_eq}
 use Rattle.idl_base.specs.Exact.{both, same_number}
 use Rattle.idl_changes.specs.Joined.{of_id}
 use Rattle.idl_changes.specs.declared.joined.Numbered.{Numbered}
-use Rattle.idl_details.specs.declared.row_tree.RowTree.{RowTree}
+use Rattle.idl_repo.specs.declared.details.row_tree.RowTree.{RowTree}
 
 -- whether two keys are one
 abbrev pub numbered_eq : Numbered → Numbered → Bool

@@ -5,13 +5,13 @@ use Rattle.std.specs.BTreeSet.{insert_key}
 use Rattle.std.specs.Cmp.Lexicographic.{slice_cmp}
 use Rattle.std.specs.List.{fold}
 use Rattle.std.specs.Ordering.{nat_cmp}
-use Rattle.idl_details.specs.declared.row_tree.AttributeTree.{AttributeTree}
-use Rattle.idl_details.specs.declared.row_tree.DeclaredType.{DeclaredType}
-use Rattle.idl_details.specs.declared.row_tree.OperationTree.{OperationTree}
-use Rattle.idl_details.specs.declared.row_tree.ParameterTree.{ParameterTree}
-use Rattle.idl_details.specs.declared.row_tree.RowDetails.{RowDetails}
-use Rattle.idl_details.specs.declared.row_tree.RowDetails.TheVariants as row
-use Rattle.idl_details.specs.declared.row_tree.RowTree.{RowTree}
+use Rattle.idl_repo.specs.declared.details.row_tree.AttributeTree.{AttributeTree}
+use Rattle.idl_repo.specs.declared.details.row_tree.DeclaredType.{DeclaredType}
+use Rattle.idl_repo.specs.declared.details.row_tree.OperationTree.{OperationTree}
+use Rattle.idl_repo.specs.declared.details.row_tree.ParameterTree.{ParameterTree}
+use Rattle.idl_repo.specs.declared.details.row_tree.RowDetails.{RowDetails}
+use Rattle.idl_repo.specs.declared.details.row_tree.RowDetails.TheVariants as row
+use Rattle.idl_repo.specs.declared.details.row_tree.RowTree.{RowTree}
 
 -- ids in the order of their bytes, each once
 abbrev pub ordered : List (List ℕ) → List (List ℕ)

@@ -8,8 +8,8 @@ use crate::change::{Change, Difference, Weight};
 use crate::details::differences;
 use crate::joined::{entry_at, key_of, places};
 use idl_base::Text;
-use idl_details::{RowTree, kind_word};
 use idl_map::Map;
+use idl_repo::details::{RowTree, kind_word};
 use std::alloc::{AllocError, Global};
 
 /// The changes from one listing to another: of each old entry in order, and then of each that is new.

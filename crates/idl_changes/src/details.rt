@@ -9,7 +9,7 @@ use crate::parts::{
     compare_defaults, compare_flags, compare_options, compare_texts, compare_types, push_changed,
 };
 use crate::sets::compare_sets;
-use idl_details::{
+use idl_repo::details::{
     AttributeTree, ConstantTree, DeclaredType, OperationTree, RowDetails, RowTree, TypeCodeParts,
     TypeCodeTree, UnionTree, code_word, kind_word,
 };

@@ -8,8 +8,8 @@ ghost use Rattle.idl_changes.specs.Joined.{of_id};
 ghost use Rattle.idl_changes.specs.Numbered.{ArePlaces};
 
 use idl_base::{Bytes, Datum, with_bytes};
-use idl_details::RowTree;
 use idl_map::{Digest, Map};
+use idl_repo::details::RowTree;
 use std::alloc::{AllocError, Global};
 
 /// An id, and how many entries with it are before one.

@@ -2,7 +2,7 @@
 
 ghost use Rattle.std.specs.Prelude.{◌≡◌, [], All, List};
 ghost use Rattle.idl_changes.specs.Changes.{IsKept, IsThere, NoneBreaks, NoneNames, changes};
-ghost use Rattle.idl_details.specs.declared.row_tree.RowTree.{RowTree};
+ghost use Rattle.idl_repo.specs.declared.details.row_tree.RowTree.{RowTree};
 
 /// Where no change breaks anything, each old id is in the new listing, with the same kind and wire form. This does nothing: it
 /// carries the law.

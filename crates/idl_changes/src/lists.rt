@@ -9,7 +9,7 @@ use crate::parts::{
     compare_options, compare_texts, compare_types, push_added, push_changed, push_gone,
 };
 use idl_base::Bytes;
-use idl_details::{CaseTree, MemberTree, ParameterTree, direction_word};
+use idl_repo::details::{CaseTree, MemberTree, ParameterTree, direction_word};
 use idl_repo::push_number;
 use std::alloc::{AllocError, Global};
 

@@ -5,7 +5,7 @@ ghost use Rattle.idl_changes.specs.Differences.{added, changed, default_differen
 
 use crate::change::{Difference, Weight};
 use idl_base::{Bytes, Text};
-use idl_details::{TypeTree, push_type};
+use idl_repo::details::{TypeTree, push_type};
 use idl_repo::push_default;
 use std::alloc::AllocError;
 

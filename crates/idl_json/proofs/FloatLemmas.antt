@@ -12,18 +12,18 @@ use Rattle.idl_entity.specs.declared.data_type.Layer.{Layer}
 use Rattle.idl_entity.specs.declared.data_type.Layer.TheVariants.{Sequence, Array}
 use Rattle.idl_entity.specs.declared.unvalued.Unvalued.TheVariants as unvalued
 use Rattle.idl_value.specs.declared.constant_type.ConstantType.TheVariants as target
-use Rattle.idl_details.specs.declared.row_tree.ParameterTree.{ParameterTree}
-use Rattle.idl_details.specs.declared.row_tree.RowDetails.{RowDetails}
-use Rattle.idl_details.specs.declared.row_tree.RowDetails.TheVariants as row
-use Rattle.idl_details.specs.declared.row_tree.RowTree.{RowTree}
-use Rattle.idl_details.specs.declared.type_code_tree.CaseTree.{CaseTree}
-use Rattle.idl_details.specs.declared.type_code_tree.MemberTree.{MemberTree}
-use Rattle.idl_details.specs.declared.type_code_tree.TypeCodeParts.{TypeCodeParts}
-use Rattle.idl_details.specs.declared.type_code_tree.TypeCodeParts.TheVariants as parts
-use Rattle.idl_details.specs.declared.type_code_tree.TypeCodeTree.{TypeCodeTree}
-use Rattle.idl_details.specs.declared.type_tree.ElementTree.{ElementTree}
-use Rattle.idl_details.specs.declared.type_tree.ElementTree.TheVariants as tree
-use Rattle.idl_details.specs.declared.type_tree.TypeTree.{TypeTree}
+use Rattle.idl_repo.specs.declared.details.row_tree.ParameterTree.{ParameterTree}
+use Rattle.idl_repo.specs.declared.details.row_tree.RowDetails.{RowDetails}
+use Rattle.idl_repo.specs.declared.details.row_tree.RowDetails.TheVariants as row
+use Rattle.idl_repo.specs.declared.details.row_tree.RowTree.{RowTree}
+use Rattle.idl_repo.specs.declared.details.type_code_tree.CaseTree.{CaseTree}
+use Rattle.idl_repo.specs.declared.details.type_code_tree.MemberTree.{MemberTree}
+use Rattle.idl_repo.specs.declared.details.type_code_tree.TypeCodeParts.{TypeCodeParts}
+use Rattle.idl_repo.specs.declared.details.type_code_tree.TypeCodeParts.TheVariants as parts
+use Rattle.idl_repo.specs.declared.details.type_code_tree.TypeCodeTree.{TypeCodeTree}
+use Rattle.idl_repo.specs.declared.details.type_tree.ElementTree.{ElementTree}
+use Rattle.idl_repo.specs.declared.details.type_tree.ElementTree.TheVariants as tree
+use Rattle.idl_repo.specs.declared.details.type_tree.TypeTree.{TypeTree}
 use Rattle.idl_json.specs.Diagnostic.{IsDiagnosticJson, Located, Second, column_fields, second_json, severity, token_fields}
 use Rattle.idl_json.specs.Objects.{list_json, number_json, object_of}
 use Rattle.idl_json.specs.Rows.{json_of, parameter_json, value_json}

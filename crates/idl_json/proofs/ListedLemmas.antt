@@ -6,8 +6,8 @@ use Rattle.serde_json.proofs.Views.{get_member-put_other}
 use Rattle.serde_json.specs.Data.{Data, Members, boolean, no_members, put}
 use Rattle.serde_json.specs.Find.{get, get_member}
 use Rattle.serde_json.specs.Written.{has_float, members_have_float}
-use Rattle.idl_details.specs.declared.row_tree.RowDetails.{RowDetails}
-use Rattle.idl_details.specs.declared.row_tree.RowDetails.TheVariants as detail
+use Rattle.idl_repo.specs.declared.details.row_tree.RowDetails.{RowDetails}
+use Rattle.idl_repo.specs.declared.details.row_tree.RowDetails.TheVariants as detail
 use Rattle.idl_json.specs.Listed.{LocatedRow, NamePlace, column_field, kept_column, place_fields, row_json}
 use Rattle.idl_json.specs.Objects.{number_json, with_fields}
 use Rattle.idl_json.specs.Reading.{attribute_of, constant_of, declared_of, details_of, got_details, operation_of, texts_at, texts_of, tree_of, typed_details, valued_details}

@@ -2,7 +2,7 @@
 use Rattle.std.specs.Prelude.{◌+◌, ◌^◌, ℕ, Bool, List, [], ◌∷◌, codes, nat_lt, Option, None, Some, if◌then◌else◌}
 use Rattle.std.specs.Option.{option_map}
 use Rattle.serde_json.specs.Data.{Data, boolean, no_members, object}
-use Rattle.idl_details.specs.declared.row_tree.RowTree.{RowTree}
+use Rattle.idl_repo.specs.declared.details.row_tree.RowTree.{RowTree}
 use Rattle.idl_fault.specs.declared.place.Place.{Place}
 use Rattle.idl_json.specs.Objects.{Field, number_json, with_fields}
 use Rattle.idl_json.specs.Rows.{row_fields}

@@ -12,23 +12,23 @@ use Rattle.idl_entity.specs.declared.unvalued.Unvalued.TheVariants as unvalued
 use Rattle.idl_value.specs.declared.integer.IntegerKind.{IntegerKind}
 use Rattle.idl_value.specs.declared.integer.IntegerKind.TheVariants as integer
 use Rattle.idl_value.specs.declared.constant_type.ConstantType.TheVariants as target
-use Rattle.idl_details.specs.declared.row_tree.AttributeTree.{AttributeTree}
-use Rattle.idl_details.specs.declared.row_tree.ConstantTree.{ConstantTree}
-use Rattle.idl_details.specs.declared.row_tree.DeclaredType.{DeclaredType}
-use Rattle.idl_details.specs.declared.row_tree.OperationTree.{OperationTree}
-use Rattle.idl_details.specs.declared.row_tree.ParameterTree.{ParameterTree}
-use Rattle.idl_details.specs.declared.row_tree.RowDetails.{RowDetails}
-use Rattle.idl_details.specs.declared.row_tree.RowDetails.TheVariants as row
-use Rattle.idl_details.specs.declared.row_tree.RowTree.{RowTree}
-use Rattle.idl_details.specs.declared.type_code_tree.CaseTree.{CaseTree}
-use Rattle.idl_details.specs.declared.type_code_tree.MemberTree.{MemberTree}
-use Rattle.idl_details.specs.declared.type_code_tree.TypeCodeParts.{TypeCodeParts}
-use Rattle.idl_details.specs.declared.type_code_tree.TypeCodeParts.TheVariants as parts
-use Rattle.idl_details.specs.declared.type_code_tree.TypeCodeTree.{TypeCodeTree}
-use Rattle.idl_details.specs.declared.type_code_tree.UnionTree.{UnionTree}
-use Rattle.idl_details.specs.declared.type_tree.ElementTree.{ElementTree}
-use Rattle.idl_details.specs.declared.type_tree.ElementTree.TheVariants as tree
-use Rattle.idl_details.specs.declared.type_tree.TypeTree.{TypeTree}
+use Rattle.idl_repo.specs.declared.details.row_tree.AttributeTree.{AttributeTree}
+use Rattle.idl_repo.specs.declared.details.row_tree.ConstantTree.{ConstantTree}
+use Rattle.idl_repo.specs.declared.details.row_tree.DeclaredType.{DeclaredType}
+use Rattle.idl_repo.specs.declared.details.row_tree.OperationTree.{OperationTree}
+use Rattle.idl_repo.specs.declared.details.row_tree.ParameterTree.{ParameterTree}
+use Rattle.idl_repo.specs.declared.details.row_tree.RowDetails.{RowDetails}
+use Rattle.idl_repo.specs.declared.details.row_tree.RowDetails.TheVariants as row
+use Rattle.idl_repo.specs.declared.details.row_tree.RowTree.{RowTree}
+use Rattle.idl_repo.specs.declared.details.type_code_tree.CaseTree.{CaseTree}
+use Rattle.idl_repo.specs.declared.details.type_code_tree.MemberTree.{MemberTree}
+use Rattle.idl_repo.specs.declared.details.type_code_tree.TypeCodeParts.{TypeCodeParts}
+use Rattle.idl_repo.specs.declared.details.type_code_tree.TypeCodeParts.TheVariants as parts
+use Rattle.idl_repo.specs.declared.details.type_code_tree.TypeCodeTree.{TypeCodeTree}
+use Rattle.idl_repo.specs.declared.details.type_code_tree.UnionTree.{UnionTree}
+use Rattle.idl_repo.specs.declared.details.type_tree.ElementTree.{ElementTree}
+use Rattle.idl_repo.specs.declared.details.type_tree.ElementTree.TheVariants as tree
+use Rattle.idl_repo.specs.declared.details.type_tree.TypeTree.{TypeTree}
 use Rattle.idl_repo.specs.TypeCode.{integer_word, unvalued_word}
 use Rattle.idl_json.specs.Rows.{kind_name}
 

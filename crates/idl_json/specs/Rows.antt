@@ -4,14 +4,14 @@ use Rattle.serde_json.specs.Data.{Data, boolean, null}
 use Rattle.idl_entity.specs.declared.kind.Kind.{Kind}
 use Rattle.idl_entity.specs.declared.kind.Kind.TheVariants as kind
 use Rattle.idl_repo.specs.Row.{direction_word, kind_word}
-use Rattle.idl_details.specs.declared.row_tree.AttributeTree.{AttributeTree}
-use Rattle.idl_details.specs.declared.row_tree.ConstantTree.{ConstantTree}
-use Rattle.idl_details.specs.declared.row_tree.DeclaredType.{DeclaredType}
-use Rattle.idl_details.specs.declared.row_tree.OperationTree.{OperationTree}
-use Rattle.idl_details.specs.declared.row_tree.ParameterTree.{ParameterTree}
-use Rattle.idl_details.specs.declared.row_tree.RowDetails.{RowDetails}
-use Rattle.idl_details.specs.declared.row_tree.RowDetails.TheVariants as row
-use Rattle.idl_details.specs.declared.row_tree.RowTree.{RowTree}
+use Rattle.idl_repo.specs.declared.details.row_tree.AttributeTree.{AttributeTree}
+use Rattle.idl_repo.specs.declared.details.row_tree.ConstantTree.{ConstantTree}
+use Rattle.idl_repo.specs.declared.details.row_tree.DeclaredType.{DeclaredType}
+use Rattle.idl_repo.specs.declared.details.row_tree.OperationTree.{OperationTree}
+use Rattle.idl_repo.specs.declared.details.row_tree.ParameterTree.{ParameterTree}
+use Rattle.idl_repo.specs.declared.details.row_tree.RowDetails.{RowDetails}
+use Rattle.idl_repo.specs.declared.details.row_tree.RowDetails.TheVariants as row
+use Rattle.idl_repo.specs.declared.details.row_tree.RowTree.{RowTree}
 use Rattle.idl_json.specs.Objects.{Field, list_json, object_of}
 use Rattle.idl_json.specs.Text.{text_json, texts_json}
 use Rattle.idl_json.specs.TypeCodes.{member_fields, type_code_json}

@@ -2,13 +2,13 @@
 use Rattle.std.specs.Prelude.{ℕ, List, [], ◌∷◌, ◌++◌, codes, Option, None, Some}
 use Rattle.serde_json.specs.Data.{Data}
 use Rattle.idl_repo.specs.TypeCode.{code_word}
-use Rattle.idl_details.specs.Print.{parts_kind}
-use Rattle.idl_details.specs.declared.type_code_tree.CaseTree.{CaseTree}
-use Rattle.idl_details.specs.declared.type_code_tree.MemberTree.{MemberTree}
-use Rattle.idl_details.specs.declared.type_code_tree.TypeCodeParts.{TypeCodeParts}
-use Rattle.idl_details.specs.declared.type_code_tree.TypeCodeParts.TheVariants as parts
-use Rattle.idl_details.specs.declared.type_code_tree.TypeCodeTree.{TypeCodeTree}
-use Rattle.idl_details.specs.declared.type_code_tree.UnionTree.{UnionTree}
+use Rattle.idl_repo.specs.details.Print.{parts_kind}
+use Rattle.idl_repo.specs.declared.details.type_code_tree.CaseTree.{CaseTree}
+use Rattle.idl_repo.specs.declared.details.type_code_tree.MemberTree.{MemberTree}
+use Rattle.idl_repo.specs.declared.details.type_code_tree.TypeCodeParts.{TypeCodeParts}
+use Rattle.idl_repo.specs.declared.details.type_code_tree.TypeCodeParts.TheVariants as parts
+use Rattle.idl_repo.specs.declared.details.type_code_tree.TypeCodeTree.{TypeCodeTree}
+use Rattle.idl_repo.specs.declared.details.type_code_tree.UnionTree.{UnionTree}
 use Rattle.idl_json.specs.Objects.{Field, list_json, number_json, object_of}
 use Rattle.idl_json.specs.Text.{text_json, texts_json}
 use Rattle.idl_json.specs.Types.{type_json}

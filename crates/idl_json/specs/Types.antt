@@ -8,9 +8,9 @@ use Rattle.idl_entity.specs.declared.unvalued.Unvalued.TheVariants.{Object}
 use Rattle.idl_value.specs.declared.constant_type.ConstantType.{ConstantType}
 use Rattle.idl_value.specs.declared.constant_type.ConstantType.TheVariants as target
 use Rattle.idl_repo.specs.TypeCode.{integer_word, unvalued_word}
-use Rattle.idl_details.specs.declared.type_tree.ElementTree.{ElementTree}
-use Rattle.idl_details.specs.declared.type_tree.ElementTree.TheVariants as tree
-use Rattle.idl_details.specs.declared.type_tree.TypeTree.{TypeTree}
+use Rattle.idl_repo.specs.declared.details.type_tree.ElementTree.{ElementTree}
+use Rattle.idl_repo.specs.declared.details.type_tree.ElementTree.TheVariants as tree
+use Rattle.idl_repo.specs.declared.details.type_tree.TypeTree.{TypeTree}
 use Rattle.idl_json.specs.Objects.{list_json, number_json, object_of}
 use Rattle.idl_json.specs.Text.{text_json, texts_json}
 

@@ -1,7 +1,7 @@
 //! That nothing is lost.
 
 ghost use Rattle.std.specs.Prelude.{◌≡◌, Some};
-ghost use Rattle.idl_details.specs.declared.row_tree.RowTree.{RowTree};
+ghost use Rattle.idl_repo.specs.declared.details.row_tree.RowTree.{RowTree};
 ghost use Rattle.idl_json.specs.Listed.{LocatedRow, row_json};
 ghost use Rattle.idl_json.specs.Reading.{tree_of};
 ghost use Rattle.idl_json.specs.Rows.{json_of};

@@ -8,8 +8,8 @@ ghost use Rattle.idl_json.specs.Objects.{with_fields};
 
 use crate::objects::Object;
 use crate::rows::put_row;
-use idl_details::RowTree;
 use idl_fault::Place;
+use idl_repo::details::RowTree;
 use serde_json::Value;
 use std::alloc::{AllocError, Global};
 

@@ -10,11 +10,11 @@ use crate::text::text_value;
 use crate::type_codes::{put_member, type_code_value};
 use crate::types::type_value;
 use idl_base::Bytes;
-use idl_details::{
+use idl_entity::Kind;
+use idl_repo::details::{
     AttributeTree, ConstantTree, DeclaredType, OperationTree, ParameterTree, RowDetails, RowTree,
     direction_word, kind_word,
 };
-use idl_entity::Kind;
 use serde_json::Value;
 use std::alloc::{AllocError, Global};
 

@@ -8,7 +8,7 @@ ghost use Rattle.idl_json.specs.TypeCodes.{case_json, default_fields, label_fiel
 use crate::objects::Object;
 use crate::types::type_value;
 use idl_base::Bytes;
-use idl_details::{CaseTree, MemberTree, TypeCodeParts, TypeCodeTree, UnionTree, code_word};
+use idl_repo::details::{CaseTree, MemberTree, TypeCodeParts, TypeCodeTree, UnionTree, code_word};
 use serde_json::Value;
 use std::alloc::{AllocError, Global};
 

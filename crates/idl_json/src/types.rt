@@ -8,8 +8,8 @@ ghost use Rattle.idl_json.specs.Types.{arrays_json, bound_json, constants_json, 
 use crate::objects::Object;
 use crate::text::texts_value;
 use idl_base::Bytes;
-use idl_details::{ElementTree, TypeTree};
 use idl_entity::{Layer, Unvalued};
+use idl_repo::details::{ElementTree, TypeTree};
 use idl_repo::{integer_word, unvalued_word};
 use idl_value::ConstantType;
 use serde_json::Value;

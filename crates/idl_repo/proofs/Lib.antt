@@ -3,3 +3,5 @@ mod RowLemmas
 mod ReferredLemmas
 mod EntryLaws
 mod NestingLaws
+mod PrintLemmas
+mod TextLemmas

@@ -3,3 +3,4 @@ pub mod TypeCode
 pub mod Row
 pub mod Entry
 pub mod Referred
+pub mod details

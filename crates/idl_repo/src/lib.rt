@@ -6,6 +6,7 @@
 #![tactic(auto)]
 
 mod answered;
+pub mod details;
 mod entry;
 mod laws;
 mod piece;

@@ -2,8 +2,8 @@
 use Rattle.std.proofs.Common.{◌≡◌, ◌∙◌, ℕ, false, List, [], ◌∷◌, ◌++◌, Option, None, Some, refl, sym, ap, flat_map, map}
 use Rattle.std.specs.Prelude.{option_to_list}
 use Rattle.std.proofs.lemmas.List.{map-append}
-use Rattle.idl_details.specs.Print.{row_of}
-use Rattle.idl_details.specs.Tree.{tree_over}
+use Rattle.idl_repo.specs.details.Print.{row_of}
+use Rattle.idl_repo.specs.details.Tree.{tree_over}
 use Rattle.idl_entity.specs.declared.entity.Entity.{Entity}
 use Rattle.idl_env.specs.Facts.{UnitFacts, answers, entity_in, entity_key}
 use Rattle.idl_env.specs.declared.answering.answer.Answer.{Answer}

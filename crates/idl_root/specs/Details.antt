@@ -1,8 +1,8 @@
 -- What is told of the names of a root as data: each that has an id, and is declared, has its row as a
 -- tree, and where it is declared; and each used name what it denotes.
 use Rattle.std.specs.Prelude.{ℕ, List, [], ◌∷◌, flat_map, map, None, Some}
-use Rattle.idl_details.specs.Print.{row_of}
-use Rattle.idl_details.specs.Tree.{tree_over}
+use Rattle.idl_repo.specs.details.Print.{row_of}
+use Rattle.idl_repo.specs.details.Tree.{tree_over}
 use Rattle.idl_entity.specs.declared.entity.Entity.{Entity}
 use Rattle.idl_env.specs.Facts.{UnitFacts, answers, entity_in, entity_key}
 use Rattle.idl_event.specs.declared.told.event.Event.{Event}

@@ -5,7 +5,7 @@ use Rattle.idl_changes.specs.Changes.{IsKept, changes}
 use Rattle.idl_changes.specs.declared.change.Change.{Change}
 use Rattle.idl_changes.specs.declared.change.Weight.{Weight}
 use Rattle.idl_changes.specs.declared.change.Weight.TheVariants.{Breaks}
-use Rattle.idl_details.specs.declared.row_tree.RowTree.{RowTree}
+use Rattle.idl_repo.specs.declared.details.row_tree.RowTree.{RowTree}
 use Rattle.idl_root.specs.declared.compiling.detailing.Details.{Details}
 use Rattle.idl_session.specs.replies.Replies.{whole_line}
 use Rattle.idl_source.specs.devices.Device.{append}

@@ -12,13 +12,13 @@ use crate::check::{column_of, status_of};
 use crate::failure::Failure;
 use crate::program::Devices;
 use idl_base::Seq;
-use idl_details::RowTree;
 use idl_json::{Diagnostic, ListedRow, NamePlace, RootTold, SecondPlace, root_line};
 use idl_program::{Loader, Options, Status, compile_all, prepared};
 use idl_project::{
     CompiledRoot, DeclaredPlace, DetailedEntry, Details, Finding, SitedToken, Sources,
 };
 use idl_related::{Related, related_over};
+use idl_repo::details::RowTree;
 use idl_session::{Sink, write_all};
 use idl_source::Name;
 use std::alloc::{AllocError, Global};

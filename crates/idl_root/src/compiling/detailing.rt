@@ -12,11 +12,11 @@ use crate::compiling::number::LineNumbers;
 use crate::compiling::places::{DeclaredPlace, RootNames, UsedName};
 use crate::compiling::printing::Listed;
 use idl_base::Seq;
-use idl_details::{RowTree, tree_of};
 use idl_entity::Path;
 use idl_env::{Env, LentKey, entity_in};
 use idl_event::Expansion;
 use idl_memo::Bank;
+use idl_repo::details::{RowTree, tree_of};
 use idl_unit::split;
 use std::alloc::{AllocError, Global};
 

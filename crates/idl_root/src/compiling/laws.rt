@@ -24,7 +24,7 @@ ghost use Rattle.idl_root.specs.Findings.{finding_row, in_order};
 ghost use Rattle.idl_root.specs.declared.compiling.finding.EventFinding.{EventFinding};
 
 use idl_check_laws::{acceptance, ahead, more_turns, names, numbering, refusal};
-use idl_details::printing;
+use idl_repo::details::printing;
 use idl_repo::listed_row;
 
 /// What is found is told in the order of events: no finding names an event before that of an earlier one, and each event has

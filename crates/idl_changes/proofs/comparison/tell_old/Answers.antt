@@ -4,7 +4,7 @@ use Rattle.idl_changes.specs.Changes.{told_old}
 use Rattle.idl_changes.specs.Joined.{joined, of_id}
 use Rattle.idl_changes.specs.Numbered.{AreCounts}
 use Rattle.idl_changes.proofs.JoinedLemmas.{count-within, counts-more, take-next, told-next}
-use Rattle.idl_details.specs.declared.row_tree.RowTree.{RowTree}
+use Rattle.idl_repo.specs.declared.details.row_tree.RowTree.{RowTree}
 use Rattle.idl_changes.proofs.comparison.tell_old.Goals as goal
 use Rattle.idl_changes.proofs.comparison.tell_old.Goals.{in-Some+in_ok-push_differences-in-Some, in-None+in_ok-push_gone-in-None}
 

@@ -4,7 +4,7 @@ use Rattle.std.specs.Option.{option_and_then, option_copied}
 use Rattle.std.proofs.lemmas.Option.{slice_get-map}
 use Rattle.idl_changes.specs.Numbered.{place_of}
 use Rattle.idl_changes.proofs.JoinedLemmas.{got-entry, slice_get-place_of}
-use Rattle.idl_details.specs.declared.row_tree.RowTree.{RowTree}
+use Rattle.idl_repo.specs.declared.details.row_tree.RowTree.{RowTree}
 use Rattle.idl_changes.proofs.joined.entry_at.Goals as goal
 
 pub returns-in-Some : goal.returns-in-Some

@@ -6,7 +6,7 @@ use Rattle.idl_changes.specs.Joined.{of_id}
 use Rattle.idl_changes.specs.Numbered.{AreCounts, ArePlaces, numbered_eq}
 use Rattle.idl_changes.specs.declared.joined.Numbered.{Numbered}
 use Rattle.idl_changes.proofs.JoinedLemmas.{count-within, counts-more, places-more, take-next}
-use Rattle.idl_details.specs.declared.row_tree.RowTree.{RowTree}
+use Rattle.idl_repo.specs.declared.details.row_tree.RowTree.{RowTree}
 use Rattle.idl_changes.proofs.joined.places.Goals as goal
 
 pub loop-place-init : goal.loop-place-init

@@ -1,2 +1,0 @@
-mod PrintLemmas
-mod TextLemmas

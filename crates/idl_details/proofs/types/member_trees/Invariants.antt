@@ -1,8 +1,0 @@
-use Rattle.std.proofs.Common.{◌≡◌, map, take}
-use Rattle.idl_details.specs.Tree.{member_over}
-use Rattle.idl_env.specs.Facts.{answers}
-use Rattle.idl_details.proofs.types.member_trees.Given as goal
-
--- those before
-abbrev pub invariant-loop-member : goal.invariant-loop-member
-invariant-loop-member l = l.trees.items ≡ map (member_over (answers l.env)) (take l.member-index l.members)

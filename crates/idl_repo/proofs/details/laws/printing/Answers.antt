@@ -1,0 +1,5 @@
+use Rattle.idl_repo.proofs.PrintLemmas.{row-printed}
+use Rattle.idl_repo.proofs.details.laws.printing.Goals as goal
+
+pub returns : goal.returns
+returns c = row-printed

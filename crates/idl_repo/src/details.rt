@@ -1,0 +1,22 @@
+//! Rows of a listing as trees, for programs: a row can't be read back as text, since an id may have any character in it.
+//!
+//! A tree has all that its row tells, and the row is what the tree is printed as. Nothing here knows places, tokens, or how the
+//! facts of a root came about.
+
+mod laws;
+mod row_tree;
+mod rows;
+mod type_code_tree;
+mod type_codes;
+mod type_tree;
+mod types;
+mod words;
+
+pub use laws::printing;
+pub use row_tree::{
+    AttributeTree, ConstantTree, DeclaredType, OperationTree, ParameterTree, RowDetails, RowTree,
+};
+pub use rows::tree_of;
+pub use type_code_tree::{CaseTree, MemberTree, TypeCodeParts, TypeCodeTree, UnionTree};
+pub use type_tree::{ElementTree, TypeTree};
+pub use words::{code_word, direction_word, kind_word, push_type};

@@ -1,0 +1,135 @@
+//! Rows as trees.
+
+use crate::details::type_code_tree::{MemberTree, TypeCodeTree};
+use crate::details::type_tree::TypeTree;
+use idl_base::{Bytes, Seq};
+use idl_entity::Kind;
+
+/// A name that has a TypeCode: with the ids of an interface's bases in order, or of the base of a struct.
+pub struct DeclaredType {
+    pub code: TypeCodeTree,
+    pub bases: Seq<Bytes>,
+}
+
+/// A constant: its type, and its value as it is listed.
+pub struct ConstantTree {
+    pub data_type: TypeTree,
+    pub value: Option<Bytes>,
+}
+
+/// An attribute: its type, and the ids of the exceptions that reading and writing it raise.
+pub struct AttributeTree {
+    pub is_readonly: bool,
+    pub data_type: TypeTree,
+    pub raised: Seq<Bytes>,
+    pub raised_by_set: Seq<Bytes>,
+}
+
+/// A parameter: whether it goes in, whether it comes out, and its name and type.
+pub struct ParameterTree {
+    pub goes_in: bool,
+    pub comes_out: bool,
+    pub member: MemberTree,
+}
+
+/// An operation: what it gives back, its parameters, the ids of the exceptions that it raises, and the texts of its context as they
+/// are listed.
+pub struct OperationTree {
+    pub is_oneway: bool,
+    pub data_type: TypeTree,
+    pub parameters: Seq<ParameterTree>,
+    pub raised: Seq<Bytes>,
+    pub contexts: Seq<Bytes>,
+}
+
+/// What a row tells behind the id.
+pub enum RowDetails {
+    /// Nothing, as of a module.
+    Nothing,
+    Type(DeclaredType),
+    Constant(ConstantTree),
+    Attribute(AttributeTree),
+    Operation(OperationTree),
+}
+
+/// The row of a declared name that has an id: its path, and each id, are the texts that are listed.
+pub struct RowTree {
+    pub kind: Kind,
+    pub path: Bytes,
+    pub id: Bytes,
+    pub details: RowDetails,
+}
+
+impl Drop for DeclaredType {
+    fn drop(self) {
+        let DeclaredType {
+            code: _code,
+            bases: _bases,
+        } = self;
+    }
+}
+
+impl Drop for ConstantTree {
+    fn drop(self) {
+        let ConstantTree {
+            data_type: _data_type,
+            value: _value,
+        } = self;
+    }
+}
+
+impl Drop for AttributeTree {
+    fn drop(self) {
+        let AttributeTree {
+            is_readonly: _is_readonly,
+            data_type: _data_type,
+            raised: _raised,
+            raised_by_set: _raised_by_set,
+        } = self;
+    }
+}
+
+impl Drop for ParameterTree {
+    fn drop(self) {
+        let ParameterTree {
+            goes_in: _goes_in,
+            comes_out: _comes_out,
+            member: _member,
+        } = self;
+    }
+}
+
+impl Drop for OperationTree {
+    fn drop(self) {
+        let OperationTree {
+            is_oneway: _is_oneway,
+            data_type: _data_type,
+            parameters: _parameters,
+            raised: _raised,
+            contexts: _contexts,
+        } = self;
+    }
+}
+
+impl Drop for RowDetails {
+    fn drop(self) {
+        match self {
+            RowDetails::Nothing => {}
+            RowDetails::Type(_parts) => {}
+            RowDetails::Constant(_parts) => {}
+            RowDetails::Attribute(_parts) => {}
+            RowDetails::Operation(_parts) => {}
+        }
+    }
+}
+
+impl Drop for RowTree {
+    fn drop(self) {
+        let RowTree {
+            kind: _kind,
+            path: _path,
+            id: _id,
+            details: _details,
+        } = self;
+    }
+}
