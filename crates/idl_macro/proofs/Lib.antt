@@ -9,3 +9,4 @@ pub mod OutputLemmas
 pub mod PlainLemmas
 pub mod ReplaceLemmas
 pub mod RoomLemmas
+pub mod ConditionLaws

@@ -2,9 +2,9 @@
 use Rattle.std.specs.Prelude.{ℕ, zero, suc, Bool, true, false, not, ◌&&◌, List, [], ◌∷◌, map, Option, None, Some, is_some, codes, if◌then◌else◌}
 use Rattle.std.specs.Str.{bytes_eq}
 use Rattle.idl_memo.specs.Query.{Done, Tell, and_then}
-use Rattle.idl_condition.specs.Arithmetic.{Value, is_zero}
-use Rattle.idl_condition.specs.Condition.{condition as value_of}
-use Rattle.idl_condition.specs.Symbol.{symbol_of}
+use Rattle.idl_macro.specs.conditions.Arithmetic.{Value, is_zero}
+use Rattle.idl_macro.specs.conditions.Condition.{condition as value_of}
+use Rattle.idl_macro.specs.conditions.Symbol.{symbol_of}
 use Rattle.idl_event.specs.Expanding.{Expanding}
 use Rattle.idl_macro.specs.Macros.{Definitions, macro_of}
 use Rattle.idl_macro.specs.Replace.{followed_by, operand}

@@ -5,3 +5,4 @@ pub mod Macros
 pub mod Output
 pub mod Replace
 pub mod Words
+pub mod conditions

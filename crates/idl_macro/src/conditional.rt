@@ -3,7 +3,7 @@
 ghost use Rattle.std.specs.Prelude.{◌≡◌, List, Option, Some, IfOk, OnOk, drop, map, not};
 ghost use Rattle.std.specs.Option.{option_map};
 ghost use Rattle.idl_memo.specs.Progress.{after_item};
-ghost use Rattle.idl_condition.specs.Arithmetic.{is_zero};
+ghost use Rattle.idl_macro.specs.conditions.Arithmetic.{is_zero};
 ghost use Rattle.idl_event.specs.Expanding.{arrival, arrived};
 ghost use Rattle.idl_event.specs.Items.{rules};
 ghost use Rattle.idl_fault.specs.declared.code.Code.TheVariants.{BadCondition};
@@ -12,11 +12,11 @@ ghost use Rattle.idl_event.specs.declared.told.event.Item.TheVariants.{Kept};
 ghost use Rattle.idl_lex.specs.tokens.Tokens.{Token, tokens_in};
 ghost use Rattle.idl_macro.specs.Condition.{condition, defined_at, defined_read, truth, value};
 
+use crate::conditions::{Symbol, evaluate};
 use crate::definitions::Macros;
 use crate::directive::Directive;
 use crate::replacement::replace_operand;
 use idl_base::Bytes;
-use idl_condition::{Symbol, evaluate};
 use idl_event::{Event, Item, Progress, RootBank};
 use idl_fault::Code;
 use idl_lex::Token;

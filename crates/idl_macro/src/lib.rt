@@ -6,6 +6,7 @@
 #![tactic(auto)]
 
 mod conditional;
+pub mod conditions;
 mod definitions;
 mod digest;
 mod directive;

@@ -2,9 +2,9 @@
 //! preprocessor gives.
 
 use super::support::{Host, Telling, are_told, file_of, has_rows};
-use idl_condition::{Symbol, evaluate};
 use idl_event::{EventView, Expansion, ExpansionBuilder, LexedFile, RootAnswer, RootKey};
 use idl_fault::FileName;
+use idl_macro::conditions::{Symbol, evaluate};
 use idl_map::Table;
 use idl_memo::{Bank, Log, PlainBank, Runnable};
 use idl_prep::RootTask;
