@@ -6,3 +6,4 @@ pub mod Logged
 pub mod NestingLaws
 pub mod OuterLaws
 pub mod ResultLaws
+pub mod FactLaws

@@ -1,3 +1,4 @@
 pub mod Behind
 pub mod Blocks
 pub mod Questions
+pub mod facts

@@ -6,6 +6,7 @@
 
 mod behind;
 mod block;
+pub mod facts;
 mod nested;
 
 pub use behind::layering;

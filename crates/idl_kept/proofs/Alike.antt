@@ -1,6 +1,6 @@
 -- Where the same is kept of a block at two places, it comes to the same at both.
 use Rattle.std.proofs.Common.{◌≡◌, List, refl, subst, sym}
-use Rattle.idl_check_blocks.specs.Standing.{AreStanding, block_end}
+use Rattle.idl_root_blocks.specs.verdicts.Standing.{AreStanding, block_end}
 use Rattle.idl_env.specs.Facts.{UnitFacts, answers}
 use Rattle.idl_env.specs.SameKey.{same_key}
 use Rattle.idl_env.specs.declared.keys.key.Key.{Key}

@@ -2,7 +2,7 @@
 -- stand.
 use Rattle.std.specs.Prelude.{◌≡◌, ◌≤◌, ◌+◌, ◌-◌, ℕ, Bool, List, [], ◌∷◌, ◌++◌, Option, Some, drop, length, map, slice_get, take}
 use Rattle.idl_check.specs.declared.walk.verdict.Verdict.{Verdict}
-use Rattle.idl_check_blocks.specs.Standing.{AreStanding, block_end}
+use Rattle.idl_root_blocks.specs.verdicts.Standing.{AreStanding, block_end}
 use Rattle.idl_env.specs.Facts.{UnitFacts, answers}
 use Rattle.idl_env.specs.declared.answering.answer.Answer.{Answer}
 use Rattle.idl_env.specs.declared.keys.key.Key.{Key}

@@ -13,7 +13,7 @@ use Rattle.idl_root.specs.Compared.{entry_keys, root_keys}
 use Rattle.idl_root.specs.Compile.{all_findings, compile, findings_told, has_error, is_open, outcome_of, row_in, rows_beside}
 use Rattle.idl_root.specs.Findings.{event_finding, finding_row, unit_finding}
 use Rattle.idl_root.specs.Judged.{HasTurns, facts_after, judged_after, judged_over, verdict_over}
-use Rattle.idl_facts.specs.Written.{boundary}
+use Rattle.idl_block.specs.facts.Written.{boundary}
 use Rattle.idl_root.specs.Places.{EntryPlace, declarations_after, declarations_of, entries_of, entries_over, root_pieces}
 use Rattle.idl_root_blocks.specs.Blocks.{cut}
 use Rattle.idl_root_blocks.specs.Met.{outermost_keys}

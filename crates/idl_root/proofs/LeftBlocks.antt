@@ -1,6 +1,6 @@
 -- A block that is entered, judged and left.
 use Rattle.std.proofs.Common.{◌≡◌, ◌≤◌, ◌∙◌, Bool, false, ℕ, List, [], ◌∷◌, ◌++◌, length, subst, sym, ap}
-use Rattle.idl_check_blocks.specs.Standing.{IsBlock}
+use Rattle.idl_root_blocks.specs.verdicts.Standing.{IsBlock}
 use Rattle.idl_env.specs.Facts.{UnitFacts, answers}
 use Rattle.idl_memo.specs.Meter.{most_compared}
 use Rattle.idl_kept.specs.Texts.{BlockResult, IsLast, Texts, with_blocks, with_whole}

@@ -3,7 +3,7 @@ use Rattle.std.proofs.Common.{◌≡◌, ◌⊎◌, ◌≤◌, ◌∙◌, ◌+�
 use Rattle.std.proofs.lemmas.List.Sums.{sum_by-cons}
 use Rattle.std.specs.Prelude.{sum_by}
 use Rattle.std.specs.Option.{option_eq}
-use Rattle.idl_check_blocks.specs.Standing.{unit_asks}
+use Rattle.idl_root_blocks.specs.verdicts.Standing.{unit_asks}
 use Rattle.idl_env.specs.Facts.{UnitFacts, answers}
 use Rattle.idl_env.specs.SameAnswer.{answer_eq}
 use Rattle.idl_env.specs.keys.Key.{key_eq}

@@ -7,7 +7,7 @@ use Rattle.idl_event.specs.declared.told.event.Event.{Event}
 use Rattle.idl_root.specs.Compile.{outcome_of}
 use Rattle.idl_root.specs.Followed.{ArePrinted, IsBehind, IsFirst, IsNext, IsPassed, WereThere, added_by, facts_of, results_from}
 use Rattle.idl_root.specs.Judged.{facts_after, verdict_over}
-use Rattle.idl_facts.specs.Written.{boundary}
+use Rattle.idl_block.specs.facts.Written.{boundary}
 use Rattle.idl_root.specs.Places.{declarations_after, declarations_of, entries_of, entries_over}
 use Rattle.idl_root.specs.Printed.{Listed}
 use Rattle.idl_root.specs.Results.{DeclarationResult, EntryResult, IsKeptOf, KeptLists, RootMarks, entry_result, marks_of}

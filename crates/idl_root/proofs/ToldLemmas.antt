@@ -11,7 +11,7 @@ use Rattle.idl_lex.specs.tokens.Tokens.{Token}
 use Rattle.idl_memo.specs.Query.{outcome}
 use Rattle.idl_root.specs.Findings.{fault_finding, finding_at, site_of, tokens_of}
 use Rattle.idl_root.specs.Judged.{judged_after, verdict_over}
-use Rattle.idl_facts.specs.Written.{boundary}
+use Rattle.idl_block.specs.facts.Written.{boundary}
 use Rattle.idl_root.specs.Told.{IsTold}
 use Rattle.idl_env.specs.Facts.{UnitFacts, answers}
 use Rattle.idl_env.specs.declared.additions.addition.Step.TheVariants.{Enters, Leaves}

@@ -2,7 +2,7 @@
 use Rattle.std.proofs.Common.{◌≡◌, ◌≤◌, ◌<◌, ◌^◌, ◌∙◌, true, ℕ, List, [], ◌∷◌, ◌++◌, append-nil, append_assoc, length, map, subst, sym, ap}
 use Rattle.std.proofs.lemmas.List.{append_cancel_left}
 use Rattle.std.specs.Option.{option_eq}
-use Rattle.idl_check_blocks.specs.Standing.{AreStanding, IsBlock, block_end}
+use Rattle.idl_root_blocks.specs.verdicts.Standing.{AreStanding, IsBlock, block_end}
 use Rattle.idl_check_laws.specs.Closing.{AreTold}
 use Rattle.idl_env.specs.Facts.{UnitFacts, answers, count_in}
 use Rattle.idl_env.specs.SameAnswer.{answer_eq}
@@ -12,8 +12,8 @@ use Rattle.idl_env.specs.declared.additions.addition.Step.TheVariants.{Enters as
 use Rattle.idl_env.specs.declared.keys.key.Key.TheVariants.{Nameless}
 use Rattle.idl_env.specs.keys.Digested.{key_equiv}
 use Rattle.idl_env.specs.keys.Key.{key_eq}
-use Rattle.idl_facts.proofs.OpenLaws.{facts-open}
-use Rattle.idl_facts.specs.Written.{boundary}
+use Rattle.idl_block.proofs.FactLaws.OpenLaws.{facts-open}
+use Rattle.idl_block.specs.facts.Written.{boundary}
 use Rattle.idl_kept.specs.Texts.{BlockResult, IsPlaced, begins_in, inner_results, unit_results, with_blocks, with_units}
 use Rattle.idl_memo.proofs.QueryLaws.{IsLogOf-run}
 use Rattle.idl_memo.specs.Fresh.{is_alike}

@@ -14,7 +14,7 @@ use Rattle.idl_memo.specs.declared.task.TaskKind.{TaskKind}
 use Rattle.idl_memo.specs.declared.task.TaskKind.TheVariants.{Check, Print}
 use Rattle.idl_root.specs.Changed.{ShareNone}
 use Rattle.idl_root.specs.Compared.{IsMetAt}
-use Rattle.idl_facts.specs.Written.{boundary}
+use Rattle.idl_block.specs.facts.Written.{boundary}
 use Rattle.idl_root.specs.Places.{EntryPlace, declarations_after}
 use Rattle.idl_root_blocks.specs.Asking.{AreNoted as HaveNoted, Opened}
 use Rattle.idl_root_blocks.specs.Places.{DeclarationPlace, declaration_result}

@@ -8,7 +8,7 @@ use Rattle.idl_memo.specs.Query.{outcome}
 use Rattle.idl_env.specs.Facts.{UnitFacts, answers}
 use Rattle.idl_env.specs.Turns.{most_turns, turns_for}
 use Rattle.idl_env.specs.declared.additions.addition.Step.TheVariants.{Enters, Leaves}
-use Rattle.idl_facts.specs.Written.{boundary}
+use Rattle.idl_block.specs.facts.Written.{boundary}
 use Rattle.idl_unit.specs.declared.unit.Unit.{Unit as RootUnit}
 use Rattle.idl_unit.specs.declared.unit.Unit.TheVariants.{Spelled, Entered, Left, End}
 use Rattle.idl_unit.specs.declared.unit.UnitText.{UnitText}

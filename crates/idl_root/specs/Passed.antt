@@ -1,7 +1,7 @@
 -- What the judging of a root comes to behind pieces of its units, where their results are kept and
 -- blocks are open.
 use Rattle.std.specs.Prelude.{◌≡◌, ◌≤◌, ℕ, List, [], ◌∷◌, ◌++◌, length, map}
-use Rattle.idl_check_blocks.specs.Standing.{IsBlock}
+use Rattle.idl_root_blocks.specs.verdicts.Standing.{IsBlock}
 use Rattle.idl_env.specs.Facts.{UnitFacts}
 use Rattle.idl_kept.specs.Texts.{IsLast, IsPlaced, Texts, begins_in, unit_results, with_blocks, with_units, with_whole}
 use Rattle.idl_memo.specs.Meter.{compared_after, most_compared}

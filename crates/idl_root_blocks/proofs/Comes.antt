@@ -1,8 +1,8 @@
 -- A block's text closes and leaves nothing that was there before it.
 use Rattle.std.proofs.Common.{◌≡◌, ℕ, zero, suc, Option, None, Some, List, [], ◌∷◌, refl}
 use Rattle.idl_block.specs.Blocks.{Text as UnitPart}
-use Rattle.idl_check_blocks.specs.Standing.{AreInside, IsBlock, part_step}
-use Rattle.idl_facts.specs.Beneath.{Depth, deepened}
+use Rattle.idl_root_blocks.specs.verdicts.Standing.{AreInside, IsBlock, part_step}
+use Rattle.idl_block.specs.facts.Beneath.{Depth, deepened}
 use Rattle.idl_root_blocks.proofs.Cuts.{at, no-none}
 use Rattle.idl_root_blocks.specs.Blocks.{IsOfBlock, depth_behind, parts_of}
 use Rattle.idl_root_blocks.specs.declared.text.BlockPart.{BlockPart}

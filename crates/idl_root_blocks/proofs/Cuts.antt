@@ -3,8 +3,8 @@ use Rattle.std.proofs.Common.{◌≡◌, ◌∙◌, ◌≤◌, ℕ, zero, suc, t
 use Rattle.std.proofs.lemmas.List.{length-append}
 use Rattle.std.proofs.lemmas.Option.{same_Some}
 use Rattle.idl_block.specs.Blocks.{Text as UnitPart}
-use Rattle.idl_check_blocks.specs.Standing.{part_step}
-use Rattle.idl_facts.specs.Beneath.{Depth, deepened}
+use Rattle.idl_root_blocks.specs.verdicts.Standing.{part_step}
+use Rattle.idl_block.specs.facts.Beneath.{Depth, deepened}
 use Rattle.idl_root_blocks.specs.Blocks.{AreCut, BeginsBlock, Block, IsOfBlock, Loose, Nothing, Pieces, Split, behind_depth, cut, cut_within, depth_behind, level, pieces_by, split_from, text_in, with_first}
 use Rattle.idl_root_blocks.specs.declared.text.BlockPart.{BlockPart}
 use Rattle.idl_root_blocks.specs.declared.text.BlockPart.TheVariants.{Text, Enters, Leaves}

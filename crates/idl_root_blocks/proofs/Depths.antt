@@ -3,11 +3,11 @@ use Rattle.std.proofs.Common.{◌≡◌, ◌∙◌, ℕ, suc, Bool, true, false,
 use Rattle.std.specs.Prelude.{is_some}
 use Rattle.idl_block.specs.Blocks.{Text as UnitPart}
 use Rattle.idl_check.specs.walk.Placing.{heading_kind}
-use Rattle.idl_check_blocks.specs.Standing.{part_step}
+use Rattle.idl_root_blocks.specs.verdicts.Standing.{part_step}
 use Rattle.idl_entity.specs.declared.kind.Kind.{Kind}
 use Rattle.idl_env.specs.declared.additions.addition.Step.{Step}
 use Rattle.idl_env.specs.declared.additions.addition.Step.TheVariants.{Closes, OpensNameless, Stays}
-use Rattle.idl_facts.specs.Beneath.{Depth, deepened}
+use Rattle.idl_block.specs.facts.Beneath.{Depth, deepened}
 use Rattle.idl_lex.specs.tokens.Tokens.{Token}
 use Rattle.idl_unit.specs.Ending.{rule_of}
 use Rattle.idl_unit.specs.Scoping.{brace_by, is_closing, is_closing_by, is_opening, opening_brace}

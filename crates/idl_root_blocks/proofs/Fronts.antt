@@ -5,9 +5,9 @@ use Rattle.idl_block.proofs.BlockLaws.{walk-block}
 use Rattle.idl_block.proofs.JoinedLaws.{walk-grows}
 use Rattle.idl_block.specs.Blocks.{Part as UnitPart, walk}
 use Rattle.idl_check.specs.declared.walk.verdict.Verdict.{Verdict}
-use Rattle.idl_check_blocks.proofs.Stands.{AreHeld, first-held}
-use Rattle.idl_check_blocks.proofs.Told.{files-told, text-told}
-use Rattle.idl_check_blocks.specs.Standing.{AreInside, AreStanding, IsBlock, block_end, part_step, unit_asks, unit_writes}
+use Rattle.idl_root_blocks.proofs.VerdictLaws.Stands.{AreHeld, first-held}
+use Rattle.idl_root_blocks.proofs.VerdictLaws.Told.{files-told, text-told}
+use Rattle.idl_root_blocks.specs.verdicts.Standing.{AreInside, AreStanding, IsBlock, block_end, part_step, unit_asks, unit_writes}
 use Rattle.idl_check_laws.proofs.ToldLaws.{MoreTurns, turns-grow}
 use Rattle.idl_check_laws.specs.Closing.{AreTold}
 use Rattle.idl_env.specs.Facts.{UnitFacts, answers, count_in, scopes_in}
@@ -15,11 +15,11 @@ use Rattle.idl_env.specs.Turns.{most_turns, turns_for}
 use Rattle.idl_env.specs.declared.additions.addition.Step.{Step}
 use Rattle.idl_env.specs.declared.additions.addition.Step.TheVariants.{Enters as EntersFile, Leaves as LeavesFile}
 use Rattle.idl_env.specs.declared.keys.key.Key.TheVariants.{Cursor, Nameless}
-use Rattle.idl_facts.proofs.OpenLaws.{facts-open}
-use Rattle.idl_facts.proofs.WalkLaws.{over-block}
-use Rattle.idl_facts.specs.Beneath.{Depth, deepened}
-use Rattle.idl_facts.specs.Known.{AskEnough}
-use Rattle.idl_facts.specs.Written.{boundary}
+use Rattle.idl_block.proofs.FactLaws.OpenLaws.{facts-open}
+use Rattle.idl_block.proofs.FactLaws.WalkLaws.{over-block}
+use Rattle.idl_block.specs.facts.Beneath.{Depth, deepened}
+use Rattle.idl_block.specs.facts.Known.{AskEnough}
+use Rattle.idl_block.specs.facts.Written.{boundary}
 use Rattle.idl_root_blocks.proofs.Comes.{of-block}
 use Rattle.idl_root_blocks.proofs.Splits.{facts-first, facts-split}
 use Rattle.idl_root_blocks.specs.Blocks.{IsOfBlock, level, part_of, parts_of}

@@ -15,3 +15,4 @@ pub mod Scans
 pub mod Splits
 pub mod Units
 pub mod Wholes
+pub mod VerdictLaws

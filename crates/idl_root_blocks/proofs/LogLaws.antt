@@ -10,7 +10,7 @@ use Rattle.idl_block.proofs.NestingLaws.{log-nested, noted-passing}
 use Rattle.idl_block.proofs.OuterLaws.{log-outer}
 use Rattle.idl_block.specs.Behind.{laid}
 use Rattle.idl_block.specs.Questions.{AreKnown, outer_asked}
-use Rattle.idl_check_blocks.specs.Standing.{AreStanding, IsBlock, unit_asks, unit_writes}
+use Rattle.idl_root_blocks.specs.verdicts.Standing.{AreStanding, IsBlock, unit_asks, unit_writes}
 use Rattle.idl_env.specs.Facts.{UnitFacts, answers}
 use Rattle.idl_env.specs.SameKey.{same_key}
 use Rattle.idl_env.specs.Written.{last_written}
@@ -19,12 +19,12 @@ use Rattle.idl_env.specs.declared.answering.answer.Answer.{Answer}
 use Rattle.idl_env.specs.declared.keys.key.Key.{Key}
 use Rattle.idl_env.specs.keys.Digested.{key_equiv}
 use Rattle.idl_env.specs.keys.Key.{key_eq}
-use Rattle.idl_facts.proofs.AnsweredLaws.{answered-behind}
-use Rattle.idl_facts.proofs.Seen.KnownLaws.{known-block}
-use Rattle.idl_facts.proofs.WalkLaws.{IsSound, sound-block}
-use Rattle.idl_facts.proofs.WrittenLaws.{answered-among, last-among}
-use Rattle.idl_facts.specs.Answered.{answered}
-use Rattle.idl_facts.specs.Written.{boundary, is_written}
+use Rattle.idl_block.proofs.FactLaws.AnsweredLaws.{answered-behind}
+use Rattle.idl_block.proofs.FactLaws.Seen.KnownLaws.{known-block}
+use Rattle.idl_block.proofs.FactLaws.WalkLaws.{IsSound, sound-block}
+use Rattle.idl_block.proofs.FactLaws.WrittenLaws.{answered-among, last-among}
+use Rattle.idl_block.specs.facts.Answered.{answered}
+use Rattle.idl_block.specs.facts.Written.{boundary, is_written}
 use Rattle.idl_memo.proofs.QueryLaws.{noted_all-append}
 use Rattle.idl_memo.specs.Query.{asked, noted_all}
 use Rattle.idl_root_blocks.proofs.Comes.{of-block}

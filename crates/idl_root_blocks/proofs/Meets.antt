@@ -4,7 +4,7 @@ use Rattle.std.proofs.lemmas.List.Folds.{list_any-append}
 use Rattle.std.proofs.lemmas.List.Sums.{sum_by-append, sum_by-cons}
 use Rattle.std.specs.List.{list_any}
 use Rattle.std.specs.Option.{option_eq}
-use Rattle.idl_check_blocks.specs.Standing.{unit_asks}
+use Rattle.idl_root_blocks.specs.verdicts.Standing.{unit_asks}
 use Rattle.idl_env.specs.Facts.{UnitFacts}
 use Rattle.idl_env.specs.SameAnswer.{answer_eq}
 use Rattle.idl_env.specs.keys.Key.{key_eq}

@@ -7,7 +7,7 @@ use Rattle.std.specs.List.{list_any}
 use Rattle.std.specs.Prelude.{All, Contains, IsTrue, sum_by}
 use Rattle.idl_block.proofs.OuterLaws.{All-left, All-right}
 use Rattle.idl_env.specs.Facts.{UnitFacts}
-use Rattle.idl_facts.proofs.Seen.Covers.{or-left}
+use Rattle.idl_block.proofs.FactLaws.Seen.Covers.{or-left}
 use Rattle.idl_root_blocks.proofs.Meets.{met-block, met-loose}
 use Rattle.idl_root_blocks.proofs.Wholes.{any-passing, blocks-block, blocks-loose, declarations-block, declarations-first}
 use Rattle.idl_root_blocks.specs.Blocks.{Block, Loose, Nothing, Pieces, text_in}

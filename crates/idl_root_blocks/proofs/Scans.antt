@@ -3,8 +3,8 @@ use Rattle.std.proofs.Common.{◌≡◌, ◌≢◌, ◌∙◌, ◌<◌, ◌≤�
 use Rattle.std.proofs.lemmas.List.{append-nil, drop_all, drop_more, take-append-drop, take_rest}
 use Rattle.std.proofs.lemmas.Option.{same_Some}
 use Rattle.idl_block.specs.Blocks.{Text as UnitPart}
-use Rattle.idl_check_blocks.specs.Standing.{part_step}
-use Rattle.idl_facts.specs.Beneath.{Depth, deepened}
+use Rattle.idl_root_blocks.specs.verdicts.Standing.{part_step}
+use Rattle.idl_block.specs.facts.Beneath.{Depth, deepened}
 use Rattle.idl_root_blocks.specs.Blocks.{Split, behind_depth, depth_behind, level, split_from, with_first}
 use Rattle.idl_root_blocks.specs.Finding.{IsLeftBehind, left_by}
 use Rattle.idl_root_blocks.specs.Units.{parts_of_unit, text_of}

@@ -2,10 +2,10 @@
 -- each of whose closings closes a scope that was opened there.
 use Rattle.std.specs.Prelude.{◌≡◌, ℕ, zero, suc, false, List, [], ◌∷◌, ◌++◌, Option, None, Some, length, map, if◌then◌else◌}
 use Rattle.idl_block.specs.Blocks.{Part, Text as UnitPart, Boundary}
-use Rattle.idl_check_blocks.specs.Standing.{part_step}
+use Rattle.idl_root_blocks.specs.verdicts.Standing.{part_step}
 use Rattle.idl_env.specs.declared.additions.addition.Step.{Step}
 use Rattle.idl_env.specs.declared.additions.addition.Step.TheVariants.{Enters as EntersFile, Leaves as LeavesFile}
-use Rattle.idl_facts.specs.Beneath.{Depth, deepened}
+use Rattle.idl_block.specs.facts.Beneath.{Depth, deepened}
 use Rattle.idl_root_blocks.specs.declared.text.BlockPart.{BlockPart}
 use Rattle.idl_root_blocks.specs.declared.text.BlockPart.TheVariants.{Text, Enters, Leaves}
 use Rattle.idl_unit.specs.declared.unit.UnitText.{UnitText}

@@ -1,6 +1,6 @@
 -- How a block is found among units.
 use Rattle.std.specs.Prelude.{◌≡◌, ℕ, ◌+◌, zero, suc, Bool, false, List, [], ◌∷◌, ◌++◌, Option, None, Some, sum_by}
-use Rattle.idl_facts.specs.Beneath.{Depth}
+use Rattle.idl_block.specs.facts.Beneath.{Depth}
 use Rattle.idl_root_blocks.specs.Blocks.{Block, Loose, Nothing, Pieces}
 use Rattle.idl_root_blocks.specs.declared.finding.Open.{Open}
 use Rattle.idl_root_blocks.specs.declared.text.BlockPart.{BlockPart}

@@ -5,3 +5,4 @@ pub mod Met
 pub mod Outer
 pub mod Places
 pub mod Units
+pub mod verdicts

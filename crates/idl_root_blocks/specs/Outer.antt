@@ -8,7 +8,7 @@ use Rattle.idl_env.specs.declared.additions.addition.Step.TheVariants.{Enters}
 use Rattle.idl_env.specs.declared.answering.answer.Answer.{Answer}
 use Rattle.idl_env.specs.declared.keys.key.Key.{Key}
 use Rattle.idl_env.specs.keys.Key.{key_eq}
-use Rattle.idl_facts.specs.Written.{boundary}
+use Rattle.idl_block.specs.facts.Written.{boundary}
 use Rattle.idl_memo.specs.Query.{noted_all}
 use Rattle.idl_root_blocks.specs.Blocks.{parts_of}
 use Rattle.idl_root_blocks.specs.Places.{unit_ways}

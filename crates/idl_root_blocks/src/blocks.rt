@@ -3,14 +3,14 @@
 ghost use Rattle.std.specs.Prelude.{◌≡◌, ◌↔◌, ◌≤◌, ◌<◌, ◌^◌, ◌∷◌, ◌++◌, [], List, false, map, true};
 ghost use Rattle.std.specs.Option.{option_eq};
 ghost use Rattle.idl_block.specs.Questions.{outer_asked};
-ghost use Rattle.idl_check_blocks.specs.Standing.{AreStanding, IsBlock, block_end};
+ghost use Rattle.idl_root_blocks.specs.verdicts.Standing.{AreStanding, IsBlock, block_end};
 ghost use Rattle.idl_check_laws.specs.Closing.{AreTold};
 ghost use Rattle.idl_env.specs.Facts.{UnitFacts, answers, count_in};
 ghost use Rattle.idl_env.specs.SameAnswer.{answer_eq};
 ghost use Rattle.idl_env.specs.Turns.{most_turns, turns_for};
 ghost use Rattle.idl_env.specs.declared.additions.addition.Step.TheVariants.{Enters as EntersFile};
 ghost use Rattle.idl_env.specs.declared.keys.key.Key.TheVariants.{Nameless};
-ghost use Rattle.idl_facts.specs.Written.{boundary};
+ghost use Rattle.idl_block.specs.facts.Written.{boundary};
 ghost use Rattle.idl_env.specs.keys.Key.{key_eq};
 ghost use Rattle.idl_memo.specs.Fresh.{is_alike, log_at};
 ghost use Rattle.idl_memo.specs.Kept.{IsAlike};
@@ -23,11 +23,11 @@ ghost use Rattle.idl_root_blocks.specs.declared.text.BlockPart.TheVariants.{Ente
 
 use crate::equality::exact;
 use crate::text::BlockPart;
+use crate::verdicts::{Verdicts, alike, enough, nested, walked};
 use idl_base::Seq;
-use idl_check_blocks::{Verdicts, alike, enough, nested, walked};
+use idl_block::facts::knowing;
 use idl_check_laws::more_turns;
 use idl_env::Answer;
-use idl_facts::knowing;
 
 /// What the units of a block come to where it stands is what it comes to as a task of its own; so where two places agree on the
 /// keys that it asks outside, its units come to the same at both; and so they do where a block is alike.

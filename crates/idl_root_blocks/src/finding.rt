@@ -3,8 +3,8 @@
 ghost use Rattle.std.specs.Prelude.{◌≡◌, ◌++◌, ◌+◌, ◌-◌, ◌^◌, ◌<◌, ◌≤◌, IfNone, IfSome, length};
 ghost use Rattle.std.specs.Option.{option_map};
 ghost use Rattle.idl_block.specs.Blocks.{Text as UnitPart};
-ghost use Rattle.idl_check_blocks.specs.Standing.{part_step};
-ghost use Rattle.idl_facts.specs.Beneath.{deepened};
+ghost use Rattle.idl_root_blocks.specs.verdicts.Standing.{part_step};
+ghost use Rattle.idl_block.specs.facts.Beneath.{deepened};
 ghost use Rattle.idl_root_blocks.specs.Blocks.{Block, cut, depth_behind, level, split_from};
 ghost use Rattle.idl_root_blocks.specs.Finding.{IsFirstBlock, IsLeftBehind, blocks_in, depth_of, in_front, left_by, texts_in};
 ghost use Rattle.idl_root_blocks.specs.Units.{parts_of_unit, text_of};

@@ -15,6 +15,7 @@ mod places;
 mod scopes;
 mod task;
 mod text;
+pub mod verdicts;
 
 pub use block_text::BlockText;
 pub use blocks::{resulting, standing, taking};

@@ -1,7 +1,7 @@
 //! The laws of the log of a block.
 
 ghost use Rattle.std.specs.Prelude.{◌≡◌, ◌++◌, ◌∷◌, [], Bool, List, false, length, suc};
-ghost use Rattle.idl_check_blocks.specs.Standing.{IsBlock};
+ghost use Rattle.idl_root_blocks.specs.verdicts.Standing.{IsBlock};
 ghost use Rattle.idl_env.specs.Facts.{UnitFacts, answers};
 ghost use Rattle.idl_root_blocks.specs.Asking.{AreNoted, Opened};
 ghost use Rattle.idl_root_blocks.specs.Blocks.{IsOfBlock, parts_of};
@@ -11,7 +11,7 @@ ghost use Rattle.idl_root_blocks.specs.declared.text.BlockPart.{BlockPart as Par
 ghost use Rattle.idl_root_blocks.specs.declared.text.BlockPart.TheVariants.{Text, Enters, Leaves};
 ghost use Rattle.idl_unit.specs.declared.unit.UnitText.{UnitText as Unit};
 
-use idl_check_blocks::{enough, nested};
+use crate::verdicts::{enough, nested};
 
 /// The log of a block goes on with what is kept of its units, and of the blocks inside: with those keys at which nothing was
 /// written since its entering. Boundaries ask nothing; and it is what is kept of the block once it is left.

@@ -13,8 +13,8 @@ ghost use Rattle.idl_root_blocks.specs.Places.{Stands, block_at, declaration_at,
 use crate::blocks::resulting;
 use crate::equality::exact;
 use crate::text::BlockPart;
+use crate::verdicts::walked;
 use idl_base::Seq;
-use idl_check_blocks::walked;
 use idl_check_laws::more_turns;
 use idl_env::{Answer, DigestedKey};
 use idl_unit::UnitText;

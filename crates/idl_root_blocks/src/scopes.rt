@@ -2,9 +2,9 @@
 
 ghost use Rattle.std.specs.Prelude.{◌≡◌, false, suc, true, Some};
 ghost use Rattle.idl_block.specs.Blocks.{Text as UnitPart};
-ghost use Rattle.idl_check_blocks.specs.Standing.{part_step};
+ghost use Rattle.idl_root_blocks.specs.verdicts.Standing.{part_step};
 ghost use Rattle.idl_env.specs.declared.additions.addition.Step.TheVariants.{Closes};
-ghost use Rattle.idl_facts.specs.Beneath.{Depth, deepened};
+ghost use Rattle.idl_block.specs.facts.Beneath.{Depth, deepened};
 ghost use Rattle.idl_unit.specs.Scoping.{is_closing, is_opening};
 ghost use Rattle.idl_unit.specs.declared.unit.UnitText.{UnitText};
 

@@ -3,7 +3,7 @@
 ghost use Rattle.std.specs.Prelude.{◌≡◌, ◌≤◌, ◌++◌, ◌∷◌, [], IfOk, List, OnOk, flat_map, map, option_to_list};
 ghost use Rattle.idl_check_laws.specs.Closing.{AreTold};
 ghost use Rattle.idl_env.specs.Facts.{UnitFacts};
-ghost use Rattle.idl_facts.specs.Written.{boundary};
+ghost use Rattle.idl_block.specs.facts.Written.{boundary};
 ghost use Rattle.idl_kept.specs.Texts.{AreListsOf};
 ghost use Rattle.idl_memo.specs.Meter.{compared_after, most_compared};
 ghost use Rattle.idl_store.specs.Stored.{results_in};

@@ -1,7 +1,7 @@
 //! The law of what open blocks note.
 
 ghost use Rattle.std.specs.Prelude.{◌≡◌, ◌∷◌, ◌++◌, [], Bool, List, false, length, map};
-ghost use Rattle.idl_check_blocks.specs.Standing.{IsBlock};
+ghost use Rattle.idl_root_blocks.specs.verdicts.Standing.{IsBlock};
 ghost use Rattle.idl_env.specs.Facts.{UnitFacts, answers};
 ghost use Rattle.idl_root.specs.Passed.{AllGoOn, GoesOn};
 ghost use Rattle.idl_root_blocks.specs.Asking.{OpenBlock, kept_of, with_asked};
@@ -11,9 +11,9 @@ ghost use Rattle.idl_root_blocks.specs.declared.text.BlockPart.{BlockPart as Par
 ghost use Rattle.idl_root_blocks.specs.declared.text.BlockPart.TheVariants.{Text, Enters, Leaves};
 ghost use Rattle.idl_unit.specs.declared.unit.UnitText.{UnitText};
 
-use idl_check_blocks::{enough, walked};
 use idl_check_laws::more_turns;
 use idl_root_blocks::logging;
+use idl_root_blocks::verdicts::{enough, walked};
 
 /// Open blocks go on with what a unit asks, and with what a block asks that is taken whole; a file boundary asks nothing. What has
 /// gone on from its entering is what is kept of it, once it is left. This does nothing: it carries the laws.

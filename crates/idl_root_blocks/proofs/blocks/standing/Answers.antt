@@ -1,5 +1,5 @@
 use Rattle.std.proofs.Common.{◌∷◌, ◌++◌, false, refl}
-use Rattle.idl_facts.proofs.OpenLaws.{facts-open}
+use Rattle.idl_block.proofs.FactLaws.OpenLaws.{facts-open}
 use Rattle.idl_root_blocks.proofs.Comes.{of-block}
 use Rattle.idl_root_blocks.proofs.Fronts.{block-front, inside-stands}
 use Rattle.idl_root_blocks.specs.Blocks.{parts_of}

@@ -1,7 +1,7 @@
 use Rattle.std.proofs.Common.{◌≡◌, ◌∙◌, ◌&&◌, [], refl, subst, sym, ap}
 use Rattle.std.specs.List.{list_all}
 use Rattle.std.specs.Option.{option_eq}
-use Rattle.idl_check_blocks.specs.Standing.{AreStanding, block_end}
+use Rattle.idl_root_blocks.specs.verdicts.Standing.{AreStanding, block_end}
 use Rattle.idl_env.specs.Facts.{answers}
 use Rattle.idl_env.specs.SameAnswer.{answer_eq}
 use Rattle.idl_env.specs.SameKey.{same_key}

@@ -1,6 +1,6 @@
 use Rattle.std.proofs.Common.{◌≤◌, refl}
 use Rattle.std.specs.Option.{option_eq}
-use Rattle.idl_check_blocks.specs.Standing.{unit_asks}
+use Rattle.idl_root_blocks.specs.verdicts.Standing.{unit_asks}
 use Rattle.idl_env.specs.SameAnswer.{answer_eq}
 use Rattle.idl_env.specs.keys.Key.{key_eq}
 use Rattle.idl_memo.proofs.FreshTasks.{shared-most}

@@ -1,6 +1,6 @@
 use Rattle.std.proofs.Common.{rules, ◌≡◌, ◌<◌, ◌≤◌, ◌^◌, ◌∙◌, ◌∷◌, ◌++◌, [], false, arith, List, ap, length, subst, sym}
 use Rattle.std.proofs.lemmas.List.{nil_from_length}
-use Rattle.idl_check_blocks.proofs.Told.{files-told}
+use Rattle.idl_root_blocks.proofs.VerdictLaws.Told.{files-told}
 use Rattle.idl_check_laws.specs.Closing.{AreTold}
 use Rattle.idl_env.specs.Facts.{UnitFacts, answers, count_in}
 use Rattle.idl_env.specs.Turns.{most_turns, turns_for}
@@ -19,7 +19,7 @@ use Rattle.idl_root.proofs.PiecesLemmas.{facts-inside}
 use Rattle.idl_root.proofs.TextLaws.{facts-text}
 use Rattle.idl_root.specs.Added.{told_by}
 use Rattle.idl_root.specs.Followed.{IsFollowing, IsKeeping, added_by}
-use Rattle.idl_facts.specs.Written.{boundary}
+use Rattle.idl_block.specs.facts.Written.{boundary}
 use Rattle.idl_root_blocks.specs.Asking.{AreNoted as HaveNoted}
 use Rattle.idl_root.specs.Held.{to_come, with_gathered, with_units}
 use Rattle.idl_root.specs.Judged.{added, facts_after, judged_after, judged_at}

@@ -1,8 +1,0 @@
-use Rattle.idl_facts.proofs.AnsweredLaws.{answered-over, answered-behind}
-use Rattle.idl_facts.proofs.answered.answering.Goals as goal
-
-pub returns-clause-over : goal.returns-clause-over
-returns-clause-over c = answered-over
-
-pub returns-clause-behind : goal.returns-clause-behind
-returns-clause-behind c = answered-behind

@@ -1,6 +1,0 @@
-use Rattle.idl_facts.proofs.NestedLaws.{nested-block}
-use Rattle.idl_facts.proofs.known.nested.Goals as goal
-
-pub returns : goal.returns
-returns g c = λ bank outer parts proper enough.
-    nested-block bank outer proper g.U.FactUnits.unit g.U.FactUnits.writes parts enough
