@@ -6,7 +6,7 @@ use Rattle.std.proofs.lemmas.List.Concat.{flat_map-append}
 use Rattle.std.proofs.lemmas.List.Elements.{All-cons, All-filter, All-head, All-nil, All-tail}
 use Rattle.std.proofs.lemmas.List.Folds.{flat_map-map}
 use Rattle.clap.proofs.WalkLemmas.{list_any-map}
-use Rattle.idl_make.specs.Make.{IfThere, IsMakeRule, Need, Rule, There, is_make_name, name_in, rule_text, rules_text}
+use Rattle.idl_tool.specs.make_rules.Make.{IfThere, IsMakeRule, Need, Rule, There, is_make_name, name_in, rule_text, rules_text}
 use Rattle.idl_session.specs.replies.Replies.{whole_line}
 use Rattle.idl_source.specs.texts.Texts.{Texts}
 use Rattle.idl_project.specs.Asked.{asked_over}

@@ -4,3 +4,4 @@ mod DiffLemmas
 mod ExplainLemmas
 mod JsonLemmas
 mod RequestLemmas
+mod RuleLemmas

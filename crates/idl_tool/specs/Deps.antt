@@ -16,7 +16,7 @@ use Rattle.idl_program.specs.Loading.{AreLoaded, AreComplete}
 use Rattle.idl_program.specs.Options.{AreAsked}
 use Rattle.idl_program.specs.declared.failure.Status.{Status}
 use Rattle.idl_program.specs.declared.failure.Status.TheVariants.{Sound, Faulty}
-use Rattle.idl_make.specs.Make.{IsMakeRule, Need, There, IfThere, Rule, rules_text}
+use Rattle.idl_tool.specs.make_rules.Make.{IsMakeRule, Need, There, IfThere, Rule, rules_text}
 use Rattle.idl_tool.specs.declared.request.Deps.{Deps}
 
 -- a name without `.idl` at its end

@@ -8,3 +8,4 @@ pub mod Messages
 pub mod Report
 pub mod Served
 pub mod Words
+pub mod make_rules

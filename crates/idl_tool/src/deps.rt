@@ -5,12 +5,12 @@ ghost use Rattle.idl_source.specs.devices.Device.{append};
 ghost use Rattle.idl_program.specs.Rows.{are_faulty, lines_with};
 ghost use Rattle.idl_program.specs.declared.failure.Status.TheVariants.{Faulty, Sound};
 ghost use Rattle.idl_tool.specs.Deps.{IsServed, empty_rule, is_other, need_of, rules_in, stem, target_of};
-ghost use Rattle.idl_make.specs.Make.{IsMakeRule, is_make_name, need_text, rules_text, target_text};
+ghost use Rattle.idl_tool.specs.make_rules.Make.{IsMakeRule, is_make_name, need_text, rules_text, target_text};
 
 use crate::failure::Failure;
+use crate::make_rules::{is_make_name, push_need, push_need_if_there, push_target};
 use crate::program::Devices;
 use crate::request::Deps;
-use idl_make::{is_make_name, push_need, push_need_if_there, push_target};
 use idl_program::{Loader, Status, Subject, compile_all, prepared};
 use idl_project::{CompiledRoot, Sources};
 use idl_session::{Sink, WriteFailed, write_all, write_lines};

@@ -5,7 +5,7 @@ ghost use Rattle.std.specs.List.{IsDistinct};
 ghost use Rattle.std.specs.Map.{keys_of};
 ghost use Rattle.std.specs.Str.{bytes_eq};
 ghost use Rattle.idl_source.specs.texts.Texts.{Texts};
-ghost use Rattle.idl_make.specs.Make.{IsMakeRule, rules_read, rules_text};
+ghost use Rattle.idl_tool.specs.make_rules.Make.{IsMakeRule, rules_read, rules_text};
 ghost use Rattle.idl_program.specs.Compiled.{Written};
 ghost use Rattle.idl_program.specs.declared.failure.Status.{Status};
 ghost use Rattle.idl_program.specs.declared.failure.Status.TheVariants.{Sound};
@@ -15,8 +15,8 @@ ghost use Rattle.idl_tool.specs.Deps.{needs_in, needs_of, rules_in};
 ghost use Rattle.idl_tool.specs.declared.request.Deps.{Deps};
 ghost use Rattle.idl_project.specs.Project.{Inputs};
 
+use crate::make_rules::rules_read_back;
 use idl_changes::nothing_breaks;
-use idl_make::rules_read_back;
 
 /// Who reads the rules of roots finds what compiling the roots asks for: each file, in order, and whether it has to be there. This
 /// does nothing: it carries the law.

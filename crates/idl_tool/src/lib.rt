@@ -11,6 +11,7 @@ mod explain;
 mod failure;
 mod json;
 mod laws;
+pub mod make_rules;
 mod program;
 mod report;
 mod request;

@@ -1,6 +1,6 @@
 use Rattle.std.proofs.Common.{◌≡◌, ◌++◌, filter, map, take}
 use Rattle.idl_tool.specs.Deps.{empty_rule, is_other}
-use Rattle.idl_make.specs.Make.{rules_text}
+use Rattle.idl_tool.specs.make_rules.Make.{rules_text}
 use Rattle.idl_tool.proofs.deps.push_empty_rules.Given as goal
 
 -- those of the files before

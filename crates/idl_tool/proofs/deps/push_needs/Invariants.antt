@@ -1,6 +1,6 @@
 use Rattle.std.proofs.Common.{◌≡◌, ◌++◌, flat_map, map, take}
 use Rattle.idl_tool.specs.Deps.{need_of}
-use Rattle.idl_make.specs.Make.{need_text}
+use Rattle.idl_tool.specs.make_rules.Make.{need_text}
 use Rattle.idl_tool.proofs.deps.push_needs.Given as goal
 
 -- those before

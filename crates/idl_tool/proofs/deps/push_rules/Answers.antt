@@ -1,5 +1,5 @@
 use Rattle.std.proofs.Common.{◌∙◌, ℕ, All, IsTrue, List, subst}
-use Rattle.idl_make.specs.Make.{is_make_name}
+use Rattle.idl_tool.specs.make_rules.Make.{is_make_name}
 use Rattle.idl_tool.proofs.DepsLemmas.{rules-readable}
 use Rattle.idl_tool.proofs.deps.push_rules.Goals as goal
 

@@ -1,6 +1,6 @@
 use Rattle.std.proofs.Common.{◌∙◌, ◌++◌, ℕ, List, ap, flat_map, sym, take}
 use Rattle.std.proofs.lemmas.List.Elements.{All-append, All-same}
-use Rattle.idl_make.specs.Make.{IsMakeRule, rules_text}
+use Rattle.idl_tool.specs.make_rules.Make.{IsMakeRule, rules_text}
 use Rattle.idl_tool.specs.Deps.{rules_in}
 use Rattle.idl_tool.proofs.DepsLemmas.{flat_map-next, rules_text-append}
 use Rattle.idl_tool.proofs.deps.rules_of.Goals as goal

@@ -1,6 +1,6 @@
 use Rattle.std.proofs.Common.{◌≡◌, All, flat_map, take}
 use Rattle.idl_tool.specs.Deps.{rules_in}
-use Rattle.idl_make.specs.Make.{IsMakeRule, rules_text}
+use Rattle.idl_tool.specs.make_rules.Make.{IsMakeRule, rules_text}
 use Rattle.idl_tool.proofs.deps.rules_of.Given as goal
 
 -- those of the roots before

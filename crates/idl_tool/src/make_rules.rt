@@ -1,7 +1,6 @@
 //! Rules of make: which names they can have in them, and how they are written, so that make reads them as they are.
 //!
 //! What the rules are about is a caller's.
-#![tactic(auto)]
 
 mod laws;
 mod make;

@@ -2,7 +2,7 @@
 
 ghost use Rattle.std.specs.Prelude.{◌≡◌, ◌++◌, OnOk};
 ghost use Rattle.std.specs.List.{list_all};
-ghost use Rattle.idl_make.specs.Make.{IfThere, There, escaped, escaped_byte, is_capital, is_make_byte, is_make_name, is_special, need_text, target_text};
+ghost use Rattle.idl_tool.specs.make_rules.Make.{IfThere, There, escaped, escaped_byte, is_capital, is_make_byte, is_make_name, is_special, need_text, target_text};
 
 use std::alloc::AllocError;
 

@@ -1,6 +1,6 @@
 use Rattle.std.proofs.Common.{◌≡◌, ◌++◌, flat_map, take}
-use Rattle.idl_make.specs.Make.{target_byte}
-use Rattle.idl_make.proofs.make.push_target.Given as goal
+use Rattle.idl_tool.specs.make_rules.Make.{target_byte}
+use Rattle.idl_tool.proofs.make_rules.make.push_target.Given as goal
 
 -- those before
 abbrev pub invariant-bytes : goal.invariant-bytes

@@ -1,7 +1,7 @@
 //! A law of the definition of rules.
 
 ghost use Rattle.std.specs.Prelude.{◌≡◌, All, List};
-ghost use Rattle.idl_make.specs.Make.{IsMakeRule, Rule, rules_read, rules_text};
+ghost use Rattle.idl_tool.specs.make_rules.Make.{IsMakeRule, Rule, rules_read, rules_text};
 
 /// Rules with names that make can read are read as they are: their targets, and in order what each stands on, whether it has to
 /// be there or not. This does nothing: it carries the law.

@@ -9,7 +9,7 @@ use Rattle.std.proofs.lemmas.List.Elements.{All-append, All-cons, All-from_recur
 use Rattle.std.proofs.lemmas.List.Splits.{slice_split_at, slice_split_none}
 use Rattle.std.proofs.lemmas.List.Sums.{AllPass-from_list_all}
 use Rattle.idl_source.specs.texts.Cut.{begun_with, cut_lines}
-use Rattle.idl_make.specs.Make.{IsMakeRule, IfThere, Need, Rule, There, escaped, escaped_byte, is_home, is_make_byte, is_make_name, is_special, name_in, name_read, need_text, needs_read, rule_of, rule_read, rule_text, rules_read, rules_text, target_byte, target_text, without_last}
+use Rattle.idl_tool.specs.make_rules.Make.{IsMakeRule, IfThere, Need, Rule, There, escaped, escaped_byte, is_home, is_make_byte, is_make_name, is_special, name_in, name_read, need_text, needs_read, rule_of, rule_read, rule_text, rules_read, rules_text, target_byte, target_text, without_last}
 
 -- the byte is no other one
 abbrev Isnt : ℕ → ℕ → Type 0

@@ -1,6 +1,6 @@
 use Rattle.std.proofs.Common.{◌≡◌, ◌++◌, flat_map, take}
-use Rattle.idl_make.specs.Make.{escaped_byte}
-use Rattle.idl_make.proofs.make.push_name.Given as goal
+use Rattle.idl_tool.specs.make_rules.Make.{escaped_byte}
+use Rattle.idl_tool.proofs.make_rules.make.push_name.Given as goal
 
 -- those before
 abbrev pub invariant-bytes : goal.invariant-bytes
