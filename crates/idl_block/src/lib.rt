@@ -1,4 +1,4 @@
-//! Blocks: units that are taken as one query.
+//! Blocks: units that are taken as one query, and the facts that they write.
 //!
 //! Each unit stands behind what the block wrote before it, so that the block asks outside only what it has not written
 //! itself. Nothing here knows what a unit is, and nothing here runs.

@@ -1,6 +1,7 @@
-//! Texts as an editor has them: positions in them, and changes of them.
+//! What an editor and a server have between them: texts with positions and changes, messages in a stream of bytes and what
+//! they say, and URIs of files.
 //!
-//! Nothing here reads a message, and no file is kept.
+//! Nothing here does what a message asks for, and no file is kept.
 #![tactic(auto)]
 
 mod change;

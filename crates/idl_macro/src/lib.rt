@@ -1,5 +1,5 @@
-//! Macros of a root: their definitions, the directives that define and test them, and the
-//! replacement of words by their bodies, under the limits of a root.
+//! Macros of a root: their definitions, the directives that define and test them, the
+//! replacement of words by their bodies, under the limits of a root, and the values of conditions.
 //!
 //! What happens is told item by item, and what isn't known in the root itself is asked of a bank.
 //! Nothing here reads lines or opens files.

@@ -1,8 +1,8 @@
 //! The listing: for each declared name that has a repository id its row, with its TypeCode, and what
 //! is wrong with it at the root's end.
 //!
-//! A row is written over the facts of a whole root, whose ids it asks for. Nothing here knows trees,
-//! places, or how the facts came about.
+//! A row is written over the facts of a whole root, whose ids it asks for, or made a tree for programs.
+//! Nothing here knows trees of units, places, or how the facts came about.
 #![tactic(auto)]
 
 mod answered;

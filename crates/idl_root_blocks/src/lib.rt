@@ -1,5 +1,5 @@
 //! The blocks of a root: what their texts are, where their tasks stand, what they come to, and which tasks are met at an edit; how
-//! they are found among the units, and what they ask.
+//! they are found among the units, and what they ask; and what the verdicts of their units ask.
 #![tactic(auto)]
 
 mod block_text;
