@@ -8,3 +8,4 @@ mod StandingLaws
 pub mod ToldLaws
 mod UseLaws
 mod Visits
+pub use Rattle.idl_check.proofs as IdlCheck

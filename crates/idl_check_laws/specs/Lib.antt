@@ -1,2 +1,4 @@
 pub mod Closing
 pub mod Valued
+pub use Rattle.idl_check.specs as idl_check
+pub use Rattle.idl_check.specs.idl_syntax as idl_syntax

@@ -2,7 +2,7 @@
 
 ghost use Rattle.std.specs.Prelude.{◌≡◌, None};
 
-use idl_session::{ReadFailed, Sink, Source, WriteFailed};
+use idl_program::idl_session::{ReadFailed, Sink, Source, WriteFailed};
 use std::io::{Read, Write};
 
 /// Bytes of a reader. It gives no further ones after 2^64 - 1 reads, and then fails. A read that the host asks to be tried

@@ -2,7 +2,7 @@
 -- spread.
 use Rattle.std.specs.Prelude.{ℕ, ◌+◌, ◌*◌, ◌/◌, ◌%◌, ◌^◌, List, [], ◌∷◌, if◌then◌else◌, nat_eq}
 use Rattle.idl_base.specs.Digest.{mixed, with_bytes}
-use Rattle.idl_lex.specs.kinds.Keywords.{folded}
+use Rattle.idl_value.specs.idl_lex.kinds.Keywords.{folded}
 
 -- a digest with the last 6 bits of another in place of its own: they choose first among answers
 unfoldable pub behind : ℕ → ℕ → ℕ

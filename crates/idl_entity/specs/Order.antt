@@ -16,7 +16,7 @@ use Rattle.idl_entity.specs.contracts.data_type.DataTypeOrd.TheImpl.{ghosts as d
 use Rattle.idl_entity.specs.contracts.data_type.DataTypeOrd.TheImpl.Laws.{matches_eq-law as data_type_ties, total-law as data_type_total}
 use Rattle.idl_entity.specs.contracts.signature.SignatureOrd.TheImpl.{ghosts as signatures}
 use Rattle.idl_entity.specs.contracts.signature.SignatureOrd.TheImpl.Laws.{matches_eq-law as signature_ties, total-law as signature_total}
-use Rattle.idl_map.specs.Order.{backwards_cmp, backwards_ties, backwards_total}
+use Rattle.idl_value.specs.idl_map.Order.{backwards_cmp, backwards_ties, backwards_total}
 use Rattle.idl_value.specs.contracts.value.ValueOrd.TheImpl.{ghosts as values}
 use Rattle.idl_value.specs.contracts.value.ValueOrd.TheImpl.Laws.{matches_eq-law as value_ties, total-law as value_total}
 

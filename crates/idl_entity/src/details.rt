@@ -6,8 +6,8 @@ ghost use Rattle.idl_entity.specs.Details.{listless, rare_in};
 use crate::paths::path::Path;
 use crate::signature::Signature;
 use idl_base::{Bytes, Seq, Shared};
-use idl_map::SharedList;
 use idl_value::Value;
+use idl_value::idl_map::SharedList;
 use std::alloc::AllocError;
 
 /// What few entities have. Most have none of it, and others a value or a signature alone: then it stands in place.

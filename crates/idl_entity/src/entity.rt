@@ -7,7 +7,7 @@ ghost use Rattle.std.specs.Option.{option_cmp, option_copied, option_eq};
 ghost use Rattle.idl_entity.specs.Entity.{declared_eq, entity_eq, entity_equiv, entity_per, is_operation, pathless_eq, rare_of};
 ghost use Rattle.idl_entity.specs.Order.{declared_cmp, entity_cmp, entity_ties, entity_total, nature_cmp, path_cmp};
 ghost use Rattle.idl_entity.specs.Path.{path_eq};
-ghost use Rattle.idl_map.specs.Order.{backwards_cmp};
+ghost use Rattle.idl_value.specs.idl_map.Order.{backwards_cmp};
 
 use crate::data_type::DataType;
 use crate::details::{Details, Rare};
@@ -15,8 +15,8 @@ use crate::kind::{Kind, Stage};
 use crate::paths::path::Path;
 use crate::signature::Signature;
 use idl_base::{Bytes, Datum, Seq, Shared, copied_of};
-use idl_map::SharedList;
 use idl_value::Value;
+use idl_value::idl_map::SharedList;
 use std::alloc::{AllocError, Global};
 use std::cmp::Ordering;
 use std::marker::Model;

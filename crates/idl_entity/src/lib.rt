@@ -15,6 +15,8 @@ mod unvalued;
 pub use data_type::{DataType, Element, Layer};
 pub use entity::{Entity, Nature};
 pub use identity::{Fixed, FixedIdentity, Identity, Prefix, prefix_for};
+pub use idl_value;
+pub use idl_value::idl_tree;
 pub use kind::{Kind, Stage};
 pub use paths::path::Path;
 pub use signature::{Member, Signature};

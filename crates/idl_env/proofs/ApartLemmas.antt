@@ -3,7 +3,7 @@ use Rattle.std.proofs.Common.{◌≡◌, ℕ, List, [], ◌∷◌, ◌++◌, map
 use Rattle.std.specs.Prelude.{All, Contains}
 use Rattle.std.proofs.lemmas.List.Elements.{All-append, All-contains_itself, All-weaker, Contains-append_left, Contains-append_right}
 use Rattle.std.proofs.lemmas.Option.{same_Some}
-use Rattle.idl_lex.specs.kinds.Keywords.{folded}
+use Rattle.idl_entity.specs.idl_lex.kinds.Keywords.{folded}
 use Rattle.idl_entity.specs.Digest.{path_digest, under}
 use Rattle.idl_env.specs.Facts.{UnitFacts, World, entity_key, scopes_in, with_additions, entity_in}
 use Rattle.idl_env.specs.Held.{closable}

@@ -6,7 +6,7 @@ use Rattle.std.specs.Option.{option_copied, option_eq, option_map, option_or}
 use Rattle.std.specs.Prelude.{IfSome, slice_get}
 use Rattle.std.specs.Str.{bytes_eq}
 use Rattle.idl_base.proofs.Bools.{or-false}
-use Rattle.idl_lex.specs.kinds.Keywords.{folded}
+use Rattle.idl_entity.specs.idl_lex.kinds.Keywords.{folded}
 use Rattle.idl_entity.specs.Path.{name_of, path_eq, same_path, scope_of}
 use Rattle.idl_env.specs.Facts.{entity_key}
 use Rattle.idl_env.specs.SameKey.{same_key}

@@ -1,7 +1,7 @@
 -- The facts that units add, one unit after another, and the answers that they leave at each key.
 use Rattle.std.specs.Prelude.{ℕ, ◌+◌, Bool, List, [], ◌∷◌, ◌++◌, Option, Some, None, decimal, drop, filter, is_some, map, not, if◌then◌else◌}
 use Rattle.std.specs.List.{list_any}
-use Rattle.idl_lex.specs.kinds.Keywords.{folded}
+use Rattle.idl_entity.specs.idl_lex.kinds.Keywords.{folded}
 use Rattle.idl_entity.specs.Entity.{is_operation}
 use Rattle.idl_entity.specs.Identity.{first_identity, fixed_for, identity_of, no_prefix, prefix_for, told}
 use Rattle.idl_env.specs.keys.Key.{key_eq}

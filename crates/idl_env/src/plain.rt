@@ -4,8 +4,8 @@ ghost use Rattle.std.specs.Prelude.{◌≡◌, IfSome, IsTrue};
 ghost use Rattle.idl_entity.specs.DataType.{plain_type};
 
 use idl_base::Shared;
+use idl_entity::idl_value::{ConstantType, IntegerKind};
 use idl_entity::{DataType, Element, Unvalued};
-use idl_value::{ConstantType, IntegerKind};
 use std::alloc::{AllocError, Global};
 
 /// Types of keywords, without sequences and arrays, each of which is made once and shared by all that is declared with it.

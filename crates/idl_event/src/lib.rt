@@ -11,6 +11,7 @@ pub use asked::key::{RootAnswer, RootKey};
 pub use asked::lexed_file::LexedFile;
 pub use asked::lexed_line::LexedLine;
 pub use asked::root_bank::RootBank;
+pub use idl_text;
 pub use told::allowance::{Allowance, MAX_TOKENS, MAX_TURNS};
 pub use told::builder::ExpansionBuilder;
 pub use told::event::{Event, Item};

@@ -6,7 +6,7 @@ ghost use Rattle.idl_fault.specs.Diagnostic.{diagnostic_row, head_row};
 
 use crate::code::Code;
 use crate::place::Place;
-use idl_base::Text;
+use idl_source::idl_base::Text;
 use itoa::Buffer;
 use std::alloc::{AllocError, Global};
 

@@ -9,8 +9,8 @@ ghost use Rattle.std.specs.Str.{bytes_eq};
 ghost use Rattle.std.proofs.Common.{ap};
 ghost use Rattle.idl_source.specs.names.Name.{is_name};
 
-use idl_base::Datum;
 use idl_source::Name;
+use idl_source::idl_base::Datum;
 use std::alloc::{AllocError, Global};
 use std::cmp::Ordering;
 use std::hash::{Hash, Hasher};

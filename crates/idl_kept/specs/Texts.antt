@@ -1,7 +1,7 @@
 -- What is kept of units and blocks, and where the results of a block's units and of the blocks in it
 -- stand.
 use Rattle.std.specs.Prelude.{◌≡◌, ◌≤◌, ◌+◌, ◌-◌, ℕ, Bool, List, [], ◌∷◌, ◌++◌, Option, Some, drop, length, map, slice_get, take}
-use Rattle.idl_check.specs.declared.walk.verdict.Verdict.{Verdict}
+use Rattle.idl_root_blocks.specs.idl_check.declared.walk.verdict.Verdict.{Verdict}
 use Rattle.idl_root_blocks.specs.verdicts.Standing.{AreStanding, block_end}
 use Rattle.idl_env.specs.Facts.{UnitFacts, answers}
 use Rattle.idl_env.specs.declared.answering.answer.Answer.{Answer}
@@ -14,7 +14,7 @@ use Rattle.idl_root_blocks.specs.declared.text.BlockPart.{BlockPart}
 use Rattle.idl_store.specs.Spots.{lists_among, result_on, results_from}
 use Rattle.idl_store.specs.Stored.{Stored, discarded, grown, last_draft, list_at}
 use Rattle.idl_store.specs.declared.numbers.Spot.{Spot}
-use Rattle.idl_unit.specs.declared.unit.UnitText.{UnitText}
+use Rattle.idl_root_blocks.specs.idl_unit.declared.unit.UnitText.{UnitText}
 
 abbrev pub DeclarationResult : Type 0
 DeclarationResult = Kept Key (Option Answer) UnitText Verdict

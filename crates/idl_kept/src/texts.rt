@@ -16,12 +16,12 @@ ghost use Rattle.idl_store.specs.Stored.{last_draft, result_at, results_in};
 
 use crate::laws::alike_at;
 use crate::parts::{Part, begin_each, discard_each, put_each, take_each};
-use idl_check::{DeclarationTask, Scratch, Verdict};
 use idl_env::{Env, PlainEnv};
 use idl_memo::{Kept, Meter};
+use idl_root_blocks::idl_check::{DeclarationTask, Scratch, Verdict};
+use idl_root_blocks::idl_unit::UnitText;
 use idl_root_blocks::{BlockTask, KeptBlock};
 use idl_store::{Lists, Spot, Store};
-use idl_unit::UnitText;
 use std::alloc::{AllocError, Global};
 use std::marker::Model;
 use std::rc::Rc;

@@ -2,7 +2,7 @@
 use Rattle.std.proofs.Common.{◌≡◌, ◌∙◌, ◌+◌, ◌++◌, ℕ, suc, nat_eq, Bool, true, false, not, ◌&&◌, ◌||◌, if◌then◌else◌, List, [], ◌∷◌, length, take, Option, None, Some, refl, sym, ap, subst, arith}
 use Rattle.std.proofs.lemmas.Bool.{eqb-true, false≢true}
 use Rattle.std.specs.Option.{option_map}
-use Rattle.idl_base.proofs.Bools.{and-false, not-true}
+use Rattle.idl_source.proofs.IdlBase.Bools.{and-false, not-true}
 use Rattle.idl_source.specs.texts.Line.{newline}
 use Rattle.idl_lex.specs.bytes.Byte.{is_digit, is_word_start, is_word_byte, is_quote, is_x, is_e, is_sign}
 use Rattle.idl_lex.specs.bytes.Context.{ends_block}

@@ -5,7 +5,7 @@ use Rattle.std.proofs.lemmas.List.{drop_more, drop_all}
 use Rattle.std.specs.Prelude.{⊤}
 use Rattle.std.specs.List.{list_all}
 use Rattle.std.specs.Option.{option_map}
-use Rattle.idl_base.proofs.Bools.{or-false, or-true}
+use Rattle.idl_source.proofs.IdlBase.Bools.{or-false, or-true}
 use Rattle.idl_source.specs.texts.Line.{newline}
 use Rattle.idl_lex.proofs.CountLemmas.{eq-true, eq-false, eq-suc}
 use Rattle.idl_lex.specs.bytes.Byte.{is_digit, is_word_start, is_word_byte, is_quote, is_x, is_e, is_sign}

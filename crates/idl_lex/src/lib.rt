@@ -9,6 +9,7 @@ pub mod kinds;
 mod tokens;
 
 pub use bytes::text_left::{TextByte, TextLeft};
+pub use idl_source;
 pub use kinds::word::is_word;
 pub use tokens::block_tokens::{BlockTokens, TokenBuffer, TokenPlace};
 pub use tokens::lexer::{Before, Opening, push_line};

@@ -25,6 +25,7 @@ mod told;
 pub use asked::Asked;
 pub use bank::{Bank, LentBank, PlainBank};
 pub use dated::{Dated, LogPage, Page};
+pub use idl_map;
 pub use journal::Journal;
 pub use keeping::anew::run_anew;
 pub use keeping::edited::Edited;

@@ -13,9 +13,9 @@ use Rattle.clap.proofs.WalkLemmas.{list_any-map}
 use Rattle.idl_session.specs.replies.Replies.{whole_line}
 use Rattle.idl_source.specs.devices.Device.{append}
 use Rattle.idl_source.specs.texts.Texts.{Texts}
-use Rattle.idl_project.specs.Compile.{compiled_root}
-use Rattle.idl_project.specs.Project.{Inputs}
-use Rattle.idl_project.specs.declared.compile.CompiledRoot.{CompiledRoot}
+use Rattle.idl_session.specs.idl_project.Compile.{compiled_root}
+use Rattle.idl_session.specs.idl_project.Project.{Inputs}
+use Rattle.idl_session.specs.idl_project.declared.compile.CompiledRoot.{CompiledRoot}
 use Rattle.idl_program.specs.Compiled.{IsShown, Written}
 use Rattle.idl_program.specs.Holding.{Allows, Holding, NoFile}
 use Rattle.idl_program.specs.Loading.{AreComplete, AreLoaded, IsFileOf}

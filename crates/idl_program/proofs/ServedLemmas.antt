@@ -2,7 +2,7 @@
 use Rattle.std.proofs.Common.{◌≡◌, ℕ, List, Option, None, Some, IfSome, subst}
 use Rattle.idl_session.specs.Answers.{IsReply}
 use Rattle.idl_source.specs.devices.Device.{append}
-use Rattle.idl_project.specs.UpToDate.{State}
+use Rattle.idl_session.specs.idl_project.UpToDate.{State}
 
 -- the commands are answered from another session, that is the same
 pub answered : (input before after : Option (List ℕ)) (first same last : State) → first ≡ same

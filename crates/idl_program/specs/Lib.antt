@@ -7,3 +7,4 @@ pub mod Rows
 pub mod Served
 pub mod Tried
 pub mod Words
+pub use Rattle.idl_session.specs as idl_session

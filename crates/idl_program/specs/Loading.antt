@@ -3,11 +3,11 @@ use Rattle.std.specs.Prelude.{◌≡◌, ℕ, List, All, Some, map}
 use Rattle.std.specs.FinMap as finite
 use Rattle.idl_source.specs.texts.Cut.{cut_lines}
 use Rattle.idl_source.specs.texts.Texts.{Texts}
-use Rattle.idl_project.specs.Compile.{compiled_root}
-use Rattle.idl_project.specs.Made.{rootless}
-use Rattle.idl_project.specs.Project.{Inputs}
-use Rattle.idl_project.specs.WellFormed.{IsWellFormed}
-use Rattle.idl_project.specs.declared.compile.CompiledRoot.{CompiledRoot}
+use Rattle.idl_session.specs.idl_project.Compile.{compiled_root}
+use Rattle.idl_session.specs.idl_project.Made.{rootless}
+use Rattle.idl_session.specs.idl_project.Project.{Inputs}
+use Rattle.idl_session.specs.idl_project.WellFormed.{IsWellFormed}
+use Rattle.idl_session.specs.idl_project.declared.compile.CompiledRoot.{CompiledRoot}
 use Rattle.idl_program.specs.Holding.{Holding, File, NoFile, Allows}
 
 -- the lines are those of a file that the loader has under this name

@@ -13,6 +13,7 @@ mod request;
 mod service;
 
 pub use failure::{CompileFault, OptionsFault, Status, Subject};
+pub use idl_session;
 pub use laws::{rows_of_a_session, single_fault, worked_words};
 pub use loader::{Loaded, Loader, PathLoader};
 pub use loading::compile_all;

@@ -3,14 +3,14 @@
 ghost use Rattle.std.specs.Prelude.{◌≡◌, ◌++◌, ◌∷◌, [], All, Contains, IfNone, IfOk, OnOk, map};
 ghost use Rattle.std.specs.FinMap as finite;
 ghost use Rattle.idl_source.specs.texts.Cut.{cut_lines};
-ghost use Rattle.idl_project.specs.Compile.{compiled_root};
+ghost use Rattle.idl_session.specs.idl_project.Compile.{compiled_root};
 ghost use Rattle.idl_program.specs.Loading.{AreCompiled};
 ghost use Rattle.idl_program.specs.Tried.{AreMissing, IsLoading};
 
 use crate::failure::CompileFault;
 use crate::loader::{Loaded, Loader};
-use idl_prep::{Explorer, FileWalk, MAX_DEPTH, Next, OpenFile};
-use idl_project::{CompiledRoot, Sources};
+use idl_session::idl_prep::{Explorer, FileWalk, MAX_DEPTH, Next, OpenFile};
+use idl_session::idl_project::{CompiledRoot, Sources};
 use idl_source::{Name, Refusal, cut};
 use indexmap::IndexSet;
 use std::alloc::AllocError;

@@ -6,7 +6,7 @@ ghost use Rattle.idl_program.specs.Options.{AreAsked, before_equals, defined_by,
 
 use crate::failure::OptionsFault;
 use crate::request::Options;
-use idl_project::{MAX_ROOTS, Sources};
+use idl_session::idl_project::{MAX_ROOTS, Sources};
 use idl_source::path::directory_at;
 use idl_source::{Directory, Line, Name, Refusal, first_part, join};
 use indexmap::IndexSet;

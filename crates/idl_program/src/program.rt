@@ -14,7 +14,7 @@ use crate::loader::Loader;
 use crate::loading::compile_all;
 use crate::preparing::prepared;
 use crate::request::{Options, Request, request_of};
-use idl_project::CompiledRoot;
+use idl_session::idl_project::CompiledRoot;
 use idl_session::{Session, Sink, Source, WriteFailed, run, write_all, write_lines};
 use std::alloc::Global;
 use std::mem::forget;

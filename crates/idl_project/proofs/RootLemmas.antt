@@ -16,8 +16,8 @@ use Rattle.idl_event.specs.Key.{key_eq}
 use Rattle.idl_event.specs.declared.asked.key.RootAnswer.{RootAnswer}
 use Rattle.idl_event.specs.declared.asked.key.RootKey.{RootKey}
 use Rattle.idl_memo.specs.Cause.{changed}
-use Rattle.idl_kept.specs.Drafts.{committed_texts, no_texts}
-use Rattle.idl_kept.specs.Texts.{Texts, without_drafts}
+use Rattle.idl_root.specs.idl_kept.Drafts.{committed_texts, no_texts}
+use Rattle.idl_root.specs.idl_kept.Texts.{Texts, without_drafts}
 use Rattle.idl_store.specs.Stored.{Stored, committed, discarded, nothing_stored, with_draft}
 use Rattle.idl_prep.specs.Root.{expanded}
 use Rattle.idl_root.specs.AsBefore.{AreListsLeft}

@@ -16,3 +16,5 @@ pub mod UpToDate
 pub mod WellFormed
 pub mod WithinLimits
 pub mod Work
+pub use Rattle.idl_root.specs as idl_root
+pub use Rattle.idl_prep.specs as idl_prep

@@ -26,8 +26,11 @@ pub use bank::answers_come_from_inputs;
 pub use compile::{CompiledRoot, diagnostics_are_findings};
 pub use detailed::listing_is_details;
 pub use file_edit::FileEdit;
+pub use idl_prep;
+pub use idl_root;
 pub use idl_root::{
-    Compiled, DeclaredPlace, DetailedEntry, Details, Finding, Row, SitedToken, UsedName,
+    Compiled, DeclaredPlace, DetailedEntry, Details, Finding, Row, SitedToken, UsedName, idl_check,
+    idl_root_blocks, idl_scope, idl_syntax,
 };
 pub use idl_source::Span;
 pub use limits::{

@@ -15,7 +15,7 @@ use crate::bank::SessionBank;
 use idl_memo::{Meter, freshness, reliance, sharing};
 use idl_prep::RootTask;
 use idl_root::comparing;
-use idl_root_blocks::meeting;
+use idl_root::idl_root_blocks::meeting;
 
 /// How many roots an edit expanded, declarations it checked and entries of a listing it printed, through kept results, and how many keys
 /// those had asked that were alike where they were met.

@@ -5,14 +5,14 @@ use Rattle.idl_event.specs.declared.asked.key.RootKey.{RootKey}
 use Rattle.idl_event.specs.declared.told.event.Event.{Event}
 use Rattle.idl_event.specs.declared.told.site.Site.{Site}
 use Rattle.idl_event.specs.Apart.{place_in}
-use Rattle.idl_prep.specs.Root.{expanded}
+use Rattle.idl_project.specs.idl_prep.Root.{expanded}
 use Rattle.idl_project.specs.Bank.{bank_of}
 use Rattle.idl_project.specs.Project.{Project}
 use Rattle.idl_project.specs.UpToDate.{findings_of}
 use Rattle.idl_related.specs.declared.second.Related.{Related}
-use Rattle.idl_root.specs.Findings.{site_of, tokens_of}
-use Rattle.idl_root.specs.Number.{token_number}
-use Rattle.idl_root.specs.declared.compiling.finding.Finding.{Finding}
+use Rattle.idl_project.specs.idl_root.Findings.{site_of, tokens_of}
+use Rattle.idl_project.specs.idl_root.Number.{token_number}
+use Rattle.idl_project.specs.idl_root.declared.compiling.finding.Finding.{Finding}
 use Rattle.idl_unit.specs.Units.{units_of}
 use Rattle.idl_unit.specs.declared.unit.Unit.{Unit as RootUnit}
 use Rattle.idl_unit.specs.declared.unit.Unit.TheVariants.{Spelled}

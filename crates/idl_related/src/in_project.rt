@@ -9,7 +9,7 @@ use crate::second::Related;
 use idl_base::Seq;
 use idl_event::Expansion;
 use idl_memo::{Kept, Meter, run_anew};
-use idl_prep::RootTask;
+use idl_project::idl_prep::RootTask;
 use idl_project::{Finding, Session, Sources};
 use idl_source::Name;
 use std::alloc::AllocError;

@@ -14,6 +14,7 @@ mod related;
 mod repeated;
 mod second;
 
+pub use idl_project;
 pub use in_project::{related_in, related_over};
 pub use related::{related_of, unrelated};
 pub use second::{Reason, Related, follows};

@@ -6,7 +6,7 @@ use Rattle.std.proofs.lemmas.List.{length-append, map-append, take-append-drop}
 use Rattle.std.proofs.lemmas.List.Elements.{All-contains_itself, All-head, All-tail, All-weaker, Contains-append_left, Contains-append_right}
 use Rattle.std.proofs.lemmas.List.Folds.{flat_map-map}
 use Rattle.idl_root_blocks.specs.verdicts.Standing.{unit_asks}
-use Rattle.idl_check_laws.specs.Closing.{AreTold}
+use Rattle.idl_root_blocks.specs.idl_check_laws.Closing.{AreTold}
 use Rattle.idl_env.specs.Facts.{UnitFacts}
 use Rattle.idl_env.specs.SameKey.{same_key}
 use Rattle.idl_env.specs.keys.Digested.{key_equiv}

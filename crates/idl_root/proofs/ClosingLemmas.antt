@@ -7,13 +7,13 @@ use Rattle.std.specs.Prelude.{All, Contains}
 use Rattle.std.specs.Cmp.Lexicographic.{bytes_decides, pointwise_decides}
 use Rattle.std.specs.List.{AllByRecursion}
 use Rattle.std.specs.Option.{IsSome, option_map}
-use Rattle.idl_check.specs.walk.Judging.{IsSpoken}
-use Rattle.idl_check.specs.walk.Names.{declared_as, declared_paths, unit_names}
-use Rattle.idl_check.specs.walk.Placing.{faulty_step}
-use Rattle.idl_check.specs.walk.Verdict.{faulty, verdict}
-use Rattle.idl_check.specs.declared.walk.names.NamedSite.{NamedSite}
-use Rattle.idl_check.specs.declared.walk.names.NameRole.{NameRole}
-use Rattle.idl_check.specs.declared.walk.names.NameRole.TheVariants.{Declared, Used}
+use Rattle.idl_root_blocks.specs.idl_check.walk.Judging.{IsSpoken}
+use Rattle.idl_root_blocks.specs.idl_check.walk.Names.{declared_as, declared_paths, unit_names}
+use Rattle.idl_root_blocks.specs.idl_check.walk.Placing.{faulty_step}
+use Rattle.idl_root_blocks.specs.idl_check.walk.Verdict.{faulty, verdict}
+use Rattle.idl_root_blocks.specs.idl_check.declared.walk.names.NamedSite.{NamedSite}
+use Rattle.idl_root_blocks.specs.idl_check.declared.walk.names.NameRole.{NameRole}
+use Rattle.idl_root_blocks.specs.idl_check.declared.walk.names.NameRole.TheVariants.{Declared, Used}
 use Rattle.idl_entity.specs.Kind.{kind_eq, same_stage, stage_eq}
 use Rattle.idl_entity.specs.Path.{name_of, path_eq, same_path, scope_of}
 use Rattle.idl_entity.specs.declared.entity.Entity.{Entity}

@@ -1,8 +1,8 @@
 -- The facts of a root are told, each behind those before it.
 use Rattle.std.proofs.Common.{◌≡◌, ◌≤◌, ◌∙◌, List, [], ◌∷◌, ◌++◌, arith, refl, sym, ap}
-use Rattle.idl_check_laws.proofs.ToldLaws.{MoreTurns, said-alike, told-more, told-nothing, turns-grow}
-use Rattle.idl_check_laws.specs.Closing.{AreTold, IsTold as told}
-use Rattle.idl_check.specs.declared.walk.verdict.Verdict.{Verdict}
+use Rattle.idl_root_blocks.proofs.IdlCheckLaws.ToldLaws.{MoreTurns, said-alike, told-more, told-nothing, turns-grow}
+use Rattle.idl_root_blocks.specs.idl_check_laws.Closing.{AreTold, IsTold as told}
+use Rattle.idl_root_blocks.specs.idl_check.declared.walk.verdict.Verdict.{Verdict}
 use Rattle.idl_root.specs.Judged.{HasTurns, added, facts_after}
 use Rattle.idl_env.specs.Facts.{UnitFacts}
 use Rattle.idl_env.specs.Turns.{most_turns, turns_for}

@@ -1,7 +1,7 @@
 -- A unit, or a block, stands in front of units that are left.
 use Rattle.std.proofs.Common.{◌≡◌, ◌≤◌, ◌∙◌, ℕ, List, [], ◌∷◌, ◌++◌, append-nil, refl, subst, sym, ap}
-use Rattle.idl_check_laws.proofs.ToldLaws.{MoreTurns}
-use Rattle.idl_check_laws.specs.Closing.{AreTold}
+use Rattle.idl_root_blocks.proofs.IdlCheckLaws.ToldLaws.{MoreTurns}
+use Rattle.idl_root_blocks.specs.idl_check_laws.Closing.{AreTold}
 use Rattle.idl_env.specs.Facts.{UnitFacts}
 use Rattle.idl_env.specs.Turns.{most_turns, turns_for}
 use Rattle.idl_kept.specs.Texts.{AreListsOf, Texts}

@@ -1,7 +1,7 @@
 -- Pieces of a root's units that are passed, and more of them behind these.
 use Rattle.std.proofs.Common.{◌≡◌, ◌≤◌, ◌∙◌, ◌+◌, arith, ℕ, List, [], ◌∷◌, ◌++◌, append-nil, append_assoc, map, refl, subst, sym, ap}
 use Rattle.std.proofs.lemmas.List.{map-append}
-use Rattle.idl_check_laws.proofs.ToldLaws.{MoreTurns}
+use Rattle.idl_root_blocks.proofs.IdlCheckLaws.ToldLaws.{MoreTurns}
 use Rattle.idl_env.specs.Facts.{UnitFacts}
 use Rattle.idl_kept.specs.Texts.{Texts}
 use Rattle.idl_memo.specs.Meter.{compared_after, most_compared}

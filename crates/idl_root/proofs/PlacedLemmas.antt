@@ -7,17 +7,17 @@ use Rattle.std.specs.Prelude.{All, Contains}
 use Rattle.std.specs.Cmp.Lexicographic.{bytes_decides, pointwise_decides}
 use Rattle.std.specs.List.{AllByRecursion}
 use Rattle.std.specs.Option.{unwrap_or}
-use Rattle.idl_check.specs.ids.About.{Said, about, about_entity, refused_for, said_at, unnamed_faults, with_faults}
-use Rattle.idl_check.specs.ids.Pragmas.{said, text_faults}
-use Rattle.idl_check.specs.tables.Rules.{has_id}
-use Rattle.idl_check.specs.walk.Judging.{IsSpoken}
-use Rattle.idl_check.specs.walk.Names.{declared_as, declared_paths, unit_names}
-use Rattle.idl_check.specs.walk.Placing.{faulty_step}
-use Rattle.idl_check.specs.walk.Verdict.{faulty, verdict}
-use Rattle.idl_check.specs.declared.walk.names.NamedSite.{NamedSite}
-use Rattle.idl_check.specs.declared.walk.names.NameRole.{NameRole}
-use Rattle.idl_check.specs.declared.walk.names.NameRole.TheVariants.{Declared, Used}
-use Rattle.idl_check.specs.declared.walk.verdict.Verdict.{Verdict}
+use Rattle.idl_root_blocks.specs.idl_check.ids.About.{Said, about, about_entity, refused_for, said_at, unnamed_faults, with_faults}
+use Rattle.idl_root_blocks.specs.idl_check.ids.Pragmas.{said, text_faults}
+use Rattle.idl_root_blocks.specs.idl_check.tables.Rules.{has_id}
+use Rattle.idl_root_blocks.specs.idl_check.walk.Judging.{IsSpoken}
+use Rattle.idl_root_blocks.specs.idl_check.walk.Names.{declared_as, declared_paths, unit_names}
+use Rattle.idl_root_blocks.specs.idl_check.walk.Placing.{faulty_step}
+use Rattle.idl_root_blocks.specs.idl_check.walk.Verdict.{faulty, verdict}
+use Rattle.idl_root_blocks.specs.idl_check.declared.walk.names.NamedSite.{NamedSite}
+use Rattle.idl_root_blocks.specs.idl_check.declared.walk.names.NameRole.{NameRole}
+use Rattle.idl_root_blocks.specs.idl_check.declared.walk.names.NameRole.TheVariants.{Declared, Used}
+use Rattle.idl_root_blocks.specs.idl_check.declared.walk.verdict.Verdict.{Verdict}
 use Rattle.idl_entity.specs.Path.{path_eq}
 use Rattle.idl_entity.specs.declared.entity.Entity.{Entity}
 use Rattle.idl_entity.specs.declared.identity.Fixed.{Fixed}

@@ -1,7 +1,7 @@
 -- What units add, and where their declarations stand, is told by their text.
 use Rattle.std.proofs.Common.{◌≡◌, ◌∙◌, List, [], ◌∷◌, ◌++◌, append-nil, map, refl, ap}
 use Rattle.idl_block.specs.Blocks.{walk}
-use Rattle.idl_check.specs.declared.walk.verdict.Verdict.{Verdict}
+use Rattle.idl_root_blocks.specs.idl_check.declared.walk.verdict.Verdict.{Verdict}
 use Rattle.idl_env.specs.Facts.{UnitFacts, answers}
 use Rattle.idl_root.specs.Judged.{Judged, added, facts_after, judged_after, verdict_over}
 use Rattle.idl_root.specs.Places.{declaration_at, declarations_after}

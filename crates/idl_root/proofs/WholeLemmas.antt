@@ -3,7 +3,7 @@ use Rattle.std.proofs.Common.{◌≡◌, ◌≤◌, ◌<◌, ◌^◌, ◌∙◌,
 use Rattle.std.proofs.lemmas.List.{append_cancel_left}
 use Rattle.std.specs.Option.{option_eq}
 use Rattle.idl_root_blocks.specs.verdicts.Standing.{AreStanding, IsBlock, block_end}
-use Rattle.idl_check_laws.specs.Closing.{AreTold}
+use Rattle.idl_root_blocks.specs.idl_check_laws.Closing.{AreTold}
 use Rattle.idl_env.specs.Facts.{UnitFacts, answers, count_in}
 use Rattle.idl_env.specs.SameAnswer.{answer_eq}
 use Rattle.idl_env.specs.SameKey.{same_key}

@@ -18,3 +18,5 @@ pub mod Passed
 pub mod Named
 pub mod NamePlaces
 pub mod Details
+pub use Rattle.idl_kept.specs as idl_kept
+pub use Rattle.idl_root_blocks.specs as idl_root_blocks

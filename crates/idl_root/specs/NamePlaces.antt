@@ -3,8 +3,8 @@
 use Rattle.std.specs.Prelude.{◌≡◌, ℕ, ◌-◌, Bool, List, [], ◌∷◌, ◌++◌, filter, flat_map, length, map, slice_get, Option, None, Some}
 use Rattle.std.specs.Map.{lookup}
 use Rattle.std.specs.Option.{unwrap_or}
-use Rattle.idl_check.specs.declared.walk.names.NameRole.TheVariants.{Declared, Used}
-use Rattle.idl_check.specs.declared.walk.names.NamedSite.{NamedSite}
+use Rattle.idl_root_blocks.specs.idl_check.declared.walk.names.NameRole.TheVariants.{Declared, Used}
+use Rattle.idl_root_blocks.specs.idl_check.declared.walk.names.NamedSite.{NamedSite}
 use Rattle.idl_entity.specs.Path.{path_eq}
 use Rattle.idl_event.specs.Apart.{place_in}
 use Rattle.idl_event.specs.declared.told.event.Event.{Event}

@@ -2,8 +2,8 @@
 -- ends.
 use Rattle.std.specs.Prelude.{◌≡◌, ℕ, Bool, true, false, List, [], ◌∷◌, ◌++◌, drop, map, slice_get, None, Some, if◌then◌else◌}
 use Rattle.std.specs.Option.{unwrap_or}
-use Rattle.idl_check.specs.declared.walk.names.NamedSite.{NamedSite}
-use Rattle.idl_check.specs.walk.Names.{unit_names}
+use Rattle.idl_root_blocks.specs.idl_check.declared.walk.names.NamedSite.{NamedSite}
+use Rattle.idl_root_blocks.specs.idl_check.walk.Names.{unit_names}
 use Rattle.idl_env.specs.Facts.{UnitFacts, answers}
 use Rattle.idl_env.specs.Turns.{most_turns}
 use Rattle.idl_env.specs.declared.additions.addition.Step.{Step}

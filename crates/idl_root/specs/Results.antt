@@ -1,8 +1,8 @@
 -- The results of the tasks of roots, as they are kept.
 use Rattle.std.specs.Prelude.{◌≡◌, ◌≢◌, ℕ, List, [], ◌∷◌, Option, flat_map, map}
 use Rattle.std.specs.Option.{option_eq}
-use Rattle.idl_check.specs.walk.Verdict.{verdict}
-use Rattle.idl_check.specs.declared.walk.verdict.Verdict.{Verdict}
+use Rattle.idl_root_blocks.specs.idl_check.walk.Verdict.{verdict}
+use Rattle.idl_root_blocks.specs.idl_check.declared.walk.verdict.Verdict.{Verdict}
 use Rattle.idl_entity.specs.Path.{path_eq}
 use Rattle.idl_env.specs.SameAnswer.{answer_eq}
 use Rattle.idl_env.specs.Turns.{most_turns}

@@ -14,6 +14,9 @@ pub use compiling::laws::{closing, detailing, facts, ordering, placing, telling,
 pub use compiling::memory::Memory;
 pub use compiling::number::token_number;
 pub use compiling::places::{DeclaredPlace, SitedToken, UsedName};
+pub use idl_root_blocks;
+pub use idl_root_blocks::{idl_check, idl_syntax};
+pub use idl_scope;
 pub use kept::comparing::comparing;
 pub use kept::fresh::fresh_tasks;
 pub use kept::keeper::Keeper;

@@ -2,7 +2,7 @@
 use Rattle.std.proofs.Common.{◌≡◌, ◌∙◌, ℕ, suc, Bool, true, false, cond, List, Option, None, Some, ap, refl}
 use Rattle.std.specs.Prelude.{is_some}
 use Rattle.idl_block.specs.Blocks.{Text as UnitPart}
-use Rattle.idl_check.specs.walk.Placing.{heading_kind}
+use Rattle.idl_check_laws.specs.idl_check.walk.Placing.{heading_kind}
 use Rattle.idl_root_blocks.specs.verdicts.Standing.{part_step}
 use Rattle.idl_entity.specs.declared.kind.Kind.{Kind}
 use Rattle.idl_env.specs.declared.additions.addition.Step.{Step}

@@ -4,7 +4,7 @@ use Rattle.std.proofs.lemmas.List.{map-append}
 use Rattle.idl_block.proofs.BlockLaws.{walk-block}
 use Rattle.idl_block.proofs.JoinedLaws.{walk-grows}
 use Rattle.idl_block.specs.Blocks.{Part as UnitPart, walk}
-use Rattle.idl_check.specs.declared.walk.verdict.Verdict.{Verdict}
+use Rattle.idl_check_laws.specs.idl_check.declared.walk.verdict.Verdict.{Verdict}
 use Rattle.idl_root_blocks.proofs.VerdictLaws.Stands.{AreHeld, first-held}
 use Rattle.idl_root_blocks.proofs.VerdictLaws.Told.{files-told, text-told}
 use Rattle.idl_root_blocks.specs.verdicts.Standing.{AreInside, AreStanding, IsBlock, block_end, part_step, unit_asks, unit_writes}

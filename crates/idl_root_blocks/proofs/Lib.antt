@@ -16,3 +16,4 @@ pub mod Splits
 pub mod Units
 pub mod Wholes
 pub mod VerdictLaws
+pub use Rattle.idl_check_laws.proofs as IdlCheckLaws

@@ -2,7 +2,7 @@
 -- declarations and pragmas, over what the units and file boundaries before them added, and its blocks.
 use Rattle.std.specs.Prelude.{◌≡◌, List, [], ◌∷◌, ◌++◌, Option}
 use Rattle.idl_block.specs.Blocks.{Ways, block, walk}
-use Rattle.idl_check.specs.declared.walk.verdict.Verdict.{Verdict}
+use Rattle.idl_check_laws.specs.idl_check.declared.walk.verdict.Verdict.{Verdict}
 use Rattle.idl_root_blocks.specs.verdicts.Standing.{AreStanding, block_end, unit_asks, unit_writes}
 use Rattle.idl_env.specs.Facts.{UnitFacts, answers}
 use Rattle.idl_env.specs.declared.additions.addition.Step.{Step}

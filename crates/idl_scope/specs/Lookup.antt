@@ -6,7 +6,7 @@ use denote.Ref.{Bor}
 use Rattle.std.specs.Str.{bytes_eq}
 use Rattle.idl_lex.specs.kinds.Keywords.{folded}
 use Rattle.idl_memo.specs.Query.{Done, Ask, and_then}
-use Rattle.idl_tree.specs.declared.name.ScopedName.{ScopedName}
+use Rattle.idl_entity.specs.idl_tree.declared.name.ScopedName.{ScopedName}
 use Rattle.idl_env.specs.Facts.{entity_key, entity_in, joined}
 pub use Rattle.idl_scope.specs.Meaning.{bases_of, searched}
 use Rattle.idl_entity.specs.Path.{name_of, path_eq, scope_of}

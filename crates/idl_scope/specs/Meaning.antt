@@ -3,7 +3,7 @@ use Rattle.std.specs.Prelude.{◌≡◌, ◌≢◌, ◌↔◌, ◌⊎◌, ℕ, B
 use Rattle.idl_lex.specs.kinds.Keywords.{folded}
 use Rattle.idl_entity.specs.Entity.{is_operation}
 use Rattle.idl_entity.specs.Kind.{has_bases, inherits, is_scope}
-use Rattle.idl_tree.specs.declared.name.ScopedName.{ScopedName}
+use Rattle.idl_entity.specs.idl_tree.declared.name.ScopedName.{ScopedName}
 use Rattle.idl_env.specs.Facts.{UnitFacts, answers, entity_key, entity_in, global_scope, over}
 use Rattle.idl_entity.specs.Path.{name_of}
 use Rattle.idl_env.specs.declared.additions.addition.Addition.{Addition}

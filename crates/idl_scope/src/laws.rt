@@ -7,7 +7,7 @@ ghost use Rattle.std.specs.Prelude.{◌≡◌, ◌≢◌, ◌↔◌, ◌∷◌, 
 ghost use Rattle.idl_lex.specs.kinds.Keywords.{folded};
 ghost use Rattle.idl_memo.specs.Query.{Agree, asked, outcome, run};
 ghost use Rattle.idl_entity.specs.Identity.{no_prefix};
-ghost use Rattle.idl_tree.specs.declared.name.ScopedName.{ScopedName};
+ghost use Rattle.idl_entity.specs.idl_tree.declared.name.ScopedName.{ScopedName};
 ghost use Rattle.idl_env.specs.Turns.{HasTurnsFor};
 ghost use Rattle.idl_env.specs.Differing.{differing};
 ghost use Rattle.idl_env.specs.Facts.{UnitFacts, World, after, after_all, answers, entity_key, key_of, operations_among, over, path_around, prefix_in, scopes_in, stops_of, unstopped, world};

@@ -15,10 +15,10 @@ use crate::finds::Finds;
 use crate::found::{Found, Reach};
 use crate::lookup::{ScopeAt, View};
 use idl_base::{Bytes, Shared};
+use idl_entity::idl_tree::ScopedName;
 use idl_entity::{Entity, Kind, Path};
 use idl_env::{Env, Facts, OpenScopes};
 use idl_memo::Journal;
-use idl_tree::ScopedName;
 use std::alloc::AllocError;
 
 /// Where a name stands.

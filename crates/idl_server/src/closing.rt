@@ -4,8 +4,8 @@ ghost use Rattle.std.specs.Prelude.{◌≡◌, ℕ, All, List, IfOk, IfSome, Non
 ghost use Rattle.std.specs.List.{list_any};
 ghost use Rattle.std.specs.Map.{lookup};
 ghost use Rattle.std.specs.Str.{bytes_eq};
-ghost use Rattle.idl_project.specs.Batch.{edit_of};
-ghost use Rattle.idl_project.specs.Project.{is_root};
+ghost use Rattle.idl_related.specs.idl_project.Batch.{edit_of};
+ghost use Rattle.idl_related.specs.idl_project.Project.{is_root};
 ghost use Rattle.idl_program.specs.Holding.{Allows, Holding, NoFile};
 ghost use Rattle.idl_program.specs.Loading.{IsFileOf};
 ghost use Rattle.idl_server.specs.Documents.{texts_of};
@@ -17,7 +17,7 @@ ghost use Rattle.idl_server.specs.Roots.{AddsNoRoot, IsRooted};
 use crate::document::set_behind;
 use crate::workspace::Workspace;
 use idl_program::{Loaded, PathLoader};
-use idl_project::FileEdit;
+use idl_related::idl_project::FileEdit;
 use idl_source::{Line, Name, cut};
 use std::alloc::AllocError;
 

@@ -12,7 +12,7 @@ use idl_base::Seq;
 use idl_editor::{Encoding, Range};
 use idl_explain::{Topic, explanation_of};
 use idl_fault::Code;
-use idl_project::{Finding, Session};
+use idl_related::idl_project::{Finding, Session};
 use idl_related::{Related, related_in};
 use idl_source::Name;
 use serde_json::{Value, json};

@@ -25,6 +25,8 @@ mod shown;
 mod symbols;
 mod workspace;
 
+pub use idl_program;
+pub use idl_program::idl_session;
 pub use outbox::Outbox;
 pub use server::{Next, Server};
 pub use service::LanguageServer;

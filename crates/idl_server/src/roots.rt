@@ -8,7 +8,7 @@ ghost use Rattle.idl_server.specs.Named.{asks_for, root_with};
 ghost use Rattle.idl_server.specs.Roots.{AreCovered, AreRooted, IsFull, IsOpen, IsWaiting};
 
 use crate::workspace::Workspace;
-use idl_project::{MAX_ROOTS, Session};
+use idl_related::idl_project::{MAX_ROOTS, Session};
 use idl_source::{Name, Refusal};
 use indexmap::IndexSet;
 use std::alloc::AllocError;

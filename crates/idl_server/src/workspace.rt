@@ -1,14 +1,14 @@
 //! What a server knows: the documents that are open, and the session that compiles them.
 
 ghost use Rattle.std.specs.Prelude.{◌≡◌, [], IfOk, string_bytes};
-ghost use Rattle.idl_project.specs.Project.{no_project};
+ghost use Rattle.idl_related.specs.idl_project.Project.{no_project};
 ghost use Rattle.idl_server.specs.Files.{IsKept, name_for};
 ghost use Rattle.idl_server.specs.Uris.{uri_for};
 
 use crate::document::Document;
 use idl_editor::Encoding;
 use idl_editor::uris::{Folders, path_of, uri_of};
-use idl_project::Session;
+use idl_related::idl_project::Session;
 use idl_source::{Name, Refusal};
 use indexmap::{IndexMap, IndexSet};
 use std::alloc::{AllocError, Global};

@@ -9,3 +9,4 @@ pub mod Serving
 pub mod Stopping
 pub mod Streams
 pub mod replies
+pub use Rattle.idl_project.specs as idl_project

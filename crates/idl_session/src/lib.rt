@@ -17,9 +17,10 @@ mod serve;
 mod stop;
 
 pub use commands::run;
+pub use idl_project;
 pub use idl_project::{
     DetailedEntry, Details, FileEdit, Finding, MAX_BODY, MAX_DIRECTORIES, MAX_MACROS, MAX_ROOTS,
-    Row, Session, Span, Work,
+    Row, Session, Span, Work, idl_check, idl_prep, idl_root_blocks,
 };
 pub use idl_source::devices::{BufferSink, ReadFailed, SliceSource, WriteFailed, write_all};
 pub use idl_source::{Line, Name, Refusal, Sink, Source};

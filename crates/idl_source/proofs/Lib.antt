@@ -8,3 +8,4 @@ pub mod Ordered
 pub mod PartLemmas
 pub mod PathLemmas
 pub mod TextLemmas
+pub use Rattle.idl_base.proofs as IdlBase

@@ -9,6 +9,7 @@ mod refusal;
 mod texts;
 
 pub use devices::device::{Sink, Source};
+pub use idl_base;
 pub use names::directory::Directory;
 pub use names::name::Name;
 pub use names::parts::first_part;

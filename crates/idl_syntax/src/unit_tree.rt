@@ -14,8 +14,8 @@ use crate::pragma::pragma;
 use crate::unit::unit;
 use idl_fault::Code;
 use idl_lex::Token;
-use idl_text::TokenRange;
 use idl_tree::{Pragma, Tree, nesting, reading};
+use idl_unit::idl_text::TokenRange;
 use idl_unit::{Fault, UnitText, token_fault};
 use std::alloc::Global;
 

@@ -4,7 +4,7 @@ use Rattle.std.specs.String.{string_bytes}
 use Rattle.idl_explain.specs.Explained.{headline, topic_of}
 use Rattle.idl_explain.specs.declared.explanation.Explanation.{Explanation}
 use Rattle.idl_explain.specs.declared.explanation.Topic.TheVariants as topic
-use Rattle.idl_session.specs.replies.Replies.{whole_line}
+use Rattle.idl_program.specs.idl_session.replies.Replies.{whole_line}
 use Rattle.idl_source.specs.declared.refusal.Refusal.{Refusal}
 use Rattle.idl_program.specs.declared.failure.CompileFault.{CompileFault}
 use Rattle.idl_program.specs.declared.failure.CompileFault.TheVariants as compile

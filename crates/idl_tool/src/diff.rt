@@ -2,8 +2,8 @@
 
 ghost use Rattle.std.specs.Prelude.{◌≡◌, ◌≤◌, ◌<◌, ◌+◌, ◌-◌, ◌^◌, IfOk, OnOk, flat_map, if◌then◌else◌, map};
 ghost use Rattle.idl_source.specs.devices.Device.{append};
-ghost use Rattle.idl_project.specs.Bank.{bank_of};
-ghost use Rattle.idl_project.specs.Details.{details_over};
+ghost use Rattle.idl_related.specs.idl_project.Bank.{bank_of};
+ghost use Rattle.idl_related.specs.idl_project.Details.{details_over};
 ghost use Rattle.idl_program.specs.declared.failure.Status.TheVariants.{Faulty, Sound};
 ghost use Rattle.idl_program.specs.Rows.{are_faulty};
 ghost use Rattle.idl_tool.specs.Compared.{IsCompared, IsCompiled, IsVersion, are_breaking, change_lines, changes_between, ending_of, has_error, is_breaking, seen, shown_between, trees_in};
@@ -15,10 +15,10 @@ use crate::json::trees_of;
 use crate::program::Devices;
 use crate::request::Diff;
 use idl_changes::{Change, Weight, changes};
+use idl_program::idl_session::{Sink, write_all};
 use idl_program::{Loader, Options, Status, compile_all, prepared};
-use idl_project::{CompiledRoot, Details, Sources};
+use idl_related::idl_project::{CompiledRoot, Details, Sources};
 use idl_repo::details::RowTree;
-use idl_session::{Sink, write_all};
 use idl_source::Name;
 use indexmap::IndexSet;
 use std::alloc::{AllocError, Global};

@@ -5,8 +5,8 @@ ghost use Rattle.idl_tool.specs.Messages.{IsCompileMessage, IsMessage, IsOptions
 
 use crate::request::WordsFault;
 use idl_explain::{Topic, explanation_of};
+use idl_program::idl_session::WriteFailed;
 use idl_program::{CompileFault, OptionsFault, ServiceFault, Subject};
-use idl_session::WriteFailed;
 use idl_source::Refusal;
 use std::alloc::{AllocError, Global};
 

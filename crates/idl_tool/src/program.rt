@@ -13,8 +13,8 @@ use crate::explain::explain;
 use crate::failure::Failure;
 use crate::json::write_json;
 use crate::request::{Request, request_of};
+use idl_program::idl_session::{Sink, Source, write_all};
 use idl_program::{Loader, PathLoader, Service, Status};
-use idl_session::{Sink, Source, write_all};
 use std::alloc::Global;
 
 /// What the program reads and writes, and what serves an editor over it.

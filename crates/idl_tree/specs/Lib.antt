@@ -9,3 +9,4 @@ pub mod Pragma
 pub mod Several
 pub mod Unit
 pub mod reading
+pub use Rattle.idl_lex.specs as idl_lex

@@ -14,6 +14,7 @@ mod several;
 mod unit;
 
 pub use expression::Expression;
+pub use idl_lex;
 pub use law::{nesting, one_spelling, reading};
 pub use literal::Literal;
 pub use name::ScopedName;

@@ -12,10 +12,10 @@ ghost use Rattle.idl_unit.specs.Units.{units_of};
 use crate::ending::first_unit;
 use crate::site_run::SiteRun;
 use crate::unit::{Unit, UnitText, Units};
+use idl_event::idl_text::TokenRange;
 use idl_event::{Event, EventView, Events, Expansion, Runs, Sites};
 use idl_fault::Place;
 use idl_lex::Token;
-use idl_text::TokenRange;
 use std::alloc::{AllocError, Global};
 use std::rc::Rc;
 

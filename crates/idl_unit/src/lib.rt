@@ -18,6 +18,7 @@ mod unit;
 pub use cut::split;
 pub use ending::first_unit;
 pub use fault::Fault;
+pub use idl_event::idl_text;
 pub use laws::{nothing_lost, one_cut};
 pub use role::{Role, Rule, role_of, rule_of};
 pub use scoping::opening_brace;

@@ -6,8 +6,8 @@ ghost use Rattle.idl_unit.specs.declared.unit.UnitText.TheVariants.{Tokens, Prag
 
 use crate::site_run::SiteRun;
 use idl_base::Datum;
+use idl_event::idl_text::TokenRange;
 use idl_fault::FileName;
-use idl_text::TokenRange;
 use std::hash::Hash;
 use std::marker::Model;
 

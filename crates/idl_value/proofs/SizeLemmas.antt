@@ -2,7 +2,7 @@
 use Rattle.std.proofs.Common.{◌≡◌, ◌∙◌, ℕ, ◌+◌, ◌*◌, ◌≤◌, List, [], ◌∷◌, ◌++◌, Option, None, Some, length, map, flat_map, refl, sym, ap, subst, arith, true, false}
 use Rattle.std.proofs.lemmas.List.{length-append, length-map}
 use Rattle.std.proofs.lemmas.List.Concat.{flat_map_single}
-use Rattle.idl_lex.specs.declared.kinds.mark.Mark.TheVariants as mark
+use Rattle.idl_tree.specs.idl_lex.declared.kinds.mark.Mark.TheVariants as mark
 use Rattle.idl_tree.proofs.Many.{many_spell}
 use Rattle.idl_tree.proofs.SpellLemmas.{spell_and-made, spell_exclusive_or-made, spell_expression-made, spell_primary-literal, spell_primary-name, spell_primary-parentheses, spell_product-made, spell_shift-made, spell_sum-made, spell_unary-made}
 use Rattle.idl_tree.specs.Expression.{product_mark, shift_mark, spell_and, spell_exclusive_or, spell_expression, spell_literal, spell_primary, spell_product, spell_shift, spell_sum, spell_unary, spell_unary_operator, sum_mark}

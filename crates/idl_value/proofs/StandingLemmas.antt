@@ -4,8 +4,8 @@ use Rattle.std.proofs.Math.Seq.{drop-append_seam}
 use Rattle.std.proofs.lemmas.List.{append-nil, length-append}
 use Rattle.std.proofs.lemmas.List.Elements.{All-append, All-cons, All-nil, All-weaker}
 use Rattle.std.specs.Prelude.{◌⊎◌, All, not}
-use Rattle.idl_lex.specs.declared.kinds.mark.Mark.{Mark}
-use Rattle.idl_lex.specs.declared.kinds.mark.Mark.TheVariants as mark
+use Rattle.idl_tree.specs.idl_lex.declared.kinds.mark.Mark.{Mark}
+use Rattle.idl_tree.specs.idl_lex.declared.kinds.mark.Mark.TheVariants as mark
 use Rattle.idl_tree.proofs.Many.{many_spell}
 use Rattle.idl_tree.proofs.SpellLemmas.{spell_and-made, spell_exclusive_or-made, spell_expression-made, spell_primary-literal, spell_primary-name, spell_primary-parentheses, spell_product-made, spell_shift-made, spell_sum-made, spell_unary-made}
 use Rattle.idl_tree.specs.Expression.{product_mark, shift_mark, spell_and, spell_exclusive_or, spell_expression, spell_literal, spell_primary, spell_product, spell_shift, spell_sum, spell_unary, spell_unary_operator, sum_mark}

@@ -11,3 +11,6 @@ pub mod Standing
 pub mod Term
 pub mod Walk
 pub mod integers
+pub use Rattle.idl_tree.specs.idl_lex as idl_lex
+pub use Rattle.idl_map.specs as idl_map
+pub use Rattle.idl_tree.specs as idl_tree

@@ -1,7 +1,7 @@
 -- How a value is written: as one token of IDL that has this value.
 use Rattle.std.specs.Prelude.{ℕ, ◌+◌, ◌/◌, ◌%◌, Bool, true, false, ◌&&◌, ◌||◌, List, [], ◌∷◌, ◌++◌, codes, flat_map, nat_eq, nat_le, if◌then◌else◌}
 use Rattle.std.specs.Fmt.{signed_decimal}
-use Rattle.idl_lex.specs.kinds.Kind.{is_like_keyword}
+use Rattle.idl_tree.specs.idl_lex.kinds.Kind.{is_like_keyword}
 use Rattle.idl_value.specs.declared.value.Value.{Value}
 use Rattle.idl_value.specs.declared.value.Value.TheVariants as value
 

@@ -1,9 +1,9 @@
 -- The tokens of an expression at which a fault may stand.
 use Rattle.std.specs.Prelude.{Bool, true, false, not, [], ◌∷◌}
-use Rattle.idl_lex.specs.declared.kinds.keyword.Keyword.{Keyword}
-use Rattle.idl_lex.specs.declared.kinds.keyword.Keyword.TheVariants as word
-use Rattle.idl_lex.specs.declared.kinds.mark.Mark.{Mark}
-use Rattle.idl_lex.specs.declared.kinds.mark.Mark.TheVariants as mark
+use Rattle.idl_tree.specs.idl_lex.declared.kinds.keyword.Keyword.{Keyword}
+use Rattle.idl_tree.specs.idl_lex.declared.kinds.keyword.Keyword.TheVariants as word
+use Rattle.idl_tree.specs.idl_lex.declared.kinds.mark.Mark.{Mark}
+use Rattle.idl_tree.specs.idl_lex.declared.kinds.mark.Mark.TheVariants as mark
 use Rattle.idl_tree.specs.Lexeme.{Lexemes, Word, Punctuation, Identifier, Other}
 
 abbrev pub is_operator : Mark → Bool

@@ -18,6 +18,8 @@ mod whole;
 
 pub use constant::{evaluate, evaluate_bound, joined, literal_value};
 pub use constant_type::ConstantType;
+pub use idl_map;
+pub use idl_tree;
 pub use integer::IntegerKind;
 pub use laws::{ascending, counting, deciding, standing};
 pub use operator::Operator;

@@ -6,7 +6,7 @@ ghost use Rattle.idl_value.specs.Spelled.{character_text, escaped, hexadecimal, 
 
 use crate::value::Value;
 use idl_base::Bytes;
-use idl_lex::kinds::is_like_keyword;
+use idl_tree::idl_lex::kinds::is_like_keyword;
 use itoa::Buffer;
 use std::alloc::AllocError;
 

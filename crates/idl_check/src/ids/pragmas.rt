@@ -30,8 +30,8 @@ use idl_env::{Addition, Env, Facts, OpenScopes, Step, Writes};
 use idl_fault::Code;
 use idl_memo::Journal;
 use idl_syntax::{SyntaxFault, UnitTree, parse};
-use idl_text::TokenRange;
 use idl_tree::{Pragma, ScopedName, last_at};
+use idl_unit::idl_text::TokenRange;
 use idl_unit::{Fault, UnitText};
 use std::alloc::{AllocError, Global};
 

@@ -7,7 +7,7 @@ use Rattle.std.specs.Prelude.{◌||◌, codes, is_some}
 use Rattle.std.specs.Str.{bytes_eq}
 use Rattle.idl_check.specs.tables.Declaring.{entity_of, standing}
 use Rattle.idl_check.specs.walk.Judging.{used_name, used_names, walked}
-use Rattle.idl_dump.specs.Row.{Rest, spaced, token_text, unit_text}
+use Rattle.idl_check.specs.idl_dump.Row.{Rest, spaced, token_text, unit_text}
 use Rattle.idl_check.specs.told.Types.{looked_through}
 use Rattle.idl_check.specs.walk.Walk.{turns_at, Visit, Walk, declared_visit, outcome_at, unfound_visit, used, used_visit, value_visit, visit, plain_name, spoken_of, spoken_visit}
 use Rattle.idl_lex.specs.kinds.Kind.{kind_of}

@@ -1,7 +1,7 @@
 //! Names that are shared.
 
 ghost use Rattle.std.specs.Prelude.{◌≡◌, IfOk};
-ghost use Rattle.idl_lex.specs.kinds.Keywords.{folded};
+ghost use Rattle.idl_value.specs.idl_lex.kinds.Keywords.{folded};
 
 use idl_base::Bytes;
 use std::alloc::{AllocError, Global};

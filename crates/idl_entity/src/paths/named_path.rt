@@ -2,7 +2,7 @@
 
 ghost use Rattle.std.specs.Prelude.{◌≡◌, ◌&&◌, ◌∷◌, IfOk};
 ghost use Rattle.std.specs.Str.{bytes_eq};
-ghost use Rattle.idl_lex.specs.kinds.Keywords.{folded};
+ghost use Rattle.idl_value.specs.idl_lex.kinds.Keywords.{folded};
 ghost use Rattle.idl_entity.specs.Path.{name_of, path_eq, scope_of};
 
 use crate::paths::names::Names;

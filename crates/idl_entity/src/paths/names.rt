@@ -6,7 +6,7 @@ ghost use Rattle.std.specs.Str.{bytes_eq};
 ghost use Rattle.idl_entity.specs.Digest.{path_digest};
 ghost use Rattle.idl_entity.specs.Identity.{is_within};
 ghost use Rattle.idl_entity.specs.Path.{name_of, path_eq, path_of, scope_of};
-ghost use Rattle.idl_lex.specs.kinds.Keywords.{folded};
+ghost use Rattle.idl_value.specs.idl_lex.kinds.Keywords.{folded};
 
 use crate::paths::path::{Path, PathPart, are_alike};
 use idl_base::Bytes;

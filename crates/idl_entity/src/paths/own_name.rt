@@ -2,7 +2,7 @@
 
 ghost use Rattle.std.specs.Prelude.{◌≡◌, ◌↔◌, IfOk, IsTrue};
 ghost use Rattle.std.specs.Str.{bytes_eq};
-ghost use Rattle.idl_lex.specs.kinds.Keywords.{folded};
+ghost use Rattle.idl_value.specs.idl_lex.kinds.Keywords.{folded};
 ghost use Rattle.idl_entity.specs.Path.{name_of};
 
 use crate::paths::named_path::NamedPath;
@@ -19,7 +19,7 @@ pub struct OwnName {
 
 impl Model for OwnName {
     ghost use Rattle.std.specs.Prelude.{List, ℕ};
-    ghost use Rattle.idl_lex.specs.kinds.Keywords.{folded};
+    ghost use Rattle.idl_value.specs.idl_lex.kinds.Keywords.{folded};
     ghost use Rattle.idl_entity.specs.Path.{name_of};
 
     ghost Value = { List ℕ };

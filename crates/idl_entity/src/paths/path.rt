@@ -7,7 +7,7 @@ ghost use Rattle.std.specs.Hash as fed;
 ghost use Rattle.std.specs.Ordering.{nat_cmp};
 ghost use Rattle.std.specs.Str.{bytes_eq};
 ghost use Rattle.std.proofs.Common.{ap};
-ghost use Rattle.idl_lex.specs.kinds.Keywords.{folded};
+ghost use Rattle.idl_value.specs.idl_lex.kinds.Keywords.{folded};
 ghost use Rattle.idl_entity.specs.Digest.{path_digest, under};
 ghost use Rattle.idl_entity.specs.Path.{name_of, path_eq, path_of, same_path, scope_of};
 
@@ -16,7 +16,7 @@ use crate::paths::name::shared_name;
 use crate::paths::named_path::NamedPath;
 use crate::paths::names::Names;
 use idl_base::{Bytes, Datum};
-use idl_map::Digest;
+use idl_value::idl_map::Digest;
 use std::alloc::{AllocError, Global};
 use std::cmp::Ordering;
 use std::hash::{Hash, Hasher};
@@ -52,7 +52,7 @@ pub struct PathPart {
 
 impl Model for PathPart {
     ghost use Rattle.std.specs.Prelude.{List, ℕ, ◌≡◌, ◌∷◌, length};
-    ghost use Rattle.idl_lex.specs.kinds.Keywords.{folded};
+    ghost use Rattle.idl_value.specs.idl_lex.kinds.Keywords.{folded};
     ghost use Rattle.idl_entity.specs.Digest.{path_digest};
     ghost use Rattle.idl_entity.specs.Path.{path_of};
 

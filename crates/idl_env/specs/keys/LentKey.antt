@@ -1,5 +1,5 @@
 -- Keys that are lent.
-use Rattle.idl_lex.specs.kinds.Keywords.{folded}
+use Rattle.idl_entity.specs.idl_lex.kinds.Keywords.{folded}
 use Rattle.idl_env.specs.Facts.{entity_key}
 use Rattle.idl_entity.specs.Path.{name_of}
 use Rattle.idl_env.specs.declared.keys.key.Key.{Key}

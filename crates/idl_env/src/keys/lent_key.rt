@@ -1,7 +1,7 @@
 //! Keys that are lent: what is asked about names and paths, with none of them copied.
 
 ghost use Rattle.std.specs.Prelude.{◌≡◌, IfOk};
-ghost use Rattle.idl_lex.specs.kinds.Keywords.{folded};
+ghost use Rattle.idl_entity.specs.idl_lex.kinds.Keywords.{folded};
 ghost use Rattle.idl_env.specs.Facts.{entity_key, key_of};
 ghost use Rattle.idl_env.specs.keys.HeldKey.{key_in};
 ghost use Rattle.idl_env.specs.keys.Key.{key_digest, key_eq};

@@ -9,8 +9,8 @@ use crate::asked::lexed_file::LexedFile;
 use crate::asked::lexed_line::LexedLine;
 use idl_base::{Bytes, Datum, Seq, mixed, with_bytes};
 use idl_fault::FileName;
-use idl_map::Digest;
-use idl_source::Directory;
+use idl_lex::idl_source::Directory;
+use idl_memo::idl_map::Digest;
 use std::cmp::Ordering;
 
 /// What is asked of the bank of a root.

@@ -8,7 +8,7 @@ ghost use Rattle.idl_lex.specs.tokens.Tokens.{tokens_of};
 ghost use Rattle.idl_text.specs.Starts.{column_in};
 
 use idl_base::Datum;
-use idl_source::File;
+use idl_lex::idl_source::File;
 use idl_text::{GroupedTokens, LinesLeft, column_in, lex};
 use std::alloc::{AllocError, Global};
 use std::marker::Model;

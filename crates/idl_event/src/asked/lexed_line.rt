@@ -7,7 +7,7 @@ ghost use Rattle.std.specs.Str.{bytes_eq};
 ghost use Rattle.idl_lex.specs.tokens.Tokens.{tokens_in, tokens_of};
 
 use idl_base::Datum;
-use idl_source::{File, Line};
+use idl_lex::idl_source::{File, Line};
 use idl_text::TokenRange;
 use std::alloc::{AllocError, Global};
 use std::marker::Model;

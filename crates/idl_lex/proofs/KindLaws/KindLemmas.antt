@@ -4,8 +4,8 @@ use Rattle.std.proofs.lemmas.Bool.{false≢true}
 use Rattle.std.specs.Cmp.Lexicographic.{bytes_decides}
 use Rattle.std.specs.List.{list_all}
 use Rattle.std.specs.Str.{bytes_eq}
-use Rattle.idl_base.specs.Exact.{both}
-use Rattle.idl_base.proofs.PartLemmas.{part-rest}
+use Rattle.idl_source.specs.idl_base.Exact.{both}
+use Rattle.idl_source.proofs.IdlBase.PartLemmas.{part-rest}
 use Rattle.idl_lex.proofs.CountLemmas.{eq-false}
 use Rattle.idl_lex.proofs.KindLaws.TableLemmas.{if_alike-same}
 use Rattle.idl_lex.specs.bytes.Byte.{is_digit, is_letter, is_quote, is_word_byte, is_word_start}

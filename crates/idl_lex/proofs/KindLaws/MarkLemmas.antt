@@ -5,7 +5,7 @@ use Rattle.std.specs.Cmp.Lexicographic.{bytes_decides}
 use Rattle.std.specs.List.{list_all}
 use Rattle.std.specs.Option.{option_map}
 use Rattle.std.specs.Str.{bytes_eq}
-use Rattle.idl_base.specs.Exact.{both}
+use Rattle.idl_source.specs.idl_base.Exact.{both}
 use Rattle.idl_lex.specs.kinds.Marks.{marks, mark_kind}
 use Rattle.idl_lex.specs.kinds.WordTable.{value_of}
 use Rattle.idl_lex.specs.declared.kinds.kind.TokenKind.{TokenKind}

@@ -8,7 +8,7 @@ use Rattle.std.specs.Char.{to_ascii_lowercase}
 use Rattle.std.specs.Cmp.Lexicographic.{bytes_decides}
 use Rattle.std.specs.List.{list_all}
 use Rattle.std.specs.Str.{bytes_eq}
-use Rattle.idl_base.specs.Exact.{both}
+use Rattle.idl_source.specs.idl_base.Exact.{both}
 use Rattle.idl_lex.specs.kinds.Keywords.{folded, keywords, like_keyword}
 use Rattle.idl_lex.specs.kinds.KeywordTable.{if_alike, letter, place, places}
 use Rattle.idl_lex.specs.kinds.WordTable.{entry_of}

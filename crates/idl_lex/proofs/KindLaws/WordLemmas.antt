@@ -5,7 +5,7 @@ use Rattle.std.proofs.lemmas.Bool.Decides.{eqb_tells}
 use Rattle.std.proofs.lemmas.List.{drop_more, length-drop, take_rest}
 use Rattle.std.specs.Prelude.{nat_le}
 use Rattle.std.specs.List.{list_all}
-use Rattle.idl_base.specs.Exact.{both}
+use Rattle.idl_source.specs.idl_base.Exact.{both}
 use Rattle.idl_lex.proofs.CountLemmas.{eq-false}
 use Rattle.idl_lex.proofs.PieceLemmas.{accepts, accepts-taken, accepts-word, taken-more, taken-stop, taken-end, taken-le, taken-whole}
 use Rattle.idl_lex.proofs.TokensLemmas.{EndsAt, bytes_of-drop, length-bytes_of, piece_of, piece_of-cons, tokens_after-piece_of}

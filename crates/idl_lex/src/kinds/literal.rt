@@ -7,7 +7,7 @@ ghost use Rattle.idl_lex.specs.kinds.Literal.{body_of, literal_kind, simple_esca
 use crate::bytes::byte::{is_digit_of, is_quote};
 use crate::kinds::kind::{Defect, TokenKind};
 use crate::kinds::number::{are_digits, number};
-use idl_base::Seq;
+use idl_source::idl_base::Seq;
 use std::alloc::{AllocError, Global};
 
 const BACKSLASH: u8 = b'\\';

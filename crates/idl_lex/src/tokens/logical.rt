@@ -4,8 +4,8 @@ ghost use Rattle.std.specs.Prelude.{◌≡◌, ◌≤◌, ◌<◌, ◌+◌, ◌+
 ghost use Rattle.idl_lex.specs.bytes.Text.{is_continued, front};
 ghost use Rattle.idl_lex.specs.tokens.Logical.{joined_count, continued};
 
-use idl_base::Bytes;
 use idl_source::Line;
+use idl_source::idl_base::Bytes;
 use std::alloc::{AllocError, Global};
 use std::marker::Model;
 

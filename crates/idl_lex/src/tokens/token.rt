@@ -17,7 +17,7 @@ use crate::bytes::context::Context;
 use crate::kinds::kind::{TokenKind, kind_of};
 use crate::kinds::mark_table::lone_kind;
 use crate::kinds::word::is_word;
-use idl_base::{Bytes, Datum};
+use idl_source::idl_base::{Bytes, Datum};
 use std::alloc::AllocError;
 use std::cmp::Ordering;
 use std::hash::{Hash, Hasher};

@@ -1,7 +1,7 @@
 //! The verdicts of a root's units.
 
 ghost use Rattle.std.specs.Prelude.{◌≡◌, ◌≤◌, ◌++◌, ◌∷◌, [], IfOk, List, OnOk, flat_map, map, option_to_list};
-ghost use Rattle.idl_check_laws.specs.Closing.{AreTold};
+ghost use Rattle.idl_root_blocks.specs.idl_check_laws.Closing.{AreTold};
 ghost use Rattle.idl_env.specs.Facts.{UnitFacts};
 ghost use Rattle.idl_block.specs.facts.Written.{boundary};
 ghost use Rattle.idl_kept.specs.Texts.{AreListsOf};
@@ -31,10 +31,10 @@ use crate::kept::added::Added;
 use crate::kept::keeping::Keeping;
 use crate::kept::marks::Mark;
 use crate::kept::noting::noting;
-use idl_check::{DeclarationTask, Scratch, Verdict, verdict_of};
 use idl_env::{DigestedKey, Env, Facts, OpenScopes, PlainEnv, Step, Writes, scopes_in};
 use idl_kept::KeptTexts;
 use idl_memo::{Bank, Journal, passing, placement};
+use idl_root_blocks::idl_check::{DeclarationTask, Scratch, Verdict, verdict_of};
 use idl_unit::{Unit, UnitText};
 use std::alloc::{AllocError, Global};
 

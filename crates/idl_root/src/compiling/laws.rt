@@ -5,7 +5,7 @@ ghost use Rattle.idl_block.specs.Blocks.{walk};
 ghost use Rattle.idl_env.specs.Facts.{UnitFacts, answers};
 ghost use Rattle.idl_event.specs.declared.told.event.Event.{Event};
 ghost use Rattle.idl_fault.specs.declared.place.Place.{Place};
-ghost use Rattle.idl_check_laws.specs.Closing.{AreTold};
+ghost use Rattle.idl_root_blocks.specs.idl_check_laws.Closing.{AreTold};
 ghost use Rattle.idl_root.specs.Closing.{ClosesAtFirst};
 ghost use Rattle.idl_root.specs.Compile.{compile, outcome_of};
 ghost use Rattle.idl_root.specs.Details.{details, printed};
@@ -23,9 +23,9 @@ ghost use Rattle.std.specs.List.Sorted.{IsNonDecreasingBy};
 ghost use Rattle.idl_root.specs.Findings.{finding_row, in_order};
 ghost use Rattle.idl_root.specs.declared.compiling.finding.EventFinding.{EventFinding};
 
-use idl_check_laws::{acceptance, ahead, more_turns, names, numbering, refusal};
 use idl_repo::details::printing;
 use idl_repo::listed_row;
+use idl_root_blocks::idl_check_laws::{acceptance, ahead, more_turns, names, numbering, refusal};
 
 /// What is found is told in the order of events: no finding names an event before that of an earlier one, and each event has
 /// the findings that it had, in their order. This does nothing: it carries the law.

@@ -10,8 +10,8 @@ ghost use Rattle.idl_root.specs.Named.{AreNumbersIn, closings_from, end_before, 
 use crate::compiling::finding::Spelled;
 use crate::compiling::judging::{Gathered, Judging, verdict_over};
 use crate::kept::added::Added;
-use idl_check::{NamedSite, Scratch, names_of};
 use idl_env::{Env, Step};
+use idl_root_blocks::idl_check::{NamedSite, Scratch, names_of};
 use idl_unit::{Fault, Unit, UnitText};
 use std::alloc::{AllocError, Global};
 

@@ -1,7 +1,7 @@
 //! The passing of units whose results are kept, block by block.
 
 ghost use Rattle.std.specs.Prelude.{◌≡◌, ◌≤◌, ◌<◌, ◌^◌, ◌++◌, ◌∷◌, [], IfOk, List, OnOk, Some};
-ghost use Rattle.idl_check_laws.specs.Closing.{AreTold};
+ghost use Rattle.idl_root_blocks.specs.idl_check_laws.Closing.{AreTold};
 ghost use Rattle.idl_env.specs.Facts.{UnitFacts, answers, count_in};
 ghost use Rattle.idl_env.specs.Turns.{most_turns, turns_for};
 ghost use Rattle.idl_env.specs.declared.keys.key.Key.TheVariants.{Nameless};
@@ -30,11 +30,11 @@ use crate::kept::keeping::Keeping;
 use crate::kept::known::Known;
 use crate::kept::marks::Mark;
 use crate::kept::noting::noting;
-use idl_check::DeclarationTask;
-use idl_check_laws::more_turns;
 use idl_env::{Env, PlainEnv};
 use idl_kept::KeptTexts;
 use idl_memo::{passing, placement};
+use idl_root_blocks::idl_check::DeclarationTask;
+use idl_root_blocks::idl_check_laws::more_turns;
 use idl_root_blocks::verdicts::{enough, walked};
 use idl_root_blocks::{BlockTask, block_at, cutting, resulting, standing, taking, text_of};
 use idl_store::Spot;

@@ -10,10 +10,10 @@ use crate::compiling::finding::Spelled;
 use crate::compiling::naming::{NamedUnit, ends_of};
 use crate::compiling::number::LineNumbers;
 use idl_base::{Bytes, Seq};
-use idl_check::{NameRole, NamedSite};
 use idl_entity::Path;
 use idl_fault::Place;
 use idl_map::{Map, SharedList};
+use idl_root_blocks::idl_check::{NameRole, NamedSite};
 use idl_unit::UnitText;
 use std::alloc::{AllocError, Global};
 

@@ -12,8 +12,8 @@ use crate::compiling::finding::{EventFinding, Spelled, push_fault};
 use crate::compiling::printing::{Listed, push_closing, push_listed};
 use crate::kept::course::Course;
 use crate::kept::keeper::Entries;
-use idl_check::Verdict;
 use idl_kept::Declarations;
+use idl_root_blocks::idl_check::Verdict;
 use idl_unit::Unit;
 use std::alloc::{AllocError, Global};
 

@@ -5,10 +5,10 @@ ghost use Rattle.idl_root.specs.Places.{EntryPlace};
 ghost use Rattle.idl_root_blocks.specs.Places.{DeclarationPlace};
 ghost use Rattle.idl_root.specs.Results.{fresh_declarations, fresh_entries};
 
-use idl_check::DeclarationTask;
 use idl_env::Env;
 use idl_memo::freshness;
 use idl_repo::EntryTask;
+use idl_root_blocks::idl_check::DeclarationTask;
 
 /// Fresh declarations and fresh entries are counted part by part, and those that stood there before add nothing.
 pub fn fresh_tasks()

@@ -11,7 +11,7 @@ ghost use Rattle.idl_root_blocks.specs.declared.text.BlockPart.{BlockPart as Par
 ghost use Rattle.idl_root_blocks.specs.declared.text.BlockPart.TheVariants.{Text, Enters, Leaves};
 ghost use Rattle.idl_unit.specs.declared.unit.UnitText.{UnitText};
 
-use idl_check_laws::more_turns;
+use idl_root_blocks::idl_check_laws::more_turns;
 use idl_root_blocks::logging;
 use idl_root_blocks::verdicts::{enough, walked};
 

@@ -2,17 +2,17 @@
 use Rattle.std.proofs.Common.{◌≡◌, ◌≢◌, ℕ, ◌+◌, Bool, true, false, cond, List, [], ◌∷◌, ◌++◌, Option, Some, None, Result, Ok, Err, refl, sym, ap, ◌∙◌, subst, arith, inl, inr}
 use Rattle.std.specs.Prelude.{Contains, fold, map}
 use Rattle.std.proofs.lemmas.List.Elements.{All-contains_itself, All-head, All-nil, All-tail, Contains-append_left, Contains-push}
-use Rattle.idl_check.proofs.UseLemmas.{DeclareNone}
-use Rattle.idl_check.specs.ids.About.{Said, about, about_entity, refused_for, said_at, unnamed_faults, with_faults}
-use Rattle.idl_check.specs.ids.Pragmas.{said_by, text_faults}
-use Rattle.idl_check.specs.tables.Declaring.{entity_of, finished, standing, with_finished}
-use Rattle.idl_check.specs.tables.Rules.{has_id}
-use Rattle.idl_check.specs.told.Bodies.{raising, signature_of}
-use Rattle.idl_check.specs.walk.Placing.{faulty_step, opened_kind, step_of}
-use Rattle.idl_check.specs.walk.Verdict.{asking, by_names, by_tree, faulty, first_faults, judged, placed_walk, pragma_judged, pragma_verdict, refused, sound, token_verdict, tree_of, verdict}
-use Rattle.idl_check.specs.walk.Walk.{Visit, Walk, declared_visit, is_over, looked_at, noted_in, passed, quiet, turns_at, visit, walk}
-use Rattle.idl_check.specs.declared.tables.standing.Standing.{Standing}
-use Rattle.idl_check.specs.declared.walk.verdict.Verdict.{Verdict}
+use Rattle.idl_check_laws.proofs.IdlCheck.UseLemmas.{DeclareNone}
+use Rattle.idl_check_laws.specs.idl_check.ids.About.{Said, about, about_entity, refused_for, said_at, unnamed_faults, with_faults}
+use Rattle.idl_check_laws.specs.idl_check.ids.Pragmas.{said_by, text_faults}
+use Rattle.idl_check_laws.specs.idl_check.tables.Declaring.{entity_of, finished, standing, with_finished}
+use Rattle.idl_check_laws.specs.idl_check.tables.Rules.{has_id}
+use Rattle.idl_check_laws.specs.idl_check.told.Bodies.{raising, signature_of}
+use Rattle.idl_check_laws.specs.idl_check.walk.Placing.{faulty_step, opened_kind, step_of}
+use Rattle.idl_check_laws.specs.idl_check.walk.Verdict.{asking, by_names, by_tree, faulty, first_faults, judged, placed_walk, pragma_judged, pragma_verdict, refused, sound, token_verdict, tree_of, verdict}
+use Rattle.idl_check_laws.specs.idl_check.walk.Walk.{Visit, Walk, declared_visit, is_over, looked_at, noted_in, passed, quiet, turns_at, visit, walk}
+use Rattle.idl_check_laws.specs.idl_check.declared.tables.standing.Standing.{Standing}
+use Rattle.idl_check_laws.specs.idl_check.declared.walk.verdict.Verdict.{Verdict}
 use Rattle.idl_entity.specs.Path.{name_of, scope_of}
 use Rattle.idl_entity.specs.declared.entity.Entity.{Entity}
 use Rattle.idl_entity.specs.declared.identity.Fixed.{Fixed}
@@ -50,7 +50,7 @@ use Rattle.idl_scope.specs.Known.{known}
 use Rattle.idl_scope.specs.Lookup.{Lookup, by_result, denoted, under}
 use Rattle.idl_scope.specs.declared.fault.NameFault.{NameFault}
 use Rattle.idl_scope.specs.declared.found.Found.{Found}
-use Rattle.idl_syntax.specs.Parse.{pragma_faults}
+use Rattle.idl_check_laws.specs.idl_syntax.Parse.{pragma_faults}
 use Rattle.idl_tree.specs.NameParts.{last_at}
 use Rattle.idl_tree.specs.Pragma.{pragma_of}
 use Rattle.idl_tree.specs.declared.name.ScopedName.{ScopedName}

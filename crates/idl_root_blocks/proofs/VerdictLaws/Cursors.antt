@@ -2,11 +2,11 @@
 use Rattle.std.proofs.Common.{◌≡◌, ◌≢◌, ◌≤◌, ◌∙◌, ℕ, ◌+◌, Bool, true, false, cond, List, [], ◌∷◌, length, Option, Some, None, Result, Ok, Err, refl, sym, ap, subst, arith}
 use Rattle.std.specs.Prelude.{drop}
 use Rattle.std.proofs.lemmas.List.Elements.{All-weaker}
-use Rattle.idl_check.specs.ids.Remarks.{purpose_of, remark}
-use Rattle.idl_check.specs.tables.Declaring.{entity_of, standing}
-use Rattle.idl_check.specs.told.Types.{looked_through}
-use Rattle.idl_check.specs.walk.Walk.{Visit, Walk, cut_name, declared_visit, ended_scope, faulty_if, head_of, head_visit, is_known, looked_at, outcome_at, passed, past_name, quiet, spoken_of, spoken_visit, turns_at, unfound_visit, unspoken_visit, used, used_visit, value_visit, visit, with_scope}
-use Rattle.idl_check.specs.tables.Rules.{is_useless_default}
+use Rattle.idl_check_laws.specs.idl_check.ids.Remarks.{purpose_of, remark}
+use Rattle.idl_check_laws.specs.idl_check.tables.Declaring.{entity_of, standing}
+use Rattle.idl_check_laws.specs.idl_check.told.Types.{looked_through}
+use Rattle.idl_check_laws.specs.idl_check.walk.Walk.{Visit, Walk, cut_name, declared_visit, ended_scope, faulty_if, head_of, head_visit, is_known, looked_at, outcome_at, passed, past_name, quiet, spoken_of, spoken_visit, turns_at, unfound_visit, unspoken_visit, used, used_visit, value_visit, visit, with_scope}
+use Rattle.idl_check_laws.specs.idl_check.tables.Rules.{is_useless_default}
 use Rattle.idl_check_laws.proofs.Nests.LevelSites.{Around, IsFit, around_after, is_inside, opens_union, popped, used_around}
 use Rattle.idl_entity.specs.Kind.{kind_eq}
 use Rattle.idl_entity.specs.declared.entity.Entity.{Entity}

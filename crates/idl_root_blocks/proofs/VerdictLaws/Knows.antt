@@ -3,14 +3,14 @@ use Rattle.std.proofs.Common.{◌≡◌, ◌⊎◌, ℕ, Bool, true, false, cond
 use Rattle.std.specs.Prelude.{All, Contains, fold}
 use Rattle.std.specs.List.{list_any}
 use Rattle.std.proofs.lemmas.List.Elements.{All-append, All-cons, All-head, All-nil, All-tail}
-use Rattle.idl_check.proofs.UseLemmas.{DeclareNone, uses-none}
-use Rattle.idl_check.specs.ids.Identifying.{with_identity}
-use Rattle.idl_check.specs.tables.Declaring.{finished, stays, with_declared, with_finished}
-use Rattle.idl_check.specs.told.Bodies.{Body, Clauses, array_of, is_member, member_of, raises, raising, signature_of, told_body, told_innermost, with_array_member, with_array_type, with_body_label, with_innermost, with_last_type, with_member, with_name, with_next_label}
-use Rattle.idl_check.specs.tables.Using.{Bases, bases_after, last_after, own_after, uses_of, with_uses}
-use Rattle.idl_check.specs.declared.ids.identifying.Ids.{Ids}
-use Rattle.idl_check.specs.declared.tables.standing.Standing.{Standing}
-use Rattle.idl_check.specs.walk.Walk.{Walk, with_array}
+use Rattle.idl_check_laws.proofs.IdlCheck.UseLemmas.{DeclareNone, uses-none}
+use Rattle.idl_check_laws.specs.idl_check.ids.Identifying.{with_identity}
+use Rattle.idl_check_laws.specs.idl_check.tables.Declaring.{finished, stays, with_declared, with_finished}
+use Rattle.idl_check_laws.specs.idl_check.told.Bodies.{Body, Clauses, array_of, is_member, member_of, raises, raising, signature_of, told_body, told_innermost, with_array_member, with_array_type, with_body_label, with_innermost, with_last_type, with_member, with_name, with_next_label}
+use Rattle.idl_check_laws.specs.idl_check.tables.Using.{Bases, bases_after, last_after, own_after, uses_of, with_uses}
+use Rattle.idl_check_laws.specs.idl_check.declared.ids.identifying.Ids.{Ids}
+use Rattle.idl_check_laws.specs.idl_check.declared.tables.standing.Standing.{Standing}
+use Rattle.idl_check_laws.specs.idl_check.walk.Walk.{Walk, with_array}
 use Rattle.idl_entity.specs.Kind.{kind_eq}
 use Rattle.idl_entity.specs.Path.{name_of, path_eq, scope_of}
 use Rattle.idl_entity.specs.declared.entity.Entity.{Entity}

@@ -1,15 +1,15 @@
 -- Where a scope closes, or a nameless one opens, a unit adds nothing, and names are as they have to be.
 use Rattle.std.proofs.Common.{◌≡◌, ◌∙◌, ap, ℕ, ◌+◌, Bool, true, false, cond, List, [], ◌∷◌, Option, Some, None, Result, Ok, Err, refl, sym, subst}
 use Rattle.idl_base.specs.Exact.{same_number}
-use Rattle.idl_check.proofs.Visits.VerdictLaws.{faulty-is, sound-is}
-use Rattle.idl_check.specs.declared.walk.verdict.Verdict.{Verdict}
-use Rattle.idl_check.specs.walk.Judging.{walked, without_name}
-use Rattle.idl_check.specs.ids.About.{Said, about, about_entity, refused_for, said_at, unnamed_faults, with_faults}
-use Rattle.idl_check.specs.ids.Pragmas.{said_by, text_faults}
-use Rattle.idl_check.specs.tables.Rules.{has_id}
-use Rattle.idl_check.specs.walk.Placing.{faulty_step, step_of}
-use Rattle.idl_check.specs.walk.Verdict.{faulty, pragma_judged, pragma_verdict, sound, verdict}
-use Rattle.idl_check.specs.walk.Walk.{first_walk, visit}
+use Rattle.idl_check_laws.proofs.IdlCheck.Visits.VerdictLaws.{faulty-is, sound-is}
+use Rattle.idl_check_laws.specs.idl_check.declared.walk.verdict.Verdict.{Verdict}
+use Rattle.idl_check_laws.specs.idl_check.walk.Judging.{walked, without_name}
+use Rattle.idl_check_laws.specs.idl_check.ids.About.{Said, about, about_entity, refused_for, said_at, unnamed_faults, with_faults}
+use Rattle.idl_check_laws.specs.idl_check.ids.Pragmas.{said_by, text_faults}
+use Rattle.idl_check_laws.specs.idl_check.tables.Rules.{has_id}
+use Rattle.idl_check_laws.specs.idl_check.walk.Placing.{faulty_step, step_of}
+use Rattle.idl_check_laws.specs.idl_check.walk.Verdict.{faulty, pragma_judged, pragma_verdict, sound, verdict}
+use Rattle.idl_check_laws.specs.idl_check.walk.Walk.{first_walk, visit}
 use Rattle.idl_entity.specs.declared.entity.Entity.{Entity}
 use Rattle.idl_env.specs.Facts.{UnitFacts, answers, count_in, entity_in, entity_key, nameless, path_around, scopes_in, with_additions, world}
 use Rattle.idl_env.specs.declared.additions.addition.Addition.{Addition}
@@ -39,7 +39,7 @@ use Rattle.idl_scope.specs.Known.{known}
 use Rattle.idl_scope.specs.Lookup.{Lookup, by_result, denoted}
 use Rattle.idl_scope.specs.declared.fault.NameFault.{NameFault}
 use Rattle.idl_scope.specs.declared.found.Found.{Found}
-use Rattle.idl_syntax.specs.Parse.{pragma_faults}
+use Rattle.idl_check_laws.specs.idl_syntax.Parse.{pragma_faults}
 use Rattle.idl_tree.specs.Lexeme.{lexemes}
 use Rattle.idl_tree.specs.NameParts.{last_at}
 use Rattle.idl_tree.specs.Unit.{spell}

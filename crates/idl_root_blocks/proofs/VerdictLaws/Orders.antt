@@ -3,19 +3,19 @@ use Rattle.std.proofs.Common.{◌≡◌, ◌≢◌, ℕ, zero, suc, ◌+◌, Boo
 use Rattle.std.specs.Prelude.{is_some, option_to_list, slice_get}
 use Rattle.std.specs.List.{list_any}
 use Rattle.std.proofs.lemmas.List.Elements.{Contains-push}
-use Rattle.idl_check.specs.ids.About.{Said, about, about_entity, refused_for, said_at, unnamed_faults, with_faults}
-use Rattle.idl_check.specs.ids.Identifying.{id_before, ids_of}
-use Rattle.idl_check.specs.ids.Pragmas.{said_by, text_faults}
-use Rattle.idl_check.specs.ids.Remarks.{about_scope, is_bad_text, prefixed_at, purpose_of, remark, said_by_text, unless}
-use Rattle.idl_check.specs.tables.Declaring.{entity_of, inherited, is_any, standing}
-use Rattle.idl_check.specs.tables.Rules.{has_id, may_be_ahead}
-use Rattle.idl_check.specs.told.Types.{aliased, behind_typedefs, is_looked_through, looked_through, path_in}
-use Rattle.idl_check.specs.walk.Placing.{faulty_step, opened_kind, step_of}
-use Rattle.idl_check.specs.walk.Verdict.{asking, by_names, by_tree, faulty, first_faults, judged, placed_walk, pragma_judged, pragma_verdict, refused, sound, token_verdict, tree_of, verdict}
-use Rattle.idl_check.specs.walk.Walk.{Visit, Walk, cut_name, declared_visit, head_of, head_visit, is_known, is_over, looked_at, noted_in, passed, past_name, quiet, spoken_of, spoken_visit, turns_at, unfound_visit, unspoken_visit, used, used_visit, visit, walk}
-use Rattle.idl_check.specs.declared.ids.identifying.Ids.{Ids}
-use Rattle.idl_check.specs.declared.tables.standing.Standing.{Standing}
-use Rattle.idl_check.specs.declared.walk.verdict.Verdict.{Verdict}
+use Rattle.idl_check_laws.specs.idl_check.ids.About.{Said, about, about_entity, refused_for, said_at, unnamed_faults, with_faults}
+use Rattle.idl_check_laws.specs.idl_check.ids.Identifying.{id_before, ids_of}
+use Rattle.idl_check_laws.specs.idl_check.ids.Pragmas.{said_by, text_faults}
+use Rattle.idl_check_laws.specs.idl_check.ids.Remarks.{about_scope, is_bad_text, prefixed_at, purpose_of, remark, said_by_text, unless}
+use Rattle.idl_check_laws.specs.idl_check.tables.Declaring.{entity_of, inherited, is_any, standing}
+use Rattle.idl_check_laws.specs.idl_check.tables.Rules.{has_id, may_be_ahead}
+use Rattle.idl_check_laws.specs.idl_check.told.Types.{aliased, behind_typedefs, is_looked_through, looked_through, path_in}
+use Rattle.idl_check_laws.specs.idl_check.walk.Placing.{faulty_step, opened_kind, step_of}
+use Rattle.idl_check_laws.specs.idl_check.walk.Verdict.{asking, by_names, by_tree, faulty, first_faults, judged, placed_walk, pragma_judged, pragma_verdict, refused, sound, token_verdict, tree_of, verdict}
+use Rattle.idl_check_laws.specs.idl_check.walk.Walk.{Visit, Walk, cut_name, declared_visit, head_of, head_visit, is_known, is_over, looked_at, noted_in, passed, past_name, quiet, spoken_of, spoken_visit, turns_at, unfound_visit, unspoken_visit, used, used_visit, visit, walk}
+use Rattle.idl_check_laws.specs.idl_check.declared.ids.identifying.Ids.{Ids}
+use Rattle.idl_check_laws.specs.idl_check.declared.tables.standing.Standing.{Standing}
+use Rattle.idl_check_laws.specs.idl_check.declared.walk.verdict.Verdict.{Verdict}
 use Rattle.idl_entity.specs.Entity.{is_operation}
 use Rattle.idl_entity.specs.Kind.{inherits, is_scope}
 use Rattle.idl_entity.specs.Path.{name_of}
@@ -54,7 +54,7 @@ use Rattle.idl_scope.specs.Lookup.{Lookup, by_result, choose, decided, denoted, 
 use Rattle.idl_scope.specs.Meaning.{bases_of}
 use Rattle.idl_scope.specs.declared.fault.NameCode.TheVariants.{NoScope}
 use Rattle.idl_scope.specs.declared.fault.NameFault.TheVariants.{At}
-use Rattle.idl_syntax.specs.Parse.{pragma_faults}
+use Rattle.idl_check_laws.specs.idl_syntax.Parse.{pragma_faults}
 use Rattle.idl_tree.specs.NameParts.{last_at}
 use Rattle.idl_tree.specs.Pragma.{pragma_of}
 use Rattle.idl_tree.specs.declared.name.ScopedName.{ScopedName}

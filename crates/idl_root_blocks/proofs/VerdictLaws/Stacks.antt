@@ -2,11 +2,11 @@
 use Rattle.std.proofs.Common.{◌≡◌, ◌⊎◌, ◌∙◌, ◌≤◌, ◌<◌, ◌^◌, ℕ, suc, ◌+◌, Bool, true, false, cond, List, [], ◌∷◌, ◌++◌, length, Option, Some, None, append-nil, append_assoc, refl, sym, ap, subst, arith, inl, inr}
 use Rattle.std.specs.Prelude.{All}
 use Rattle.std.proofs.lemmas.List.Elements.{All-cons, All-nil, All-weaker}
-use Rattle.idl_check.proofs.Visits.VerdictLaws.{faulty-is, sound-is}
-use Rattle.idl_check.specs.declared.walk.verdict.Verdict.{Verdict}
-use Rattle.idl_check.specs.tables.Rules.{is_interface, is_misplaced}
-use Rattle.idl_check.specs.walk.Placing.{faulty_step, heading_kind, is_module, step_of}
-use Rattle.idl_check.specs.walk.Verdict.{verdict}
+use Rattle.idl_check_laws.proofs.IdlCheck.Visits.VerdictLaws.{faulty-is, sound-is}
+use Rattle.idl_check_laws.specs.idl_check.declared.walk.verdict.Verdict.{Verdict}
+use Rattle.idl_check_laws.specs.idl_check.tables.Rules.{is_interface, is_misplaced}
+use Rattle.idl_check_laws.specs.idl_check.walk.Placing.{faulty_step, heading_kind, is_module, step_of}
+use Rattle.idl_check_laws.specs.idl_check.walk.Verdict.{verdict}
 use Rattle.idl_root_blocks.proofs.VerdictLaws.Names.{IsCalm, pragma-calm}
 use Rattle.idl_check_laws.proofs.Fits.ClosingLaws.{IsFitting, IsSettled, added-names, added-settled, cursor-kept, told-settled}
 use Rattle.idl_check_laws.proofs.Fits.FittingLaws.{unit-fits}

@@ -27,7 +27,7 @@ use Rattle.idl_root_blocks.specs.verdicts.Standing.{AreInside, AreStanding, IsBl
 use Rattle.idl_check_laws.specs.Closing.{AreTold}
 use Rattle.idl_block.proofs.BlockLaws.{outcome-unit, walk-block}
 use Rattle.idl_block.proofs.JoinedLaws.{walk-grows}
-use Rattle.idl_check.specs.declared.walk.verdict.Verdict.{Verdict}
+use Rattle.idl_check_laws.specs.idl_check.declared.walk.verdict.Verdict.{Verdict}
 use Rattle.idl_root_blocks.proofs.VerdictLaws.Grows.{count-grow}
 use Rattle.idl_root_blocks.proofs.VerdictLaws.Told.{files-told, text-told}
 use Rattle.idl_root_blocks.proofs.VerdictLaws.Asks.{unit-asks}

@@ -8,7 +8,7 @@ use Rattle.idl_check_laws.proofs.Fits.ClosingLaws.{IsSettled}
 use Rattle.idl_check_laws.proofs.Fits.GrowingLaws.{IsGrown}
 use Rattle.idl_check_laws.proofs.Fits.ReachedLaws.{Place, names_in, own}
 use Rattle.idl_check_laws.proofs.Fits.WalkingLaws.{IsBegun, IsCursor, begun-named, begun-none}
-use Rattle.idl_check.specs.tables.Using.{further_uses, uses_of}
+use Rattle.idl_check_laws.specs.idl_check.tables.Using.{further_uses, uses_of}
 use Rattle.idl_entity.specs.Kind.{kind_eq}
 use Rattle.idl_entity.specs.declared.entity.Entity.{Entity}
 use Rattle.idl_entity.specs.declared.kind.Kind.TheVariants.{Module}

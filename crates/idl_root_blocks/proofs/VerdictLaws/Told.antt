@@ -1,8 +1,8 @@
 -- What the parts of a block add is told, as the facts of a root are.
 use Rattle.std.proofs.Common.{◌≤◌, List, [], ◌∷◌, ◌++◌, refl, ap}
 use Rattle.idl_block.specs.Blocks.{Boundary}
-use Rattle.idl_check.specs.walk.Verdict.{verdict}
-use Rattle.idl_check.specs.declared.walk.verdict.Verdict.{Verdict}
+use Rattle.idl_check_laws.specs.idl_check.walk.Verdict.{verdict}
+use Rattle.idl_check_laws.specs.idl_check.declared.walk.verdict.Verdict.{Verdict}
 use Rattle.idl_check_laws.proofs.ToldLaws.{MoreTurns, said-alike, told-more}
 use Rattle.idl_check_laws.specs.Closing.{AreTold, IsTold as told}
 use Rattle.idl_env.specs.Facts.{UnitFacts, answers}

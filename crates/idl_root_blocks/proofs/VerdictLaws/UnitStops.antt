@@ -2,28 +2,28 @@
 use Rattle.std.proofs.Common.{◌≡◌, ◌∙◌, ◌≤◌, ◌+◌, ℕ, Bool, true, false, cond, List, [], ◌∷◌, ◌++◌, Option, Some, None, Result, Ok, Err, refl, sym, ap, subst, arith, inl, inr}
 use Rattle.std.proofs.lemmas.List.Elements.{All-cons, All-head, All-nil, All-tail}
 use Rattle.std.specs.Prelude.{All, fold}
-use Rattle.idl_check.proofs.Visits.RemarkLaws.{IsOfIds, remark-is}
-use Rattle.idl_check.proofs.Visits.SiteLaws.{declared_by, spoken_by, union_visit, used_by, visited}
-use Rattle.idl_check.proofs.Visits.VerdictLaws.{faulty-is, sound-is}
-use Rattle.idl_check.proofs.Visits.WalkLaws.{none-append}
-use Rattle.idl_check.proofs.Visits.WholeLaws.{whole-none}
-use Rattle.idl_check.proofs.Faults.VisitFaults.{visit_faults}
-use Rattle.idl_check.specs.declared.ids.identifying.Ids.{Ids}
-use Rattle.idl_check.specs.declared.tables.standing.Standing.{Standing}
-use Rattle.idl_check.specs.declared.walk.verdict.Verdict.{Verdict}
-use Rattle.idl_check.specs.ids.About.{Said, about, about_entity, refused_for, said_at, unnamed_faults, with_faults}
-use Rattle.idl_check.specs.ids.Identifying.{with_identity}
-use Rattle.idl_check.specs.ids.Pragmas.{said, text_faults}
-use Rattle.idl_check.specs.ids.Remarks.{purpose_of, remark}
-use Rattle.idl_check.specs.tables.Declaring.{entity_of, finished, standing, stays, with_declared, with_finished}
-use Rattle.idl_check.specs.tables.Rules.{has_id}
-use Rattle.idl_check.specs.tables.Using.{last_after, own_after, uses_of, with_uses}
-use Rattle.idl_check.specs.told.Bodies.{array_of, raising}
-use Rattle.idl_check.specs.told.Types.{looked_through}
-use Rattle.idl_check.specs.walk.AllFaults.{site_faults}
-use Rattle.idl_check.specs.walk.Judging.{IsSound, walked}
-use Rattle.idl_check.specs.walk.Verdict.{verdict}
-use Rattle.idl_check.specs.walk.Walk.{Visit, Walk, declared_visit, first_walk, outcome_at, passed, plain_name, quiet, spoken_of, spoken_visit, turns_at, used, used_visit, value_visit, visit, with_array}
+use Rattle.idl_check_laws.proofs.IdlCheck.Visits.RemarkLaws.{IsOfIds, remark-is}
+use Rattle.idl_check_laws.proofs.IdlCheck.Visits.SiteLaws.{declared_by, spoken_by, union_visit, used_by, visited}
+use Rattle.idl_check_laws.proofs.IdlCheck.Visits.VerdictLaws.{faulty-is, sound-is}
+use Rattle.idl_check_laws.proofs.IdlCheck.Visits.WalkLaws.{none-append}
+use Rattle.idl_check_laws.proofs.IdlCheck.Visits.WholeLaws.{whole-none}
+use Rattle.idl_check_laws.proofs.IdlCheck.Faults.VisitFaults.{visit_faults}
+use Rattle.idl_check_laws.specs.idl_check.declared.ids.identifying.Ids.{Ids}
+use Rattle.idl_check_laws.specs.idl_check.declared.tables.standing.Standing.{Standing}
+use Rattle.idl_check_laws.specs.idl_check.declared.walk.verdict.Verdict.{Verdict}
+use Rattle.idl_check_laws.specs.idl_check.ids.About.{Said, about, about_entity, refused_for, said_at, unnamed_faults, with_faults}
+use Rattle.idl_check_laws.specs.idl_check.ids.Identifying.{with_identity}
+use Rattle.idl_check_laws.specs.idl_check.ids.Pragmas.{said, text_faults}
+use Rattle.idl_check_laws.specs.idl_check.ids.Remarks.{purpose_of, remark}
+use Rattle.idl_check_laws.specs.idl_check.tables.Declaring.{entity_of, finished, standing, stays, with_declared, with_finished}
+use Rattle.idl_check_laws.specs.idl_check.tables.Rules.{has_id}
+use Rattle.idl_check_laws.specs.idl_check.tables.Using.{last_after, own_after, uses_of, with_uses}
+use Rattle.idl_check_laws.specs.idl_check.told.Bodies.{array_of, raising}
+use Rattle.idl_check_laws.specs.idl_check.told.Types.{looked_through}
+use Rattle.idl_check_laws.specs.idl_check.walk.AllFaults.{site_faults}
+use Rattle.idl_check_laws.specs.idl_check.walk.Judging.{IsSound, walked}
+use Rattle.idl_check_laws.specs.idl_check.walk.Verdict.{verdict}
+use Rattle.idl_check_laws.specs.idl_check.walk.Walk.{Visit, Walk, declared_visit, first_walk, outcome_at, passed, plain_name, quiet, spoken_of, spoken_visit, turns_at, used, used_visit, value_visit, visit, with_array}
 use Rattle.idl_root_blocks.proofs.VerdictLaws.Stacks.{settled, told-kept}
 use Rattle.idl_root_blocks.proofs.VerdictLaws.Stops.{AreOutward, cursor-outward, nowhere-stops, reached-stops, stops-fold, stops-with}
 use Rattle.idl_check_laws.proofs.Fits.ClosingLaws.{IsSettled}

@@ -2,16 +2,16 @@
 use Rattle.std.proofs.Common.{◌≡◌, ℕ, ◌+◌, Bool, true, false, cond, List, [], ◌∷◌, Option, Some, None, Result, Ok, Err, refl, sym, ap, ◌∙◌, subst, inl, inr}
 use Rattle.std.specs.Prelude.{All, Contains, drop}
 use Rattle.std.proofs.lemmas.List.Elements.{All-head, All-nil}
-use Rattle.idl_check.proofs.UseLemmas.{DeclareNone}
-use Rattle.idl_check.specs.ids.About.{Said, about_entity, refused_for, said_at}
-use Rattle.idl_check.specs.ids.Remarks.{about_scope, is_bad_text, prefixed_at, purpose_of, remark, said_by_text, unless}
-use Rattle.idl_check.specs.tables.Declaring.{entity_of, standing}
-use Rattle.idl_check.specs.tables.Rules.{has_id, is_useless_default}
-use Rattle.idl_check.specs.tables.Using.{last_after, with_uses}
-use Rattle.idl_check.specs.told.Bodies.{Body, begun_body, told_innermost}
-use Rattle.idl_check.specs.told.Types.{looked_through}
-use Rattle.idl_check.specs.declared.tables.standing.Standing.{Standing}
-use Rattle.idl_check.specs.walk.Walk.{Visit, Walk, cut_name, declared_visit, ended_scope, faulty_if, head_of, head_visit, is_begun, is_known, is_over, looked_at, noted_in, outcome_at, passed, past_name, quiet, scope_visit, spoken_of, spoken_visit, turns_at, unfound_visit, unspoken_visit, used, used_visit, value_visit, visit, walk}
+use Rattle.idl_check_laws.proofs.IdlCheck.UseLemmas.{DeclareNone}
+use Rattle.idl_check_laws.specs.idl_check.ids.About.{Said, about_entity, refused_for, said_at}
+use Rattle.idl_check_laws.specs.idl_check.ids.Remarks.{about_scope, is_bad_text, prefixed_at, purpose_of, remark, said_by_text, unless}
+use Rattle.idl_check_laws.specs.idl_check.tables.Declaring.{entity_of, standing}
+use Rattle.idl_check_laws.specs.idl_check.tables.Rules.{has_id, is_useless_default}
+use Rattle.idl_check_laws.specs.idl_check.tables.Using.{last_after, with_uses}
+use Rattle.idl_check_laws.specs.idl_check.told.Bodies.{Body, begun_body, told_innermost}
+use Rattle.idl_check_laws.specs.idl_check.told.Types.{looked_through}
+use Rattle.idl_check_laws.specs.idl_check.declared.tables.standing.Standing.{Standing}
+use Rattle.idl_check_laws.specs.idl_check.walk.Walk.{Visit, Walk, cut_name, declared_visit, ended_scope, faulty_if, head_of, head_visit, is_begun, is_known, is_over, looked_at, noted_in, outcome_at, passed, past_name, quiet, scope_visit, spoken_of, spoken_visit, turns_at, unfound_visit, unspoken_visit, used, used_visit, value_visit, visit, walk}
 use Rattle.idl_entity.specs.Kind.{is_scope, kind_eq}
 use Rattle.idl_entity.specs.Path.{name_of}
 use Rattle.idl_entity.specs.declared.entity.Entity.{Entity}

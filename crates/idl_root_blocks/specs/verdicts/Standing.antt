@@ -6,9 +6,9 @@ use Rattle.idl_env.specs.declared.answering.answer.Answer.{Answer}
 use Rattle.idl_env.specs.declared.keys.key.Key.{Key}
 use Rattle.idl_block.specs.facts.Written.{boundary, ways_of}
 use Rattle.idl_memo.specs.Query.{outcome}
-use Rattle.idl_check.specs.declared.walk.verdict.Verdict.{Verdict}
-use Rattle.idl_check.specs.walk.Placing.{faulty_step}
-use Rattle.idl_check.specs.walk.Verdict.{verdict}
+use Rattle.idl_check_laws.specs.idl_check.declared.walk.verdict.Verdict.{Verdict}
+use Rattle.idl_check_laws.specs.idl_check.walk.Placing.{faulty_step}
+use Rattle.idl_check_laws.specs.idl_check.walk.Verdict.{verdict}
 use Rattle.idl_env.specs.Facts.{UnitFacts, answers, count_in, scopes_in}
 use Rattle.idl_env.specs.Turns.{most_turns, turns_for}
 use Rattle.idl_env.specs.declared.additions.addition.Step.{Step}

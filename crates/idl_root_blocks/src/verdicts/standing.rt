@@ -27,7 +27,7 @@ use idl_check_laws::{more_turns, naming, refusal};
 pub struct Verdicts;
 
 impl FactUnits for Verdicts {
-    ghost use Rattle.idl_check.specs.declared.walk.verdict.Verdict.{Verdict};
+    ghost use Rattle.idl_check_laws.specs.idl_check.declared.walk.verdict.Verdict.{Verdict};
     ghost use Rattle.idl_root_blocks.specs.verdicts.Standing.{unit_asks, unit_writes};
     ghost use Rattle.idl_unit.specs.declared.unit.UnitText.{UnitText};
 

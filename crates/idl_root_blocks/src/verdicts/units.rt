@@ -1,7 +1,7 @@
 //! The law of what a verdict asks.
 
 ghost use Rattle.std.specs.Prelude.{◌≢◌, ◌<◌, ◌^◌, [], ℕ, List, Option};
-ghost use Rattle.idl_check.specs.walk.Verdict.{verdict};
+ghost use Rattle.idl_check_laws.specs.idl_check.walk.Verdict.{verdict};
 ghost use Rattle.idl_root_blocks.specs.verdicts.Owned.{AreOwned};
 ghost use Rattle.idl_check_laws.specs.Closing.{AreTold};
 ghost use Rattle.idl_env.specs.Facts.{UnitFacts, answers, count_in, path_around, scopes_in, with_additions, world};

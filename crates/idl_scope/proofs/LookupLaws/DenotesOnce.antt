@@ -3,7 +3,7 @@ use Rattle.std.proofs.Common.{◌≡◌, ℕ, ◌+◌, Bool, true, false, List, 
 use Rattle.std.specs.Prelude.{MatchBool}
 use Rattle.idl_lex.specs.kinds.Keywords.{folded}
 use Rattle.idl_entity.specs.Kind.{is_scope}
-use Rattle.idl_tree.specs.declared.name.ScopedName.{ScopedName}
+use Rattle.idl_entity.specs.idl_tree.declared.name.ScopedName.{ScopedName}
 use Rattle.idl_scope.specs.Lookup.{searched}
 use Rattle.idl_scope.specs.Meaning.{Has, FirstHas, Judges, Goes, DenotesIn, Denotes}
 use Rattle.idl_entity.specs.Path.{name_of}

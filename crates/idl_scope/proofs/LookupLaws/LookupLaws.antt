@@ -3,7 +3,7 @@ use Rattle.std.proofs.Common.{◌≡◌, ℕ, ◌+◌, ◌≤◌, Bool, true, fa
 use Rattle.std.specs.Prelude.{◌≢◌, ◌↔◌, AllPairs, Contains, IfOk, MatchBool}
 use Rattle.idl_lex.specs.kinds.Keywords.{folded}
 use Rattle.idl_memo.specs.Query.{outcome, run}
-use Rattle.idl_tree.specs.declared.name.ScopedName.{ScopedName}
+use Rattle.idl_entity.specs.idl_tree.declared.name.ScopedName.{ScopedName}
 use Rattle.idl_env.specs.Turns.{bases_among, bases_named, declared_among, declared_named, HasTurnsFor, turns_among, turns_for}
 use Rattle.idl_env.specs.Facts.{UnitFacts, answers}
 use Rattle.idl_env.specs.keys.Key.{key_eq}

@@ -8,7 +8,7 @@ use Rattle.idl_lex.specs.kinds.Keywords.{folded}
 use Rattle.idl_memo.specs.Query.{Ask, Done, outcome, and_then}
 use Rattle.idl_memo.proofs.QueryLaws.{outcome-and_then}
 use Rattle.idl_entity.specs.Kind.{inherits, is_scope}
-use Rattle.idl_tree.specs.declared.name.ScopedName.{ScopedName}
+use Rattle.idl_entity.specs.idl_tree.declared.name.ScopedName.{ScopedName}
 use Rattle.idl_env.specs.Facts.{entity_key, entity_in}
 use Rattle.idl_scope.specs.Lookup.{Lookup, bases_of, choose, reached, has, is_nothing, decided, judged, placed, by_result, part_of, first_part, further, reach_of, searched, found_as, denoted}
 use Rattle.idl_scope.specs.Meaning.{own_at, bases_at, Through, Own, Up, Has, FirstHas, Judges, Goes, DenotesIn, Denotes, entity_found}

@@ -8,7 +8,7 @@ use Rattle.idl_env.specs.keys.Key.{key_eq}
 use Rattle.idl_entity.specs.Kind.{is_scope}
 use Rattle.idl_scope.specs.Lookup.{Lookup, by_result, decided, denoted, entered, first_part, found_as, further, has, is_nothing, judged, part_of, placed, reach_of, searched, under, walk}
 use Rattle.idl_lex.specs.kinds.Keywords.{folded}
-use Rattle.idl_tree.specs.declared.name.ScopedName.{ScopedName}
+use Rattle.idl_entity.specs.idl_tree.declared.name.ScopedName.{ScopedName}
 use Rattle.idl_scope.specs.declared.found.Found.{Found}
 use Rattle.idl_env.specs.declared.additions.addition.Addition.{Addition}
 use Rattle.idl_env.specs.declared.answering.answer.Answer.{Answer}

@@ -5,7 +5,7 @@ use Rattle.std.proofs.lemmas.Option.{slice_get_past}
 use Rattle.idl_lex.specs.kinds.Keywords.{folded}
 use Rattle.idl_memo.specs.Query.{Ask, Done, and_then, noted}
 use Rattle.idl_entity.specs.Kind.{inherits, is_scope}
-use Rattle.idl_tree.specs.declared.name.ScopedName.{ScopedName}
+use Rattle.idl_entity.specs.idl_tree.declared.name.ScopedName.{ScopedName}
 use Rattle.idl_env.specs.Facts.{entity_key, entity_in, joined, over}
 use Rattle.idl_env.specs.keys.Key.{key_eq}
 use Rattle.idl_scope.specs.Lookup.{Lookup, bases_of, choose, entered, walk, reached, has, is_nothing, decided, judged, placed, by_result, part_of, first_part, further, searched, reach_of, found_as, denoted}

@@ -3,14 +3,14 @@
 
 use super::expansions::Answers;
 use super::support::replies;
-use idl_check::{DeclarationTask, Scratch, Verdict};
 use idl_entity::Path;
 use idl_env::{Addition, Env, Facts, Step};
 use idl_memo::{Bank, Log, Runnable, other_at};
 use idl_prep::RootTask;
 use idl_repo::EntryTask;
-use idl_root_blocks::{BlockText, block_at, text_of};
 use idl_session::Session;
+use idl_session::idl_check::{DeclarationTask, Scratch, Verdict};
+use idl_session::idl_root_blocks::{BlockText, block_at, text_of};
 use idl_source::Name;
 use idl_unit::{Unit, UnitText, split};
 use std::alloc::{AllocError, Global};

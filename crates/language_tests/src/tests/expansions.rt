@@ -8,7 +8,7 @@ use idl_macro::conditions::{Symbol, evaluate};
 use idl_map::Table;
 use idl_memo::{Bank, Log, PlainBank, Runnable};
 use idl_prep::RootTask;
-use idl_project::NoStep;
+use idl_session::idl_project::NoStep;
 use idl_source::Name;
 use std::alloc::{AllocError, Global};
 use std::test::Fail;

@@ -2,7 +2,7 @@
 
 ghost use Rattle.std.specs.Prelude.{◌≡◌, None};
 
-use idl_session::{
+use idl_server::idl_session::{
     BufferSink, ReadFailed, Session, Sink, SliceSource, Source, Stop, WriteFailed, run,
 };
 use std::alloc::Global;

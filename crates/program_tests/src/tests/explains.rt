@@ -1,9 +1,9 @@
 //! What `idltool explain` answers, and words that the program doesn't take.
 
 use super::support::{Files, Host, are_given, are_given_so, given, is_given};
-use idl_program::Status;
 use idl_server::LanguageServer;
-use idl_session::{BufferSink, SliceSource};
+use idl_server::idl_program::Status;
+use idl_server::idl_session::{BufferSink, SliceSource};
 use idl_tool::{Devices, run_tool};
 use std::test::Fail;
 

@@ -1,8 +1,8 @@
 //! What ends the program: files that can't be read, and devices that fail.
 
 use super::support::{Files, are_given};
-use idl_program::{Devices, Status, run_program};
-use idl_session::{BufferSink, SliceSource};
+use idl_server::idl_program::{Devices, Status, run_program};
+use idl_server::idl_session::{BufferSink, SliceSource};
 use std::alloc::{AllocError, Global};
 use std::test::Fail;
 

@@ -1,9 +1,9 @@
 //! Each name is tried once, over all roots.
 
-ghost use Rattle.idl_program.specs.Holding.{Untold};
+ghost use Rattle.idl_server.specs.idl_program.Holding.{Untold};
 
 use super::support::{Files, parts_of, told};
-use idl_program::{Loaded, Loader};
+use idl_server::idl_program::{Loaded, Loader};
 use idl_source::Name;
 use std::test::Fail;
 

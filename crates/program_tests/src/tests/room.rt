@@ -1,9 +1,9 @@
 //! Roots that ask for as many files as there may be.
 
-ghost use Rattle.idl_program.specs.Holding.{Untold};
+ghost use Rattle.idl_server.specs.idl_program.Holding.{Untold};
 
 use super::support::{loaded, told};
-use idl_program::{Loaded, Loader};
+use idl_server::idl_program::{Loaded, Loader};
 use idl_source::Name;
 use std::alloc::{AllocError, Global};
 use std::test::Fail;

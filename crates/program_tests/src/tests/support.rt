@@ -1,10 +1,10 @@
 //! What the tests share: the programs over files of a text, and rows of what they give; scripts with their replies.
 
-ghost use Rattle.idl_program.specs.Holding.{Untold};
+ghost use Rattle.idl_server.specs.idl_program.Holding.{Untold};
 
-use idl_program::{Devices, Loaded, Loader, PathLoader, Status, run_program};
 use idl_server::LanguageServer;
-use idl_session::{BufferSink, SliceSource};
+use idl_server::idl_program::{Devices, Loaded, Loader, PathLoader, Status, run_program};
+use idl_server::idl_session::{BufferSink, SliceSource};
 use idl_source::Name;
 use idl_tool::run_tool;
 use std::alloc::{AllocError, AllocGlobal, Global};

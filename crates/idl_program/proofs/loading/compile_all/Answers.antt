@@ -1,8 +1,8 @@
 use Rattle.std.proofs.Common.{◌≡◌, ◌∙◌, ℕ, All, List, ap, map, refl, subst, sym}
 use Rattle.std.proofs.lemmas.List.Elements.{All-nil}
-use Rattle.idl_project.specs.Compile.{compiled_root}
-use Rattle.idl_project.specs.Project.{Inputs}
-use Rattle.idl_project.specs.declared.compile.CompiledRoot.{CompiledRoot}
+use Rattle.idl_session.specs.idl_project.Compile.{compiled_root}
+use Rattle.idl_session.specs.idl_project.Project.{Inputs}
+use Rattle.idl_session.specs.idl_project.declared.compile.CompiledRoot.{CompiledRoot}
 use Rattle.idl_program.specs.Holding.{Allows, Holding, NoFile}
 use Rattle.idl_program.specs.Loading.{AreLoaded}
 use Rattle.idl_program.specs.Tried.{AreMissing, IsTrue}

@@ -1,5 +1,5 @@
 use Rattle.std.proofs.Common.{◌≡◌, map, take}
-use Rattle.idl_project.specs.Compile.{compiled_root}
+use Rattle.idl_session.specs.idl_project.Compile.{compiled_root}
 use Rattle.idl_program.proofs.loading.compile_each.Given as goal
 
 abbrev pub invariant-roots : goal.invariant-roots

@@ -1,5 +1,5 @@
 use Rattle.std.proofs.Common.{◌∙◌, ℕ, List, Some, ap, subst, sym}
-use Rattle.idl_project.specs.declared.compile.CompiledRoot.{CompiledRoot}
+use Rattle.idl_session.specs.idl_project.declared.compile.CompiledRoot.{CompiledRoot}
 use Rattle.idl_program.specs.Compiled.{Written}
 use Rattle.idl_program.specs.Loading.{AreCompiled}
 use Rattle.idl_program.specs.Options.{AreAsked}

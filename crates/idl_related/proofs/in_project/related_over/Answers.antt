@@ -1,7 +1,7 @@
 use Rattle.std.proofs.Common.{List, Option, subst}
 use Rattle.std.specs.Option.{IfSome}
 use Rattle.idl_event.specs.declared.told.event.Event.{Event}
-use Rattle.idl_prep.specs.Root.{expanded}
+use Rattle.idl_project.specs.idl_prep.Root.{expanded}
 use Rattle.idl_related.specs.Related.{AreRelated}
 use Rattle.idl_related.specs.declared.second.Related.{Related}
 use Rattle.idl_project.specs.Bank.{bank_of}

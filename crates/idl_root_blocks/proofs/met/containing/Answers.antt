@@ -1,7 +1,7 @@
 use Rattle.std.proofs.Common.{◌≡◌, ◌∙◌, [], List, Option, subst, sym, ap}
 use Rattle.std.specs.Option.{option_eq}
 use Rattle.std.specs.Prelude.{true}
-use Rattle.idl_check.specs.declared.walk.verdict.Verdict.{Verdict}
+use Rattle.idl_check_laws.specs.idl_check.declared.walk.verdict.Verdict.{Verdict}
 use Rattle.idl_root_blocks.specs.verdicts.Standing.{AreStanding, block_end, unit_asks}
 use Rattle.idl_env.specs.Facts.{answers}
 use Rattle.idl_env.specs.SameAnswer.{answer_eq}

@@ -1,5 +1,5 @@
 use Rattle.std.proofs.Common.{◌∙◌, ap, inl}
-use Rattle.idl_project.specs.Asked.{asked_of}
+use Rattle.idl_related.specs.idl_project.Asked.{asked_of}
 use Rattle.idl_server.proofs.CoveredLemmas.{still-there, taken-more}
 use Rattle.idl_server.proofs.roots.take_asked.Goals as goal
 

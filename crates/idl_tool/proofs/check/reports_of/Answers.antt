@@ -1,8 +1,8 @@
 use Rattle.std.proofs.Common.{◌∙◌, ◌++◌, ◌∷◌, [], List, ap₂, ap, length, map, subst, sym}
 use Rattle.std.specs.List.{zip}
-use Rattle.idl_project.specs.Bank.{bank_of}
+use Rattle.idl_related.specs.idl_project.Bank.{bank_of}
 use Rattle.idl_related.specs.Related.{AreRelatedOver}
-use Rattle.idl_project.specs.declared.compile.CompiledRoot.{CompiledRoot}
+use Rattle.idl_related.specs.idl_project.declared.compile.CompiledRoot.{CompiledRoot}
 use Rattle.idl_tool.specs.Checked.{AreReported, Entry, Told, all_of, in_order}
 use Rattle.idl_tool.specs.ToldAt.{told_at}
 use Rattle.idl_tool.proofs.CheckLemmas.{all-next, compiled-at, reported-both, reported-none, told-next, told-root}

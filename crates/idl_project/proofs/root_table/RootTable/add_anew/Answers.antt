@@ -3,7 +3,7 @@ use Rattle.std.proofs.Common.{◌≡◌, ◌∙◌, ℕ, [], List, length, map, 
 use Rattle.std.proofs.lemmas.List.{length-map}
 use Rattle.std.proofs.lemmas.Map.Entries.{length-keys_of}
 use Rattle.std.specs.Map.{keys_of}
-use Rattle.idl_kept.specs.Texts.{Texts}
+use Rattle.idl_root.specs.idl_kept.Texts.{Texts}
 use Rattle.idl_store.specs.Stored.{Stored, list_at}
 use Rattle.idl_root.specs.Results.{EntryResult}
 use Rattle.idl_project.specs.Bank.{bank_of}

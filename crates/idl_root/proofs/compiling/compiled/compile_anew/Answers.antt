@@ -1,7 +1,7 @@
 use Rattle.std.proofs.Common.{◌≡◌, ◌≤◌, ◌∙◌, ◌++◌, List, Some, [], ap, map, refl, rules, arith, subst, sym}
 use Rattle.std.specs.Prelude.{IfSome, sum_by}
-use Rattle.idl_check_laws.proofs.ToldLaws.{told-nothing}
-use Rattle.idl_check_laws.specs.Closing.{AreTold}
+use Rattle.idl_root_blocks.proofs.IdlCheckLaws.ToldLaws.{told-nothing}
+use Rattle.idl_root_blocks.specs.idl_check_laws.Closing.{AreTold}
 use Rattle.idl_env.specs.Facts.{UnitFacts}
 use Rattle.idl_env.specs.Turns.{most_turns, turns_for}
 use Rattle.idl_kept.specs.Texts.{Texts}

@@ -2,7 +2,7 @@ use Rattle.std.proofs.Common.{arith}
 use Rattle.idl_root_blocks.proofs.VerdictLaws.Names.{named-unit, unit-nothing}
 use Rattle.idl_root_blocks.proofs.VerdictLaws.Stacks.{told-kept}
 use Rattle.idl_check_laws.proofs.NamingLaws.{unit-named}
-use Rattle.idl_check.specs.walk.Verdict.{verdict}
+use Rattle.idl_check_laws.specs.idl_check.walk.Verdict.{verdict}
 use Rattle.idl_env.specs.Facts.{answers, count_in}
 use Rattle.idl_env.specs.declared.keys.key.Key.TheVariants.{Nameless}
 use Rattle.idl_memo.specs.Query.{outcome}

@@ -3,7 +3,7 @@ use Rattle.std.specs.Cmp.Lexicographic.{slice_cmp}
 use Rattle.std.specs.FinMap as finite
 use Rattle.std.specs.FinMap.{get-empty}
 use Rattle.std.specs.Ordering.{nat_cmp}
-use Rattle.idl_project.specs.Project.{Project}
+use Rattle.idl_related.specs.idl_project.Project.{Project}
 use Rattle.idl_server.proofs.ServerLemmas.{settled-blank}
 use Rattle.idl_server.proofs.server.Server.new.Goals as goal
 

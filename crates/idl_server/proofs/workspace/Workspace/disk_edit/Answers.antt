@@ -2,7 +2,7 @@ use Rattle.std.proofs.Common.{◌≡◌, ◌∙◌, ℕ, List, None, subst, sym}
 use Rattle.std.specs.Map.{lookup}
 use Rattle.std.specs.Prelude.{IfSome}
 use Rattle.std.specs.Str.{bytes_eq}
-use Rattle.idl_project.specs.Batch.{edit_of}
+use Rattle.idl_related.specs.idl_project.Batch.{edit_of}
 use Rattle.idl_program.specs.Holding.{Holding}
 use Rattle.idl_program.specs.Loading.{IsFileOf}
 use Rattle.idl_server.specs.Files.{AreFiled, told_by}

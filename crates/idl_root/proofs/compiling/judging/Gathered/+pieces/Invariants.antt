@@ -1,5 +1,5 @@
 use Rattle.std.proofs.Common.{◌≡◌, ◌≤◌, ◌+◌, ◌*◌, length}
-use Rattle.idl_check_laws.specs.Closing.{AreTold}
+use Rattle.idl_root_blocks.specs.idl_check_laws.Closing.{AreTold}
 use Rattle.idl_kept.specs.Texts.{AreListsOf, Texts}
 use Rattle.idl_memo.specs.declared.meter.Meter.{Meter}
 use Rattle.idl_root.specs.Followed.{IsKeeping}

@@ -1,5 +1,5 @@
 use Rattle.std.proofs.Common.{◌∷◌, ◌∙◌, [], ap, sym}
-use Rattle.idl_check.specs.declared.walk.verdict.Verdict.{Verdict}
+use Rattle.idl_root_blocks.specs.idl_check.declared.walk.verdict.Verdict.{Verdict}
 use Rattle.idl_env.specs.Facts.{UnitFacts}
 use Rattle.idl_root.specs.Held.{with_gathered, with_judged, with_units}
 use Rattle.idl_root.specs.Judged.{added, judged_at, judged_over}

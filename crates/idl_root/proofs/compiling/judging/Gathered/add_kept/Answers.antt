@@ -1,5 +1,5 @@
 use Rattle.std.proofs.Common.{◌∙◌, ap, refl, subst, sym}
-use Rattle.idl_check.specs.declared.walk.verdict.Verdict.{Verdict}
+use Rattle.idl_root_blocks.specs.idl_check.declared.walk.verdict.Verdict.{Verdict}
 use Rattle.idl_root.proofs.JudgingLemmas.{with-one}
 use Rattle.idl_root.proofs.LooseLemmas.{compares-boundary, compares-unit, passed-boundary, passed-unit}
 use Rattle.idl_root.proofs.PassedLemmas.{compares-none, passed-none}

@@ -1,5 +1,5 @@
 use Rattle.std.proofs.Common.{◌≡◌, ◌∙◌, ap, rules, subst, true}
-use Rattle.idl_check.specs.walk.Verdict.{verdict}
+use Rattle.idl_root_blocks.specs.idl_check.walk.Verdict.{verdict}
 use Rattle.idl_env.specs.Facts.{answers}
 use Rattle.idl_env.specs.Turns.{most_turns}
 use Rattle.idl_env.specs.keys.Key.{key_digest}

@@ -1,7 +1,7 @@
 use Rattle.std.proofs.Common.{◌∷◌, ◌∙◌, [], ap, subst, sym}
 use Rattle.std.specs.declared.rc.Rc.{Rc}
 use Rattle.std.specs.Global.{Global}
-use Rattle.idl_check.specs.walk.Verdict.{verdict}
+use Rattle.idl_root_blocks.specs.idl_check.walk.Verdict.{verdict}
 use Rattle.idl_env.specs.Facts.{answers}
 use Rattle.idl_env.specs.Turns.{most_turns}
 use Rattle.idl_kept.specs.Texts.{Texts, with_units}

@@ -1,0 +1,1 @@
+pub use Rattle.idl_project.proofs as IdlProject
