@@ -1,4 +1,6 @@
 //! Bytes, of which few stand in place and more are shared.
+//!
+//! Names, tokens, lines, rows and ids are one type, so all share by one rule.
 
 ghost use Rattle.std.specs.Prelude.{◌≡◌, ◌≤◌, ◌↔◌, ◌∷◌, [], IfOk, IsTrue, Some, length, refl, slice_range};
 ghost use Rattle.std.specs.Cmp.{partial_equiv_from_equiv};

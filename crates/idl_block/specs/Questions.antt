@@ -1,4 +1,7 @@
 -- What a block asks over a bank: the keys that its units ask and that it has not written before.
+-- A block in an alike one is alike (the laws `nesting` and `agreed`). Of each key that it asks both
+-- places may say that it isn't written there: then the bank beneath answers. Or one of them does:
+-- then both agree on the keys by which it was answered at the other, and it is among these.
 use Rattle.std.specs.Prelude.{◌≡◌, ◌||◌, not, IsFalse, List, [], ◌∷◌, ◌++◌, All, Contains, flat_map, map, if◌then◌else◌}
 use Rattle.std.specs.List.{filter}
 use Rattle.idl_memo.specs.Query.{outcome, asked}

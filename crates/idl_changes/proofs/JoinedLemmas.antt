@@ -12,7 +12,7 @@ use Rattle.std.proofs.lemmas.Option.{slice_get_past, slice_get_read}
 use Rattle.idl_changes.specs.Joined.{joined, joined_behind, of_id, partner}
 use Rattle.idl_changes.specs.Numbered.{AreCounts, ArePlaces, numbered_eq, place_of}
 use Rattle.idl_changes.specs.declared.change.Change.{Change}
-use Rattle.idl_changes.specs.declared.joined.Numbered.{Numbered}
+use Rattle.idl_changes.specs.declared.joined.EntryKey.{EntryKey}
 use Rattle.idl_repo.specs.declared.details.row_tree.RowTree.{RowTree}
 
 -- ---- one entry more
@@ -70,12 +70,12 @@ place_of-more id (suc n) [] tree = grind (arith, nat_tests)
 place_of-more id zero (t ∷ trees) tree = grind (arith, nat_tests, place_of-more id zero trees tree)
 place_of-more id (suc n) (t ∷ trees) tree = grind (arith, nat_tests, place_of-more id n trees tree, place_of-more id (suc n) trees tree)
 
-pub places-more : (trees : List RowTree) (tree : RowTree) (place : ℕ) (old new : List (Numbered × ℕ)) (key : Numbered) → place ≡ length trees
+pub places-more : (trees : List RowTree) (tree : RowTree) (place : ℕ) (old new : List (EntryKey × ℕ)) (key : EntryKey) → place ≡ length trees
     → ArePlaces trees old → key.id ≡ tree.id → key.number ≡ length (of_id tree.id trees)
-    → ((k : Numbered) → lookup (numbered_eq k) new ≡ (if numbered_eq k key then Some place else lookup (numbered_eq k) old))
+    → ((k : EntryKey) → lookup (numbered_eq k) new ≡ (if numbered_eq k key then Some place else lookup (numbered_eq k) old))
     → ArePlaces (trees ++ tree ∷ []) new
 places-more trees tree place old new key at are same number put id n =
-    let k : Numbered = record { id = id; number = n } in
+    let k : EntryKey = record { id = id; number = n } in
     put k ∙ by (bytes_eq id key.id) (bytes_eq id tree.id) (ap (bytes_eq id) same) (bytes_decides id tree.id).0 ∙ sym (place_of-more id n trees tree)
   where
     by : (b d : Bool) → b ≡ d → (d ≡ true → id ≡ tree.id)
@@ -128,7 +128,7 @@ take-next trees i tree within is =
     let now = λ (t : Bor RowTree). t.now in
     ap (map now) (take_more trees i tree within) ∙ map-append now (take i trees) (get_or trees i tree ∷ []) ∙ ap (λ (t : Bor RowTree). map now (take i trees) ++ t.now ∷ []) (sym is)
 
-pub told-next : (told : RowTree → Option RowTree → List Change) (others trees : List RowTree) (tree : RowTree) (key : Numbered) (found : Option RowTree)
+pub told-next : (told : RowTree → Option RowTree → List Change) (others trees : List RowTree) (tree : RowTree) (key : EntryKey) (found : Option RowTree)
     → (before mid after : List Change) → key.id ≡ tree.id → key.number ≡ length (of_id tree.id trees)
     → found ≡ slice_get (of_id key.id others) key.number
     → mid ≡ before ++ flat_map (λ (p : RowTree × Option RowTree). told p.0 p.1) (joined others trees)

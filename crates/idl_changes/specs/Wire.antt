@@ -1,5 +1,8 @@
 -- What of a tree goes over the wire: all but the path and the names of parameters. Of what it has as
 -- a set, no order counts, and nothing counts twice.
+-- Paths may change where an id is fixed, and two trees can have one row: so ids and parts are
+-- compared. Names in a TypeCode go over the wire. Lists go by place. A named type is its id, so a
+-- change in it is told once.
 use Rattle.std.specs.Prelude.{ℕ, List, [], map}
 use Rattle.std.specs.BTreeSet.{insert_key}
 use Rattle.std.specs.Cmp.Lexicographic.{slice_cmp}

@@ -14,12 +14,12 @@ use std::alloc::{AllocError, Global};
 
 /// An id, and how many entries with it are before one.
 #[derive(Clone, PartialEq, Eq, PartialOrd, Ord, Drop)]
-pub struct Numbered {
+pub struct EntryKey {
     pub id: Bytes,
     pub number: usize,
 }
 
-impl Datum for Numbered {
+impl Datum for EntryKey {
     ghost use Rattle.idl_changes.specs.Numbered.{copied_numbered, same_numbered};
 
     ghost same = { same_numbered };
@@ -27,7 +27,7 @@ impl Datum for Numbered {
     ghost copy = { copied_numbered };
 }
 
-impl Digest for Numbered {
+impl Digest for EntryKey {
     ghost use Rattle.idl_base.specs.Digest.{with_bytes};
 
     ghost digest_of = { λ key. with_bytes key.number key.id };
@@ -38,7 +38,7 @@ impl Digest for Numbered {
 }
 
 /// Where each entry stands.
-pub fn places(alloc: Global, trees: &[&RowTree]) -> Result<Map<Numbered, usize>, AllocError>
+pub fn places(alloc: Global, trees: &[&RowTree]) -> Result<Map<EntryKey, usize>, AllocError>
     ensures { IfOk result (ArePlaces (map (λ tree. tree.now) trees.now)) }
 {
     let mut places = Map::new(alloc)?;
@@ -51,7 +51,7 @@ pub fn places(alloc: Global, trees: &[&RowTree]) -> Result<Map<Numbered, usize>,
 }
 
 /// The key of the next entry, which counts from now on.
-pub fn key_of(counts: &mut Map<Bytes, usize>, tree: &RowTree) -> Result<Numbered, AllocError>
+pub fn key_of(counts: &mut Map<Bytes, usize>, tree: &RowTree) -> Result<EntryKey, AllocError>
     // There are no more of an id than entries.
     requires { unwrap_or (lookup (bytes_eq tree.now.id) counts.old) 0 < 2 ^ 64 - 1 }
 
@@ -67,14 +67,14 @@ pub fn key_of(counts: &mut Map<Bytes, usize>, tree: &RowTree) -> Result<Numbered
     };
     counts.insert(tree.id.clone()?, number + 1)?;
     let id = tree.id.clone()?;
-    Ok(Numbered { id, number })
+    Ok(EntryKey { id, number })
 }
 
 /// The entry that has a key.
 pub fn entry_at<'a>(
-    places: &Map<Numbered, usize>,
+    places: &Map<EntryKey, usize>,
     trees: &[&'a RowTree],
-    key: &Numbered,
+    key: &EntryKey,
 ) -> Option<&'a RowTree>
     requires { ArePlaces (map (λ tree. tree.now) trees.now) places.now }
     ensures { option_copied result

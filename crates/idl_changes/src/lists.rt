@@ -14,7 +14,7 @@ use idl_repo::push_number;
 use std::alloc::{AllocError, Global};
 
 /// What lists are made of.
-pub trait Item {
+pub trait ListItem {
     ghost use Rattle.std.specs.Prelude.{List, ℕ};
     ghost use Rattle.idl_changes.specs.declared.change.Difference.{Difference};
 
@@ -34,7 +34,7 @@ pub trait Item {
 }
 
 /// Compares lists whose items this word tells.
-pub fn compare_lists<T: Item>(
+pub fn compare_lists<T: ListItem>(
     word: &[u8],
     old: &[T],
     new: &[T],
@@ -62,7 +62,7 @@ fn item_part(alloc: Global, word: &[u8], number: usize) -> Result<Vec<u8>, Alloc
 }
 
 // Compares the items that stand at one place, where there are such.
-fn compare_items<T: Item>(
+fn compare_items<T: ListItem>(
     part: &[u8],
     old: Option<&T>,
     new: Option<&T>,
@@ -89,7 +89,7 @@ fn part_of(alloc: Global, word: &[u8], item: &[u8]) -> Result<Vec<u8>, AllocErro
     Ok(part)
 }
 
-impl Item for Bytes {
+impl ListItem for Bytes {
     ghost use Rattle.idl_changes.specs.Differences.{names_differences, own_name};
 
     ghost name_of = { own_name };
@@ -110,7 +110,7 @@ impl Item for Bytes {
     }
 }
 
-impl Item for MemberTree {
+impl ListItem for MemberTree {
     ghost use Rattle.idl_changes.specs.Differences.{member_differences, name_of_member};
 
     ghost name_of = { name_of_member };
@@ -131,7 +131,7 @@ impl Item for MemberTree {
     }
 }
 
-impl Item for CaseTree {
+impl ListItem for CaseTree {
     ghost use Rattle.idl_changes.specs.Differences.{case_differences, name_of_case};
 
     ghost name_of = { name_of_case };
@@ -153,7 +153,7 @@ impl Item for CaseTree {
     }
 }
 
-impl Item for ParameterTree {
+impl ListItem for ParameterTree {
     ghost use Rattle.idl_changes.specs.Differences.{name_of_parameter, parameter_differences};
 
     ghost name_of = { name_of_parameter };

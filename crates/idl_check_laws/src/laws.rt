@@ -2,6 +2,9 @@
 //!
 //! Each function does nothing: it carries its laws as clauses. `fitting` alone looks at a unit that a
 //! program holds.
+//!
+//! `least` speaks of units of fewer than 2^64 tokens, as an expression's tokens are counted by a `usize`; `fitting`
+//! says that each unit of a program is one.
 
 ghost use Rattle.std.specs.Prelude.{◌≡◌, ◌≢◌, ◌↔◌, ◌+◌, ◌^◌, ◌++◌, ◌<◌, ◌≤◌, Bool, ℕ, List, [], ◌∷◌, All, Contains, codes, decimal, false, fold, length, take, true, Err, None, Ok, Option, Some, map};
 ghost use Rattle.std.specs.Option.{IsSome};

@@ -1,6 +1,8 @@
 //! The laws of verdicts, of which `idl_check` gives the definition.
 //!
 //! They hold over any answers, and for any number of turns. Nothing here runs.
+//!
+//! They stand apart since three fifths of the lemmas prove these alone, and none of the code stands on them.
 #![tactic(auto)]
 
 mod laws;

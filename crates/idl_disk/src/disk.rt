@@ -1,9 +1,9 @@
 //! Files of the disk.
 
-ghost use Rattle.idl_program.specs.Holding.{Untold};
+ghost use Rattle.idl_loader.specs.Holding.{Untold};
 
 use crate::reading::read_file;
-use idl_program::{Loaded, Loader, PathLoader};
+use idl_loader::{Loaded, Loader, PathLoader};
 use idl_source::Name;
 use std::fs;
 use std::io::{self, ErrorKind};

@@ -2,7 +2,8 @@
 
 ghost use Rattle.std.specs.Prelude.{◌≡◌, None};
 
-use idl_program::idl_session::{ReadFailed, Sink, Source, WriteFailed};
+use idl_source::devices::{ReadFailed, WriteFailed};
+use idl_source::{Sink, Source};
 use std::io::{Read, Write};
 
 /// Bytes of a reader. It gives no further ones after 2^64 - 1 reads, and then fails. A read that the host asks to be tried

@@ -3,7 +3,7 @@ use Rattle.std.specs.Prelude.{ℕ, List, ◌++◌, length, max, take, drop, Opti
 use Rattle.idl_base.specs.declared.texts.ByteRange.{ByteRange}
 use Rattle.idl_editor.specs.Positions.{offset_at}
 use Rattle.idl_editor.specs.declared.column.Encoding.{Encoding}
-use Rattle.idl_editor.specs.declared.change.Change.{Change}
+use Rattle.idl_editor.specs.declared.change.ContentChange.{ContentChange}
 use Rattle.idl_editor.specs.declared.change.Range.{Range}
 
 -- bytes with others in the place of a range of them
@@ -22,6 +22,6 @@ changed_in encoding text None = record { from = 0; to = length text }
 changed_in encoding text (Some range) = range_in encoding text range
 
 -- a text after a change
-abbrev pub text_after : Encoding → List ℕ → Change → List ℕ
+abbrev pub text_after : Encoding → List ℕ → ContentChange → List ℕ
 text_after encoding text change =
     replaced text (changed_in encoding text change.range) change.text.now

@@ -20,14 +20,14 @@ pub struct Range {
 
 /// Other text in the place of a range, or of the whole text.
 #[derive(Clone, Copy)]
-pub struct Change<'a> {
+pub struct ContentChange<'a> {
     pub range: Option<Range>,
     pub text: &'a [u8],
 }
 
 /// A text after a change, and what becomes of the lines of the file before it.
 #[derive(Drop)]
-pub struct Changed {
+pub struct EditedText {
     pub text: Vec<u8>,
     pub splice: LineSplice,
 }
@@ -37,8 +37,8 @@ pub fn after_change(
     alloc: Global,
     encoding: Encoding,
     text: &[u8],
-    change: Change<'_>,
-) -> Result<Changed, AllocError>
+    change: ContentChange<'_>,
+) -> Result<EditedText, AllocError>
     ensures text { IfOk result (λ after.
         after.text.items ≡ text_after encoding text.now change.entry) }
     ensures lines { IfOk result (λ after.
@@ -47,7 +47,7 @@ pub fn after_change(
     let range = range_of(encoding, text, change.range);
     let splice = splice_of(alloc, text, range, change.text)?;
     let text = replaced(alloc, text, range, change.text)?;
-    Ok(Changed { text, splice })
+    Ok(EditedText { text, splice })
 }
 
 // The bytes that a change takes the place of.

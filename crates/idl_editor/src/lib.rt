@@ -2,6 +2,11 @@
 //! they say, and URIs of files.
 //!
 //! Nothing here does what a message asks for, and no file is kept.
+//!
+//! `frames/` takes messages off a stream: what a `Reader` has read and not given is all that it is to contracts, so the
+//! pieces in which an input comes change nothing. `messages/` tells which message a value is, and makes answers; it
+//! alone names another part. `uris/` has paths and workspaces' folders. Beside them stand `column.rt`, `position.rt`,
+//! `change.rt` and `splice.rt`.
 #![tactic(auto)]
 
 mod change;
@@ -13,7 +18,7 @@ mod position;
 mod splice;
 pub mod uris;
 
-pub use change::{Change, Changed, Range, after_change};
+pub use change::{ContentChange, EditedText, Range, after_change};
 pub use column::{Encoding, column_of, units_of};
 pub use laws::joined_lines;
 pub use position::{Position, offset_of};

@@ -1,4 +1,7 @@
 //! A change of a text as one splice of lines.
+//!
+//! Positions are looked up in the bytes of the text, and the splice is of the lines that the change touches between two
+//! line feeds: there a text is cut by itself (`joined_lines`), whatever carriage returns stand in it.
 
 ghost use Rattle.std.specs.Prelude.{◌≡◌, ◌≤◌, ◌++◌, IfOk, length, slice_range};
 ghost use Rattle.idl_base.specs.Spans.{piece};

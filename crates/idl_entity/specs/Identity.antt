@@ -1,4 +1,10 @@
 -- What identifies a declared name, and how its id is told.
+-- An identity is data: the prefix of the first declaration, the typeprefix around, and what was
+-- fixed, which is nothing, a version, or all of the id. One definition, `told`, makes the id of it
+-- and of the path.
+-- A prefix in an answer is the one in force, shared, where it was met in a scope around the name,
+-- and else one of the same text and the global scope: so equal identities are equal answers. An
+-- addition is brought to this form, so that is a law of all facts.
 use Rattle.std.specs.Prelude.{ℕ, ◌-◌, Bool, List, [], ◌∷◌, ◌++◌, Option, None, Some, codes, decimal, drop, if◌then◌else◌, length, take}
 use Rattle.idl_entity.specs.Path.{path_eq, scope_of}
 use Rattle.idl_entity.specs.declared.identity.Fixed.{Fixed}

@@ -1,4 +1,8 @@
 //! Entities: what names are declared as.
+//!
+//! An entity holds what it names itself: behind a typedef each next one is asked, so that a typedef that changes makes
+//! only those stale that asked it. A constant's value stands here: one that gets another is another answer to that
+//! question alone.
 
 ghost use Rattle.std.specs.Prelude.{◌≡◌, [], IfOk, None, OnOk, Some, refl};
 ghost use Rattle.std.specs.Cmp.{partial_order_from_agreeing_total};

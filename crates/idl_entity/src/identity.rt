@@ -1,5 +1,8 @@
 //! What identifies a declared name: the prefix under which it was declared first, the typeprefix of a scope around it, and what was
 //! fixed of its repository id. The three tell the id.
+//!
+//! `FixedIdentity` can't say "nothing", so no identity has two answers. Nothing fixed is an answer of its own
+//! (`Appeared`), since a block for it would cost each declared name an allocation.
 
 ghost use Rattle.std.specs.Prelude.{◌≡◌, ◌++◌, ◌∷◌, [], IfOk, None, OnOk, Some, decimal};
 ghost use Rattle.std.specs.Option.{option_copied};

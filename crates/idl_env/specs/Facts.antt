@@ -1,4 +1,11 @@
 -- The facts that units add, one unit after another, and the answers that they leave at each key.
+-- A typeprefix is an answer at its own key: one that comes or goes is one addition, and who asks
+-- for an id asks for the typeprefixes outward to the first. A use that goes further (`UsesFurther`)
+-- names the scopes that may stop it, as nothing is asked outward of the one that decides; where it
+-- is added the facts tell whether one does.
+-- A prefix is added with the open scopes where it was met: a pragma asks for these alone, and a
+-- kept verdict holds in any scope. The prefixes before openings and those before entered files are
+-- two lists.
 use Rattle.std.specs.Prelude.{ℕ, ◌+◌, Bool, List, [], ◌∷◌, ◌++◌, Option, Some, None, decimal, drop, filter, is_some, map, not, if◌then◌else◌}
 use Rattle.std.specs.List.{list_any}
 use Rattle.idl_entity.specs.idl_lex.kinds.Keywords.{folded}

@@ -1,4 +1,6 @@
 -- At which keys facts write over a world, and which of them write last at a key.
+-- Beside each answer stands the number of the facts that wrote it last. So what a stretch of the
+-- facts wrote is told by its first number, however many stretches stand open.
 use Rattle.std.specs.Prelude.{ℕ, ◌+◌, Bool, false, ◌||◌, List, [], ◌∷◌, is_some, if◌then◌else◌}
 use Rattle.idl_env.specs.Facts.{UnitFacts, World, addition_at, after, closing, count_in, first_world, nameless, path_around, scopes_in, unstopped, with_additions}
 use Rattle.idl_env.specs.declared.additions.addition.Addition.{Addition}

@@ -5,15 +5,15 @@ use Rattle.std.specs.List.{flat_map, slice_split}
 use Rattle.idl_fault.specs.Code.{code_text}
 use Rattle.idl_source.specs.Refusal.{number_of}
 use Rattle.idl_explain.specs.declared.explanation.Explanation.{Explanation}
-use Rattle.idl_explain.specs.declared.explanation.Told.{Told}
-use Rattle.idl_explain.specs.declared.explanation.Told.TheVariants.{Row, Refused}
+use Rattle.idl_explain.specs.declared.explanation.ExampleOutcome.{ExampleOutcome}
+use Rattle.idl_explain.specs.declared.explanation.ExampleOutcome.TheVariants.{Row, Refused}
 use Rattle.idl_explain.specs.declared.explanation.Topic.{Topic}
 use Rattle.idl_explain.specs.declared.explanation.Topic.TheVariants as topic
 use Rattle.idl_explain.specs.declared.explanation.Words.{Words}
 use Rattle.idl_explain.specs.declared.explanation.Words.TheVariants.{Whole, Around}
 
 -- what an example is for
-abbrev pub topic_of : Told → Topic
+abbrev pub topic_of : ExampleOutcome → Topic
 topic_of (Row line code token) = topic.Code code
 topic_of (Refused refusal) = topic.Refusal refusal
 
@@ -37,12 +37,12 @@ behind [] = []
 behind (b ∷ token) = 32 ∷ b ∷ token
 
 -- the token of an example's row
-abbrev pub token_of : Told → List ℕ
+abbrev pub token_of : ExampleOutcome → List ℕ
 token_of (Row line code token) = token.now
 token_of (Refused refusal) = []
 
 -- an example's row, of the file `a.idl`; or the reply to it
-abbrev pub row_of : Told → List ℕ
+abbrev pub row_of : ExampleOutcome → List ℕ
 row_of (Row line code token) =
     codes "a.idl:" ++ decimal line ++ codes ": " ++ code_text code ++ behind token.now
 row_of (Refused refusal) = title (topic.Refusal refusal)

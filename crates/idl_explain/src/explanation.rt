@@ -1,4 +1,6 @@
 //! What explains a code or a refusal, and how it is shown.
+//!
+//! The tables are statics that a `match` lends: as constants, handed out whole, one function had too many variables.
 
 ghost use Rattle.std.specs.Prelude.{◌≡◌, ◌↔◌, ◌++◌, IsTrue, OnOk};
 ghost use Rattle.idl_explain.specs.Explained.{Names, behind, headline, indented, indented_line, row_of, said, shown, title, token_of, topic_of};
@@ -19,7 +21,7 @@ pub enum Topic {
 
 /// What an example tells.
 #[derive(Clone, Copy)]
-pub enum Told {
+pub enum ExampleOutcome {
     /// A row of `a.idl`: its line, its code, and its token, which may be empty.
     Row(u32, Code, &'static str),
     /// The last command is refused.
@@ -38,7 +40,7 @@ pub enum Words {
 #[derive(Clone, Copy)]
 pub struct Explanation {
     /// What the example tells.
-    pub told: Told,
+    pub told: ExampleOutcome,
     pub words: Words,
     /// The file `a.idl`, or commands.
     pub example: &'static str,
@@ -77,14 +79,14 @@ impl Topic {
     }
 }
 
-impl Told {
+impl ExampleOutcome {
     /// The code, or the refusal.
     pub fn topic(self) -> Topic
         ensures { result ≡ topic_of self }
     {
         match self {
-            Told::Row(_, code, _) => Topic::Code(code),
-            Told::Refused(refusal) => Topic::Refusal(refusal),
+            ExampleOutcome::Row(_, code, _) => Topic::Code(code),
+            ExampleOutcome::Refused(refusal) => Topic::Refusal(refusal),
         }
     }
 
@@ -93,8 +95,8 @@ impl Told {
         ensures { result.now ≡ token_of self }
     {
         match self {
-            Told::Row(_, _, token) => token,
-            Told::Refused(_) => "",
+            ExampleOutcome::Row(_, _, token) => token,
+            ExampleOutcome::Refused(_) => "",
         }
     }
 
@@ -103,7 +105,7 @@ impl Told {
         ensures { OnOk result (out.new.items ≡ out.old.items ++ row_of self) }
     {
         match self {
-            Told::Row(line, code, token) => {
+            ExampleOutcome::Row(line, code, token) => {
                 let mut number = Buffer::new();
                 out.extend_from_slice(b"a.idl:")?;
                 out.extend_from_slice(number.format(line).as_bytes())?;
@@ -111,7 +113,7 @@ impl Told {
                 out.extend_from_slice(&code.text())?;
                 push_behind(token.as_bytes(), out)
             }
-            Told::Refused(refusal) => Topic::Refusal(refusal).push_title(out),
+            ExampleOutcome::Refused(refusal) => Topic::Refusal(refusal).push_title(out),
         }
     }
 }

@@ -10,5 +10,5 @@ mod refusals;
 mod spelling;
 mod topics;
 
-pub use explanation::{Explanation, Told, Topic, Words};
+pub use explanation::{ExampleOutcome, Explanation, Topic, Words};
 pub use topics::{all_codes, all_refusals, explanation_of, topic_named};

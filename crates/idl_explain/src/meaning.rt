@@ -2,11 +2,11 @@
 //!
 //! This file is made of docs/codes.tsv by .ci/codes.
 
-use crate::explanation::{Explanation, Told, Words};
+use crate::explanation::{ExampleOutcome, Explanation, Words};
 use idl_fault::Code;
 
 pub static NAME_NOT_FOUND: Explanation = Explanation {
-    told: Told::Row(2, Code::NameNotFound, "Mony"),
+    told: ExampleOutcome::Row(2, Code::NameNotFound, "Mony"),
     words: Words::Around("`", "` isn't declared here or in a scope around"),
     example: "typedef long Money;\ninterface Shop { Mony total(); };",
     mended: "typedef long Money;\ninterface Shop { Money total(); };",
@@ -14,7 +14,7 @@ pub static NAME_NOT_FOUND: Explanation = Explanation {
 };
 
 pub static AMBIGUOUS_NAME: Explanation = Explanation {
-    told: Told::Row(3, Code::AmbiguousName, "T"),
+    told: ExampleOutcome::Row(3, Code::AmbiguousName, "T"),
     words: Words::Around("`", "` means different things in different bases"),
     example: "interface A { typedef long T; };\ninterface B { typedef short T; };\ninterface C : A, B { attribute T x; };",
     mended: "interface A { typedef long T; };\ninterface B { typedef short T; };\ninterface C : A, B { attribute A::T x; };",
@@ -22,7 +22,7 @@ pub static AMBIGUOUS_NAME: Explanation = Explanation {
 };
 
 pub static OTHER_CASE: Explanation = Explanation {
-    told: Told::Row(2, Code::OtherCase, "money"),
+    told: ExampleOutcome::Row(2, Code::OtherCase, "money"),
     words: Words::Around("`", "` is declared with other upper and lower case"),
     example: "typedef long Money;\ntypedef money Price;",
     mended: "typedef long Money;\ntypedef Money Price;",
@@ -30,7 +30,7 @@ pub static OTHER_CASE: Explanation = Explanation {
 };
 
 pub static ALREADY_DECLARED: Explanation = Explanation {
-    told: Told::Row(2, Code::AlreadyDeclared, "X"),
+    told: ExampleOutcome::Row(2, Code::AlreadyDeclared, "X"),
     words: Words::Around("`", "` is declared already in this scope"),
     example: "typedef long X;\ntypedef short X;",
     mended: "typedef long X;\ntypedef short Y;",
@@ -38,7 +38,7 @@ pub static ALREADY_DECLARED: Explanation = Explanation {
 };
 
 pub static NAME_OF_SCOPE: Explanation = Explanation {
-    told: Told::Row(1, Code::NameOfScope, "bank"),
+    told: ExampleOutcome::Row(1, Code::NameOfScope, "bank"),
     words: Words::Around("`", "` is the name of the scope that it is declared in"),
     example: "module Bank { typedef long bank; };",
     mended: "module Bank { typedef long number; };",
@@ -46,7 +46,7 @@ pub static NAME_OF_SCOPE: Explanation = Explanation {
 };
 
 pub static DECLARED_AFTER_USE: Explanation = Explanation {
-    told: Told::Row(2, Code::DeclaredAfterUse, "T"),
+    told: ExampleOutcome::Row(2, Code::DeclaredAfterUse, "T"),
     words: Words::Around(
         "`",
         "` was used in this scope before, as a name of another one",
@@ -57,7 +57,7 @@ pub static DECLARED_AFTER_USE: Explanation = Explanation {
 };
 
 pub static LIKE_KEYWORD: Explanation = Explanation {
-    told: Told::Row(1, Code::LikeKeyword, "Boolean"),
+    told: ExampleOutcome::Row(1, Code::LikeKeyword, "Boolean"),
     words: Words::Around(
         "`",
         "` differs from a keyword in upper and lower case alone",
@@ -68,7 +68,7 @@ pub static LIKE_KEYWORD: Explanation = Explanation {
 };
 
 pub static WRONG_KIND: Explanation = Explanation {
-    told: Told::Row(2, Code::WrongKind, "K"),
+    told: ExampleOutcome::Row(2, Code::WrongKind, "K"),
     words: Words::Around("`", "` is of another kind than what is wanted here"),
     example: "const long K = 3;\ntypedef K T;",
     mended: "const long K = 3;\ntypedef long T[K];",
@@ -76,7 +76,7 @@ pub static WRONG_KIND: Explanation = Explanation {
 };
 
 pub static NO_SCOPE: Explanation = Explanation {
-    told: Told::Row(2, Code::NoScope, "T"),
+    told: ExampleOutcome::Row(2, Code::NoScope, "T"),
     words: Words::Around("`", "` is no scope, so it holds no names"),
     example: "typedef long T;\ntypedef T::X Y;",
     mended: "module T { typedef long X; };\ntypedef T::X Y;",
@@ -84,7 +84,7 @@ pub static NO_SCOPE: Explanation = Explanation {
 };
 
 pub static OTHER_FORWARD: Explanation = Explanation {
-    told: Told::Row(2, Code::OtherForward, "F"),
+    told: ExampleOutcome::Row(2, Code::OtherForward, "F"),
     words: Words::Around(
         "`",
         "` was declared forward as another kind, or with another `local`",
@@ -95,7 +95,7 @@ pub static OTHER_FORWARD: Explanation = Explanation {
 };
 
 pub static INCOMPLETE_BASE: Explanation = Explanation {
-    told: Told::Row(2, Code::IncompleteBase, "A"),
+    told: ExampleOutcome::Row(2, Code::IncompleteBase, "A"),
     words: Words::Around("the base `", "` isn't defined yet"),
     example: "interface A;\ninterface B : A { };\ninterface A { };",
     mended: "interface A { };\ninterface B : A { };",
@@ -103,7 +103,7 @@ pub static INCOMPLETE_BASE: Explanation = Explanation {
 };
 
 pub static REPEATED_BASE: Explanation = Explanation {
-    told: Told::Row(2, Code::RepeatedBase, "A"),
+    told: ExampleOutcome::Row(2, Code::RepeatedBase, "A"),
     words: Words::Around("the base `", "` is named twice"),
     example: "interface A { };\ninterface B : A, A { };",
     mended: "interface A { };\ninterface B : A { };",
@@ -111,7 +111,7 @@ pub static REPEATED_BASE: Explanation = Explanation {
 };
 
 pub static DECLARED_AGAIN: Explanation = Explanation {
-    told: Told::Row(3, Code::DeclaredAgain, "B"),
+    told: ExampleOutcome::Row(3, Code::DeclaredAgain, "B"),
     words: Words::Around(
         "an operation or attribute is inherited twice or declared again: `",
         "`",
@@ -122,7 +122,7 @@ pub static DECLARED_AGAIN: Explanation = Explanation {
 };
 
 pub static LOCAL_BASE: Explanation = Explanation {
-    told: Told::Row(2, Code::LocalBase, "L"),
+    told: ExampleOutcome::Row(2, Code::LocalBase, "L"),
     words: Words::Around("`", "` is local, and this interface isn't"),
     example: "local interface L { };\ninterface B : L { };",
     mended: "local interface L { };\nlocal interface B : L { };",
@@ -130,7 +130,7 @@ pub static LOCAL_BASE: Explanation = Explanation {
 };
 
 pub static REACHED_THROUGH_BASE: Explanation = Explanation {
-    told: Told::Row(2, Code::ReachedThroughBase, "A"),
+    told: ExampleOutcome::Row(2, Code::ReachedThroughBase, "A"),
     words: Words::Around("`", "` is reached through the base of the struct already"),
     example: "struct B { long a; };\nstruct D : B { short A; };",
     mended: "struct B { long a; };\nstruct D : B { short b; };",
@@ -138,7 +138,7 @@ pub static REACHED_THROUGH_BASE: Explanation = Explanation {
 };
 
 pub static OTHER_TYPE: Explanation = Explanation {
-    told: Told::Row(1, Code::OtherType, "1"),
+    told: ExampleOutcome::Row(1, Code::OtherType, "1"),
     words: Words::Around("`", "` doesn't fit the type that is wanted"),
     example: "const string S = 1;",
     mended: "const string S = \"1\";",
@@ -146,7 +146,7 @@ pub static OTHER_TYPE: Explanation = Explanation {
 };
 
 pub static OUT_OF_RANGE: Explanation = Explanation {
-    told: Told::Row(1, Code::OutOfRange, "40000"),
+    told: ExampleOutcome::Row(1, Code::OutOfRange, "40000"),
     words: Words::Around("`", "` goes out of the range of its type"),
     example: "const short K = 40000;",
     mended: "const long K = 40000;",
@@ -154,7 +154,7 @@ pub static OUT_OF_RANGE: Explanation = Explanation {
 };
 
 pub static DIVISION_BY_ZERO: Explanation = Explanation {
-    told: Told::Row(1, Code::DivisionByZero, "/"),
+    told: ExampleOutcome::Row(1, Code::DivisionByZero, "/"),
     words: Words::Whole("division by zero"),
     example: "const long K = 1 / 0;",
     mended: "const long K = 1 / 2;",
@@ -162,7 +162,7 @@ pub static DIVISION_BY_ZERO: Explanation = Explanation {
 };
 
 pub static BAD_SHIFT: Explanation = Explanation {
-    told: Told::Row(1, Code::BadShift, "<<"),
+    told: ExampleOutcome::Row(1, Code::BadShift, "<<"),
     words: Words::Whole(
         "bad shift: a count is 0 to 63, and `>>` wants a left side that isn't negative",
     ),
@@ -172,7 +172,7 @@ pub static BAD_SHIFT: Explanation = Explanation {
 };
 
 pub static BOUND_NOT_POSITIVE: Explanation = Explanation {
-    told: Told::Row(1, Code::BoundNotPositive, "0"),
+    told: ExampleOutcome::Row(1, Code::BoundNotPositive, "0"),
     words: Words::Whole("a bound is 1 or more"),
     example: "typedef long A[0];",
     mended: "typedef long A[1];",
@@ -180,7 +180,7 @@ pub static BOUND_NOT_POSITIVE: Explanation = Explanation {
 };
 
 pub static NO_CONSTANT_TYPE: Explanation = Explanation {
-    told: Told::Row(2, Code::NoConstantType, "F"),
+    told: ExampleOutcome::Row(2, Code::NoConstantType, "F"),
     words: Words::Around("no constant can have the type `", "`"),
     example: "typedef float F;\nconst F K = 1;",
     mended: "typedef long F;\nconst F K = 1;",
@@ -188,7 +188,7 @@ pub static NO_CONSTANT_TYPE: Explanation = Explanation {
 };
 
 pub static INCOMPLETE_TYPE: Explanation = Explanation {
-    told: Told::Row(2, Code::IncompleteType, "Node"),
+    told: ExampleOutcome::Row(2, Code::IncompleteType, "Node"),
     words: Words::Around(
         "`",
         "` isn't complete yet, and can only be the element of a sequence",
@@ -199,7 +199,7 @@ pub static INCOMPLETE_TYPE: Explanation = Explanation {
 };
 
 pub static BAD_DISCRIMINATOR: Explanation = Explanation {
-    told: Told::Row(2, Code::BadDiscriminator, "D"),
+    told: ExampleOutcome::Row(2, Code::BadDiscriminator, "D"),
     words: Words::Around("`", "` can't be the type of a discriminator"),
     example: "typedef string D;\nunion U switch (D) { case 1: long a; };",
     mended: "typedef long D;\nunion U switch (D) { case 1: long a; };",
@@ -207,7 +207,7 @@ pub static BAD_DISCRIMINATOR: Explanation = Explanation {
 };
 
 pub static REPEATED_LABEL: Explanation = Explanation {
-    told: Told::Row(3, Code::RepeatedLabel, "1"),
+    told: ExampleOutcome::Row(3, Code::RepeatedLabel, "1"),
     words: Words::Around("the label `", "` is there already"),
     example: "union U switch (long) {\ncase 1: long a;\ncase 1: short b;\n};",
     mended: "union U switch (long) {\ncase 1: long a;\ncase 2: short b;\n};",
@@ -215,7 +215,7 @@ pub static REPEATED_LABEL: Explanation = Explanation {
 };
 
 pub static USELESS_DEFAULT: Explanation = Explanation {
-    told: Told::Row(4, Code::UselessDefault, "}"),
+    told: ExampleOutcome::Row(4, Code::UselessDefault, "}"),
     words: Words::Whole("`default` has no value left: all are labelled"),
     example: "union U switch (boolean) {\ncase TRUE: long a; case FALSE: long b;\ndefault: long c;\n};",
     mended: "union U switch (boolean) {\ncase TRUE: long a;\ndefault: long c;\n};",
@@ -223,7 +223,7 @@ pub static USELESS_DEFAULT: Explanation = Explanation {
 };
 
 pub static BAD_ONEWAY: Explanation = Explanation {
-    told: Told::Row(1, Code::BadOneway, "long"),
+    told: ExampleOutcome::Row(1, Code::BadOneway, "long"),
     words: Words::Around(
         "a oneway operation gives nothing back: `",
         "` can't stand here",
@@ -234,7 +234,7 @@ pub static BAD_ONEWAY: Explanation = Explanation {
 };
 
 pub static OTHER_PREFIX: Explanation = Explanation {
-    told: Told::Row(4, Code::OtherPrefix, "F"),
+    told: ExampleOutcome::Row(4, Code::OtherPrefix, "F"),
     words: Words::Around("`", "` is declared again under another #pragma prefix"),
     example: "#pragma prefix \"A\"\ninterface F { };\n#pragma prefix \"B\"\ninterface F;",
     mended: "#pragma prefix \"A\"\ninterface F { };\ninterface F;",
@@ -242,7 +242,7 @@ pub static OTHER_PREFIX: Explanation = Explanation {
 };
 
 pub static REPEATED_ID: Explanation = Explanation {
-    told: Told::Row(3, Code::RepeatedId, "T"),
+    told: ExampleOutcome::Row(3, Code::RepeatedId, "T"),
     words: Words::Around("`", "` has its repository id already"),
     example: "typedef long T;\n#pragma ID T \"IDL:a/T:1.0\"\n#pragma ID T \"IDL:b/T:1.0\"",
     mended: "typedef long T;\n#pragma ID T \"IDL:a/T:1.0\"",
@@ -250,7 +250,7 @@ pub static REPEATED_ID: Explanation = Explanation {
 };
 
 pub static REPEATED_VERSION: Explanation = Explanation {
-    told: Told::Row(3, Code::RepeatedVersion, "T"),
+    told: ExampleOutcome::Row(3, Code::RepeatedVersion, "T"),
     words: Words::Around("`", "` has its version or id already"),
     example: "typedef long T;\n#pragma version T 2.0\n#pragma version T 2.1",
     mended: "typedef long T;\n#pragma version T 2.1",
@@ -258,7 +258,7 @@ pub static REPEATED_VERSION: Explanation = Explanation {
 };
 
 pub static BAD_ID_TEXT: Explanation = Explanation {
-    told: Told::Row(1, Code::BadIdText, "\"omg org\""),
+    told: ExampleOutcome::Row(1, Code::BadIdText, "\"omg org\""),
     words: Words::Around("", " can be no prefix or repository id"),
     example: "#pragma prefix \"omg org\"",
     mended: "#pragma prefix \"omg.org\"",
@@ -266,7 +266,7 @@ pub static BAD_ID_TEXT: Explanation = Explanation {
 };
 
 pub static NO_REPOSITORY_ID: Explanation = Explanation {
-    told: Told::Row(2, Code::NoRepositoryId, "a"),
+    told: ExampleOutcome::Row(2, Code::NoRepositoryId, "a"),
     words: Words::Around("`", "` is of a kind that has no repository id"),
     example: "struct S { long a; };\n#pragma ID S::a \"IDL:S/a:1.0\"",
     mended: "struct S { long a; };\n#pragma ID S \"IDL:S:1.0\"",
@@ -274,7 +274,7 @@ pub static NO_REPOSITORY_ID: Explanation = Explanation {
 };
 
 pub static NEVER_DEFINED: Explanation = Explanation {
-    told: Told::Row(1, Code::NeverDefined, "N"),
+    told: ExampleOutcome::Row(1, Code::NeverDefined, "N"),
     words: Words::Around("`", "` is declared forward and never defined"),
     example: "struct N;\ntypedef sequence<N> NS;",
     mended: "struct N;\ntypedef sequence<N> NS;\nstruct N { long a; };",
@@ -282,7 +282,7 @@ pub static NEVER_DEFINED: Explanation = Explanation {
 };
 
 pub static REPEATED_TYPEPREFIX: Explanation = Explanation {
-    told: Told::Row(3, Code::RepeatedTypeprefix, "M"),
+    told: ExampleOutcome::Row(3, Code::RepeatedTypeprefix, "M"),
     words: Words::Around("`", "` has its typeprefix already"),
     example: "module M { typedef long T; };\ntypeprefix M \"A\";\ntypeprefix M \"B\";",
     mended: "module M { typedef long T; };\ntypeprefix M \"A\";",
@@ -290,7 +290,7 @@ pub static REPEATED_TYPEPREFIX: Explanation = Explanation {
 };
 
 pub static INTERFACE_NEVER_DEFINED: Explanation = Explanation {
-    told: Told::Row(1, Code::InterfaceNeverDefined, "F"),
+    told: ExampleOutcome::Row(1, Code::InterfaceNeverDefined, "F"),
     words: Words::Around("the interface `", "` is declared forward and never defined"),
     example: "interface F;",
     mended: "interface F { };",

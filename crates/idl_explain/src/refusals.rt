@@ -6,7 +6,7 @@ ghost use Rattle.std.specs.Prelude.{◌≡◌};
 ghost use Rattle.idl_explain.specs.Explained.{topic_of};
 ghost use Rattle.idl_explain.specs.declared.explanation.Topic.TheVariants as topic;
 
-use crate::explanation::{Explanation, Told, Topic, Words};
+use crate::explanation::{ExampleOutcome, Explanation, Topic, Words};
 use idl_source::Refusal;
 
 /// All refusals, in the order of their numbers.
@@ -42,7 +42,7 @@ pub fn of_refusal(refusal: Refusal) -> &'static Explanation
 }
 
 static MALFORMED: Explanation = Explanation {
-    told: Told::Refused(Refusal::Malformed),
+    told: ExampleOutcome::Refused(Refusal::Malformed),
     words: Words::Whole("malformed command"),
     example: "put a.idl 01",
     mended: "put a.idl 1\ntypedef long X;",
@@ -50,7 +50,7 @@ static MALFORMED: Explanation = Explanation {
 };
 
 static BAD_NAME: Explanation = Explanation {
-    told: Told::Refused(Refusal::BadName),
+    told: ExampleOutcome::Refused(Refusal::BadName),
     words: Words::Whole("name not allowed"),
     example: "put a//b.idl 0",
     mended: "put a/b.idl 0",
@@ -58,7 +58,7 @@ static BAD_NAME: Explanation = Explanation {
 };
 
 static NO_SUCH_FILE: Explanation = Explanation {
-    told: Told::Refused(Refusal::NoSuchFile),
+    told: ExampleOutcome::Refused(Refusal::NoSuchFile),
     words: Words::Whole("no such file"),
     example: "remove a.idl",
     mended: "put a.idl 0\nremove a.idl",
@@ -66,7 +66,7 @@ static NO_SUCH_FILE: Explanation = Explanation {
 };
 
 static OUTSIDE_FILE: Explanation = Explanation {
-    told: Told::Refused(Refusal::OutsideFile),
+    told: ExampleOutcome::Refused(Refusal::OutsideFile),
     words: Words::Whole("lines outside the file"),
     example: "put a.idl 1\ntypedef long X;\nsplice a.idl 2 1 0",
     mended: "put a.idl 1\ntypedef long X;\nsplice a.idl 1 1 0",
@@ -74,7 +74,7 @@ static OUTSIDE_FILE: Explanation = Explanation {
 };
 
 static OVER_LIMIT: Explanation = Explanation {
-    told: Told::Refused(Refusal::OverLimit),
+    told: ExampleOutcome::Refused(Refusal::OverLimit),
     words: Words::Whole("over a limit"),
     example: "search d0 d1 d2 d3 .. d256\n(257 directories)",
     mended: "search d0 d1 d2 d3 .. d255\n(256 directories)",
@@ -82,7 +82,7 @@ static OVER_LIMIT: Explanation = Explanation {
 };
 
 static BAD_MACRO: Explanation = Explanation {
-    told: Told::Refused(Refusal::BadMacro),
+    told: ExampleOutcome::Refused(Refusal::BadMacro),
     words: Words::Whole("macro not allowed"),
     example: "define 1x",
     mended: "define x1",
@@ -90,7 +90,7 @@ static BAD_MACRO: Explanation = Explanation {
 };
 
 static NO_SUCH_ROOT: Explanation = Explanation {
-    told: Told::Refused(Refusal::NoSuchRoot),
+    told: ExampleOutcome::Refused(Refusal::NoSuchRoot),
     words: Words::Whole("no such root"),
     example: "listing a.idl",
     mended: "root a.idl\nlisting a.idl",
@@ -98,7 +98,7 @@ static NO_SUCH_ROOT: Explanation = Explanation {
 };
 
 static ROOT_THERE: Explanation = Explanation {
-    told: Told::Refused(Refusal::RootThere),
+    told: ExampleOutcome::Refused(Refusal::RootThere),
     words: Words::Whole("root already there"),
     example: "root a.idl\nroot a.idl",
     mended: "root a.idl",
@@ -106,7 +106,7 @@ static ROOT_THERE: Explanation = Explanation {
 };
 
 static NO_MEMORY: Explanation = Explanation {
-    told: Told::Refused(Refusal::NoMemory),
+    told: ExampleOutcome::Refused(Refusal::NoMemory),
     words: Words::Whole("no memory"),
     example: "put a.idl 60000\n(60,000 lines typedef long Tn; with ulimit -v 12288)",
     mended: "put a.idl 1\ntypedef long X;",
@@ -114,7 +114,7 @@ static NO_MEMORY: Explanation = Explanation {
 };
 
 static UNFINISHED: Explanation = Explanation {
-    told: Told::Refused(Refusal::Unfinished),
+    told: ExampleOutcome::Refused(Refusal::Unfinished),
     words: Words::Whole("input ended inside a command"),
     example: "put a.idl 2\ntypedef long X;",
     mended: "put a.idl 2\ntypedef long X;\ntypedef long Y;",

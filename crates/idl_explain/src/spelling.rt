@@ -2,11 +2,11 @@
 //!
 //! This file is made of docs/codes.tsv by .ci/codes.
 
-use crate::explanation::{Explanation, Told, Words};
+use crate::explanation::{ExampleOutcome, Explanation, Words};
 use idl_fault::Code;
 
 pub static BAD_TOKEN: Explanation = Explanation {
-    told: Told::Row(1, Code::BadToken, "@"),
+    told: ExampleOutcome::Row(1, Code::BadToken, "@"),
     words: Words::Around("`", "` begins no token of IDL"),
     example: "typedef long @X;",
     mended: "typedef long X;",
@@ -14,7 +14,7 @@ pub static BAD_TOKEN: Explanation = Explanation {
 };
 
 pub static UNCLOSED_LITERAL: Explanation = Explanation {
-    told: Told::Row(1, Code::UnclosedLiteral, "\"abc;"),
+    told: ExampleOutcome::Row(1, Code::UnclosedLiteral, "\"abc;"),
     words: Words::Around("the literal ", " isn't closed on its line"),
     example: "const string S = \"abc;",
     mended: "const string S = \"abc\";",
@@ -22,7 +22,7 @@ pub static UNCLOSED_LITERAL: Explanation = Explanation {
 };
 
 pub static NOT_ONE_CHARACTER: Explanation = Explanation {
-    told: Told::Row(1, Code::NotOneCharacter, "'ab'"),
+    told: ExampleOutcome::Row(1, Code::NotOneCharacter, "'ab'"),
     words: Words::Around("", " isn't exactly one character"),
     example: "const char C = 'ab';",
     mended: "const char C = 'a';",
@@ -30,7 +30,7 @@ pub static NOT_ONE_CHARACTER: Explanation = Explanation {
 };
 
 pub static BAD_ESCAPE: Explanation = Explanation {
-    told: Told::Row(1, Code::BadEscape, "\"C:\\dir\""),
+    told: ExampleOutcome::Row(1, Code::BadEscape, "\"C:\\dir\""),
     words: Words::Around(
         "",
         " has an escape that IDL doesn't know, or a zero character",
@@ -41,7 +41,7 @@ pub static BAD_ESCAPE: Explanation = Explanation {
 };
 
 pub static MALFORMED_INTEGER: Explanation = Explanation {
-    told: Told::Row(1, Code::MalformedInteger, "08"),
+    told: ExampleOutcome::Row(1, Code::MalformedInteger, "08"),
     words: Words::Around("`", "` is no integer"),
     example: "const long K = 08;",
     mended: "const long K = 8;",
@@ -49,7 +49,7 @@ pub static MALFORMED_INTEGER: Explanation = Explanation {
 };
 
 pub static FLOATING_LITERAL: Explanation = Explanation {
-    told: Told::Row(1, Code::FloatingLiteral, "1.5"),
+    told: ExampleOutcome::Row(1, Code::FloatingLiteral, "1.5"),
     words: Words::Around(
         "`",
         "` is a floating or fixed number, and only integers have values here",
@@ -60,7 +60,7 @@ pub static FLOATING_LITERAL: Explanation = Explanation {
 };
 
 pub static INTEGER_TOO_LARGE: Explanation = Explanation {
-    told: Told::Row(1, Code::IntegerTooLarge, "18446744073709551616"),
+    told: ExampleOutcome::Row(1, Code::IntegerTooLarge, "18446744073709551616"),
     words: Words::Around("`", "` is 2^64 or more"),
     example: "const unsigned long long K = 18446744073709551616;",
     mended: "const unsigned long long K = 18446744073709551615;",
@@ -68,7 +68,7 @@ pub static INTEGER_TOO_LARGE: Explanation = Explanation {
 };
 
 pub static MIXED_WIDTHS: Explanation = Explanation {
-    told: Told::Row(1, Code::MixedWidths, "L\"cd\""),
+    told: ExampleOutcome::Row(1, Code::MixedWidths, "L\"cd\""),
     words: Words::Around("", " stands directly behind a text of the other width"),
     example: "const string S = \"ab\" L\"cd\";",
     mended: "const string S = \"ab\" \"cd\";",
@@ -76,7 +76,7 @@ pub static MIXED_WIDTHS: Explanation = Explanation {
 };
 
 pub static UNCLOSED_COMMENT: Explanation = Explanation {
-    told: Told::Row(1, Code::UnclosedComment, "/*"),
+    told: ExampleOutcome::Row(1, Code::UnclosedComment, "/*"),
     words: Words::Whole("a comment that begins here is never closed"),
     example: "typedef long X; /* a length",
     mended: "typedef long X; /* a length */",
@@ -84,7 +84,7 @@ pub static UNCLOSED_COMMENT: Explanation = Explanation {
 };
 
 pub static NOT_FOUND: Explanation = Explanation {
-    told: Told::Row(1, Code::NotFound, "\"B.idl\""),
+    told: ExampleOutcome::Row(1, Code::NotFound, "\"B.idl\""),
     words: Words::Around("the file ", " isn't found"),
     example: "#include \"B.idl\"",
     mended: "#include \"b.idl\"",
@@ -92,7 +92,7 @@ pub static NOT_FOUND: Explanation = Explanation {
 };
 
 pub static MALFORMED_INCLUDE: Explanation = Explanation {
-    told: Told::Row(1, Code::MalformedInclude, "include"),
+    told: ExampleOutcome::Row(1, Code::MalformedInclude, "include"),
     words: Words::Whole("`include` wants \"FILE\" or <FILE> behind it"),
     example: "#include b.idl",
     mended: "#include \"b.idl\"",
@@ -100,7 +100,7 @@ pub static MALFORMED_INCLUDE: Explanation = Explanation {
 };
 
 pub static OUT_OF_PLACE: Explanation = Explanation {
-    told: Told::Row(4, Code::OutOfPlace, "endif"),
+    told: ExampleOutcome::Row(4, Code::OutOfPlace, "endif"),
     words: Words::Around("`", "` belongs to no open #if, or stands behind its #else"),
     example: "#if 1\ntypedef long X;\n#endif\n#endif",
     mended: "#if 1\ntypedef long X;\n#endif",
@@ -108,7 +108,7 @@ pub static OUT_OF_PLACE: Explanation = Explanation {
 };
 
 pub static NOT_CLOSED: Explanation = Explanation {
-    told: Told::Row(1, Code::NotClosed, "ifdef"),
+    told: ExampleOutcome::Row(1, Code::NotClosed, "ifdef"),
     words: Words::Around("`#", "` has no #endif in this file"),
     example: "#ifdef DEBUG\ntypedef long X;",
     mended: "#ifdef DEBUG\ntypedef long X;\n#endif",
@@ -116,7 +116,7 @@ pub static NOT_CLOSED: Explanation = Explanation {
 };
 
 pub static MALFORMED_MACRO: Explanation = Explanation {
-    told: Told::Row(1, Code::MalformedMacro, "define"),
+    told: ExampleOutcome::Row(1, Code::MalformedMacro, "define"),
     words: Words::Around(
         "`",
         "` wants the word of a macro, and macros have no parameters here",
@@ -127,7 +127,7 @@ pub static MALFORMED_MACRO: Explanation = Explanation {
 };
 
 pub static UNKNOWN_DIRECTIVE: Explanation = Explanation {
-    told: Told::Row(1, Code::UnknownDirective, "inclde"),
+    told: ExampleOutcome::Row(1, Code::UnknownDirective, "inclde"),
     words: Words::Around("`#", "` is no directive"),
     example: "#inclde \"b.idl\"",
     mended: "#include \"b.idl\"",
@@ -135,7 +135,7 @@ pub static UNKNOWN_DIRECTIVE: Explanation = Explanation {
 };
 
 pub static ERROR: Explanation = Explanation {
-    told: Told::Row(2, Code::Error, "error define VERSION"),
+    told: ExampleOutcome::Row(2, Code::Error, "error define VERSION"),
     words: Words::Around("the file itself says: ", ""),
     example: "#ifndef VERSION\n#error define VERSION\n#endif",
     mended: "#define VERSION 2\n#ifndef VERSION\n#error define VERSION\n#endif",
@@ -143,7 +143,7 @@ pub static ERROR: Explanation = Explanation {
 };
 
 pub static OTHER_DEFINITION: Explanation = Explanation {
-    told: Told::Row(2, Code::OtherDefinition, "N"),
+    told: ExampleOutcome::Row(2, Code::OtherDefinition, "N"),
     words: Words::Around("the macro `", "` is defined already, with another body"),
     example: "#define N 1\n#define N 2",
     mended: "#define N 1\n#undef N\n#define N 2",
@@ -151,7 +151,7 @@ pub static OTHER_DEFINITION: Explanation = Explanation {
 };
 
 pub static BAD_CONDITION: Explanation = Explanation {
-    told: Told::Row(1, Code::BadCondition, "if"),
+    told: ExampleOutcome::Row(1, Code::BadCondition, "if"),
     words: Words::Around("the condition of `#", "` has no value"),
     example: "#if VERSION >\ntypedef long X;\n#endif",
     mended: "#if VERSION > 1\ntypedef long X;\n#endif",
@@ -159,7 +159,7 @@ pub static BAD_CONDITION: Explanation = Explanation {
 };
 
 pub static PAST_LIMIT: Explanation = Explanation {
-    told: Told::Row(1, Code::PastLimit, ""),
+    told: ExampleOutcome::Row(1, Code::PastLimit, ""),
     words: Words::Whole("the expansion ends here: 64 files deep, or a million tokens or turns"),
     example: "#include \"a.idl\"",
     mended: "#ifndef A_IDL\n#define A_IDL\n#include \"a.idl\"\n#endif",
@@ -167,7 +167,7 @@ pub static PAST_LIMIT: Explanation = Explanation {
 };
 
 pub static NO_TREE: Explanation = Explanation {
-    told: Told::Row(1, Code::NoTree, ";"),
+    told: ExampleOutcome::Row(1, Code::NoTree, ";"),
     words: Words::Around(
         "`",
         "` can't stand here, or the declaration is cut off behind it",
@@ -178,7 +178,7 @@ pub static NO_TREE: Explanation = Explanation {
 };
 
 pub static LEFT_OUT: Explanation = Explanation {
-    told: Told::Row(1, Code::LeftOut, "valuetype"),
+    told: ExampleOutcome::Row(1, Code::LeftOut, "valuetype"),
     words: Words::Around("`", "` is a part of IDL that this compiler leaves out"),
     example: "valuetype V { };",
     mended: "struct V { long a; };",
@@ -186,7 +186,7 @@ pub static LEFT_OUT: Explanation = Explanation {
 };
 
 pub static MISPLACED_UNIT: Explanation = Explanation {
-    told: Told::Row(1, Code::MisplacedUnit, "attribute"),
+    told: ExampleOutcome::Row(1, Code::MisplacedUnit, "attribute"),
     words: Words::Around("what begins with `", "` can't stand in this scope"),
     example: "attribute long size;",
     mended: "interface I {\nattribute long size;\n};",
@@ -194,7 +194,7 @@ pub static MISPLACED_UNIT: Explanation = Explanation {
 };
 
 pub static OPEN_SCOPE: Explanation = Explanation {
-    told: Told::Row(2, Code::OpenScope, ""),
+    told: ExampleOutcome::Row(2, Code::OpenScope, ""),
     words: Words::Whole("the file ends while a module or an interface is open"),
     example: "module M {\ntypedef long X;",
     mended: "module M {\ntypedef long X;\n};",
@@ -202,7 +202,7 @@ pub static OPEN_SCOPE: Explanation = Explanation {
 };
 
 pub static NESTED_TOO_DEEP: Explanation = Explanation {
-    told: Told::Row(1, Code::NestedTooDeep, "("),
+    told: ExampleOutcome::Row(1, Code::NestedTooDeep, "("),
     words: Words::Around("nested more than 64 deep at `", "`"),
     example: "const long K = (((((((((((((((((((((((((((((((((((((((((((((((((((((((((((((((((1)))))))))))))))))))))))))))))))))))))))))))))))))))))))))))))))));",
     mended: "const long K = ((1));",
@@ -210,7 +210,7 @@ pub static NESTED_TOO_DEEP: Explanation = Explanation {
 };
 
 pub static PRAGMA_INSIDE: Explanation = Explanation {
-    told: Told::Row(2, Code::PragmaInside, "pragma"),
+    told: ExampleOutcome::Row(2, Code::PragmaInside, "pragma"),
     words: Words::Whole("a pragma stands in the middle of a declaration"),
     example: "struct S {\n#pragma prefix \"P\"\nlong a;\n};",
     mended: "#pragma prefix \"P\"\nstruct S {\nlong a;\n};",
@@ -218,7 +218,7 @@ pub static PRAGMA_INSIDE: Explanation = Explanation {
 };
 
 pub static MALFORMED_PRAGMA: Explanation = Explanation {
-    told: Told::Row(1, Code::MalformedPragma, "pragma"),
+    told: ExampleOutcome::Row(1, Code::MalformedPragma, "pragma"),
     words: Words::Whole("this pragma isn't written as it must be"),
     example: "#pragma prefix omg.org",
     mended: "#pragma prefix \"omg.org\"",

@@ -1,4 +1,8 @@
 //! The trees of rows in JSON.
+//!
+//! An object is built member by member and printed whole: a clause says its text, a law that the tree is read back of
+//! it. That holds of every tree of the type, so what never shows has a form too: a bound of 0 that is given is `null`,
+//! and an enum by its path has `names`.
 
 ghost use Rattle.std.specs.Prelude.{◌≡◌, IfOk, OnOk};
 ghost use Rattle.serde_json.specs.View.{members_view, view};

@@ -1,4 +1,9 @@
 //! The results of units and blocks.
+//!
+//! Units' results stand in one row, those of inner blocks in another, and beside each block where its units' begin: so
+//! a block is taken by three parts of lists, and nothing is looked up in it. Which list it is in is told nowhere, so
+//! commits and removals keep the invariant. A block that is taken is told as it stood elsewhere (`IsTaken`); that it
+//! adds the same here is known behind its units.
 
 ghost use Rattle.std.specs.Prelude.{◌≡◌, ◌≤◌, ◌<◌, ◌∷◌, ◌++◌, [], List, IfNone, IfOk, IfSome, OnErr, OnOk, Some, length};
 ghost use Rattle.std.specs.Option.{option_copied, option_map, option_to_list};

@@ -1,4 +1,5 @@
 -- The condition of a line behind `if` or `elif` (after ISO/IEC 9899, 6.10.1).
+-- Where a limit is passed inside a condition its answer means nothing: the expansion has ended.
 use Rattle.std.specs.Prelude.{ℕ, zero, suc, Bool, true, false, not, ◌&&◌, List, [], ◌∷◌, map, Option, None, Some, is_some, codes, if◌then◌else◌}
 use Rattle.std.specs.Str.{bytes_eq}
 use Rattle.idl_memo.specs.Query.{Done, Tell, and_then}

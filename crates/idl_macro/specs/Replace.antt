@@ -1,5 +1,7 @@
 -- The replacement of the words of macros (after ISO/IEC 9899, 6.10.3.4, for macros without
 -- parameters).
+-- Depth has room for one more than there are turns. That is no bound, as each replacement takes a
+-- turn, and no macros that are still to be seen are counted.
 use Rattle.std.specs.Prelude.{ℕ, zero, suc, ◌+◌, not, ◌&&◌, List, [], ◌∷◌, ◌++◌, Option, None, Some, if◌then◌else◌}
 use Rattle.std.specs.List.{list_any}
 use Rattle.std.specs.Str.{bytes_eq}

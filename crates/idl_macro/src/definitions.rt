@@ -1,4 +1,7 @@
 //! The macros of a root: those that the root itself defines or removes, and else those of the bank.
+//!
+//! A macro that is defined again is compared word by word, also at the same line of the same file: no clause says of
+//! two counted pointers that they are one.
 
 ghost use Rattle.std.specs.Prelude.{◌≡◌, [], Some, None, IfOk, OnOk, OnErr};
 ghost use Rattle.std.specs.Map.{lookup};

@@ -1,4 +1,6 @@
 //! Buckets of places, each of which has a tag.
+//!
+//! Most look-ups find nothing: then 16 bytes are read, and an entry is touched in one of fifty.
 
 ghost use Rattle.std.specs.Prelude.{◌≡◌, ◌↔◌, ◌<◌, ◌+◌, ◌^◌, ℕ, IfNone, IfSome, IsFalse, IsTrue, OnOk, Some, length, slice_index};
 ghost use Rattle.std.specs.Int.{bit_at};

@@ -1,4 +1,6 @@
 //! Keys that are lent.
+//!
+//! A question is lent, not made: a look-up copies no name, and a log alone makes the key.
 
 ghost use Rattle.std.specs.Prelude.{◌≡◌, IfOk};
 

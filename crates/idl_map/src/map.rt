@@ -1,4 +1,12 @@
 //! A map by the digests of its keys.
+//!
+//! The digest of a program is known, and in a minute thousands of names are found that choose one bucket. What the
+//! buckets have no room for is found by order, so no input makes a look-up slow. A secret seed would do too, but then
+//! not what was handed in alone decides how long an edit takes. Files, a session's macros, roots and files that are
+//! entered once stay in the library's hash tables: there are 4,096 at most.
+//!
+//! A map is made with its index, since who holds one puts to it at once; made at the first put, a call would want
+//! memory that nothing refused.
 
 ghost use Rattle.std.specs.Prelude.{◌≡◌, [], Some, IfOk, OnOk, OnErr, if◌then◌else◌};
 ghost use Rattle.std.specs.Map.{lookup};

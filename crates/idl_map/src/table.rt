@@ -1,4 +1,7 @@
 //! A table of entries by their keys, in the order in which the keys were first put in.
+//!
+//! The index may tell of keys that were taken off: a look-up compares the key that stands there. So nothing is taken
+//! out of it, and want of memory can't leave it wrong.
 
 ghost use Rattle.std.specs.Prelude.{◌≡◌, ◌↔◌, ◌++◌, ◌∷◌, [], ℕ, Some, false, IfOk, IsTrue, IsNone, OnOk, OnErr, is_some, length, slice_get};
 ghost use Rattle.std.specs.List.{list_any, position};

@@ -1,5 +1,8 @@
 -- Which places of a project are fresh against those of another: the work that kept results don't
 -- save.
+-- Roots have one bank for all, units and entries one each, of what stood before them. Alike is an
+-- equality, so what is fresh is a number of classes, and a sum over parts in any order; it needs no
+-- tables.
 use Rattle.std.specs.Prelude.{ℕ, ◌+◌, Bool, ◌&&◌, List, [], ◌∷◌, length, map, sum_by, if◌then◌else◌}
 use Rattle.std.specs.List.{list_all, list_any}
 use Rattle.idl_memo.specs.Classes.{HaveAlike, new_among, new_at, new_ones, sum_among}

@@ -1,4 +1,7 @@
 //! Logs that share their entries: each entry has a date, and a log has those before its own.
+//!
+//! A page has some entries and not one, so a block that is left hands on few things. How many entries a log has is
+//! counted when it is made. One at a place is looked for from the first on, so logs are compared by going over both.
 
 ghost use Rattle.std.specs.Prelude.{◌≡◌, ◌++◌, ◌∷◌, [], All, IfNone, IfOk, IfSome, IsFalse, OnOk, Option, length, slice_get};
 ghost use Rattle.std.specs.Option.{option_copied, option_map};

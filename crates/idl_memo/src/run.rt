@@ -1,4 +1,13 @@
 //! Runs: entries of a log that many steps stand for.
+//!
+//! The steps are a list whose end other logs share: of a chain of n bases all logs hold n steps together, and a further
+//! member's walk is another run of the same steps. Runs are made where a log is kept, of its entries as they are. Known
+//! ones (`Runs`) are compared step by step and trusted in nothing, so to contracts a log is the list of its entries. A
+//! log of 32 entries or fewer has no run.
+//!
+//! What takes much to compare isn't shared: an interface n deep has n operations, so its steps stand in a block,
+//! sixteen bytes each. Answers are compared by content, so an edit under a long chain reads what its logs share to the
+//! end.
 
 ghost use Rattle.std.specs.Prelude.{◌≡◌, ◌++◌, [], All, IsFalse, List, OnOk, Option, flat_map, length, take};
 ghost use Rattle.std.specs.Option.{option_copied, option_map};

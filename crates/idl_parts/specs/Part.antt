@@ -1,6 +1,8 @@
 -- A unit as a list of its parts: names that are declared and used, what stands between them, and
 -- where expressions and scopes begin and end. What stands between is told by its tokens, or by their
 -- number alone.
+-- The text of a `typeid` or `typeprefix` is known before its name (`Identifies`): whether the name
+-- may be given it depends on it, and a fault stands at its own part.
 use Rattle.std.specs.Prelude.{ℕ, List, [], ◌∷◌, ◌++◌, flat_map, Option, None, Some}
 use Rattle.idl_lex.specs.declared.kinds.keyword.Keyword.{Keyword}
 use Rattle.idl_lex.specs.declared.kinds.mark.Mark.{Mark}

@@ -1,4 +1,9 @@
 -- Where the exploration of a file stops.
+-- Files are found by a walk that stops and is gone on with, line by line. Who walks brings the
+-- files between two steps, so no step knows where they come from. An include then looks its
+-- candidates up again, but replaces its operand and counts its turn once.
+-- That the walk finds all is not proved: a name passed over costs its caller a second compilation,
+-- and no wrong row.
 use Rattle.std.specs.Prelude.{◌≡◌, ◌<◌, All, Option, None, length}
 use Rattle.idl_event.specs.declared.asked.key.RootAnswer.{RootAnswer}
 use Rattle.idl_event.specs.declared.asked.key.RootKey.{RootKey}

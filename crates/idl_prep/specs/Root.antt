@@ -1,4 +1,5 @@
 -- The expansion of a root: its events, and what it asked.
+-- The root is entered without an event: nothing is around it that could be given back at its end.
 use Rattle.std.specs.Prelude.{ℕ, zero, suc, ◌-◌, List, [], ◌∷◌, Option, None, Some, flat_map}
 use Rattle.idl_memo.specs.Progress.{kept_within}
 use Rattle.idl_memo.specs.Query.{Query, Done, Ask, Tell, and_then, run}

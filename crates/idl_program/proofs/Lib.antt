@@ -4,3 +4,4 @@ pub mod OptionLemmas
 pub mod RequestLemmas
 pub mod ServedLemmas
 pub mod WordLemmas
+pub use Rattle.idl_loader.proofs as IdlLoader

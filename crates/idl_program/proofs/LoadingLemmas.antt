@@ -17,12 +17,13 @@ use Rattle.idl_session.specs.idl_project.Compile.{compiled_root}
 use Rattle.idl_session.specs.idl_project.Project.{Inputs}
 use Rattle.idl_session.specs.idl_project.declared.compile.CompiledRoot.{CompiledRoot}
 use Rattle.idl_program.specs.Compiled.{IsShown, Written}
-use Rattle.idl_program.specs.Holding.{Allows, Holding, NoFile}
-use Rattle.idl_program.specs.Loading.{AreComplete, AreLoaded, IsFileOf}
+use Rattle.idl_loader.specs.Holding.{Allows, Holding, NoFile}
+use Rattle.idl_program.specs.Loading.{AreComplete, AreLoaded}
+use Rattle.idl_loader.specs.Holding.{IsFileOf}
 use Rattle.idl_program.specs.Rows.{AreShown, output_of}
 use Rattle.idl_program.specs.Tried.{AreMissing, AreTried, IsLoading, IsTrue}
-use Rattle.idl_program.specs.declared.failure.Status.{Status}
-use Rattle.idl_program.specs.declared.failure.Status.TheVariants.{Sound, Faulty}
+use Rattle.idl_loader.specs.declared.status.Status.{Status}
+use Rattle.idl_loader.specs.declared.status.Status.TheVariants.{Sound, Faulty}
 use Rattle.idl_program.specs.declared.loading.Loading.{Loading}
 use Rattle.idl_program.specs.declared.request.Options.{Options}
 
@@ -97,9 +98,3 @@ shown options inputs roots compiled before after status rows is =
       output = own.output ∙ ap (append before.output) (flat_map-map (λ (r : CompiledRoot). flat_map whole_line (output_of options r)) (compiled_root inputs) roots);
       ending = own.ending ∙ ap (λ b. if b then Faulty else Sound) (sym (list_any-map (λ (r : CompiledRoot). r.rows.is_faulty) (compiled_root inputs) roots));
     }
-
--- what holds of the first elements and of the next one
-pub All-take_more : {X : Type 0} (P : X → Type 0) (xs : List X) (i : ℕ) (x : X) → i < length xs → x ≡ get_or xs i x → All P (take i xs) → P x
-    → All P (take (i + 1) xs)
-All-take_more {X} P xs i x within is all holds =
-    subst (λ (ys : List X). All P ys) (sym (take_more xs i x within)) (All-push P (take i xs) (get_or xs i x) all (subst P is holds))

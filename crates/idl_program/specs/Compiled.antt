@@ -8,11 +8,11 @@ use Rattle.idl_session.specs.idl_project.Compile.{compiled_root}
 use Rattle.idl_session.specs.idl_project.Made.{rootless}
 use Rattle.idl_session.specs.idl_project.Project.{Inputs}
 use Rattle.idl_session.specs.idl_project.WellFormed.{IsWellFormed}
-use Rattle.idl_program.specs.Holding.{Holding}
+use Rattle.idl_loader.specs.Holding.{Holding}
 use Rattle.idl_program.specs.Loading.{AreLoaded, AreComplete}
 use Rattle.idl_program.specs.Options.{AreAsked}
-use Rattle.idl_program.specs.declared.failure.Status.{Status}
-use Rattle.idl_program.specs.declared.failure.Status.TheVariants.{Sound, Faulty}
+use Rattle.idl_loader.specs.declared.status.Status.{Status}
+use Rattle.idl_loader.specs.declared.status.Status.TheVariants.{Sound, Faulty}
 use Rattle.idl_program.specs.declared.request.Options.{Options}
 
 -- what a root is told of

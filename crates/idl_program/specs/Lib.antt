@@ -1,5 +1,4 @@
 pub mod Compiled
-pub mod Holding
 pub mod Loading
 pub mod Messages
 pub mod Options
@@ -8,3 +7,4 @@ pub mod Served
 pub mod Tried
 pub mod Words
 pub use Rattle.idl_session.specs as idl_session
+pub use Rattle.idl_loader.specs as idl_loader

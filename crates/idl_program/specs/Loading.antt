@@ -8,12 +8,7 @@ use Rattle.idl_session.specs.idl_project.Made.{rootless}
 use Rattle.idl_session.specs.idl_project.Project.{Inputs}
 use Rattle.idl_session.specs.idl_project.WellFormed.{IsWellFormed}
 use Rattle.idl_session.specs.idl_project.declared.compile.CompiledRoot.{CompiledRoot}
-use Rattle.idl_program.specs.Holding.{Holding, File, NoFile, Allows}
-
--- the lines are those of a file that the loader has under this name
-abbrev pub IsFileOf : (List ℕ → Holding) → List ℕ → List (List ℕ) → Type 0
-IsFileOf told name lines =
-    (bytes : List ℕ) × Allows (told name) (File bytes) × (lines ≡ cut_lines bytes)
+use Rattle.idl_loader.specs.Holding.{Holding, NoFile, Allows, IsFileOf}
 
 -- each file is one that the loader has
 abbrev pub AreLoaded : (List ℕ → Holding) → Texts → Type 0

@@ -5,8 +5,6 @@ use Rattle.idl_source.specs.Refusal.{number_of}
 use Rattle.idl_source.specs.declared.refusal.Refusal.{Refusal}
 use Rattle.idl_program.specs.declared.failure.Failure.{Failure}
 use Rattle.idl_program.specs.declared.failure.Failure.TheVariants as failure
-use Rattle.idl_program.specs.declared.failure.Status.{Status}
-use Rattle.idl_program.specs.declared.failure.Status.TheVariants.{Sound, Faulty, Failed}
 use Rattle.idl_program.specs.declared.failure.Subject.TheVariants.{Word, File}
 
 -- the line about a word or a file that is refused
@@ -21,9 +19,3 @@ message_of (failure.Refused (File name) refusal) = refused_message name refusal
 message_of (failure.CannotRead name) = codes "idlc: " ++ name ++ whole_line (codes ": cannot read")
 message_of failure.ReadFailed = whole_line (codes "idlc: read failed")
 message_of failure.WriteFailed = whole_line (codes "idlc: write failed")
-
--- the exit status
-abbrev pub exit_code : Status → ℕ
-exit_code Sound = 0
-exit_code Faulty = 1
-exit_code Failed = 2

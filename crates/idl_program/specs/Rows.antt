@@ -5,8 +5,8 @@ use Rattle.idl_session.specs.replies.Replies.{whole_line}
 use Rattle.idl_source.specs.devices.Device.{append}
 use Rattle.idl_session.specs.idl_project.declared.compile.CompiledRoot.{CompiledRoot}
 use Rattle.idl_program.specs.Compiled.{Written}
-use Rattle.idl_program.specs.declared.failure.Status.{Status}
-use Rattle.idl_program.specs.declared.failure.Status.TheVariants.{Sound, Faulty}
+use Rattle.idl_loader.specs.declared.status.Status.{Status}
+use Rattle.idl_loader.specs.declared.status.Status.TheVariants.{Sound, Faulty}
 use Rattle.idl_program.specs.declared.request.Options.{Options}
 
 -- what is shown of a root: the dump and the listing, as far as they are asked for

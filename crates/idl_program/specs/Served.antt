@@ -7,9 +7,9 @@ use Rattle.idl_session.specs.idl_project.Project.{no_project}
 use Rattle.idl_session.specs.idl_project.UpToDate.{State}
 use Rattle.idl_session.specs.idl_project.Work.{no_work}
 use Rattle.idl_program.specs.Compiled.{IsCompiled, Written}
-use Rattle.idl_program.specs.Holding.{Holding}
-use Rattle.idl_program.specs.declared.failure.Status.{Status}
-use Rattle.idl_program.specs.declared.failure.Status.TheVariants.{Sound}
+use Rattle.idl_loader.specs.Holding.{Holding}
+use Rattle.idl_loader.specs.declared.status.Status.{Status}
+use Rattle.idl_loader.specs.declared.status.Status.TheVariants.{Sound}
 use Rattle.idl_program.specs.declared.request.Request.{Request}
 use Rattle.idl_program.specs.declared.request.Request.TheVariants.{Show, Serve, Compile}
 

@@ -2,7 +2,7 @@
 use Rattle.std.specs.Prelude.{◌≡◌, ℕ, List, All, Contains}
 use Rattle.idl_session.specs.idl_project.Project.{Inputs}
 use Rattle.idl_session.specs.idl_project.declared.compile.CompiledRoot.{CompiledRoot}
-use Rattle.idl_program.specs.Holding.{Holding, NoFile, Allows}
+use Rattle.idl_loader.specs.Holding.{Holding, NoFile, Allows}
 use Rattle.idl_program.specs.Loading.{AreLoaded, StaysAsked}
 use Rattle.idl_program.specs.declared.loading.Loading.{Loading}
 

@@ -1,37 +1,16 @@
 //! How the program ends.
+//!
+//! What options and what roots fail by are types of their own, so neither can say that a device failed or that words
+//! are wrong.
 
 ghost use Rattle.std.specs.Prelude.{◌≡◌, ◌<◌, ◌-◌, ◌^◌, OnOk};
 ghost use Rattle.idl_source.specs.devices.Device.{append};
-ghost use Rattle.idl_program.specs.Messages.{exit_code, message_of, refused_message};
+ghost use Rattle.idl_program.specs.Messages.{message_of, refused_message};
 
 use crate::request::WordsFault;
 use idl_session::{ReadFailed, Sink, Stop, WriteFailed, write_all};
 use idl_source::{Name, Refusal};
 use itoa::Buffer;
-
-/// How the program ends, as its exit status tells.
-#[derive(Clone, Copy, Debug, PartialEq, Eq)]
-pub enum Status {
-    /// No source has an error.
-    Sound,
-    /// A source has errors.
-    Faulty,
-    /// The words, a file, memory or a device failed, of which standard error has one line.
-    Failed,
-}
-
-impl Status {
-    /// The exit status: 0, 1 or 2.
-    pub fn code(self) -> u8
-        ensures { result ≡ exit_code self }
-    {
-        match self {
-            Status::Sound => 0,
-            Status::Faulty => 1,
-            Status::Failed => 2,
-        }
-    }
-}
 
 /// Why options can't be taken.
 #[derive(Drop)]

@@ -8,7 +8,7 @@ ghost use Rattle.idl_program.specs.Loading.{AreCompiled};
 ghost use Rattle.idl_program.specs.Tried.{AreMissing, IsLoading};
 
 use crate::failure::CompileFault;
-use crate::loader::{Loaded, Loader};
+use idl_loader::{Loaded, Loader};
 use idl_session::idl_prep::{Explorer, FileWalk, MAX_DEPTH, Next, OpenFile};
 use idl_session::idl_project::{CompiledRoot, Sources};
 use idl_source::{Name, Refusal, cut};

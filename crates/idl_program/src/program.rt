@@ -9,11 +9,11 @@ ghost use Rattle.idl_program.specs.Rows.{AreShown, output_of};
 ghost use Rattle.idl_program.specs.Served.{IsDone};
 ghost use Rattle.idl_program.specs.Words.{IsRequestOf};
 
-use crate::failure::{Failure, Status};
-use crate::loader::Loader;
+use crate::failure::Failure;
 use crate::loading::compile_all;
 use crate::preparing::prepared;
 use crate::request::{Options, Request, request_of};
+use idl_loader::{Loader, Status};
 use idl_session::idl_project::CompiledRoot;
 use idl_session::{Session, Sink, Source, WriteFailed, run, write_all, write_lines};
 use std::alloc::Global;

@@ -21,7 +21,7 @@ ghost use Rattle.idl_project.specs.Project.{Inputs, is_defined, no_inputs};
 use crate::edited_files::EditedFiles;
 use crate::limits::{MAX_BODY, MAX_MACROS};
 use crate::macro_body::MacroBody;
-use crate::no_step::NoStep;
+use crate::no_step::Stepless;
 use idl_base::{Bytes, Seq};
 use idl_event::{LexedFile, RootAnswer, RootKey};
 use idl_fault::{FileName, Place};
@@ -230,7 +230,7 @@ impl Bank for SessionBank {
 
     type Head = ();
 
-    type Step = NoStep;
+    type Step = Stepless;
 
     ghost at = { bank_of };
 

@@ -19,14 +19,16 @@ ghost use Rattle.idl_project.specs.UpToDate.{diagnostics_of, findings_of};
 
 use crate::asked::asked;
 use crate::bank::SessionBank;
+use crate::reading::{absent_names, root_expansion, root_log, root_name};
 use idl_base::Seq;
 use idl_event::{Expansion, RootAnswer, RootBank, RootKey};
 use idl_fault::{FileName, Place};
 use idl_memo::{Kept, Meter, run_anew};
-use idl_prep::{RootTask, absent};
+use idl_prep::RootTask;
 use idl_root::{Compiled, Keeper, KeptSource, Marks, Memory, Recompiled, telling};
 use idl_source::Name;
 use std::alloc::{AllocError, Global};
+use std::rc::Rc;
 
 /// The result of a root's task, as a session keeps it.
 pub type KeptExpansion = Kept<SessionBank, Name, Expansion>;
@@ -72,8 +74,7 @@ pub fn compile_alone(
     ensures compiled { IfOk result (λ compiled. compiled ≡ compiled_root bank.now root.now) }
     ensures turns { OnOk result (IsWithinTurns (expanded root.now (bank_of bank.now)).0) }
 {
-    let task = RootTask::new(root.copied());
-    let kept = run_anew(memory.alloc(), &task, bank, &mut Meter::new())?;
+    let kept = expanded_alone(memory.alloc(), bank, root)?;
     compile(memory, bank, &kept)
 }
 
@@ -81,13 +82,21 @@ pub fn compile_alone(
 pub fn asked_alone(alloc: Global, bank: &SessionBank, root: &Name) -> Result<Vec<Name>, AllocError>
     ensures { IfOk result (λ names. names.items ≡ asked_over (bank_of bank.now) root.now) }
 {
-    let kept = run_anew(
-        alloc,
-        &RootTask::new(root.copied()),
-        bank,
-        &mut Meter::new(),
-    )?;
-    asked(alloc, kept.log())
+    let kept = expanded_alone(alloc, bank, root)?;
+    asked(alloc, root_log(&kept))
+}
+
+/// The result of a root's task over a bank. Nothing is kept of it.
+pub fn expanded_alone(
+    alloc: Global,
+    bank: &SessionBank,
+    root: &Name,
+) -> Result<Rc<KeptExpansion>, AllocError>
+    ensures text { IfOk result (λ kept. kept.value.text ≡ root.now) }
+    ensures over { IfOk result (λ kept. HoldsOver key_eq expansion (bank_of bank.now) kept.value) }
+{
+    let task = RootTask::new(root.copied());
+    run_anew(alloc, &task, bank, &mut Meter::new())
 }
 
 /// Compiles a root over a bank, in which its own file may be absent, from the result of its task.
@@ -102,9 +111,9 @@ pub fn compile<B: RootBank>(
     ensures turns { OnOk result (IsWithinTurns (expanded kept.now.text (B.at bank.now)).0) }
 {
     let alloc = memory.alloc();
-    let end = end_of(alloc, bank, kept.text())?;
-    let rows = idl_root::compile(memory, &end, kept.out())?;
-    let names = absent(alloc, kept.log())?;
+    let end = end_of(alloc, bank, root_name(kept))?;
+    let rows = idl_root::compile(memory, &end, root_expansion(kept))?;
+    let names = absent_names(alloc, kept)?;
     Ok(CompiledRoot {
         rows,
         absent: Seq::from_vec(names),
@@ -143,11 +152,11 @@ pub fn compile_kept<B: RootBank>(
     ensures others { OnOk result (ExpandsNone meter.old meter.new) }
 {
     let alloc = keeper.alloc();
-    let end = end_of(alloc, bank, root.result.text())?;
+    let end = end_of(alloc, bank, root_name(root.result))?;
     let source = KeptSource {
         at: root.at,
         end: &end,
-        expansion: root.result.out(),
+        expansion: root_expansion(root.result),
         marks: root.marks,
         compiled: root.compiled,
     };
@@ -155,7 +164,7 @@ pub fn compile_kept<B: RootBank>(
         compiled: rows,
         marks,
     } = idl_root::compile_kept(keeper, source, meter)?;
-    let names = absent(alloc, root.result.log())?;
+    let names = absent_names(alloc, root.result)?;
     let compiled = CompiledRoot {
         rows,
         absent: Seq::from_vec(names),

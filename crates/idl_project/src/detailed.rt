@@ -10,14 +10,12 @@ ghost use Rattle.idl_project.specs.Project.{Inputs, Project};
 ghost use Rattle.idl_project.specs.UpToDate.{is_faulty_of, listing_of};
 
 use crate::bank::SessionBank;
-use crate::compile::KeptExpansion;
+use crate::compile::expanded_alone;
+use crate::reading::root_expansion;
 use crate::session::Session;
-use idl_memo::{Meter, run_anew};
-use idl_prep::RootTask;
 use idl_root::{Details, detailing};
 use idl_source::Name;
 use std::alloc::{AllocError, Global};
-use std::rc::Rc;
 
 impl Session {
     /// What the listing of a root tells, as data, and of a root with an error what is declared in it; nothing where the name isn't one
@@ -36,9 +34,8 @@ impl Session {
 pub fn details_alone(alloc: Global, bank: &SessionBank, root: &Name) -> Result<Details, AllocError>
     ensures { IfOk result (λ details. details ≡ details_over (bank_of bank.now) root.now) }
 {
-    let root = RootTask::new(root.copied());
-    let kept: Rc<KeptExpansion> = run_anew(alloc, &root, bank, &mut Meter::new())?;
-    idl_root::details_of(alloc, kept.out())
+    let kept = expanded_alone(alloc, bank, root)?;
+    idl_root::details_of(alloc, root_expansion(&kept))
 }
 
 /// Where a root has no error, the rows of its listing are what its details are printed as. This does nothing: it carries the law.

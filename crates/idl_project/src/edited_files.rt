@@ -1,4 +1,7 @@
 //! Files after edits that were done one after another, before they are put in place.
+//!
+//! Edits are done on the side, over a table of the edited names alone, and put in place by one step, for which room is
+//! made first. One edit is a batch of one.
 
 ghost use Rattle.std.specs.Prelude.{◌≡◌, ◌≢◌, [], Err, IfErr, IfOk, IsTrue, None, Ok, OnOk, map};
 ghost use Rattle.std.specs.Map.{lookup};

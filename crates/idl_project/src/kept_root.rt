@@ -24,7 +24,8 @@ ghost use Rattle.idl_project.specs.UpToDate.{IsKept};
 use crate::asked::asked;
 use crate::bank::SessionBank;
 use crate::compile::{CompiledAgain, CompiledRoot, KeptExpansion, KeptTask, compile_kept};
-use crate::no_step::NoStep;
+use crate::no_step::Stepless;
+use crate::reading::{root_expansion, root_log, root_name};
 use idl_event::{Expansion, RootBank, RootKey};
 use idl_memo::{Edited, Meter, freshness, reliance, run_anew};
 use idl_prep::RootTask;
@@ -55,7 +56,7 @@ impl Drop for KeptRoot {
 /// What roots are answered from now on, in place of what they were, and the causes of all that holds no longer: the keys that have
 /// other answers than before.
 #[derive(Clone, Copy)]
-pub struct Change<'a, B> {
+pub struct BankChange<'a, B> {
     pub base: &'a SessionBank,
     pub bank: &'a B,
     pub causes: &'a [RootKey],
@@ -77,7 +78,7 @@ pub fn causes_by<'a>(edited: &Edited<'a, SessionBank>) -> &'a [RootKey]
 // A root of this name, which stands at this place among all: what its units were and what they came to when it was compiled last, if
 // it was.
 #[derive(Drop)]
-struct Standing<'a> {
+struct RootEntry<'a> {
     at: usize,
     name: Name,
     marks: &'a Rc<Marks>,
@@ -88,7 +89,7 @@ impl KeptRoot {
     /// What comes of the root of this name over a bank, which will stand at this place among all: it is expanded and compiled.
     ///
     /// After want of memory nothing is said of the meter, and there may be drafts more.
-    pub fn anew<B: RootBank<Head = (), Step = NoStep>>(
+    pub fn anew<B: RootBank<Head = (), Step = Stepless>>(
         keeper: &mut Keeper,
         root: (usize, Name),
         bank: &B,
@@ -105,7 +106,7 @@ impl KeptRoot {
         let (at, name) = root;
         let alloc = keeper.alloc();
         let none = Rc::new(alloc, Marks::none(alloc))?;
-        let root = Standing {
+        let root = RootEntry {
             at,
             name,
             marks: &none,
@@ -118,10 +119,10 @@ impl KeptRoot {
     /// holds still, and else what comes of the root anew.
     ///
     /// After want of memory nothing is said of the meter, and there may be drafts more.
-    pub fn renewed<B: RootBank<Head = (), Step = NoStep>>(
+    pub fn renewed<B: RootBank<Head = (), Step = Stepless>>(
         keeper: &mut Keeper,
         root: (usize, &KeptRoot),
-        change: &Change<'_, B>,
+        change: &BankChange<'_, B>,
         meter: &mut Meter,
     ) -> Result<KeptRoot, AllocError>
         requires kept { let before = bank_of change.now.base.now in
@@ -149,9 +150,9 @@ impl KeptRoot {
                 marks: kept.marks.clone()?,
             });
         }
-        let root = Standing {
+        let root = RootEntry {
             at,
-            name: kept.result.text().copied(),
+            name: root_name(&kept.result).copied(),
             marks: &kept.marks,
             compiled: Some(&kept.compiled.rows),
         };
@@ -179,7 +180,7 @@ impl KeptRoot {
     fn asks_one_of(&self, keys: &[RootKey]) -> bool
         ensures { result ≡ list_any (is_logged key_eq self.now.result.value.log) keys.now }
     {
-        let log = self.result.log();
+        let log = root_log(&self.result);
         keys.iter().any(|key| log.contains(key))
     }
 
@@ -194,35 +195,35 @@ impl KeptRoot {
     pub fn asked(&self, alloc: Global) -> Result<Vec<Name>, AllocError>
         ensures { IfOk result (λ names. names.items ≡ asked_files self.now.result.value.log) }
     {
-        Ok(asked(alloc, self.result.log())?)
+        Ok(asked(alloc, root_log(&self.result))?)
     }
 
     /// The details of the root, whose units are judged for that alone.
     pub fn details(&self, alloc: Global) -> Result<Details, AllocError>
         ensures { IfOk result (λ d. d ≡ details self.now.result.value.out) }
     {
-        idl_root::details_of(alloc, self.result.out())
+        idl_root::details_of(alloc, root_expansion(&self.result))
     }
 
     /// What the root expands to.
     pub fn expansion(&self) -> &Expansion
         ensures { result.now ≡ self.now.result.value.out }
     {
-        self.result.out()
+        root_expansion(&self.result)
     }
 
     /// How many keys the root asked.
     pub fn key_count(&self) -> usize
         ensures { result ≡ length self.now.result.value.log }
     {
-        self.result.log().len()
+        root_log(&self.result).len()
     }
 }
 
 // What comes of a root over a bank: it is expanded and compiled.
-fn expanded<B: RootBank<Head = (), Step = NoStep>>(
+fn expanded<B: RootBank<Head = (), Step = Stepless>>(
     keeper: &mut Keeper,
-    root: Standing<'_>,
+    root: RootEntry<'_>,
     bank: &B,
     meter: &mut Meter,
 ) -> Result<KeptRoot, AllocError>
@@ -243,7 +244,7 @@ fn expanded<B: RootBank<Head = (), Step = NoStep>>(
     ensures count { OnOk result (meter.new.expanded ≡ meter.old.expanded + 1) }
 {
     let alloc = keeper.alloc();
-    let Standing {
+    let RootEntry {
         at,
         name,
         marks: earlier,

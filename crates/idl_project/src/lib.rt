@@ -2,6 +2,9 @@
 //! through edits.
 //!
 //! Names, words and lines come from a caller, and rows are lent to one. Nothing here knows of commands, replies or devices.
+//!
+//! An edit is data (`specs/Edits.antt`), and each call has one clause, `IsEdited`, or `IsBatch` where it does many.
+//! What an edit makes waits in drafts until it is settled.
 #![tactic(auto)]
 
 mod asked;
@@ -15,6 +18,7 @@ mod kept_root;
 mod limits;
 mod macro_body;
 mod no_step;
+mod reading;
 mod refiled;
 mod root_table;
 mod session;
@@ -36,7 +40,7 @@ pub use idl_source::Span;
 pub use limits::{
     MAX_BODY, MAX_DIRECTORIES, MAX_MACROS, MAX_ROOTS, edits_keep_form, edits_keep_limits,
 };
-pub use no_step::NoStep;
+pub use no_step::Stepless;
 pub use session::Session;
 pub use sources::Sources;
 pub use work::{Work, compared_is_bounded, untouched_roots_stay};

@@ -7,9 +7,9 @@ use std::alloc::{AllocError, Global};
 
 /// What stands in the log of a root for several entries: nothing, since each stands by itself.
 #[derive(Clone, PartialEq, Eq, Drop)]
-pub struct NoStep {}
+pub struct Stepless {}
 
-impl Datum for NoStep {
+impl Datum for Stepless {
     ghost use Rattle.std.specs.Prelude.{refl};
 
     ghost same = { λ x y h. refl };
@@ -17,7 +17,7 @@ impl Datum for NoStep {
     ghost copy = { λ x y h. refl };
 }
 
-impl Step<RootKey, RootAnswer, ()> for NoStep {
+impl Step<RootKey, RootAnswer, ()> for Stepless {
     ghost use Rattle.std.specs.Prelude.{[]};
 
     ghost logged = { λ head step. [] };
@@ -45,7 +45,7 @@ impl Step<RootKey, RootAnswer, ()> for NoStep {
     fn first(
         _head: &(),
         _entries: &[(RootKey, Option<RootAnswer>)],
-    ) -> Result<Option<NoStep>, AllocError> {
+    ) -> Result<Option<Stepless>, AllocError> {
         Ok(None)
     }
 
@@ -65,7 +65,7 @@ impl Step<RootKey, RootAnswer, ()> for NoStep {
         None
     }
 
-    fn first_other<'a, B: LentBank<Key = RootKey, Answer = RootAnswer, Head = (), Step = NoStep>>(
+    fn first_other<'a, B: LentBank<Key = RootKey, Answer = RootAnswer, Head = (), Step = Stepless>>(
         &'a self,
         _alloc: Global,
         _head: &(),

@@ -7,7 +7,7 @@ ghost use Rattle.idl_project.specs.Refiled.{AreCauses, IsPushedIf, refiled};
 
 use crate::bank::SessionBank;
 use crate::edited_files::EditedFiles;
-use crate::no_step::NoStep;
+use crate::no_step::Stepless;
 use idl_event::{RootAnswer, RootKey};
 use idl_fault::FileName;
 use idl_memo::{Bank, Edited, PlainBank};
@@ -30,7 +30,7 @@ impl<'a> Bank for Refiled<'a> {
 
     type Head = ();
 
-    type Step = NoStep;
+    type Step = Stepless;
 
     ghost at = { λ bank. refiled (bank_of bank.base.now) bank.edited.now.answers.entries };
 

@@ -16,9 +16,9 @@ ghost use Rattle.idl_project.specs.UpToDate.{IsUpToDate, keys_asked, project_hel
 
 use crate::bank::SessionBank;
 use crate::compile::CompiledRoot;
-use crate::kept_root::{Change, KeptRoot};
+use crate::kept_root::{BankChange, KeptRoot};
 use crate::limits::MAX_ROOTS;
-use crate::no_step::NoStep;
+use crate::no_step::Stepless;
 use crate::work::Work;
 use idl_base::Seq;
 use idl_event::RootBank;
@@ -161,10 +161,10 @@ impl RootTable {
     /// anew: each cause is looked up in each, and those that asked for one are expanded and compiled anew, once.
     ///
     /// What is made of these waits in the keeper to be put in place. Want of memory leaves it as it was.
-    pub fn renewed<B: RootBank<Head = (), Step = NoStep>>(
+    pub fn renewed<B: RootBank<Head = (), Step = Stepless>>(
         &self,
         keeper: &mut Keeper,
-        change: &Change<'_, B>,
+        change: &BankChange<'_, B>,
     ) -> Result<(RootTable, Work, Seq<Name>), AllocError>
         requires held { IsUpToDate change.now.base.now self.now keeper.old }
         requires causes { let before = bank_of change.now.base.now in
@@ -184,10 +184,10 @@ impl RootTable {
     }
 
     // The same. Where memory is refused there may be drafts more.
-    fn all_renewed<B: RootBank<Head = (), Step = NoStep>>(
+    fn all_renewed<B: RootBank<Head = (), Step = Stepless>>(
         &self,
         keeper: &mut Keeper,
-        change: &Change<'_, B>,
+        change: &BankChange<'_, B>,
     ) -> Result<(RootTable, Work, Seq<Name>), AllocError>
         requires held { IsUpToDate change.now.base.now self.now keeper.old }
         requires causes { let before = bank_of change.now.base.now in

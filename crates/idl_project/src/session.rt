@@ -1,4 +1,7 @@
 //! The session: its edits, and its queries.
+//!
+//! A session lends the parts of its project by one clause each, so that who stands above sees that a refused edit left
+//! them. Macros are gone through for a word: one that is made would take memory, and a query is never refused any.
 
 mod file_edits;
 
@@ -25,7 +28,7 @@ ghost use Rattle.idl_project.specs.WellFormed.{IsWellFormed};
 use crate::bank::SessionBank;
 use crate::compile::CompiledRoot;
 use crate::directories::directories;
-use crate::kept_root::{Change, KeptRoot, causes_by};
+use crate::kept_root::{BankChange, KeptRoot, causes_by};
 use crate::macro_body::MacroBody;
 use crate::root_table::RootTable;
 use crate::word::spelled;
@@ -106,7 +109,7 @@ impl Session {
             key: &key,
             answer,
         };
-        let change = Change {
+        let change = BankChange {
             base: &self.bank,
             bank: &edited,
             causes: causes_by(&edited),
@@ -141,7 +144,7 @@ impl Session {
             key: &key,
             answer,
         };
-        let change = Change {
+        let change = BankChange {
             base: &self.bank,
             bank: &edited,
             causes: causes_by(&edited),
@@ -170,7 +173,7 @@ impl Session {
             key: &RootKey::Search,
             answer,
         };
-        let change = Change {
+        let change = BankChange {
             base: &self.bank,
             bank: &edited,
             causes: causes_by(&edited),

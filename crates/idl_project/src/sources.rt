@@ -22,7 +22,7 @@ use crate::directories::directories;
 use crate::edited_files::EditedFiles;
 use crate::file_edit::FileEdit;
 use crate::macro_body::MacroBody;
-use crate::no_step::NoStep;
+use crate::no_step::Stepless;
 use crate::word::spelled;
 use idl_base::Seq;
 use idl_event::{RootAnswer, RootKey};
@@ -198,7 +198,7 @@ impl Bank for Sources {
 
     type Head = ();
 
-    type Step = NoStep;
+    type Step = Stepless;
 
     ghost at = { bank_of };
 

@@ -1,15 +1,15 @@
 //! What is found in a unit: the second places of its fault, by the site at which it stands.
 
-use crate::denoting::Standing;
-use crate::known::Known;
+use crate::denoting::{NameContext, entities_by, entity_at};
+use crate::known::KnownUnits;
 use crate::names::tree_of;
-use crate::repeated::Again;
-use crate::second::{Reason, Second, Spot};
+use crate::repeated::{UnitReplay, WalkStart};
+use crate::second::{Reason, Second, TokenPosition};
 use idl_base::{Bytes, Shared};
 use idl_entity::{Entity, Path};
 use idl_env::{DigestedKey, Env, Facts, OpenScopes, scopes_in};
 use idl_fault::Code;
-use idl_memo::{Bank, Journal};
+use idl_memo::Bank;
 use idl_parts::{UnitPart, Use, sites};
 use idl_project::idl_check::{Scratch, Steps};
 use idl_project::idl_scope::{ScopeAt, Standpoint, View};
@@ -24,7 +24,7 @@ const OPERANDS: usize = 2;
 /// A unit with a fault, which is the next that isn't known.
 #[derive(Clone, Copy)]
 pub struct About<'a> {
-    pub known: &'a Known<'a>,
+    pub known: &'a KnownUnits<'a>,
     pub env: &'a Env,
     pub text: &'a UnitText,
     pub fault: Fault,
@@ -33,13 +33,14 @@ pub struct About<'a> {
 impl<'a> About<'a> {
     /// The second places of its fault.
     pub fn seconds(self, scratch: &mut Scratch) -> Result<Vec<Second>, AllocError> {
+        let Some(tree) = tree_of(self.alloc(), self.text)? else {
+            return Ok(Vec::new(self.alloc()));
+        };
         let none = OpenScopes::none();
         let scopes = scopes_in(self.env.answer(&DigestedKey::cursor()), &none);
-        let tree = tree_of(self.alloc(), self.text)?;
         match &tree {
-            Some(UnitTree::Tokens(tree)) => self.of_tokens(scratch, scopes, tree),
-            Some(UnitTree::Pragma(pragma)) => self.of_pragma(scopes, pragma),
-            None => Ok(Vec::new(self.alloc())),
+            UnitTree::Tokens(tree) => self.of_tokens(scratch, scopes, tree),
+            UnitTree::Pragma(pragma) => self.of_pragma(scopes, pragma),
         }
     }
 
@@ -56,25 +57,45 @@ impl<'a> About<'a> {
         tree: &Tree,
     ) -> Result<Vec<Second>, AllocError> {
         let sites = sites(self.alloc(), tree)?;
-        let mut steps = Steps::new(scratch, self.env, scopes);
-        let site = steps_to(&mut steps, sites.as_slice(), self.fault.index)?;
-        let Some(site) = site else {
-            return Ok(Vec::new(self.alloc()));
-        };
-        let mut again = Again {
+        let start = WalkStart {
+            env: self.env,
+            scopes,
             sites: sites.as_slice(),
-            steps: Steps::new(scratch, self.env, scopes),
         };
+        self.of_sites(scratch, start)
+    }
+
+    // Those of a unit of these sites.
+    fn of_sites(
+        self,
+        scratch: &mut Scratch,
+        start: WalkStart<'_, '_>,
+    ) -> Result<Vec<Second>, AllocError> {
+        let mut steps = Steps::new(scratch, start.env, start.scopes);
+        match steps_to(&mut steps, start.sites, self.fault.index)? {
+            Some(site) => self.of_site(scratch, start, &steps, site),
+            None => Ok(Vec::new(self.alloc())),
+        }
+    }
+
+    // Those of this site, to which the walk has come.
+    fn of_site(
+        self,
+        scratch: &mut Scratch,
+        start: WalkStart<'_, '_>,
+        steps: &Steps<'_>,
+        site: UnitPart<'_>,
+    ) -> Result<Vec<Second>, AllocError> {
         match (self.fault.code, site) {
-            (Code::RepeatedLabel, _) => self.label_before(&mut again),
+            (Code::RepeatedLabel, _) => self.label_before(&mut UnitReplay::new(scratch, start)),
             (Code::DeclaredAfterUse, UnitPart::Declared(_way, name)) => {
-                self.use_before(&steps, name, &mut again)
+                self.use_before(steps, name, &mut UnitReplay::new(scratch, start))
             }
             (Code::RepeatedBase, UnitPart::Used(_way, name)) => {
-                self.naming_before(&steps, name, &mut again)
+                self.naming_before(steps, name, &mut UnitReplay::new(scratch, start))
             }
-            (_, UnitPart::Declared(_way, name)) => self.of_declared(&steps, name),
-            (_, UnitPart::Used(way, name)) => self.of_used(&steps, way, name),
+            (_, UnitPart::Declared(_way, name)) => self.of_declared(steps, name),
+            (_, UnitPart::Used(way, name)) => self.of_used(steps, way, name),
             _ => Ok(Vec::new(self.alloc())),
         }
     }
@@ -95,17 +116,35 @@ impl<'a> About<'a> {
                     kind: scope.kind,
                     path: &scope.path,
                 };
-                let folded = name.to_folded(self.alloc())?;
-                let found = view.has(&mut Journal::told(), place, &folded)?;
-                self.declared_all(found.as_slice())
+                self.declared_alike(view, place, name)
             }
-            _ => {
-                let path = scope.path.child(self.alloc(), name)?;
-                match view.standing_at(&mut Journal::told(), &path)? {
-                    Some(entity) => self.declared(entity.get().path()),
-                    None => Ok(Vec::new(self.alloc())),
-                }
-            }
+            _ => self.declared_in(view, &scope.path, name),
+        }
+    }
+
+    // The declarations of all that a scope has by a name.
+    fn declared_alike(
+        self,
+        view: View<'_>,
+        scope: ScopeAt<'_>,
+        name: &Bytes,
+    ) -> Result<Vec<Second>, AllocError> {
+        let folded = name.to_folded(self.alloc())?;
+        let found = entities_by(view, scope, &folded)?;
+        self.declared_all(found.as_slice())
+    }
+
+    // The declaration of what has a name in the scope at a path.
+    fn declared_in(
+        self,
+        view: View<'_>,
+        scope: &Path,
+        name: &Bytes,
+    ) -> Result<Vec<Second>, AllocError> {
+        let path = scope.child(self.alloc(), name)?;
+        match entity_at(view, &path)? {
+            Some(entity) => self.declared(entity.get().path()),
+            None => Ok(Vec::new(self.alloc())),
         }
     }
 
@@ -116,7 +155,7 @@ impl<'a> About<'a> {
         way: Use,
         name: &ScopedName,
     ) -> Result<Vec<Second>, AllocError> {
-        let standing = Standing {
+        let standing = NameContext {
             about: self,
             place: Standpoint {
                 own: steps.own(),
@@ -134,7 +173,7 @@ impl<'a> About<'a> {
     // Those of a pragma.
     fn of_pragma(self, scopes: &OpenScopes, pragma: &Pragma) -> Result<Vec<Second>, AllocError> {
         let own = Facts::new(self.alloc());
-        let standing = Standing {
+        let standing = NameContext {
             about: self,
             place: Standpoint {
                 own: &own,
@@ -173,17 +212,32 @@ impl<'a> About<'a> {
         }
     }
 
-    /// A token of the unit itself.
-    pub fn here(self, reason: Reason, token: usize) -> Result<Vec<Second>, AllocError> {
-        let unit = self.known.number();
+    /// A token of the unit with this number, if there is one.
+    pub fn at(
+        self,
+        reason: Reason,
+        unit: usize,
+        token: Option<usize>,
+    ) -> Result<Vec<Second>, AllocError> {
         let mut seconds = Vec::new(self.alloc());
-        push(&mut seconds, reason, Spot { unit, token })?;
+        if let Some(token) = token {
+            push(&mut seconds, reason, TokenPosition { unit, token })?;
+        }
         Ok(seconds)
+    }
+
+    /// A token of the unit itself, if there is one.
+    pub fn here(self, reason: Reason, token: Option<usize>) -> Result<Vec<Second>, AllocError> {
+        self.at(reason, self.known.number(), token)
     }
 }
 
 /// Puts in a second place.
-pub fn push(seconds: &mut Vec<Second>, reason: Reason, spot: Spot) -> Result<(), AllocError> {
+pub fn push(
+    seconds: &mut Vec<Second>,
+    reason: Reason,
+    spot: TokenPosition,
+) -> Result<(), AllocError> {
     seconds.push(Second { reason, spot })?;
     Ok(())
 }

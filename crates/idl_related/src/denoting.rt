@@ -1,7 +1,7 @@
 //! The second places of a used name.
 
-use crate::about::{About, push};
-use crate::second::{Reason, Second};
+use crate::about::About;
+use crate::second::{Reason, Second, TokenPosition};
 use idl_base::{Bytes, Seq, Shared};
 use idl_entity::{Entity, Kind, Path};
 use idl_env::OpenScopes;
@@ -14,7 +14,7 @@ use std::alloc::{AllocError, Global};
 
 /// Where the name with the fault of a unit stands.
 #[derive(Clone, Copy)]
-pub struct Standing<'a> {
+pub struct NameContext<'a> {
     pub about: About<'a>,
     pub place: Standpoint<'a>,
 }
@@ -34,7 +34,7 @@ impl Drop for Searched {
     }
 }
 
-impl<'a> Standing<'a> {
+impl<'a> NameContext<'a> {
     /// Those of a name, by what it denotes or why it denotes nothing.
     pub fn seconds(self, name: &ScopedName) -> Result<Vec<Second>, AllocError> {
         match self.resolved(name)? {
@@ -86,39 +86,39 @@ impl<'a> Standing<'a> {
     ) -> Result<Option<Shared<Entity>>, AllocError> {
         let head = self.head_of(name, part)?;
         match self.resolved(&head)? {
-            Ok(found) => Ok(Some(found.entity.clone()?)),
+            Ok(found) => Ok(Some(found.entity)),
             Err(_) => Ok(None),
         }
     }
 
     // The name up to that part.
     fn head_of(self, name: &ScopedName, part: usize) -> Result<ScopedName, AllocError> {
-        let mut rest = Vec::new(self.about.alloc());
-        for further in name.rest.as_slice().iter().take(part) {
-            rest.push(further.clone()?)?;
-        }
+        let first = name.first.clone()?;
+        let rest = first_of(self.about.alloc(), name.rest.as_slice(), part)?;
         Ok(ScopedName {
             is_global: name.is_global,
-            first: name.first.clone()?,
+            first,
             rest: Seq::from_vec(rest),
         })
     }
 
     // The scopes in which the part of a name with this number is looked for, in order.
     fn searched(self, name: &ScopedName, part: usize) -> Result<Vec<Searched>, AllocError> {
-        let mut scopes = Vec::new(self.about.alloc());
-        if let Some(before) = part.checked_sub(1) {
-            if let Some(entity) = self.entity_of(name, before)? {
-                push_scope(&mut scopes, entity.get().kind(), entity.get().path())?;
-            }
-            return Ok(scopes);
+        let alloc = self.about.alloc();
+        match part.checked_sub(1) {
+            Some(before) => self.denoted(name, before),
+            None if name.is_global => one_scope(alloc, Kind::Module, &Path::global()),
+            None => open_scopes(alloc, self.place.cursor),
         }
-        if name.is_global {
-            push_scope(&mut scopes, Kind::Module, &Path::global())?;
-            return Ok(scopes);
+    }
+
+    // The scope that the part of a name with this number denotes.
+    fn denoted(self, name: &ScopedName, part: usize) -> Result<Vec<Searched>, AllocError> {
+        let alloc = self.about.alloc();
+        match self.entity_of(name, part)? {
+            Some(entity) => one_scope(alloc, entity.get().kind(), entity.get().path()),
+            None => Ok(Vec::new(alloc)),
         }
-        push_scopes(&mut scopes, self.place.cursor)?;
-        Ok(scopes)
     }
 
     // All that the scope has that decides the part of a name with this number.
@@ -133,17 +133,26 @@ impl<'a> Standing<'a> {
         };
         let folded = spelled.to_folded(alloc)?;
         let scopes = self.searched(name, part)?;
-        for scope in scopes.as_slice() {
+        self.first_named(scopes.as_slice(), &folded)
+    }
+
+    // All that the first of these scopes has by a folded name that has anything.
+    fn first_named(
+        self,
+        scopes: &[Searched],
+        folded: &Bytes,
+    ) -> Result<Vec<&'a Shared<Entity>>, AllocError> {
+        for scope in scopes {
             let place = ScopeAt {
                 kind: scope.kind,
                 path: &scope.path,
             };
-            let found = self.view().has(&mut Journal::told(), place, &folded)?;
+            let found = entities_by(self.view(), place, folded)?;
             if !found.is_empty() {
                 return Ok(found);
             }
         }
-        Ok(Vec::new(alloc))
+        Ok(Vec::new(self.about.alloc()))
     }
 
     /// The environment under what the tokens before the name add.
@@ -156,19 +165,29 @@ impl<'a> Standing<'a> {
 
     // Those of a name of which the part with this number isn't declared: where it would have been, or names that are near.
     fn of_unknown(self, name: &ScopedName, part: usize) -> Result<Vec<Second>, AllocError> {
-        let mut seconds = Vec::new(self.about.alloc());
         let Some(spelled) = part_of(name, part) else {
-            return Ok(seconds);
+            return Ok(Vec::new(self.about.alloc()));
         };
         let scopes = self.searched(name, part)?;
-        for scope in scopes.as_slice() {
-            let path = scope.path.child(self.about.alloc(), spelled)?;
+        match self.faulty_spot(scopes.as_slice(), spelled)? {
+            Some(spot) => self.about.at(Reason::Faulty, spot.unit, Some(spot.token)),
+            None => self.near(spelled, scopes.as_slice()),
+        }
+    }
+
+    // Where a faulty unit would have declared a name in the first of these scopes in which one would have.
+    fn faulty_spot(
+        self,
+        scopes: &[Searched],
+        name: &Bytes,
+    ) -> Result<Option<TokenPosition>, AllocError> {
+        for scope in scopes {
+            let path = scope.path.child(self.about.alloc(), name)?;
             if let Some(spot) = self.about.known.faulty_spot(&path) {
-                push(&mut seconds, Reason::Faulty, spot)?;
-                return Ok(seconds);
+                return Ok(Some(spot));
             }
         }
-        self.near(spelled, scopes)
+        Ok(None)
     }
 
     /// The declarations of the first operations or attributes that meet, where a base with this name stands beside those at these paths.
@@ -177,50 +196,99 @@ impl<'a> Standing<'a> {
         bases: &[Path],
         name: &ScopedName,
     ) -> Result<Vec<Second>, AllocError> {
-        let alloc = self.about.alloc();
-        let mut seconds = Vec::new(alloc);
-        let Ok(found) = self.resolved(name)? else {
-            return Ok(seconds);
-        };
+        match self.resolved(name)? {
+            Ok(found) => self.first_that_meet(bases, found.entity.get()),
+            Err(_) => Ok(Vec::new(self.about.alloc())),
+        }
+    }
+
+    // The same, where the base is this one.
+    fn first_that_meet(self, bases: &[Path], base: &Entity) -> Result<Vec<Second>, AllocError> {
         let before = self.operations_of(bases)?;
-        let paths = found.entity.get().operations()?.to_vec(alloc)?;
-        for path in paths.as_slice() {
+        let paths = operations_in(self.about.alloc(), base)?;
+        self.declared_twice(&before, paths.as_slice())
+    }
+
+    // The declarations of the first of these operations or attributes that meets one of those before.
+    fn declared_twice(
+        self,
+        before: &Table<Bytes, Path>,
+        paths: &[Path],
+    ) -> Result<Vec<Second>, AllocError> {
+        let alloc = self.about.alloc();
+        for path in paths {
             match before.get(&path.folded(alloc)?) {
-                Some(other) if *other != *path => {
-                    self.about.push_declared(&mut seconds, other)?;
-                    self.about.push_declared(&mut seconds, path)?;
-                    return Ok(seconds);
-                }
+                Some(other) if *other != *path => return self.declared_both(other, path),
                 _ => {}
             }
         }
+        Ok(Vec::new(alloc))
+    }
+
+    // The declarations of what stands at two paths.
+    fn declared_both(self, one: &Path, other: &Path) -> Result<Vec<Second>, AllocError> {
+        let mut seconds = self.about.declared(one)?;
+        self.about.push_declared(&mut seconds, other)?;
         Ok(seconds)
     }
 
     // The operations and attributes of these bases, by their folded names.
     fn operations_of(self, bases: &[Path]) -> Result<Table<Bytes, Path>, AllocError> {
-        let alloc = self.about.alloc();
-        let mut operations = Table::new(alloc);
+        let mut operations = Table::new(self.about.alloc());
         for base in bases {
-            if let Some(entity) = self.view().standing_at(&mut Journal::told(), base)? {
-                add_operations(&mut operations, entity.get(), alloc)?;
-            }
+            self.add_operations(&mut operations, base)?;
         }
         Ok(operations)
     }
+
+    // Puts in those of the interface at a path.
+    fn add_operations(
+        self,
+        operations: &mut Table<Bytes, Path>,
+        base: &Path,
+    ) -> Result<(), AllocError> {
+        let Some(entity) = entity_at(self.view(), base)? else {
+            return Ok(());
+        };
+        let alloc = self.about.alloc();
+        let paths = operations_in(alloc, entity.get())?;
+        for path in paths.as_slice() {
+            operations.insert(path.folded(alloc)?, path.clone()?)?;
+        }
+        Ok(())
+    }
 }
 
-// Puts in those of an interface.
-fn add_operations(
-    operations: &mut Table<Bytes, Path>,
-    base: &Entity,
-    alloc: Global,
-) -> Result<(), AllocError> {
-    let paths = base.operations()?.to_vec(alloc)?;
-    for path in paths.as_slice() {
-        operations.insert(path.folded(alloc)?, path.clone()?)?;
+/// What stands at a path.
+pub fn entity_at<'a>(
+    view: View<'a>,
+    path: &Path,
+) -> Result<Option<&'a Shared<Entity>>, AllocError> {
+    view.standing_at(&mut Journal::told(), path)
+}
+
+/// All that a scope has by a folded name.
+pub fn entities_by<'a>(
+    view: View<'a>,
+    scope: ScopeAt<'_>,
+    folded: &Bytes,
+) -> Result<Vec<&'a Shared<Entity>>, AllocError> {
+    view.has(&mut Journal::told(), scope, folded)
+}
+
+// The operations and attributes of an interface.
+fn operations_in(alloc: Global, interface: &Entity) -> Result<Vec<Path>, AllocError> {
+    let paths = interface.operations()?;
+    paths.to_vec(alloc)
+}
+
+// The first of these parts of a name, so many.
+fn first_of(alloc: Global, parts: &[Bytes], count: usize) -> Result<Vec<Bytes>, AllocError> {
+    let mut first = Vec::new(alloc);
+    for part in parts.iter().take(count) {
+        first.push(part.clone()?)?;
     }
-    Ok(())
+    Ok(first)
 }
 
 // The part of a name with this number.
@@ -229,6 +297,20 @@ fn part_of(name: &ScopedName, part: usize) -> Option<&Bytes> {
         Some(further) => name.rest.as_slice().get(further),
         None => Some(&name.first),
     }
+}
+
+// A scope by itself.
+fn one_scope(alloc: Global, kind: Kind, path: &Path) -> Result<Vec<Searched>, AllocError> {
+    let mut scopes = Vec::new(alloc);
+    push_scope(&mut scopes, kind, path)?;
+    Ok(scopes)
+}
+
+// Open scopes, the innermost first.
+fn open_scopes(alloc: Global, open: &OpenScopes) -> Result<Vec<Searched>, AllocError> {
+    let mut scopes = Vec::new(alloc);
+    push_scopes(&mut scopes, open)?;
+    Ok(scopes)
 }
 
 // Puts in a scope.

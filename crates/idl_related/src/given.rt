@@ -1,8 +1,8 @@
 //! Where an id, a version or a typeprefix was given.
 
-use crate::about::{About, push};
+use crate::about::About;
 use crate::names::{last_at, length_of, tree_of};
-use crate::second::{Reason, Second, Spot};
+use crate::second::{Reason, Second};
 use idl_entity::Path;
 use idl_env::LentKey;
 use idl_fault::Code;
@@ -18,14 +18,10 @@ const OPERANDS: usize = 2;
 impl<'a> About<'a> {
     /// The unit by which what is found again was given to what stands at a path: the name there.
     pub fn given(self, path: &Path) -> Result<Vec<Second>, AllocError> {
-        let mut seconds = Vec::new(self.alloc());
-        let Some(unit) = self.giving_unit(path)? else {
-            return Ok(seconds);
-        };
-        if let Some(token) = self.giving_token(unit)? {
-            push(&mut seconds, Reason::Given, Spot { unit, token })?;
+        match self.giving_unit(path)? {
+            Some(unit) => self.at(Reason::Given, unit, self.giving_token(unit)?),
+            None => Ok(Vec::new(self.alloc())),
         }
-        Ok(seconds)
     }
 
     // The number of that unit. Each unit before the end of a root adds facts once.
@@ -44,11 +40,12 @@ impl<'a> About<'a> {
         let Some(text) = self.known.text(unit) else {
             return Ok(None);
         };
-        let tree = tree_of(self.alloc(), text)?;
+        let Some(tree) = tree_of(self.alloc(), text)? else {
+            return Ok(None);
+        };
         match &tree {
-            Some(UnitTree::Tokens(tree)) => given_in(self.alloc(), tree),
-            Some(UnitTree::Pragma(pragma)) => Ok(given_by(pragma)),
-            None => Ok(None),
+            UnitTree::Tokens(tree) => given_in(self.alloc(), tree),
+            UnitTree::Pragma(pragma) => Ok(given_by(pragma)),
         }
     }
 }

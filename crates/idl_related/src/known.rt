@@ -2,8 +2,8 @@
 
 ghost use Rattle.std.specs.Prelude.{◌≡◌, IfOk};
 
-use crate::names::declared_names;
-use crate::second::Spot;
+use crate::names::{NameDeclaration, declared_names};
+use crate::second::TokenPosition;
 use idl_entity::Path;
 use idl_env::{Addition, DigestedKey, Env, Facts, OpenScopes, scopes_in};
 use idl_map::{Map, Table};
@@ -19,13 +19,13 @@ const MOST_UNKNOWN: usize = 100;
 
 /// What is looked at first of a declared name: its letters, and which name was declared before it in its scope.
 #[derive(Clone, Copy)]
-pub struct Outline {
+pub struct NameOutline {
     pub letters: u64,
     pub before: Option<usize>,
 }
 
 /// What is known of a root up to one of its units, the first that isn't known.
-pub struct Known<'a> {
+pub struct KnownUnits<'a> {
     pub alloc: Global,
     pub units: &'a [Unit],
     /// The paths of the innermost scopes around the units before it.
@@ -35,7 +35,7 @@ pub struct Known<'a> {
     /// The last of those in each scope.
     last_in: Map<Path, usize>,
     /// Of each of them, by its number, what is looked at first where near names are looked for.
-    outlines: Vec<Outline>,
+    outlines: Vec<NameOutline>,
     /// How many names weren't declared, for which near ones were looked for.
     unknown: usize,
     /// The names that faulty units would have declared.
@@ -44,9 +44,9 @@ pub struct Known<'a> {
     uses: Option<Table<DigestedKey, usize>>,
 }
 
-impl<'a> Drop for Known<'a> {
+impl<'a> Drop for KnownUnits<'a> {
     fn drop(self) {
-        let Known {
+        let KnownUnits {
             alloc: _alloc,
             units: _units,
             around: _around,
@@ -60,9 +60,13 @@ impl<'a> Drop for Known<'a> {
     }
 }
 
-impl<'a> Known<'a> {
+impl<'a> KnownUnits<'a> {
     /// Before the first of these units, where it is asked for uses or not.
-    pub fn new(alloc: Global, units: &'a [Unit], asks_uses: bool) -> Result<Known<'a>, AllocError>
+    pub fn new(
+        alloc: Global,
+        units: &'a [Unit],
+        asks_uses: bool,
+    ) -> Result<KnownUnits<'a>, AllocError>
         ensures { IfOk result (λ known. known.units.now ≡ units.now) }
     {
         let uses = if asks_uses {
@@ -71,7 +75,7 @@ impl<'a> Known<'a> {
             None
         };
         let last_in = Map::new(alloc)?;
-        Ok(Known {
+        Ok(KnownUnits {
             alloc,
             units,
             around: Vec::new(alloc),
@@ -117,7 +121,14 @@ impl<'a> Known<'a> {
             return Ok(());
         };
         let names = declared_names(self.alloc, text, around)?;
-        for name in names.as_slice() {
+        self.put_tokens(unit, names.as_slice())
+    }
+
+    // Puts in the tokens of those of these names that the unit with this number declares first.
+    fn put_tokens(&mut self, unit: usize, names: &[NameDeclaration]) -> Result<(), AllocError>
+        ensures { self.new.units ≡ self.old.units }
+    {
+        for name in names {
             if self.declared.get(&name.path) == Some(&(unit, None)) {
                 let path = name.path.clone()?;
                 self.declared.insert(path, (unit, Some(name.token)))?;
@@ -130,10 +141,17 @@ impl<'a> Known<'a> {
     pub fn pass_faulty(&mut self, env: &Env, text: &UnitText) -> Result<(), AllocError>
         ensures { self.new.units ≡ self.old.units }
     {
-        let number = self.number();
         let around = path_around(env)?;
         let names = declared_names(self.alloc, text, &around)?;
-        for name in names.as_slice() {
+        self.put_faulty(names.as_slice())
+    }
+
+    // Puts in these names, which the next unit would have declared.
+    fn put_faulty(&mut self, names: &[NameDeclaration]) -> Result<(), AllocError>
+        ensures { self.new.units ≡ self.old.units }
+    {
+        let number = self.number();
+        for name in names {
             if !self.faulty.contains(&name.path) {
                 let path = name.path.clone()?;
                 self.faulty.insert(path, (number, name.token))?;
@@ -164,7 +182,7 @@ impl<'a> Known<'a> {
         }
         let place = self.declared.len();
         let scope = path.scope()?;
-        self.outlines.push(Outline {
+        self.outlines.push(NameOutline {
             letters: letters_of(path.name()),
             before: self.last_in.get(&scope).copied(),
         })?;
@@ -193,9 +211,9 @@ impl<'a> Known<'a> {
     }
 
     /// Where a faulty unit would have declared what stands at a path.
-    pub fn faulty_spot(&self, path: &Path) -> Option<Spot> {
+    pub fn faulty_spot(&self, path: &Path) -> Option<TokenPosition> {
         let (unit, token) = self.faulty.get(path)?;
-        Some(Spot {
+        Some(TokenPosition {
             unit: *unit,
             token: *token,
         })
@@ -207,7 +225,7 @@ impl<'a> Known<'a> {
         env: &Env,
         path: &Path,
         token: usize,
-    ) -> Result<Option<Spot>, AllocError> {
+    ) -> Result<Option<TokenPosition>, AllocError> {
         if let Some((unit, token)) = self.declared.get(path) {
             return self.spot_of(*unit, *token, path);
         }
@@ -226,16 +244,21 @@ impl<'a> Known<'a> {
         unit: usize,
         token: Option<usize>,
         path: &Path,
-    ) -> Result<Option<Spot>, AllocError> {
+    ) -> Result<Option<TokenPosition>, AllocError> {
         match (token, self.around.get(unit)) {
-            (Some(token), _) => Ok(Some(Spot { unit, token })),
+            (Some(token), _) => Ok(Some(TokenPosition { unit, token })),
             (None, Some(around)) => self.spot_in(unit, around, path),
             (None, None) => Ok(None),
         }
     }
 
     // Where a unit in the scope at a path declares what stands at another.
-    fn spot_in(&self, unit: usize, around: &Path, path: &Path) -> Result<Option<Spot>, AllocError> {
+    fn spot_in(
+        &self,
+        unit: usize,
+        around: &Path,
+        path: &Path,
+    ) -> Result<Option<TokenPosition>, AllocError> {
         let Some(Unit::Spelled(text, _sites)) = self.units.get(unit) else {
             return Ok(None);
         };
@@ -243,7 +266,7 @@ impl<'a> Known<'a> {
         for name in names.as_slice() {
             if name.path == *path {
                 let token = name.token;
-                return Ok(Some(Spot { unit, token }));
+                return Ok(Some(TokenPosition { unit, token }));
             }
         }
         Ok(None)
@@ -266,7 +289,7 @@ impl<'a> Known<'a> {
     }
 
     /// What is looked at first of it.
-    pub fn outline(&self, number: usize) -> Option<Outline> {
+    pub fn outline(&self, number: usize) -> Option<NameOutline> {
         self.outlines.get(number).copied()
     }
 

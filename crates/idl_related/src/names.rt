@@ -1,5 +1,6 @@
 //! The names that a unit declares, by its tree alone.
 
+use idl_base::Bytes;
 use idl_entity::Path;
 use idl_parts::{UnitPart, sites};
 use idl_project::idl_syntax::{SyntaxFault, UnitTree, parse};
@@ -8,14 +9,14 @@ use idl_unit::UnitText;
 use std::alloc::{AllocError, Global};
 
 /// A declared name of a unit: its path, and the number of its token.
-pub struct DeclaredName {
+pub struct NameDeclaration {
     pub path: Path,
     pub token: usize,
 }
 
-impl Drop for DeclaredName {
+impl Drop for NameDeclaration {
     fn drop(self) {
-        let DeclaredName {
+        let NameDeclaration {
             path: _path,
             token: _token,
         } = self;
@@ -27,11 +28,13 @@ pub fn declared_names(
     alloc: Global,
     text: &UnitText,
     around: &Path,
-) -> Result<Vec<DeclaredName>, AllocError> {
-    let tree = tree_of(alloc, text)?;
+) -> Result<Vec<NameDeclaration>, AllocError> {
+    let Some(tree) = tree_of(alloc, text)? else {
+        return Ok(Vec::new(alloc));
+    };
     match &tree {
-        Some(UnitTree::Tokens(tree)) => names_in(alloc, tree, around),
-        Some(UnitTree::Pragma(_)) | None => Ok(Vec::new(alloc)),
+        UnitTree::Tokens(tree) => names_in(alloc, tree, around),
+        UnitTree::Pragma(_) => Ok(Vec::new(alloc)),
     }
 }
 
@@ -45,9 +48,9 @@ pub fn tree_of(alloc: Global, text: &UnitText) -> Result<Option<UnitTree>, Alloc
 }
 
 // Those of a unit with this tree.
-fn names_in(alloc: Global, tree: &Tree, around: &Path) -> Result<Vec<DeclaredName>, AllocError> {
+fn names_in(alloc: Global, tree: &Tree, around: &Path) -> Result<Vec<NameDeclaration>, AllocError> {
     let sites = sites(alloc, tree)?;
-    let mut gathered = Gathered::new(alloc, around)?;
+    let mut gathered = NameCollector::new(alloc, around)?;
     for site in sites.as_slice() {
         gathered.pass(site)?;
     }
@@ -55,17 +58,17 @@ fn names_in(alloc: Global, tree: &Tree, around: &Path) -> Result<Vec<DeclaredNam
 }
 
 // The names that are declared up to a token of a unit.
-struct Gathered {
+struct NameCollector {
     alloc: Global,
-    names: Vec<DeclaredName>,
+    names: Vec<NameDeclaration>,
     // The paths of the scopes that are open there, the innermost last.
     scopes: Vec<Path>,
     at: usize,
 }
 
-impl Drop for Gathered {
+impl Drop for NameCollector {
     fn drop(self) {
-        let Gathered {
+        let NameCollector {
             alloc: _alloc,
             names: _names,
             scopes: _scopes,
@@ -74,12 +77,12 @@ impl Drop for Gathered {
     }
 }
 
-impl Gathered {
+impl NameCollector {
     // Before the first token of a unit in the scope at a path.
-    fn new(alloc: Global, around: &Path) -> Result<Gathered, AllocError> {
+    fn new(alloc: Global, around: &Path) -> Result<NameCollector, AllocError> {
         let mut scopes = Vec::new(alloc);
         scopes.push(around.clone()?)?;
-        Ok(Gathered {
+        Ok(NameCollector {
             alloc,
             names: Vec::new(alloc),
             scopes,
@@ -88,8 +91,8 @@ impl Gathered {
     }
 
     // The names, taken out.
-    fn into_names(self) -> Vec<DeclaredName> {
-        let Gathered {
+    fn into_names(self) -> Vec<NameDeclaration> {
+        let NameCollector {
             alloc: _alloc,
             names,
             scopes: _scopes,
@@ -100,22 +103,34 @@ impl Gathered {
 
     // Behind the next site, of which the name is put in that it declares.
     fn pass(&mut self, site: &UnitPart<'_>) -> Result<(), AllocError> {
-        match (*site, self.scopes.last()) {
-            (UnitPart::Declared(_way, name), Some(scope)) => {
-                let path = scope.child(self.alloc, name)?;
-                let token = self.at;
-                self.names.push(DeclaredName { path, token })?;
-            }
-            (UnitPart::ScopeBegins(_way, name), Some(scope)) => {
-                let inner = scope.child(self.alloc, name)?;
-                self.scopes.push(inner)?;
-            }
-            (UnitPart::ScopeEnds, _) => {
+        match *site {
+            UnitPart::Declared(_way, name) => self.declare(name)?,
+            UnitPart::ScopeBegins(_way, name) => self.open(name)?,
+            UnitPart::ScopeEnds => {
                 let _ended = self.scopes.pop();
             }
             _ => {}
         }
         self.at = self.at.saturating_add(length_of(site));
+        Ok(())
+    }
+
+    // A name is declared.
+    fn declare(&mut self, name: &Bytes) -> Result<(), AllocError> {
+        if let Some(scope) = self.scopes.last() {
+            let path = scope.child(self.alloc, name)?;
+            let token = self.at;
+            self.names.push(NameDeclaration { path, token })?;
+        }
+        Ok(())
+    }
+
+    // The scope of a name begins.
+    fn open(&mut self, name: &Bytes) -> Result<(), AllocError> {
+        if let Some(scope) = self.scopes.last() {
+            let inner = scope.child(self.alloc, name)?;
+            self.scopes.push(inner)?;
+        }
         Ok(())
     }
 }

@@ -1,12 +1,11 @@
 //! Names that are near to one that isn't declared.
 
 use crate::about::push;
-use crate::denoting::{Searched, Standing};
+use crate::denoting::{NameContext, Searched, entity_at};
 use crate::known::letters_of;
 use crate::second::{Reason, Second};
 use idl_base::Bytes;
 use idl_entity::Path;
-use idl_memo::Journal;
 use std::alloc::{AllocError, Global};
 use strsim::generic_levenshtein;
 
@@ -32,9 +31,9 @@ impl<'n> Drop for Nearest<'n> {
     }
 }
 
-impl<'a> Standing<'a> {
+impl<'a> NameContext<'a> {
     /// Where up to three names are declared that are nearest to this one, of those in these scopes and their bases.
-    pub fn near(self, name: &Bytes, scopes: Vec<Searched>) -> Result<Vec<Second>, AllocError> {
+    pub fn near(self, name: &Bytes, scopes: &[Searched]) -> Result<Vec<Second>, AllocError> {
         let alloc = self.about.alloc();
         if !self.about.known.asks_near() {
             return Ok(Vec::new(alloc));
@@ -53,11 +52,8 @@ impl<'a> Standing<'a> {
     }
 
     // The paths of these scopes, and of the bases that they reach.
-    fn with_bases(self, scopes: Vec<Searched>) -> Result<Vec<Path>, AllocError> {
-        let mut paths = Vec::new(self.about.alloc());
-        for scope in scopes.as_slice() {
-            paths.push(scope.path.clone()?)?;
-        }
+    fn with_bases(self, scopes: &[Searched]) -> Result<Vec<Path>, AllocError> {
+        let mut paths = paths_of(self.about.alloc(), scopes)?;
         for turn in 0..usize::MAX {
             let Some(path) = paths.get(turn) else {
                 return Ok(paths);
@@ -69,19 +65,14 @@ impl<'a> Standing<'a> {
     }
 
     // The bases of what stands at a path.
-    fn bases_of(self, path: &Path) -> Result<Vec<Path>, AllocError> {
-        let mut bases = Vec::new(self.about.alloc());
-        let entity = self.view().standing_at(&mut Journal::told(), path)?;
-        let Some(entity) = entity else {
-            return Ok(bases);
+    fn bases_of(self, path: &Path) -> Result<&'a [Path], AllocError> {
+        let Some(entity) = entity_at(self.view(), path)? else {
+            return Ok(&[]);
         };
         if !entity.get().stage().has_bases() {
-            return Ok(bases);
+            return Ok(&[]);
         }
-        for base in entity.get().bases() {
-            bases.push(base.clone()?)?;
-        }
-        Ok(bases)
+        Ok(entity.get().bases())
     }
 
     // Puts in the nearest names that are declared in a scope, the first ones first.
@@ -154,9 +145,18 @@ impl<'n> Nearest<'n> {
     }
 }
 
+// The paths of these scopes.
+fn paths_of(alloc: Global, scopes: &[Searched]) -> Result<Vec<Path>, AllocError> {
+    let mut paths = Vec::new(alloc);
+    for scope in scopes {
+        paths.push(scope.path.clone()?)?;
+    }
+    Ok(paths)
+}
+
 // Puts in the paths that aren't there.
-fn add_paths(paths: &mut Vec<Path>, more: Vec<Path>) -> Result<(), AllocError> {
-    for path in more.as_slice() {
+fn add_paths(paths: &mut Vec<Path>, more: &[Path]) -> Result<(), AllocError> {
+    for path in more {
         if !paths.contains(path) {
             paths.push(path.clone()?)?;
         }

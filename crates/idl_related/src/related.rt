@@ -9,7 +9,7 @@ ghost use Rattle.idl_project.specs.idl_root.Findings.{site_of, tokens_of};
 ghost use Rattle.idl_unit.specs.Units.{units_of};
 
 use crate::about::About;
-use crate::known::Known;
+use crate::known::KnownUnits;
 use crate::second::{Reason, Related, Second};
 use idl_base::{Bytes, Seq};
 use idl_env::{Env, Facts, Step, Writes};
@@ -33,18 +33,25 @@ pub fn related_of(
     if let Some(none) = unrelated(alloc, findings)? {
         return Ok(none);
     }
-    let units = split(alloc, expansion)?;
     let asks_uses = findings
         .iter()
         .any(|finding| finding.code == Code::DeclaredAfterUse);
-    let mut all = Judged::new(alloc, expansion, units.as_slice(), asks_uses)?;
-    let mut env = Env::new(alloc)?;
-    let mut scratch = Scratch::new(alloc);
-    'units: for unit in units.as_slice() {
-        env = all.pass(env, &mut scratch, unit)?;
-    }
-    let told = all.told_backwards()?;
+    let told = told_of(alloc, expansion, asks_uses)?;
     matched(alloc, findings, told)
+}
+
+// What is told of the units of what a root expands to, from the last event to the first.
+fn told_of(
+    alloc: Global,
+    expansion: &Expansion,
+    asks_uses: bool,
+) -> Result<Vec<RelatedPlaces>, AllocError>
+    ensures { IfOk result (λ told. AreTold expansion.now told.items) }
+{
+    let units = split(alloc, expansion)?;
+    let mut all = JudgedUnits::new(alloc, expansion, units.as_slice(), asks_uses)?;
+    all.pass_all(units.as_slice())?;
+    all.told_backwards()
 }
 
 /// For each of these findings no second place, where none of them may have any; else nothing.
@@ -62,26 +69,26 @@ pub fn unrelated(
 }
 
 // The second places of what is found in a unit, and the event that it names.
-struct Told {
+struct RelatedPlaces {
     event: usize,
     related: Seq<Related>,
 }
 
-impl Drop for Told {
+impl Drop for RelatedPlaces {
     fn drop(self) {
-        let Told {
+        let RelatedPlaces {
             event: _event,
             related: _related,
         } = self;
     }
 }
 
-impl Told {
+impl RelatedPlaces {
     // The places, taken out.
     fn into_related(self) -> Seq<Related>
         ensures { result ≡ self.related }
     {
-        let Told {
+        let RelatedPlaces {
             event: _event,
             related,
         } = self;
@@ -98,15 +105,15 @@ struct SpelledUnit<'a> {
 }
 
 // The units of a root up to one of them.
-struct Judged<'a> {
+struct JudgedUnits<'a> {
     expansion: &'a Expansion,
-    known: Known<'a>,
-    told: Vec<Told>,
+    known: KnownUnits<'a>,
+    told: Vec<RelatedPlaces>,
 }
 
-impl<'a> Drop for Judged<'a> {
+impl<'a> Drop for JudgedUnits<'a> {
     fn drop(self) {
-        let Judged {
+        let JudgedUnits {
             expansion: _expansion,
             known: _known,
             told: _told,
@@ -114,22 +121,36 @@ impl<'a> Drop for Judged<'a> {
     }
 }
 
-impl<'a> Judged<'a> {
+impl<'a> JudgedUnits<'a> {
     fn new(
         alloc: Global,
         expansion: &'a Expansion,
         units: &'a [Unit],
         asks_uses: bool,
-    ) -> Result<Judged<'a>, AllocError>
+    ) -> Result<JudgedUnits<'a>, AllocError>
         requires { units.now ≡ units_of expansion.now }
         ensures { IfOk result (λ judged. IsOfRoot judged × (judged.expansion.now ≡ expansion.now)) }
     {
-        let known = Known::new(alloc, units, asks_uses)?;
-        Ok(Judged {
+        let known = KnownUnits::new(alloc, units, asks_uses)?;
+        Ok(JudgedUnits {
             expansion,
             known,
             told: Vec::new(alloc),
         })
+    }
+
+    // Behind these units, which are the first.
+    fn pass_all(&mut self, units: &[Unit]) -> Result<(), AllocError>
+        requires { IsOfRoot self.old }
+        ensures root { OnOk result (IsOfRoot self.new) }
+        ensures expansion { OnOk result (self.new.expansion.now ≡ self.old.expansion.now) }
+    {
+        let mut env = Env::new(self.known.alloc)?;
+        let mut scratch = Scratch::new(self.known.alloc);
+        'units: for unit in units {
+            env = self.pass(env, &mut scratch, unit)?;
+        }
+        Ok(())
     }
 
     // Behind the next unit: the environment with what it adds.
@@ -220,10 +241,18 @@ impl<'a> Judged<'a> {
             fault,
         };
         let seconds = about.seconds(scratch)?;
-        let related = self.related(seconds.as_slice())?;
-        self.count(fault.code, seconds.as_slice());
-        let event = site.event;
-        self.told.push(Told { event, related })?;
+        self.tell_at(site.event, fault.code, seconds.as_slice())
+    }
+
+    // Tells what is found of this code at an event, with these second places.
+    fn tell_at(&mut self, event: usize, code: Code, seconds: &[Second]) -> Result<(), AllocError>
+        requires { IsOfRoot self.old }
+        ensures root { OnOk result (IsOfRoot self.new) }
+        ensures expansion { OnOk result (self.new.expansion.now ≡ self.old.expansion.now) }
+    {
+        let related = self.related(seconds)?;
+        self.count(code, seconds);
+        self.told.push(RelatedPlaces { event, related })?;
         Ok(())
     }
 
@@ -290,11 +319,11 @@ impl<'a> Judged<'a> {
     }
 
     // All that is told, from the last event to the first.
-    fn told_backwards(self) -> Result<Vec<Told>, AllocError>
+    fn told_backwards(self) -> Result<Vec<RelatedPlaces>, AllocError>
         requires { IsOfRoot self }
         ensures { IfOk result (λ told. AreTold self.entry.expansion.now told.items) }
     {
-        let Judged {
+        let JudgedUnits {
             expansion: _expansion,
             known: _known,
             mut told,
@@ -372,7 +401,7 @@ fn has_second(code: Code) -> bool {
 fn matched(
     alloc: Global,
     findings: &[Finding],
-    mut told: Vec<Told>,
+    mut told: Vec<RelatedPlaces>,
 ) -> Result<Seq<Seq<Related>>, AllocError>
     ensures { IfOk result (λ related.
         (events : List Event) → AreTold events told.items
@@ -387,7 +416,7 @@ fn matched(
 }
 
 // What is told last, which goes; of a code that has no second places nothing.
-fn next_of(alloc: Global, code: Code, told: &mut Vec<Told>) -> Seq<Related>
+fn next_of(alloc: Global, code: Code, told: &mut Vec<RelatedPlaces>) -> Seq<Related>
     ensures next { (events : List Event) → AreTold events told.old.items
         → AreAtTokens events result }
     ensures left { (events : List Event) → AreTold events told.old.items

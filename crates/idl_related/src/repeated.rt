@@ -1,30 +1,39 @@
 //! What stands in a unit before its fault, or in one before: a use, a naming, a label.
 
-use crate::about::{About, push};
-use crate::denoting::Standing;
+use crate::about::About;
+use crate::denoting::NameContext;
 use crate::names::{last_at, length_of, part_at, tree_of};
-use crate::second::{Reason, Second, Spot};
+use crate::second::{Reason, Second};
 use idl_base::Bytes;
 use idl_entity::Path;
-use idl_env::{DigestedKey, LentKey};
+use idl_env::{Env, LentKey, OpenScopes};
 use idl_map::Lent;
 use idl_parts::{Purpose, UnitPart, sites};
-use idl_project::idl_check::Steps;
+use idl_project::idl_check::{Scratch, Steps};
 use idl_project::idl_scope::Standpoint;
 use idl_project::idl_syntax::UnitTree;
 use idl_tree::{ScopedName, Tree};
+use idl_unit::UnitText;
 use idl_value::Value;
 use std::alloc::{AllocError, Global};
 
-/// A unit over which a walk goes once more.
-pub struct Again<'s, 't> {
+/// Where a walk over a unit begins: the environment, the scopes that are open, and the unit's sites.
+#[derive(Clone, Copy)]
+pub struct WalkStart<'s, 't> {
+    pub env: &'s Env,
+    pub scopes: &'s OpenScopes,
     pub sites: &'s [UnitPart<'t>],
-    pub steps: Steps<'s>,
 }
 
-impl<'s, 't> Drop for Again<'s, 't> {
+/// A unit over which a walk goes once more.
+pub struct UnitReplay<'s, 't> {
+    sites: &'s [UnitPart<'t>],
+    steps: Steps<'s>,
+}
+
+impl<'s, 't> Drop for UnitReplay<'s, 't> {
     fn drop(self) {
-        let Again {
+        let UnitReplay {
             sites: _sites,
             steps: _steps,
         } = self;
@@ -37,38 +46,32 @@ impl<'a> About<'a> {
         self,
         steps: &Steps<'_>,
         name: &Bytes,
-        again: &mut Again<'_, '_>,
+        again: &mut UnitReplay<'_, '_>,
     ) -> Result<Vec<Second>, AllocError> {
         let alloc = self.alloc();
         let Some(scope) = steps.cursor().innermost() else {
             return Ok(Vec::new(alloc));
         };
         let path = scope.path.child(alloc, name)?;
-        let key = LentKey::introduced(alloc, &path, &scope.path, scope.body).owned()?;
-        if let Some(unit) = self.known.first_use(&key) {
-            return self.use_in(unit, &path);
-        }
         let key = LentKey::introduced(alloc, &path, &scope.path, scope.body);
-        match again.introducing(&key)? {
-            Some(token) => self.here(Reason::Used, token),
-            None => Ok(Vec::new(alloc)),
+        match self.first_use(&key)? {
+            Some(unit) => self.use_in(unit, &path),
+            None => self.here(Reason::Used, again.introducing(&key)?),
         }
+    }
+
+    // The unit before this one that first introduces a name into a scope.
+    fn first_use(self, key: &LentKey<'_>) -> Result<Option<usize>, AllocError> {
+        let key = key.owned()?;
+        Ok(self.known.first_use(&key))
     }
 
     // The first use in a unit of the name with which a path ends.
     fn use_in(self, unit: usize, path: &Path) -> Result<Vec<Second>, AllocError> {
-        let mut seconds = Vec::new(self.alloc());
-        let Some(text) = self.known.text(unit) else {
-            return Ok(seconds);
-        };
-        let tree = tree_of(self.alloc(), text)?;
-        let Some(UnitTree::Tokens(tree)) = &tree else {
-            return Ok(seconds);
-        };
-        if let Some(token) = used_in(self.alloc(), tree, path)? {
-            push(&mut seconds, Reason::Used, Spot { unit, token })?;
+        match self.known.text(unit) {
+            Some(text) => self.at(Reason::Used, unit, using_token(self.alloc(), text, path)?),
+            None => Ok(Vec::new(self.alloc())),
         }
-        Ok(seconds)
     }
 
     /// The first naming of what this name denotes among the sites of the unit.
@@ -76,9 +79,9 @@ impl<'a> About<'a> {
         self,
         steps: &Steps<'_>,
         name: &ScopedName,
-        again: &mut Again<'_, '_>,
+        again: &mut UnitReplay<'_, '_>,
     ) -> Result<Vec<Second>, AllocError> {
-        let standing = Standing {
+        let standing = NameContext {
             about: self,
             place: Standpoint {
                 own: steps.own(),
@@ -88,28 +91,36 @@ impl<'a> About<'a> {
         let Ok(found) = standing.resolved(name)? else {
             return Ok(Vec::new(self.alloc()));
         };
-        match again.naming(found.entity.get().path())? {
-            Some(token) => self.here(Reason::Named, token),
-            None => Ok(Vec::new(self.alloc())),
-        }
+        self.here(Reason::Named, again.naming(found.entity.get().path())?)
     }
 
     /// The first label of the same union that is the one at the fault.
-    pub fn label_before(self, again: &mut Again<'_, '_>) -> Result<Vec<Second>, AllocError> {
-        match again.first_label(self.alloc(), self.fault.index)? {
-            Some(token) => self.here(Reason::Labelled, token),
-            None => Ok(Vec::new(self.alloc())),
-        }
+    pub fn label_before(self, again: &mut UnitReplay<'_, '_>) -> Result<Vec<Second>, AllocError> {
+        self.here(
+            Reason::Labelled,
+            again.first_label(self.alloc(), self.fault.index)?,
+        )
     }
 }
 
 // The token of a unit with which the first use begins whose first part has the name with which a path ends, in any case.
+fn using_token(alloc: Global, text: &UnitText, path: &Path) -> Result<Option<usize>, AllocError> {
+    let Some(tree) = tree_of(alloc, text)? else {
+        return Ok(None);
+    };
+    match &tree {
+        UnitTree::Tokens(tree) => used_in(alloc, tree, path),
+        UnitTree::Pragma(_) => Ok(None),
+    }
+}
+
+// That token of a unit with this tree.
 fn used_in(alloc: Global, tree: &Tree, path: &Path) -> Result<Option<usize>, AllocError> {
     let sites = sites(alloc, tree)?;
     let mut at: usize = 0;
     for site in sites.as_slice() {
         if let UnitPart::Used(_way, name) = site {
-            if !name.is_global && path.has_folded(&name.first.to_folded(alloc)?) {
+            if begins_with(alloc, name, path)? {
                 return Ok(Some(at));
             }
         }
@@ -118,16 +129,33 @@ fn used_in(alloc: Global, tree: &Tree, path: &Path) -> Result<Option<usize>, All
     Ok(None)
 }
 
+// Whether the first part of a name is that with which a path ends, in any case, and is looked for outward.
+fn begins_with(alloc: Global, name: &ScopedName, path: &Path) -> Result<bool, AllocError> {
+    if name.is_global {
+        return Ok(false);
+    }
+    let folded = name.first.to_folded(alloc)?;
+    Ok(path.has_folded(&folded))
+}
+
 // A label: how many scopes of the unit are around it, its first token, and where its value stands among the unit's values; `default`
 // has none.
 #[derive(Clone, Copy)]
-struct Label {
+struct CaseLabel {
     depth: usize,
     token: usize,
     value: Option<usize>,
 }
 
-impl<'s, 't> Again<'s, 't> {
+impl<'s, 't> UnitReplay<'s, 't> {
+    /// Before the first site.
+    pub fn new(scratch: &mut Scratch, start: WalkStart<'s, 't>) -> UnitReplay<'s, 't> {
+        UnitReplay {
+            sites: start.sites,
+            steps: Steps::new(scratch, start.env, start.scopes),
+        }
+    }
+
     // The token with which a use begins behind which a name is introduced at this key.
     fn introducing(&mut self, key: &LentKey<'_>) -> Result<Option<usize>, AllocError> {
         for site in self.sites {
@@ -158,7 +186,16 @@ impl<'s, 't> Again<'s, 't> {
 
     // The first token of the first label that is the one at this token, of those of the same union before it.
     fn first_label(&mut self, alloc: Global, index: usize) -> Result<Option<usize>, AllocError> {
-        let mut labels = Labels::new(alloc);
+        let mut labels = CaseLabels::new(alloc);
+        self.label_at(&mut labels, index)
+    }
+
+    // The same, where these are the labels so far.
+    fn label_at(
+        &mut self,
+        labels: &mut CaseLabels,
+        index: usize,
+    ) -> Result<Option<usize>, AllocError> {
         for site in self.sites {
             let at = self.steps.at();
             self.steps.pass(*site)?;
@@ -175,16 +212,16 @@ impl<'s, 't> Again<'s, 't> {
 }
 
 // The labels so far of the unions around a site, how many scopes of the unit are around it, and where the last expression began.
-struct Labels {
+struct CaseLabels {
     alloc: Global,
-    labels: Vec<Label>,
+    labels: Vec<CaseLabel>,
     depth: usize,
     begin: usize,
 }
 
-impl Drop for Labels {
+impl Drop for CaseLabels {
     fn drop(self) {
-        let Labels {
+        let CaseLabels {
             alloc: _alloc,
             labels: _labels,
             depth: _depth,
@@ -193,10 +230,10 @@ impl Drop for Labels {
     }
 }
 
-impl Labels {
+impl CaseLabels {
     // Before the first site.
-    fn new(alloc: Global) -> Labels {
-        Labels {
+    fn new(alloc: Global) -> CaseLabels {
+        CaseLabels {
             alloc,
             labels: Vec::new(alloc),
             depth: 0,
@@ -210,7 +247,7 @@ impl Labels {
         site: &UnitPart<'_>,
         at: usize,
         values: &[Value],
-    ) -> Result<Option<Label>, AllocError> {
+    ) -> Result<Option<CaseLabel>, AllocError> {
         match site {
             UnitPart::ValueBegins => self.begin = at,
             UnitPart::ScopeBegins(_, _) => self.depth = self.depth.saturating_add(1),
@@ -225,8 +262,8 @@ impl Labels {
     }
 
     // A label here.
-    fn label(&self, token: usize, value: Option<usize>) -> Label {
-        Label {
+    fn label(&self, token: usize, value: Option<usize>) -> CaseLabel {
+        CaseLabel {
             depth: self.depth,
             token,
             value,
@@ -247,7 +284,7 @@ impl Labels {
     }
 
     // The token of the first label of the same union that is equal to another.
-    fn equal(&self, other: Label, values: &[Value]) -> Option<usize> {
+    fn equal(&self, other: CaseLabel, values: &[Value]) -> Option<usize> {
         for label in self.labels.as_slice() {
             if label.depth == other.depth && are_equal(*label, other, values) {
                 return Some(label.token);
@@ -258,7 +295,7 @@ impl Labels {
 }
 
 // Whether two labels are equal.
-fn are_equal(one: Label, other: Label, values: &[Value]) -> bool {
+fn are_equal(one: CaseLabel, other: CaseLabel, values: &[Value]) -> bool {
     match (one.value, other.value) {
         (None, None) => true,
         (Some(a), Some(b)) => match (values.get(a), values.get(b)) {

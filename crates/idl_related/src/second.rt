@@ -86,7 +86,7 @@ fn is_faulty(reason: Reason) -> bool
 
 /// A token of a unit of the root, by the numbers of both.
 #[derive(Clone, Copy)]
-pub struct Spot {
+pub struct TokenPosition {
     pub unit: usize,
     pub token: usize,
 }
@@ -95,5 +95,5 @@ pub struct Spot {
 #[derive(Clone, Copy)]
 pub struct Second {
     pub reason: Reason,
-    pub spot: Spot,
+    pub spot: TokenPosition,
 }

@@ -1,4 +1,6 @@
 //! What rows are written in.
+//!
+//! It owns text and journal meanwhile: with borrowed ones each clause would name both values of both.
 
 ghost use Rattle.std.specs.Prelude.{◌≡◌, ◌∷◌, [], OnOk};
 ghost use Rattle.idl_repo.specs.Pieces.{IdOf, Writes};

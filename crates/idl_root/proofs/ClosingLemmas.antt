@@ -59,7 +59,7 @@ use Rattle.idl_root.specs.NamePlaces.{declared_by, declared_in, declared_names, 
 use Rattle.idl_root.specs.Number.{token_number}
 use Rattle.idl_root.specs.Printed.{Listed, entry_over, first_paths, listed_in, listed_with, name_index}
 use Rattle.idl_root.specs.declared.compiling.finding.EventFinding.{EventFinding}
-use Rattle.idl_root.specs.declared.compiling.places.DeclaredName.{DeclaredName}
+use Rattle.idl_root.specs.declared.compiling.places.PlacedName.{PlacedName}
 use Rattle.idl_root.specs.declared.compiling.places.DeclaredPlace.{DeclaredPlace}
 use Rattle.idl_root.specs.declared.compiling.places.SitedToken.{SitedToken}
 use Rattle.idl_scope.proofs.Constructors.{none_some, some_same}
@@ -180,17 +180,17 @@ module _ (path : List (List ℕ)) where
 
 -- ---- names of a unit under a path
 
-places-append : (path : List (List ℕ)) (xs ys : List DeclaredName) → places_at path (xs ++ ys) ≡ places_at path xs ++ places_at path ys
+places-append : (path : List (List ℕ)) (xs ys : List PlacedName) → places_at path (xs ++ ys) ≡ places_at path xs ++ places_at path ys
 places-append path xs ys =
-    ap (λ (ns : List DeclaredName). map (λ (n : DeclaredName). n.place) ns) (filter-append (is_at path) xs ys)
-    ∙ map-append (λ (n : DeclaredName). n.place) (filter (is_at path) xs) (filter (is_at path) ys)
+    ap (λ (ns : List PlacedName). map (λ (n : PlacedName). n.place) ns) (filter-append (is_at path) xs ys)
+    ∙ map-append (λ (n : PlacedName). n.place) (filter (is_at path) xs) (filter (is_at path) ys)
 
 module _ (events : List Event) (n end : NamedUnit) (path : List (List ℕ)) where
   other-none : (p : List (List ℕ)) (name begin last : Option SitedToken) → (p ≡ path → ⊥) → places_at path (declared_with p name begin last) ≡ []
   other-none p (Some name) (Some begin) (Some last) other = by (path_eq path p) refl
     where
       by : (b : Bool) → path_eq path p ≡ b
-          → map (λ (x : DeclaredName). x.place) (if b then record { path = p; place = record { name = name; first = begin; last = last } } ∷ [] else []) ≡ []
+          → map (λ (x : PlacedName). x.place) (if b then record { path = p; place = record { name = name; first = begin; last = last } } ∷ [] else []) ≡ []
       by true is = absurd (other (sym (same_path path p is)))
       by false is = refl
   other-none p (Some name) (Some begin) None other = refl
@@ -202,9 +202,9 @@ module _ (events : List Event) (n end : NamedUnit) (path : List (List ℕ)) wher
   undeclared-none [] other = refl
   undeclared-none (s ∷ names) other = by s.role (λ i. other i) (undeclared-none names)
     where
-      declared_so : NameRole → List DeclaredName
+      declared_so : NameRole → List PlacedName
       declared_so role =
-          elim role as (λ _. List DeclaredName) [ Declared ↦ declared_with s.path (sited_in events n s.index) (sited_in events n 0) (last_in events end) | Used ↦ [] ]
+          elim role as (λ _. List PlacedName) [ Declared ↦ declared_with s.path (sited_in events n s.index) (sited_in events n 0) (last_in events end) | Used ↦ [] ]
 
       by : (role : NameRole) → (IsIn path (declared_as role s.path ++ declared_paths names) → ⊥) → ((IsIn path (declared_paths names) → ⊥) → places_at path (flat_map (declared_by events n end) names) ≡ [])
           → places_at path (declared_so role ++ flat_map (declared_by events n end) names) ≡ []
@@ -220,7 +220,7 @@ module _ (events : List Event) (n end : NamedUnit) (path : List (List ℕ)) wher
   own-place i names is name begin last at_name at_begin at_last =
       ap (λ ns. places_at path (flat_map (declared_by events n end) ns)) is
       ∙ (λ k. places_at path (declared_with path (at_name k) (at_begin k) (at_last k) ++ []))
-      ∙ ap (λ (b : Bool). map (λ (x : DeclaredName). x.place) (if b then record { path = path; place = record { name = name; first = begin; last = last } } ∷ [] else []))
+      ∙ ap (λ (b : Bool). map (λ (x : PlacedName). x.place) (if b then record { path = path; place = record { name = name; first = begin; last = last } } ∷ [] else []))
       ((pointwise_decides bytes_decides path path).1 refl)
 
 -- ---- what is wrong at the end
@@ -236,7 +236,7 @@ stage-code e = by (stage_eq e.stage Ahead) refl
     by false is = inl refl
 
 -- its token, and the first of its places, which is there
-record Begins (events : List Event) (l : Listed) (names : List DeclaredName) : Type 0 where
+record Begins (events : List Event) (l : Listed) (names : List PlacedName) : Type 0 where
   site : Site
   token : Token
   begin : SitedToken
@@ -249,7 +249,7 @@ record Begins (events : List Event) (l : Listed) (names : List DeclaredName) : T
       ≡ record { name = record { place = place_in site; number = token_number events site.event; text = token }; first = begin; last = last } ∷ more
 
 -- the same with more of them before, none of which is under the path
-begins-behind : (events : List Event) (l : Listed) (here names : List DeclaredName) → places_at l.path here ≡ [] → Begins events l names → Begins events l (here ++ names)
+begins-behind : (events : List Event) (l : Listed) (here names : List PlacedName) → places_at l.path here ≡ [] → Begins events l names → Begins events l (here ++ names)
 begins-behind events l here names none b = record {
   site = b.site;
   token = b.token;
@@ -294,10 +294,10 @@ module _
   where
     -- ---- a finding of the end
 
-    abbrev Told : List Event → List DeclaredName → Listed → Option Code → Type 0
+    abbrev Told : List Event → List PlacedName → Listed → Option Code → Type 0
     Told events names l o = All (λ f. StandsAtFirst (places_at l.path names) (numbered events f)) (fault_finding l.text l.sites (option_map (fault_at (name_index l.text)) o))
 
-    told-one : (events : List Event) (names : List DeclaredName) (l : Listed) (c : Code) → Begins events l names → Told events names l (Some c)
+    told-one : (events : List Event) (names : List PlacedName) (l : Listed) (c : Code) → Begins events l names → Told events names l (Some c)
     told-one events names l c b =
         let f : EventFinding = record { event = b.site.event; place = place_in b.site; code = c; text = Some b.token } in
         let here : StandsAtFirst (places_at l.path names) (numbered events f) = subst (λ ps. StandsAtFirst ps (numbered events f)) (sym b.places) (refl, refl, refl) in
@@ -305,7 +305,7 @@ module _
         subst (λ (s : Option Site). All (λ f. StandsAtFirst (places_at l.path names) (numbered events f)) (finding_at c s (slice_get (tokens_of l.text) (name_index l.text)))) (sym b.sited_at)
         (subst (λ (t : Option Token). All (λ f. StandsAtFirst (places_at l.path names) (numbered events f)) (finding_at c (Some b.site) t)) (sym b.token_at) one)
 
-    closes-first : (events : List Event) (facts : List UnitFacts) (names : List DeclaredName) (l : Listed) → ((d : Entity) → at facts l.path ≡ Some d → d.stage ≡ Ahead → Begins events l names)
+    closes-first : (events : List Event) (facts : List UnitFacts) (names : List PlacedName) (l : Listed) → ((d : Entity) → at facts l.path ≡ Some d → d.stage ≡ Ahead → Begins events l names)
         → ClosesAtFirst events facts names l
     closes-first events facts names l begins = by (at facts l.path) refl
       where
@@ -373,7 +373,7 @@ module _
     -- ---- a unit that declares a name first
 
     module _ (events : List Event) where
-      abbrev names_of : List NamedUnit → List DeclaredName
+      abbrev names_of : List NamedUnit → List PlacedName
       names_of units = declared_until events units (ends_of units)
 
       module _ (facts : List UnitFacts) (sites : List Site) (rest : List NamedUnit) (path : List (List ℕ)) (d : Entity) (placed : AllByRecursion IsPlaced rest) where
@@ -437,7 +437,7 @@ module _
       -- ---- all units
 
       -- a name is new over these facts, and if it is ahead over all, it stands first among these
-      abbrev IsGood : List UnitFacts → List UnitFacts → List DeclaredName → Listed → Type 0
+      abbrev IsGood : List UnitFacts → List UnitFacts → List PlacedName → Listed → Type 0
       IsGood last facts names l = (at facts l.path ≡ None) × ((d : Entity) → at last l.path ≡ Some d → d.stage ≡ Ahead → Begins events l names)
 
       -- behind a file boundary nothing else is there

@@ -10,7 +10,7 @@ use Rattle.idl_root.specs.Findings.{unit_finding}
 use Rattle.idl_root.specs.Held.{to_come, with_gathered, with_units}
 use Rattle.idl_root.specs.Judged.{Judged, added, facts_after, judged_after, judged_at}
 use Rattle.idl_root.specs.Printed.{listed_in}
-use Rattle.idl_root.specs.declared.compiling.judging.Gathered.{Gathered as HeldGathered}
+use Rattle.idl_root.specs.declared.compiling.judging.Accumulator.{Accumulator}
 use Rattle.idl_root_blocks.proofs.Cuts.{cut-whole}
 use Rattle.idl_root_blocks.specs.Blocks.{cut, text_in}
 use Rattle.idl_root_blocks.specs.Finding.{IsFirstBlock}
@@ -73,7 +73,7 @@ module _ (facts : List UnitFacts) (unit : RootUnit) (units inside others : List 
       ∙ (λ i. judged_after (with_entering facts) inside ++ ((leaves-unit over leaving first.behind.left).1 i ++ judged_after (next i) others))
 
   -- what comes of a block, of which this is gathered, and of the units behind it
-  pub come-block : (after : List UnitFacts) (old new : HeldGathered) → after ≡ behind
+  pub come-block : (after : List UnitFacts) (old new : Accumulator) → after ≡ behind
       → ((fs : List UnitFacts) → with_gathered fs new ≡ with_units (with_gathered fs old) (judged_after (with_entering facts) inside))
       → to_come (with_gathered after new) others ≡ to_come (with_gathered facts old) (unit ∷ units)
   come-block after old new is gathers =
@@ -89,18 +89,18 @@ module _ (facts : List UnitFacts) (unit : RootUnit) (units inside others : List 
       })
 
 -- nothing is to come any more, so all facts and all that is gathered are there
-pub come-facts : (facts after : List UnitFacts) (old new : HeldGathered) (left units : List RootUnit) → left ≡ [] → to_come (with_gathered after new) left ≡ to_come (with_gathered facts old) units
+pub come-facts : (facts after : List UnitFacts) (old new : Accumulator) (left units : List RootUnit) → left ≡ [] → to_come (with_gathered after new) left ≡ to_come (with_gathered facts old) units
     → after ≡ facts_after facts units
 come-facts facts after old new left units none is =
     ap (λ (o : Outcome). o.facts) (sym (to_come-end (with_gathered after new)) ∙ ap (to_come (with_gathered after new)) (sym none) ∙ is)
 
-pub come-gathered : (facts after : List UnitFacts) (old new : HeldGathered) (left units : List RootUnit) → left ≡ [] → to_come (with_gathered after new) left ≡ to_come (with_gathered facts old) units
+pub come-gathered : (facts after : List UnitFacts) (old new : Accumulator) (left units : List RootUnit) → left ≡ [] → to_come (with_gathered after new) left ≡ to_come (with_gathered facts old) units
     → (fs : List UnitFacts) → with_gathered fs new ≡ with_units (with_gathered fs old) (judged_after facts units)
 come-gathered facts after old new left units none is fs =
     ap (λ (o : Outcome). record o { facts = fs }) (sym (to_come-end (with_gathered after new)) ∙ ap (to_come (with_gathered after new)) (sym none) ∙ is)
 
 -- and where all is there at once
-pub come-all : (facts after : List UnitFacts) (old new : HeldGathered) (units : List RootUnit) → after ≡ facts_after facts units
+pub come-all : (facts after : List UnitFacts) (old new : Accumulator) (units : List RootUnit) → after ≡ facts_after facts units
     → ((fs : List UnitFacts) → with_gathered fs new ≡ with_units (with_gathered fs old) (judged_after facts units))
     → with_gathered after new ≡ to_come (with_gathered facts old) units
 come-all facts after old new units is gathers = gathers after ∙ ap (λ (fs : List UnitFacts). with_units (with_gathered fs old) (judged_after facts units)) is

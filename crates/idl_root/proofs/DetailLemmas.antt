@@ -21,7 +21,7 @@ use Rattle.idl_root.specs.Held.{to_come}
 use Rattle.idl_root.specs.Named.{NamedUnit, named_after}
 use Rattle.idl_root.specs.NamePlaces.{declared_names, places_at}
 use Rattle.idl_root.specs.Printed.{Listed, entry_row}
-use Rattle.idl_root.specs.declared.compiling.places.DeclaredName.{DeclaredName}
+use Rattle.idl_root.specs.declared.compiling.places.PlacedName.{PlacedName}
 use Rattle.idl_unit.specs.Units.{units_of}
 use Rattle.idl_unit.specs.declared.unit.Unit.{Unit as RootUnit}
 
@@ -39,7 +39,7 @@ module _ (declared : (path : List (List ℕ)) (bank : Key → Option Answer) (e 
     → outcome (entry path) bank ≡ record { row = Some (text_over bank (row_pieces e)); fault = closing_fault e })
     (unknown : (path : List (List ℕ)) (bank : Key → Option Answer) → entity_in (bank (entity_key path)) ≡ None → outcome (entry path) bank ≡ no_entry)
     (shown : (bank : Key → Option Answer) (e : Entity) → text_over bank (row_pieces e) ≡ row_of (tree_over bank e)) where
-  row-printed : (facts : List UnitFacts) (names : List DeclaredName) (l : Listed) → entry_row facts l ≡ map entry_text (listed_entries facts names l)
+  row-printed : (facts : List UnitFacts) (names : List PlacedName) (l : Listed) → entry_row facts l ≡ map entry_text (listed_entries facts names l)
   row-printed facts names l = by (entity_in (answers facts (entity_key l.path))) refl
     where
       by : (there : Option Entity) → entity_in (answers facts (entity_key l.path)) ≡ there
@@ -47,7 +47,7 @@ module _ (declared : (path : List (List ℕ)) (bank : Key → Option Answer) (e 
       by None is = ap (λ (e : Entry). option_to_list e.row) (unknown l.path (answers facts) is)
       by (Some e) is = ap (λ (e : Entry). option_to_list e.row) (declared l.path (answers facts) e is) ∙ ap (λ row. row ∷ []) (shown (answers facts) e)
 
-  rows-printed : (facts : List UnitFacts) (names : List DeclaredName) (ls : List Listed) → flat_map (entry_row facts) ls ≡ map entry_text (flat_map (listed_entries facts names) ls)
+  rows-printed : (facts : List UnitFacts) (names : List PlacedName) (ls : List Listed) → flat_map (entry_row facts) ls ≡ map entry_text (flat_map (listed_entries facts names) ls)
   rows-printed facts names [] = refl
   rows-printed facts names (l ∷ ls) =
       ap (λ rows. rows ++ flat_map (entry_row facts) ls) (row-printed facts names l)

@@ -10,7 +10,7 @@ use Rattle.idl_root.specs.Held.{IsEnded, to_come, told_of, with_gathered, with_j
 use Rattle.idl_root.specs.Judged.{Judged, added, facts_after, judged_after, judged_at}
 use Rattle.idl_root.specs.Printed.{listed_in}
 use Rattle.idl_root.specs.declared.compiling.judging.Ended.{Ended}
-use Rattle.idl_root.specs.declared.compiling.judging.Gathered.{Gathered as HeldGathered}
+use Rattle.idl_root.specs.declared.compiling.judging.Accumulator.{Accumulator}
 use Rattle.idl_env.specs.Facts.{UnitFacts}
 use Rattle.idl_unit.specs.Units.{units_of}
 use Rattle.idl_unit.specs.declared.unit.Unit.{Unit as RootUnit}
@@ -57,7 +57,7 @@ with-none o = λ i. record {
 }
 
 -- what comes of a unit, of which this is added and gathered, and of those behind it
-pub to_come-more : (facts own after : List UnitFacts) (old new : HeldGathered) (u : RootUnit) (units : List RootUnit)
+pub to_come-more : (facts own after : List UnitFacts) (old new : Accumulator) (u : RootUnit) (units : List RootUnit)
     → own ≡ added facts u → after ≡ facts ++ own
     → ((fs : List UnitFacts) → with_gathered fs new ≡ with_units (with_gathered fs old) (judged_at facts u))
     → to_come (with_gathered after new) units ≡ to_come (with_gathered facts old) (u ∷ units)

@@ -13,7 +13,7 @@ use Rattle.idl_event.specs.declared.told.event.Event.{Event}
 use Rattle.idl_root.specs.Judged.{added}
 use Rattle.idl_root.specs.Named.{AreNumbersIn, NamedUnit, closes, closings_from, closings_in, end_before, ends_of, named_after, named_at, opens}
 use Rattle.idl_root.specs.NamePlaces.{AreNamesOf, AreNumbered, declared_in, declared_names, declared_until, is_at, numbers_at, used_in, used_names}
-use Rattle.idl_root.specs.declared.compiling.places.DeclaredName.{DeclaredName}
+use Rattle.idl_root.specs.declared.compiling.places.PlacedName.{PlacedName}
 use Rattle.idl_root.specs.declared.compiling.places.DeclaredPlace.{DeclaredPlace}
 use Rattle.idl_root.specs.declared.compiling.places.RootNames.{RootNames}
 use Rattle.idl_unit.specs.TokenRules.{first}
@@ -79,7 +79,7 @@ module _ (all : List NamedUnit) (i : ℕ) (n : NamedUnit) (here : slice_get all 
       ∙ ap (λ units. map Some (ends_of units)) (sym (drop-at1 all i n here))
 
 -- the names of units from one of these on
-pub until-more : (events : List Event) (units ends : List NamedUnit) (i : ℕ) (n e : NamedUnit) (there next : List DeclaredName)
+pub until-more : (events : List Event) (units ends : List NamedUnit) (i : ℕ) (n e : NamedUnit) (there next : List PlacedName)
     → slice_get units i ≡ Some n → slice_get ends i ≡ Some e → next ≡ there ++ declared_in events n e
     → next ++ declared_until events (drop (i + 1) units) (drop (i + 1) ends) ≡ there ++ declared_until events (drop i units) (drop i ends)
 until-more events units ends i n e there next unit end is =
@@ -90,7 +90,7 @@ until-more events units ends i n e there next unit end is =
     ∙ ap (λ l. there ++ declared_until events l (e ∷ es)) (sym (drop-at1 units i n unit))
     ∙ ap (λ l. there ++ declared_until events (drop i units) l) (sym (drop-at1 ends i e end))
 
-pub until-end : (events : List Event) (ends : List NamedUnit) (there : List DeclaredName) → there ++ declared_until events [] ends ≡ there
+pub until-end : (events : List Event) (ends : List NamedUnit) (there : List PlacedName) → there ++ declared_until events [] ends ≡ there
 until-end events ends there = append-nil there
 
 -- what comes of the items from one of these on
@@ -123,7 +123,7 @@ get-last [] x = refl
 get-last (y ∷ xs) x = get-last xs x
 
 -- one name more has its number at its path
-module _ (names : List DeclaredName) (name : DeclaredName) (old new : List (List (List ℕ) × List ℕ))
+module _ (names : List PlacedName) (name : PlacedName) (old new : List (List (List ℕ) × List ℕ))
     (each : (k : List (List ℕ)) → lookup (path_eq k) new ≡ (if path_eq k name.path then Some (numbers_at old name.path ++ length names ∷ []) else lookup (path_eq k) old))
     (are : AreNumbered names old) where
   at-by : (k : List (List ℕ)) (one : Bool) → path_eq k name.path ≡ one → map (slice_get (names ++ name ∷ [])) (numbers_at new k) ≡ map Some (filter (is_at k) (names ++ name ∷ []))
@@ -151,7 +151,7 @@ module _ (names : List DeclaredName) (name : DeclaredName) (old new : List (List
   numbered-more k = at-by k (path_eq k name.path) refl
 
 -- the same, by a copy of its path
-pub numbered-with : (names : List DeclaredName) (name : DeclaredName) (old new : List (List (List ℕ) × List ℕ)) (key : List (List ℕ)) (value : List ℕ)
+pub numbered-with : (names : List PlacedName) (name : PlacedName) (old new : List (List (List ℕ) × List ℕ)) (key : List (List ℕ)) (value : List ℕ)
     → key ≡ name.path → value ≡ numbers_at old name.path ++ length names ∷ []
     → ((k : List (List ℕ)) → lookup (path_eq k) new ≡ (if path_eq k key then Some value else lookup (path_eq k) old)) → AreNumbered names old
     → AreNumbered (names ++ name ∷ []) new
@@ -171,7 +171,7 @@ get-mapped f [] i x h = absurd cc
 get-mapped f (y ∷ xs) zero x h = ap (option_map f) h
 get-mapped f (y ∷ xs) (suc i) x h = get-mapped f xs i x h
 
-pub place-more : (names own : List DeclaredName) (numbers : List ℕ) (i number : ℕ) (name : DeclaredName) (there next : List DeclaredPlace)
+pub place-more : (names own : List PlacedName) (numbers : List ℕ) (i number : ℕ) (name : PlacedName) (there next : List DeclaredPlace)
     → map (slice_get names) numbers ≡ map Some own → slice_get numbers i ≡ Some number → slice_get names number ≡ Some name → next ≡ there ++ name.place ∷ []
     → next ++ map (λ n. n.place) (drop (i + 1) own) ≡ there ++ map (λ n. n.place) (drop i own)
 place-more names own numbers i number name there next are here found is =

@@ -53,7 +53,7 @@ use Rattle.idl_root.specs.NamePlaces.{declared_by, declared_in, declared_names, 
 use Rattle.idl_root.specs.Number.{token_number}
 use Rattle.idl_root.specs.Printed.{Listed, first_paths, listed_in, listed_with}
 use Rattle.idl_root.specs.declared.compiling.detailing.DetailedEntry.{DetailedEntry}
-use Rattle.idl_root.specs.declared.compiling.places.DeclaredName.{DeclaredName}
+use Rattle.idl_root.specs.declared.compiling.places.PlacedName.{PlacedName}
 use Rattle.idl_root.specs.declared.compiling.places.SitedToken.{SitedToken}
 use Rattle.idl_scope.specs.Known.{known}
 use Rattle.idl_scope.specs.Lookup.{by_result, denoted}
@@ -93,18 +93,18 @@ some-there (x ∷ xs) h = omega arith
 -- ---- the places at a path
 
 -- how many these names have
-abbrev counted : List (List ℕ) → List DeclaredName → ℕ
+abbrev counted : List (List ℕ) → List PlacedName → ℕ
 counted path names = length (places_at path names)
 
-counted-append : (path : List (List ℕ)) (xs ys : List DeclaredName) → counted path (xs ++ ys) ≡ counted path xs + counted path ys
+counted-append : (path : List (List ℕ)) (xs ys : List PlacedName) → counted path (xs ++ ys) ≡ counted path xs + counted path ys
 counted-append path xs ys =
-    ap (λ (ns : List DeclaredName). length (map (λ (n : DeclaredName). n.place) ns)) (filter-append (is_at path) xs ys)
-    ∙ ap length (map-append (λ (n : DeclaredName). n.place) (filter (is_at path) xs) (filter (is_at path) ys))
+    ap (λ (ns : List PlacedName). length (map (λ (n : PlacedName). n.place) ns)) (filter-append (is_at path) xs ys)
+    ∙ ap length (map-append (λ (n : PlacedName). n.place) (filter (is_at path) xs) (filter (is_at path) ys))
     ∙ length-append (places_at path xs) (places_at path ys)
 
-counted-own : (path : List (List ℕ)) (name : DeclaredName) → name.path ≡ path → counted path (name ∷ []) ≡ 1
+counted-own : (path : List (List ℕ)) (name : PlacedName) → name.path ≡ path → counted path (name ∷ []) ≡ 1
 counted-own path name is =
-    ap (λ (b : Bool). length (map (λ (n : DeclaredName). n.place) (if b then name ∷ [] else []))) (ap (path_eq path) is ∙ (pointwise_decides bytes_decides path path).1 refl)
+    ap (λ (b : Bool). length (map (λ (n : PlacedName). n.place) (if b then name ∷ [] else []))) (ap (path_eq path) is ∙ (pointwise_decides bytes_decides path path).1 refl)
 
 -- ---- tokens of units
 
@@ -167,9 +167,9 @@ module _ (events : List Event) where
   -- ---- the names of a unit
 
   module _ (n end : NamedUnit) (begins : IsThere (sited_in events n 0)) (ends : LastThere end) (path : List (List ℕ)) where
-    abbrev declared_so : NameRole → NamedSite → List DeclaredName
+    abbrev declared_so : NameRole → NamedSite → List PlacedName
     declared_so role s =
-        elim role as (λ _. List DeclaredName) [ Declared ↦ declared_with s.path (sited_in events n s.index) (sited_in events n 0) (last_in events end) | Used ↦ [] ]
+        elim role as (λ _. List PlacedName) [ Declared ↦ declared_with s.path (sited_in events n s.index) (sited_in events n 0) (last_in events end) | Used ↦ [] ]
 
     names-there : (names : List NamedSite) → AllByRecursion (λ (s : NamedSite). IsThere (sited_in events n s.index)) names → IsIn path (declared_paths names)
         → 0 < counted path (flat_map (declared_by events n end) names)
@@ -181,7 +181,7 @@ module _ (events : List Event) where
         by more Declared (inl e) =
             let rest = flat_map (declared_by events n end) names in
             let here = declared_so Declared s in
-            let name : DeclaredName = record { path = s.path; place = record { name = are.0.0; first = begins.0; last = ends.0 } } in
+            let name : PlacedName = record { path = s.path; place = record { name = are.0.0; first = begins.0; last = ends.0 } } in
             let is : here ≡ name ∷ [] = (λ i. declared_with s.path (are.0.1 i) (begins.1 i) (ends.1 i)) in
             let one : counted path here ≡ 1 = ap (counted path) is ∙ counted-own path name e in
             omega (arith, counted-append path here rest, one)
@@ -311,10 +311,10 @@ module _
     named-placed facts (End ∷ units) are = named-placed (facts ++ []) units are.1
 
     module _ (events : List Event) where
-      abbrev declared_of : List NamedUnit → List DeclaredName
+      abbrev declared_of : List NamedUnit → List PlacedName
       declared_of units = declared_until events units (ends_of units)
 
-      abbrev HasPlace : List DeclaredName → Listed → Type 0
+      abbrev HasPlace : List PlacedName → Listed → Type 0
       HasPlace names l = 0 < counted l.path names
 
       -- one unit more
@@ -348,7 +348,7 @@ module _
       abbrev IsDeclared : DetailedEntry → Type 0
       IsDeclared entry = 0 < length entry.places
 
-      entries-there : (facts : List UnitFacts) (names : List DeclaredName) (listed : List Listed) → AllByRecursion (HasPlace names) listed
+      entries-there : (facts : List UnitFacts) (names : List PlacedName) (listed : List Listed) → AllByRecursion (HasPlace names) listed
           → AllByRecursion IsDeclared (flat_map (listed_entries facts names) listed)
       entries-there facts names [] are = tt
       entries-there facts names (l ∷ listed) are =

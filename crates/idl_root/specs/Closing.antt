@@ -6,7 +6,7 @@ use Rattle.idl_root.specs.Findings.{numbered}
 use Rattle.idl_root.specs.NamePlaces.{places_at}
 use Rattle.idl_root.specs.Printed.{Listed, closing_finding}
 use Rattle.idl_root.specs.declared.compiling.finding.Finding.{Finding}
-use Rattle.idl_root.specs.declared.compiling.places.DeclaredName.{DeclaredName}
+use Rattle.idl_root.specs.declared.compiling.places.PlacedName.{PlacedName}
 use Rattle.idl_root.specs.declared.compiling.places.DeclaredPlace.{DeclaredPlace}
 
 -- a finding stands where a name is declared, and shows that name
@@ -22,6 +22,6 @@ StandsAtFirst (place ∷ places) f = StandsAt place f
 
 -- What is wrong with a name at the end, over all facts, stands at the first of the places at which
 -- names of the root are declared under its path.
-abbrev pub ClosesAtFirst : List Event → List UnitFacts → List DeclaredName → Listed → Type 0
+abbrev pub ClosesAtFirst : List Event → List UnitFacts → List PlacedName → Listed → Type 0
 ClosesAtFirst events facts names l =
     All (λ f. StandsAtFirst (places_at l.path names) (numbered events f)) (closing_finding facts l)

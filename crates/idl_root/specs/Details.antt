@@ -12,23 +12,23 @@ use Rattle.idl_root.specs.NamePlaces.{declared_names, places_at, used_names}
 use Rattle.idl_root.specs.Printed.{Listed}
 use Rattle.idl_root.specs.declared.compiling.detailing.DetailedEntry.{DetailedEntry}
 use Rattle.idl_root.specs.declared.compiling.detailing.Details.{Details}
-use Rattle.idl_root.specs.declared.compiling.places.DeclaredName.{DeclaredName}
+use Rattle.idl_root.specs.declared.compiling.places.PlacedName.{PlacedName}
 use Rattle.idl_unit.specs.Units.{units_of}
 
 -- what is told over facts of what is declared so, where these are the declared names of the root
-abbrev pub entry_of : List UnitFacts → List DeclaredName → List (List ℕ) → Entity → DetailedEntry
+abbrev pub entry_of : List UnitFacts → List PlacedName → List (List ℕ) → Entity → DetailedEntry
 entry_of facts names path e =
     record { tree = tree_over (answers facts) e; places = places_at path names }
 
 -- that of the name at a path, if it is declared
-abbrev pub entries_at : List UnitFacts → List DeclaredName → List (List ℕ) → List DetailedEntry
+abbrev pub entries_at : List UnitFacts → List PlacedName → List (List ℕ) → List DetailedEntry
 entries_at facts names path =
     elim (entity_in (answers facts (entity_key path))) [
       | None ↦ []
       | Some e ↦ entry_of facts names path e ∷ []
     ]
 
-abbrev pub listed_entries : List UnitFacts → List DeclaredName → Listed → List DetailedEntry
+abbrev pub listed_entries : List UnitFacts → List PlacedName → Listed → List DetailedEntry
 listed_entries facts names l = entries_at facts names l.path
 
 -- that of all names of a root, in the order in which they are declared first, over what all units

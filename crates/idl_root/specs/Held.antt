@@ -8,8 +8,8 @@ use Rattle.idl_root.specs.Judged.{Judged, facts_after, judged_after}
 use Rattle.idl_root.specs.Printed.{Listed, closing_finding, entry_row, listed_in}
 use Rattle.idl_root.specs.declared.compiling.compiled.Compiled.{Compiled}
 use Rattle.idl_root.specs.declared.compiling.judging.Ended.{Ended}
-use Rattle.idl_root.specs.declared.compiling.judging.Gathered.{Gathered as HeldGathered}
-use Rattle.idl_root.specs.declared.compiling.judging.Judging.{Judging}
+use Rattle.idl_root.specs.declared.compiling.judging.Accumulator.{Accumulator}
+use Rattle.idl_root.specs.declared.compiling.judging.RootState.{RootState}
 use Rattle.idl_root.specs.declared.compiling.printing.Listed.{Listed as HeldListed}
 use Rattle.idl_env.specs.Facts.{UnitFacts}
 use Rattle.idl_unit.specs.declared.unit.Unit.{Unit as RootUnit}
@@ -19,7 +19,7 @@ abbrev pub listed_at : HeldListed → Listed
 listed_at l = record { path = l.path; text = l.unit.text.now; sites = l.unit.sites.now }
 
 -- what has come so far, where these facts are added and this is gathered
-abbrev pub with_gathered : List UnitFacts → HeldGathered → Outcome
+abbrev pub with_gathered : List UnitFacts → Accumulator → Outcome
 with_gathered facts g = record {
   facts = facts;
   found = g.findings.items;
@@ -27,7 +27,7 @@ with_gathered facts g = record {
   listed = map listed_at g.listed.items;
 }
 
-abbrev pub held : Judging → Outcome
+abbrev pub held : RootState → Outcome
 held j = with_gathered j.env j.gathered
 
 -- with what is gathered of one unit more, and of these units more, over the same facts

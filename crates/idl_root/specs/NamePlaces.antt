@@ -13,7 +13,7 @@ use Rattle.idl_lex.specs.tokens.Tokens.{Token}
 use Rattle.idl_root.specs.Findings.{site_of, tokens_of}
 use Rattle.idl_root.specs.Named.{AreNumbersIn, NamedUnit, ends_of}
 use Rattle.idl_root.specs.Number.{token_number}
-use Rattle.idl_root.specs.declared.compiling.places.DeclaredName.{DeclaredName}
+use Rattle.idl_root.specs.declared.compiling.places.PlacedName.{PlacedName}
 use Rattle.idl_root.specs.declared.compiling.places.DeclaredPlace.{DeclaredPlace}
 use Rattle.idl_root.specs.declared.compiling.places.RootNames.{RootNames}
 use Rattle.idl_root.specs.declared.compiling.places.SitedToken.{SitedToken}
@@ -40,13 +40,13 @@ last_in events n = sited_in events n (length (tokens_of n.text) - 1)
 -- a declared name at its token, with the first token of its unit, and the last of that in which what
 -- it declares ends
 abbrev pub declared_with : List (List ℕ) → Option SitedToken → Option SitedToken
-    → Option SitedToken → List DeclaredName
+    → Option SitedToken → List PlacedName
 declared_with path (Some name) (Some begin) (Some end) =
     record { path = path; place = record { name = name; first = begin; last = end } } ∷ []
 declared_with path name begin end = []
 
 -- a name of a unit, if it declares: what it declares ends in the second unit
-abbrev pub declared_by : List Event → NamedUnit → NamedUnit → NamedSite → List DeclaredName
+abbrev pub declared_by : List Event → NamedUnit → NamedUnit → NamedSite → List PlacedName
 declared_by events n end s =
     elim s.role [
       | Declared ↦ declared_with s.path (sited_in events n s.index) (sited_in events n 0)
@@ -54,25 +54,25 @@ declared_by events n end s =
       | Used ↦ []
     ]
 
-abbrev pub declared_in : List Event → NamedUnit → NamedUnit → List DeclaredName
+abbrev pub declared_in : List Event → NamedUnit → NamedUnit → List PlacedName
 declared_in events n end = flat_map (declared_by events n end) n.names
 
 -- those of units in order, each with the one in which what it declares ends
-abbrev pub declared_until : List Event → List NamedUnit → List NamedUnit → List DeclaredName
+abbrev pub declared_until : List Event → List NamedUnit → List NamedUnit → List PlacedName
 declared_until events [] ends = []
 declared_until events (n ∷ units) [] = []
 declared_until events (n ∷ units) (end ∷ ends) =
     declared_in events n end ++ declared_until events units ends
 
 -- all declared names of units
-unfoldable pub declared_names : List Event → List NamedUnit → List DeclaredName
+unfoldable pub declared_names : List Event → List NamedUnit → List PlacedName
 declared_names events units = declared_until events units (ends_of units)
 
 -- where the name at a path is declared, in order
-abbrev pub is_at : List (List ℕ) → DeclaredName → Bool
+abbrev pub is_at : List (List ℕ) → PlacedName → Bool
 is_at path name = path_eq path name.path
 
-abbrev pub places_at : List (List ℕ) → List DeclaredName → List DeclaredPlace
+abbrev pub places_at : List (List ℕ) → List PlacedName → List DeclaredPlace
 places_at path names = map (λ name. name.place) (filter (is_at path) names)
 
 -- a name of a unit, if it is used
@@ -96,7 +96,7 @@ abbrev pub numbers_at : List (List (List ℕ) × List ℕ) → List (List ℕ) �
 numbers_at table path = unwrap_or (lookup (path_eq path) table) []
 
 -- it has for each path the numbers of the names there
-abbrev pub AreNumbered : List DeclaredName → List (List (List ℕ) × List ℕ) → Type 0
+abbrev pub AreNumbered : List PlacedName → List (List (List ℕ) × List ℕ) → Type 0
 AreNumbered names table = (path : List (List ℕ))
     → AreNumbersIn names (numbers_at table path) (filter (is_at path) names)
 

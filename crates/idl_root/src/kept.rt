@@ -14,4 +14,5 @@ pub(crate) mod known;
 pub(crate) mod marks;
 pub(crate) mod noting;
 pub(crate) mod printing;
+pub(crate) mod reading;
 pub(crate) mod reprinting;

@@ -2,6 +2,12 @@
 //! in the order of the events that it names. Then each name that has an id is printed over what all of them added.
 //!
 //! Nothing here knows how a root is expanded, what a unit asks, or what became of other roots.
+//!
+//! `compiling/` has units (`judging.rt`), pieces (`passing.rt`), entries (`printing.rt`), findings and their numbers
+//! (`finding.rt`, `number.rt`), and details (`detailing.rt`, `naming.rt`, `places.rt`). `kept/` has the units of before
+//! (`course.rt`), beside those of now (`following.rt`, `changed.rt`), open blocks (`keeping_blocks.rt`) and entries
+//! (`reprinting.rt`). `specs/Compared.antt` says at how many keys is compared. Without a keeper what verdicts add is
+//! given up to the `Env` (`added.rt`).
 #![tactic(auto)]
 
 mod compiling;

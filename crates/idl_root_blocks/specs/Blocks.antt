@@ -1,5 +1,8 @@
 -- The blocks of a root: the files that it includes whose two boundaries stand inside no unit, and
 -- each of whose closings closes a scope that was opened there.
+-- Texts tell blocks, so two roots with one text have the same ones, and an inner block of one that
+-- is taken whole is found by its text. The price: where a boundary stands is part of the text. So a
+-- file that is included inside a unit once, and behind it once, makes two texts.
 use Rattle.std.specs.Prelude.{◌≡◌, ℕ, zero, suc, false, List, [], ◌∷◌, ◌++◌, Option, None, Some, length, map, if◌then◌else◌}
 use Rattle.idl_block.specs.Blocks.{Part, Text as UnitPart, Boundary}
 use Rattle.idl_root_blocks.specs.verdicts.Standing.{part_step}

@@ -1,5 +1,13 @@
 //! The blocks of a root: what their texts are, where their tasks stand, what they come to, and which tasks are met at an edit; how
 //! they are found among the units, and what they ask; and what the verdicts of their units ask.
+//!
+//! `Pieces` are a root's text cut into loose parts and blocks; `Places` says where tasks of pieces stand, `Met` which
+//! are met.
+//!
+//! In `verdicts/`: a verdict asks what is looked at behind its facts (`asking`), so `idl_block::facts` speaks of its
+//! units (`enough`), and a kept log that holds gives the same (`alike`, `taken`). Of `proofs/VerdictLaws/` read
+//! `Orders` (of questions) first, `Visits` (what a unit adds), `Stacks` (open scopes) and `Stops` (scopes that may stop
+//! a use).
 #![tactic(auto)]
 
 mod block_text;

@@ -1,4 +1,9 @@
 //! The blocks that are not yet left.
+//!
+//! A block has asked just what stands, in it and inside, with a date before its entering: the later of when its key was
+//! written and asked. Nothing was written at a key since the entering just where the facts that wrote last there came
+//! before it. So an open block has no table of what it wrote; one table for all tells when each key was asked last; and
+//! a log is pages, shared with those around, and a date.
 
 ghost use Rattle.std.specs.Prelude.{◌≡◌, ◌↔◌, ◌∷◌, ◌++◌, [], IfNone, IfOk, IfSome, IsTrue, List, OnOk, if◌then◌else◌, length, map};
 ghost use Rattle.std.specs.Option.{unwrap_or};

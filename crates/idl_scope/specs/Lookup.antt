@@ -1,5 +1,10 @@
 -- How a scoped name is looked up: what is asked, and what comes of it, which is what the rules of
 -- `Meaning` say. Bases are entered one after another, at most so many; each once.
+-- A look-up has to end over any answers, so it is defined with a bound on turns. As many are enough
+-- as facts name bases and declare entities (`turns_for`), and more change nothing, nor what is
+-- logged (the law `more_turns`). Verdicts take `most_turns`, the greatest number of 64 bits: so
+-- what a text asks is one query, whatever stands before it. The code has no bound, as it enters
+-- each base once.
 use Rattle.std.specs.Prelude.{ℕ, zero, suc, ◌+◌, ◌-◌, min, Bool, true, false, List, [], ◌∷◌, ◌++◌, Option, Some, None, Result, Ok, Err, option_to_list, slice_get, if◌then◌else◌}
 use Rattle.idl_entity.specs.Kind.{inherits, is_scope, kind_eq}
 use denote.Ref.{Bor}

@@ -1,4 +1,9 @@
 //! What is known of the ids of declared names: the typeprefix of the scopes around them, and what identifies them.
+//!
+//! The id of what is declared again, of pragmas and of the listing is looked up here alone. Where no scope has a
+//! typeprefix none is looked for, unless somebody reads what is asked (`note_asked`): contracts are told all at once.
+//! That is picked by a function that is generic in the bank, since `rattle` can't state the pick over one that is
+//! named.
 
 ghost use Rattle.std.specs.Prelude.{◌≡◌, IfOk, IsFalse, IsTrue, List, OnOk, Option, Some};
 ghost use Rattle.std.specs.Option.{option_copied};

@@ -16,8 +16,8 @@ use Rattle.idl_related.specs.idl_project.Batch.{after_all, after_from}
 use Rattle.idl_related.specs.idl_project.Edits.{Edit, Put, Splice, Remove, Define, Undef, Search, AddRoot, DropRoot, after, macros_with, result_map, roots_with, roots_without, search_list}
 use Rattle.idl_related.specs.idl_project.Project.{Macros, Project, with_files, with_macros, with_roots, with_search}
 use Rattle.idl_related.proofs.IdlProject.FileLemmas.{put-beside, remove-beside, splice-beside}
-use Rattle.idl_program.specs.Holding.{Holding}
-use Rattle.idl_program.specs.Loading.{IsFileOf}
+use Rattle.idl_loader.specs.Holding.{Holding}
+use Rattle.idl_loader.specs.Holding.{IsFileOf}
 use Rattle.idl_server.specs.Edited.{IsSameButFor}
 use Rattle.idl_server.specs.Loading.{IsLoadedEdit}
 use Rattle.idl_server.specs.declared.document.Document.{Document}

@@ -10,7 +10,7 @@ use Rattle.idl_related.specs.idl_project.Edited.{IsAccepted}
 use Rattle.idl_related.specs.idl_project.Edits.{Define, Search}
 use Rattle.idl_related.specs.idl_project.UpToDate.{State}
 use Rattle.idl_related.specs.idl_project.declared.work.Work.{Work}
-use Rattle.idl_program.specs.Holding.{Holding}
+use Rattle.idl_loader.specs.Holding.{Holding}
 use Rattle.idl_server.specs.Files.{AreFiled, AreTried, AreTriedBy, IsKept, IsTried, StaysSet, told_by}
 use Rattle.idl_server.specs.Roots.{AreCovered, AreRooted}
 use Rattle.idl_server.specs.Server.{IsBlank, IsSettled, OnlySets}

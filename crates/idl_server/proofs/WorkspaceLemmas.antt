@@ -15,10 +15,10 @@ use Rattle.idl_related.specs.idl_project.Batch.{after_all}
 use Rattle.idl_related.specs.idl_project.Compile.{compiled_root}
 use Rattle.idl_related.specs.idl_project.Edits.{Edit, Put, Remove}
 use Rattle.idl_related.specs.idl_project.UpToDate.{State}
-use Rattle.idl_program.specs.Holding.{Allows, Holding, NoFile}
-use Rattle.idl_program.specs.Loading.{IsFileOf}
+use Rattle.idl_loader.specs.Holding.{Allows, Holding, NoFile}
+use Rattle.idl_loader.specs.Holding.{IsFileOf}
 use Rattle.idl_editor.specs.Changes.{text_after}
-use Rattle.idl_editor.specs.declared.change.Change.{Change}
+use Rattle.idl_editor.specs.declared.change.ContentChange.{ContentChange}
 use Rattle.idl_editor.specs.declared.column.Encoding.{Encoding}
 use Rattle.idl_server.specs.Documents.{AreSameBeside, TextChange, change_told, text_after_all, text_with, texts_of}
 use Rattle.idl_server.specs.Edited.{IsSameButFor}
@@ -239,15 +239,15 @@ pub text-none : (documents : List (List ℕ × Document)) (name : List ℕ) → 
 text-none documents name is = ap (λ (o : Option Document). option_map (λ d. d.text.items) o) is
 
 -- a text after one change more
-pub text-more : (encoding : Encoding) (old text : List ℕ) (changes : List Change) (i : ℕ) (d : Change) → i < length changes
+pub text-more : (encoding : Encoding) (old text : List ℕ) (changes : List ContentChange) (i : ℕ) (d : ContentChange) → i < length changes
     → text ≡ text_after_all encoding old (map change_told (take i changes)) → text_after encoding text (get_or changes i d) ≡ text_after_all encoding old (map change_told (take (i + 1) changes))
 text-more encoding old text changes i d within is =
     ap (λ (t : List ℕ). text_after encoding t (get_or changes i d)) is
     ∙ sym (fold-append (text_with encoding) old (map change_told (take i changes)) (change_told (get_or changes i d) ∷ []))
     ∙ ap (λ (cs : List TextChange). fold (text_with encoding) old cs) (sym (map-append change_told (take i changes) (get_or changes i d ∷ [])))
-    ∙ ap (λ (cs : List Change). text_after_all encoding old (map change_told cs)) (sym (take_more changes i d within))
+    ∙ ap (λ (cs : List ContentChange). text_after_all encoding old (map change_told cs)) (sym (take_more changes i d within))
 
-pub text-next : (encoding : Encoding) (old now text after : List ℕ) (changes : List Change) (i : ℕ) (d : Change) → after ≡ text_after encoding now (get_or changes i d) → now ≡ text
+pub text-next : (encoding : Encoding) (old now text after : List ℕ) (changes : List ContentChange) (i : ℕ) (d : ContentChange) → after ≡ text_after encoding now (get_or changes i d) → now ≡ text
     → i < length changes → text ≡ text_after_all encoding old (map change_told (take i changes)) → after ≡ text_after_all encoding old (map change_told (take (i + 1) changes))
 text-next encoding old now text after changes i d made same within is =
     made ∙ ap (λ (t : List ℕ). text_after encoding t (get_or changes i d)) same ∙ text-more encoding old text changes i d within is

@@ -8,7 +8,7 @@ use Rattle.idl_source.specs.texts.Cut.{cut_lines}
 use Rattle.idl_related.specs.idl_project.Edits.{Put, after}
 use Rattle.idl_related.specs.idl_project.Project.{Project}
 use Rattle.idl_editor.specs.Changes.{changed_in, replaced}
-use Rattle.idl_editor.specs.declared.change.Change.{Change}
+use Rattle.idl_editor.specs.declared.change.ContentChange.{ContentChange}
 use Rattle.idl_editor.specs.declared.change.Range.{Range}
 use Rattle.idl_editor.specs.declared.column.Encoding.{Encoding}
 use Rattle.idl_server.specs.declared.document.Document.{Document}
@@ -17,7 +17,7 @@ use Rattle.idl_server.specs.declared.document.Document.{Document}
 abbrev pub TextChange : Type 0
 TextChange = Option Range × List ℕ
 
-abbrev pub change_told : Change → TextChange
+abbrev pub change_told : ContentChange → TextChange
 change_told change = (change.range, change.text.now)
 
 -- a text after a change

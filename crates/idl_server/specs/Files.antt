@@ -7,8 +7,8 @@ use Rattle.std.specs.Str.{bytes_eq}
 use Rattle.idl_source.specs.texts.Cut.{cut_lines}
 use Rattle.idl_related.specs.idl_project.Bank.{IsSameBeside}
 use Rattle.idl_related.specs.idl_project.Compile.{compiled_root}
-use Rattle.idl_program.specs.Holding.{Holding, NoFile, Allows}
-use Rattle.idl_program.specs.Loading.{IsFileOf}
+use Rattle.idl_loader.specs.Holding.{Holding, NoFile, Allows}
+use Rattle.idl_loader.specs.Holding.{IsFileOf}
 use Rattle.idl_editor.specs.uris.Folders.{FolderNamed, name_of, named, path_for}
 use Rattle.idl_editor.specs.uris.Uri.{path_of}
 use Rattle.idl_server.specs.Documents.{AreSameBeside}

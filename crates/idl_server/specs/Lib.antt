@@ -14,4 +14,4 @@ pub mod Roots
 pub mod Notices
 pub mod Server
 pub mod Published
-pub use Rattle.idl_program.specs as idl_program
+pub use Rattle.idl_loader.specs as idl_loader

@@ -1,7 +1,7 @@
 -- What there is of a file on the disk, beside what a loader tells of it.
 use Rattle.std.specs.Prelude.{ℕ, List}
-use Rattle.idl_program.specs.Holding.{Holding, NoFile, Allows}
-use Rattle.idl_program.specs.Loading.{IsFileOf}
+use Rattle.idl_loader.specs.Holding.{Holding, NoFile, Allows}
+use Rattle.idl_loader.specs.Holding.{IsFileOf}
 use Rattle.idl_server.specs.declared.closing.OnDisk.{OnDisk}
 use Rattle.idl_server.specs.declared.closing.OnDisk.TheVariants.{Lines, Missing, Unread}
 

@@ -7,14 +7,14 @@ ghost use Rattle.std.specs.Option.{option_map};
 ghost use Rattle.std.specs.Str.{bytes_eq};
 ghost use Rattle.idl_source.specs.texts.Cut.{cut_lines};
 ghost use Rattle.idl_editor.specs.Splices.{IsSplice};
-ghost use Rattle.idl_program.specs.Holding.{Holding};
+ghost use Rattle.idl_loader.specs.Holding.{Holding};
 ghost use Rattle.idl_server.specs.Documents.{OnlyRefusedIsBehind, change_told, text_after_all, texts_of};
 ghost use Rattle.idl_server.specs.Files.{IsFiled, StaysBeside};
 ghost use Rattle.idl_server.specs.declared.document.Document.{Document};
 
 use crate::document::{Document, set_behind, set_text};
 use crate::workspace::Workspace;
-use idl_editor::{Change, LineSplice, after_change};
+use idl_editor::{ContentChange, LineSplice, after_change};
 use idl_source::{Name, Refusal, cut};
 use std::alloc::AllocError;
 
@@ -39,7 +39,11 @@ impl Workspace {
     }
 
     /// A document changes, by one change after another. One alone is a splice of its file; the text after several is put as a whole.
-    pub fn change_document(&mut self, name: &Name, changes: &[Change<'_>]) -> Result<(), AllocError>
+    pub fn change_document(
+        &mut self,
+        name: &Name,
+        changes: &[ContentChange<'_>],
+    ) -> Result<(), AllocError>
         ensures beside { OnOk result (StaysBeside name.now self.old self.new) }
         ensures filed { (told : List ℕ → Holding) → IsFiled told self.old name.now
             → OnOk result (IsFiled told self.new name.now) }
@@ -66,7 +70,11 @@ impl Workspace {
     }
 
     // A text after changes.
-    fn text_after_all(&self, old: &[u8], changes: &[Change<'_>]) -> Result<Vec<u8>, AllocError>
+    fn text_after_all(
+        &self,
+        old: &[u8],
+        changes: &[ContentChange<'_>],
+    ) -> Result<Vec<u8>, AllocError>
         ensures { IfOk result (λ text. text.items
             ≡ text_after_all self.now.encoding old.now (map change_told changes.now)) }
     {

@@ -2,6 +2,11 @@
 //!
 //! Nothing here opens a disk or a terminal, and nothing but the service reads a stream or writes one: a caller hands in where messages and
 //! files come from, and where what is to be said goes.
+//!
+//! `server.rt` is a step, `beginning.rt` and `notices.rt` its parts; `edits.rt`, `closing.rt`, `loading.rt`, `roots.rt`
+//! change the workspace. Each file of the session is an open document's or the loader's, by two clauses for each
+//! operation: what it does to a name, and nothing beside. `found.rt`, `publishing.rt` tell findings; `named.rt`,
+//! `symbols.rt` answer of names; `service.rt` is the loop.
 #![tactic(auto)]
 
 mod beginning;
@@ -25,8 +30,7 @@ mod shown;
 mod symbols;
 mod workspace;
 
-pub use idl_program;
-pub use idl_program::idl_session;
+pub use idl_loader;
 pub use outbox::Outbox;
 pub use server::{Next, Server};
 pub use service::LanguageServer;

@@ -6,15 +6,15 @@ ghost use Rattle.std.specs.Str.{bytes_eq};
 ghost use Rattle.idl_related.specs.idl_project.Asked.{asked_of};
 ghost use Rattle.idl_related.specs.idl_project.Batch.{edit_of};
 ghost use Rattle.idl_related.specs.idl_project.Project.{is_root};
-ghost use Rattle.idl_program.specs.Holding.{Allows, Holding, NoFile};
-ghost use Rattle.idl_program.specs.Loading.{IsFileOf};
+ghost use Rattle.idl_loader.specs.Holding.{Allows, Holding, NoFile};
+ghost use Rattle.idl_loader.specs.Holding.{IsFileOf};
 ghost use Rattle.idl_server.specs.Files.{AreFiled, AreTried, AreTriedBy, IsAmong, IsTried, StaysCompiled, StaysSet, told_by};
 ghost use Rattle.idl_server.specs.Loading.{IsLoadedEdit, StaysOpen};
 ghost use Rattle.idl_server.specs.Roots.{AreCovered, AreRooted};
 
 use crate::closing::OnDisk;
 use crate::workspace::Workspace;
-use idl_program::PathLoader;
+use idl_loader::PathLoader;
 use idl_related::idl_project::FileEdit;
 use idl_source::{Line, Name};
 use indexmap::IndexSet;

@@ -6,7 +6,7 @@ ghost use Rattle.std.specs.Map.{lookup};
 ghost use Rattle.std.specs.Str.{bytes_eq};
 ghost use Rattle.serde_json.specs.View.{view};
 ghost use Rattle.idl_editor.specs.declared.messages.method.Method.TheVariants.{DidChange, DidClose, DidOpen};
-ghost use Rattle.idl_program.specs.Holding.{Holding};
+ghost use Rattle.idl_loader.specs.Holding.{Holding};
 ghost use Rattle.idl_server.specs.Documents.{HaveTexts, OnlyRefusedAreBehind, change_told, open_after_told, texts_of};
 ghost use Rattle.idl_server.specs.Files.{AreFiled, AreTried, StaysSet, told_by};
 ghost use Rattle.idl_server.specs.Notices.{changes_told, name_in, told_by_notice};
@@ -14,9 +14,9 @@ ghost use Rattle.idl_server.specs.Roots.{AreCovered, AreRooted};
 
 use crate::params::{items_at, opened_text};
 use crate::workspace::Workspace;
-use idl_editor::Change;
+use idl_editor::ContentChange;
 use idl_editor::messages::{Method, change_of, changes_of, text_at, uri_of};
-use idl_program::PathLoader;
+use idl_loader::PathLoader;
 use idl_source::Name;
 use indexmap::IndexSet;
 use serde_json::Value;
@@ -222,7 +222,7 @@ impl Workspace {
 }
 
 // The changes that parameters tell, if each of them makes sense.
-fn changes_told(alloc: Global, params: &Value) -> Result<Option<Vec<Change<'_>>>, AllocError>
+fn changes_told(alloc: Global, params: &Value) -> Result<Option<Vec<ContentChange<'_>>>, AllocError>
     ensures { IfOk result (λ changes. option_map (λ c. map change_told c.items) changes
         ≡ changes_told (view params.now)) }
 {

@@ -2,7 +2,7 @@
 
 ghost use Rattle.std.specs.Prelude.{◌≡◌, ℕ, List, None, OnOk};
 ghost use Rattle.serde_json.specs.View.{view};
-ghost use Rattle.idl_program.specs.Holding.{Holding};
+ghost use Rattle.idl_loader.specs.Holding.{Holding};
 ghost use Rattle.idl_server.specs.Files.{IsKept};
 ghost use Rattle.idl_server.specs.Json.{said_by};
 ghost use Rattle.idl_server.specs.Notices.{told_by_notice};
@@ -17,7 +17,7 @@ use crate::shown::shown_value;
 use crate::workspace::{Refused, Workspace};
 use idl_editor::messages::{ErrorCode, Message, Method, message_of};
 use idl_explain::{Topic, explanation_of};
-use idl_program::PathLoader;
+use idl_loader::PathLoader;
 use serde_json::{Value, json};
 use std::alloc::{AllocError, Global};
 

@@ -5,8 +5,9 @@ ghost use Rattle.std.specs.Prelude.{◌≡◌, ◌<◌, ◌-◌, ◌^◌, OnOk};
 use crate::outbox::Outbox;
 use crate::server::{Next, Server};
 use idl_editor::frames::{ReadFault, Reader, Received, message_of};
-use idl_program::idl_session::{Sink, Source, write_all};
-use idl_program::{PathLoader, Service, ServiceFault, Status};
+use idl_loader::{PathLoader, Service, ServiceFault, Status};
+use idl_source::devices::write_all;
+use idl_source::{Sink, Source};
 use serde_json::Value;
 use std::alloc::Global;
 

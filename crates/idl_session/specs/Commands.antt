@@ -5,7 +5,7 @@ use Rattle.idl_project.specs.Edits.{Edit}
 use Rattle.idl_session.specs.Lines.{lines_of, whole_lines}
 use Rattle.idl_session.specs.Requests.{Request, request_of, lines_taken}
 use Rattle.idl_session.specs.Requests as request
-use Rattle.idl_session.specs.declared.heading.Question.{Question}
+use Rattle.idl_session.specs.declared.heading.RootQuery.{RootQuery}
 
 -- none, an edit that lacks lines which it announced, an edit, a question about a root, or one about
 -- the work of the last accepted edit
@@ -13,7 +13,7 @@ pub data Command : Type 0 where
   Malformed : Command
   Unfinished : Command
   Make : (edit : Edit) → Command
-  Ask : (question : Question) (name : List ℕ) → Command
+  Ask : (question : RootQuery) (name : List ℕ) → Command
   TellWork : Command
 
 -- the command of a request, with the lines that follow as far as they are there

@@ -4,8 +4,8 @@ use Rattle.std.specs.Borrow.{Bor}
 use Rattle.idl_source.specs.texts.Line.{IsLine}
 use Rattle.idl_project.specs.Edits.{Edit, Put, Splice, Remove, Define, Undef, Search, AddRoot, DropRoot}
 use Rattle.idl_session.specs.Requests.{Request, Malformed, Place, Make, Ask, TellWork, words}
-use Rattle.idl_session.specs.declared.heading.Change.{Change}
-use Rattle.idl_session.specs.declared.heading.Change.TheVariants as change
+use Rattle.idl_session.specs.declared.heading.EditCommand.{EditCommand}
+use Rattle.idl_session.specs.declared.heading.EditCommand.TheVariants as change
 use Rattle.idl_session.specs.declared.heading.Heading.{Heading}
 use Rattle.idl_session.specs.declared.heading.Heading.TheVariants as heading
 use Rattle.idl_session.specs.declared.heading.Placement.{Placement}
@@ -21,7 +21,7 @@ abbrev pub words_after : Option (Bor (List ℕ)) → List (List ℕ)
 words_after None = []
 words_after (Some rest) = words rest.now
 
-abbrev pub edit_by : Change → Edit
+abbrev pub edit_by : EditCommand → Edit
 edit_by (change.Remove name) = Remove name.now
 edit_by (change.Define word body) = Define word.now body.now
 edit_by (change.Undef word) = Undef word.now
@@ -37,7 +37,7 @@ request_by (heading.Ask question name) = Ask question name.now
 request_by heading.Work = TellWork
 
 -- the body of a macro has no newline
-abbrev pub HasLine : Change → Type 0
+abbrev pub HasLine : EditCommand → Type 0
 HasLine (change.Define word body) = IsLine body.now
 HasLine other = Unit {0}
 

@@ -6,8 +6,8 @@ use Rattle.idl_source.specs.Limits.{longest_command}
 use Rattle.idl_source.specs.names.Name.{is_visible}
 use Rattle.idl_project.specs.Edits.{Edit, Put, Splice, Remove, Define, Undef, Search, AddRoot, DropRoot}
 use Rattle.idl_session.specs.Lines.{line_within}
-use Rattle.idl_session.specs.declared.heading.Question.{Question}
-use Rattle.idl_session.specs.declared.heading.Question.TheVariants.{Diagnostics, Listing, Dump, Absent}
+use Rattle.idl_session.specs.declared.heading.RootQuery.{RootQuery}
+use Rattle.idl_session.specs.declared.heading.RootQuery.TheVariants.{Diagnostics, Listing, Dump, Absent}
 
 -- no command, an edit with so many lines that follow, an edit that no line follows, a question about
 -- a root, or one about the work of the last accepted edit
@@ -15,7 +15,7 @@ pub data Request : Type 0 where
   Malformed : Request
   Place : (edit : List (List ℕ) → Edit) (count : ℕ) → Request
   Make : (edit : Edit) → Request
-  Ask : (question : Question) (name : List ℕ) → Request
+  Ask : (question : RootQuery) (name : List ℕ) → Request
   TellWork : Request
 
 -- bytes 33 to 126, one at least

@@ -8,7 +8,7 @@ ghost use Rattle.idl_session.specs.replies.Announced.{IsAnnounced};
 ghost use Rattle.idl_session.specs.Headings.{HasLine, edit_by, edit_with, words_after};
 
 use crate::announced::Announced;
-use crate::heading::{Change, Placement};
+use crate::heading::{EditCommand, Placement};
 use idl_project::{Session, Work};
 use idl_source::{Line, Name, Refusal, first_part};
 use std::alloc::{AllocError, Global};
@@ -33,17 +33,17 @@ pub fn place(
 }
 
 /// Makes an edit that no line follows.
-pub fn make(session: &mut Session, change: Change<'_>) -> Result<Work, Refusal>
+pub fn make(session: &mut Session, change: EditCommand<'_>) -> Result<Work, Refusal>
     requires { HasLine change }
     ensures { IsEdited (edit_by change.entry) session.old session.new result }
 {
     match change {
-        Change::Remove(name) => session.remove(name),
-        Change::Define(word, body) => define(session, word, body),
-        Change::Undef(word) => session.undef(word),
-        Change::Search(rest) => search(session, rest),
-        Change::AddRoot(name) => session.add_root(name),
-        Change::DropRoot(name) => session.drop_root(name),
+        EditCommand::Remove(name) => session.remove(name),
+        EditCommand::Define(word, body) => define(session, word, body),
+        EditCommand::Undef(word) => session.undef(word),
+        EditCommand::Search(rest) => search(session, rest),
+        EditCommand::AddRoot(name) => session.add_root(name),
+        EditCommand::DropRoot(name) => session.drop_root(name),
     }
 }
 

@@ -21,7 +21,7 @@ pub enum Placement<'a> {
 
 /// An edit that no line follows.
 #[derive(Clone, Copy)]
-pub enum Change<'a> {
+pub enum EditCommand<'a> {
     /// To remove a file.
     Remove(&'a [u8]),
     /// To define a macro with a body.
@@ -38,7 +38,7 @@ pub enum Change<'a> {
 
 /// What is asked of a root.
 #[derive(Clone, Copy)]
-pub enum Question {
+pub enum RootQuery {
     Diagnostics,
     Listing,
     Dump,
@@ -54,9 +54,9 @@ pub enum Heading<'a> {
     /// To place lines, of which so many follow.
     Place(Placement<'a>, usize),
     /// To edit something else.
-    Make(Change<'a>),
+    Make(EditCommand<'a>),
     /// A question about a root.
-    Ask(Question, &'a [u8]),
+    Ask(RootQuery, &'a [u8]),
     /// The work of the last accepted edit.
     Work,
 }
@@ -75,7 +75,7 @@ pub fn parse(line: &[u8]) -> Heading<'_>
         return Heading::Malformed;
     }
     if first == b"search".as_slice() {
-        return Heading::Make(Change::Search(rest));
+        return Heading::Make(EditCommand::Search(rest));
     }
     match rest {
         Some(rest) => parse_words(first, rest),
@@ -108,9 +108,9 @@ fn parse_define(rest: Option<&[u8]>) -> Heading<'_>
         return Heading::Malformed;
     }
     let Some(body) = more else {
-        return Heading::Make(Change::Define(word, b""));
+        return Heading::Make(EditCommand::Define(word, b""));
     };
-    Heading::Make(Change::Define(word, body))
+    Heading::Make(EditCommand::Define(word, body))
 }
 
 // A command of a first word and the words in the rest.
@@ -142,21 +142,21 @@ fn pair_heading<'a>(first: &'a [u8], about: &'a [u8]) -> Heading<'a>
     ensures one_line { HasLines result }
 {
     if first == b"remove".as_slice() {
-        Heading::Make(Change::Remove(about))
+        Heading::Make(EditCommand::Remove(about))
     } else if first == b"undef".as_slice() {
-        Heading::Make(Change::Undef(about))
+        Heading::Make(EditCommand::Undef(about))
     } else if first == b"root".as_slice() {
-        Heading::Make(Change::AddRoot(about))
+        Heading::Make(EditCommand::AddRoot(about))
     } else if first == b"unroot".as_slice() {
-        Heading::Make(Change::DropRoot(about))
+        Heading::Make(EditCommand::DropRoot(about))
     } else if first == b"diagnostics".as_slice() {
-        Heading::Ask(Question::Diagnostics, about)
+        Heading::Ask(RootQuery::Diagnostics, about)
     } else if first == b"listing".as_slice() {
-        Heading::Ask(Question::Listing, about)
+        Heading::Ask(RootQuery::Listing, about)
     } else if first == b"dump".as_slice() {
-        Heading::Ask(Question::Dump, about)
+        Heading::Ask(RootQuery::Dump, about)
     } else if first == b"absent".as_slice() {
-        Heading::Ask(Question::Absent, about)
+        Heading::Ask(RootQuery::Absent, about)
     } else {
         Heading::Malformed
     }

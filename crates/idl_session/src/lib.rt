@@ -2,6 +2,10 @@
 //!
 //! A command is a line of words, and for a `put` or a `splice` the lines that it announces. Nothing here opens a file or a terminal: a
 //! caller hands in where the bytes come from and where the replies go.
+//!
+//! `feed.rt` reads up to 4,096 bytes, `line_buffer.rt` takes a line in parts, `serve.rt` does one command, `rows.rt`
+//! the queries, `reply.rt` is the buffer. Which bytes are replies to which is a relation over the list of commands that
+//! the bytes make.
 #![tactic(auto)]
 
 mod announced;

@@ -4,7 +4,7 @@ ghost use Rattle.std.specs.Prelude.{◌≡◌, ◌<◌, Some, length, slice_get}
 ghost use Rattle.std.specs.Option.{option_map};
 ghost use Rattle.idl_session.specs.replies.Rows.{rows_for, rows_of};
 
-use crate::heading::Question;
+use crate::heading::RootQuery;
 use idl_project::{Row, Session};
 use idl_source::Name;
 
@@ -39,13 +39,13 @@ impl<'a> Rows<'a> {
 }
 
 /// The rows that answer a question about a name, if it is that of a root.
-pub fn ask<'s>(session: &'s Session, question: Question, name: &[u8]) -> Option<Rows<'s>>
+pub fn ask<'s>(session: &'s Session, question: RootQuery, name: &[u8]) -> Option<Rows<'s>>
     ensures { option_map rows_of result ≡ rows_for session.entry.now.project question name.now }
 {
     match question {
-        Question::Diagnostics => Some(Rows::Texts(session.diagnostics(name)?)),
-        Question::Listing => Some(Rows::Texts(session.listing(name)?)),
-        Question::Dump => Some(Rows::Texts(session.dump(name)?)),
-        Question::Absent => Some(Rows::Names(session.absent(name)?)),
+        RootQuery::Diagnostics => Some(Rows::Texts(session.diagnostics(name)?)),
+        RootQuery::Listing => Some(Rows::Texts(session.listing(name)?)),
+        RootQuery::Dump => Some(Rows::Texts(session.dump(name)?)),
+        RootQuery::Absent => Some(Rows::Names(session.absent(name)?)),
     }
 }

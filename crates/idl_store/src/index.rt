@@ -1,4 +1,8 @@
 //! Where kept results are found: by their texts, and by what they were answered.
+//!
+//! What is run goes into the gap that its look-up met, and the index says by contract what a gap is. What goes is found
+//! by its number. Buckets stand in the library's hash map, of which a look-up waits once. Its hash is fixed, so buckets
+//! can be made that share a place in it: none of their results is compared, but a look-up passes them.
 
 ghost use Rattle.std.specs.Prelude.{◌≡◌, ◌≢◌, ◌↔◌, ◌<◌, [], ℕ, All, Any, Contains, IfErr, IfOk, OnErr, OnOk, Option, length, nat_eq, position};
 ghost use Rattle.std.specs.List.{HoldsAt};

@@ -1,4 +1,8 @@
 //! The order of kept results, by which they are found.
+//!
+//! In a bucket results stand in the order of texts, and of one text of the answers in their logs. A look-up asks the
+//! bank what a log asked: of one text the next key follows from the answers so far. So this leads to the alike result,
+//! as a law says, and few are compared. Nothing rests on which orders these are.
 
 ghost use Rattle.std.specs.Prelude.{◌≡◌};
 ghost use Rattle.std.specs.Option.{option_cmp};

@@ -1,4 +1,12 @@
 //! The results of a kind of task, as the roots of a project have them.
+//!
+//! What an edit makes stands in drafts from the start, so that the next place and root find it. Accepted, each takes
+//! the place of its list by moves alone; refused, all are dropped by one call. Who obtains a result keeps it, and
+//! counts no keys.
+//!
+//! A part of a list is taken whole or not at all: whether each use can be counted is asked of all its results before
+//! one is. `put` looks its result up by its own log. A spot is searched for in the drafts, the last one first, and then
+//! in the lists.
 
 ghost use Rattle.std.specs.Prelude.{◌≡◌, ◌<◌, ◌∷◌, [], IfNone, IfOk, IfSome, IsTrue, OnErr, OnOk, Option, Some, length, slice_get};
 ghost use Rattle.std.specs.Option.{option_copied, option_map, option_to_list};

@@ -1,4 +1,7 @@
 -- The tree of a unit, and the fault of one that has none.
+-- The reader tells the place at which a unit stops being a beginning, since whether tokens are one
+-- can't be computed as it is said. That it is the place in the words of beginnings is the law
+-- `stopping`.
 use Rattle.std.specs.Prelude.{◌≡◌, ◌≢◌, ◌⊎◌, ◌+◌, ◌-◌, ℕ, Bool, List, [], ◌∷◌, ◌++◌, length, take, is_some, Option, None, Some, if◌then◌else◌}
 use Rattle.idl_fault.specs.declared.code.Code.TheVariants.{PragmaInside, MalformedPragma}
 use Rattle.idl_lex.specs.tokens.Tokens.{Token}

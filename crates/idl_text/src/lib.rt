@@ -2,6 +2,10 @@
 //! how far each branch goes, so that a branch that isn't taken is jumped over.
 //!
 //! Nothing here knows what is told of a file, or which branches are taken.
+//!
+//! `lex` makes a file's blocks, which end where the next line begins in nothing. `Matching` makes the table of branches
+//! once, over the directives with the open branches on a stack. `LinesLeft::jump` looks a branch up by how many tokens
+//! are before it.
 #![tactic(auto)]
 
 mod groups;

@@ -13,7 +13,7 @@ use Rattle.idl_related.specs.idl_project.Bank.{bank_of}
 use Rattle.idl_related.specs.idl_project.Details.{details_over}
 use Rattle.idl_related.specs.idl_project.Project.{Inputs}
 use Rattle.idl_program.specs.Rows.{are_faulty}
-use Rattle.idl_program.specs.declared.failure.Status.TheVariants.{Failed, Faulty, Sound}
+use Rattle.idl_program.specs.idl_loader.declared.status.Status.TheVariants.{Failed, Faulty, Sound}
 use Rattle.idl_tool.specs.Compared.{IsCompiled, Version, all_trees, are_breaking, change_lines, changes_between, ending_of, has_error, is_breaking, seen, shown_between, trees_in}
 use Rattle.idl_tool.specs.declared.diff.CompiledVersion.{CompiledVersion}
 use Rattle.idl_tool.proofs.DepsLemmas.{ending-of}

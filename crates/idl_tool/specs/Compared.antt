@@ -14,11 +14,11 @@ use Rattle.idl_related.specs.idl_project.Made.{rootless}
 use Rattle.idl_related.specs.idl_project.Project.{Inputs}
 use Rattle.idl_related.specs.idl_project.WellFormed.{IsWellFormed}
 use Rattle.idl_program.specs.Compiled.{Written, errors_in, is_faulty, lines_of}
-use Rattle.idl_program.specs.Holding.{Holding}
+use Rattle.idl_program.specs.idl_loader.Holding.{Holding}
 use Rattle.idl_program.specs.Loading.{AreLoaded, AreComplete}
 use Rattle.idl_program.specs.Options.{AreAsked}
-use Rattle.idl_program.specs.declared.failure.Status.{Status}
-use Rattle.idl_program.specs.declared.failure.Status.TheVariants.{Failed, Faulty, Sound}
+use Rattle.idl_program.specs.idl_loader.declared.status.Status.{Status}
+use Rattle.idl_program.specs.idl_loader.declared.status.Status.TheVariants.{Failed, Faulty, Sound}
 use Rattle.idl_program.specs.declared.request.Options.{Options}
 use Rattle.idl_tool.specs.Json.{trees_of}
 use Rattle.idl_tool.specs.declared.diff.CompiledVersion.{CompiledVersion}

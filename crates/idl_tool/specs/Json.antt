@@ -24,11 +24,11 @@ use Rattle.idl_related.specs.idl_project.Project.{Inputs}
 use Rattle.idl_related.specs.idl_project.WellFormed.{IsWellFormed}
 use Rattle.idl_related.specs.idl_project.declared.compile.CompiledRoot.{CompiledRoot}
 use Rattle.idl_program.specs.Compiled.{Written, is_faulty}
-use Rattle.idl_program.specs.Holding.{Holding}
+use Rattle.idl_program.specs.idl_loader.Holding.{Holding}
 use Rattle.idl_program.specs.Loading.{AreLoaded, AreComplete}
 use Rattle.idl_program.specs.Options.{AreAsked}
-use Rattle.idl_program.specs.declared.failure.Status.{Status}
-use Rattle.idl_program.specs.declared.failure.Status.TheVariants.{Sound, Faulty}
+use Rattle.idl_program.specs.idl_loader.declared.status.Status.{Status}
+use Rattle.idl_program.specs.idl_loader.declared.status.Status.TheVariants.{Sound, Faulty}
 use Rattle.idl_program.specs.declared.request.Options.{Options}
 use Rattle.idl_tool.specs.Checked.{Told, column_of}
 

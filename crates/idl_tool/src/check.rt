@@ -5,7 +5,7 @@ ghost use Rattle.std.specs.List.{zip};
 ghost use Rattle.std.specs.Option.{option_copied};
 ghost use Rattle.idl_explain.specs.declared.explanation.Explanation.{Explanation};
 ghost use Rattle.idl_program.specs.Rows.{are_faulty};
-ghost use Rattle.idl_program.specs.declared.failure.Status.TheVariants.{Faulty, Sound};
+ghost use Rattle.idl_program.specs.idl_loader.declared.status.Status.TheVariants.{Faulty, Sound};
 ghost use Rattle.idl_related.specs.idl_project.Compile.{compiled_root};
 ghost use Rattle.idl_tool.specs.Checked.{AreReported, AreToldOf, Explains, IsChecked, Told as ToldFinding, all_of, column_of, entry_text, in_order, line_at, report_in, seconds_in};
 ghost use Rattle.idl_tool.specs.ToldAt.{told_at};

@@ -4,7 +4,7 @@ ghost use Rattle.std.specs.Prelude.{◌≡◌, ◌≤◌, ◌<◌, ◌+◌, ◌-
 ghost use Rattle.idl_source.specs.devices.Device.{append};
 ghost use Rattle.idl_related.specs.idl_project.Bank.{bank_of};
 ghost use Rattle.idl_related.specs.idl_project.Details.{details_over};
-ghost use Rattle.idl_program.specs.declared.failure.Status.TheVariants.{Faulty, Sound};
+ghost use Rattle.idl_program.specs.idl_loader.declared.status.Status.TheVariants.{Faulty, Sound};
 ghost use Rattle.idl_program.specs.Rows.{are_faulty};
 ghost use Rattle.idl_tool.specs.Compared.{IsCompared, IsCompiled, IsVersion, are_breaking, change_lines, changes_between, ending_of, has_error, is_breaking, seen, shown_between, trees_in};
 

@@ -1,7 +1,7 @@
 //! The program over its words and devices.
 
 ghost use Rattle.std.specs.Prelude.{◌≡◌, ◌≢◌, ◌≤◌, ◌<◌, ◌+◌, ◌-◌, ◌^◌, IfOk, OnOk, map};
-ghost use Rattle.idl_program.specs.declared.failure.Status.TheVariants as status;
+ghost use Rattle.idl_program.specs.idl_loader.declared.status.Status.TheVariants as status;
 ghost use Rattle.idl_tool.specs.Served.{IsDone};
 ghost use Rattle.idl_tool.specs.Words.{IsRequestOf};
 ghost use Rattle.idl_tool.specs.declared.request.Request.{Request};

@@ -1,4 +1,7 @@
 -- Units: one equation for each line of the grammar.
+-- `;` is read once, behind every declaration: readers of declarations leave it. A struct or union
+-- ahead of its body is one that has `;` next. An interface ahead reads its own, since what opens a
+-- scope has none.
 use Rattle.std.specs.Prelude.{Bool, true, false, [], ◌∷◌, ◌++◌, flat_map}
 use Rattle.idl_lex.specs.declared.kinds.keyword.Keyword.TheVariants as word
 use Rattle.idl_lex.specs.declared.kinds.mark.Mark.TheVariants as mark

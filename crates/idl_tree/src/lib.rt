@@ -1,6 +1,9 @@
 //! Trees of units: what the grammar of OMG IDL makes of tokens.
 //!
 //! A tree has no places and no memory of its own to a contract: its value is what was written. Nothing here reads tokens.
+//!
+//! A lexeme is what the grammar knows of a token. A reader is a definition from tokens to a tree and the rest, or where
+//! it fails; laws are proved once for each way to put readers together (`proofs/Laws.antt`, `Many.antt`).
 #![tactic(auto)]
 
 pub mod declarations;

@@ -1,4 +1,5 @@
 -- Which units open a scope, and which close one.
+-- The tokens alone tell it, of a faulty unit too: so it is said here, once for all crates above.
 use Rattle.std.specs.Prelude.{ℕ, ◌+◌, Bool, true, false, List, [], ◌∷◌, Option, None, Some, is_some, if◌then◌else◌}
 use Rattle.idl_lex.specs.tokens.Tokens.{Token}
 use Rattle.idl_unit.specs.Ending.{opens, role, rule_of}

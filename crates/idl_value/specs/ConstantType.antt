@@ -1,4 +1,6 @@
 -- The types of which there are constants.
+-- An integer type is its width and whether it has a sign. Its values, the range of its parts, how
+-- many labels it can have and what `~` is follow from these two.
 use Rattle.std.specs.Prelude.{ℕ, ℤ, pos, Bool, true, false, Option, None, Some}
 use Rattle.idl_tree.specs.declared.declarations.data_type.DiscreteType.{DiscreteType}
 use Rattle.idl_tree.specs.declared.declarations.data_type.DiscreteType.TheVariants as discrete

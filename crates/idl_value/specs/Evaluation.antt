@@ -1,4 +1,7 @@
 -- What an expression comes to: its value for a target, or its faults in the order of tokens.
+-- All faults are listed in the order of tokens, as a law says, so the code keeps the first. That
+-- names have values is no `requires`: a name behind the last value is faulty, and who tells faults
+-- need not count them.
 use Rattle.std.specs.Prelude.{ℕ, ◌+◌, ◌-◌, ◌^◌, ℤ, pos, zero, Bool, true, false, get_or, length, min, nat_le, List, [], ◌∷◌, ◌++◌, flat_map, Option, None, Some, Result, Ok, Err, if◌then◌else◌}
 use Rattle.idl_tree.specs.Expression.{spell_literal}
 use Rattle.idl_tree.specs.declared.expression.Expression.{Expression}

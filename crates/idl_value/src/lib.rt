@@ -2,6 +2,10 @@
 //!
 //! A whole number has no size here but by conditions, and what a name denotes is handed in: nothing here knows scopes,
 //! declarations or places.
+//!
+//! `specs/Term.antt` takes the ranks of the grammar away, `Evaluation.antt` lists all faults of a term, `Operate.antt`
+//! has the operators. The code is one walk from the left (`walk.rt`) that keeps the first fault. A target, the names'
+//! values in order and the expression are handed in, so all is asked before.
 #![tactic(auto)]
 
 mod constant;

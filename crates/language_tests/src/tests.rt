@@ -1,12 +1,8 @@
 //! The tests, by subject.
 
 mod batches;
-mod commands;
 mod compared;
 mod copies;
-mod expansions;
-mod files;
-mod rows;
+mod embedding;
+mod limits;
 mod support;
-mod tokens;
-mod units;

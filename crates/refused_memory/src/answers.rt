@@ -18,27 +18,27 @@ const ROOM: usize = 65_536;
 /// All that a session tells: the answers to its queries, one behind the other, the roots that its last edit expanded anew, and the work
 /// of that.
 #[derive(Drop)]
-pub struct Answers {
+pub struct SessionReplies {
     lines: Vec<u8>,
     pub work: Work,
 }
 
-impl Answers {
+impl SessionReplies {
     /// What this session tells. What is asked by commands is asked first.
-    pub fn of(alloc: Global, session: &mut Session) -> Result<Answers> {
+    pub fn of(alloc: Global, session: &mut Session) -> Result<SessionReplies> {
         let questions = questions(alloc)?;
         let replies = replies(alloc, session, questions.as_str())?;
         let mut lines = Vec::new(alloc);
         lines.extend_from_slice(replies.as_bytes())?;
         push_answers(&mut lines, session)?;
-        Ok(Answers {
+        Ok(SessionReplies {
             lines,
             work: session.work(),
         })
     }
 
     /// Whether these are the same.
-    pub fn is(&self, other: &Answers) -> bool {
+    pub fn is(&self, other: &SessionReplies) -> bool {
         self.lines.as_slice() == other.lines.as_slice() && self.work == other.work
     }
 }

@@ -182,27 +182,27 @@ impl Call for Parsing {
 
 /// Judges the units, each over what those before it add.
 #[derive(Drop)]
-pub struct Judging {
+pub struct UnitJudging {
     units: Units,
 }
 
-impl Judging {
+impl UnitJudging {
     /// The units of the root.
-    pub fn new(alloc: Global) -> Result<Judging> {
-        Ok(Judging {
+    pub fn new(alloc: Global) -> Result<UnitJudging> {
+        Ok(UnitJudging {
             units: units(alloc)?,
         })
     }
 }
 
-impl Call for Judging {
-    type Given = Judged;
+impl Call for UnitJudging {
+    type Given = UnitVerdicts;
 
-    fn make(&mut self, alloc: Global) -> Option<Judged> {
+    fn make(&mut self, alloc: Global) -> Option<UnitVerdicts> {
         judge_each(alloc, &self.units).ok()
     }
 
-    fn told(alloc: Global, judged: &Judged) -> Result<String, AllocError> {
+    fn told(alloc: Global, judged: &UnitVerdicts) -> Result<String, AllocError> {
         let mut text = String::new(alloc);
         for verdict in &judged.verdicts {
             match (&verdict.row, &verdict.fault) {
@@ -217,12 +217,12 @@ impl Call for Judging {
 
 /// What the units of a root come to: the verdict of each, and the facts behind the last.
 #[derive(Drop)]
-pub struct Judged {
+pub struct UnitVerdicts {
     pub verdicts: Vec<Verdict>,
     pub facts: Env,
 }
 
-fn judge_each(alloc: Global, units: &Units) -> Result<Judged, AllocError> {
+fn judge_each(alloc: Global, units: &Units) -> Result<UnitVerdicts, AllocError> {
     let mut verdicts = Vec::new(alloc);
     let mut facts = Env::new(alloc)?;
     for unit in units.as_slice() {
@@ -232,7 +232,7 @@ fn judge_each(alloc: Global, units: &Units) -> Result<Judged, AllocError> {
             verdicts.push(verdict)?;
         }
     }
-    Ok(Judged { verdicts, facts })
+    Ok(UnitVerdicts { verdicts, facts })
 }
 
 fn verdict_over(alloc: Global, env: &Env, text: &UnitText) -> Result<Verdict, AllocError> {

@@ -1,6 +1,6 @@
 //! A call of which each growth is refused in turn.
 
-use crate::growths::{Growths, MOST, Refused, refuse};
+use crate::growths::{GrowthOutcome, Growths, MOST, refuse};
 use anyhow::{Context, Result, bail, ensure};
 use std::alloc::{AllocError, Global};
 
@@ -22,7 +22,7 @@ pub fn refuse_each<C: Call>(alloc: Global, name: &str, call: &mut C) -> Result<G
     let mut growths = Growths::none();
     for number in 1..MOST {
         match refuse_one(alloc, call, &known, number)? {
-            Refused::Nothing => return Ok(growths),
+            GrowthOutcome::Nothing => return Ok(growths),
             met => growths = growths.with(met),
         }
     }
@@ -31,14 +31,14 @@ pub fn refuse_each<C: Call>(alloc: Global, name: &str, call: &mut C) -> Result<G
 
 // The name of a call, and what it gives where nothing is refused.
 #[derive(Drop)]
-struct Known<'a> {
+struct Baseline<'a> {
     name: &'a str,
     told: String,
 }
 
-fn make_known<'a, C: Call>(alloc: Global, name: &'a str, call: &mut C) -> Result<Known<'a>> {
+fn make_known<'a, C: Call>(alloc: Global, name: &'a str, call: &mut C) -> Result<Baseline<'a>> {
     let given = call.make(alloc).context("a call gives nothing")?;
-    Ok(Known {
+    Ok(Baseline {
         name,
         told: C::told(alloc, &given)?,
     })
@@ -48,16 +48,16 @@ fn make_known<'a, C: Call>(alloc: Global, name: &'a str, call: &mut C) -> Result
 fn refuse_one<C: Call>(
     alloc: Global,
     call: &mut C,
-    known: &Known<'_>,
+    known: &Baseline<'_>,
     number: u16,
-) -> Result<Refused> {
+) -> Result<GrowthOutcome> {
     let name = known.name;
     refuse(alloc, number);
     let given = call.make(alloc);
     let is_met = refuse(alloc, 0);
     let Some(given) = given else {
         ensure!(is_met, "{name}: gives nothing");
-        return Ok(Refused::Needed);
+        return Ok(GrowthOutcome::Needed);
     };
     let told = C::told(alloc, &given)?;
     ensure!(
@@ -65,7 +65,7 @@ fn refuse_one<C: Call>(
         "{name}: gives something else"
     );
     if is_met {
-        return Ok(Refused::Spared);
+        return Ok(GrowthOutcome::Spared);
     }
-    Ok(Refused::Nothing)
+    Ok(GrowthOutcome::Nothing)
 }

@@ -25,14 +25,14 @@ impl Growths {
     }
 
     /// These and a growth more, of which this came.
-    pub fn with(self, refused: Refused) -> Growths {
+    pub fn with(self, refused: GrowthOutcome) -> Growths {
         match refused {
-            Refused::Nothing => self,
-            Refused::Needed => Growths {
+            GrowthOutcome::Nothing => self,
+            GrowthOutcome::Needed => Growths {
                 refused: self.refused.saturating_add(1),
                 ..self
             },
-            Refused::Spared => Growths {
+            GrowthOutcome::Spared => Growths {
                 spared: self.spared.saturating_add(1),
                 ..self
             },
@@ -55,7 +55,7 @@ impl Growths {
 
 /// What came of a growth that was to be refused.
 #[derive(Clone, Copy)]
-pub enum Refused {
+pub enum GrowthOutcome {
     /// It was not met.
     Nothing,
     /// The call gave up.

@@ -1,6 +1,6 @@
 //! The calls about names, over the facts of the small root: a look-up alone, and the entries of all names that have an id.
 
-use crate::below::{Judged, Judging, push_word};
+use crate::below::{UnitJudging, UnitVerdicts, push_word};
 use crate::calls::Call;
 use anyhow::{Context, Result};
 use idl_base::{Bytes, Seq};
@@ -55,23 +55,23 @@ impl Call for Resolving {
 
 /// Makes the entries.
 #[derive(Drop)]
-pub struct Printing {
+pub struct Rendering {
     facts: Env,
     paths: Vec<Path>,
 }
 
-impl Printing {
+impl Rendering {
     /// The facts of the root, and the names that have an id.
-    pub fn new(alloc: Global) -> Result<Printing> {
+    pub fn new(alloc: Global) -> Result<Rendering> {
         let judged = judge_root(alloc)?;
-        Ok(Printing {
+        Ok(Rendering {
             paths: paths_in(alloc, &judged)?,
             facts: judged.facts,
         })
     }
 }
 
-impl Call for Printing {
+impl Call for Rendering {
     type Given = Vec<Entry>;
 
     fn make(&mut self, alloc: Global) -> Option<Vec<Entry>> {
@@ -103,8 +103,8 @@ fn entry_over(alloc: Global, facts: &Env, path: &Path) -> Result<Entry, AllocErr
 }
 
 // What the units of the root come to.
-fn judge_root(alloc: Global) -> Result<Judged> {
-    Judging::new(alloc)?.make(alloc).context("no verdicts")
+fn judge_root(alloc: Global) -> Result<UnitVerdicts> {
+    UnitJudging::new(alloc)?.make(alloc).context("no verdicts")
 }
 
 fn name_in_base(alloc: Global) -> Result<ScopedName, AllocError> {
@@ -118,7 +118,7 @@ fn name_in_base(alloc: Global) -> Result<ScopedName, AllocError> {
 }
 
 // The names that have an id.
-fn paths_in(alloc: Global, judged: &Judged) -> Result<Vec<Path>, AllocError> {
+fn paths_in(alloc: Global, judged: &UnitVerdicts) -> Result<Vec<Path>, AllocError> {
     let mut paths = Vec::new(alloc);
     for verdict in &judged.verdicts {
         push_paths(&mut paths, verdict.writes.get())?;

@@ -1,10 +1,10 @@
 //! What the driver does and tells.
 
-use crate::below::{Compiling, Expanding, Judging, Lexing, Parsing, Splicing, Splitting};
+use crate::below::{Compiling, Expanding, Lexing, Parsing, Splicing, Splitting, UnitJudging};
 use crate::calls::{Call, refuse_each};
 use crate::edits::{ONE_ROOT, THREE_ROOTS};
 use crate::growths::Growths;
-use crate::named::{Printing, Resolving};
+use crate::named::{Rendering, Resolving};
 use crate::trial::Trial;
 use anyhow::{Result, ensure};
 use std::alloc::{AllocError, Global};
@@ -81,9 +81,9 @@ fn tell_calls(rt: &impl Print, alloc: Global) -> Result<()> {
     tell_call(rt, alloc, "expand", &mut Expanding::new(alloc)?)?;
     tell_call(rt, alloc, "split", &mut Splitting::new(alloc)?)?;
     tell_call(rt, alloc, "parse", &mut Parsing::new(alloc)?)?;
-    tell_call(rt, alloc, "judge", &mut Judging::new(alloc)?)?;
+    tell_call(rt, alloc, "judge", &mut UnitJudging::new(alloc)?)?;
     tell_call(rt, alloc, "resolve", &mut Resolving::new(alloc)?)?;
-    tell_call(rt, alloc, "print", &mut Printing::new(alloc)?)?;
+    tell_call(rt, alloc, "print", &mut Rendering::new(alloc)?)?;
     tell_call(rt, alloc, "compile", &mut Compiling::new(alloc)?)
 }
 

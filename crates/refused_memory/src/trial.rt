@@ -1,7 +1,7 @@
 //! An edit of which each growth is refused in turn.
 
-use crate::answers::{Answers, replies, replies_without};
-use crate::growths::{Growths, MOST, Refused};
+use crate::answers::{SessionReplies, replies, replies_without};
+use crate::growths::{GrowthOutcome, Growths, MOST};
 use anyhow::{Result, bail, ensure};
 use idl_session::{BufferSink, Session, Work};
 use std::alloc::{AllocError, Global};
@@ -14,8 +14,8 @@ pub struct Trial<'a> {
     alloc: Global,
     earlier: &'a str,
     edit: &'a str,
-    before: Answers,
-    behind: Answers,
+    before: SessionReplies,
+    behind: SessionReplies,
 }
 
 impl<'a> Trial<'a> {
@@ -38,7 +38,7 @@ impl<'a> Trial<'a> {
         for number in 1..MOST {
             let mut session = Session::new(self.alloc);
             match self.refuse(&mut session, number)? {
-                Refused::Nothing => return Ok(growths),
+                GrowthOutcome::Nothing => return Ok(growths),
                 met => growths = growths.with(met),
             }
         }
@@ -56,20 +56,20 @@ impl<'a> Trial<'a> {
 
     // Gives a new session the earlier edits, and then this one with the growth of this number refused. Where it is refused for that, it
     // is given again.
-    fn refuse(&self, session: &mut Session, number: u16) -> Result<Refused> {
+    fn refuse(&self, session: &mut Session, number: u16) -> Result<GrowthOutcome> {
         replies(self.alloc, session, self.earlier)?;
         let (reply, is_met) = self.give(session, number)?;
         if is_met && self.is_reply(&reply, "refused 9", self.before.work)? {
             self.expect(session, &self.before)?;
             let (reply, _is_met) = self.give(session, 0)?;
             self.accept(session, &reply)?;
-            return Ok(Refused::Needed);
+            return Ok(GrowthOutcome::Needed);
         }
         self.accept(session, &reply)?;
         if is_met {
-            return Ok(Refused::Spared);
+            return Ok(GrowthOutcome::Spared);
         }
-        Ok(Refused::Nothing)
+        Ok(GrowthOutcome::Nothing)
     }
 
     // The replies to the edit and to the question for work behind it, with the growth of this number refused, and whether it was met.
@@ -95,8 +95,8 @@ impl<'a> Trial<'a> {
     }
 
     // The session tells this.
-    fn expect(&self, session: &mut Session, wanted: &Answers) -> Result<()> {
-        let told = Answers::of(self.alloc, session)?;
+    fn expect(&self, session: &mut Session, wanted: &SessionReplies) -> Result<()> {
+        let told = SessionReplies::of(self.alloc, session)?;
         ensure!(told.is(wanted), "{}: other answers", self.name());
         Ok(())
     }
@@ -108,10 +108,10 @@ fn told_around(
     session: &mut Session,
     earlier: &str,
     edit: &str,
-) -> Result<(Answers, Answers)> {
+) -> Result<(SessionReplies, SessionReplies)> {
     replies(alloc, session, earlier)?;
-    let before = Answers::of(alloc, session)?;
+    let before = SessionReplies::of(alloc, session)?;
     replies(alloc, session, edit)?;
-    let behind = Answers::of(alloc, session)?;
+    let behind = SessionReplies::of(alloc, session)?;
     Ok((before, behind))
 }

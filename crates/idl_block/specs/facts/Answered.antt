@@ -1,5 +1,10 @@
 -- What is answered behind facts, as a query of the bank beneath them: for each key that is asked,
 -- what is needed and no more.
+-- An answer is made when it is asked, and not with each write: a use that goes further looks at
+-- scopes that no unit has asked. On demand that comes up only where a unit asks for the use, which
+-- asks first what the scope declares.
+-- Of the others that may stop it those of the unit declare nothing yet. The rest are nameless, and
+-- these declare nothing when they open (`declares`).
 use Rattle.std.specs.Prelude.{◌≡◌, ℕ, ◌+◌, ◌<◌, Bool, true, false, ◌&&◌, not, nat_eq, List, [], ◌∷◌, ◌++◌, Option, None, Some, All, Contains, drop, filter, is_some, length, map, if◌then◌else◌}
 use Rattle.idl_entity.specs.Identity.{no_prefix}
 use Rattle.idl_entity.specs.Kind.{kind_eq}

@@ -1,5 +1,8 @@
 -- What is said of the id of what a name denotes, and what is wrong with that: the name's own faults,
 -- E74, and E71 or E72. What is wrong with the text of an id stands at that.
+-- What is said of an id goes through one definition for pragmas and `typeid` (`about`,
+-- `about_entity`), and of a scope through `about_scope`. The faults of a text are told by
+-- themselves, so no other list of faults is needed.
 use Rattle.std.specs.Prelude.{ℕ, List, [], ◌∷◌, ◌++◌, None, Some, if◌then◌else◌}
 use Rattle.idl_check.specs.ids.Identifying.{changed}
 use Rattle.idl_check.specs.tables.Codes.{faults_by}

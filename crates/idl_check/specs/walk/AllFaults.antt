@@ -1,5 +1,8 @@
 -- All faults of a unit, as if none ended the search for others: each of an expression, and those of
 -- whole names. The one that is told is the least.
+-- For some of them nobody looks: those of a whole name at whose first token a fault is known, and
+-- that of an id's text behind a name that denotes nothing. That the one which is told is less is
+-- the law `least`.
 use Rattle.std.specs.Prelude.{ℕ, ◌+◌, List, [], ◌∷◌, ◌++◌, map, Option, None, Some, Ok, Err, if◌then◌else◌}
 use Rattle.idl_check.specs.ids.Pragmas.{said_by}
 use Rattle.idl_check.specs.told.Values.{code_of}

@@ -1,5 +1,11 @@
 -- The walk over the sites of a unit, in the order of its tokens: what is asked at each, what is
 -- wrong there, and what it adds.
+-- Sites come in the order of tokens, but a second `default` is found at the next token, and what an
+-- expression comes to is known at its end. So the walk notes the least fault so far and ends behind
+-- its token; nothing is sorted. Where an expression begins is never behind the next token, so each
+-- step is defined over every list of sites.
+-- A verdict asks how often its scope was opened, so that it is taken over only where that count is
+-- as before. A chain of typedefs without end comes to the name itself.
 use Rattle.std.specs.Prelude.{ℕ, ◌+◌, Bool, false, ◌&&◌, ◌||◌, List, [], ◌∷◌, ◌++◌, drop, fold, is_some, min, nat_lt, not, Option, None, Some, Result, Ok, Err, if◌then◌else◌, option_to_list}
 use Rattle.idl_check.specs.ids.About.{Said, unnamed_faults}
 use Rattle.idl_check.specs.ids.Remarks.{is_bad_text, purpose_of, remark}

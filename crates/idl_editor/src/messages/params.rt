@@ -6,7 +6,7 @@ ghost use Rattle.serde_json.specs.View.{items_view, view};
 ghost use Rattle.idl_editor.specs.messages.Params.{changes_in, position_at, position_of, range_of, told_in, uri_in};
 
 use crate::messages::fields::{number_at, text_at};
-use crate::{Change, Position, Range};
+use crate::{ContentChange, Position, Range};
 use serde_json::Value;
 
 /// The URI of the document that parameters are about.
@@ -51,7 +51,7 @@ pub fn changes_of(params: &Value) -> Option<&[Value]>
 }
 
 /// The change that a value tells.
-pub fn change_of(value: &Value) -> Option<Change<'_>>
+pub fn change_of(value: &Value) -> Option<ContentChange<'_>>
     ensures { option_map (λ change. (change.range, change.text.now)) result
         ≡ told_in (view value.now) }
 {
@@ -60,7 +60,7 @@ pub fn change_of(value: &Value) -> Option<Change<'_>>
         None => None,
         Some(range) => Some(range_of(range)?),
     };
-    Some(Change {
+    Some(ContentChange {
         range,
         text: text.as_bytes(),
     })

@@ -1,4 +1,8 @@
 //! The scopes that are open.
+//!
+//! A scope has beside it how many are open with it, since into how many a name is introduced is a number. Where that is
+//! too large for a word it is want of memory, as a `Vec` of that length is. There is no limit of 64 here: a faulty
+//! opening opens a nameless scope, in which names are declared as in any other.
 
 ghost use Rattle.std.specs.Prelude.{◌≡◌, ◌<◌, ◌∷◌, [], IfOk, IfSome, None, Some, length, refl, slice_get};
 ghost use Rattle.std.specs.Option.{option_copied};

@@ -1,4 +1,7 @@
 //! Files that are held with their tokens.
+//!
+//! Files are lexed where they are held, and an answer carries the tokens: a file that is included a thousand times is
+//! cut once.
 
 ghost use Rattle.std.specs.Prelude.{◌≡◌, ◌↔◌, IsTrue, IfOk};
 ghost use Rattle.std.specs.Cmp.{partial_equiv_from_equiv};

@@ -1,4 +1,11 @@
 //! Tokens, and where they stand in a file.
+//!
+//! A token is its bytes alone, and where it stands is beside it: "the same tokens" is equality, and what rests on
+//! tokens can't rest on places. One that a macro gives has no place of its own, and is told at that of the outermost
+//! word.
+//!
+//! Each placed token tells whether it begins its line, which directives need, and whether it directly follows a word,
+//! which `(` alone needs: the shorter definition says both of all.
 
 ghost use Rattle.std.specs.Prelude.{◌≡◌, ◌∷◌, [], ◌↔◌, IfOk, IsTrue, Some, refl, true};
 ghost use Rattle.std.specs.Cmp.{partial_equiv_from_equiv};

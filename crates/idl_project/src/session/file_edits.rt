@@ -10,7 +10,7 @@ ghost use Rattle.idl_project.specs.WellFormed.{IsWellFormed};
 
 use crate::edited_files::EditedFiles;
 use crate::file_edit::FileEdit;
-use crate::kept_root::Change;
+use crate::kept_root::BankChange;
 use crate::refiled::Refiled;
 use crate::session::Session;
 use crate::work::Work;
@@ -91,7 +91,7 @@ impl Session {
             edited: &edited,
         };
         let causes = bank.causes(self.keeper.alloc())?;
-        let change = Change {
+        let change = BankChange {
             base: &self.bank,
             bank: &bank,
             causes: &causes,

@@ -1,4 +1,7 @@
 //! Rows as trees.
+//!
+//! A listing can't be read back, so what a row tells is data too: that a row is what its tree is printed as is a law
+//! over any answers. What is around a type is a list of layers, so no tree holds itself. Trees are made when asked for.
 
 use crate::details::type_code_tree::{MemberTree, TypeCodeTree};
 use crate::details::type_tree::TypeTree;

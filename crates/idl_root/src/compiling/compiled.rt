@@ -13,7 +13,7 @@ ghost use Rattle.idl_unit.specs.Units.{units_of};
 use crate::compiling::finding::{
     EventFinding, Finding, event_findings, has_error, in_order, push_numbered, rows_of,
 };
-use crate::compiling::judging::{Ended, Judging};
+use crate::compiling::judging::{Ended, RootState};
 use crate::compiling::memory::Memory;
 use crate::compiling::printing::{Printed, print_all};
 use crate::kept::again::{Again, are_as_before};
@@ -80,7 +80,7 @@ pub struct Recompiled {
 /// What is found in a root: in its events and its units, whether a scope is open at its end, and what is declared ahead and never
 /// defined.
 #[derive(Drop)]
-struct Found {
+struct RootFindings {
     findings: Vec<EventFinding>,
     is_open: bool,
     closing: Vec<EventFinding>,
@@ -104,7 +104,7 @@ pub fn compile(
     let alloc = memory.alloc();
     let units = split(alloc, expansion)?;
     let findings = event_findings(alloc, expansion)?;
-    let first = Judging::new(alloc, findings, units.as_slice().len())?;
+    let first = RootState::new(alloc, findings, units.as_slice().len())?;
     let judging = first.with_all(alloc, units.as_slice())?;
     judging.env.bounds_turns();
     let printed = print_all(alloc, &judging.env, judging.gathered.listed.as_slice())?;
@@ -195,7 +195,7 @@ fn told_again(
     let findings = event_findings(alloc, root.expansion)?;
     let again = Again::new(alloc, findings).with_all(keeper.texts.declarations(), root.at, units)?;
     let closing = again.closing(&keeper.entries, root.at)?;
-    let found = Found {
+    let found = RootFindings {
         findings: again.into_findings(),
         is_open: compiled.is_open,
         closing,
@@ -240,7 +240,7 @@ fn compile_anew(
     let alloc = keeper.alloc();
     let count = units.len().saturating_sub(1);
     let findings = event_findings(alloc, root.expansion)?;
-    let first = Judging::new(alloc, findings, count)?;
+    let first = RootState::new(alloc, findings, count)?;
     let earlier = Course::new(root.at, root.marks);
     let mut keeping = Keeping::new(alloc, earlier, count, *meter)?;
     keeper.begin(root.at)?;
@@ -282,7 +282,7 @@ fn told(
         findings: closing,
         rows: listing,
     } = printed;
-    let found = Found {
+    let found = RootFindings {
         findings,
         is_open,
         closing,
@@ -305,7 +305,7 @@ fn all_findings(
     alloc: Global,
     end: &Place,
     expansion: &Expansion,
-    found: Found,
+    found: RootFindings,
 ) -> Result<Vec<Finding>, AllocError>
     ensures { IfOk result (λ findings. findings.items
         ≡ findings_told end.now expansion.now found.findings.items found.is_open

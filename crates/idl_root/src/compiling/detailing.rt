@@ -6,7 +6,7 @@ ghost use Rattle.idl_root.specs.Held.{listed_at};
 ghost use Rattle.idl_root.specs.Named.{named_as};
 ghost use Rattle.idl_root.specs.NamePlaces.{AreNamesOf, AreNumbered};
 
-use crate::compiling::judging::Judging;
+use crate::compiling::judging::RootState;
 use crate::compiling::naming::Naming;
 use crate::compiling::number::LineNumbers;
 use crate::compiling::places::{DeclaredPlace, RootNames, UsedName};
@@ -57,7 +57,7 @@ pub fn details_of(alloc: Global, expansion: &Expansion) -> Result<Details, Alloc
     ensures { IfOk result (λ d. d ≡ details expansion.now) }
 {
     let units = split(alloc, expansion)?;
-    let first = Judging::new(alloc, Vec::new(alloc), units.as_slice().len())?;
+    let first = RootState::new(alloc, Vec::new(alloc), units.as_slice().len())?;
     let naming = first.with_all_named(alloc, units.as_slice())?;
     let names = names_of(alloc, expansion, &naming)?;
     let judging = &naming.judging;

@@ -1,4 +1,6 @@
 //! What is found in a root.
+//!
+//! What a row is made of is kept, and rows too: columns, texts and editors stand on the parts.
 
 ghost use Rattle.std.specs.Prelude.{◌≡◌, ◌++◌, IfOk, OnOk, Some, flat_map, map, slice_get};
 ghost use Rattle.std.specs.List.{enumerate_from};

@@ -31,6 +31,7 @@ use crate::kept::added::Added;
 use crate::kept::keeping::Keeping;
 use crate::kept::marks::Mark;
 use crate::kept::noting::noting;
+use crate::kept::reading::kept_verdict;
 use idl_env::{DigestedKey, Env, Facts, OpenScopes, PlainEnv, Step, Writes, scopes_in};
 use idl_kept::KeptTexts;
 use idl_memo::{Bank, Journal, passing, placement};
@@ -39,13 +40,13 @@ use idl_unit::{Unit, UnitText};
 use std::alloc::{AllocError, Global};
 
 /// What has come of a root so far: what its units added, and what was gathered of them.
-pub struct Judging<'a> {
+pub struct RootState<'a> {
     pub env: Env,
-    pub gathered: Gathered<'a>,
+    pub gathered: Accumulator<'a>,
 }
 
 /// What was gathered of a root's units so far.
-pub struct Gathered<'a> {
+pub struct Accumulator<'a> {
     pub findings: Vec<EventFinding>,
     /// The rows of the dump.
     pub rows: Vec<Row>,
@@ -63,18 +64,18 @@ pub struct Ended {
     pub printed: Printed,
 }
 
-impl<'a> Drop for Judging<'a> {
+impl<'a> Drop for RootState<'a> {
     fn drop(self) {
-        let Judging {
+        let RootState {
             env: _env,
             gathered: _gathered,
         } = self;
     }
 }
 
-impl<'a> Drop for Gathered<'a> {
+impl<'a> Drop for Accumulator<'a> {
     fn drop(self) {
-        let Gathered {
+        let Accumulator {
             findings: _findings,
             rows: _rows,
             listed: _listed,
@@ -82,13 +83,13 @@ impl<'a> Drop for Gathered<'a> {
     }
 }
 
-impl<'a> Judging<'a> {
+impl<'a> RootState<'a> {
     /// Before the first of so many units, where this is found in the events.
     pub fn new(
         alloc: Global,
         findings: Vec<EventFinding>,
         count: usize,
-    ) -> Result<Judging<'a>, AllocError>
+    ) -> Result<RootState<'a>, AllocError>
         ensures { IfOk result (λ judging.
             held judging
             ≡ record { facts = []; found = findings.items; rows = []; listed = [] }) }
@@ -96,9 +97,9 @@ impl<'a> Judging<'a> {
         let rows = Vec::with_capacity(alloc, count)?;
         let listed = Vec::with_capacity(alloc, count)?;
         let env = Env::new(alloc)?;
-        Ok(Judging {
+        Ok(RootState {
             env,
-            gathered: Gathered {
+            gathered: Accumulator {
                 findings,
                 rows,
                 listed,
@@ -107,10 +108,10 @@ impl<'a> Judging<'a> {
     }
 
     /// After these units, of which nothing is kept.
-    pub fn with_all(self, alloc: Global, units: &'a [Unit]) -> Result<Judging<'a>, AllocError>
+    pub fn with_all(self, alloc: Global, units: &'a [Unit]) -> Result<RootState<'a>, AllocError>
         ensures { IfOk result (λ judging. held judging ≡ to_come (held self.entry) units.now) }
     {
-        let Judging {
+        let RootState {
             mut env,
             mut gathered,
         } = self;
@@ -119,7 +120,7 @@ impl<'a> Judging<'a> {
             let added = gathered.add(alloc, &mut scratch, &env, unit)?;
             env = added.behind(env, &mut scratch.room)?;
         }
-        Ok(Judging { env, gathered })
+        Ok(RootState { env, gathered })
     }
 
     /// After these units, with their names. Nothing is kept of them.
@@ -129,7 +130,7 @@ impl<'a> Judging<'a> {
         ensures units { IfOk result (λ n.
             map named_as n.units.items ≡ named_after self.entry.env units.now) }
     {
-        let Judging {
+        let RootState {
             mut env,
             mut gathered,
         } = self;
@@ -140,7 +141,7 @@ impl<'a> Judging<'a> {
             env = added.behind(env, &mut scratch.room)?;
         }
         Ok(Naming {
-            judging: Judging { env, gathered },
+            judging: RootState { env, gathered },
             units: named,
         })
     }
@@ -151,7 +152,7 @@ impl<'a> Judging<'a> {
         keeping: &mut Keeping<'_>,
         kept: &mut KeptTexts,
         units: &'a [Unit],
-    ) -> Result<Judging<'a>, AllocError>
+    ) -> Result<RootState<'a>, AllocError>
         requires keeping { IsKeeping kept.old.declarations.lists keeping.old self.env }
         requires told { AreTold self.env }
         requires drafts { HasDrafts kept.old }
@@ -178,9 +179,9 @@ impl<'a> Judging<'a> {
             OnOk result (Compares self.entry.env pieces kept.old
             keeping.old.meter keeping.new.meter) }
     {
-        let Judging { env, mut gathered } = self;
+        let RootState { env, mut gathered } = self;
         let env = gathered.add_all(keeping, kept, PlainEnv::of(env), units)?;
-        Ok(Judging {
+        Ok(RootState {
             env: env.into_env(),
             gathered,
         })
@@ -193,14 +194,14 @@ impl<'a> Judging<'a> {
         requires rows { printed.rows.items ≡ flat_map (entry_row self.env) (held self).listed }
         ensures { IsEnded result (held self.entry) }
     {
-        let Judging { env, gathered } = self;
+        let RootState { env, gathered } = self;
         let is_open = is_open(&env);
         memory.hold(env);
         gathered.ended(is_open, printed)
     }
 }
 
-impl<'a> Gathered<'a> {
+impl<'a> Accumulator<'a> {
     // What came of all units, with that of their names.
     fn ended(self, is_open: bool, printed: Printed) -> Ended
         ensures found { result.findings ≡ self.entry.findings }
@@ -208,7 +209,7 @@ impl<'a> Gathered<'a> {
         ensures scopes { result.is_open ≡ is_open }
         ensures printed { result.printed ≡ printed }
     {
-        let Gathered {
+        let Accumulator {
             findings,
             rows,
             listed: _listed,
@@ -275,7 +276,8 @@ impl<'a> Gathered<'a> {
         match unit {
             Unit::Spelled(text, sites) => {
                 let declaration = keeping.judge(kept, env, text)?;
-                self.add_verdict(env.alloc(), Spelled { text, sites }, declaration.out())?;
+                let verdict = kept_verdict(&declaration);
+                self.add_verdict(env.alloc(), Spelled { text, sites }, verdict)?;
                 Ok(Added::Kept(declaration))
             }
             Unit::Entered(_file, inside) => Ok(crossed(keeping, env, Mark::Entered(*inside))?),
@@ -302,8 +304,7 @@ impl<'a> Gathered<'a> {
     {
         push_fault(alloc, &mut self.findings, unit, verdict.fault)?;
         push_row(&mut self.rows, &verdict.row)?;
-        push_listed(&mut self.listed, unit, verdict.writes.get())?;
-        Ok(())
+        push_listed(&mut self.listed, unit, verdict.writes.get())
     }
 }
 

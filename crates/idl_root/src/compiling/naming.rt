@@ -8,7 +8,7 @@ ghost use Rattle.idl_root.specs.Judged.{added, judged_at, verdict_over};
 ghost use Rattle.idl_root.specs.Named.{AreNumbersIn, closings_from, end_before, ends_of, named_as, named_at, names_over};
 
 use crate::compiling::finding::Spelled;
-use crate::compiling::judging::{Gathered, Judging, verdict_over};
+use crate::compiling::judging::{Accumulator, RootState, verdict_over};
 use crate::kept::added::Added;
 use idl_env::{Env, Step};
 use idl_root_blocks::idl_check::{NamedSite, Scratch, names_of};
@@ -34,7 +34,7 @@ impl<'a> Drop for NamedUnit<'a> {
 
 /// What has come of a root so far, and its units with their names.
 pub struct Naming<'a> {
-    pub judging: Judging<'a>,
+    pub judging: RootState<'a>,
     pub units: Vec<NamedUnit<'a>>,
 }
 
@@ -47,7 +47,7 @@ impl<'a> Drop for Naming<'a> {
     }
 }
 
-impl<'a> Gathered<'a> {
+impl<'a> Accumulator<'a> {
     // Puts in what comes of one unit more over these facts, and the unit with its names; what it adds to them.
     pub(crate) fn add_named(
         &mut self,

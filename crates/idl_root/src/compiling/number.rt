@@ -1,4 +1,7 @@
 //! The number of a token in its line.
+//!
+//! It counts the tokens of the line directly before one in the root. It is found by walking back, and not kept with
+//! each site, since few have findings.
 
 ghost use Rattle.std.specs.Prelude.{◌≡◌, ◌≢◌, ◌<◌, ◌-◌, IfNone, IfOk, IfSome, Some, slice_get};
 ghost use Rattle.idl_event.specs.declared.told.event.Event.TheVariants.{Emitted};

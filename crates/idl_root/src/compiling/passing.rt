@@ -1,4 +1,7 @@
 //! The passing of units whose results are kept, block by block.
+//!
+//! Pieces are gone through by recursion, no deeper than files include one another: its contract is that of what is met
+//! (`met_over`). Whether a file is a block is told by a scan to its leaving, at each level anew.
 
 ghost use Rattle.std.specs.Prelude.{◌≡◌, ◌≤◌, ◌<◌, ◌^◌, ◌++◌, ◌∷◌, [], IfOk, List, OnOk, Some};
 ghost use Rattle.idl_root_blocks.specs.idl_check_laws.Closing.{AreTold};
@@ -24,12 +27,13 @@ ghost use Rattle.idl_root_blocks.specs.Units.{text_of};
 ghost use Rattle.idl_unit.specs.declared.unit.Unit.{Unit as RootUnit};
 
 use crate::compiling::finding::Spelled;
-use crate::compiling::judging::{Gathered, crossed};
+use crate::compiling::judging::{Accumulator, crossed};
 use crate::kept::added::Added;
 use crate::kept::keeping::Keeping;
 use crate::kept::known::Known;
 use crate::kept::marks::Mark;
 use crate::kept::noting::noting;
+use crate::kept::reading::kept_verdict;
 use idl_env::{Env, PlainEnv};
 use idl_kept::KeptTexts;
 use idl_memo::{passing, placement};
@@ -41,7 +45,7 @@ use idl_store::Spot;
 use idl_unit::Unit;
 use std::alloc::AllocError;
 
-impl<'a> Gathered<'a> {
+impl<'a> Accumulator<'a> {
     /// Puts in what comes of these units, whose results are kept; the facts behind them.
     #[cycle(pieces)]
     pub fn add_all(
@@ -236,7 +240,7 @@ impl<'a> Gathered<'a> {
         match unit {
             Unit::Spelled(text, sites) => {
                 let (declaration, behind) = known.split_first().ok_or(AllocError)?;
-                let verdict = declaration.out();
+                let verdict = kept_verdict(declaration);
                 self.add_verdict(env.get().alloc(), Spelled { text, sites }, verdict)?;
                 keeping.pass_known(known, env.get(), declaration)?;
                 let env = env.into_env().add(verdict.writes.get())?;

@@ -18,39 +18,73 @@ use idl_unit::UnitText;
 use std::alloc::{AllocError, Global};
 
 /// A token, and where it stands: its place, and its number among the tokens of its line that stand together, from 0.
-#[derive(Drop)]
 pub struct SitedToken {
     pub place: Place,
     pub number: Option<usize>,
     pub text: Bytes,
 }
 
+impl Drop for SitedToken {
+    fn drop(self) {
+        let SitedToken {
+            place: _place,
+            number: _number,
+            text: _text,
+        } = self;
+    }
+}
+
 /// Where a name is declared: the token that is the name, and from which token through which one what is declared there goes. That are
 /// those of its unit, and of what a unit opens through the closing, if it is closed.
-#[derive(Drop)]
 pub struct DeclaredPlace {
     pub name: SitedToken,
     pub first: SitedToken,
     pub last: SitedToken,
 }
 
+impl Drop for DeclaredPlace {
+    fn drop(self) {
+        let DeclaredPlace {
+            name: _name,
+            first: _first,
+            last: _last,
+        } = self;
+    }
+}
+
 /// A name that is used: its last token, and the path of what it denotes.
-#[derive(Drop)]
 pub struct UsedName {
     pub name: SitedToken,
     pub path: Path,
 }
 
+impl Drop for UsedName {
+    fn drop(self) {
+        let UsedName {
+            name: _name,
+            path: _path,
+        } = self;
+    }
+}
+
 /// A name that is declared: its path, and where.
-#[derive(Drop)]
-pub struct DeclaredName {
+pub struct PlacedName {
     pub path: Path,
     pub place: DeclaredPlace,
 }
 
+impl Drop for PlacedName {
+    fn drop(self) {
+        let PlacedName {
+            path: _path,
+            place: _place,
+        } = self;
+    }
+}
+
 /// The names of a root: those that are declared in order, the numbers of these by their paths, and those that are used.
 pub struct RootNames {
-    pub declared: Vec<DeclaredName>,
+    pub declared: Vec<PlacedName>,
     pub numbers: Map<Path, SharedList<usize>>,
     pub used: Vec<UsedName>,
 }
@@ -138,7 +172,7 @@ impl RootNames {
     }
 
     // Puts in a declared name, if there is one.
-    fn add_declared(&mut self, alloc: Global, name: Option<DeclaredName>) -> Result<(), AllocError>
+    fn add_declared(&mut self, alloc: Global, name: Option<PlacedName>) -> Result<(), AllocError>
         requires { AreNumbered self.old.declared.items self.old.numbers }
         ensures declared { OnOk result
             (self.new.declared.items ≡ self.old.declared.items ++ option_to_list name) }
@@ -229,7 +263,7 @@ fn declared_by(
     unit: &NamedUnit<'_>,
     end: &NamedUnit<'_>,
     site: &NamedSite,
-) -> Result<Option<DeclaredName>, AllocError>
+) -> Result<Option<PlacedName>, AllocError>
     ensures { IfOk result (λ name. option_to_list name
         ≡ declared_with site.now.path (sited_in events.now (named_as unit.now) site.now.index)
         (sited_in events.now (named_as unit.now) 0) (last_in events.now (named_as end.now))) }
@@ -240,7 +274,7 @@ fn declared_by(
     let (Some(name), Some(first), Some(last)) = (name, first, last) else {
         return Ok(None);
     };
-    Ok(Some(DeclaredName {
+    Ok(Some(PlacedName {
         path: site.path.clone()?,
         place: DeclaredPlace { name, first, last },
     }))

@@ -109,10 +109,18 @@ impl<'e> Drop for Sought<'e> {
 }
 
 // Rows that are written one behind another, and where each of them stands.
-#[derive(Drop)]
-struct Written {
+struct RowBuffer {
     bytes: Vec<u8>,
     spans: Vec<ByteRange>,
+}
+
+impl Drop for RowBuffer {
+    fn drop(self) {
+        let RowBuffer {
+            bytes: _bytes,
+            spans: _spans,
+        } = self;
+    }
 }
 
 /// What comes of each of these names over an environment. Nothing is kept of them.
@@ -123,7 +131,7 @@ pub fn print_all(alloc: Global, env: &Env, listed: &[Listed<'_>]) -> Result<Prin
         ≡ flat_map (entry_row env.now) (map listed_at listed.now)) }
 {
     let mut printed = Printed::new(alloc, listed.len())?;
-    let mut written = Written::new(alloc)?;
+    let mut written = RowBuffer::new(alloc)?;
     let mut sought = Vec::with_capacity(alloc, AHEAD)?;
     for name in listed {
         let answered = Answered::of(env, &name.path)?;
@@ -151,7 +159,7 @@ impl Printed {
     fn add_full(
         &mut self,
         alloc: Global,
-        written: &mut Written,
+        written: &mut RowBuffer,
         sought: &mut Vec<Sought<'_>>,
     ) -> Result<(), AllocError>
         ensures findings { OnOk result
@@ -172,7 +180,7 @@ impl Printed {
     fn add_all(
         &mut self,
         alloc: Global,
-        written: &mut Written,
+        written: &mut RowBuffer,
         sought: &[Sought<'_>],
     ) -> Result<(), AllocError>
         ensures findings { OnOk result
@@ -212,12 +220,12 @@ impl Printed {
     }
 }
 
-impl Written {
+impl RowBuffer {
     // No rows.
-    fn new(alloc: Global) -> Result<Written, AllocError>
+    fn new(alloc: Global) -> Result<RowBuffer, AllocError>
         ensures { IfOk result (λ written. written.spans.items ≡ []) }
     {
-        Ok(Written {
+        Ok(RowBuffer {
             bytes: Vec::new(alloc),
             spans: Vec::with_capacity(alloc, AHEAD)?,
         })

@@ -3,6 +3,7 @@
 ghost use Rattle.std.specs.Prelude.{◌≡◌, ◌++◌, IfOk};
 ghost use Rattle.idl_root.specs.Added.{told_by};
 
+use crate::kept::reading::kept_verdict;
 use idl_env::{Env, Room, Writes};
 use idl_kept::KeptDeclaration;
 use std::alloc::AllocError;
@@ -27,7 +28,7 @@ impl Added {
         match self {
             Added::Nothing => Ok(env),
             Added::Given(facts) => env.add_own(facts, room),
-            Added::Kept(declaration) => env.add(declaration.out().writes.get()),
+            Added::Kept(declaration) => env.add(kept_verdict(&declaration).writes.get()),
         }
     }
 }

@@ -1,4 +1,9 @@
 //! Units that are as they were: what is found in them, from what is kept of them.
+//!
+//! Verdicts name tokens by number, so texts and boundaries tell all places of tasks (`AreAsBefore`). Nothing is made of
+//! such a root: no drafts, no `Env`. Faults of the preprocessor are the new expansion's; those of units and names are
+//! read off the kept results. Whether a scope is open at the end no result has, so it is told with the rows
+//! (`is_open`).
 
 ghost use Rattle.std.specs.Prelude.{◌≡◌, ◌++◌, [], IfOk, IsTrue, List, OnOk, flat_map, map};
 ghost use Rattle.idl_root.specs.AsBefore.{AreAsBefore, AreCourse, closing_beside, judged_beside};
@@ -12,6 +17,7 @@ use crate::compiling::finding::{EventFinding, Spelled, push_fault};
 use crate::compiling::printing::{Listed, push_closing, push_listed};
 use crate::kept::course::Course;
 use crate::kept::keeper::Entries;
+use crate::kept::reading::{entry_at, kept_verdict};
 use idl_kept::Declarations;
 use idl_root_blocks::idl_check::Verdict;
 use idl_unit::Unit;
@@ -86,7 +92,7 @@ impl<'a> Again<'a> {
             let Some(declaration) = kept.get(list, place) else {
                 return Ok(again);
             };
-            again.add(Spelled { text, sites }, declaration.out())?;
+            again.add(Spelled { text, sites }, kept_verdict(declaration))?;
             place += 1;
         }
         Ok(again)
@@ -141,7 +147,7 @@ fn closing_findings(
     let mut closing = Vec::new(alloc);
     let mut place: usize = 0;
     for name in listed {
-        let Some(entry) = kept.get(list, place) else {
+        let Some(entry) = entry_at(kept, list, place) else {
             return Ok(closing);
         };
         push_closing(alloc, &mut closing, name.unit, entry.out().fault)?;

@@ -9,6 +9,7 @@ ghost use Rattle.idl_root.specs.Results.{DeclarationResult};
 ghost use Rattle.idl_root.specs.declared.kept.marks.Mark.{Mark as RootMark};
 
 use crate::kept::marks::{Mark, Marks};
+use crate::kept::reading::unit_text;
 use idl_kept::{Declarations, KeptDeclaration};
 use idl_store::Spot;
 use idl_unit::{Unit, UnitText};
@@ -97,7 +98,7 @@ impl<'k> Course<'k> {
         ensures text { IfSome result (λ k. k.now.text ≡ text.now) }
     {
         let first = self.first(kept)?;
-        if *first.text() == *text {
+        if *unit_text(first) == *text {
             return Some(first);
         }
         None

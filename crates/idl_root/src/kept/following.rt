@@ -1,4 +1,9 @@
 //! What was kept of a root's units, gone through beside the units that stand there now.
+//!
+//! It stands in front of the store and counts nothing: what it takes again is alike, and so not fresh. A unit judged
+//! anew changes the keys at which it adds otherwise. What counts is the answer left there: two prefixes that tell one
+//! id are one. Of a use the scopes that may stop it count too. Where scopes, files or prefixes come or go, or more than
+//! 256 digests have changed, it ends, and the store is asked.
 
 ghost use Rattle.std.specs.Prelude.{◌≡◌, ◌-◌, ◌∷◌, ◌++◌, [], false, IfNone, IfOk, IfSome, IsFalse, IsTrue, List, OnErr, Some};
 ghost use Rattle.idl_env.specs.Facts.{UnitFacts, answers, operations_among};
@@ -13,6 +18,7 @@ ghost use Rattle.idl_root.specs.declared.kept.course.Course.{Course as RootCours
 use crate::kept::changed::Changed;
 use crate::kept::course::Course;
 use crate::kept::marks::Mark;
+use crate::kept::reading::{kept_verdict, unit_log};
 use crate::kept::reprinting::Reprinting;
 use idl_env::{Env, Facts, Step};
 use idl_kept::{Declarations, KeptDeclaration, KeptTexts};
@@ -115,7 +121,7 @@ impl<'k> Following<'k> {
         idl_scope::laws::reliance();
         reliance::<Env, DeclarationTask>();
         let declaration = self.course.first_of(kept, text)?;
-        if !self.changed.shares_none_of(declaration.log()) {
+        if !self.changed.shares_none_of(unit_log(declaration)) {
             return None;
         }
         Some(self.course.place())
@@ -167,7 +173,7 @@ impl<'k> Following<'k> {
         let Some(course) = course.behind_first() else {
             return Ok(None);
         };
-        let facts = declaration.out().writes.get();
+        let facts = kept_verdict(declaration).writes.get();
         let none = Facts::new(alloc);
         if !facts.is_same_step(&none) {
             return Ok(None);
@@ -197,7 +203,7 @@ impl<'k> Following<'k> {
         if stay_alike(self.is_around, env, &self.changed, facts)? {
             return Ok(self.with_alike(env, facts));
         }
-        Ok(self.with_closing(env, facts)?)
+        self.with_closing(env, facts)
     }
 
     // The same, where nothing that these facts look at may be answered otherwise.
@@ -281,9 +287,9 @@ impl<'k> Following<'k> {
             → IsFollowed kept.now.lists earlier f (env.now ++ facts.now ∷ []))) }
     {
         if self.more > 0 && self.course.first_of(kept, text).is_none() {
-            return Ok(self.with_more(facts)?);
+            return self.with_more(facts);
         }
-        Ok(self.exchanged(kept, env, facts)?)
+        self.exchanged(kept, env, facts)
     }
 
     // Behind the next unit, in whose place one adds that.
@@ -314,7 +320,7 @@ impl<'k> Following<'k> {
         let Some(course) = course.behind_first() else {
             return Ok(None);
         };
-        let before = declaration.out().writes.get();
+        let before = kept_verdict(declaration).writes.get();
         if !before.is_same_step(facts) {
             return Ok(None);
         }

@@ -22,6 +22,7 @@ use crate::kept::following::Following;
 use crate::kept::known::Known;
 use crate::kept::marks::Mark;
 use crate::kept::noting::noting;
+use crate::kept::reading::{kept_verdict, keys_in, unit_keys, unit_log, unit_text};
 use crate::kept::reprinting::Reprinting;
 use idl_env::{Answer, DigestedKey, Env, Facts};
 use idl_kept::{Declarations, KeptDeclaration, KeptTexts};
@@ -129,7 +130,7 @@ impl<'k> Keeping<'k> {
             Some(following) => self.judged(following, kept, env, text)?,
             None => self.obtained(kept, env, text)?,
         };
-        self.ask(env, declaration.log())?;
+        self.ask(env, unit_log(&declaration))?;
         Ok(declaration)
     }
 
@@ -149,7 +150,7 @@ impl<'k> Keeping<'k> {
         } }
     {
         if self.blocks.is_empty() {
-            self.keys = self.keys.saturating_add(log.len());
+            self.keys = self.keys.saturating_add(keys_in(log));
             return Ok(());
         }
         self.room.clear();
@@ -177,8 +178,9 @@ impl<'k> Keeping<'k> {
     {
         match following.take_again(kept, text)? {
             Some(declaration) => {
-                compare(&mut self.meter, declaration.log().len());
-                self.following = following.with_same(env, declaration.out().writes.get())?;
+                compare(&mut self.meter, unit_keys(&declaration));
+                let facts = kept_verdict(&declaration).writes.get();
+                self.following = following.with_same(env, facts)?;
                 Ok(declaration)
             }
             None => self.judged_anew(following, kept, env, text),
@@ -204,7 +206,7 @@ impl<'k> Keeping<'k> {
         ensures rest { JudgesOnly self.old self.new }
     {
         let declaration = self.obtained(kept, env, text)?;
-        let facts = declaration.out().writes.get();
+        let facts = kept_verdict(&declaration).writes.get();
         self.following = following.with_other(kept.declarations(), env, text, facts)?;
         Ok(declaration)
     }
@@ -235,7 +237,7 @@ impl<'k> Keeping<'k> {
         if self.meter.checked != before {
             return Ok(found);
         }
-        compare(&mut self.meter, found.log().len());
+        compare(&mut self.meter, unit_keys(&found));
         Ok(found)
     }
 
@@ -291,7 +293,7 @@ impl<'k> Keeping<'k> {
     {
         noting_on();
         self.marks.push(Mark::Judged)?;
-        match self.caught_up(known.declarations(), declaration.text())? {
+        match self.caught_up(known.declarations(), unit_text(declaration))? {
             Some(following) => {
                 self.following = behind_known(following, known, env, declaration)?;
                 Ok(())
@@ -340,11 +342,11 @@ fn behind_known<'k>(
         → IsFollowed known.entry.declarations.now.lists earlier f
         (env.now ++ declaration.now.out.writes ∷ []))) }
 {
-    let facts = declaration.out().writes.get();
+    let facts = kept_verdict(declaration).writes.get();
     if following.is_next(known.declarations(), known.spot()) {
         return Ok(following.with_same(env, facts)?);
     }
-    Ok(following.with_other(known.declarations(), env, declaration.text(), facts)?)
+    Ok(following.with_other(known.declarations(), env, unit_text(declaration), facts)?)
 }
 
 // What is followed behind a file boundary that adds that.

@@ -14,6 +14,7 @@ ghost use Rattle.idl_root.specs.Results.{EntryResult, HasDraft, IsEntryPass, Pri
 use crate::compiling::printing::{Listed, Printed};
 use crate::kept::comparing::compare;
 use crate::kept::keeper::{Entries, KeptEntry};
+use crate::kept::reading::entry_keys;
 use crate::kept::reprinting::Reprinting;
 use idl_entity::Path;
 use idl_env::Env;
@@ -94,7 +95,7 @@ impl Printing {
         let mut keys = self.keys;
         for name in listed {
             let entry = self.entry(kept, env, &name.path)?;
-            keys = keys.saturating_add(entry.log().len());
+            keys = keys.saturating_add(entry_keys(&entry));
             printed.add(env.alloc(), name.unit, entry.out())?;
         }
         self.keys = keys;
@@ -118,7 +119,7 @@ impl Printing {
     {
         match self.taken(kept, path)? {
             Some(entry) => {
-                compare(&mut self.meter, entry.log().len());
+                compare(&mut self.meter, entry_keys(&entry));
                 Ok(entry)
             }
             None => self.obtained(kept, env, path),
@@ -150,7 +151,7 @@ impl Printing {
         if self.meter.printed != before {
             return Ok(found);
         }
-        compare(&mut self.meter, found.log().len());
+        compare(&mut self.meter, entry_keys(&found));
         Ok(found)
     }
 

@@ -9,6 +9,7 @@ ghost use Rattle.idl_root.specs.Results.{EntryResult, entry_result};
 
 use crate::kept::changed::Changed;
 use crate::kept::keeper::{Entries, KeptEntry};
+use crate::kept::reading::entry_at;
 use idl_entity::Path;
 use idl_env::Env;
 use idl_memo::reliance;
@@ -88,7 +89,7 @@ impl Reprinting {
         idl_scope::laws::reliance();
         reliance::<Env, EntryTask>();
         let place = self.next_at(kept, path)?;
-        let entry = kept.get(self.list, place)?;
+        let entry = entry_at(kept, self.list, place)?;
         if !self.changed.shares_none_of(entry.log()) {
             return None;
         }
@@ -102,7 +103,7 @@ impl Reprinting {
         ensures list { self.new.list ≡ self.old.list }
         ensures changed { self.new.changed ≡ self.old.changed }
     {
-        while let Some(first) = kept.get(self.list, self.place) {
+        while let Some(first) = entry_at(kept, self.list, self.place) {
             let place = self.place;
             if *first.text() == *path {
                 self.pass();

@@ -1,4 +1,6 @@
 //! A line of a file: bytes without newline.
+//!
+//! A clone copies a pointer. It may answer want of memory, where the count of the pointer is full.
 
 ghost use Rattle.std.specs.Prelude.{◌≡◌, ◌↔◌, [], IsNone, IsTrue, IfOk, IfSome, Contains, length};
 ghost use Rattle.std.specs.Cmp.{partial_equiv_from_equiv};

@@ -1,4 +1,7 @@
 //! Lines that are gathered.
+//!
+//! Larger blocks would take less still, but a line that is left of a file would keep more of its old neighbours than
+//! its own tokens take.
 
 ghost use Rattle.std.specs.Prelude.{◌≡◌, ◌∷◌, ◌++◌, [], IfOk, OnOk};
 ghost use Rattle.idl_source.specs.texts.Line.{IsLine};

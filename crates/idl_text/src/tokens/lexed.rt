@@ -1,4 +1,7 @@
 //! The tokens of a file.
+//!
+//! Tokens are numbered within their block, so a later text takes a block over by one pointer wherever its lines come to
+//! stand.
 
 ghost use Rattle.std.specs.Prelude.{◌≡◌, ◌≤◌, ◌+◌, ◌<◌, ◌^◌, ◌++◌, ◌∷◌, ◌↔◌, [], ℕ, List, drop, length, IfOk, IfSome, MatchOption, OnOk};
 ghost use Rattle.idl_text.specs.Block.{AreBlocks, IsBlock, lines_in_blocks};

@@ -1,7 +1,6 @@
 //! What edits compare, where files are included: as many keys as known tasks asked that are alike where they are met. It is reckoned here
 //! from what each task of the projects before and after an edit asks.
 
-use super::expansions::Answers;
 use super::support::replies;
 use idl_entity::Path;
 use idl_env::{Addition, Env, Facts, Step};
@@ -10,8 +9,9 @@ use idl_prep::RootTask;
 use idl_repo::EntryTask;
 use idl_session::Session;
 use idl_session::idl_check::{DeclarationTask, Scratch, Verdict};
+use idl_session::idl_project::Sources;
 use idl_session::idl_root_blocks::{BlockText, block_at, text_of};
-use idl_source::Name;
+use idl_source::{Name, Refusal, cut};
 use idl_unit::{Unit, UnitText, split};
 use std::alloc::{AllocError, Global};
 use std::mem::replace;
@@ -19,14 +19,14 @@ use std::test::Fail;
 
 // A known task: its text, and what it asked with the answers.
 #[derive(Drop)]
-struct Task<T, B: Bank> {
+struct KnownTask<T, B: Bank> {
     text: T,
     log: Log<B>,
 }
 
 // What a task in a root is of.
 #[derive(PartialEq, Eq, Drop)]
-enum Text {
+enum TaskText {
     Declaration(UnitText),
     Block(BlockText),
     Entry(Path),
@@ -45,7 +45,7 @@ fn holds_in<B: Bank>(log: &Log<B>, bank: &B) -> bool {
 }
 
 // How many keys the known task of this text asked that is alike over a bank, if one is.
-fn alike<T: Eq, B: Bank>(known: &[Task<T, B>], text: &T, bank: &B) -> Option<u64> {
+fn alike<T: Eq, B: Bank>(known: &[KnownTask<T, B>], text: &T, bank: &B) -> Option<u64> {
     for task in known {
         if task.text == *text && holds_in(&task.log, bank) {
             return Some(task.log.len() as u64);
@@ -57,15 +57,15 @@ fn alike<T: Eq, B: Bank>(known: &[Task<T, B>], text: &T, bank: &B) -> Option<u64
 // A block that isn't left: its text with what it has asked so far and hadn't written, the number of its entering among the facts, how many
 // units stand behind its leaving, whether it is known, and whether what stands in it is met.
 #[derive(Drop)]
-struct Open {
-    task: Task<Text, Env>,
+struct EnteredBlock {
+    task: KnownTask<TaskText, Env>,
     start: usize,
     behind: usize,
     is_known: bool,
     is_met: bool,
 }
 
-impl Open {
+impl EnteredBlock {
     fn ask(&mut self, env: &Env, log: &Log<Env>) -> Result<(), AllocError> {
         for index in 0..log.len() {
             if let Some((key, answer)) = log.get(index) {
@@ -83,12 +83,12 @@ impl Open {
 #[derive(Drop)]
 struct Project {
     alloc: Global,
-    files: Answers,
+    files: Sources,
     roots: Vec<Name>,
-    expansions: Vec<Task<Name, Answers>>,
-    tasks: Vec<Task<Text, Env>>,
+    expansions: Vec<KnownTask<Name, Sources>>,
+    tasks: Vec<KnownTask<TaskText, Env>>,
     compared: u64,
-    open: Vec<Open>,
+    open: Vec<EnteredBlock>,
     names: Vec<Path>,
 }
 
@@ -96,7 +96,7 @@ impl Project {
     fn new(alloc: Global) -> Project {
         Project {
             alloc,
-            files: Answers::new(alloc),
+            files: Sources::new(alloc),
             roots: Vec::new(alloc),
             expansions: Vec::new(alloc),
             tasks: Vec::new(alloc),
@@ -107,18 +107,20 @@ impl Project {
     }
 
     // Only what is met before an edit is known behind it.
-    fn take(&mut self, edit: &str) -> Result<(), AllocError> {
+    fn take(&mut self, edit: &str) -> Result<(), Refusal> {
         self.expansions.clear();
         self.tasks.clear();
         self.meet_all()?;
         let (command, lines) = edit.split_once('\n').unwrap_or((edit, ""));
         let name = command.split(' ').nth(1).unwrap_or("");
-        match Name::new(name.as_bytes()) {
-            Some(name) if command.starts_with("put") => self.files.put(self.alloc, &name, lines)?,
-            Some(name) if command.starts_with("root") => self.roots.push(name)?,
-            _ => {}
+        if let Some(name) = Name::new(name.as_bytes()) {
+            if command.starts_with("put") {
+                self.files.put(&name, cut(self.alloc, lines.as_bytes())?)?;
+            } else if command.starts_with("root") {
+                self.roots.push(name)?;
+            }
         }
-        self.meet_all()
+        Ok(self.meet_all()?)
     }
 
     // Goes through all roots: their tasks become known, too.
@@ -138,7 +140,7 @@ impl Project {
         let mut log = Log::new(self.alloc);
         let task = RootTask::new(root.copied());
         let expansion = task.run(self.alloc, &self.files, &mut (), &mut log)?;
-        self.expansions.push(Task { text: root, log })?;
+        self.expansions.push(KnownTask { text: root, log })?;
         self.meet_units(split(self.alloc, &expansion)?.as_slice())
     }
 
@@ -155,7 +157,7 @@ impl Project {
             let mut log = Log::new(self.alloc);
             let task = EntryTask { path };
             let _entry = task.run(self.alloc, env, &mut Vec::new(self.alloc), &mut log)?;
-            self.meet(Text::Entry(task.path), log, env)?;
+            self.meet(TaskText::Entry(task.path), log, env)?;
         }
         Ok(())
     }
@@ -195,7 +197,7 @@ impl Project {
         let mut log = Log::new(self.alloc);
         let verdict = task.run(self.alloc, env, &mut Scratch::new(self.alloc), &mut log)?;
         self.note(env, &log, verdict.writes.get())?;
-        self.meet(Text::Declaration(task.text), log, env)?;
+        self.meet(TaskText::Declaration(task.text), log, env)?;
         Ok(verdict)
     }
 
@@ -212,10 +214,10 @@ impl Project {
         Ok(())
     }
 
-    fn meet(&mut self, text: Text, log: Log<Env>, env: &Env) -> Result<(), AllocError> {
+    fn meet(&mut self, text: TaskText, log: Log<Env>, env: &Env) -> Result<(), AllocError> {
         match alike(&self.tasks, &text, env) {
             Some(keys) => self.count(keys),
-            None => self.tasks.push(Task { text, log })?,
+            None => self.tasks.push(KnownTask { text, log })?,
         }
         Ok(())
     }
@@ -237,12 +239,12 @@ impl Project {
     // The block of these units, behind whose leaving so many stand, is entered next.
     fn enter(&mut self, env: &Env, inside: &[Unit], behind: usize) -> Result<(), AllocError> {
         let is_met = self.is_next_met();
-        let text = Text::Block(text_of(self.alloc, inside)?);
+        let text = TaskText::Block(text_of(self.alloc, inside)?);
         let known = alike(&self.tasks, &text, env);
         self.count(known.unwrap_or(0));
         let log = Log::new(self.alloc);
-        self.open.push(Open {
-            task: Task { text, log },
+        self.open.push(EnteredBlock {
+            task: KnownTask { text, log },
             start: env.len().saturating_add(1),
             behind,
             is_known: known.is_some(),
@@ -302,10 +304,21 @@ static SCRIPTS: [&str; 4] = [
 #[test]
 fn edits_compare_that_sum(rt: HostRuntime) -> Result<(), Fail> {
     for script in &SCRIPTS {
-        let mut session = Session::new(rt.alloc());
-        let mut project = Project::new(rt.alloc());
-        for edit in script.split(" ¶ ") {
-            assert!(rt; compares_so(&mut session, &mut project, edit)?, "{edit}");
+        compare_that_sum(rt.alloc(), script)?;
+    }
+    Ok(())
+}
+
+fn compare_that_sum(alloc: Global, script: &str) -> Result<(), Fail> {
+    let mut session = Session::new(alloc);
+    let mut project = Project::new(alloc);
+    all_compare_so(&mut session, &mut project, script)
+}
+
+fn all_compare_so(session: &mut Session, project: &mut Project, script: &str) -> Result<(), Fail> {
+    for edit in script.split(" ¶ ") {
+        if !compares_so(session, project, edit)? {
+            return Err(Fail::new(format_args!("{edit}")));
         }
     }
     Ok(())

@@ -33,5 +33,5 @@ static ROWS: [&str; 6] = [
 
 #[test]
 fn findings_are_told_with_their_lines(rt: HostRuntime) -> Result<(), Fail> {
-    are_given(&rt, &ROWS)
+    are_given(rt.alloc(), &ROWS)
 }

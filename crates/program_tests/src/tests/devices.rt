@@ -2,10 +2,10 @@
 
 ghost use Rattle.std.specs.Prelude.{◌≡◌, None};
 
-use idl_server::idl_session::{
+use idl_program::idl_session::{
     BufferSink, ReadFailed, Session, Sink, SliceSource, Source, Stop, WriteFailed, run,
 };
-use std::alloc::Global;
+use std::alloc::{AllocError, Global};
 use std::test::Fail;
 
 // Bytes that a sink takes.
@@ -154,14 +154,19 @@ fn has_writes(alloc: Global, script: &mut Script<'_>, times: usize) -> Result<()
     Ok(())
 }
 
-// In the end nothing fails, and all has been served.
-fn have_stops(alloc: Global, text: &str, most: usize) -> Result<(), Fail> {
+// The lines of all commands of a script, and their replies.
+fn parted(alloc: Global, text: &str) -> Result<(String, String), AllocError> {
     let (mut given, mut wanted) = (String::new(alloc), String::new(alloc));
     for command in text.split('|') {
         let (lines, reply) = command.split_once("=>").unwrap_or((command, ""));
         given.push_str(lines)?;
         wanted.push_str(reply)?;
     }
+    Ok((given, wanted))
+}
+
+fn have_stops(alloc: Global, text: &str, most: usize) -> Result<(), Fail> {
+    let (given, wanted) = parted(alloc, text)?;
     let mut script = Script {
         given: given.as_str(),
         wanted: wanted.as_str(),
@@ -169,13 +174,18 @@ fn have_stops(alloc: Global, text: &str, most: usize) -> Result<(), Fail> {
         writes: 0,
         most,
     };
+    each_has_stops(alloc, text, &mut script)
+}
+
+// In the end nothing fails, and all has been served.
+fn each_has_stops(alloc: Global, text: &str, script: &mut Script<'_>) -> Result<(), Fail> {
     for command in text.split('|') {
         let (lines, reply) = command.split_once("=>").unwrap_or((command, ""));
-        has_reads(alloc, &mut script, lines.len().max(1))?;
-        has_writes(alloc, &mut script, reply.len())?;
+        has_reads(alloc, script, lines.len().max(1))?;
+        has_writes(alloc, script, reply.len())?;
     }
     let all = after(alloc, script.given, script.reads)?;
-    leaves(alloc, script, None, all.as_bytes())
+    leaves(alloc, *script, None, all.as_bytes())
 }
 
 // Commands, each with its reply behind `=>`, and `|` between them; behind the last one what the end has.

@@ -1,6 +1,7 @@
 //! What `idltool diff` tells: what changes from one version of a file to another, and what of that breaks.
 
-use super::support::{Host, are_given, given};
+use super::support::{are_given, given, is_wanted};
+use std::alloc::Global;
 use std::test::Fail;
 
 static ROWS: [&str; 3] = [
@@ -23,7 +24,7 @@ static ROWS: [&str; 3] = [
 
 #[test]
 fn changes_are_told(rt: HostRuntime) -> Result<(), Fail> {
-    are_given(&rt, &ROWS)
+    are_given(rt.alloc(), &ROWS)
 }
 
 // A text in which what stands in brackets changes, and what is told of that.
@@ -64,19 +65,18 @@ static EDITS: [&str; 3] = [
 fn each_change_is_told(rt: HostRuntime) -> Result<(), Fail> {
     for table in &EDITS {
         for row in table.split('\n') {
-            is_told(&rt, row)?;
+            is_told(rt.alloc(), row)?;
         }
     }
     Ok(())
 }
 
-fn is_told(rt: &impl Host, row: &str) -> Result<(), Fail> {
+fn is_told(alloc: Global, row: &str) -> Result<(), Fail> {
     let (text, want) = row.split_once(" => ").unwrap_or((row, ""));
     let (front, rest) = text.split_once("[").unwrap_or((text, ""));
     let (edit, back) = rest.split_once("]").unwrap_or((rest, ""));
     let (old, new) = edit.split_once("->").unwrap_or((edit, ""));
-    let files = format!(in rt.alloc(); "a: {front}{old}{back} ¶ b: {front}{new}{back}")?;
-    let got = given(rt.alloc(), "idltool diff a b", files.as_str())?;
-    assert_eq!(rt; got.as_str(), want, "{row}");
-    Ok(())
+    let files = format!(in alloc; "a: {front}{old}{back} ¶ b: {front}{new}{back}")?;
+    let found = given(alloc, "idltool diff a b", files.as_str())?;
+    is_wanted(found.as_str(), want, row)
 }

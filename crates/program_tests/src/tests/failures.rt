@@ -1,9 +1,6 @@
 //! What ends the program: files that can't be read, and devices that fail.
 
-use super::support::{Files, are_given};
-use idl_server::idl_program::{Devices, Status, run_program};
-use idl_server::idl_session::{BufferSink, SliceSource};
-use std::alloc::{AllocError, Global};
+use super::support::{OutputRoom, TextFiles, are_given, told};
 use std::test::Fail;
 
 static ROWS: [&str; 3] = [
@@ -20,43 +17,35 @@ static ROWS: [&str; 3] = [
 
 #[test]
 fn loaders_fail_so(rt: HostRuntime) -> Result<(), Fail> {
-    are_given(&rt, &ROWS)
+    are_given(rt.alloc(), &ROWS)
 }
 
-// The status, where standard output takes so many bytes and standard error so many.
-fn status_with(
-    alloc: Global,
-    words: &[&str],
-    output: usize,
-    errors: usize,
-) -> Result<(Status, Vec<u8>), AllocError> {
-    let mut devices = Devices {
-        loader: Files::new(alloc, "a.idl: typedef long X; ¶ b.idl: typedef T X;"),
-        source: SliceSource::new(b"work\n"),
-        output: BufferSink::new(alloc, output)?,
-        errors: BufferSink::new(alloc, errors)?,
-    };
-    let status = run_program(alloc, words, &mut devices);
-    let told = Vec::from_slice(alloc, devices.errors.as_bytes())?;
-    Ok((status, told))
-}
-
-// Words, what each sink takes, and what standard error has in the end.
-static FULL: [(&[&str], usize, usize, &str); 6] = [
-    (&["-d", "a.idl"], 15, 99, "idlc: write failed\n"),
-    (&["-d", "a.idl"], 0, 5, "idlc:"),
-    (&["b.idl"], 99, 10, "b.idl:1: E"),
-    (&["b.idl"], 99, 0, ""),
-    (&["--session"], 3, 99, "idlc: write failed\n"),
-    (&["--version"], 3, 99, "idlc: write failed\n"),
+// Words, what each sink takes, and what is given in the end.
+static FULL: [(&str, usize, usize, &str); 6] = [
+    (
+        "-d a.idl",
+        15,
+        99,
+        "2 out typedef long X; err idlc: write failed /",
+    ),
+    ("-d a.idl", 0, 5, "2 err idlc:"),
+    ("b.idl", 99, 10, "2 err b.idl:1: E"),
+    ("b.idl", 99, 0, "2"),
+    ("--session", 3, 99, "2 out wor err idlc: write failed /"),
+    ("--version", 3, 99, "2 out idl err idlc: write failed /"),
 ];
 
 #[test]
 fn sinks_fail_so(rt: HostRuntime) -> Result<(), Fail> {
     for (words, output, errors, want) in FULL.iter() {
-        let (status, told) = status_with(rt.alloc(), words, *output, *errors)?;
-        assert_eq!(rt; status, Status::Failed, "{want}");
-        assert_eq!(rt; told.as_slice(), want.as_bytes(), "{want}");
+        let room = OutputRoom {
+            alloc: rt.alloc(),
+            output: *output,
+            errors: *errors,
+        };
+        let loader = TextFiles::new(rt.alloc(), "a.idl: typedef long X; ¶ b.idl: typedef T X;");
+        let got = told(room, words, loader, "work\n")?;
+        assert_eq!(rt; got.as_str(), *want);
     }
     Ok(())
 }

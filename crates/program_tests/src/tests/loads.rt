@@ -1,16 +1,16 @@
 //! Each name is tried once, over all roots.
 
-ghost use Rattle.idl_server.specs.idl_program.Holding.{Untold};
+ghost use Rattle.idl_server.specs.idl_loader.Holding.{Untold};
 
-use super::support::{Files, parts_of, told};
-use idl_server::idl_program::{Loaded, Loader};
+use super::support::{TextFiles, ample, parts_of, told};
+use idl_program::{Loaded, Loader};
 use idl_source::Name;
 use std::test::Fail;
 
 // Files of which none can be read a second time, nor be looked for.
 #[derive(Drop)]
 struct Once<'a> {
-    files: Files<'a>,
+    files: TextFiles<'a>,
     tried: Vec<Name>,
 }
 
@@ -52,10 +52,10 @@ fn a_name_is_tried_once(rt: HostRuntime) -> Result<(), Fail> {
     for row in ROWS.iter() {
         let (words, files, want) = parts_of(row);
         let loader = Once {
-            files: Files::new(rt.alloc(), files),
+            files: TextFiles::new(rt.alloc(), files),
             tried: Vec::new(rt.alloc()),
         };
-        let got = told(rt.alloc(), words, loader, "")?;
+        let got = told(ample(rt.alloc()), words, loader, "")?;
         assert_eq!(rt; got.as_str(), want, "{row}");
     }
     Ok(())

@@ -34,7 +34,7 @@ static ROWS: [&str; 5] = [
 
 #[test]
 fn words_give_these_rows(rt: HostRuntime) -> Result<(), Fail> {
-    are_given(&rt, &ROWS)
+    are_given(rt.alloc(), &ROWS)
 }
 
 #[test]

@@ -1,9 +1,9 @@
 //! Roots that ask for as many files as there may be.
 
-ghost use Rattle.idl_server.specs.idl_program.Holding.{Untold};
+ghost use Rattle.idl_server.specs.idl_loader.Holding.{Untold};
 
-use super::support::{loaded, told};
-use idl_server::idl_program::{Loaded, Loader};
+use super::support::{ample, loaded, told};
+use idl_program::{Loaded, Loader};
 use idl_source::Name;
 use std::alloc::{AllocError, Global};
 use std::test::Fail;
@@ -66,7 +66,7 @@ fn files_that_are_not_asked_for_take_no_room(rt: HostRuntime) -> Result<(), Fail
             count: *count,
             last,
         };
-        let got = told(alloc, words, headers, "")?;
+        let got = told(ample(alloc), words, headers, "")?;
         assert_eq!(rt; got.as_str(), *want);
     }
     Ok(())

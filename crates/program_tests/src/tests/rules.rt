@@ -22,7 +22,7 @@ static ROWS: [&str; 4] = [
 
 #[test]
 fn rules_are_told(rt: HostRuntime) -> Result<(), Fail> {
-    are_given(&rt, &ROWS)
+    are_given(rt.alloc(), &ROWS)
 }
 
 // Names of which make would read something else; those of the second text no include can have.
@@ -42,10 +42,14 @@ const INCLUDED: &str =
 #[test]
 fn names_that_make_can_not_take_are_trouble(rt: HostRuntime) -> Result<(), Fail> {
     for row in &TROUBLE {
-        are_given_so(&rt, OTHERS, row)?;
-        are_given_so(&rt, QUOTES, row)?;
+        are_given_so(rt.alloc(), OTHERS, row)?;
+        are_given_so(rt.alloc(), QUOTES, row)?;
     }
-    are_given_so(&rt, OTHERS, INCLUDED)?;
+    are_given_so(rt.alloc(), OTHERS, INCLUDED)?;
     let taken = "a_b a.b a/b a+b a-b a,b a@b a!b a~b .a -a";
-    are_given_so(&rt, taken, "idltool deps -- @ => @ => 0 out @.listing: @ /")
+    are_given_so(
+        rt.alloc(),
+        taken,
+        "idltool deps -- @ => @ => 0 out @.listing: @ /",
+    )
 }

@@ -1,6 +1,7 @@
 //! What `idltool lsp` writes for messages of an editor, and how it ends.
 
-use super::support::{Files, Host, tool_told};
+use super::support::{TextFiles, ample, is_wanted, tool_told};
+use std::alloc::Global;
 use std::test::Fail;
 
 // A status, files, messages, and behind a `=` what is written. A line that begins with blanks goes on with the one before it.
@@ -86,27 +87,26 @@ static SCRIPTS: [&str; 3] = [
 #[test]
 fn messages_are_answered(rt: HostRuntime) -> Result<(), Fail> {
     for script in SCRIPTS {
-        is_answered(&rt, script)?;
+        is_answered(rt.alloc(), script)?;
     }
     Ok(())
 }
 
-fn is_answered(rt: &impl Host, script: &str) -> Result<(), Fail> {
-    let script = script.replace(rt.alloc(), "\n    ", "")?;
+fn is_answered(alloc: Global, script: &str) -> Result<(), Fail> {
+    let script = script.replace(alloc, "\n    ", "")?;
     let (head, lines) = script.split_once('\n').unwrap_or(("", ""));
     let (status, files) = head.split_once(' ').unwrap_or((head, ""));
-    let mut input = String::new(rt.alloc());
-    let mut want = format!(in rt.alloc(); "{status} out ")?;
+    let mut input = String::new(alloc);
+    let mut want = format!(in alloc; "{status} out ")?;
     for line in lines.split('\n') {
         match line.strip_prefix('=') {
             Some(body) => write!(want, "Content-Length: {}\r /\r /{body}", body.len())?,
             None => write!(input, "Content-Length: {}\r\n\r\n{line}", line.len())?,
         }
     }
-    let loader = Files::new(rt.alloc(), files);
-    let got = tool_told(rt.alloc(), "lsp", loader, input.as_str())?;
-    assert_eq!(rt; got.as_str(), want.as_str());
-    Ok(())
+    let loader = TextFiles::new(alloc, files);
+    let found = tool_told(ample(alloc), "lsp", loader, input.as_str())?;
+    is_wanted(found.as_str(), want.as_str(), head)
 }
 
 // Inputs that no message, or only a part of one, stands at the end of.
@@ -122,7 +122,8 @@ static BROKEN: [&str; 6] = [
 #[test]
 fn inputs_that_break_off_end_it(rt: HostRuntime) -> Result<(), Fail> {
     for input in BROKEN {
-        let got = tool_told(rt.alloc(), "lsp", Files::new(rt.alloc(), ""), input)?;
+        let loader = TextFiles::new(rt.alloc(), "");
+        let got = tool_told(ample(rt.alloc()), "lsp", loader, input)?;
         assert_eq!(rt; got.as_str(), "1", "{input}");
     }
     Ok(())

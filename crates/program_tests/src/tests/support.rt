@@ -1,39 +1,47 @@
-//! What the tests share: the programs over files of a text, and rows of what they give; scripts with their replies.
+//! What the tests share: the programs over files of a text, and rows of what they give.
 
-ghost use Rattle.idl_server.specs.idl_program.Holding.{Untold};
+ghost use Rattle.idl_server.specs.idl_loader.Holding.{Untold};
 
+use idl_program::{Devices, Loaded, Loader, PathLoader, Status, run_program};
 use idl_server::LanguageServer;
-use idl_server::idl_program::{Devices, Loaded, Loader, PathLoader, Status, run_program};
-use idl_server::idl_session::{BufferSink, SliceSource};
 use idl_source::Name;
+use idl_source::devices::{BufferSink, SliceSource};
 use idl_tool::run_tool;
-use std::alloc::{AllocError, AllocGlobal, Global};
-use std::process::Abort;
+use std::alloc::{AllocError, Global};
 use std::test::Fail;
 
-/// What runs a test.
-pub trait Host: Abort + AllocGlobal {}
+/// Memory, and how many bytes standard output and standard error take.
+#[derive(Clone, Copy)]
+pub struct OutputRoom {
+    pub alloc: Global,
+    pub output: usize,
+    pub errors: usize,
+}
 
-impl<T: Abort + AllocGlobal> Host for T {}
-
-// Bytes that each of the two sinks takes.
-const ROOM: usize = 100_000;
+/// Room for all that is written.
+pub fn ample(alloc: Global) -> OutputRoom {
+    OutputRoom {
+        alloc,
+        output: 100_000,
+        errors: 100_000,
+    }
+}
 
 /// Files in a text: each is `NAME: LINE | LINE`, and ` ¶ ` stands between two. `¬` in a line is a carriage return. A file `NAME!` can't be
 /// read, and there is no memory for a file `NAME?`.
 #[derive(Drop)]
-pub struct Files<'a> {
+pub struct TextFiles<'a> {
     alloc: Global,
     text: &'a str,
 }
 
-impl<'a> Files<'a> {
-    pub fn new(alloc: Global, text: &'a str) -> Files<'a> {
-        Files { alloc, text }
+impl<'a> TextFiles<'a> {
+    pub fn new(alloc: Global, text: &'a str) -> TextFiles<'a> {
+        TextFiles { alloc, text }
     }
 }
 
-impl<'a> Loader for Files<'a> {
+impl<'a> Loader for TextFiles<'a> {
     ghost told = { λ _ _. Untold };
 
     fn load(&mut self, name: &Name) -> Loaded {
@@ -53,7 +61,7 @@ impl<'a> Loader for Files<'a> {
     }
 }
 
-impl<'a> PathLoader for Files<'a> {
+impl<'a> PathLoader for TextFiles<'a> {
     ghost told_of = { λ _ _. Untold };
 
     fn load_path(&mut self, path: &[u8]) -> Loaded {
@@ -89,49 +97,49 @@ fn file_bytes(alloc: Global, lines: &str) -> Result<Vec<u8>, AllocError> {
 /// What a program gives over files of a text: its status, what it wrote to standard output, and what to standard error, with ` / ` for a
 /// newline.
 pub fn given(alloc: Global, command: &str, files: &str) -> Result<String, AllocError> {
-    let loader = Files::new(alloc, files);
+    let loader = TextFiles::new(alloc, files);
     if let Some(words) = command.strip_prefix("idltool") {
-        return tool_told(alloc, words, loader, "");
+        return tool_told(ample(alloc), words, loader, "");
     }
     let words = command.strip_prefix("idlc").unwrap_or(command);
-    told(alloc, words, loader, "")
+    told(ample(alloc), words, loader, "")
 }
 
 /// What `idlc` gives for these words, over the files of a loader and this input.
 pub fn told<L: Loader + Drop>(
-    alloc: Global,
+    room: OutputRoom,
     words: &str,
     loader: L,
     input: &str,
 ) -> Result<String, AllocError> {
-    let list = list_of(alloc, words)?;
+    let list = list_of(room.alloc, words)?;
     let mut devices = Devices {
         loader,
         source: SliceSource::new(input.as_bytes()),
-        output: BufferSink::new(alloc, ROOM)?,
-        errors: BufferSink::new(alloc, ROOM)?,
+        output: BufferSink::new(room.alloc, room.output)?,
+        errors: BufferSink::new(room.alloc, room.errors)?,
     };
-    let status = run_program(alloc, &list, &mut devices);
-    text_of(alloc, status, &devices.output, &devices.errors)
+    let status = run_program(room.alloc, &list, &mut devices);
+    text_of(room.alloc, status, &devices.output, &devices.errors)
 }
 
 /// What `idltool` gives for these words, over files of a text and this input.
 pub fn tool_told(
-    alloc: Global,
+    room: OutputRoom,
     words: &str,
-    loader: Files<'_>,
+    loader: TextFiles<'_>,
     input: &str,
 ) -> Result<String, AllocError> {
-    let list = list_of(alloc, words)?;
+    let list = list_of(room.alloc, words)?;
     let mut devices = idl_tool::Devices {
         loader,
-        output: BufferSink::new(alloc, ROOM)?,
-        errors: BufferSink::new(alloc, ROOM)?,
-        service: LanguageServer::new(alloc),
+        output: BufferSink::new(room.alloc, room.output)?,
+        errors: BufferSink::new(room.alloc, room.errors)?,
+        service: LanguageServer::new(room.alloc),
     };
     let mut source = SliceSource::new(input.as_bytes());
-    let status = run_tool(alloc, &list, &mut source, &mut devices);
-    text_of(alloc, status, &devices.output, &devices.errors)
+    let status = run_tool(room.alloc, &list, &mut source, &mut devices);
+    text_of(room.alloc, status, &devices.output, &devices.errors)
 }
 
 // The status, and what was written.
@@ -164,22 +172,29 @@ fn list_of<'w>(alloc: Global, words: &'w str) -> Result<Vec<&'w str>, AllocError
     Ok(list)
 }
 
+/// What is found is what is wanted of a row.
+pub fn is_wanted(found: &str, want: &str, row: &str) -> Result<(), Fail> {
+    if found == want {
+        return Ok(());
+    }
+    Err(Fail::new(format_args!("{row}: {found}, not {want}")))
+}
+
 /// Each row of these tables has a program with its words, files, and what it gives, with ` => ` between.
-pub fn are_given(rt: &impl Host, tables: &[&str]) -> Result<(), Fail> {
+pub fn are_given(alloc: Global, tables: &[&str]) -> Result<(), Fail> {
     for table in tables {
         for row in table.split('\n') {
-            is_given(rt, row)?;
+            is_given(alloc, row)?;
         }
     }
     Ok(())
 }
 
 /// The same of one row.
-pub fn is_given(rt: &impl Host, row: &str) -> Result<(), Fail> {
+pub fn is_given(alloc: Global, row: &str) -> Result<(), Fail> {
     let (command, files, want) = parts_of(row);
-    let got = given(rt.alloc(), command, files)?;
-    assert_eq!(rt; got.as_str(), want, "{row}");
-    Ok(())
+    let found = given(alloc, command, files)?;
+    is_wanted(found.as_str(), want, row)
 }
 
 /// The three parts of a row.
@@ -190,39 +205,10 @@ pub fn parts_of(row: &str) -> (&str, &str, &str) {
 }
 
 /// The same of a row in which each of these names, with blanks between, stands for `@`.
-pub fn are_given_so(rt: &impl Host, names: &str, row: &str) -> Result<(), Fail> {
+pub fn are_given_so(alloc: Global, names: &str, row: &str) -> Result<(), Fail> {
     for name in names.split(' ') {
-        let row = row.replace(rt.alloc(), "@", name)?;
-        is_given(rt, row.as_str())?;
+        let row = row.replace(alloc, "@", name)?;
+        is_given(alloc, row.as_str())?;
     }
-    Ok(())
-}
-
-/// What `idlc --session` replies.
-pub fn replies(alloc: Global, commands: &str) -> Result<String, AllocError> {
-    told(alloc, "--session", Files::new(alloc, ""), commands)
-}
-
-/// For each text, with ` ¶ ` between one and the next, a new session replies to the lines without `=` by the other lines.
-pub fn have_replies(rt: &impl Host, texts: &[&str]) -> Result<(), Fail> {
-    for list in texts {
-        for text in list.split(" ¶ ") {
-            has_replies(rt, text)?;
-        }
-    }
-    Ok(())
-}
-
-fn has_replies(rt: &impl Host, text: &str) -> Result<(), Fail> {
-    let mut script = String::new(rt.alloc());
-    let mut want = String::from_str(rt.alloc(), "0 out ")?;
-    for line in text.split('\n') {
-        match line.strip_prefix('=') {
-            Some(line) => write!(want, "{line} /")?,
-            None => write!(script, "{line}\n")?,
-        }
-    }
-    let got = replies(rt.alloc(), script.as_str())?;
-    assert_eq!(rt; got.as_str(), want.as_str(), "{script}");
     Ok(())
 }

@@ -4,14 +4,14 @@ use Rattle.std.specs.Map.{lookup}
 use Rattle.std.specs.Str.{bytes_eq}
 use Rattle.idl_changes.specs.Joined.{of_id}
 use Rattle.idl_changes.specs.Numbered.{AreCounts, ArePlaces, numbered_eq}
-use Rattle.idl_changes.specs.declared.joined.Numbered.{Numbered}
+use Rattle.idl_changes.specs.declared.joined.EntryKey.{EntryKey}
 use Rattle.idl_changes.proofs.JoinedLemmas.{count-within, counts-more, places-more, take-next}
 use Rattle.idl_repo.specs.declared.details.row_tree.RowTree.{RowTree}
 use Rattle.idl_changes.proofs.joined.places.Goals as goal
 
 pub loop-place-init : goal.loop-place-init
 loop-place-init c = record {
-  places = λ id n. ap (λ (m : List (Numbered × ℕ)). lookup (numbered_eq (record { id = id; number = n })) m) c.in_ok-places.ensures;
+  places = λ id n. ap (λ (m : List (EntryKey × ℕ)). lookup (numbered_eq (record { id = id; number = n })) m) c.in_ok-places.ensures;
   counts = λ id. ap (λ (m : List (List ℕ × ℕ)). unwrap_or (lookup (bytes_eq id) m) 0) c.in_ok-counts.ensures;
 }
 

@@ -3,7 +3,7 @@ use Rattle.idl_session.specs.idl_project.Project.{no_project}
 use Rattle.idl_session.specs.idl_project.Work.{no_work}
 use Rattle.idl_program.specs.Compiled.{Written}
 use Rattle.idl_program.specs.Served.{AreAnswered, IsDone}
-use Rattle.idl_program.specs.declared.failure.Status.TheVariants.{Sound}
+use Rattle.idl_loader.specs.declared.status.Status.TheVariants.{Sound}
 use Rattle.idl_program.specs.declared.request.Request.{Request}
 use Rattle.idl_program.proofs.ServedLemmas.{answered}
 use Rattle.idl_program.proofs.program.fulfil.Goals as goal

@@ -15,11 +15,11 @@ returns-clause-compiled g c =
     let bank = g.B.Bank.at c.args.bank.now in
     let kept = c.args.kept.now in
     let rows : c.in_ok-rows.rows ≡ compile (end_of bank kept.text) kept.out =
-    c.in_ok-rows.ensures.compiled ∙ (λ i. compile ((c.in_ok-end.ensures ∙ ap (end_of bank) c.text.ensures) i) (c.out.ensures i)) in
-    let names : c.from_vec.result ≡ absent_files kept.log = c.from_vec.ensures ∙ c.in_ok-names.ensures ∙ ap absent_files c.log.ensures in
+    c.in_ok-rows.ensures.compiled ∙ (λ i. compile ((c.in_ok-end.ensures ∙ ap (end_of bank) c.root_name.ensures) i) (c.root_expansion.ensures i)) in
+    let names : c.from_vec.result ≡ absent_files kept.log = c.from_vec.ensures ∙ c.in_ok-names.ensures in
     (λ i. record { rows = rows i; absent = names i }) ∙ compile-kept bank kept c.requires
 
 pub returns-clause-turns : goal.returns-clause-turns
 returns-clause-turns g c =
-    let is = c.out.ensures ∙ ap (λ (p : List Event × List (RootKey × Option RootAnswer)). p.0) c.requires in
+    let is = c.root_expansion.ensures ∙ ap (λ (p : List Event × List (RootKey × Option RootAnswer)). p.0) c.requires in
     subst IsWithinTurns is c.in_ok-rows.ensures.turns

@@ -17,23 +17,23 @@ returns-clause-compiled g c =
     let bank = g.B.Bank.at c.args.bank.now in
     let kept = c.args.root.result.now in
     let rows : c.in_ok-rows.field-0.compiled ≡ compile (end_of bank kept.text) kept.out =
-    c.in_ok-rows.ensures.compiled ∙ (λ i. compile ((c.in_ok-end.ensures ∙ ap (end_of bank) c.text.ensures) i) (c.out.ensures i)) in
-    let names : c.from_vec.result ≡ absent_files kept.log = c.from_vec.ensures ∙ c.in_ok-names.ensures ∙ ap absent_files c.log.ensures in
+    c.in_ok-rows.ensures.compiled ∙ (λ i. compile ((c.in_ok-end.ensures ∙ ap (end_of bank) c.root_name.ensures) i) (c.root_expansion.ensures i)) in
+    let names : c.from_vec.result ≡ absent_files kept.log = c.from_vec.ensures ∙ c.in_ok-names.ensures in
     (λ i. record { rows = rows i; absent = names i }) ∙ compile-kept bank kept c.requires.over
 
 pub returns-clause-turns : goal.returns-clause-turns
 returns-clause-turns g c =
-    let is = c.out.ensures ∙ ap (λ (p : List Event × List (RootKey × Option RootAnswer)). p.0) c.requires.over in
+    let is = c.root_expansion.ensures ∙ ap (λ (p : List Event × List (RootKey × Option RootAnswer)). p.0) c.requires.over in
     subst IsWithinTurns is c.in_ok-rows.ensures.turns
 
 pub returns-clause-marks : goal.returns-clause-marks
 returns-clause-marks g c =
-    let is = c.out.ensures ∙ ap (λ (p : List Event × List (RootKey × Option RootAnswer)). p.0) c.requires.over in
+    let is = c.root_expansion.ensures ∙ ap (λ (p : List Event × List (RootKey × Option RootAnswer)). p.0) c.requires.over in
     c.in_ok-rows.ensures.marks ∙ ap root_marks is
 
 pub returns-clause-tasks : goal.returns-clause-tasks
 returns-clause-tasks g c = λ was kept.
-    let is = c.out.ensures ∙ ap (λ (p : List Event × List (RootKey × Option RootAnswer)). p.0) c.requires.over in
+    let is = c.root_expansion.ensures ∙ ap (λ (p : List Event × List (RootKey × Option RootAnswer)). p.0) c.requires.over in
     subst
     (λ (es : List Event). IsAsBefore was es c.args.keeper.now c.compile_kept.new.keeper c.args.meter.now c.compile_kept.new.meter
     ⊎ IsMade es c.args.root.at c.args.keeper.now c.compile_kept.new.keeper c.args.meter.now c.compile_kept.new.meter) is
@@ -41,7 +41,7 @@ returns-clause-tasks g c = λ was kept.
 
 pub returns-clause-first : goal.returns-clause-first
 returns-clause-first g c =
-    let is = c.out.ensures ∙ ap (λ (p : List Event × List (RootKey × Option RootAnswer)). p.0) c.requires.over in
+    let is = c.root_expansion.ensures ∙ ap (λ (p : List Event × List (RootKey × Option RootAnswer)). p.0) c.requires.over in
     none-weaker c.args.root.compiled
-    (IsDrafted-from (g.B.Bank.at c.args.bank.now) c.args.root.at c.args.root.result.now.text c.out.result.now c.args.keeper.now c.compile_kept.new.keeper c.args.meter.now c.compile_kept.new.meter is)
+    (IsDrafted-from (g.B.Bank.at c.args.bank.now) c.args.root.at c.args.root.result.now.text c.root_expansion.result.now c.args.keeper.now c.compile_kept.new.keeper c.args.meter.now c.compile_kept.new.meter is)
     c.in_ok-rows.ensures.first

@@ -15,6 +15,5 @@ returns-in-Some c =
 pub returns : goal.returns
 returns c =
     let events = c.args.expansion.now in
-    let told = subst (λ (out : List Event). AreTold out c.in_ok-told.told.items) c.units.invariant.1 c.in_ok-told.ensures in
     IfOk-weaker c.matched.result (λ related. (out : List Event) → AreTold out c.in_ok-told.told.items → AreRelated out c.args.findings.now related)
-    (AreRelated events c.args.findings.now) (λ related given. given events told) c.matched.ensures
+    (AreRelated events c.args.findings.now) (λ related given. given events c.in_ok-told.ensures) c.matched.ensures

@@ -5,7 +5,7 @@ use Rattle.idl_related.specs.idl_project.Compile.{compiled_root}
 use Rattle.idl_program.specs.Loading.{AreCompiled}
 use Rattle.idl_program.specs.Options.{AreAsked}
 use Rattle.idl_program.specs.Rows.{are_faulty}
-use Rattle.idl_program.specs.declared.failure.Status.TheVariants.{Faulty, Sound}
+use Rattle.idl_program.specs.idl_loader.declared.status.Status.TheVariants.{Faulty, Sound}
 use Rattle.idl_tool.specs.Json.{IsLineOf}
 use Rattle.idl_tool.proofs.DepsLemmas.{ending-of}
 use Rattle.idl_tool.proofs.json.write_json.Goals as goal

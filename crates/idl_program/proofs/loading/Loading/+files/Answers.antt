@@ -1,5 +1,5 @@
 use Rattle.std.proofs.Common.{ℕ, List, ap}
-use Rattle.idl_program.specs.Holding.{Holding}
+use Rattle.idl_loader.specs.Holding.{Holding}
 use Rattle.idl_program.specs.Tried.{IsLoading}
 use Rattle.idl_program.specs.declared.loading.Loading.{Loading}
 use Rattle.idl_program.proofs.LoadingLemmas.{loading-more, loading-named}

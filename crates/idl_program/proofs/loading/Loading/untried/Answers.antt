@@ -2,7 +2,7 @@ use Rattle.std.proofs.Common.{ℕ, All, Contains, List, sym, take}
 use Rattle.std.proofs.lemmas.List.{take_all}
 use Rattle.std.proofs.lemmas.List.Elements.{All-same}
 use Rattle.idl_session.specs.idl_project.declared.compile.CompiledRoot.{CompiledRoot}
-use Rattle.idl_program.proofs.LoadingLemmas.{All-take_more}
+use Rattle.idl_loader.proofs.ListLemmas.{All-take_more}
 use Rattle.idl_program.proofs.loading.Loading.untried.Goals as goal
 
 pub roots-preserved : goal.roots-preserved

@@ -5,7 +5,7 @@ use Rattle.std.specs.Cmp.Lexicographic.{bytes_decides}
 use Rattle.std.specs.List.{list_any}
 use Rattle.std.specs.Str.{bytes_eq}
 use Rattle.indexmap.proofs.CallerLemmas.{Contains-list_any}
-use Rattle.idl_program.proofs.LoadingLemmas.{All-take_more}
+use Rattle.idl_loader.proofs.ListLemmas.{All-take_more}
 use Rattle.idl_program.proofs.loading.Loading.untried_among.Goals as goal
 
 pub names-preserved : goal.names-preserved

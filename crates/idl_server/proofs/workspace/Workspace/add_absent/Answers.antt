@@ -4,7 +4,7 @@ use Rattle.std.proofs.lemmas.List.Elements.{All-same}
 use Rattle.std.specs.Map.{lookup}
 use Rattle.std.specs.Prelude.{All, ◌≡◌}
 use Rattle.std.specs.Str.{bytes_eq}
-use Rattle.idl_program.proofs.LoadingLemmas.{All-take_more}
+use Rattle.idl_loader.proofs.ListLemmas.{All-take_more}
 use Rattle.idl_server.specs.Files.{IsTried}
 use Rattle.idl_server.proofs.RootLemmas.{all-inserted, some-inserted}
 use Rattle.idl_server.proofs.workspace.Workspace.add_absent.Goals as goal

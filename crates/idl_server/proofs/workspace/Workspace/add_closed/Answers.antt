@@ -4,7 +4,7 @@ use Rattle.std.proofs.lemmas.List.Elements.{All-same, All-weaker}
 use Rattle.std.specs.List.{list_any}
 use Rattle.std.specs.Map.{lookup}
 use Rattle.std.specs.Str.{bytes_eq}
-use Rattle.idl_program.proofs.LoadingLemmas.{All-take_more}
+use Rattle.idl_loader.proofs.ListLemmas.{All-take_more}
 use Rattle.idl_server.specs.Files.{IsAmong}
 use Rattle.idl_server.proofs.FileLemmas.{none-there}
 use Rattle.idl_server.proofs.RootLemmas.{all-inserted, one-among, still-among}

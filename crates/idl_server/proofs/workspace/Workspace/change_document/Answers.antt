@@ -2,7 +2,7 @@ use Rattle.std.proofs.Common.{ℕ, List, Option, ap, is_some, subst, sym}
 use Rattle.std.proofs.lemmas.Result.{on_ok_weaker}
 use Rattle.idl_source.specs.texts.Cut.{cut_lines}
 use Rattle.idl_editor.specs.Splices.{IsSplice}
-use Rattle.idl_program.specs.Holding.{Holding}
+use Rattle.idl_loader.specs.Holding.{Holding}
 use Rattle.idl_server.specs.Files.{IsFiled}
 use Rattle.idl_server.specs.declared.document.Document.{Document}
 use Rattle.idl_server.proofs.workspace.Workspace.change_document.Goals as goal

@@ -1,5 +1,5 @@
 use Rattle.std.proofs.Common.{ℕ, List, refl, subst, sym}
-use Rattle.idl_program.specs.Holding.{Allows, NoFile}
+use Rattle.idl_loader.specs.Holding.{Allows, NoFile}
 use Rattle.idl_server.proofs.WorkspaceLemmas.{all-missing}
 use Rattle.idl_server.proofs.workspace.Workspace.keep_missing.Goals as goal
 

@@ -4,7 +4,7 @@ use Rattle.std.specs.List.{list_any}
 use Rattle.std.specs.Str.{bytes_eq}
 use Rattle.idl_related.specs.idl_project.Edits.{Put, after}
 use Rattle.idl_related.specs.idl_project.UpToDate.{State}
-use Rattle.idl_program.specs.Loading.{IsFileOf}
+use Rattle.idl_loader.specs.Holding.{IsFileOf}
 use Rattle.idl_server.specs.Edited.{IsSameButFor}
 use Rattle.idl_server.specs.Files.{StaysBeside}
 use Rattle.idl_server.proofs.FileLemmas.{put-alone, put-lines, same-self, some-same}

@@ -7,7 +7,7 @@ use Rattle.std.specs.Result.{OnOk}
 use Rattle.std.specs.Str.{bytes_eq}
 use Rattle.idl_related.specs.idl_project.Batch.{edit_of}
 use Rattle.idl_related.specs.idl_project.Edits.{Edit}
-use Rattle.idl_program.specs.Holding.{Holding}
+use Rattle.idl_loader.specs.Holding.{Holding}
 use Rattle.idl_server.specs.Files.{AreFiled, told_by}
 use Rattle.idl_server.specs.Loading.{IsLoadedEdit, StaysOpen}
 use Rattle.idl_server.specs.declared.document.Document.{Document}

@@ -2,7 +2,7 @@ use Rattle.std.proofs.Common.{◌≡◌, ◌∙◌, ℕ, List, None, subst, sym}
 use Rattle.std.proofs.lemmas.List.Elements.{All-get_or}
 use Rattle.std.specs.Map.{lookup}
 use Rattle.std.specs.Str.{bytes_eq}
-use Rattle.idl_program.specs.Holding.{Holding}
+use Rattle.idl_loader.specs.Holding.{Holding}
 use Rattle.idl_server.specs.Files.{AreFiled, told_by}
 use Rattle.idl_server.proofs.WorkspaceLemmas.{open-both, reloaded-one}
 use Rattle.idl_server.proofs.workspace.Workspace.reload_each.Goals as goal

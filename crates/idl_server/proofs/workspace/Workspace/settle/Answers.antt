@@ -1,5 +1,5 @@
 use Rattle.std.proofs.Common.{◌≡◌, ◌∙◌, ℕ, List, refl, subst, sym}
-use Rattle.idl_program.specs.Holding.{Holding}
+use Rattle.idl_loader.specs.Holding.{Holding}
 use Rattle.idl_server.specs.Files.{AreFiled, told_by}
 use Rattle.idl_server.proofs.CoveredLemmas.{rooted-fewer}
 use Rattle.idl_server.proofs.WorkspaceLemmas.{all-stay, set-both, set-filed, set-same, tried-kept}

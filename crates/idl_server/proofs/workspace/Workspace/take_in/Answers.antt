@@ -1,7 +1,7 @@
 use Rattle.std.proofs.Common.{◌≡◌, ◌∙◌, ℕ, List, subst, sym}
 use Rattle.std.proofs.lemmas.Result.{on_ok_weaker}
 use Rattle.std.specs.Result.{OnOk}
-use Rattle.idl_program.specs.Holding.{Holding}
+use Rattle.idl_loader.specs.Holding.{Holding}
 use Rattle.idl_server.specs.Documents.{texts_of}
 use Rattle.idl_server.specs.Files.{AreFiled, StaysSet, told_by}
 use Rattle.idl_server.proofs.HeldLemmas.{held-after}

@@ -18,7 +18,7 @@ returns c =
     let following = c.args.self.now in
     let first = c.in_ok-declaration.ensures.first in
     let yes : c.shares_none_of.result ≡ true = search rules in
-    let log : c.log.result.now ≡ k.log = c.log.ensures in
+    let log : c.unit_log.result.now ≡ k.log = c.unit_log.ensures in
     let apart : ShareNone (map (λ e. key_digest e.0) k.log) following.changed = subst (λ l. ShareNone (map (λ e. key_digest e.0) l) following.changed) log (c.shares_none_of.ensures yes) in
     record {
       result = k;

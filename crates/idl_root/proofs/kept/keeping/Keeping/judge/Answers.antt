@@ -36,7 +36,7 @@ ask-requires-clause-held c =
       | in-Some+in_ok-declaration-in-Some w ↦ ap (λ (d : Rc DeclarationResult Global). d.value) w.declaration-is ∙ w.in_ok-declaration-in-Some.ensures.obtained.result_is
       | in-None+in_ok-declaration-in-None w ↦ ap (λ (d : Rc DeclarationResult Global). d.value) w.declaration-is ∙ w.in_ok-declaration-in-None.ensures.obtained.result_is
     ] in
-    subst (λ l. HoldsIn (answers c.args.env.now) l) (sym (c.log.ensures ∙ ap (λ (k : DeclarationResult). k.log) (c.deref.ensures ∙ own))) (own-alike here).answers
+    subst (λ l. HoldsIn (answers c.args.env.now) l) (sym (c.unit_log.ensures ∙ ap (λ (k : DeclarationResult). k.log) (c.deref.ensures ∙ own))) (own-alike here).answers
 
 pub returns-clause-blocks : goal.returns-clause-blocks
 returns-clause-blocks c =
@@ -51,7 +51,7 @@ returns-clause-blocks c =
       | in-Some+in_ok-declaration-in-Some w ↦ ap (λ (k : Keeping). k.blocks.blocks) w.self-is ∙ ap (λ (k : Keeping). k.blocks.blocks) w.judged.ensures.rest ∙ ap (λ (k : Keeping). k.blocks.blocks) c.caught_up.ensures.rest
       | in-None+in_ok-declaration-in-None w ↦ ap (λ (k : Keeping). k.blocks.blocks) w.self-is ∙ ap (λ (k : Keeping). k.blocks.blocks) w.obtained.ensures.rest ∙ ap (λ (k : Keeping). k.blocks.blocks) c.caught_up.ensures.rest
     ] in
-    let log = c.log.ensures ∙ ap (λ (k : DeclarationResult). k.log) (c.deref.ensures ∙ own) in
+    let log = c.unit_log.ensures ∙ ap (λ (k : DeclarationResult). k.log) (c.deref.ensures ∙ own) in
     subst (λ bs. AllGoOn env (Text c.args.text.now ∷ []) old bs) (sym (c.in_ok-ask.ensures.blocks ∙ (λ i. map (with_asked env (log i)) (same i)))) (c.noting.ensures.unit env c.args.text.now old)
 
 pub returns-clause-keys : goal.returns-clause-keys
@@ -70,7 +70,7 @@ returns-clause-keys c =
       | in-Some+in_ok-declaration-in-Some w ↦ ap (λ (k : Keeping). k.keys) w.self-is ∙ ap (λ (k : Keeping). k.keys) w.judged.ensures.rest ∙ ap (λ (k : Keeping). k.keys) c.caught_up.ensures.rest
       | in-None+in_ok-declaration-in-None w ↦ ap (λ (k : Keeping). k.keys) w.self-is ∙ ap (λ (k : Keeping). k.keys) w.obtained.ensures.rest ∙ ap (λ (k : Keeping). k.keys) c.caught_up.ensures.rest
     ] in
-    let log = c.log.ensures ∙ ap (λ (k : DeclarationResult). k.log) (c.deref.ensures ∙ own) in
+    let log = c.unit_log.ensures ∙ ap (λ (k : DeclarationResult). k.log) (c.deref.ensures ∙ own) in
     c.in_ok-ask.ensures.keys ∙ (λ i. keys_behind (same i) (keys i) (length (log i)))
 
 pub ask-requires-clause-noted : goal.ask-requires-clause-noted

@@ -16,9 +16,9 @@ returns-in_ok-self-in-Some-clause-obtained c =
     let env = c.args.env.now in
     let place : DeclarationPlace = (c.args.text.now, answers env) in
     let taken = at-some c.in_ok-declaration.field-0 c.in-Some.declaration _ c.in-Some.is c.in_ok-declaration.ensures.again c.args.self.now.earlier env c.requires in
-    let asked : c.len.result ≡ length c.in-Some.declaration.value.log = search rules in
-    let keys : c.len.result ≡ length (declaration_result place).log = asked ∙ ap (λ (k : DeclarationResult). length k.log) taken.result_is in
-    taken-last Check place (declaration_result place) c.args.self.now.meter c.compare.new.meter c.len.result keys c.compare.ensures.counts c.compare.ensures.keys taken
+    let asked : c.unit_keys.result ≡ length c.in-Some.declaration.value.log = search rules in
+    let keys : c.unit_keys.result ≡ length (declaration_result place).log = asked ∙ ap (λ (k : DeclarationResult). length k.log) taken.result_is in
+    taken-last Check place (declaration_result place) c.args.self.now.meter c.compare.new.meter c.unit_keys.result keys c.compare.ensures.counts c.compare.ensures.keys taken
 
 pub returns-in_ok-self-in-Some-clause-lists : goal.returns-in_ok-self-in-Some-clause-lists
 returns-in_ok-self-in-Some-clause-lists c =
@@ -31,9 +31,9 @@ returns-in_ok-self-in-Some-clause-follows c =
     let lists = c.args.kept.now.declarations.lists in
     let earlier = c.args.self.now.earlier in
     let taken = at-some c.in_ok-declaration.field-0 c.in-Some.declaration _ c.in-Some.is c.in_ok-declaration.ensures.again earlier env c.requires in
-    let shown : c.get.result.now ≡ c.in-Some.declaration.value.out.writes = search rules in
-    let facts : c.get.result.now ≡ (verdict_over env c.args.text.now).writes = shown ∙ ap (λ (k : DeclarationResult). k.out.writes) taken.result_is in
-    let next : IsNext lists c.get.result.now before.course = subst (λ w. IsNext lists w before.course) (sym shown) (at-some c.in_ok-declaration.field-0 c.in-Some.declaration _ c.in-Some.is c.in_ok-declaration.ensures.next) in
+    let shown : c.get-facts.result.now ≡ c.in-Some.declaration.value.out.writes = search rules in
+    let facts : c.get-facts.result.now ≡ (verdict_over env c.args.text.now).writes = shown ∙ ap (λ (k : DeclarationResult). k.out.writes) taken.result_is in
+    let next : IsNext lists c.get-facts.result.now before.course = subst (λ w. IsNext lists w before.course) (sym shown) (at-some c.in_ok-declaration.field-0 c.in-Some.declaration _ c.in-Some.is c.in_ok-declaration.ensures.next) in
     let own = c.in_ok-self-in-Some.field-0 in
     subst (λ (s : Stored DeclarationResult). IfSome own (λ f. IsFollowed s.lists earlier f (env ++ (verdict_over env c.args.text.now).writes ∷ []))) (sym taken.new_is)
     (some-weaker own _ _ (λ f more. subst (λ w. IsFollowed lists earlier f (env ++ w ∷ [])) facts (more lists earlier next c.requires)) c.in_ok-self-in-Some.ensures)

@@ -22,13 +22,13 @@ returns-clause-obtained c =
     let after = c.compare.new.meter in
     let found = c.in_ok-found.found.value in
     let place : DeclarationPlace = (c.in_ok-clone.field-0, answers c.args.env.now) in
-    let asked : c.len.result ≡ length found.log = search rules in
-    let keys : c.len.result ≡ length (declaration_result place).log = asked ∙ ap (λ (k : DeclarationResult). length k.log) c.in_ok-found.ensures.result in
+    let asked : c.unit_keys.result ≡ length found.log = search rules in
+    let keys : c.unit_keys.result ≡ length (declaration_result place).log = asked ∙ ap (λ (k : DeclarationResult). length k.log) c.in_ok-found.ensures.result in
     let same : count_of Check between ≡ count_of Check before = grind (arith, nat_tests, c.if-self-before.false) in
     subst (λ (t : UnitText). IsDeclarationLast (t, answers c.args.env.now) old c.obtain.new.self.declarations before after found)
     (copy-law c.args.text.now c.in_ok-clone.field-0 c.in_ok-clone.ensures.cases)
     (obtained-last c.in_ok-found.ensures.result (ap (λ (t : Texts). t.declarations) c.in_ok-found.ensures.ok)
-    (met-alike Check place (declaration_result place) before (results_in old) between c.in_ok-found.ensures.meter same after c.len.result keys c.compare.ensures.counts c.compare.ensures.keys))
+    (met-alike Check place (declaration_result place) before (results_in old) between c.in_ok-found.ensures.meter same after c.unit_keys.result keys c.compare.ensures.counts c.compare.ensures.keys))
 
 -- one that was run
 pub returns-then-self-before-clause-obtained : goal.returns-then-self-before-clause-obtained

@@ -56,7 +56,7 @@ loop-name-preserved c =
     let rows = c.in_ok-add.ensures.rows ∙ ap (λ (e : Entry). printed.rows.items ++ option_to_list e.row) entry in
     let grows = c.in_ok-entry.ensures.obtained.new_is in
     let met = c.in_ok-entry.ensures.obtained.obtained in
-    let asked : c.len.result ≡ entry_keys place = c.len.ensures ∙ ap length c.log.ensures ∙ ap (λ (k : EntryResult). length k.log) (c.deref.ensures ∙ c.in_ok-entry.ensures.obtained.result_is) in
+    let asked : c.entry_keys.result ≡ entry_keys place = c.entry_keys.ensures ∙ ap (λ (k : EntryResult). length k.log) (c.deref.ensures ∙ c.in_ok-entry.ensures.obtained.result_is) in
     let keys : c.saturating_add-keys.result ≡ compared_after c.loop-name.keys (entry_keys place) = search rules in
     let inv = c.loop-name.invariant in (
       printed-more (closing_finding env) printed.findings.items c.add.new.self.findings.items listed c.loop-name.name-index name c.loop-name-test.true c.name-item.is findings ∙ inv.0,

@@ -1,0 +1,13 @@
+//! Where a program's files come from, how it ends, and what serves an editor in its place.
+//!
+//! Nothing here opens a disk or a terminal, and nothing knows a session: who compiles and who serves an editor load files alike.
+#![tactic(auto)]
+
+mod loader;
+mod service;
+mod status;
+
+pub use idl_source;
+pub use loader::{Loaded, Loader, PathLoader};
+pub use service::{Service, ServiceFault};
+pub use status::Status;

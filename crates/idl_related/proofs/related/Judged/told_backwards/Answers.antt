@@ -1,9 +1,0 @@
-use Rattle.std.proofs.lemmas.List.Sorted.{All-permutation}
-use Rattle.idl_related.specs.Related.{AreAtTokens}
-use Rattle.idl_related.specs.declared.related.Told.{Told}
-use Rattle.idl_related.proofs.related.Judged.told_backwards.Goals as goal
-
-pub returns : goal.returns
-returns c =
-    All-permutation (λ (t : Told). AreAtTokens c.args.self.expansion.now t.related) c.args.self.told.items c.sort_by.new.self.items
-    c.in_ok-sort_by.ensures.permutation c.requires.told
