@@ -115,10 +115,8 @@ fn digests_of_opening(alloc: Global, path: &Path) -> Result<Vec<u64>, AllocError
     ensures { IfOk result (λ digests.
         digests.items ≡ map key_digest (key.Cursor ∷ key.Opened path.now ∷ key.Prefix ∷ [])) }
 {
-    let mut digests = digest_alone(alloc, &Key::Cursor)?;
-    digests.push(Key::Opened(path.clone()?).digest())?;
-    digests.push(Key::Prefix.digest())?;
-    Ok(digests)
+    let opened = Key::Opened(path.clone()?).digest();
+    Vec::from_slice(alloc, &[Key::Cursor.digest(), opened, Key::Prefix.digest()])
 }
 
 // Puts those of the entities at the paths last.

@@ -73,10 +73,12 @@ fn push_base<'a>(
 ) -> Result<(), AllocError>
     ensures { OnOk result (Pushes sites.old.items sites.new.items (if_some base_parts base.now)) }
 {
-    if let Some(name) = base {
-        sites.extend_from_slice(&[UnitPart::Tokens(1), UnitPart::Used(Use::AsStructBase, name)])?;
+    match base {
+        Some(name) => {
+            sites.extend_from_slice(&[UnitPart::Tokens(1), UnitPart::Used(Use::AsStructBase, name)])
+        }
+        None => Ok(()),
     }
-    Ok(())
 }
 
 /// Members of one type.
@@ -178,13 +180,10 @@ fn push_label<'a>(sites: &mut Vec<UnitPart<'a>>, label: &'a Label) -> Result<(),
         Label::Case(value) => {
             sites.push(UnitPart::Tokens(1))?;
             push_value(sites, Purpose::Label, value)?;
-            sites.push(UnitPart::Tokens(1))?;
+            sites.extend_from_slice(&[UnitPart::Tokens(1)])
         }
-        Label::Default => {
-            sites.extend_from_slice(&[UnitPart::Default, UnitPart::Tokens(2)])?;
-        }
+        Label::Default => sites.extend_from_slice(&[UnitPart::Default, UnitPart::Tokens(2)]),
     }
-    Ok(())
 }
 
 /// The type of a union's discriminator.
@@ -196,15 +195,14 @@ fn push_discriminator<'a>(
         (Pushes sites.old.items sites.new.items (discriminator_parts discriminator.now)) }
 {
     match discriminator {
-        Discriminator::Discrete(discrete) => {
-            sites.extend_from_slice(&[
-                UnitPart::Switches(*discrete),
-                UnitPart::Tokens(discrete_len(*discrete)),
-            ])?;
+        Discriminator::Discrete(discrete) => sites.extend_from_slice(&[
+            UnitPart::Switches(*discrete),
+            UnitPart::Tokens(discrete_len(*discrete)),
+        ]),
+        Discriminator::Name(name) => {
+            sites.extend_from_slice(&[UnitPart::Used(Use::AsDiscriminator, name)])
         }
-        Discriminator::Name(name) => sites.push(UnitPart::Used(Use::AsDiscriminator, name))?,
     }
-    Ok(())
 }
 
 /// An enum.

@@ -48,16 +48,13 @@ fn push_plain<'a>(
     ensures { OnOk result (Pushes sites.old.items sites.new.items (plain_parts plain.now way)) }
 {
     match plain {
-        PlainType::Basic(basic) => {
-            sites.extend_from_slice(&[
-                UnitPart::Tokens(basic_len(*basic)),
-                UnitPart::TypeEnds(Shape::Basic(*basic)),
-            ])?;
-        }
-        PlainType::String(string) => push_string(sites, string)?,
-        PlainType::Name(name) => sites.push(UnitPart::Used(way, name))?,
+        PlainType::Basic(basic) => sites.extend_from_slice(&[
+            UnitPart::Tokens(basic_len(*basic)),
+            UnitPart::TypeEnds(Shape::Basic(*basic)),
+        ]),
+        PlainType::String(string) => push_string(sites, string),
+        PlainType::Name(name) => sites.extend_from_slice(&[UnitPart::Used(way, name)]),
     }
-    Ok(())
 }
 
 /// A string type.
@@ -80,11 +77,11 @@ fn push_limit<'a>(
 ) -> Result<(), AllocError>
     ensures { OnOk result (Pushes sites.old.items sites.new.items (limit_parts bound.now)) }
 {
-    if let Some(bound) = bound {
-        sites.push(UnitPart::Tokens(1))?;
-        push_value(sites, Purpose::Bound, bound)?;
-    }
-    Ok(())
+    let Some(bound) = bound else {
+        return Ok(());
+    };
+    sites.push(UnitPart::Tokens(1))?;
+    push_value(sites, Purpose::Bound, bound)
 }
 
 /// How many tokens a type of keywords is.
@@ -131,16 +128,15 @@ pub fn push_constant_type<'a>(
     ensures { OnOk result (Pushes sites.old.items sites.new.items (constant_type_parts kind.now)) }
 {
     match kind {
-        ConstantTypeTree::Discrete(discrete) => {
-            sites.extend_from_slice(&[
-                UnitPart::Tokens(discrete_len(*discrete)),
-                UnitPart::TypeEnds(Shape::Basic(BasicType::Discrete(*discrete))),
-            ])?;
+        ConstantTypeTree::Discrete(discrete) => sites.extend_from_slice(&[
+            UnitPart::Tokens(discrete_len(*discrete)),
+            UnitPart::TypeEnds(Shape::Basic(BasicType::Discrete(*discrete))),
+        ]),
+        ConstantTypeTree::String(string) => push_string(sites, string),
+        ConstantTypeTree::Name(name) => {
+            sites.extend_from_slice(&[UnitPart::Used(Use::AsConstantType, name)])
         }
-        ConstantTypeTree::String(string) => push_string(sites, string)?,
-        ConstantTypeTree::Name(name) => sites.push(UnitPart::Used(Use::AsConstantType, name))?,
     }
-    Ok(())
 }
 
 /// A declared name, and the lengths of its array if it is one.
@@ -170,9 +166,6 @@ fn push_array_end<'a>(
 {
     match lengths {
         [] => Ok(()),
-        [_, ..] => {
-            sites.push(UnitPart::ArrayEnds)?;
-            Ok(())
-        }
+        [_, ..] => sites.extend_from_slice(&[UnitPart::ArrayEnds]),
     }
 }

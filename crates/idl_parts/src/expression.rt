@@ -142,10 +142,9 @@ fn push_operator<'a>(
     ensures { OnOk result (Pushes sites.old.items sites.new.items (operator_parts operator)) }
 {
     match operator {
-        Some(_operator) => sites.push(UnitPart::Tokens(1))?,
-        None => {}
+        Some(_operator) => sites.extend_from_slice(&[UnitPart::Tokens(1)]),
+        None => Ok(()),
     }
-    Ok(())
 }
 
 /// An expression that is no operation.

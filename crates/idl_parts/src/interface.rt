@@ -188,10 +188,7 @@ fn push_result<'a>(
             push_given_back(sites, is_oneway)?;
             push_type(sites, kind, Use::AsType)
         }
-        None => {
-            sites.push(UnitPart::Tokens(1))?;
-            Ok(())
-        }
+        None => sites.extend_from_slice(&[UnitPart::Tokens(1)]),
     }
 }
 

@@ -51,6 +51,5 @@ pub fn push_raised<'a>(
 {
     sites.extend_from_slice(&[UnitPart::Tokens(1), UnitPart::Tokens(1)])?;
     push_used(sites, way, names)?;
-    sites.push(UnitPart::Tokens(1))?;
-    Ok(())
+    sites.extend_from_slice(&[UnitPart::Tokens(1)])
 }

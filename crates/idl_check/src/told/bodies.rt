@@ -15,7 +15,6 @@ use std::marker::Model;
 use std::mem::replace;
 
 /// A scope that begins and ends in a unit.
-#[derive(Drop)]
 pub struct Body {
     /// What it is of.
     entity: Option<Shared<Entity>>,
@@ -25,6 +24,17 @@ pub struct Body {
     members: Vec<Member>,
     /// The labels since the last of them: their values, and nothing for `default`.
     labels: Vec<Option<Value>>,
+}
+
+impl Drop for Body {
+    fn drop(self) {
+        let Body {
+            entity: _entity,
+            data_type: _data_type,
+            members: _members,
+            labels: _labels,
+        } = self;
+    }
 }
 
 /// The scopes of a unit around the walk, the innermost first. That one stands in place: most units

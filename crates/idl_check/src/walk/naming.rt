@@ -70,8 +70,7 @@ impl<'a> Walker<'a> {
         };
         let standing = standing_of(view, log, scope, entity.get())?;
         let code = declared_code(scope, &standing, entity.get());
-        self.declare_as(way, code, entity, &standing)?;
-        Ok(())
+        self.declare_as(way, code, entity, &standing)
     }
 
     // A declared name, by the code of its least fault, and by what stands under it in its scope.
@@ -97,8 +96,7 @@ impl<'a> Walker<'a> {
         declare_member(self.env.alloc(), &mut self.bodies, way, entity.get())?;
         keep_last(&mut self.last, &entity)?;
         add_identity(&mut self.own, standing, entity.get())?;
-        add_declared(&mut self.own, &standing.there, entity)?;
-        Ok(())
+        add_declared(&mut self.own, &standing.there, entity)
     }
 
     /// A used name.
@@ -119,15 +117,12 @@ impl<'a> Walker<'a> {
         ensures env { OnOk result (self.new.env.now ≡ self.old.env.now) }
     {
         if let Some(purpose) = purpose_of(way) {
-            self.speak_of(log, purpose, name)?;
-            return Ok(());
+            return self.speak_of(log, purpose, name);
         }
         if self.is_known(self.at + 1) {
-            self.cut_name(log, way, name)?;
-            return Ok(());
+            return self.cut_name(log, way, name);
         }
-        self.use_any(log, way, name)?;
-        Ok(())
+        self.use_any(log, way, name)
     }
 
     // A used name of which nothing counts behind its first token.
@@ -150,11 +145,9 @@ impl<'a> Walker<'a> {
             return Ok(());
         }
         if name.rest.is_empty() {
-            self.use_any(log, way, name)?;
-            return Ok(());
+            return self.use_any(log, way, name);
         }
-        self.use_head(log, name)?;
-        Ok(())
+        self.use_head(log, name)
     }
 
     // The first part of a name of several.
@@ -217,14 +210,12 @@ impl<'a> Walker<'a> {
         match resolve(self.env, log, place, name) {
             Ok(found) => {
                 let behind = looked_through(self.view(), log, way, &found.entity)?;
-                self.use_as(way, name, &found, behind.get())?;
-                Ok(())
+                self.use_as(way, name, &found, behind.get())
             }
             Err(NameFault::Memory) => Err(AllocError),
             Err(NameFault::At(code, part)) => {
                 self.use_nothing(name, code, part);
-                self.follow_nothing(way)?;
-                Ok(())
+                self.follow_nothing(way)
             }
         }
     }
@@ -302,8 +293,7 @@ impl<'a> Walker<'a> {
         self.take_base(way, path)?;
         self.found.push(path.clone()?)?;
         self.clauses.add_raised(way, path)?;
-        self.follow(way, entity, behind, constants)?;
-        Ok(())
+        self.follow(way, entity, behind, constants)
     }
 
     // The struct that was declared last has what is at this path as its base, if that is used so.

@@ -65,8 +65,7 @@ impl<'a> Walker<'a> {
                 let entity = found.entity.get();
                 let text = self.text_for(purpose);
                 let remark = text.remark(self.subject(), log, entity)?;
-                self.take_remark(name, entity.path(), remark)?;
-                Ok(())
+                self.take_remark(name, entity.path(), remark)
             }
             Err(NameFault::Memory) => Err(AllocError),
             Err(NameFault::At(code, part)) => {
@@ -125,8 +124,8 @@ impl<'a> Walker<'a> {
         let last = last_at(self.at, name);
         self.note(last, code);
         self.at = last + 1;
-        self.found.push(path.clone()?)?;
         add_any(&mut self.own, adds)?;
+        self.found.push(path.clone()?)?;
         Ok(())
     }
 

@@ -34,7 +34,6 @@ use idl_unit::Fault;
 use std::alloc::{AllocError, Global};
 
 /// How far a walk has come. Of its many fields most are empty, so each is dropped where it stands.
-#[derive(Drop)]
 pub struct Walker<'a> {
     pub env: &'a Env,
     /// The number of the next token.
@@ -62,6 +61,29 @@ pub struct Walker<'a> {
     pub values: Values,
     /// The least fault so far.
     pub fault: Option<Fault>,
+}
+
+impl<'a> Drop for Walker<'a> {
+    #[inline(always)]
+    fn drop(self) {
+        let Walker {
+            env: _env,
+            at: _at,
+            cursor: _cursor,
+            own: _own,
+            begun: _begun,
+            bases: _bases,
+            written: _written,
+            last: _last,
+            bodies: _bodies,
+            clauses: _clauses,
+            unions: _unions,
+            text: _text,
+            found: _found,
+            values: _values,
+            fault: _fault,
+        } = self;
+    }
 }
 
 impl<'a> Walker<'a> {

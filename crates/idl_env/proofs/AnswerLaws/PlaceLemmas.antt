@@ -1,5 +1,5 @@
 -- The items of a list by their places.
-use Rattle.std.proofs.Common.{◌≡◌, ℕ, zero, suc, ◌+◌, ◌-◌, ◌<◌, List, [], ◌∷◌, Some, length, take, drop, get_or, map, sym, ap, ◌∙◌, arith, add-one, length-drop}
+use Rattle.std.proofs.Common.{◌≡◌, ℕ, zero, suc, ◌+◌, ◌-◌, ◌<◌, List, [], ◌∷◌, Some, None, length, take, drop, get_or, map, refl, sym, ap, ◌∙◌, arith, add-one, length-drop}
 use Rattle.std.specs.Prelude.{slice_get}
 use Rattle.std.proofs.Math.Seq.{drop-cons}
 use Rattle.std.proofs.lemmas.List.{take_all}
@@ -14,6 +14,16 @@ module _ {A : Type 0} where
 
   pub drop-at1 : (xs : List A) (i : ℕ) (x : A) → slice_get xs i ≡ Some x → drop i xs ≡ x ∷ drop (i + 1) xs
   drop-at1 xs i x h = rw add-one (drop-at xs i x h)
+
+  -- the same where none stands there
+  drop-past : (xs : List A) (i : ℕ) → slice_get xs i ≡ None → drop i xs ≡ drop (suc i) xs
+  drop-past [] zero h = refl
+  drop-past [] (suc i) h = refl
+  drop-past (y ∷ ys) zero h = cc
+  drop-past (y ∷ ys) (suc i) h = drop-past ys i h
+
+  pub drop-past1 : (xs : List A) (i : ℕ) → slice_get xs i ≡ None → drop i xs ≡ drop (i + 1) xs
+  drop-past1 xs i h = rw add-one (drop-past xs i h)
 
   -- the rest of a list from one of its items on
   pub from_here : (xs : List A) (i : ℕ) (x : A) → i < length xs → x ≡ get_or xs i x → drop i xs ≡ x ∷ drop (i + 1) xs

@@ -18,7 +18,7 @@ use idl_map::Digest;
 use std::alloc::{AllocError, Global};
 
 /// What a declared name adds, the use of one, or what is said of the id of one.
-#[derive(Clone, Drop)]
+#[derive(Clone)]
 pub enum Addition {
     /// A name is declared as this entity, or is this from now on.
     Declares(Shared<Entity>),
@@ -32,6 +32,19 @@ pub enum Addition {
     Identifies(Path, Shared<FixedIdentity>),
     /// The scope at a path has this typeprefix from now on.
     TypePrefixes(Path, Shared<Bytes>),
+}
+
+impl Drop for Addition {
+    fn drop(self) {
+        match self {
+            Addition::Declares(_entity) => {}
+            Addition::Uses(_name, _path, _body) => {}
+            Addition::UsesFurther(_name, _path, _further) => {}
+            Addition::Appears(_path, _prefix) => {}
+            Addition::Identifies(_path, _identity) => {}
+            Addition::TypePrefixes(_path, _text) => {}
+        }
+    }
 }
 
 /// How the open scopes, the files entered and the prefix of ids change.

@@ -15,7 +15,6 @@ use std::marker::Model;
 
 /// An addition, and beside it the digest of the key whose answer it changes, by which it is found. To every contract it is the
 /// addition itself.
-#[derive(Drop)]
 pub struct DigestedAddition {
     digest: u64,
     addition: Addition,
@@ -32,6 +31,15 @@ impl Model for DigestedAddition {
     ghost view = { λ digested. digested.addition };
 
     ghost invariant = { λ digested. digested.digest ≡ key_digest (key_of digested.addition) };
+}
+
+impl Drop for DigestedAddition {
+    fn drop(self) {
+        let DigestedAddition {
+            digest: _digest,
+            addition: _addition,
+        } = self;
+    }
 }
 
 impl DigestedAddition {

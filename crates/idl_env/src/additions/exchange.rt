@@ -48,8 +48,7 @@ impl Facts {
             ++ map key_digest (differing self.now.additions others.now.additions)) }
     {
         self.unlike_into(others, digests)?;
-        others.unlike_into(self, digests)?;
-        Ok(())
+        others.unlike_into(self, digests)
     }
 
     // Puts the digests of the keys of those additions last to which none of the others is alike.

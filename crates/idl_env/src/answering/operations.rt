@@ -96,13 +96,11 @@ fn put_there(
         → list_any (path_eq p) (keys_of there.new) ≡ list_any (path_eq p) found.now) }
 {
     if found.len() <= others.len() {
-        join(there, found)?;
-        return Ok(());
+        return join(there, found);
     }
     let mut asked = Table::new(alloc);
     join(&mut asked, others)?;
-    join_asked(there, &asked, found)?;
-    Ok(())
+    join_asked(there, &asked, found)
 }
 
 // Puts those of the paths last that are asked for and not yet there.

@@ -80,6 +80,5 @@ pub fn join_one(queue: &mut Table<Path, ()>, path: &Path) -> Result<(), AllocErr
     if queue.contains(path) {
         return Ok(());
     }
-    queue.push(path.clone()?, ())?;
-    Ok(())
+    queue.push(path.clone()?, ())
 }

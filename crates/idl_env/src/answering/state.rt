@@ -341,8 +341,7 @@ fn put_closing(
     };
     let key = Key::of_entity(alloc, entity.get().path())?;
     let entity = entity.clone()?;
-    answers.insert(key, Answer::Known(entity))?;
-    Ok(())
+    answers.insert(key, Answer::Known(entity))
 }
 
 // The prefix that was put there last, taken off.

@@ -15,7 +15,6 @@ use std::alloc::{AllocError, Global};
 use std::marker::Model;
 
 /// What a root asked, and where in it keys may stand. To every contract it is the log.
-#[derive(Drop)]
 pub struct HintedLog<B: RootBank> {
     log: Log<B>,
     hints: Hints,
@@ -29,6 +28,15 @@ impl<B: RootBank> Model for HintedLog<B> {
     ghost Value = { List (RootKey × Option RootAnswer) };
 
     ghost view = { λ hinted. hinted.log };
+}
+
+impl<B: RootBank> Drop for HintedLog<B> {
+    fn drop(self) {
+        let HintedLog {
+            log: _log,
+            hints: _hints,
+        } = self;
+    }
 }
 
 impl<B: RootBank> HintedLog<B> {
@@ -46,7 +54,8 @@ impl<B: RootBank> HintedLog<B> {
     pub fn into_log(self) -> Log<B>
         ensures { result ≡ self }
     {
-        self.log
+        let HintedLog { log, hints: _hints } = self;
+        log
     }
 
     /// The bank's answer at a key, which is logged with the key unless the key was asked before.

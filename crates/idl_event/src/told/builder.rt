@@ -23,7 +23,6 @@ const FEW: usize = 16;
 ///
 /// The tokens of the text stand apart from the other events, so that units share them. Each token's site has the number of
 /// its event, and each other event its own.
-#[derive(Drop)]
 pub struct ExpansionBuilder {
     // The tokens of the text: runs of them, and those behind these, which are shared as soon as another run follows.
     runs: Vec<TokenRange>,
@@ -43,6 +42,17 @@ impl Model for ExpansionBuilder {
     ghost view = { λ b. woven b.sites (tokens_of b.runs.items ++ b.open.items) b.others.items };
 
     ghost invariant = { λ b. StandApart b.sites (tokens_of b.runs.items ++ b.open.items) b.others.items };
+}
+
+impl Drop for ExpansionBuilder {
+    fn drop(self) {
+        let ExpansionBuilder {
+            runs: _runs,
+            open: _open,
+            sites: _sites,
+            others: _others,
+        } = self;
+    }
 }
 
 impl ExpansionBuilder {
@@ -127,9 +137,15 @@ impl ExpansionBuilder {
         close(&mut self.runs, &mut self.open)?;
         self.runs.shrink_to_fit();
         self.sites.shrink_to_fit();
-        let runs = Runs::new(alloc, self.runs)?;
-        let sites = Rc::new(alloc, self.sites)?;
-        Ok(Expansion::from_parts(runs, sites, self.others))
+        let ExpansionBuilder {
+            runs,
+            open: _open,
+            sites,
+            others,
+        } = self;
+        let runs = Runs::new(alloc, runs)?;
+        let sites = Rc::new(alloc, sites)?;
+        Ok(Expansion::from_parts(runs, sites, others))
     }
 }
 

@@ -14,7 +14,6 @@ use std::rc::Rc;
 
 /// What a root expands to: to every contract the list of its events. The tokens of its text stand apart from the others, so
 /// that they are shared.
-#[derive(Drop)]
 pub struct Expansion {
     text: Runs,
     sites: Rc<Sites>,
@@ -31,6 +30,16 @@ impl Model for Expansion {
     ghost view = { λ e. woven e.sites.value e.text e.others.items };
 
     ghost invariant = { λ e. StandApart e.sites.value e.text e.others.items };
+}
+
+impl Drop for Expansion {
+    fn drop(self) {
+        let Expansion {
+            text: _text,
+            sites: _sites,
+            others: _others,
+        } = self;
+    }
 }
 
 impl Expansion {

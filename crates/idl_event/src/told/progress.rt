@@ -29,7 +29,6 @@ use std::marker::Model;
 ///
 /// Once an item is past the limits, a fault stands in its place, nothing more is told, and nothing more is logged. After want
 /// of memory nothing is said of it.
-#[derive(Drop)]
 pub struct Progress<B: RootBank> {
     kept: ExpansionBuilder,
     left: Option<Allowance>,
@@ -53,6 +52,16 @@ impl<B: RootBank> Model for Progress<B> {
     ghost invariant = { λ p. turns_left p.left ≤ turns_at_most };
 }
 
+impl<B: RootBank> Drop for Progress<B> {
+    fn drop(self) {
+        let Progress {
+            kept: _kept,
+            left: _left,
+            log: _log,
+        } = self;
+    }
+}
+
 impl<B: RootBank> Progress<B> {
     /// Nothing is told, and nothing of the limits is spent; what is asked goes behind the entries of the log. It takes no
     /// memory.
@@ -71,7 +80,12 @@ impl<B: RootBank> Progress<B> {
         ensures events { result.0 ≡ self.kept }
         ensures log { result.1 ≡ self.log }
     {
-        (self.kept, self.log.into_log())
+        let Progress {
+            kept,
+            left: _left,
+            log,
+        } = self;
+        (kept, log.into_log())
     }
 
     /// Where its memory comes from.

@@ -16,7 +16,6 @@ use std::marker::Model;
 ///
 /// From one token to the next the line seldom changes, the file still less, nor do other events often stand between them. So
 /// a spot has what is the same for the tokens of a line, and a stretch what is the same for those of many lines.
-#[derive(Drop)]
 pub struct Sites {
     spots: Vec<Spot>,
     stretches: Vec<Stretch>,
@@ -55,6 +54,16 @@ impl Model for Sites {
     ghost view = { λ s. sites_of s.stretches.items s.spots.items s.count };
 
     ghost invariant = { λ s. AreKept s.stretches.items s.spots.items s.count };
+}
+
+impl Drop for Sites {
+    fn drop(self) {
+        let Sites {
+            spots: _spots,
+            stretches: _stretches,
+            count: _count,
+        } = self;
+    }
 }
 
 impl Sites {

@@ -1,4 +1,5 @@
 use Rattle.std.proofs.Common.{◌||◌, [], ap, ◌∙◌}
+use Rattle.std.proofs.lemmas.Result.{on_ok_weaker}
 use Rattle.std.specs.List.{list_any}
 use Rattle.std.specs.Map.{keys_of}
 use Rattle.idl_env.specs.Facts.{joined}
@@ -7,16 +8,19 @@ use Rattle.idl_env.proofs.AnswerLaws.QueueLemmas.{list_any-joined}
 use Rattle.idl_env.proofs.answering.operations.put_there.Goals as goal
 
 pub returns-then-found-others : goal.returns-then-found-others
-returns-then-found-others c = λ p among.
+returns-then-found-others c =
     let found = c.args.found.now in
-    ap (list_any (path_eq p)) (c.in_ok-join.ensures ∙ ap (λ t. joined (keys_of t) found) c.requires)
-    ∙ list_any-joined p [] found
+    on_ok_weaker c.join.result
+    (λ joins p among. ap (list_any (path_eq p)) (joins ∙ ap (λ t. joined (keys_of t) found) c.requires)
+    ∙ list_any-joined p [] found)
+    c.join.ensures
 
 pub returns : goal.returns
-returns c = λ p among.
+returns c = on_ok_weaker c.join_asked.result (λ asks p among.
     let found = c.args.found.now in
     let others = c.args.others.now in
-    let keys = c.in_ok-join-2.ensures ∙ ap (λ t. joined (keys_of t) others) c.new-asked.ensures in
+    let keys = c.in_ok-join.ensures ∙ ap (λ t. joined (keys_of t) others) c.new-asked.ensures in
     let asked = ap (list_any (path_eq p)) keys ∙ list_any-joined p [] others ∙ among in
-    c.in_ok-join_asked.ensures p asked
-    ∙ ap (λ t. list_any (path_eq p) (keys_of t) || list_any (path_eq p) found) c.requires
+    asks p asked
+    ∙ ap (λ t. list_any (path_eq p) (keys_of t) || list_any (path_eq p) found) c.requires)
+    c.join_asked.ensures

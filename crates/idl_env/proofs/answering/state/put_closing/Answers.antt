@@ -1,4 +1,5 @@
 use Rattle.std.proofs.Common.{sym, ap, ◌∙◌, [], map, subst}
+use Rattle.std.proofs.lemmas.Result.{on_ok_weaker}
 use Rattle.std.specs.Prelude.{option_to_list}
 use Rattle.idl_env.specs.Facts.{entity_key}
 use Rattle.idl_env.specs.Held.{IsAmongOthers}
@@ -18,7 +19,9 @@ returns c =
     let key =
     c.in_ok-key.ensures ∙ ap entity_key c.path.ensures ∙ ap (λ x. entity_key x.path) c.get.ensures
     in
-    c.in_ok-insert.ensures
+    on_ok_weaker c.insert.result
+    (λ put. put
     ∙ (λ i. with_stamped (key i) (Known (c.in_ok-entity.ensures.cases i)) old)
     ∙ sym (stamped_over-cons (Declares e) [] old)
-    ∙ ap (λ o. stamped_over (map Declares (option_to_list o)) old) (sym c.in-Some.is)
+    ∙ ap (λ o. stamped_over (map Declares (option_to_list o)) old) (sym c.in-Some.is))
+    c.insert.ensures

@@ -1,4 +1,5 @@
 use Rattle.std.proofs.Common.{List, ◌+◌, ◌∷◌, ◌++◌, [], Some, cond, ◌∙◌}
+use Rattle.std.proofs.lemmas.Result.{on_ok_weaker}
 use Rattle.idl_check.proofs.Faults.NotedLemmas.{noted-by}
 use Rattle.idl_check.proofs.Faults.TableLaws.{declared-up}
 use Rattle.idl_check.specs.tables.Declaring.{declared_table, stays, with_declared, written_after}
@@ -13,7 +14,7 @@ use Rattle.idl_env.specs.declared.additions.addition.Addition.TheVariants.{Decla
 use Rattle.idl_check.proofs.walk.walker.Walker.declare_as.Goals as goal
 
 pub returns-clause-visit : goal.returns-clause-visit
-returns-clause-visit c = λ s given.
+returns-clause-visit c = on_ok_weaker c.add_declared.result (λ added s given.
     let old = c.args.self.now in
     let there = c.args.standing.now in
     let e = c.args.entity in
@@ -30,7 +31,7 @@ returns-clause-visit c = λ s given.
     let adds : List Addition → List Addition = λ own. cond (stays there.there e) own (with_addition own (Declares e)) in
     (λ i. record (held noted) {
       at = noted.at + 1;
-      own = (c.in_ok-add_declared.ensures i).additions;
+      own = (added i).additions;
       begun = c.in_ok-keep_begun.ensures i;
       written = c.in_ok-declare.ensures i;
       last = c.in_ok-keep_last.ensures i;
@@ -43,4 +44,5 @@ returns-clause-visit c = λ s given.
     })
     ∙ (λ i. record (after noted) { own = adds (with_identity there.there there.ids (c.get-3.ensures i) noted.own.additions) })
     ∙ (λ i. after (c.note.ensures i))
-    ∙ (λ i. record (after old) { fault = fault i })
+    ∙ (λ i. record (after old) { fault = fault i }))
+    c.add_declared.ensures

@@ -1,4 +1,5 @@
 use Rattle.std.proofs.Common.{ℕ, ◌≤◌, ◌+◌, ◌∷◌, ◌++◌, [], length, subst, sym, ap, ◌∙◌, arith}
+use Rattle.std.proofs.lemmas.Result.{on_ok_weaker}
 use Rattle.std.specs.Prelude.{fold}
 use Rattle.idl_check.proofs.PartLemmas.{part-within}
 use Rattle.idl_check.proofs.Visits.VisitLemmas.{runs_over, spoken_by, turns-here, unspoken_by}
@@ -22,8 +23,8 @@ use_nothing-requires-clause-part c =
     c.in-Err-At.code c.in-Err-At.part (asked (turns_for c.args.self.now.env.now + turns_among c.args.self.now.own.additions) (omega arith)) in
     subst (λ (part : ℕ). part ≤ length name.rest) (sym c.in-Err-At.part-is) within
 
-pub returns-in_ok-take_remark-in-Ok-clause-run : goal.returns-in_ok-take_remark-in-Ok-clause-run
-returns-in_ok-take_remark-in-Ok-clause-run c = λ turns more.
+pub returns-in_ok-remark-in-Ok-clause-run : goal.returns-in_ok-remark-in-Ok-clause-run
+returns-in_ok-remark-in-Ok-clause-run c = on_ok_weaker c.take_remark.result (λ visit turns more.
     let w = held c.args.self.now in
     let bank = answers c.args.self.now.env.now in
     let purpose = c.args.purpose in
@@ -38,7 +39,7 @@ returns-in_ok-take_remark-in-Ok-clause-run c = λ turns more.
     let said = c.in_ok-remark-in-Ok.ensures at
     ∙ (λ i. runs_over (answers (c.subject.ensures.env i)) (under (c.subject.ensures.own i).additions (remark (c.text_for-text.ensures.purpose i) at (c.text_for-text.ensures.text i) (c.get-entity.ensures i))) middle) in
     let path = c.path.ensures ∙ ap (λ (e : Entity). e.path) c.get-entity.ensures in
-    (λ i. (c.in_ok-take_remark-in-Ok.ensures.visit i, after))
+    (λ i. (visit i, after))
     ∙ (λ i. (
       noted_in (record {
         faults = s.faults;
@@ -46,10 +47,11 @@ returns-in_ok-take_remark-in-Ok-clause-run c = λ turns more.
       }) w.fault,
       after,
     ))
-    ∙ sym (spoken_by bank turns purpose name w log found middle s after gives said)
+    ∙ sym (spoken_by bank turns purpose name w log found middle s after gives said))
+    c.take_remark.ensures.visit
 
-pub returns-in_ok-take_remark-in-Ok-clause-at : goal.returns-in_ok-take_remark-in-Ok-clause-at
-returns-in_ok-take_remark-in-Ok-clause-at c = ap (λ w. w.at) c.in_ok-take_remark-in-Ok.ensures.visit
+pub returns-in_ok-remark-in-Ok-clause-at : goal.returns-in_ok-remark-in-Ok-clause-at
+returns-in_ok-remark-in-Ok-clause-at c = on_ok_weaker c.take_remark.result (λ visit. ap (λ w. w.at) visit) c.take_remark.ensures.visit
 
 pub returns-in-Err-At-clause-run : goal.returns-in-Err-At-clause-run
 returns-in-Err-At-clause-run c = λ turns more.

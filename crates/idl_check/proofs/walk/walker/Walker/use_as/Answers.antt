@@ -1,4 +1,5 @@
 use Rattle.std.proofs.Common.{ℕ, ◌+◌, ◌∷◌, ◌++◌, [], List, map, ap, ◌∙◌}
+use Rattle.std.proofs.lemmas.Result.{on_ok_weaker}
 use Rattle.std.specs.Prelude.{option_to_list}
 use Rattle.idl_check.proofs.Faults.NotedLemmas.{noted-by}
 use Rattle.idl_check.proofs.Faults.TableLaws.{used-up}
@@ -47,7 +48,7 @@ returns-clause-visit c =
     let lent = c.path-path.ensures ∙ ap (λ (f : Entity). f.path) c.get-entity.ensures in
     let path = c.in_ok-clone.ensures.cases ∙ lent in
     let scopes = c.scopes.ensures.value in
-    c.in_ok-follow.ensures.walk
+    on_ok_weaker c.follow.result (λ walk. walk
     ∙ (λ i. follows (held over) (c.in_ok-push.ensures.items i) (c.in_ok-add_raised.ensures i) (c.get-entity.ensures i))
     ∙ (λ i. follows (held over) (over.found ++ path i ∷ []) (with_raised way (lent i) over.clauses) e)
     ∙ (λ i. followed (c.in_ok-take_base.ensures.walk i))
@@ -56,4 +57,5 @@ returns-clause-visit c =
     ∙ (λ i. followed (after (c.note.ensures i) last (with_uses (folded name.first) reach (c.note.ensures i).cursor (c.note.ensures i).own.additions) e.path))
     ∙ (λ i. record (followed (after (record old { bases = c.in_ok-code.ensures.same i }) last (with_uses (folded name.first) reach old.cursor old.own.additions) e.path))
     { fault = noted old.fault (map (fault_at c.last_at-last.result) (option_to_list c.in_ok-code.code)) })
-    ∙ (λ i. record (followed (after old last (with_uses (folded name.first) reach old.cursor old.own.additions) e.path)) { fault = fault i })
+    ∙ (λ i. record (followed (after old last (with_uses (folded name.first) reach old.cursor old.own.additions) e.path)) { fault = fault i }))
+    c.follow.ensures.walk

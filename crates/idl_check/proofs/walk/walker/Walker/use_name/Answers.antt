@@ -1,4 +1,5 @@
 use Rattle.std.proofs.Common.{sym, ◌∙◌, arith}
+use Rattle.std.proofs.lemmas.Result.{on_ok_weaker}
 use Rattle.idl_tree.proofs.NameLemmas.{behind_name}
 use Rattle.idl_check.proofs.Visits.VisitLemmas.{named-cut, named-spoken, named-whole}
 use Rattle.idl_check.specs.walk.Held.{held}
@@ -26,28 +27,37 @@ use_any-requires c =
     record { room = omega (arith, behind, c.requires) }
 
 pub returns-then-is_known-clause-visited : goal.returns-then-is_known-clause-visited
-returns-then-is_known-clause-visited c = λ turns more.
+returns-then-is_known-clause-visited c =
     let bank = answers c.args.self.now.env.now in
-    c.in_ok-cut_name.ensures.run turns more
-    ∙ sym (named-cut bank turns c.args.way c.args.name.now (held c.args.self.now) c.args.log.now (sym c.purpose_of.ensures ∙ c.in_default.is) (sym c.is_known.ensures ∙ c.if-is_known.true))
+    on_ok_weaker c.cut_name.result
+    (λ run turns more. run turns more
+    ∙ sym (named-cut bank turns c.args.way c.args.name.now (held c.args.self.now) c.args.log.now (sym c.purpose_of.ensures ∙ c.in_default.is) (sym c.is_known.ensures ∙ c.if-is_known.true)))
+    c.cut_name.ensures.run
 
 pub returns-then-is_known-clause-at : goal.returns-then-is_known-clause-at
-returns-then-is_known-clause-at c = c.in_ok-cut_name.ensures.at ∙ behind_name c.args.self.now.at c.args.name.now
+returns-then-is_known-clause-at c =
+    on_ok_weaker c.cut_name.result (λ at. at ∙ behind_name c.args.self.now.at c.args.name.now) c.cut_name.ensures.at
 
 pub returns-in-Some-clause-visited : goal.returns-in-Some-clause-visited
-returns-in-Some-clause-visited c = λ turns more.
+returns-in-Some-clause-visited c =
     let bank = answers c.args.self.now.env.now in
-    c.in_ok-speak_of.ensures.run turns more
-    ∙ sym (named-spoken bank turns c.args.way c.in-Some.purpose c.args.name.now (held c.args.self.now) c.args.log.now (sym c.purpose_of.ensures ∙ c.in-Some.is))
+    on_ok_weaker c.speak_of.result
+    (λ run turns more. run turns more
+    ∙ sym (named-spoken bank turns c.args.way c.in-Some.purpose c.args.name.now (held c.args.self.now) c.args.log.now (sym c.purpose_of.ensures ∙ c.in-Some.is)))
+    c.speak_of.ensures.run
 
 pub returns-in-Some-clause-at : goal.returns-in-Some-clause-at
-returns-in-Some-clause-at c = c.in_ok-speak_of.ensures.at ∙ behind_name c.args.self.now.at c.args.name.now
+returns-in-Some-clause-at c =
+    on_ok_weaker c.speak_of.result (λ at. at ∙ behind_name c.args.self.now.at c.args.name.now) c.speak_of.ensures.at
 
 pub returns-clause-visited : goal.returns-clause-visited
-returns-clause-visited c = λ turns more.
+returns-clause-visited c =
     let bank = answers c.args.self.now.env.now in
-    c.in_ok-use_any.ensures.run turns more
-    ∙ sym (named-whole bank turns c.args.way c.args.name.now (held c.args.self.now) c.args.log.now (sym c.purpose_of.ensures ∙ c.in_default.is) (sym c.is_known.ensures ∙ c.if-is_known.false))
+    on_ok_weaker c.use_any.result
+    (λ run turns more. run turns more
+    ∙ sym (named-whole bank turns c.args.way c.args.name.now (held c.args.self.now) c.args.log.now (sym c.purpose_of.ensures ∙ c.in_default.is) (sym c.is_known.ensures ∙ c.if-is_known.false)))
+    c.use_any.ensures.run
 
 pub returns-clause-at : goal.returns-clause-at
-returns-clause-at c = c.in_ok-use_any.ensures.at ∙ behind_name c.args.self.now.at c.args.name.now
+returns-clause-at c =
+    on_ok_weaker c.use_any.result (λ at. at ∙ behind_name c.args.self.now.at c.args.name.now) c.use_any.ensures.at

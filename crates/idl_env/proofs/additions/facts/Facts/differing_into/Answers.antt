@@ -1,4 +1,5 @@
 use Rattle.std.proofs.Common.{sym, ap, ◌∙◌, ◌++◌, map, append_assoc}
+use Rattle.std.proofs.lemmas.Result.{on_ok_weaker}
 use Rattle.std.proofs.lemmas.List.{map-append}
 use Rattle.idl_env.specs.Differing.{unlike}
 use Rattle.idl_env.specs.keys.Key.{key_digest}
@@ -11,7 +12,9 @@ returns c =
     let old = c.args.digests.now.items in
     let mine = map key_digest (unlike fs gs) in
     let theirs = map key_digest (unlike gs fs) in
-    c.in_ok-unlike_into-2.ensures
+    on_ok_weaker c.unlike_into-2.result
+    (λ both. both
     ∙ (λ i. c.in_ok-unlike_into.ensures i ++ theirs)
     ∙ append_assoc old mine theirs
-    ∙ ap (λ l. old ++ l) (sym (map-append key_digest (unlike fs gs) (unlike gs fs)))
+    ∙ ap (λ l. old ++ l) (sym (map-append key_digest (unlike fs gs) (unlike gs fs))))
+    c.unlike_into-2.ensures

@@ -3,6 +3,7 @@ use Rattle.std.proofs.lemmas.List.{take_more}
 use Rattle.idl_event.specs.Runs.{starts_of, tokens_of}
 use Rattle.idl_lex.specs.tokens.Tokens.{Token}
 use Rattle.idl_event.proofs.RunsLemmas.{starts_of-push, tokens_of-push}
+use Rattle.std.proofs.lemmas.Grind.{common_steps}
 use Rattle.idl_event.proofs.told.runs.Runs.new.Goals as goal
 
 pub runs-preserved : goal.runs-preserved
@@ -27,3 +28,12 @@ runs-preserved c =
           ∙ ap (starts_of 0) (sym taken);
       count = omega (arith, c.in_ok-count.ensures, c.len-in-runs.ensures, here.count, total);
     }
+
+pub returns : goal.returns
+returns c = grind (arith, common_steps)
+
+pub runs-init : goal.runs-init
+runs-init c = grind (arith, common_steps)
+
+pub invariant_of-result : goal.invariant_of-result
+invariant_of-result c = grind (arith, common_steps)

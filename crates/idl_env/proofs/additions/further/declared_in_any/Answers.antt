@@ -1,0 +1,15 @@
+use Rattle.std.proofs.Common.{arith}
+use Rattle.std.proofs.lemmas.Grind.{common_steps}
+use Rattle.idl_env.proofs.additions.further.declared_in_any.Goals as goal
+
+pub returns : goal.returns
+returns c = grind (arith, common_steps)
+
+pub returns-then-is_some : goal.returns-then-is_some
+returns-then-is_some c = grind (arith, common_steps)
+
+pub loop-path-init : goal.loop-path-init
+loop-path-init c = grind (arith, common_steps)
+
+pub loop-path-preserved : goal.loop-path-preserved
+loop-path-preserved c = grind (arith, common_steps)
