@@ -27,7 +27,7 @@ use Rattle.idl_repo.specs.declared.details.type_code_tree.TypeCodeParts.{TypeCod
 use Rattle.idl_repo.specs.declared.details.type_code_tree.TypeCodeParts.TheVariants as parts
 use Rattle.idl_repo.specs.declared.details.type_code_tree.TypeCodeTree.{TypeCodeTree}
 use Rattle.idl_repo.specs.declared.details.type_code_tree.UnionTree.{UnionTree}
-use Rattle.idl_repo.specs.declared.details.type_tree.TypeTree.{TypeTree}
+use Rattle.idl_repo.specs.declared.details.type_tree.LayeredType.{LayeredType}
 
 -- a test that bars differences of a weight
 abbrev pub Bars : (Difference → Type 0) → Weight → Type 0
@@ -63,7 +63,7 @@ module _ (P : Difference → Type 0) (bars : Bars P Breaks) where
   same-flag : (part : List ℕ) (a b : Bool) → All P (flag_differences part a b) → a ≡ b
   same-flag part a b all = same_bool a b (unless P Breaks bars (beq a b) _ all)
 
-  same-type : (part : List ℕ) (a b : TypeTree) → All P (type_differences part a b) → a ≡ b
+  same-type : (part : List ℕ) (a b : LayeredType) → All P (type_differences part a b) → a ≡ b
   same-type part a b all = same_type_tree a b (unless P Breaks bars (type_tree_eq a b) _ all)
 
   same-default : (a b : Option ℕ) → All P (default_differences a b) → a ≡ b

@@ -14,7 +14,7 @@ use Rattle.idl_changes.specs.declared.change.Difference.{Difference}
 use Rattle.idl_changes.specs.declared.change.Weight.{Weight}
 use Rattle.idl_changes.specs.declared.change.Weight.TheVariants.{Breaks, Names}
 use Rattle.idl_changes.proofs.SetLemmas.{set_differences-none}
-use Rattle.idl_repo.specs.contracts.details.type_tree.TypeTreeEq.TheImpl.Laws.{laws-law as type_tree_equiv}
+use Rattle.idl_repo.specs.contracts.details.type_tree.LayeredTypeEq.TheImpl.Laws.{laws-law as type_tree_equiv}
 use Rattle.idl_repo.specs.details.Same.{type_tree_eq}
 use Rattle.idl_repo.specs.declared.details.row_tree.ParameterTree.{ParameterTree}
 use Rattle.idl_repo.specs.declared.details.row_tree.RowDetails.{RowDetails}
@@ -26,7 +26,7 @@ use Rattle.idl_repo.specs.declared.details.type_code_tree.TypeCodeParts.{TypeCod
 use Rattle.idl_repo.specs.declared.details.type_code_tree.TypeCodeParts.TheVariants as parts
 use Rattle.idl_repo.specs.declared.details.type_code_tree.TypeCodeTree.{TypeCodeTree}
 use Rattle.idl_repo.specs.declared.details.type_code_tree.UnionTree.{UnionTree}
-use Rattle.idl_repo.specs.declared.details.type_tree.TypeTree.{TypeTree}
+use Rattle.idl_repo.specs.declared.details.type_tree.LayeredType.{LayeredType}
 use Rattle.idl_entity.specs.Kind.{kind_number}
 use Rattle.idl_repo.specs.Row.{kind_word}
 
@@ -50,7 +50,7 @@ beq-own false = refl
 no-flag : (part : List ℕ) (a : Bool) → flag_differences part a a ≡ []
 no-flag part a = none-unless (beq a a) _ (beq-own a)
 
-no-type : (part : List ℕ) (t : TypeTree) → type_differences part t t ≡ []
+no-type : (part : List ℕ) (t : LayeredType) → type_differences part t t ≡ []
 no-type part t = none-unless (type_tree_eq t t) _ (type_tree_equiv.refl t)
 
 no-default : (a : Option ℕ) → default_differences a a ≡ []

@@ -23,7 +23,7 @@ use Rattle.idl_repo.specs.declared.details.type_code_tree.TypeCodeParts.{TypeCod
 use Rattle.idl_repo.specs.declared.details.type_code_tree.TypeCodeParts.TheVariants as parts
 use Rattle.idl_repo.specs.declared.details.type_code_tree.TypeCodeTree.{TypeCodeTree}
 use Rattle.idl_repo.specs.declared.details.type_code_tree.UnionTree.{UnionTree}
-use Rattle.idl_repo.specs.declared.details.type_tree.TypeTree.{TypeTree}
+use Rattle.idl_repo.specs.declared.details.type_tree.LayeredType.{LayeredType}
 use Rattle.idl_changes.specs.Wire.{ordered}
 use Rattle.idl_changes.specs.declared.change.Difference.{Difference}
 use Rattle.idl_changes.specs.declared.change.Weight.{Weight}
@@ -67,7 +67,7 @@ flag_differences part old new =
     if beq old new then [] else changed Breaks part (yes_or_no old) (yes_or_no new) ∷ []
 
 -- a type: one that is named is told by its id, and a change of what has that id is told there
-abbrev pub type_differences : List ℕ → TypeTree → TypeTree → List Difference
+abbrev pub type_differences : List ℕ → LayeredType → LayeredType → List Difference
 type_differences part old new =
     if type_tree_eq old new
     then []

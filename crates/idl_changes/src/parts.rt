@@ -5,7 +5,7 @@ ghost use Rattle.idl_changes.specs.Differences.{added, changed, default_differen
 
 use crate::change::{Difference, Weight};
 use idl_base::{Bytes, Text};
-use idl_repo::details::{TypeTree, push_type};
+use idl_repo::details::{LayeredType, push_type};
 use idl_repo::push_default;
 use std::alloc::AllocError;
 
@@ -127,8 +127,8 @@ fn yes_or_no(stands: bool) -> &'static [u8]
 /// Compares a type.
 pub fn compare_types(
     part: &[u8],
-    old: &TypeTree,
-    new: &TypeTree,
+    old: &LayeredType,
+    new: &LayeredType,
     out: &mut Vec<Difference>,
 ) -> Result<(), AllocError>
     ensures { OnOk result (out.new.items

@@ -20,6 +20,6 @@ mod walk;
 pub use idl_syntax;
 pub use walk::names::{NameRole, NamedSite, names_of};
 pub use walk::scratch::Scratch;
-pub use walk::steps::Steps;
+pub use walk::steps::UnitWalk;
 pub use walk::task::{DeclarationTask, verdict_of};
 pub use walk::verdict::Verdict;

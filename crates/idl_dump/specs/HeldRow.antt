@@ -1,6 +1,6 @@
 -- What a row is still to be made of, as the code holds it.
 use Rattle.idl_dump.specs.Row.{Rest}
-use Rattle.idl_dump.specs.declared.row.Rest.{Rest as HeldRest}
+use Rattle.idl_dump.specs.declared.row.RowSource.{RowSource as HeldRest}
 
 abbrev pub rest_at : HeldRest → Rest
 rest_at rest = record {

@@ -6,4 +6,4 @@
 mod part;
 mod row;
 
-pub use row::{Rest, write_row};
+pub use row::{RowSource, write_row};

@@ -21,7 +21,7 @@ use std::alloc::AllocError;
 
 /// What a row is still to be made of: tokens, and the paths of what the names among them denote.
 #[derive(Clone, Copy)]
-pub struct Rest<'a> {
+pub struct RowSource<'a> {
     pub tokens: &'a [Token],
     pub found: &'a [Path],
     /// The values of the expressions among them.
@@ -36,7 +36,7 @@ pub fn write_row(
     buffer: &mut Vec<u8>,
     depth: usize,
     sites: &[UnitPart<'_>],
-    unit: Rest<'_>,
+    unit: RowSource<'_>,
 ) -> Result<(), AllocError>
     requires { items_length (map item_at sites.now) ≤ 18446744073709551615 }
     ensures { OnOk result
@@ -71,7 +71,11 @@ fn push_blanks(row: &mut Vec<u8>, depth: usize) -> Result<(), AllocError>
 }
 
 // The words of these sites.
-fn push_sites(text: &mut Vec<u8>, sites: &[UnitPart<'_>], unit: Rest<'_>) -> Result<(), AllocError>
+fn push_sites(
+    text: &mut Vec<u8>,
+    sites: &[UnitPart<'_>],
+    unit: RowSource<'_>,
+) -> Result<(), AllocError>
     requires { items_length (map item_at sites.now) ≤ 18446744073709551615 }
     ensures { OnOk result
         (text.new.items
@@ -84,7 +88,7 @@ fn push_sites(text: &mut Vec<u8>, sites: &[UnitPart<'_>], unit: Rest<'_>) -> Res
     Ok(())
 }
 
-impl<'a> Rest<'a> {
+impl<'a> RowSource<'a> {
     // The words of a site, which is then no more left.
     fn push_site(&mut self, text: &mut Vec<u8>, site: UnitPart<'_>) -> Result<(), AllocError>
         requires { item_length (item_at site) ≤ 18446744073709551615 }

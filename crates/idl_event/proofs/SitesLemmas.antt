@@ -11,7 +11,7 @@ use Rattle.idl_event.specs.Sites.{AreBefore, AreKept, HaveSites, Rise, found, in
 use Rattle.idl_fault.specs.declared.file_name.FileName.{FileName}
 use Rattle.idl_fault.specs.declared.place.Place.{Place}
 use Rattle.idl_event.specs.declared.told.site.Site.{Site}
-use Rattle.idl_event.specs.declared.told.sites.Spot.{Spot}
+use Rattle.idl_event.specs.declared.told.sites.LineEntry.{LineEntry}
 use Rattle.idl_event.specs.declared.told.sites.Stretch.{Stretch}
 use Rattle.idl_lex.specs.declared.tokens.token.PlacedToken.{PlacedToken}
 
@@ -53,25 +53,25 @@ leb-not a b lt = by (leb a b) refl
     by false is = refl
 
 -- a spot that begins at a token or before it, and one that begins behind
-at-first : (s : Spot) (spots : List Spot) (i : ℕ) → s.first ≤ i → spot_at (s ∷ spots) i ≡ Some (unwrap_or (spot_at spots i) s)
+at-first : (s : LineEntry) (spots : List LineEntry) (i : ℕ) → s.first ≤ i → spot_at (s ∷ spots) i ≡ Some (unwrap_or (spot_at spots i) s)
 at-first s spots i le = ap (λ b. if b then Some (unwrap_or (spot_at spots i) s) else None) (leb-is s.first i le)
 
-at-behind : (s : Spot) (spots : List Spot) (i : ℕ) → i < s.first → spot_at (s ∷ spots) i ≡ None
+at-behind : (s : LineEntry) (spots : List LineEntry) (i : ℕ) → i < s.first → spot_at (s ∷ spots) i ≡ None
 at-behind s spots i lt = ap (λ b. if b then Some (unwrap_or (spot_at spots i) s) else None) (leb-not s.first i lt)
 
 -- one more, which begins behind a token
-spot_at-before : (spots : List Spot) (s : Spot) (i : ℕ) → i < s.first → spot_at (spots ++ s ∷ []) i ≡ spot_at spots i
+spot_at-before : (spots : List LineEntry) (s : LineEntry) (i : ℕ) → i < s.first → spot_at (spots ++ s ∷ []) i ≡ spot_at spots i
 spot_at-before [] s i lt = at-behind s [] i lt
 spot_at-before (x ∷ spots) s i lt = ap (λ o. if leb x.first i then Some (unwrap_or o x) else None) (spot_at-before spots s i lt)
 
 -- and at it
-spot_at-new : (spots : List Spot) (s : Spot) (i : ℕ) → AreBefore i spots → s.first ≤ i → spot_at (spots ++ s ∷ []) i ≡ Some s
+spot_at-new : (spots : List LineEntry) (s : LineEntry) (i : ℕ) → AreBefore i spots → s.first ≤ i → spot_at (spots ++ s ∷ []) i ≡ Some s
 spot_at-new [] s i all le = at-first s [] i le
 spot_at-new (x ∷ spots) s i all le =
     at-first x (spots ++ s ∷ []) i (omega (arith, all.0)) ∙ ap (λ o. Some (unwrap_or o x)) (spot_at-new spots s i all.1 le)
 
 -- the last one, where all begin before a token
-spot_at-last : (spots : List Spot) (i : ℕ) → AreBefore i spots → spot_at spots i ≡ slice_get spots (length spots - 1)
+spot_at-last : (spots : List LineEntry) (i : ℕ) → AreBefore i spots → spot_at spots i ≡ slice_get spots (length spots - 1)
 spot_at-last [] i all = refl
 spot_at-last (x ∷ []) i all = at-first x [] i (omega (arith, all.0))
 spot_at-last (x ∷ y ∷ spots) i all =
@@ -83,12 +83,12 @@ spot_at-last (x ∷ y ∷ spots) i all =
     ∙ ap (slice_get (x ∷ y ∷ spots)) end
 
 -- the one at the point of a list before which each begins at a token or before it
-abbrev point : ℕ → List Spot → Option Spot
+abbrev point : ℕ → List LineEntry → Option LineEntry
 point zero spots = None
 point (suc k) spots = slice_get spots k
 
-spot_at-point : (spots : List Spot) (i count : ℕ) → AllWithin (λ (s : Spot). leb s.first i ≡ true) spots 0 count
-    → AllWithin (λ (s : Spot). leb s.first i ≡ false) spots count (length spots) → count ≤ length spots → spot_at spots i ≡ point count spots
+spot_at-point : (spots : List LineEntry) (i count : ℕ) → AllWithin (λ (s : LineEntry). leb s.first i ≡ true) spots 0 count
+    → AllWithin (λ (s : LineEntry). leb s.first i ≡ false) spots count (length spots) → count ≤ length spots → spot_at spots i ≡ point count spots
 spot_at-point [] i zero are not le = refl
 spot_at-point [] i (suc k) are not le = absurd (omega (arith, le))
 spot_at-point (s ∷ spots) i zero are not le = at-behind s spots i (leb-false s.first i (not 0 s (omega arith) (omega arith)))
@@ -101,21 +101,21 @@ spot_at-point (s ∷ spots) i (suc (suc k)) are not le =
     ∙ ap (λ o. Some (unwrap_or o s)) (spot_at-point spots i (suc k) (λ j d low high. are (suc j) d (omega arith) (omega (arith, high))) (λ j d low high. not (suc j) d (omega (arith, low)) (omega (arith, high))) (omega (arith, le)) ∙ last.1)
     ∙ sym last.1
 
-pub spot_at-is : (spots : List Spot) (i count : ℕ) → AllWithin (λ (s : Spot). leb s.first i ≡ true) spots 0 count
-    → AllWithin (λ (s : Spot). leb s.first i ≡ false) spots count (length spots) → count ≤ length spots
+pub spot_at-is : (spots : List LineEntry) (i count : ℕ) → AllWithin (λ (s : LineEntry). leb s.first i ≡ true) spots 0 count
+    → AllWithin (λ (s : LineEntry). leb s.first i ≡ false) spots count (length spots) → count ≤ length spots
     → (count ≡ 0 → spot_at spots i ≡ None) × (0 < count → spot_at spots i ≡ slice_get spots (count - 1))
 spot_at-is spots i zero are not le = (λ h. spot_at-point spots i 0 are not le, λ lt. absurd (omega (arith, lt)))
 spot_at-is spots i (suc k) are not le =
     let one : k ≡ suc k - 1 = omega arith in
     (λ h. absurd (omega (arith, h)), λ lt. spot_at-point spots i (suc k) are not le ∙ ap (slice_get spots) one)
 
-all-at : (n : ℕ) (spots : List Spot) (j : ℕ) (d : Spot) → AllByRecursion (λ (s : Spot). n ≤ s.first) spots → j < length spots → n ≤ (get_or spots j d).first
+all-at : (n : ℕ) (spots : List LineEntry) (j : ℕ) (d : LineEntry) → AllByRecursion (λ (s : LineEntry). n ≤ s.first) spots → j < length spots → n ≤ (get_or spots j d).first
 all-at n [] j d all lt = absurd (omega (arith, lt))
 all-at n (s ∷ spots) zero d all lt = all.0
 all-at n (s ∷ spots) (suc j) d all lt = all-at n spots j d all.1 (omega (arith, lt))
 
 -- as `partition_point` asks it
-pub rise-by : (spots : List Spot) → Rise spots → IsNonDecreasingBy (λ (s : Spot). s.first) spots
+pub rise-by : (spots : List LineEntry) → Rise spots → IsNonDecreasingBy (λ (s : LineEntry). s.first) spots
 rise-by [] rise i j d le lt = absurd (omega (arith, lt))
 rise-by (s ∷ spots) rise zero zero d le lt = omega arith
 rise-by (s ∷ spots) rise zero (suc j) d le lt = all-at s.first spots j d rise.0 (omega (arith, lt))
@@ -123,31 +123,31 @@ rise-by (s ∷ spots) rise (suc i) zero d le lt = absurd (omega (arith, le))
 rise-by (s ∷ spots) rise (suc i) (suc j) d le lt = rise-by spots rise.1 i j d (omega (arith, le)) (omega (arith, lt))
 
 -- a spot more, which begins at the next token
-before-push : (n : ℕ) (spots : List Spot) (s : Spot) → AreBefore n spots → s.first ≡ n → AreBefore (n + 1) (spots ++ s ∷ [])
+before-push : (n : ℕ) (spots : List LineEntry) (s : LineEntry) → AreBefore n spots → s.first ≡ n → AreBefore (n + 1) (spots ++ s ∷ [])
 before-push n [] s all is = (omega (arith, is), tt)
 before-push n (x ∷ spots) s all is = (omega (arith, all.0), before-push n spots s all.1 is)
 
-before-next : (n : ℕ) (spots : List Spot) → AreBefore n spots → AreBefore (n + 1) spots
+before-next : (n : ℕ) (spots : List LineEntry) → AreBefore n spots → AreBefore (n + 1) spots
 before-next n [] all = tt
 before-next n (x ∷ spots) all = (omega (arith, all.0), before-next n spots all.1)
 
-least-push : (m : ℕ) (spots : List Spot) (s : Spot) → AllByRecursion (λ (t : Spot). m ≤ t.first) spots → m ≤ s.first → AllByRecursion (λ (t : Spot). m ≤ t.first) (spots ++ s ∷ [])
+least-push : (m : ℕ) (spots : List LineEntry) (s : LineEntry) → AllByRecursion (λ (t : LineEntry). m ≤ t.first) spots → m ≤ s.first → AllByRecursion (λ (t : LineEntry). m ≤ t.first) (spots ++ s ∷ [])
 least-push m [] s all le = (le, tt)
 least-push m (x ∷ spots) s all le = (all.0, least-push m spots s all.1 le)
 
-rise-push : (n : ℕ) (spots : List Spot) (s : Spot) → AreBefore n spots → Rise spots → s.first ≡ n → Rise (spots ++ s ∷ [])
+rise-push : (n : ℕ) (spots : List LineEntry) (s : LineEntry) → AreBefore n spots → Rise spots → s.first ≡ n → Rise (spots ++ s ∷ [])
 rise-push n [] s all rise is = (tt, tt)
 rise-push n (x ∷ spots) s all rise is = (least-push x.first spots s rise.0 (omega (arith, all.0, is)), rise-push n spots s all.1 rise.1 is)
 
 -- tokens of which each has the same line and stretch in both have the same sites
-sites-same : (st st' : List Stretch) (spots spots' : List Spot) (n : ℕ) → ((i : ℕ) → i < n → found st' spots' i ≡ found st spots i) → sites_of st' spots' n ≡ sites_of st spots n
+sites-same : (st st' : List Stretch) (spots spots' : List LineEntry) (n : ℕ) → ((i : ℕ) → i < n → found st' spots' i ≡ found st spots i) → sites_of st' spots' n ≡ sites_of st spots n
 sites-same st st' spots spots' zero same = refl
 sites-same st st' spots spots' (suc n) same =
     ap (λ l. l ++ site_in n (found st' spots' n)) (sites-same st st' spots spots' n (λ i lt. same i (omega (arith, lt))))
     ∙ ap (λ o. sites_of st spots n ++ site_in n o) (same n (omega arith))
 
 -- a site each
-length-upto : (st : List Stretch) (spots : List Spot) (n : ℕ) → ((i : ℕ) → i < n → (x : ℕ × Stretch) × (found st spots i ≡ Some x)) → length (sites_of st spots n) ≡ n
+length-upto : (st : List Stretch) (spots : List LineEntry) (n : ℕ) → ((i : ℕ) → i < n → (x : ℕ × Stretch) × (found st spots i ≡ Some x)) → length (sites_of st spots n) ≡ n
 length-upto st spots zero stands = refl
 length-upto st spots (suc n) stands =
     let x = stands n (omega arith) in
@@ -155,10 +155,10 @@ length-upto st spots (suc n) stands =
     ∙ longer (sites_of st spots n) (site_at (n + x.0.1.others) (record { file = x.0.1.file; line = x.0.0 }))
     ∙ ap suc (length-upto st spots n (λ i lt. stands i (omega (arith, lt))))
 
-pub length-sites : (st : List Stretch) (spots : List Spot) (n : ℕ) → AreKept st spots n → length (sites_of st spots n) ≡ n
+pub length-sites : (st : List Stretch) (spots : List LineEntry) (n : ℕ) → AreKept st spots n → length (sites_of st spots n) ≡ n
 length-sites st spots n kept = length-upto st spots n kept.stands
 
-upto-at : (st : List Stretch) (spots : List Spot) (n : ℕ) → ((i : ℕ) → i < n → (x : ℕ × Stretch) × (found st spots i ≡ Some x))
+upto-at : (st : List Stretch) (spots : List LineEntry) (n : ℕ) → ((i : ℕ) → i < n → (x : ℕ × Stretch) × (found st spots i ≡ Some x))
     → (i : ℕ) → i < n → (x : ℕ × Stretch) → found st spots i ≡ Some x → slice_get (sites_of st spots n) i ≡ Some (site_at (i + x.1.others) (record { file = x.1.file; line = x.0 }))
 upto-at st spots zero stands i lt x is = absurd (omega (arith, lt))
 upto-at st spots (suc n) stands i lt x is = by (earlier i n (omega (arith, lt))) (λ l. upto-at st spots n some i l x is)
@@ -196,15 +196,15 @@ upto-at st spots (suc n) stands i lt x is = by (earlier i n (omega (arith, lt)))
         ∙ ap (λ k. Some (site_at (k + x.1.others) (record { file = x.1.file; line = x.0 }))) (sym e)
 
 -- the site with a number, and none past the last
-pub site-at : (st : List Stretch) (spots : List Spot) (n : ℕ) → AreKept st spots n → (i : ℕ) → i < n → (x : ℕ × Stretch) → found st spots i ≡ Some x
+pub site-at : (st : List Stretch) (spots : List LineEntry) (n : ℕ) → AreKept st spots n → (i : ℕ) → i < n → (x : ℕ × Stretch) → found st spots i ≡ Some x
     → slice_get (sites_of st spots n) i ≡ Some (site_at (i + x.1.others) (record { file = x.1.file; line = x.0 }))
 site-at st spots n kept i lt x is = upto-at st spots n kept.stands i lt x is
 
-pub site-past : (st : List Stretch) (spots : List Spot) (n : ℕ) → AreKept st spots n → (i : ℕ) → n ≤ i → slice_get (sites_of st spots n) i ≡ None
+pub site-past : (st : List Stretch) (spots : List LineEntry) (n : ℕ) → AreKept st spots n → (i : ℕ) → n ≤ i → slice_get (sites_of st spots n) i ≡ None
 site-past st spots n kept i le = slice_get_past (sites_of st spots n) i (omega (arith, le, length-sites st spots n kept))
 
 -- one more token, where each before it keeps its line and stretch
-module _ (st st' : List Stretch) (spots spots' : List Spot) (n : ℕ) (kept : AreKept st spots n) (same : (i : ℕ) → i < n → found st' spots' i ≡ found st spots i) where
+module _ (st st' : List Stretch) (spots spots' : List LineEntry) (n : ℕ) (kept : AreKept st spots n) (same : (i : ℕ) → i < n → found st' spots' i ≡ found st spots i) where
   next : (line : ℕ) (s : Stretch) → found st' spots' n ≡ Some (line, s) → AreBefore (n + 1) spots' → Rise spots' → n < 2 ^ 32
       → AreKept st' spots' (n + 1) × (sites_of st' spots' (n + 1) ≡ sites_of st spots n ++ site_at (length (sites_of st spots n) + s.others) (record { file = s.file; line = line }) ∷ [])
   next line s is all rise few =
@@ -233,14 +233,14 @@ module _ (st st' : List Stretch) (spots spots' : List Spot) (n : ℕ) (kept : Ar
       stands i (inr e) = ((line, s), ap (found st' spots') e ∙ is)
 
 -- on the same line
-pub push-on : (st : List Stretch) (spots : List Spot) (n : ℕ) → AreKept st spots n → (line : ℕ) (s : Stretch) → in_stretch st (slice_get spots (length spots - 1)) ≡ Some (line, s) → n < 2 ^ 32
+pub push-on : (st : List Stretch) (spots : List LineEntry) (n : ℕ) → AreKept st spots n → (line : ℕ) (s : Stretch) → in_stretch st (slice_get spots (length spots - 1)) ≡ Some (line, s) → n < 2 ^ 32
     → AreKept st spots (n + 1) × (sites_of st spots (n + 1) ≡ sites_of st spots n ++ site_at (length (sites_of st spots n) + s.others) (record { file = s.file; line = line }) ∷ [])
 push-on st spots n kept line s is few =
     next st st spots spots n kept (λ i lt. refl) line s (ap (in_stretch st) (spot_at-last spots n kept.before) ∙ is)
     (before-next n spots kept.before) kept.rise few
 
 -- on another, in a stretch that is there
-line-more : (st : List Stretch) (spots : List Spot) (n : ℕ) → AreKept st spots n → (spot : Spot) (s : Stretch) → spot.first ≡ n
+line-more : (st : List Stretch) (spots : List LineEntry) (n : ℕ) → AreKept st spots n → (spot : LineEntry) (s : Stretch) → spot.first ≡ n
     → slice_get st spot.stretch ≡ Some s → n < 2 ^ 32
     → AreKept st (spots ++ spot ∷ []) (n + 1)
     × (sites_of st (spots ++ spot ∷ []) (n + 1) ≡ sites_of st spots n ++ site_at (length (sites_of st spots n) + s.others) (record { file = s.file; line = spot.line }) ∷ [])
@@ -250,10 +250,10 @@ line-more st spots n kept spot s first is few =
     (before-push n spots spot kept.before first) (rise-push n spots spot kept.before kept.rise first) few
 
 -- with more stretches, each token has its own as before
-found-more : (st more : List Stretch) (spots : List Spot) (i : ℕ) (x : ℕ × Stretch) → found st spots i ≡ Some x → found (st ++ more) spots i ≡ found st spots i
+found-more : (st more : List Stretch) (spots : List LineEntry) (i : ℕ) (x : ℕ × Stretch) → found st spots i ≡ Some x → found (st ++ more) spots i ≡ found st spots i
 found-more st more spots i x is = by (spot_at spots i) is
   where
-    by : (o : Option Spot) → in_stretch st o ≡ Some x → in_stretch (st ++ more) o ≡ in_stretch st o
+    by : (o : Option LineEntry) → in_stretch st o ≡ Some x → in_stretch (st ++ more) o ≡ in_stretch st o
     by None is = refl
     by (Some spot) is = within (slice_get st spot.stretch) refl is
       where
@@ -262,7 +262,7 @@ found-more st more spots i x is = by (spot_at spots i) is
         within None at is = absurd (cc)
         within (Some y) at is = ap (option_map (λ (s : Stretch). (spot.line, s))) (before st more spot.stretch (slice_get_within st spot.stretch y at))
 
-pub stretch-more : (st more : List Stretch) (spots : List Spot) (n : ℕ) → AreKept st spots n
+pub stretch-more : (st more : List Stretch) (spots : List LineEntry) (n : ℕ) → AreKept st spots n
     → AreKept (st ++ more) spots n × (sites_of (st ++ more) spots n ≡ sites_of st spots n)
 stretch-more st more spots n kept = (
   record {
@@ -275,7 +275,7 @@ stretch-more st more spots n kept = (
 )
 
 -- and another line may be in one of these
-pub push-line : (st more : List Stretch) (spots : List Spot) (n : ℕ) → AreKept st spots n → (spot : Spot) (s : Stretch) → spot.first ≡ n
+pub push-line : (st more : List Stretch) (spots : List LineEntry) (n : ℕ) → AreKept st spots n → (spot : LineEntry) (s : Stretch) → spot.first ≡ n
     → slice_get (st ++ more) spot.stretch ≡ Some s → n < 2 ^ 32
     → AreKept (st ++ more) (spots ++ spot ∷ []) (n + 1)
     × (sites_of (st ++ more) (spots ++ spot ∷ []) (n + 1) ≡ sites_of st spots n ++ site_at (length (sites_of st spots n) + s.others) (record { file = s.file; line = spot.line }) ∷ [])
@@ -285,7 +285,7 @@ push-line st more spots n kept spot s first is few =
     (pushed.0, pushed.1 ∙ ap (λ l. l ++ site_at (length l + s.others) (record { file = s.file; line = spot.line }) ∷ []) all.1)
 
 -- so many more on the same line
-pub push-run : (st : List Stretch) (spots : List Spot) (n : ℕ) → AreKept st spots n → (place : Place) (others k : ℕ)
+pub push-run : (st : List Stretch) (spots : List LineEntry) (n : ℕ) → AreKept st spots n → (place : Place) (others k : ℕ)
     → in_stretch st (slice_get spots (length spots - 1)) ≡ Some (place.line, record { file = place.file; others = others }) → n + k ≤ 2 ^ 32
     → AreKept st spots (n + k) × (sites_of st spots (n + k) ≡ sites_of st spots n ++ sites_at (length (sites_of st spots n) + others) place k)
 push-run st spots n kept place others zero is few =
@@ -312,15 +312,15 @@ push-run st spots n kept place others (suc k) is few =
     )
 
 -- and on another, in one of these stretches
-pub line-run : (st more : List Stretch) (spots : List Spot) (n : ℕ) → AreKept st spots n → (place : Place) (others stretch k : ℕ)
+pub line-run : (st more : List Stretch) (spots : List LineEntry) (n : ℕ) → AreKept st spots n → (place : Place) (others stretch k : ℕ)
     → slice_get (st ++ more) stretch ≡ Some (record { file = place.file; others = others }) → 0 < k → n + k ≤ 2 ^ 32
-    → let spot : Spot = record { first = n; line = place.line; stretch = stretch } in
+    → let spot : LineEntry = record { first = n; line = place.line; stretch = stretch } in
     AreKept (st ++ more) (spots ++ spot ∷ []) (n + k)
     × (sites_of (st ++ more) (spots ++ spot ∷ []) (n + k) ≡ sites_of st spots n ++ sites_at (length (sites_of st spots n) + others) place k)
 line-run st more spots n kept place others stretch zero is some few = absurd (omega (arith, some))
 line-run st more spots n kept place others stretch (suc k) is some few =
     let s : Stretch = record { file = place.file; others = others } in
-    let spot : Spot = record { first = n; line = place.line; stretch = stretch } in
+    let spot : LineEntry = record { first = n; line = place.line; stretch = stretch } in
     let front = sites_of st spots n in
     let all = spots ++ spot ∷ [] in
     let one = push-line st more spots n kept spot s refl is (omega (arith, few)) in
@@ -360,7 +360,7 @@ text_sites-push n file (u ∷ front) t =
     let e : n + 1 + length front ≡ n + suc (length front) = omega arith in
     ap (λ l. site_at n (record { file = file; line = u.line }) ∷ l) (text_sites-push (n + 1) file front t ∙ ap (λ k. text_sites (n + 1) file front ++ site_at k (record { file = file; line = t.line }) ∷ []) e)
 
-pub HaveSites-none : (spots : List Spot) (first stretch : ℕ) → HaveSites spots spots first stretch []
+pub HaveSites-none : (spots : List LineEntry) (first stretch : ℕ) → HaveSites spots spots first stretch []
 HaveSites-none spots first stretch = λ st s is kept.
     let none : first + 0 ≡ first = omega arith in (
       subst (AreKept st spots) (sym none) kept,
@@ -368,7 +368,7 @@ HaveSites-none spots first stretch = λ st s is kept.
     )
 
 -- one token more
-HaveSites-next : (old spots spots' : List Spot) (first stretch : ℕ) (front : List PlacedToken) (t : PlacedToken) → HaveSites old spots first stretch front
+HaveSites-next : (old spots spots' : List LineEntry) (first stretch : ℕ) (front : List PlacedToken) (t : PlacedToken) → HaveSites old spots first stretch front
     → ((st : List Stretch) (s : Stretch) → slice_get st stretch ≡ Some s → AreKept st spots (first + length front)
     → AreKept st spots' (first + length front + 1)
     × (sites_of st spots' (first + length front + 1)
@@ -393,7 +393,7 @@ HaveSites-next old spots spots' first stretch front t have step = λ st s is kep
     )
 
 -- on the line of the last spot
-pub HaveSites-on : (old spots : List Spot) (first stretch : ℕ) (front : List PlacedToken) (t : PlacedToken) → HaveSites old spots first stretch front
+pub HaveSites-on : (old spots : List LineEntry) (first stretch : ℕ) (front : List PlacedToken) (t : PlacedToken) → HaveSites old spots first stretch front
     → ((st : List Stretch) (s : Stretch) → slice_get st stretch ≡ Some s → in_stretch st (slice_get spots (length spots - 1)) ≡ Some (t.line, s))
     → first + length front < 2 ^ 32 → HaveSites old spots first stretch (front ++ t ∷ [])
 HaveSites-on old spots first stretch front t have last few =
@@ -401,7 +401,7 @@ HaveSites-on old spots first stretch front t have last few =
     (λ st s is kept. push-on st spots (first + length front) kept t.line s (last st s is) few)
 
 -- on another
-pub HaveSites-line : (old spots : List Spot) (first stretch : ℕ) (front : List PlacedToken) (t : PlacedToken) (spot : Spot) → HaveSites old spots first stretch front
+pub HaveSites-line : (old spots : List LineEntry) (first stretch : ℕ) (front : List PlacedToken) (t : PlacedToken) (spot : LineEntry) → HaveSites old spots first stretch front
     → spot.first ≡ first + length front → spot.line ≡ t.line → spot.stretch ≡ stretch → first + length front < 2 ^ 32
     → HaveSites old (spots ++ spot ∷ []) first stretch (front ++ t ∷ [])
 HaveSites-line old spots first stretch front t spot have begins line inside few =
@@ -411,7 +411,7 @@ HaveSites-line old spots first stretch front t spot have begins line inside few 
     (more.0, more.1 ∙ ap (λ k. sites_of st spots (first + length front) ++ site_at (length (sites_of st spots (first + length front)) + s.others) (record { file = s.file; line = k }) ∷ []) line))
 
 -- the last spot is one that was put in
-pub in_stretch-last : (spots : List Spot) (spot : Spot) (stretch : ℕ) → spot.stretch ≡ stretch → (st : List Stretch) (s : Stretch) → slice_get st stretch ≡ Some s
+pub in_stretch-last : (spots : List LineEntry) (spot : LineEntry) (stretch : ℕ) → spot.stretch ≡ stretch → (st : List Stretch) (s : Stretch) → slice_get st stretch ≡ Some s
     → in_stretch st (slice_get (spots ++ spot ∷ []) (length (spots ++ spot ∷ []) - 1)) ≡ Some (spot.line, s)
 in_stretch-last spots spot stretch inside st s is =
     let end : length (spots ++ spot ∷ []) - 1 ≡ length spots = omega (arith, longer spots spot) in

@@ -5,22 +5,22 @@ use Rattle.std.specs.Option.{option_map, unwrap_or}
 use Rattle.idl_event.specs.Apart.{site_at, text_sites}
 use Rattle.idl_fault.specs.declared.place.Place.{Place}
 use Rattle.idl_event.specs.declared.told.site.Site.{Site}
-use Rattle.idl_event.specs.declared.told.sites.Spot.{Spot}
+use Rattle.idl_event.specs.declared.told.sites.LineEntry.{LineEntry}
 use Rattle.idl_event.specs.declared.told.sites.Stretch.{Stretch}
 use Rattle.idl_lex.specs.declared.tokens.token.PlacedToken.{PlacedToken}
 
 -- the last of these that begins at the token with this number, or before it
-abbrev pub spot_at : List Spot → ℕ → Option Spot
+abbrev pub spot_at : List LineEntry → ℕ → Option LineEntry
 spot_at [] i = None
 spot_at (s ∷ spots) i = if nat_le s.first i then Some (unwrap_or (spot_at spots i) s) else None
 
 -- the line of a token in these, and its stretch
-abbrev pub in_stretch : List Stretch → Option Spot → Option (ℕ × Stretch)
+abbrev pub in_stretch : List Stretch → Option LineEntry → Option (ℕ × Stretch)
 in_stretch stretches None = None
 in_stretch stretches (Some spot) = option_map (λ s. (spot.line, s)) (slice_get stretches spot.stretch)
 
 -- those of the token with this number
-abbrev pub found : List Stretch → List Spot → ℕ → Option (ℕ × Stretch)
+abbrev pub found : List Stretch → List LineEntry → ℕ → Option (ℕ × Stretch)
 found stretches spots i = in_stretch stretches (spot_at spots i)
 
 -- where it stands: its event comes behind the others before the stretch
@@ -29,22 +29,22 @@ site_in i None = []
 site_in i (Some (line, s)) = record { file = s.file; line = line; event = i + s.others } ∷ []
 
 -- the sites of so many tokens
-abbrev pub sites_of : List Stretch → List Spot → ℕ → List Site
+abbrev pub sites_of : List Stretch → List LineEntry → ℕ → List Site
 sites_of stretches spots zero = []
 sites_of stretches spots (suc n) =
     sites_of stretches spots n ++ site_in n (found stretches spots n)
 
 -- each begins at a token before this one
-abbrev pub AreBefore : ℕ → List Spot → Type 0
+abbrev pub AreBefore : ℕ → List LineEntry → Type 0
 AreBefore n spots = AllByRecursion (λ spot. spot.first < n) spots
 
 -- none begins before an earlier one
-abbrev pub Rise : List Spot → Type 0
+abbrev pub Rise : List LineEntry → Type 0
 Rise [] = ⊤
 Rise (s ∷ spots) = AllByRecursion (λ spot. s.first ≤ spot.first) spots × Rise spots
 
 -- each of so many tokens has its line and its stretch
-pub record AreKept (stretches : List Stretch) (spots : List Spot) (count : ℕ) : Type 0 where
+pub record AreKept (stretches : List Stretch) (spots : List LineEntry) (count : ℕ) : Type 0 where
   pub stands : (i : ℕ) → i < count → (x : ℕ × Stretch) × (found stretches spots i ≡ Some x)
   pub before : AreBefore count spots
   pub rise : Rise spots
@@ -56,7 +56,7 @@ StandsAt sites i place = (event : ℕ) × (slice_get sites i ≡ Some (site_at e
 
 -- tokens of a file, from this number on and in a stretch with this number, have spots more: with
 -- these they have their sites
-abbrev pub HaveSites : List Spot → List Spot → ℕ → ℕ → List PlacedToken → Type 0
+abbrev pub HaveSites : List LineEntry → List LineEntry → ℕ → ℕ → List PlacedToken → Type 0
 HaveSites old new first stretch tokens =
     (stretches : List Stretch) (s : Stretch) → slice_get stretches stretch ≡ Some s
     → AreKept stretches old first

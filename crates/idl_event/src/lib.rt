@@ -22,6 +22,6 @@ pub use told::event::{Event, Item};
 pub use told::event_view::EventView;
 pub use told::expansion::{Events, Expansion};
 pub use told::progress::Progress;
-pub use told::runs::Runs;
+pub use told::runs::TokenRuns;
 pub use told::site::Site;
 pub use told::sites::Sites;

@@ -23,7 +23,7 @@ use Rattle.idl_repo.specs.declared.details.type_code_tree.TypeCodeParts.TheVaria
 use Rattle.idl_repo.specs.declared.details.type_code_tree.TypeCodeTree.{TypeCodeTree}
 use Rattle.idl_repo.specs.declared.details.type_tree.ElementTree.{ElementTree}
 use Rattle.idl_repo.specs.declared.details.type_tree.ElementTree.TheVariants as tree
-use Rattle.idl_repo.specs.declared.details.type_tree.TypeTree.{TypeTree}
+use Rattle.idl_repo.specs.declared.details.type_tree.LayeredType.{LayeredType}
 use Rattle.idl_json.specs.Diagnostic.{IsDiagnosticJson, Located, Second, column_fields, second_json, severity, token_fields}
 use Rattle.idl_json.specs.Objects.{list_json, number_json, object_of}
 use Rattle.idl_json.specs.Rows.{json_of, parameter_json, value_json}
@@ -91,7 +91,7 @@ layered-plain json lengths (Array n ∷ layers) plain = layered-plain json (n �
 layered-plain json lengths (Sequence bound ∷ layers) plain =
     layered-plain (sequence_json bound (arrays_json lengths json)) [] layers (sequence-plain bound (arrays_json lengths json) (arrays-plain lengths json plain))
 
-type-plain : (t : TypeTree) → has_float (type_json t) ≡ false
+type-plain : (t : LayeredType) → has_float (type_json t) ≡ false
 type-plain t = layered-plain (element_json t.element) [] t.layers (element-plain t.element)
 
 -- ---- TypeCodes
@@ -117,7 +117,7 @@ code-by id name (parts.Structure members) = rw (members-plain members) refl
 code-by id name (parts.Exception members) = rw (members-plain members) refl
 code-by id name (parts.Union u) = by u.discriminator u.default u.cases
   where
-    by : (t : TypeTree) (n : Option ℕ) (cases : List CaseTree) → let c : TypeCodeTree = record { id = id; name = name; parts = parts.Union (record { discriminator = t; default = n; cases = cases }) } in has_float (type_code_json c) ≡ false
+    by : (t : LayeredType) (n : Option ℕ) (cases : List CaseTree) → let c : TypeCodeTree = record { id = id; name = name; parts = parts.Union (record { discriminator = t; default = n; cases = cases }) } in has_float (type_code_json c) ≡ false
     by t None cases = rw (type-plain t, cases-plain cases) refl
     by t (Some n) cases = rw (type-plain t, cases-plain cases) refl
 code-by id name (parts.Enumeration names) = rw (texts-plain names) refl

@@ -25,7 +25,7 @@ use Rattle.idl_repo.specs.declared.details.type_code_tree.TypeCodeTree.{TypeCode
 use Rattle.idl_repo.specs.declared.details.type_code_tree.UnionTree.{UnionTree}
 use Rattle.idl_repo.specs.declared.details.type_tree.ElementTree.{ElementTree}
 use Rattle.idl_repo.specs.declared.details.type_tree.ElementTree.TheVariants as tree
-use Rattle.idl_repo.specs.declared.details.type_tree.TypeTree.{TypeTree}
+use Rattle.idl_repo.specs.declared.details.type_tree.LayeredType.{LayeredType}
 use Rattle.idl_repo.specs.TypeCode.{integer_word}
 use Rattle.idl_json.specs.Objects.{list_json, number_json}
 use Rattle.idl_json.specs.Reading.{around, bound_of, case_of, element_of, element_of_word, found_in, kind_words, list_of, member_of, number_of, parameter_of, plain, text_of, texts_of, tree_of, type_code_of, type_of, value_of}
@@ -108,18 +108,18 @@ plain-type (tree.Unvalued unvalued.Any) = refl
 plain-type (tree.Unvalued unvalued.Object) = refl
 plain-type (tree.Named id) = refl
 
-around-more : (t : TypeTree) (xs ys : List Layer) → around (around t xs) ys ≡ around t (xs ++ ys)
+around-more : (t : LayeredType) (xs ys : List Layer) → around (around t xs) ys ≡ around t (xs ++ ys)
 around-more t xs ys = ap (λ ls. record { element = t.element; layers = ls }) (append_assoc t.layers xs ys)
 
 -- the array layers of these lengths, the innermost first
 abbrev arrays_of : List ℕ → List Layer
 arrays_of lengths = map (λ n. Array n) (reverse lengths)
 
-read-arrays : (json : Data) (t : TypeTree) (lengths : List ℕ) → type_of json ≡ Some t → type_of (arrays_json lengths json) ≡ Some (around t (arrays_of lengths))
+read-arrays : (json : Data) (t : LayeredType) (lengths : List ℕ) → type_of json ≡ Some t → type_of (arrays_json lengths json) ≡ Some (around t (arrays_of lengths))
 read-arrays json t [] is = is ∙ ap (λ ls. Some (record { element = t.element; layers = ls })) (sym (append-nil t.layers))
 read-arrays json t (n ∷ ns) is = rw is (rw (read-numbers (n ∷ ns)) refl)
 
-read-sequence : (bound : ℕ) (json : Data) (t : TypeTree) → type_of json ≡ Some t → type_of (sequence_json bound json) ≡ Some (around t (Sequence bound ∷ []))
+read-sequence : (bound : ℕ) (json : Data) (t : LayeredType) → type_of json ≡ Some t → type_of (sequence_json bound json) ≡ Some (around t (Sequence bound ∷ []))
 read-sequence bound json t is = rw is refl
 
 one-array-more : (n : ℕ) (lengths : List ℕ) (layers : List Layer) → arrays_of (n ∷ lengths) ++ layers ≡ arrays_of lengths ++ Array n ∷ layers
@@ -128,7 +128,7 @@ one-array-more n lengths layers =
     ∙ ap (λ (ls : List Layer). ls ++ layers) (map-append (λ m. Array m) (reverse lengths) (n ∷ []))
     ∙ append_assoc (arrays_of lengths) (Array n ∷ []) layers
 
-read-layers : (json : Data) (t : TypeTree) (lengths : List ℕ) (layers : List Layer) → type_of json ≡ Some t
+read-layers : (json : Data) (t : LayeredType) (lengths : List ℕ) (layers : List Layer) → type_of json ≡ Some t
     → type_of (layered json lengths layers) ≡ Some (around t (arrays_of lengths ++ layers))
 read-layers json t lengths [] is =
     read-arrays json t lengths is ∙ ap (λ ls. Some (around t ls)) (sym (append-nil (arrays_of lengths)))
@@ -140,7 +140,7 @@ read-layers json t lengths (Sequence bound ∷ layers) is =
     read-layers (sequence_json bound (arrays_json lengths json)) (around inner (Sequence bound ∷ [])) [] layers held
     ∙ ap Some (around-more inner (Sequence bound ∷ []) layers ∙ around-more t (arrays_of lengths) (Sequence bound ∷ layers))
 
-pub read-type : (t : TypeTree) → type_of (type_json t) ≡ Some t
+pub read-type : (t : LayeredType) → type_of (type_json t) ≡ Some t
 read-type t = read-layers (element_json t.element) (plain t.element) [] t.layers (plain-type t.element ∙ ap (option_map plain) (read-element t.element))
 
 -- ---- TypeCodes
@@ -171,7 +171,7 @@ code-by id name (parts.Exception members) =
     rw (read-characters id) (rw (read-characters name) (rw (read-characters (codes "tk_except")) (rw (read-members members) refl)))
 code-by id name (parts.Union u) = by u.discriminator u.default u.cases
   where
-    by : (t : TypeTree) (n : Option ℕ) (cases : List CaseTree) → let union : UnionTree = record { discriminator = t; default = n; cases = cases } in
+    by : (t : LayeredType) (n : Option ℕ) (cases : List CaseTree) → let union : UnionTree = record { discriminator = t; default = n; cases = cases } in
         type_code_of (type_code_json (record { id = id; name = name; parts = parts.Union union })) ≡ Some (record { id = id; name = name; parts = parts.Union union })
     by t None cases =
         rw (read-characters id) (rw (read-characters name) (rw (read-characters (codes "tk_union")) (rw (read-type t) (rw (read-cases cases) refl))))

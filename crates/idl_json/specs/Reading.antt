@@ -28,7 +28,7 @@ use Rattle.idl_repo.specs.declared.details.type_code_tree.TypeCodeTree.{TypeCode
 use Rattle.idl_repo.specs.declared.details.type_code_tree.UnionTree.{UnionTree}
 use Rattle.idl_repo.specs.declared.details.type_tree.ElementTree.{ElementTree}
 use Rattle.idl_repo.specs.declared.details.type_tree.ElementTree.TheVariants as tree
-use Rattle.idl_repo.specs.declared.details.type_tree.TypeTree.{TypeTree}
+use Rattle.idl_repo.specs.declared.details.type_tree.LayeredType.{LayeredType}
 use Rattle.idl_repo.specs.TypeCode.{integer_word, unvalued_word}
 use Rattle.idl_json.specs.Rows.{kind_name}
 
@@ -147,19 +147,19 @@ layers_of json =
     ]
 
 -- a type with such layers around it
-abbrev pub around : TypeTree → List Layer → TypeTree
+abbrev pub around : LayeredType → List Layer → LayeredType
 around t layers = record { element = t.element; layers = t.layers ++ layers }
 
-abbrev pub plain : ElementTree → TypeTree
+abbrev pub plain : ElementTree → LayeredType
 plain element = record { element = element; layers = [] }
 
 -- a type, by that of its element if it has one
-abbrev pub type_by : Data → Option TypeTree → Option TypeTree
+abbrev pub type_by : Data → Option LayeredType → Option LayeredType
 type_by json (Some t) = option_map (around t) (layers_of json)
 type_by json None = option_map plain (element_of json)
 
 abbrev mutual
-  pub type_of : Data → Option TypeTree
+  pub type_of : Data → Option LayeredType
   type_of null = None
   type_of (boolean b) = None
   type_of (number n) = None
@@ -167,7 +167,7 @@ abbrev mutual
   type_of (array items) = None
   type_of (object members) = type_by (object members) (inner_type members)
 
-  pub inner_type : Members → Option TypeTree
+  pub inner_type : Members → Option LayeredType
   inner_type no_members = None
   inner_type (member key json members) =
       if bytes_eq key (codes "element") then type_of json else inner_type members
@@ -256,7 +256,7 @@ constant_of json =
 abbrev pub pair : {A B : Type 0} → A → B → A × B
 pair a b = (a, b)
 
-abbrev pub attribute_from : Bool → TypeTree → (List (List ℕ) × List (List ℕ)) → AttributeTree
+abbrev pub attribute_from : Bool → LayeredType → (List (List ℕ) × List (List ℕ)) → AttributeTree
 attribute_from is_readonly t ids = record {
   is_readonly = is_readonly;
   data_type = t;
@@ -292,7 +292,7 @@ told_of json =
     both pair (field (codes "parameters") (list_of parameter_of) json)
     (both pair (field (codes "raises") texts_of json) (field (codes "context") texts_of json))
 
-abbrev pub operation_from : Bool → TypeTree → Told → OperationTree
+abbrev pub operation_from : Bool → LayeredType → Told → OperationTree
 operation_from is_oneway t told = record {
   is_oneway = is_oneway;
   data_type = t;

@@ -10,7 +10,7 @@ use Rattle.idl_value.specs.declared.constant_type.ConstantType.TheVariants as ta
 use Rattle.idl_repo.specs.TypeCode.{integer_word, unvalued_word}
 use Rattle.idl_repo.specs.declared.details.type_tree.ElementTree.{ElementTree}
 use Rattle.idl_repo.specs.declared.details.type_tree.ElementTree.TheVariants as tree
-use Rattle.idl_repo.specs.declared.details.type_tree.TypeTree.{TypeTree}
+use Rattle.idl_repo.specs.declared.details.type_tree.LayeredType.{LayeredType}
 use Rattle.idl_json.specs.Objects.{list_json, number_json, object_of}
 use Rattle.idl_json.specs.Text.{text_json, texts_json}
 
@@ -78,5 +78,5 @@ layered element lengths (Array length ∷ layers) = layered element (length ∷ 
 layered element lengths (Sequence bound ∷ layers) =
     layered (sequence_json bound (arrays_json lengths element)) [] layers
 
-abbrev pub type_json : TypeTree → Data
+abbrev pub type_json : LayeredType → Data
 type_json t = layered (element_json t.element) [] t.layers

@@ -9,14 +9,14 @@ use crate::objects::Object;
 use crate::text::texts_value;
 use idl_base::Bytes;
 use idl_entity::{Layer, Unvalued};
-use idl_repo::details::{ElementTree, TypeTree};
+use idl_repo::details::{ElementTree, LayeredType};
 use idl_repo::{integer_word, unvalued_word};
 use idl_value::ConstantType;
 use serde_json::Value;
 use std::alloc::{AllocError, Global};
 
 /// A type.
-pub(crate) fn type_value(alloc: Global, data_type: &TypeTree) -> Result<Value, AllocError>
+pub(crate) fn type_value(alloc: Global, data_type: &LayeredType) -> Result<Value, AllocError>
     ensures { IfOk result (λ value. view value ≡ type_json data_type.now) }
 {
     let element = element_value(alloc, &data_type.element)?;

@@ -12,9 +12,9 @@ ghost use Rattle.idl_event.specs.declared.told.event.Item.TheVariants.{Kept};
 ghost use Rattle.idl_lex.specs.tokens.Tokens.{Token, tokens_in};
 ghost use Rattle.idl_macro.specs.Condition.{condition, defined_at, defined_read, truth, value};
 
-use crate::conditions::{Symbol, evaluate};
+use crate::conditions::{ConditionSymbol, evaluate};
 use crate::definitions::Macros;
-use crate::directive::Directive;
+use crate::directive::PlacedDirective;
 use crate::replacement::replace_operand;
 use idl_base::Bytes;
 use idl_event::{Event, Item, Progress, RootBank};
@@ -29,7 +29,7 @@ use std::alloc::{AllocError, Global};
 /// past the limits, nothing is said of the answer.
 pub fn condition<B: RootBank>(
     macros: &Macros<'_, B>,
-    directive: &Directive<'_>,
+    directive: &PlacedDirective<'_>,
     progress: &mut Progress<B>,
 ) -> Result<bool, AllocError>
     ensures { IfOk result (λ taken. arrived taken progress.new
@@ -111,7 +111,7 @@ fn value(alloc: Global, tokens: &[Token]) -> Result<Option<i64>, AllocError>
 {
     let mut symbols = Vec::new(alloc);
     'tokens: for token in tokens {
-        symbols.push(Symbol::from_spelling(token.as_bytes()))?;
+        symbols.push(ConditionSymbol::from_spelling(token.as_bytes()))?;
     }
     evaluate(alloc, &symbols)
 }
@@ -125,7 +125,7 @@ fn holds(value: i64) -> bool
 
 // The condition has no value.
 fn bad_condition<B: RootBank>(
-    directive: &Directive<'_>,
+    directive: &PlacedDirective<'_>,
     progress: &mut Progress<B>,
 ) -> Result<(), AllocError>
     ensures { OnOk result (progress.new

@@ -13,4 +13,4 @@ mod symbol;
 
 pub use condition::{evaluate, grammar};
 pub use operator::Operator;
-pub use symbol::Symbol;
+pub use symbol::ConditionSymbol;

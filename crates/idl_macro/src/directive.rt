@@ -22,7 +22,7 @@ use std::alloc::AllocError;
 
 /// A directive where it stands: its word, and the tokens after that.
 #[derive(Drop)]
-pub struct Directive<'a> {
+pub struct PlacedDirective<'a> {
     pub place: Place,
     pub word: &'a Bytes,
     pub operands: FileTokens<'a>,
@@ -32,7 +32,7 @@ pub struct Directive<'a> {
 /// stays.
 pub fn define<B: RootBank>(
     definitions: &mut Definitions,
-    directive: &Directive<'_>,
+    directive: &PlacedDirective<'_>,
     bank: &B,
     progress: &mut Progress<B>,
 ) -> Result<(), AllocError>
@@ -55,7 +55,7 @@ pub fn define<B: RootBank>(
 /// `undef`: the macro with the first word after the directive's is removed, if it is there.
 pub fn undef<B: RootBank>(
     definitions: &mut Definitions,
-    directive: &Directive<'_>,
+    directive: &PlacedDirective<'_>,
     progress: &mut Progress<B>,
 ) -> Result<(), AllocError>
     ensures { OnOk result ((bank : RootKey → Option RootAnswer) → arrived definitions.new progress.new
@@ -76,7 +76,7 @@ pub fn undef<B: RootBank>(
 /// word, that is a fault.
 pub fn ifdef<B: RootBank>(
     macros: &Macros<'_, B>,
-    directive: &Directive<'_>,
+    directive: &PlacedDirective<'_>,
     progress: &mut Progress<B>,
 ) -> Result<bool, AllocError>
     ensures { IfOk result (λ taken. arrived taken progress.new
@@ -94,7 +94,7 @@ pub fn ifdef<B: RootBank>(
 /// is no word, that is a fault.
 pub fn ifndef<B: RootBank>(
     macros: &Macros<'_, B>,
-    directive: &Directive<'_>,
+    directive: &PlacedDirective<'_>,
     progress: &mut Progress<B>,
 ) -> Result<bool, AllocError>
     ensures { IfOk result (λ taken. arrived taken progress.new
@@ -111,7 +111,7 @@ pub fn ifndef<B: RootBank>(
 // Whether the macro named by the operands is there, where they name one.
 fn is_macro_there<B: RootBank>(
     macros: &Macros<'_, B>,
-    directive: &Directive<'_>,
+    directive: &PlacedDirective<'_>,
     progress: &mut Progress<B>,
 ) -> Result<Option<bool>, AllocError>
     ensures { IfOk result (λ there. arrived there progress.new
@@ -133,7 +133,7 @@ fn is_macro_there<B: RootBank>(
 
 // The directive names no macro, or gives one parameters.
 fn malformed<B: RootBank>(
-    directive: &Directive<'_>,
+    directive: &PlacedDirective<'_>,
     progress: &mut Progress<B>,
 ) -> Result<(), AllocError>
     ensures { OnOk result (progress.new
@@ -148,7 +148,7 @@ fn malformed<B: RootBank>(
 
 // A macro with this word is there with other tokens.
 fn other_definition<B: RootBank>(
-    directive: &Directive<'_>,
+    directive: &PlacedDirective<'_>,
     word: &Bytes,
     progress: &mut Progress<B>,
 ) -> Result<(), AllocError>

@@ -15,6 +15,6 @@ mod word;
 
 pub use conditional::condition;
 pub use definitions::{Definitions, Macros};
-pub use directive::{Directive, define, ifdef, ifndef, undef};
+pub use directive::{PlacedDirective, define, ifdef, ifndef, undef};
 pub use replacement::{nesting, replace_operand, replace_text};
 pub use word::is_macro_word;

@@ -14,7 +14,7 @@ mod directives;
 mod walk;
 
 pub use directives::candidate::first_candidate;
-pub use walk::explorer::{Explorer, FileWalk, Next, OpenFile};
+pub use walk::explorer::{Explorer, FileWalk, OpenFile, Waypoint};
 pub use walk::root_task::{RootTask, absent};
 
 /// Files that may be open inside one another, the root's among them.

@@ -9,7 +9,7 @@ ghost use Rattle.idl_program.specs.Tried.{AreMissing, IsLoading};
 
 use crate::failure::CompileFault;
 use idl_loader::{Loaded, Loader};
-use idl_session::idl_prep::{Explorer, FileWalk, MAX_DEPTH, Next, OpenFile};
+use idl_session::idl_prep::{Explorer, FileWalk, MAX_DEPTH, OpenFile, Waypoint};
 use idl_session::idl_project::{CompiledRoot, Sources};
 use idl_source::{Name, Refusal, cut};
 use indexmap::IndexSet;
@@ -122,9 +122,9 @@ impl Loading {
         let mut walk = FileWalk::new(self.sources.allocator(), file);
         'steps: for _ in 0..u64::MAX {
             match self.advance(&mut walk, file)? {
-                Next::Absent(names) => self.load_first(&names, loader)?,
-                Next::Entered(inner) => self.enter(loader, room, &inner)?,
-                Next::End => return Ok(()),
+                Waypoint::Absent(names) => self.load_first(&names, loader)?,
+                Waypoint::Entered(inner) => self.enter(loader, room, &inner)?,
+                Waypoint::End => return Ok(()),
             }
         }
         Ok(())
@@ -132,7 +132,11 @@ impl Loading {
 
     // How the exploration of a file goes on. What it holds meanwhile isn't held while a file inside is explored.
     #[inline(never)]
-    fn advance(&mut self, walk: &mut FileWalk<'_>, file: &OpenFile) -> Result<Next, CompileFault>
+    fn advance(
+        &mut self,
+        walk: &mut FileWalk<'_>,
+        file: &OpenFile,
+    ) -> Result<Waypoint, CompileFault>
         ensures sources { OnOk result (self.new.sources ≡ self.old.sources) }
         ensures missing { OnOk result (self.new.missing.keys ≡ self.old.missing.keys) }
     {

@@ -11,7 +11,7 @@ use idl_env::{DigestedKey, Env, Facts, OpenScopes, scopes_in};
 use idl_fault::Code;
 use idl_memo::Bank;
 use idl_parts::{UnitPart, Use, sites};
-use idl_project::idl_check::{Scratch, Steps};
+use idl_project::idl_check::{Scratch, UnitWalk};
 use idl_project::idl_scope::{ScopeAt, Standpoint, View};
 use idl_project::idl_syntax::UnitTree;
 use idl_tree::{Pragma, ScopedName, Tree};
@@ -71,7 +71,7 @@ impl<'a> About<'a> {
         scratch: &mut Scratch,
         start: WalkStart<'_, '_>,
     ) -> Result<Vec<Second>, AllocError> {
-        let mut steps = Steps::new(scratch, start.env, start.scopes);
+        let mut steps = UnitWalk::new(scratch, start.env, start.scopes);
         match steps_to(&mut steps, start.sites, self.fault.index)? {
             Some(site) => self.of_site(scratch, start, &steps, site),
             None => Ok(Vec::new(self.alloc())),
@@ -83,7 +83,7 @@ impl<'a> About<'a> {
         self,
         scratch: &mut Scratch,
         start: WalkStart<'_, '_>,
-        steps: &Steps<'_>,
+        steps: &UnitWalk<'_>,
         site: UnitPart<'_>,
     ) -> Result<Vec<Second>, AllocError> {
         match (self.fault.code, site) {
@@ -101,7 +101,7 @@ impl<'a> About<'a> {
     }
 
     // Those of a declared name.
-    fn of_declared(self, steps: &Steps<'_>, name: &Bytes) -> Result<Vec<Second>, AllocError> {
+    fn of_declared(self, steps: &UnitWalk<'_>, name: &Bytes) -> Result<Vec<Second>, AllocError> {
         let Some(scope) = steps.cursor().innermost() else {
             return Ok(Vec::new(self.alloc()));
         };
@@ -151,7 +151,7 @@ impl<'a> About<'a> {
     // Those of a used name.
     fn of_used(
         self,
-        steps: &Steps<'_>,
+        steps: &UnitWalk<'_>,
         way: Use,
         name: &ScopedName,
     ) -> Result<Vec<Second>, AllocError> {
@@ -244,7 +244,7 @@ pub fn push(
 
 // The site with the token that has this number, up to which the walk goes.
 fn steps_to<'t>(
-    steps: &mut Steps<'_>,
+    steps: &mut UnitWalk<'_>,
     sites: &[UnitPart<'t>],
     index: usize,
 ) -> Result<Option<UnitPart<'t>>, AllocError> {

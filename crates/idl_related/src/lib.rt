@@ -3,7 +3,7 @@
 //! The units of the root are judged for it once more, and nothing is kept. Nothing here knows how a place is shown.
 //!
 //! `Known` tells which unit declares, uses or would have declared what (`known.rt`). Of a faulty unit the walk goes on
-//! a site at a time up to the one with the fault (`Steps`), and `about.rt` asks there what the walk asked:
+//! a site at a time up to the one with the fault (`UnitWalk`), and `about.rt` asks there what the walk asked:
 //! `denoting.rt` (a used name), `repeated.rt` (what the unit has already), `given.rt` (ids), `near.rt` (names that
 //! aren't declared).
 #![tactic(auto)]

@@ -9,7 +9,7 @@ use idl_entity::Path;
 use idl_env::{Env, LentKey, OpenScopes};
 use idl_map::Lent;
 use idl_parts::{Purpose, UnitPart, sites};
-use idl_project::idl_check::{Scratch, Steps};
+use idl_project::idl_check::{Scratch, UnitWalk};
 use idl_project::idl_scope::Standpoint;
 use idl_project::idl_syntax::UnitTree;
 use idl_tree::{ScopedName, Tree};
@@ -28,7 +28,7 @@ pub struct WalkStart<'s, 't> {
 /// A unit over which a walk goes once more.
 pub struct UnitReplay<'s, 't> {
     sites: &'s [UnitPart<'t>],
-    steps: Steps<'s>,
+    steps: UnitWalk<'s>,
 }
 
 impl<'s, 't> Drop for UnitReplay<'s, 't> {
@@ -44,7 +44,7 @@ impl<'a> About<'a> {
     /// The first use that introduced a name into the scope in which it is declared.
     pub fn use_before(
         self,
-        steps: &Steps<'_>,
+        steps: &UnitWalk<'_>,
         name: &Bytes,
         again: &mut UnitReplay<'_, '_>,
     ) -> Result<Vec<Second>, AllocError> {
@@ -77,7 +77,7 @@ impl<'a> About<'a> {
     /// The first naming of what this name denotes among the sites of the unit.
     pub fn naming_before(
         self,
-        steps: &Steps<'_>,
+        steps: &UnitWalk<'_>,
         name: &ScopedName,
         again: &mut UnitReplay<'_, '_>,
     ) -> Result<Vec<Second>, AllocError> {
@@ -152,7 +152,7 @@ impl<'s, 't> UnitReplay<'s, 't> {
     pub fn new(scratch: &mut Scratch, start: WalkStart<'s, 't>) -> UnitReplay<'s, 't> {
         UnitReplay {
             sites: start.sites,
-            steps: Steps::new(scratch, start.env, start.scopes),
+            steps: UnitWalk::new(scratch, start.env, start.scopes),
         }
     }
 

@@ -18,5 +18,5 @@ pub use row_tree::{
 };
 pub use rows::tree_of;
 pub use type_code_tree::{CaseTree, MemberTree, TypeCodeParts, TypeCodeTree, UnionTree};
-pub use type_tree::{ElementTree, TypeTree};
+pub use type_tree::{ElementTree, LayeredType};
 pub use words::{code_word, direction_word, kind_word, push_type};

@@ -2,14 +2,14 @@
 use Rattle.std.specs.Prelude.{◌≡◌, ℕ, ◌+◌, zero, suc, Bool, false, List, [], ◌∷◌, ◌++◌, Option, None, Some, sum_by}
 use Rattle.idl_block.specs.facts.Beneath.{Depth}
 use Rattle.idl_root_blocks.specs.Blocks.{Block, Loose, Nothing, Pieces}
-use Rattle.idl_root_blocks.specs.declared.finding.Open.{Open}
+use Rattle.idl_root_blocks.specs.declared.finding.OpenCounts.{OpenCounts}
 use Rattle.idl_root_blocks.specs.declared.text.BlockPart.{BlockPart}
 use Rattle.idl_root_blocks.specs.declared.text.BlockPart.TheVariants.{Text, Enters, Leaves}
 use Rattle.idl_root_blocks.specs.Units.{parts_of_unit}
 use Rattle.idl_unit.specs.declared.unit.Unit.{Unit as RootUnit}
 
 -- how many are open
-abbrev pub depth_of : Open → Depth
+abbrev pub depth_of : OpenCounts → Depth
 depth_of d = record { scopes = d.scopes; files = d.files }
 
 -- how many units with tokens a text has, and how many blocks there are among pieces

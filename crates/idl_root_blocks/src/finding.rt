@@ -73,7 +73,7 @@ fn inside_of(units: &[Unit]) -> Option<(&[Unit], &[Unit])>
     ensures units { IfSome result (λ b. IsLeftBehind units.now b.0.now b.1.now) }
     ensures fewer { IfSome result (λ b. length b.0.now + length b.1.now < length units.now) }
 {
-    let mut depth = Open {
+    let mut depth = OpenCounts {
         scopes: 0,
         files: 0,
     };
@@ -92,12 +92,12 @@ fn inside_of(units: &[Unit]) -> Option<(&[Unit], &[Unit])>
 
 // How many scopes and files are open among the units of a block.
 #[derive(Clone, Copy)]
-struct Open {
+struct OpenCounts {
     scopes: usize,
     files: usize,
 }
 
-impl Open {
+impl OpenCounts {
     // Where a unit leaves the block's own file, whether that stands inside a unit of tokens.
     fn left_by(self, unit: &Unit) -> Option<bool>
         ensures { result ≡ left_by self.files (parts_of_unit unit.now) }
@@ -118,24 +118,24 @@ impl Open {
 
     // How many are open behind a unit; nothing where it closes or leaves what was there before the block.
     #[tactic(auto, using(crate::proofs::Scans::left_files, crate::proofs::Scans::no_files, crate::proofs::Scans::text_depth))]
-    fn behind(self, unit: &Unit) -> Option<Open>
+    fn behind(self, unit: &Unit) -> Option<OpenCounts>
         requires scopes { self.scopes < 2 ^ 64 - 1 }
         requires files { self.files < 2 ^ 64 - 1 }
         ensures { option_map depth_of result ≡ depth_behind (depth_of self) (parts_of_unit unit.now) }
     {
-        let Open { scopes, files } = self;
+        let OpenCounts { scopes, files } = self;
         match unit {
             Unit::Spelled(text, _sites) => self.behind_text(text),
             Unit::Entered(_file, _is_inside) => {
                 let files = files + 1;
-                Some(Open { scopes, files })
+                Some(OpenCounts { scopes, files })
             }
             Unit::Left(_file, _is_inside) => {
                 if files == 0 {
                     return None;
                 }
                 let files = files - 1;
-                Some(Open { scopes, files })
+                Some(OpenCounts { scopes, files })
             }
             Unit::End => Some(self),
         }
@@ -143,21 +143,21 @@ impl Open {
 
     // The same of a unit with tokens.
     #[tactic(auto, using(crate::proofs::Scans::opens, crate::proofs::Scans::closes, crate::proofs::Scans::closes_none, crate::proofs::Scans::stands))]
-    fn behind_text(self, text: &UnitText) -> Option<Open>
+    fn behind_text(self, text: &UnitText) -> Option<OpenCounts>
         requires { self.scopes < 2 ^ 64 - 1 }
         ensures { option_map depth_of result ≡ deepened (depth_of self) (part_step (UnitPart text.now)) }
     {
-        let Open { scopes, files } = self;
+        let OpenCounts { scopes, files } = self;
         if text.is_opening() {
             let scopes = scopes + 1;
-            return Some(Open { scopes, files });
+            return Some(OpenCounts { scopes, files });
         }
         if text.is_closing() {
             if scopes == 0 {
                 return None;
             }
             let scopes = scopes - 1;
-            return Some(Open { scopes, files });
+            return Some(OpenCounts { scopes, files });
         }
         Some(self)
     }

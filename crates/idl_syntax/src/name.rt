@@ -24,7 +24,7 @@ pub fn scoped_name(alloc: Global, tokens: &[Token]) -> Result<(ScopedName, &[Tok
     let is_global = is_at(tokens, Mark::ColonColon);
     let rest = if is_global { &tokens[1..] } else { tokens };
     let (first, rest) = identifier(rest)?;
-    let (more, rest) = many(alloc, &Part, rest)?;
+    let (more, rest) = many(alloc, &NamePart, rest)?;
     let name = ScopedName {
         is_global,
         first,
@@ -34,9 +34,9 @@ pub fn scoped_name(alloc: Global, tokens: &[Token]) -> Result<(ScopedName, &[Tok
 }
 
 /// A further part of a name.
-struct Part;
+struct NamePart;
 
-impl Production for Part {
+impl Production for NamePart {
     type Tree = Bytes;
 
     ghost reader = { λ _. part_at };
@@ -52,7 +52,7 @@ impl Production for Part {
     }
 }
 
-impl Series for Part {
+impl Series for NamePart {
     ghost begins = { λ _. is_mark ColonColon };
 
     fn is_ahead(&self, tokens: &[Token]) -> bool {
@@ -61,9 +61,9 @@ impl Series for Part {
 }
 
 /// A scoped name.
-pub struct Name;
+pub struct NameProduction;
 
-impl Production for Name {
+impl Production for NameProduction {
     type Tree = ScopedName;
 
     ghost reader = { λ _. name_at };
@@ -104,7 +104,7 @@ fn scoped_name_list(
     ensures shorter { Advances tokens.now result }
 {
     let rest = behind(tokens, Mark::OpenParenthesis)?;
-    let (names, rest) = listed(alloc, &Name, rest)?;
+    let (names, rest) = listed(alloc, &NameProduction, rest)?;
     closed(names, rest, Mark::CloseParenthesis)
 }
 

@@ -15,7 +15,7 @@ use Rattle.idl_lex.specs.declared.kinds.kind.TokenKind.TheVariants.{Accepted, Re
 use Rattle.idl_unit.specs.Faults.{least_fault, lesser_fault}
 use Rattle.idl_unit.specs.TokenRules.{code_if, codes_beside, defect_code, fault_at, faults_after, first, is_left_out, is_other_width, is_too_deep, nests, token_codes, token_faults, unnests}
 use Rattle.idl_unit.specs.declared.fault.Fault.{Fault}
-use Rattle.idl_unit.specs.declared.token_rules.Before.{Before}
+use Rattle.idl_unit.specs.declared.token_rules.TokenContext.{TokenContext}
 
 -- each of these codes has this number or more
 abbrev AllFrom : ℕ → List Code → Type 0
@@ -126,7 +126,7 @@ none-codes before kind kinds [] e = refl
 none-codes before kind kinds (c ∷ codes) e = cc
 
 -- what is known of a walk before a token: the kinds of the tokens before it, the nearest first
-pub record IsWalked (unit : List Token) (index : ℕ) (state : Before) : Type 0 where
+pub record IsWalked (unit : List Token) (index : ℕ) (state : TokenContext) : Type 0 where
   pub before : List TokenKind
   pub faults : token_faults unit ≡ faults_after before (map kind_of (drop index unit))
   pub count : length before ≡ index
@@ -135,14 +135,14 @@ pub record IsWalked (unit : List Token) (index : ℕ) (state : Before) : Type 0 
   pub opened : count_by nests before ≡ state.opened
   pub closed : count_by unnests before ≡ state.closed
 
-pub opened-le : (unit : List Token) (index : ℕ) (state : Before) → IsWalked unit index state → (state.opened ≤ index) × (state.closed ≤ index)
+pub opened-le : (unit : List Token) (index : ℕ) (state : TokenContext) → IsWalked unit index state → (state.opened ≤ index) × (state.closed ≤ index)
 opened-le unit index state w =
     (omega (arith, count_by-le-length nests w.before, w.opened, w.count), omega (arith, count_by-le-length unnests w.before, w.closed, w.count))
 
 count-cons : (p : TokenKind → Bool) (kind : TokenKind) (kinds : List TokenKind) → count_by p (kind ∷ kinds) ≡ cond (p kind) 1 0 + count_by p kinds
 count-cons p kind kinds = sum_by-cons (λ k. cond (p k) 1 0) kind kinds
 
-codes-are : (unit : List Token) (index : ℕ) (state : Before) (w : IsWalked unit index state) (kind : TokenKind) (through : Before)
+codes-are : (unit : List Token) (index : ℕ) (state : TokenContext) (w : IsWalked unit index state) (kind : TokenKind) (through : TokenContext)
     → through.opened ≡ cond (nests kind) 1 0 + state.opened → through.closed ≡ cond (unnests kind) 1 0 + state.closed
     → token_codes w.before kind ≡ codes_beside kind state.last state.second (nat_lt (through.closed + 64) through.opened)
 codes-are unit index state w kind through opened closed =
@@ -153,14 +153,14 @@ codes-are unit index state w kind through opened closed =
     ∙ ap (λ n. codes_beside kind state.last state.second (nat_lt (through.closed + 64) n))
     (count-cons nests kind w.before ∙ ap (λ n. cond (nests kind) 1 0 + n) w.opened ∙ sym opened)
 
-rest-is : (unit : List Token) (index : ℕ) (state : Before) (w : IsWalked unit index state) (t : Token) (kind : TokenKind) → drop index unit ≡ t ∷ drop (index + 1) unit → kind ≡ kind_of t
+rest-is : (unit : List Token) (index : ℕ) (state : TokenContext) (w : IsWalked unit index state) (t : Token) (kind : TokenKind) → drop index unit ≡ t ∷ drop (index + 1) unit → kind ≡ kind_of t
     → token_faults unit ≡ map (fault_at (length w.before)) (token_codes w.before kind) ++ faults_after (kind ∷ w.before) (map kind_of (drop (index + 1) unit))
 rest-is unit index state w t kind next is =
     w.faults ∙ ap (λ ts. faults_after w.before (map kind_of ts)) next
     ∙ ap (λ k. faults_after w.before (k ∷ map kind_of (drop (index + 1) unit))) (sym is)
 
 -- a token with a code
-pub walked-fault : (unit : List Token) (index : ℕ) (state : Before) (w : IsWalked unit index state) (t : Token) (kind : TokenKind) (through : Before) (code : Code)
+pub walked-fault : (unit : List Token) (index : ℕ) (state : TokenContext) (w : IsWalked unit index state) (t : Token) (kind : TokenKind) (through : TokenContext) (code : Code)
     → drop index unit ≡ t ∷ drop (index + 1) unit → kind ≡ kind_of t
     → through.opened ≡ cond (nests kind) 1 0 + state.opened → through.closed ≡ cond (unnests kind) 1 0 + state.closed
     → Some code ≡ first (codes_beside kind state.last state.second (nat_lt (through.closed + 64) through.opened))
@@ -173,7 +173,7 @@ walked-fault unit index state w t kind through code next is opened closed e =
     ∙ ap (λ n. Some (fault_at n code)) w.count
 
 -- a token without
-pub walked-on : (unit : List Token) (index : ℕ) (state : Before) (w : IsWalked unit index state) (t : Token) (kind : TokenKind) (through : Before)
+pub walked-on : (unit : List Token) (index : ℕ) (state : TokenContext) (w : IsWalked unit index state) (t : Token) (kind : TokenKind) (through : TokenContext)
     → drop index unit ≡ t ∷ drop (index + 1) unit → kind ≡ kind_of t → through.last ≡ Some kind → through.second ≡ state.last
     → through.opened ≡ cond (nests kind) 1 0 + state.opened → through.closed ≡ cond (unnests kind) 1 0 + state.closed
     → None ≡ first (codes_beside kind state.last state.second (nat_lt (through.closed + 64) through.opened))

@@ -13,7 +13,7 @@ use crate::ending::first_unit;
 use crate::site_run::SiteRun;
 use crate::unit::{Unit, UnitText, Units};
 use idl_event::idl_text::TokenRange;
-use idl_event::{Event, EventView, Events, Expansion, Runs, Sites};
+use idl_event::{Event, EventView, Events, Expansion, Sites, TokenRuns};
 use idl_fault::Place;
 use idl_lex::Token;
 use std::alloc::{AllocError, Global};
@@ -38,7 +38,7 @@ const TOKENS_A_UNIT: usize = 8;
 // How far the cut has come.
 #[derive(Drop)]
 struct Cut<'a> {
-    text: &'a Runs,
+    text: &'a TokenRuns,
     sites: &'a Rc<Sites>,
     units: Vec<Unit>,
     // How many tokens stand in the units so far.

@@ -50,7 +50,7 @@ fn first_fault(unit: &[Token]) -> Option<Fault>
     ensures least { result ≡ least_fault (token_faults unit.now) }
     ensures within { IfSome result (λ fault. fault.index < length unit.now) }
 {
-    let mut before = Before::nothing();
+    let mut before = TokenContext::nothing();
     for (index, token) in unit.iter().enumerate() {
         let kind = token.kind();
         let through = before.with(kind);
@@ -64,7 +64,7 @@ fn first_fault(unit: &[Token]) -> Option<Fault>
 
 // What stands before a token, as far as the rules of the token depend on it.
 #[derive(Clone, Copy)]
-struct Before {
+struct TokenContext {
     // The kind of the token directly before it.
     last: Option<TokenKind>,
     // The kind of the one before that.
@@ -75,11 +75,11 @@ struct Before {
     closed: usize,
 }
 
-impl Before {
-    fn nothing() -> Before
+impl TokenContext {
+    fn nothing() -> TokenContext
         ensures { result ≡ record { last = None; second = None; opened = 0; closed = 0 } }
     {
-        Before {
+        TokenContext {
             last: None,
             second: None,
             opened: 0,
@@ -88,7 +88,7 @@ impl Before {
     }
 
     // With a token of this kind more.
-    fn with(self, kind: TokenKind) -> Before
+    fn with(self, kind: TokenKind) -> TokenContext
         requires opened { self.opened < 2 ^ 64 - 1 }
         requires closed { self.closed < 2 ^ 64 - 1 }
         ensures last { result.last ≡ Some kind }
@@ -96,7 +96,7 @@ impl Before {
         ensures opened { result.opened ≡ cond (nests kind) 1 0 + self.opened }
         ensures closed { result.closed ≡ cond (unnests kind) 1 0 + self.closed }
     {
-        Before {
+        TokenContext {
             last: Some(kind),
             second: self.last,
             opened: self.opened + usize::from(nests(kind)),
@@ -113,7 +113,7 @@ impl Before {
 }
 
 // The least code of a token of this kind, if it has one. With it too many brackets are open, or not.
-fn token_code(kind: TokenKind, before: Before, is_too_deep: bool) -> Option<Code>
+fn token_code(kind: TokenKind, before: TokenContext, is_too_deep: bool) -> Option<Code>
     ensures { result ≡ first (codes_beside kind before.last before.second is_too_deep) }
 {
     if let Some(code) = bad_code(kind) {

@@ -9,7 +9,7 @@ use Rattle.idl_value.specs.Evaluation.{Evaluation, Faulty, Operands, Read, Value
 use Rattle.idl_value.specs.Names.{AreGiven, links_names, term_names}
 use Rattle.idl_value.specs.Term.{Term, Named, Literally, Parenthesised, Signed, Chain, Links, End, Link, expression_term}
 use Rattle.idl_value.specs.declared.integer.IntegerKind.TheVariants.{UnsignedLong}
-use Rattle.idl_value.specs.declared.operator.Operator.{Operator}
+use Rattle.idl_value.specs.declared.operator.BinaryOperator.{BinaryOperator}
 use Rattle.idl_value.specs.declared.outcome.ValueCode.{ValueCode}
 use Rattle.idl_value.specs.declared.outcome.ValueCode.TheVariants.{OutOfRange}
 use Rattle.idl_value.specs.declared.constant_type.ConstantType.{ConstantType}
@@ -46,7 +46,7 @@ signed-decided : (t : ConstantType) (token : ℕ) (s : UnaryOperator) (a : Evalu
 signed-decided t token s (Valued v) h = at-decided token (signed_value t s v)
 signed-decided t token s (Faulty fs) h = h
 
-operated-decided : (t : ConstantType) (token : ℕ) (o : Operator) (a b : Evaluation) → IsDecided a → IsDecided b → IsDecided (operated t token o a b)
+operated-decided : (t : ConstantType) (token : ℕ) (o : BinaryOperator) (a b : Evaluation) → IsDecided a → IsDecided b → IsDecided (operated t token o a b)
 operated-decided t token o (Valued v) (Valued w) h k = at-decided token (combined t o v w)
 operated-decided t token o (Valued v) (Faulty gs) h k = k
 operated-decided t token o (Faulty fs) (Valued w) h k = h

@@ -6,7 +6,7 @@ use Rattle.idl_tree.specs.declared.expression.UnaryOperator.{UnaryOperator}
 use Rattle.idl_value.specs.Evaluation.{Evaluation, Faulty, Operands, Read, Valued, admitted, ahead, at_token, behind, combined, fault, faults_of, in_target, is_held, literal_value, named, operand_at, operated, read_links, read_operator, read_term, signed_at, signed_value, start, value_of}
 use Rattle.idl_value.specs.Order.{IsAscending}
 use Rattle.idl_value.specs.Term.{Term, Named, Literally, Parenthesised, Signed, Chain, Links, End, Link, expression_term}
-use Rattle.idl_value.specs.declared.operator.Operator.{Operator}
+use Rattle.idl_value.specs.declared.operator.BinaryOperator.{BinaryOperator}
 use Rattle.idl_value.specs.declared.outcome.ValueCode.{ValueCode}
 use Rattle.idl_value.specs.declared.outcome.ValueCode.TheVariants.{OutOfRange}
 use Rattle.idl_value.specs.declared.outcome.ValueFault.{ValueFault}
@@ -39,7 +39,7 @@ signed-ascends : (t : ConstantType) (token to : ℕ) (s : UnaryOperator) (a : Ev
 signed-ascends t token to s (Valued v) h = at-ascends token token to (signed_value t s v) (omega arith) h
 signed-ascends t token to s (Faulty fs) h = earlier token (token + 1) to fs (omega arith) h
 
-operated-ascends : (t : ConstantType) (from token to : ℕ) (o : Operator) (a b : Evaluation) → IsAscending from (faults_of a) token → IsAscending (token + 1) (faults_of b) to
+operated-ascends : (t : ConstantType) (from token to : ℕ) (o : BinaryOperator) (a b : Evaluation) → IsAscending from (faults_of a) token → IsAscending (token + 1) (faults_of b) to
     → IsAscending from (faults_of (operated t token o a b)) to
 operated-ascends t from token to o (Valued v) (Valued w) h k = at-ascends from token to (combined t o v w) h k
 operated-ascends t from token to o (Valued v) (Faulty gs) h k = earlier from (token + 1) to gs (omega (arith, h)) k

@@ -32,8 +32,8 @@ use Rattle.idl_tree.specs.declared.literal.Literal.{Literal}
 use Rattle.idl_tree.specs.declared.literal.Literal.TheVariants as literal
 use Rattle.idl_tree.specs.declared.name.ScopedName.{ScopedName}
 use Rattle.idl_value.specs.Term.{Term, Named, Literally, Parenthesised, Signed, Chain, Links, End, Link, links, before_last, leading, signed, shift_operator, sum_operator, product_operator, expression_term, exclusive_or_term, and_term, shift_term, sum_term, product_term, unary_term, primary_term}
-use Rattle.idl_value.specs.declared.operator.Operator.{Operator}
-use Rattle.idl_value.specs.declared.operator.Operator.TheVariants as operator
+use Rattle.idl_value.specs.declared.operator.BinaryOperator.{BinaryOperator}
+use Rattle.idl_value.specs.declared.operator.BinaryOperator.TheVariants as operator
 use Rattle.idl_value.proofs.TermEquations.{expression_term-made, exclusive_or_term-made, and_term-made, shift_term-made, sum_term-made, product_term-made, unary_term-made, primary_term-name, primary_term-literal, primary_term-parentheses}
 
 abbrev mutual
@@ -102,7 +102,7 @@ abbrev Such : {X : Type 0} → (X → Type 0) → Type 0
 Such {X} claim = (x : X) × claim x
 
 -- links of operands that are as long as they are spelled
-links-sized : {S X : Type 0} (g : S → X) (op : X → Operator) (term : X → Term) (spell : X → Lexemes)
+links-sized : {S X : Type 0} (g : S → X) (op : X → BinaryOperator) (term : X → Term) (spell : X → Lexemes)
     → ((s : S) → length (spell (g s)) ≡ 1 + size (term (g s))) → (xs : List S)
     → links_size (links op term (map g xs)) ≡ length (many_spell spell (map g xs))
 links-sized g op term spell each [] = refl

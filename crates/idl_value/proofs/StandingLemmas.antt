@@ -38,8 +38,8 @@ use Rattle.idl_tree.specs.declared.name.ScopedName.{ScopedName}
 use Rattle.idl_value.specs.Evaluation.{Evaluation, Faulty, Operands, Read, Valued, admitted, ahead, at_token, behind, combined, fault, faults_of, in_target, is_held, literal_value, named, operand_at, operated, read_links, read_operator, read_term, signed_at, signed_value, start, value_of}
 use Rattle.idl_value.specs.Standing.{bears, goes_on, is_colons, is_operator}
 use Rattle.idl_value.specs.Term.{Term, Named, Literally, Parenthesised, Signed, Chain, Links, End, Link, and_term, before_last, exclusive_or_term, expression_term, leading, links, primary_term, product_operator, product_term, shift_operator, shift_term, signed, sum_operator, sum_term, unary_term}
-use Rattle.idl_value.specs.declared.operator.Operator.{Operator}
-use Rattle.idl_value.specs.declared.operator.Operator.TheVariants as operator
+use Rattle.idl_value.specs.declared.operator.BinaryOperator.{BinaryOperator}
+use Rattle.idl_value.specs.declared.operator.BinaryOperator.TheVariants as operator
 use Rattle.idl_value.specs.declared.outcome.ValueCode.{ValueCode}
 use Rattle.idl_value.specs.declared.outcome.ValueCode.TheVariants.{OutOfRange}
 use Rattle.idl_value.specs.declared.outcome.ValueFault.{ValueFault}
@@ -121,7 +121,7 @@ signed-borne : (from token : ℕ) (ls : Lexemes) (t : ConstantType) (s : UnaryOp
 signed-borne from token ls t s (Valued v) b all = at-borne from token ls (signed_value t s v) b
 signed-borne from token ls t s (Faulty fs) b all = all
 
-operated-borne : (from token : ℕ) (ls : Lexemes) (t : ConstantType) (o : Operator) (a b : Evaluation) → ((c : ValueCode) → Borne from ls (fault token c)) → All (Borne from ls) (faults_of a) → All (Borne from ls) (faults_of b)
+operated-borne : (from token : ℕ) (ls : Lexemes) (t : ConstantType) (o : BinaryOperator) (a b : Evaluation) → ((c : ValueCode) → Borne from ls (fault token c)) → All (Borne from ls) (faults_of a) → All (Borne from ls) (faults_of b)
     → All (Borne from ls) (faults_of (operated t token o a b))
 operated-borne from token ls t o (Valued v) (Valued w) k h g = at-borne from token ls (combined t o v w) k
 operated-borne from token ls t o (Valued v) (Faulty gs) k h g = g
@@ -150,7 +150,7 @@ bears-end = record {
 abbrev IsSign : Mark → Type 0
 IsSign m = (is_operator m ≡ true) × (is_colons m ≡ false)
 
-bears-link : (o : Operator) (m : Mark) (e : Term) (ls : Lexemes) (ks : Links) (more : Lexemes) → IsSign m → Bears e ls → BearsLinks ks more → BearsLinks (Link o e ks) ((Punctuation m ∷ ls) ++ more)
+bears-link : (o : BinaryOperator) (m : Mark) (e : Term) (ls : Lexemes) (ks : Links) (more : Lexemes) → IsSign m → Bears e ls → BearsLinks ks more → BearsLinks (Link o e ks) ((Punctuation m ∷ ls) ++ more)
 bears-link o m e ls ks more sign b bs = record {
   sized = let x = b.sized in let y = bs.sized in let n = length-append (Punctuation m ∷ ls) more in omega (arith, x, y, n);
   ends = sign.1;
@@ -184,13 +184,13 @@ bears-chain e ks a b h k = record {
 }
 
 -- operands behind operators
-bears-many : {S Y : Type 0} (op : Y → Operator) (term : Y → Term) (m : Y → Mark) (spell : Y → Lexemes) (v : S → Y) → ((y : Y) → IsSign (m y)) → ((s : S) → Bears (term (v s)) (spell (v s))) → (xs : List S)
+bears-many : {S Y : Type 0} (op : Y → BinaryOperator) (term : Y → Term) (m : Y → Mark) (spell : Y → Lexemes) (v : S → Y) → ((y : Y) → IsSign (m y)) → ((s : S) → Bears (term (v s)) (spell (v s))) → (xs : List S)
     → BearsLinks (links op term (map v xs)) (many_spell (λ y. Punctuation (m y) ∷ spell y) (map v xs))
 bears-many op term m spell v sign h [] = bears-end
 bears-many op term m spell v sign h (x ∷ xs) =
     bears-link (op (v x)) (m (v x)) (term (v x)) (spell (v x)) (links op term (map v xs)) (many_spell (λ y. Punctuation (m y) ∷ spell y) (map v xs)) (sign (v x)) (h x) (bears-many op term m spell v sign h xs)
 
-bears-rank : {S Y : Type 0} (t e : Term) (whole first : Lexemes) (op : Y → Operator) (term : Y → Term) (m : Y → Mark) (spell : Y → Lexemes) (v : S → Y) → ((y : Y) → IsSign (m y))
+bears-rank : {S Y : Type 0} (t e : Term) (whole first : Lexemes) (op : Y → BinaryOperator) (term : Y → Term) (m : Y → Mark) (spell : Y → Lexemes) (v : S → Y) → ((y : Y) → IsSign (m y))
     → ((s : S) → Bears (term (v s)) (spell (v s))) → (xs : List S) → t ≡ Chain e (links op term (map v xs)) → whole ≡ first ++ many_spell (λ y. Punctuation (m y) ∷ spell y) (map v xs) → Bears e first → Bears t whole
 bears-rank t e whole first op term m spell v sign h xs made is b =
     let ks = links op term (map v xs) in

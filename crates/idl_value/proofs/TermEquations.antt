@@ -20,11 +20,11 @@ use Rattle.idl_tree.specs.declared.expression.UnaryOperator.{UnaryOperator}
 use Rattle.idl_tree.specs.declared.literal.Literal.{Literal}
 use Rattle.idl_tree.specs.declared.name.ScopedName.{ScopedName}
 use Rattle.idl_value.specs.Term.{Term, Named, Literally, Parenthesised, Chain, Links, Link, links, before_last, signed, shift_operator, sum_operator, product_operator, primary_step, and_step, exclusive_or_step, expression_step, product_step, shift_step, sum_step, unary_step, expression_term, exclusive_or_term, and_term, shift_term, sum_term, product_term, unary_term, primary_term}
-use Rattle.idl_value.specs.declared.operator.Operator.{Operator}
-use Rattle.idl_value.specs.declared.operator.Operator.TheVariants as operator
+use Rattle.idl_value.specs.declared.operator.BinaryOperator.{BinaryOperator}
+use Rattle.idl_value.specs.declared.operator.BinaryOperator.TheVariants as operator
 
 -- links of what was made of others
-pub links-map : {X Y : Type 0} (op : Y → Operator) (term : Y → Term) (g : X → Y) (xs : List X)
+pub links-map : {X Y : Type 0} (op : Y → BinaryOperator) (term : Y → Term) (g : X → Y) (xs : List X)
     → links op term (map g xs) ≡ links (λ x. op (g x)) (λ x. term (g x)) xs
 links-map op term g [] = refl
 links-map op term g (x ∷ xs) = ap (λ (ls : Links). Link (op (g x)) (term (g x)) ls) (links-map op term g xs)

@@ -7,7 +7,7 @@ use Rattle.idl_tree.specs.declared.expression.UnaryOperator.{UnaryOperator}
 use Rattle.idl_value.specs.Evaluation.{Evaluation, Faulty, Operands, Read, Valued, admitted, ahead, at_token, behind, bound_of, fault, first_of, in_target, is_held, positive, start, value_of, literal_value, named, operand_at, operated, read_links, read_operator, read_term, signed_at}
 use Rattle.idl_value.specs.Term.{Term, Named, Literally, Parenthesised, Signed, Chain, Links, End, Link, expression_term}
 use Rattle.idl_value.specs.Walk.{Walked, held_outcome, named_outcome, positive_outcome, operated_outcome, outcome_at, signed_outcome, walk_links, walk_operator, walk_parenthesis, walk_sign, walk_term}
-use Rattle.idl_value.specs.declared.operator.Operator.{Operator}
+use Rattle.idl_value.specs.declared.operator.BinaryOperator.{BinaryOperator}
 use Rattle.idl_value.specs.declared.integer.IntegerKind.TheVariants.{UnsignedLong}
 use Rattle.idl_value.specs.declared.outcome.ValueCode.{ValueCode}
 use Rattle.idl_value.specs.declared.outcome.ValueCode.TheVariants.{OutOfRange}
@@ -38,7 +38,7 @@ signed-first t token s (Valued v) = outcome-first token _
 signed-first t token s (Faulty []) = refl
 signed-first t token s (Faulty (f ∷ fs)) = refl
 
-operated-first : (t : ConstantType) (token : ℕ) (o : Operator) (a b : Evaluation) → operated_outcome t token o (first_of a) (first_of b) ≡ first_of (operated t token o a b)
+operated-first : (t : ConstantType) (token : ℕ) (o : BinaryOperator) (a b : Evaluation) → operated_outcome t token o (first_of a) (first_of b) ≡ first_of (operated t token o a b)
 operated-first t token o (Valued v) (Valued w) = outcome-first token _
 operated-first t token o (Valued v) (Faulty []) = refl
 operated-first t token o (Valued v) (Faulty (g ∷ gs)) = refl

@@ -15,7 +15,7 @@ use Rattle.idl_value.specs.Operate.{in_parts, operate, operate_sign}
 use Rattle.idl_value.specs.Term.{Term, Named, Literally, Parenthesised, Signed, Chain, Links, End, Link, expression_term}
 use Rattle.idl_value.specs.declared.integer.IntegerKind.{IntegerKind}
 use Rattle.idl_value.specs.declared.integer.IntegerKind.TheVariants.{UnsignedLong}
-use Rattle.idl_value.specs.declared.operator.Operator.{Operator}
+use Rattle.idl_value.specs.declared.operator.BinaryOperator.{BinaryOperator}
 use Rattle.idl_value.specs.declared.outcome.ValueCode.{ValueCode}
 use Rattle.idl_value.specs.declared.outcome.ValueCode.TheVariants.{WrongKind, OutOfRange, NotPositive}
 use Rattle.idl_value.specs.declared.outcome.ValueFault.{ValueFault}
@@ -71,7 +71,7 @@ kind_in (target.Integer kind) = Some kind
 kind_in other = None
 
 -- operators are of whole numbers, for an integer type
-abbrev pub combined_numbers : Option IntegerKind → Operator → Option ℤ → Option ℤ → Result ℤ ValueCode
+abbrev pub combined_numbers : Option IntegerKind → BinaryOperator → Option ℤ → Option ℤ → Result ℤ ValueCode
 combined_numbers (Some kind) operator (Some a) (Some b) = operate kind operator a b
 combined_numbers kind operator a b = Err WrongKind
 
@@ -79,7 +79,7 @@ abbrev pub signed_number : Option IntegerKind → UnaryOperator → Option ℤ �
 signed_number (Some kind) sign (Some a) = operate_sign kind sign a
 signed_number kind sign a = Err WrongKind
 
-abbrev pub combined : ConstantType → Operator → Value → Value → Result Value ValueCode
+abbrev pub combined : ConstantType → BinaryOperator → Value → Value → Result Value ValueCode
 combined target operator a b =
     whole (combined_numbers (kind_in target) operator (number_in a) (number_in b))
 
@@ -104,7 +104,7 @@ named target token None = Faulty []
 named target token (Some v) = at_token token (admitted target v)
 
 -- an operator brings a fault only where its operands have none
-abbrev pub operated : ConstantType → ℕ → Operator → Evaluation → Evaluation → Evaluation
+abbrev pub operated : ConstantType → ℕ → BinaryOperator → Evaluation → Evaluation → Evaluation
 operated target token operator (Valued a) (Valued b) =
     at_token token (combined target operator a b)
 operated target token operator (Valued a) (Faulty fs) = Faulty fs
@@ -144,7 +144,7 @@ read_parenthesis inner =
     record { evaluation = inner.evaluation; place = behind inner.place 1 0 }
 
 -- the operator stands behind the left operand
-abbrev pub read_operator : ConstantType → Operator → Read → Read → Read
+abbrev pub read_operator : ConstantType → BinaryOperator → Read → Read → Read
 read_operator target operator left right = record {
   evaluation =
       operated target left.place.token operator left.evaluation right.evaluation;

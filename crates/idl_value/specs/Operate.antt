@@ -6,8 +6,8 @@ use Rattle.idl_tree.specs.declared.expression.UnaryOperator.TheVariants as unary
 use Rattle.idl_value.specs.integers.Bits.{whole_and, whole_or, whole_xor}
 use Rattle.idl_value.specs.integers.Integer.{width, is_signed, power, holds_part}
 use Rattle.idl_value.specs.declared.integer.IntegerKind.{IntegerKind}
-use Rattle.idl_value.specs.declared.operator.Operator.{Operator}
-use Rattle.idl_value.specs.declared.operator.Operator.TheVariants.{Or, ExclusiveOr, And, ShiftLeft, ShiftRight, Add, Subtract, Multiply, Divide, Remainder}
+use Rattle.idl_value.specs.declared.operator.BinaryOperator.{BinaryOperator}
+use Rattle.idl_value.specs.declared.operator.BinaryOperator.TheVariants.{Or, ExclusiveOr, And, ShiftLeft, ShiftRight, Add, Subtract, Multiply, Divide, Remainder}
 use Rattle.idl_value.specs.declared.outcome.ValueCode.{ValueCode}
 use Rattle.idl_value.specs.declared.outcome.ValueCode.TheVariants.{OutOfRange, DivisionByZero, BadShift}
 
@@ -37,7 +37,7 @@ shifted_right kind (pos a) (pos k) =
 shifted_right kind (negsuc a) k = Err BadShift
 shifted_right kind (pos a) (negsuc k) = Err BadShift
 
-abbrev pub operate : IntegerKind → Operator → ℤ → ℤ → Result ℤ ValueCode
+abbrev pub operate : IntegerKind → BinaryOperator → ℤ → ℤ → Result ℤ ValueCode
 operate kind Or a b = in_parts kind (whole_or a b)
 operate kind ExclusiveOr a b = in_parts kind (whole_xor a b)
 operate kind And a b = in_parts kind (whole_and a b)

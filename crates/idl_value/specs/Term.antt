@@ -19,8 +19,8 @@ use Rattle.idl_tree.specs.declared.expression.Unary.{Unary}
 use Rattle.idl_tree.specs.declared.expression.UnaryOperator.{UnaryOperator}
 use Rattle.idl_tree.specs.declared.literal.Literal.{Literal}
 use Rattle.idl_tree.specs.declared.name.ScopedName.{ScopedName}
-use Rattle.idl_value.specs.declared.operator.Operator.{Operator}
-use Rattle.idl_value.specs.declared.operator.Operator.TheVariants as operator
+use Rattle.idl_value.specs.declared.operator.BinaryOperator.{BinaryOperator}
+use Rattle.idl_value.specs.declared.operator.BinaryOperator.TheVariants as operator
 
 mutual
   pub data Term : Type 0 where
@@ -35,10 +35,10 @@ mutual
   -- the operators between the operands of a rank, each with its right operand
   pub data Links : Type 0 where
     End : Links
-    Link : Operator → Term → Links → Links
+    Link : BinaryOperator → Term → Links → Links
 
 -- links, from what each is made of
-abbrev pub links : {X : Type 0} → (X → Operator) → (X → Term) → List X → Links
+abbrev pub links : {X : Type 0} → (X → BinaryOperator) → (X → Term) → List X → Links
 links operator term [] = End
 links operator term (x ∷ xs) = Link (operator x) (term x) (links operator term xs)
 
@@ -50,15 +50,15 @@ leading false = 0
 abbrev pub before_last : ScopedName → ℕ
 before_last name = leading name.is_global + 2 * length name.rest
 
-abbrev pub shift_operator : ShiftOperator → Operator
+abbrev pub shift_operator : ShiftOperator → BinaryOperator
 shift_operator shift.Left = operator.ShiftLeft
 shift_operator shift.Right = operator.ShiftRight
 
-abbrev pub sum_operator : SumOperator → Operator
+abbrev pub sum_operator : SumOperator → BinaryOperator
 sum_operator sum.Plus = operator.Add
 sum_operator sum.Minus = operator.Subtract
 
-abbrev pub product_operator : ProductOperator → Operator
+abbrev pub product_operator : ProductOperator → BinaryOperator
 product_operator product.Times = operator.Multiply
 product_operator product.Divided = operator.Divide
 product_operator product.Remainder = operator.Remainder

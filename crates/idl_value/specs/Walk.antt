@@ -4,7 +4,7 @@ use Rattle.idl_tree.specs.Expression.{spell_literal}
 use Rattle.idl_tree.specs.declared.expression.UnaryOperator.{UnaryOperator}
 use Rattle.idl_value.specs.Evaluation.{Operands, admitted, ahead, behind, combined, fault, is_held, literal_value, number_in, operand_at, signed_value}
 use Rattle.idl_value.specs.Term.{Term, Named, Literally, Parenthesised, Signed, Chain, Links, End, Link}
-use Rattle.idl_value.specs.declared.operator.Operator.{Operator}
+use Rattle.idl_value.specs.declared.operator.BinaryOperator.{BinaryOperator}
 use Rattle.idl_value.specs.declared.outcome.ValueCode.{ValueCode}
 use Rattle.idl_value.specs.declared.outcome.ValueCode.TheVariants.{NotPositive, OutOfRange}
 use Rattle.idl_value.specs.declared.outcome.Outcome.{Outcome}
@@ -47,7 +47,7 @@ outcome_number (outcome.Value v) = number_in v
 outcome_number other = None
 
 -- of two operands' faults the first
-abbrev pub operated_outcome : ConstantType → ℕ → Operator → Outcome → Outcome → Outcome
+abbrev pub operated_outcome : ConstantType → ℕ → BinaryOperator → Outcome → Outcome → Outcome
 operated_outcome target token operator (outcome.Value a) (outcome.Value b) =
     outcome_at token (combined target operator a b)
 operated_outcome target token operator (outcome.Value a) right = right
@@ -68,7 +68,7 @@ walk_sign target token sign operand = record {
 abbrev pub walk_parenthesis : Walked → Walked
 walk_parenthesis inner = record { outcome = inner.outcome; place = behind inner.place 1 0 }
 
-abbrev pub walk_operator : ConstantType → Operator → Walked → Walked → Walked
+abbrev pub walk_operator : ConstantType → BinaryOperator → Walked → Walked → Walked
 walk_operator target operator left right = record {
   outcome = operated_outcome target left.place.token operator left.outcome right.outcome;
   place = right.place;

@@ -26,7 +26,7 @@ pub use idl_map;
 pub use idl_tree;
 pub use integer::IntegerKind;
 pub use laws::{ascending, counting, deciding, standing};
-pub use operator::Operator;
+pub use operator::BinaryOperator;
 pub use outcome::{Outcome, ValueCode, ValueFault};
 pub use spelling::{push_name, push_part, push_value};
 pub use value::Value;

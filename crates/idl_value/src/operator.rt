@@ -10,7 +10,7 @@ use idl_tree::expression::UnaryOperator;
 
 /// An operator between two operands.
 #[derive(Clone, Copy)]
-pub enum Operator {
+pub enum BinaryOperator {
     Or,
     ExclusiveOr,
     And,
@@ -120,22 +120,22 @@ fn complement_of(kind: IntegerKind, a: i128) -> Result<i128, ValueCode>
     }
 }
 
-impl Operator {
+impl BinaryOperator {
     /// The value of `a operator b` as a part of a value of the type.
     pub fn apply(self, kind: IntegerKind, a: i128, b: i128) -> Result<i128, ValueCode>
         ensures { result ≡ operate kind self a b }
     {
         match self {
-            Operator::Or => part(kind, whole::or(a, b)),
-            Operator::ExclusiveOr => part(kind, whole::xor(a, b)),
-            Operator::And => part(kind, whole::and(a, b)),
-            Operator::ShiftLeft => shift_left(kind, a, b),
-            Operator::ShiftRight => shift_right(kind, a, b),
-            Operator::Add => add(kind, a, b),
-            Operator::Subtract => subtract(kind, a, b),
-            Operator::Multiply => multiply(kind, a, b),
-            Operator::Divide => divide(kind, a, b),
-            Operator::Remainder => remain(kind, a, b),
+            BinaryOperator::Or => part(kind, whole::or(a, b)),
+            BinaryOperator::ExclusiveOr => part(kind, whole::xor(a, b)),
+            BinaryOperator::And => part(kind, whole::and(a, b)),
+            BinaryOperator::ShiftLeft => shift_left(kind, a, b),
+            BinaryOperator::ShiftRight => shift_right(kind, a, b),
+            BinaryOperator::Add => add(kind, a, b),
+            BinaryOperator::Subtract => subtract(kind, a, b),
+            BinaryOperator::Multiply => multiply(kind, a, b),
+            BinaryOperator::Divide => divide(kind, a, b),
+            BinaryOperator::Remainder => remain(kind, a, b),
         }
     }
 }

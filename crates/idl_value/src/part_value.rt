@@ -8,7 +8,7 @@ ghost use Rattle.idl_value.specs.declared.outcome.ValueCode.TheVariants.{WrongKi
 
 use crate::constant_type::ConstantType;
 use crate::integer::IntegerKind;
-use crate::operator::{Operator, apply_sign, part};
+use crate::operator::{BinaryOperator, apply_sign, part};
 use crate::outcome::{ValueCode, ValueFault};
 use crate::value::Value;
 use idl_tree::Literal;
@@ -99,8 +99,8 @@ fn value_part<'a>(target: &ConstantType, token: usize, value: &'a Value) -> Part
 
 /// An operator, and the number of its token.
 #[derive(Clone, Copy)]
-pub struct Sited {
-    pub operator: Operator,
+pub struct OperatorToken {
+    pub operator: BinaryOperator,
     pub token: usize,
 }
 
@@ -121,7 +121,12 @@ impl<'a> PartValue<'a> {
     }
 
     /// This part, the operator, and the part behind that.
-    pub fn combined(self, target: &ConstantType, mark: Sited, right: PartValue<'a>) -> PartValue<'a>
+    pub fn combined(
+        self,
+        target: &ConstantType,
+        mark: OperatorToken,
+        right: PartValue<'a>,
+    ) -> PartValue<'a>
         ensures { seen result
             ≡ operated_outcome target.now mark.token mark.operator (seen self.entry) (seen right.entry) }
     {
@@ -168,7 +173,7 @@ fn signed_number(
 
 fn combined_numbers(
     kind: Option<IntegerKind>,
-    operator: Operator,
+    operator: BinaryOperator,
     numbers: (Option<i128>, Option<i128>),
 ) -> Result<i128, ValueCode>
     ensures { result ≡ combined_numbers kind operator numbers.0 numbers.1 }

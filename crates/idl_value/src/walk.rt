@@ -8,8 +8,8 @@ ghost use Rattle.idl_value.specs.Term.{Literally, Named, and_term, before_last, 
 ghost use Rattle.idl_value.specs.Walk.{stepped, walk_operator, walk_term};
 
 use crate::constant_type::ConstantType;
-use crate::operator::Operator;
-use crate::part_value::{PartValue, Sited, literal_part, named_part};
+use crate::operator::BinaryOperator;
+use crate::part_value::{OperatorToken, PartValue, literal_part, named_part};
 use crate::value::Value;
 use idl_base::Seq;
 use idl_tree::expression::{
@@ -64,7 +64,7 @@ impl<'a> Scene<'a> {
         let mut left = self.exclusive_or(place, first.get());
         for operand in rest.as_slice() {
             let right = self.exclusive_or(left.place.further(1, 0), operand);
-            left = self.operated(Operator::Or, left, right);
+            left = self.operated(BinaryOperator::Or, left, right);
         }
         left
     }
@@ -81,7 +81,7 @@ impl<'a> Scene<'a> {
         let mut left = self.and(place, first.get());
         for operand in rest.as_slice() {
             let right = self.and(left.place.further(1, 0), operand);
-            left = self.operated(Operator::ExclusiveOr, left, right);
+            left = self.operated(BinaryOperator::ExclusiveOr, left, right);
         }
         left
     }
@@ -97,7 +97,7 @@ impl<'a> Scene<'a> {
         let mut left = self.shift(place, first.get());
         for operand in rest.as_slice() {
             let right = self.shift(left.place.further(1, 0), operand);
-            left = self.operated(Operator::And, left, right);
+            left = self.operated(BinaryOperator::And, left, right);
         }
         left
     }
@@ -233,11 +233,11 @@ impl<'a> Scene<'a> {
     }
 
     // Two operands, and the operator between them.
-    fn operated(self, operator: Operator, left: Worked<'a>, right: Worked<'a>) -> Worked<'a>
+    fn operated(self, operator: BinaryOperator, left: Worked<'a>, right: Worked<'a>) -> Worked<'a>
         ensures { stepped result
             ≡ walk_operator self.entry.target.now operator (stepped left.entry) (stepped right.entry) }
     {
-        let mark = Sited {
+        let mark = OperatorToken {
             operator,
             token: left.place.token,
         };
@@ -272,30 +272,30 @@ fn text_length(pieces: &Several<Seq<u16>>) -> usize
     pieces.rest.len().saturating_add(1)
 }
 
-fn shift_operator(operator: ShiftOperator) -> Operator
+fn shift_operator(operator: ShiftOperator) -> BinaryOperator
     ensures { result ≡ shift_operator operator }
 {
     match operator {
-        ShiftOperator::Left => Operator::ShiftLeft,
-        ShiftOperator::Right => Operator::ShiftRight,
+        ShiftOperator::Left => BinaryOperator::ShiftLeft,
+        ShiftOperator::Right => BinaryOperator::ShiftRight,
     }
 }
 
-fn sum_operator(operator: SumOperator) -> Operator
+fn sum_operator(operator: SumOperator) -> BinaryOperator
     ensures { result ≡ sum_operator operator }
 {
     match operator {
-        SumOperator::Plus => Operator::Add,
-        SumOperator::Minus => Operator::Subtract,
+        SumOperator::Plus => BinaryOperator::Add,
+        SumOperator::Minus => BinaryOperator::Subtract,
     }
 }
 
-fn product_operator(operator: ProductOperator) -> Operator
+fn product_operator(operator: ProductOperator) -> BinaryOperator
     ensures { result ≡ product_operator operator }
 {
     match operator {
-        ProductOperator::Times => Operator::Multiply,
-        ProductOperator::Divided => Operator::Divide,
-        ProductOperator::Remainder => Operator::Remainder,
+        ProductOperator::Times => BinaryOperator::Multiply,
+        ProductOperator::Divided => BinaryOperator::Divide,
+        ProductOperator::Remainder => BinaryOperator::Remainder,
     }
 }

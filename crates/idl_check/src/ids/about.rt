@@ -25,7 +25,7 @@ use std::alloc::AllocError;
 /// Where a name stands of which something is said: what the unit's earlier tokens add, the scopes around it, and the number of its
 /// first token.
 #[derive(Clone, Copy)]
-pub struct Subject<'a> {
+pub struct PragmaSubject<'a> {
     pub env: &'a Env,
     pub own: &'a Facts,
     pub scopes: &'a OpenScopes,
@@ -47,7 +47,7 @@ impl Drop for Named {
     }
 }
 
-impl<'a> Subject<'a> {
+impl<'a> PragmaSubject<'a> {
     /// What a name denotes that has an id, or the fault at the name; nothing is introduced by that.
     pub fn named(
         self,

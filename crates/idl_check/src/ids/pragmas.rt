@@ -21,7 +21,7 @@ ghost use Rattle.idl_unit.specs.Faults.{least_fault};
 ghost use Rattle.idl_unit.specs.TokenRules.{fault_at};
 ghost use Rattle.idl_unit.specs.declared.unit.UnitText.TheVariants as unit;
 
-use crate::ids::about::{Named, Subject};
+use crate::ids::about::{Named, PragmaSubject};
 use crate::ids::identifying::{changed, id_text, is_fixed, is_given, visible};
 use crate::walk::verdict::{Verdict, adding};
 use idl_base::Shared;
@@ -162,7 +162,7 @@ impl<'a> Speaker<'a> {
         ensures place { IfOk result (λ r. IfErr r (λ fault. fault.index ≤ last_at 2 name.now)) }
     {
         let own = Facts::new(self.env.alloc());
-        let subject = Subject {
+        let subject = PragmaSubject {
             env: self.env,
             own: &own,
             scopes: self.scopes,

@@ -14,7 +14,7 @@ ghost use Rattle.idl_memo.specs.Query.{run};
 ghost use Rattle.idl_parts.specs.declared.part.TextPurpose.TheVariants.{Id, Prefix};
 ghost use Rattle.idl_scope.specs.Lookup.{under};
 
-use crate::ids::about::{Named, Subject};
+use crate::ids::about::{Named, PragmaSubject};
 use crate::ids::identifying::{changed, has_id, id_text, is_given, visible};
 use crate::tables::codes::first_code;
 use idl_base::{Bytes, Shared};
@@ -46,16 +46,16 @@ pub fn purpose_of(way: Use) -> Option<TextPurpose>
 
 /// A text that stands behind a name.
 #[derive(Clone, Copy)]
-pub struct Text<'a> {
+pub struct PragmaText<'a> {
     pub purpose: TextPurpose,
     pub characters: &'a [u16],
 }
 
-impl<'a> Text<'a> {
+impl<'a> PragmaText<'a> {
     /// What is said by it of an entity that has the name.
     pub fn remark(
         self,
-        subject: Subject<'_>,
+        subject: PragmaSubject<'_>,
         log: &mut Journal<Env>,
         entity: &Entity,
     ) -> Result<Remark, AllocError>
@@ -79,7 +79,7 @@ impl<'a> Text<'a> {
 
 // What is said of an entity where a text is its id: what the pragma of an id says.
 fn identified(
-    subject: Subject<'_>,
+    subject: PragmaSubject<'_>,
     log: &mut Journal<Env>,
     entity: &Entity,
     text: &[u16],
@@ -142,7 +142,7 @@ fn identifying(alloc: Global, named: &Named, text: &[u16]) -> Result<Option<Addi
 
 // What is said of an entity where a text is its typeprefix.
 fn prefixed(
-    subject: Subject<'_>,
+    subject: PragmaSubject<'_>,
     log: &mut Journal<Env>,
     entity: &Entity,
     text: &[u16],

@@ -22,21 +22,21 @@ use std::marker::Model;
 /// The bases that were named so far. Most units name none, which takes no memory.
 #[derive(Drop)]
 pub struct Bases {
-    named: Option<Box<Named>>,
+    named: Option<Box<BaseTables>>,
 }
 
 // The paths of the bases, and those of the operations and attributes that they bring, by the folded
 // names: those of the last two bases wait, as the lists that the bases have, until a third is named.
-struct Named {
+struct BaseTables {
     paths: Table<Path, ()>,
     operations: Table<Bytes, Path>,
     before_last: SharedList<Path>,
     last: SharedList<Path>,
 }
 
-impl Drop for Named {
+impl Drop for BaseTables {
     fn drop(self) {
-        let Named {
+        let BaseTables {
             paths: _paths,
             operations: _operations,
             before_last: _before_last,
@@ -54,7 +54,7 @@ impl Model for Bases {
     ghost view = { λ bases. boxed_or no_bases bases.named };
 }
 
-impl Model for Named {
+impl Model for BaseTables {
     ghost use Rattle.std.specs.Map.{keys_of};
     ghost use Rattle.std.specs.Prelude.{fold};
     ghost use Rattle.idl_check.specs.tables.Using.{Bases as NamedBases, with_operation};
@@ -114,22 +114,22 @@ impl Bases {
     }
 
     // Those so far.
-    fn take(&mut self, alloc: Global) -> Result<Box<Named>, AllocError>
+    fn take(&mut self, alloc: Global) -> Result<Box<BaseTables>, AllocError>
         ensures { IfOk result (λ named. named.value ≡ self.old) }
     {
         match self.named.take() {
             Some(named) => Ok(named),
-            None => Ok(Box::new(alloc, Named::new(alloc))?),
+            None => Ok(Box::new(alloc, BaseTables::new(alloc))?),
         }
     }
 }
 
-impl Named {
+impl BaseTables {
     // None. It takes no memory.
-    fn new(alloc: Global) -> Named
+    fn new(alloc: Global) -> BaseTables
         ensures { result ≡ no_bases }
     {
-        Named {
+        BaseTables {
             paths: Table::new(alloc),
             operations: Table::new(alloc),
             before_last: SharedList::new(),

@@ -11,7 +11,7 @@ use std::alloc::{AllocError, Global};
 use std::marker::Model;
 
 /// The labels of a union so far.
-pub struct Labels {
+pub struct UnionLabels {
     /// The type of the discriminator, if it may be one.
     target: Option<ConstantType>,
     /// Of an enum, how many enumerators it has.
@@ -20,9 +20,9 @@ pub struct Labels {
     has_default: bool,
 }
 
-impl Drop for Labels {
+impl Drop for UnionLabels {
     fn drop(self) {
-        let Labels {
+        let UnionLabels {
             target: _target,
             enumerators: _enumerators,
             values: _values,
@@ -31,11 +31,11 @@ impl Drop for Labels {
     }
 }
 
-impl Model for Labels {
+impl Model for UnionLabels {
     ghost use Rattle.std.specs.Map.{keys_of};
-    ghost use Rattle.idl_check.specs.told.Labels.{Labels as UnionLabels};
+    ghost use Rattle.idl_check.specs.told.Labels.{Labels};
 
-    ghost Value = { UnionLabels };
+    ghost Value = { Labels };
 
     ghost view = { λ labels. record {
       target = labels.target;
@@ -45,12 +45,12 @@ impl Model for Labels {
     } };
 }
 
-impl Labels {
+impl UnionLabels {
     /// Before the first label. It takes no memory.
-    pub fn new(alloc: Global, target: Option<ConstantType>, enumerators: u64) -> Labels
+    pub fn new(alloc: Global, target: Option<ConstantType>, enumerators: u64) -> UnionLabels
         ensures { result ≡ no_labels target enumerators }
     {
-        Labels {
+        UnionLabels {
             target,
             enumerators,
             values: Table::new(alloc),

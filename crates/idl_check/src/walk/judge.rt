@@ -27,7 +27,7 @@ use crate::walk::scratch::Scratch;
 use crate::walk::verdict::{Verdict, adding};
 use crate::walk::walker::Walker;
 use idl_base::Bytes;
-use idl_dump::{Rest, write_row};
+use idl_dump::{RowSource, write_row};
 use idl_entity::Path;
 use idl_env::{DigestedKey, Env, Facts, OpenScopes, Step};
 use idl_fault::Code;
@@ -49,7 +49,7 @@ pub struct Judge<'a> {
 
 // A unit that has a tree, and the sites of that tree.
 #[derive(Clone, Copy)]
-struct Sited<'t> {
+struct ParsedUnit<'t> {
     judge: Judge<'t>,
     tree: &'t Tree,
     sites: &'t [UnitPart<'t>],
@@ -156,7 +156,7 @@ impl<'a> Judge<'a> {
             (answers self.entry.env.now) log.old) }
     {
         let sites = sites(self.env.alloc(), tree)?;
-        let unit = Sited {
+        let unit = ParsedUnit {
             judge: self,
             tree,
             sites: sites.as_slice(),
@@ -187,7 +187,7 @@ impl<'a> Judge<'a> {
     }
 }
 
-impl<'t> Sited<'t> {
+impl<'t> ParsedUnit<'t> {
     // The verdict of a unit that its scope holds, over whose sites this walk goes.
     fn walked(
         self,
@@ -230,7 +230,7 @@ impl<'t> Sited<'t> {
             (held walker.old)))
             (answers self.entry.judge.env.now) log.old) }
     {
-        let rest = Rest {
+        let rest = RowSource {
             tokens: self.judge.tokens,
             found: walker.found.as_slice(),
             values: walker.values.told(),

@@ -27,7 +27,7 @@ use crate::tables::declaring::{declared_code, stays};
 use crate::tables::standing::{Standing, standing_of};
 use crate::tables::using::{Denoted, Denoting, introduce, name_code, used_code};
 use crate::told::bodies::declare_member;
-use crate::told::labels::Labels;
+use crate::told::labels::UnionLabels;
 use crate::told::types::{constants_of, looked_through};
 use crate::walk::walker::Walker;
 use idl_base::{Bytes, Seq, Shared};
@@ -249,7 +249,7 @@ impl<'a> Walker<'a> {
         match way {
             Use::AsOperand => self.values.add_operand(None),
             Use::AsDiscriminator => {
-                let labels = Labels::new(self.env.alloc(), None, 0);
+                let labels = UnionLabels::new(self.env.alloc(), None, 0);
                 self.unions.insert(0, labels)?;
                 Ok(())
             }
@@ -364,7 +364,7 @@ impl<'a> Walker<'a> {
             Use::AsDiscriminator => {
                 self.name_type(entity.path())?;
                 let count = behind.enumerators().len() as u64;
-                let labels = Labels::new(self.env.alloc(), constants, count);
+                let labels = UnionLabels::new(self.env.alloc(), constants, count);
                 self.unions.insert(0, labels)?;
                 Ok(())
             }

@@ -15,8 +15,8 @@ ghost use Rattle.idl_parts.specs.Part.{Part as item};
 ghost use Rattle.idl_tree.specs.NameParts.{last_at};
 ghost use Rattle.idl_value.specs.Evaluation.{joined};
 
-use crate::ids::about::Subject;
-use crate::ids::remark::{Remark, Text, is_bad_text};
+use crate::ids::about::PragmaSubject;
+use crate::ids::remark::{PragmaText, Remark, is_bad_text};
 use crate::walk::walker::Walker;
 use idl_base::Seq;
 use idl_entity::Path;
@@ -76,22 +76,22 @@ impl<'a> Walker<'a> {
     }
 
     // The text behind the name.
-    fn text_for(&self, purpose: TextPurpose) -> Text<'_>
+    fn text_for(&self, purpose: TextPurpose) -> PragmaText<'_>
         ensures purpose { result.purpose ≡ purpose }
         ensures text { result.characters.now ≡ self.now.text }
     {
-        Text {
+        PragmaText {
             purpose,
             characters: self.text.as_slice(),
         }
     }
 
     // Where the name stands.
-    fn subject(&self) -> Subject<'_>
+    fn subject(&self) -> PragmaSubject<'_>
         ensures env { result.env.now ≡ self.now.env.now }
         ensures own { result.own.now ≡ self.now.own }
     {
-        Subject {
+        PragmaSubject {
             env: self.env,
             own: &self.own,
             scopes: self.cursor.scopes(),

@@ -21,11 +21,11 @@ use std::alloc::AllocError;
 use std::marker::Model;
 
 /// How far the walk over a unit has come, which goes on a site at a time. What it asks is not kept.
-pub struct Steps<'a> {
+pub struct UnitWalk<'a> {
     walker: Walker<'a>,
 }
 
-impl<'a> Model for Steps<'a> {
+impl<'a> Model for UnitWalk<'a> {
     ghost use Rattle.idl_check.specs.walk.Steps.{Stepped};
     ghost use Rattle.idl_check.specs.walk.Held.{held};
 
@@ -34,18 +34,18 @@ impl<'a> Model for Steps<'a> {
     ghost view = { λ steps. record { facts = steps.walker.env.now; walk = held steps.walker } };
 }
 
-impl<'a> Drop for Steps<'a> {
+impl<'a> Drop for UnitWalk<'a> {
     fn drop(self) {
-        let Steps { walker: _walker } = self;
+        let UnitWalk { walker: _walker } = self;
     }
 }
 
-impl<'a> Steps<'a> {
+impl<'a> UnitWalk<'a> {
     /// Before the first site of a unit in these scopes. What is added takes the room that there is.
-    pub fn new(scratch: &mut Scratch, env: &'a Env, scopes: &'a OpenScopes) -> Steps<'a>
+    pub fn new(scratch: &mut Scratch, env: &'a Env, scopes: &'a OpenScopes) -> UnitWalk<'a>
         ensures { result ≡ record { facts = env.now; walk = first_walk scopes.now } }
     {
-        Steps {
+        UnitWalk {
             walker: Walker::new(env, scopes, scratch, None),
         }
     }

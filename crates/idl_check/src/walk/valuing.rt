@@ -18,7 +18,7 @@ ghost use Rattle.idl_value.specs.declared.outcome.Outcome.TheVariants as outcome
 
 use crate::tables::declaring::array_of;
 use crate::told::bodies::{label_member, make_array};
-use crate::told::labels::Labels;
+use crate::told::labels::UnionLabels;
 use crate::told::last_type::LastType;
 use crate::told::types::{target_in, written_as};
 use crate::told::values::{Types, code_of};
@@ -230,7 +230,7 @@ impl<'a> Walker<'a> {
         let target = ConstantType::of_keywords(discrete);
         let element = Element::Constants(target.clone()?);
         self.written.data_type = LastType::told(Some(self.env.plain(element)?));
-        let labels = Labels::new(self.env.alloc(), Some(target), 0);
+        let labels = UnionLabels::new(self.env.alloc(), Some(target), 0);
         self.unions.insert(0, labels)?;
         Ok(())
     }

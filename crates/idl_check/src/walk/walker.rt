@@ -20,7 +20,7 @@ use crate::tables::codes::lesser;
 use crate::tables::declaring::{Ending, Written, finished, kind_of, path_in};
 use crate::told::bodies::{Body, Nest, end_innermost};
 use crate::told::clauses::Clauses;
-use crate::told::labels::Labels;
+use crate::told::labels::UnionLabels;
 use crate::told::values::Values;
 use crate::walk::scratch::Scratch;
 use idl_base::{Bytes, Seq, Shared};
@@ -53,7 +53,7 @@ pub struct Walker<'a> {
     pub bodies: Nest,
     pub clauses: Clauses,
     /// The labels of the unions around it, the innermost first.
-    pub unions: Vec<Labels>,
+    pub unions: Vec<UnionLabels>,
     /// The text that stands behind the next name, if something is said by it of what that denotes.
     pub text: Seq<u16>,
     /// The paths of what the used names denote, in order.

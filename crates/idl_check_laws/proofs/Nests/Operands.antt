@@ -39,8 +39,8 @@ use Rattle.idl_tree.specs.declared.name.ScopedName.{ScopedName}
 use Rattle.idl_value.proofs.TermEquations.{and_term-made, exclusive_or_term-made, expression_term-made, primary_term-literal, primary_term-name, primary_term-parentheses, product_term-made, shift_term-made, sum_term-made, unary_term-made}
 use Rattle.idl_value.specs.Names.{links_names, name_count, term_names}
 use Rattle.idl_value.specs.Term.{Chain, Term, and_term, exclusive_or_term, expression_term, links, primary_term, product_operator, product_term, shift_operator, shift_term, signed, sum_operator, sum_term, unary_term}
-use Rattle.idl_value.specs.declared.operator.Operator.{Operator}
-use Rattle.idl_value.specs.declared.operator.Operator.TheVariants as operator
+use Rattle.idl_value.specs.declared.operator.BinaryOperator.{BinaryOperator}
+use Rattle.idl_value.specs.declared.operator.BinaryOperator.TheVariants as operator
 
 abbrev pub is_operand_use : Use → Bool
 is_operand_use AsOperand = true
@@ -116,14 +116,14 @@ holds-follow p q m n h k = record {
 }
 
 -- operands behind operators
-holds-many : {S Y : Type 0} (f : Y → Parts) (op : Y → Operator) (term : Y → Term) (v : S → Y) → ((s : S) → Holds (f (v s)) (term_names (term (v s)))) → (xs : List S)
+holds-many : {S Y : Type 0} (f : Y → Parts) (op : Y → BinaryOperator) (term : Y → Term) (v : S → Y) → ((s : S) → Holds (f (v s)) (term_names (term (v s)))) → (xs : List S)
     → Holds (flat_map f (map v xs)) (links_names (links op term (map v xs)))
 holds-many f op term v h [] = holds-none
 holds-many f op term v h (x ∷ xs) =
     holds-follow (f (v x)) (flat_map f (map v xs)) (term_names (term (v x))) (links_names (links op term (map v xs))) (h x) (holds-many f op term v h xs)
 
 -- a rank: an operand, and more behind operators
-holds-rank : {S Y : Type 0} (whole first : Parts) (t e : Term) (f : Y → Parts) (op : Y → Operator) (term : Y → Term) (v : S → Y) → ((s : S) → Holds (f (v s)) (term_names (term (v s)))) → (xs : List S)
+holds-rank : {S Y : Type 0} (whole first : Parts) (t e : Term) (f : Y → Parts) (op : Y → BinaryOperator) (term : Y → Term) (v : S → Y) → ((s : S) → Holds (f (v s)) (term_names (term (v s)))) → (xs : List S)
     → whole ≡ first ++ flat_map f (map v xs) → t ≡ Chain e (links op term (map v xs)) → Holds first (term_names e) → Holds whole (term_names t)
 holds-rank whole first t e f op term v h xs is made k =
     let behind = flat_map f (map v xs) in

@@ -7,7 +7,7 @@ ghost use Rattle.idl_event.specs.declared.told.event.Event.TheVariants.{Emitted}
 
 use crate::told::event::Event;
 use crate::told::expansion::Expansion;
-use crate::told::runs::{Runs, push_clones};
+use crate::told::runs::{TokenRuns, push_clones};
 use crate::told::sites::Sites;
 use idl_fault::{FileName, Place};
 use idl_lex::Token;
@@ -143,7 +143,7 @@ impl ExpansionBuilder {
             sites,
             others,
         } = self;
-        let runs = Runs::new(alloc, runs)?;
+        let runs = TokenRuns::new(alloc, runs)?;
         let sites = Rc::new(alloc, sites)?;
         Ok(Expansion::from_parts(runs, sites, others))
     }

@@ -7,7 +7,7 @@ ghost use Rattle.idl_event.specs.declared.told.event.Event.{Event};
 
 use crate::told::event::Event;
 use crate::told::event_view::EventView;
-use crate::told::runs::Runs;
+use crate::told::runs::TokenRuns;
 use crate::told::sites::Sites;
 use std::marker::Model;
 use std::rc::Rc;
@@ -15,7 +15,7 @@ use std::rc::Rc;
 /// What a root expands to: to every contract the list of its events. The tokens of its text stand apart from the others, so
 /// that they are shared.
 pub struct Expansion {
-    text: Runs,
+    text: TokenRuns,
     sites: Rc<Sites>,
     others: Vec<(usize, Event)>,
 }
@@ -44,7 +44,7 @@ impl Drop for Expansion {
 
 impl Expansion {
     /// What consists of these tokens, at these sites, and of these other events.
-    pub fn from_parts(text: Runs, sites: Rc<Sites>, others: Vec<(usize, Event)>) -> Expansion
+    pub fn from_parts(text: TokenRuns, sites: Rc<Sites>, others: Vec<(usize, Event)>) -> Expansion
         requires { StandApart sites.value text others.items }
         ensures { result ≡ woven sites.value text others.items }
     {
@@ -56,7 +56,7 @@ impl Expansion {
     }
 
     /// The tokens of its text in order.
-    pub fn text(&self) -> &Runs
+    pub fn text(&self) -> &TokenRuns
         ensures { result.now ≡ tokens_in (enumerate_from 0 self.now) }
     {
         &self.text
@@ -96,7 +96,7 @@ impl Expansion {
 /// number.
 #[derive(Drop)]
 pub struct Events<'a> {
-    text: &'a Runs,
+    text: &'a TokenRuns,
     sites: &'a Sites,
     others: &'a [(usize, Event)],
     tokens_passed: usize,

@@ -11,14 +11,14 @@ use std::marker::Model;
 
 /// The tokens of a text, as runs of tokens that are shared: to every contract the list of them.
 #[derive(Drop)]
-pub struct Runs {
+pub struct TokenRuns {
     runs: Vec<TokenRange>,
     // How many tokens are before each of them.
     starts: Vec<u32>,
     count: u32,
 }
 
-impl Model for Runs {
+impl Model for TokenRuns {
     ghost use Rattle.std.specs.Prelude.{◌≡◌, ◌<◌, ◌^◌, List, length};
     ghost use Rattle.idl_event.specs.Runs.{starts_of, tokens_of};
     ghost use Rattle.idl_lex.specs.tokens.Tokens.{Token};
@@ -31,9 +31,9 @@ impl Model for Runs {
         × (r.count ≡ length (tokens_of r.runs.items)) };
 }
 
-impl Runs {
+impl TokenRuns {
     /// The tokens of these runs, end to end. Numbers from the first 2^32 on are as want of memory.
-    pub fn new(alloc: Global, runs: Vec<TokenRange>) -> Result<Runs, AllocError>
+    pub fn new(alloc: Global, runs: Vec<TokenRange>) -> Result<TokenRuns, AllocError>
         ensures { IfOk result (λ all. all ≡ tokens_of runs.items) }
     {
         let mut starts = Vec::with_capacity(alloc, runs.len())?;
@@ -42,7 +42,7 @@ impl Runs {
             starts.push(count)?;
             count = sum(count, run.len())?;
         }
-        Ok(Runs {
+        Ok(TokenRuns {
             runs,
             starts,
             count,

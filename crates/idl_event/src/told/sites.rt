@@ -17,7 +17,7 @@ use std::marker::Model;
 /// From one token to the next the line seldom changes, the file still less, nor do other events often stand between them. So
 /// a spot has what is the same for the tokens of a line, and a stretch what is the same for those of many lines.
 pub struct Sites {
-    spots: Vec<Spot>,
+    spots: Vec<LineEntry>,
     stretches: Vec<Stretch>,
     // How many tokens there are.
     count: usize,
@@ -28,14 +28,14 @@ const MOST: usize = 4_294_967_296;
 
 /// Tokens of one line: the number of the first of them, the line, and the number of their stretch.
 #[derive(Clone, Copy)]
-pub struct Spot {
+pub struct LineEntry {
     first: u32,
     line: u32,
     stretch: u32,
 }
 
 // A root has ten thousands of lines.
-const _: () = prove!(size_of::<Spot>() <= 12);
+const _: () = prove!(size_of::<LineEntry>() <= 12);
 
 /// Tokens of one file, with no other event between them: how many others come before them.
 #[derive(Drop)]
@@ -115,7 +115,7 @@ impl Sites {
         }
         let Place { file, line } = place;
         let stretch = stretch_of(&mut self.stretches, &file, others)?;
-        self.spots.push(Spot {
+        self.spots.push(LineEntry {
             first,
             line,
             stretch,
@@ -187,7 +187,7 @@ impl Sites {
 }
 
 // Whether the last token stands at this place, behind so many other events.
-fn goes_on(spots: &[Spot], stretches: &[Stretch], place: &Place, others: usize) -> bool
+fn goes_on(spots: &[LineEntry], stretches: &[Stretch], place: &Place, others: usize) -> bool
     ensures { IsTrue result
         → in_stretch stretches.now (slice_get spots.now (length spots.now - 1))
         ≡ Some (place.now.line, record { file = place.now.file; others = others }) }
@@ -234,7 +234,7 @@ struct Start {
 
 // The spots of tokens of a file go behind the others: one for each line.
 fn push_lines(
-    spots: &mut Vec<Spot>,
+    spots: &mut Vec<LineEntry>,
     start: Start,
     tokens: &FileTokens<'_>,
 ) -> Result<(), AllocError>
@@ -248,7 +248,7 @@ fn push_lines(
     let mut i = 0;
     'tokens: while i < tokens.len() {
         let line = tokens.line_at(i);
-        let spot = Spot {
+        let spot = LineEntry {
             first: start.first + i as u32,
             line,
             stretch: start.stretch,
@@ -264,7 +264,11 @@ fn push_lines(
 }
 
 // The spot goes behind the others, unless the last one is on its line already.
-fn put_spot(spots: &mut Vec<Spot>, last: Option<u32>, spot: Spot) -> Result<(), AllocError>
+fn put_spot(
+    spots: &mut Vec<LineEntry>,
+    last: Option<u32>,
+    spot: LineEntry,
+) -> Result<(), AllocError>
     ensures put { OnOk result
         ((last ≡ Some spot.line) × (spots.new.items ≡ spots.old.items)
         ⊎ (spots.new.items ≡ spots.old.items ++ spot ∷ [])) }
@@ -299,7 +303,11 @@ fn is_last(stretches: &[Stretch], file: &FileName, others: usize) -> bool
 }
 
 // The line of the token with this number, and its stretch.
-fn found<'a>(stretches: &'a [Stretch], spots: &[Spot], index: usize) -> Option<(u32, &'a Stretch)>
+fn found<'a>(
+    stretches: &'a [Stretch],
+    spots: &[LineEntry],
+    index: usize,
+) -> Option<(u32, &'a Stretch)>
     requires { Rise spots.now }
     ensures { option_map (λ x. (x.0, x.1.now)) result ≡ found stretches.now spots.now index }
 {
@@ -309,7 +317,7 @@ fn found<'a>(stretches: &'a [Stretch], spots: &[Spot], index: usize) -> Option<(
 }
 
 // The last tokens of a line that begin at the one with this number, or before it.
-fn spot_at(spots: &[Spot], index: usize) -> Option<&Spot>
+fn spot_at(spots: &[LineEntry], index: usize) -> Option<&LineEntry>
     requires { Rise spots.now }
     ensures { option_copied result ≡ spot_at spots.now index }
 {

@@ -12,8 +12,8 @@ use Rattle.idl_macro.specs.declared.conditions.operator.Operator.TheVariants as 
 use Rattle.idl_macro.specs.declared.conditions.operator.Sign.{Sign}
 use Rattle.idl_macro.specs.declared.conditions.stack.Waiting.{Waiting}
 use Rattle.idl_macro.specs.declared.conditions.stack.Waiting.TheVariants.{Infix, Prefix, Parenthesis}
-use Rattle.idl_macro.specs.declared.conditions.symbol.Symbol.{Symbol}
-use Rattle.idl_macro.specs.declared.conditions.symbol.Symbol.TheVariants as symbol
+use Rattle.idl_macro.specs.declared.conditions.symbol.ConditionSymbol.{ConditionSymbol}
+use Rattle.idl_macro.specs.declared.conditions.symbol.ConditionSymbol.TheVariants as symbol
 use Rattle.idl_macro.proofs.ConditionLaws.ChainLemmas.{HasRank}
 use Rattle.idl_macro.proofs.ConditionLaws.WaitingLemmas.{meaning-infix, meaning-prefix, IsBelow-higher, meaning_at-number, meaning_at-name, meaning_at-open, meaning_at-sign, meaning_at-operator, meaning_at-close, meaning_at-start, meaning_at-end-closed}
 
@@ -60,25 +60,25 @@ IsBelow-operand : (c : Chain) → IsBelow c operand_rank
 IsBelow-operand [] = tt {0}
 IsBelow-operand (p ∷ ps) = let ranked = HasRank-all p.0 in omega (arith, ranked.high)
 
-IsBelow-close : (ss : List Symbol) → IsBelow (operator_at (symbol.Close ∷ ss)).chain 1
+IsBelow-close : (ss : List ConditionSymbol) → IsBelow (operator_at (symbol.Close ∷ ss)).chain 1
 unfolding operand_at
 IsBelow-close ss = tt {0}
 
-IsBelow-operator : (o : Operator) (ss : List Symbol) → IsBelow (operator_at (symbol.Operator o ∷ ss)).chain (rank o)
+IsBelow-operator : (o : Operator) (ss : List ConditionSymbol) → IsBelow (operator_at (symbol.Operator o ∷ ss)).chain (rank o)
 unfolding operand_at
 IsBelow-operator o ss = omega arith
 
-meaning_at-prefix : (es : List Waiting) (s : Sign) (v : Value) (ss : List Symbol) → meaning_at (AfterOperand v) (Prefix s ∷ es) ss ≡ meaning_at (AfterOperand (sign_application s v)) es ss
+meaning_at-prefix : (es : List Waiting) (s : Sign) (v : Value) (ss : List ConditionSymbol) → meaning_at (AfterOperand v) (Prefix s ∷ es) ss ≡ meaning_at (AfterOperand (sign_application s v)) es ss
 unfolding meaning_at
 meaning_at-prefix es s v ss = sym (meaning-prefix es s v (operator_at ss).chain (operator_at ss).tail)
 
-meaning_at-infix : (es : List Waiting) (a : Value) (o : Operator) (b : Value) (ss : List Symbol) → IsAbove es (rank o) → IsBelow (operator_at ss).chain (rank o) →
+meaning_at-infix : (es : List Waiting) (a : Value) (o : Operator) (b : Value) (ss : List ConditionSymbol) → IsAbove es (rank o) → IsBelow (operator_at ss).chain (rank o) →
     meaning_at (AfterOperand b) (Infix a o ∷ es) ss ≡ meaning_at (AfterOperand (application o a b)) es ss
 unfolding meaning_at
 meaning_at-infix es a o b ss above below = sym (meaning-infix es a o b (operator_at ss).chain (operator_at ss).tail (HasRank-all o) above below)
 
 -- an expression is read as an operand with its value, where what waits and what follows leave it whole
-meaning_at-expression : (r : ℕ) (xs : List Symbol) (v : Value) → HasValue r xs v → (es : List Waiting) (ss : List Symbol) → IsUnder es r → IsBelow (operator_at ss).chain r →
+meaning_at-expression : (r : ℕ) (xs : List ConditionSymbol) (v : Value) → HasValue r xs v → (es : List Waiting) (ss : List ConditionSymbol) → IsUnder es r → IsBelow (operator_at ss).chain r →
     meaning_at BeforeOperand es (xs ++ ss) ≡ meaning_at (AfterOperand v) es ss
 meaning_at-expression _ _ _ (number r n) es ss under below = sym (meaning_at-number es n ss)
 meaning_at-expression _ _ _ (name r) es ss under below = sym (meaning_at-name es ss)
@@ -102,7 +102,7 @@ IsBelow-nothing : IsBelow (operator_at []).chain 1
 unfolding operand_at
 IsBelow-nothing = tt {0}
 
-pub condition-expression : (ss : List Symbol) (v : Value) → HasValue 1 ss v → condition ss ≡ v
+pub condition-expression : (ss : List ConditionSymbol) (v : Value) → HasValue 1 ss v → condition ss ≡ v
 condition-expression ss v h =
     sym (meaning_at-start ss) ∙ ap (λ ts. meaning_at BeforeOperand [] ts) (sym (append-nil ss))
     ∙ meaning_at-expression 1 ss v h [] [] (tt {0}) IsBelow-nothing

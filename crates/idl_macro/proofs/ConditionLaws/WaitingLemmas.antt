@@ -10,8 +10,8 @@ use Rattle.idl_macro.specs.declared.conditions.operator.Operator.{Operator}
 use Rattle.idl_macro.specs.declared.conditions.operator.Sign.{Sign}
 use Rattle.idl_macro.specs.declared.conditions.stack.Waiting.{Waiting}
 use Rattle.idl_macro.specs.declared.conditions.stack.Waiting.TheVariants.{Infix, Prefix, Parenthesis}
-use Rattle.idl_macro.specs.declared.conditions.symbol.Symbol.{Symbol}
-use Rattle.idl_macro.specs.declared.conditions.symbol.Symbol.TheVariants as symbol
+use Rattle.idl_macro.specs.declared.conditions.symbol.ConditionSymbol.{ConditionSymbol}
+use Rattle.idl_macro.specs.declared.conditions.symbol.ConditionSymbol.TheVariants as symbol
 use Rattle.idl_macro.proofs.ConditionLaws.ChainLemmas.{HasRank, resolved-first, resolved-behind}
 
 -- ---- entries that are taken away
@@ -67,16 +67,16 @@ meaning-bad (Infix a o ∷ es) v c = meaning-bad es a ((o, v) ∷ c)
 meaning-bad (Prefix s ∷ es) v c = meaning-bad es (sign_application s v) c
 meaning-bad (Parenthesis ∷ es) v c = refl
 
-pub meaning_at-operand : (es es' : List Waiting) (v w : Value) (ss : List Symbol) → ((c : Chain) (t : Tail) → meaning es' w c t ≡ meaning es v c t) →
+pub meaning_at-operand : (es es' : List Waiting) (v w : Value) (ss : List ConditionSymbol) → ((c : Chain) (t : Tail) → meaning es' w c t ≡ meaning es v c t) →
     meaning_at (AfterOperand w) es' ss ≡ meaning_at (AfterOperand v) es ss
 unfolding meaning_at
 meaning_at-operand es es' v w ss same = same (operator_at ss).chain (operator_at ss).tail
 
-pub meaning_at-number : (es : List Waiting) (n : ℕ) (ss : List Symbol) → meaning_at (AfterOperand (checked (pos n))) es ss ≡ meaning_at BeforeOperand es (symbol.Number n ∷ ss)
+pub meaning_at-number : (es : List Waiting) (n : ℕ) (ss : List ConditionSymbol) → meaning_at (AfterOperand (checked (pos n))) es ss ≡ meaning_at BeforeOperand es (symbol.Number n ∷ ss)
 unfolding meaning_at operand_at
 meaning_at-number es n ss = refl
 
-pub meaning_at-name : (es : List Waiting) (ss : List Symbol) → meaning_at (AfterOperand (Some (pos 0))) es ss ≡ meaning_at BeforeOperand es (symbol.Name ∷ ss)
+pub meaning_at-name : (es : List Waiting) (ss : List ConditionSymbol) → meaning_at (AfterOperand (Some (pos 0))) es ss ≡ meaning_at BeforeOperand es (symbol.Name ∷ ss)
 unfolding meaning_at operand_at
 meaning_at-name es ss = refl
 
@@ -87,12 +87,12 @@ open-tail es v c End = sym (meaning-bad es None [])
 open-tail es v c (Closed d t) = refl
 open-tail es v c Bad = sym (meaning-bad es None [])
 
-pub meaning_at-open : (es : List Waiting) (ss : List Symbol) → meaning_at BeforeOperand (Parenthesis ∷ es) ss ≡ meaning_at BeforeOperand es (symbol.Open ∷ ss)
+pub meaning_at-open : (es : List Waiting) (ss : List ConditionSymbol) → meaning_at BeforeOperand (Parenthesis ∷ es) ss ≡ meaning_at BeforeOperand es (symbol.Open ∷ ss)
 unfolding meaning_at operand_at
 meaning_at-open es ss = open-tail es (operand_at ss).first (operand_at ss).chain (operand_at ss).tail
 
 -- a symbol that is neither an operand nor a parenthesis is read as the sign that it is
-operand_at-sign : (k : Symbol) (ss : List Symbol) → ((n : ℕ) → k ≢ symbol.Number n) → k ≢ symbol.Name → k ≢ symbol.Open → operand_at (k ∷ ss) ≡ signed (sign_of k) (operand_at ss)
+operand_at-sign : (k : ConditionSymbol) (ss : List ConditionSymbol) → ((n : ℕ) → k ≢ symbol.Number n) → k ≢ symbol.Name → k ≢ symbol.Open → operand_at (k ∷ ss) ≡ signed (sign_of k) (operand_at ss)
 unfolding operand_at
 operand_at-sign (symbol.Number n) ss a b c = absurd (a n refl)
 operand_at-sign symbol.Name ss a b c = absurd (b refl)
@@ -106,14 +106,14 @@ operand_at-sign symbol.Other ss a b c = refl
 abbrev meaning_of : List Waiting → Front → Value
 meaning_of es f = meaning es f.first f.chain f.tail
 
-pub meaning_at-sign : (es : List Waiting) (k : Symbol) (s : Sign) (ss : List Symbol) → ((n : ℕ) → k ≢ symbol.Number n) → k ≢ symbol.Name → k ≢ symbol.Open → sign_of k ≡ Some s →
+pub meaning_at-sign : (es : List Waiting) (k : ConditionSymbol) (s : Sign) (ss : List ConditionSymbol) → ((n : ℕ) → k ≢ symbol.Number n) → k ≢ symbol.Name → k ≢ symbol.Open → sign_of k ≡ Some s →
     meaning_at BeforeOperand (Prefix s ∷ es) ss ≡ meaning_at BeforeOperand es (k ∷ ss)
 unfolding meaning_at
 meaning_at-sign es k s ss a b c e =
     let f = operand_at ss in
     sym (meaning-prefix es s f.first f.chain f.tail) ∙ sym (ap (meaning_of es) (operand_at-sign k ss a b c ∙ ap (λ u. signed u f) e))
 
-pub meaning_at-no-operand : (es es' : List Waiting) (k : Symbol) (ss : List Symbol) → ((n : ℕ) → k ≢ symbol.Number n) → k ≢ symbol.Name → k ≢ symbol.Open → sign_of k ≡ None →
+pub meaning_at-no-operand : (es es' : List Waiting) (k : ConditionSymbol) (ss : List ConditionSymbol) → ((n : ℕ) → k ≢ symbol.Number n) → k ≢ symbol.Name → k ≢ symbol.Open → sign_of k ≡ None →
     meaning_at Nowhere es' ss ≡ meaning_at BeforeOperand es (k ∷ ss)
 unfolding meaning_at
 meaning_at-no-operand es es' k ss a b c e =
@@ -122,7 +122,7 @@ meaning_at-no-operand es es' k ss a b c e =
 
 -- ---- a symbol after an operand
 
-pub meaning_at-operator : (es es' : List Waiting) (v w : Value) (o : Operator) (r : ℕ) (ss : List Symbol) → ((c : Chain) (t : Tail) → IsBelow c r → meaning es' w c t ≡ meaning es v c t) → r ≡ rank o →
+pub meaning_at-operator : (es es' : List Waiting) (v w : Value) (o : Operator) (r : ℕ) (ss : List ConditionSymbol) → ((c : Chain) (t : Tail) → IsBelow c r → meaning es' w c t ≡ meaning es v c t) → r ≡ rank o →
     meaning_at BeforeOperand (Infix w o ∷ es') ss ≡ meaning_at (AfterOperand v) es (symbol.Operator o ∷ ss)
 unfolding meaning_at meaning operand_at
 meaning_at-operator es es' v w o r ss same e = same ((o, (operand_at ss).first) ∷ (operand_at ss).chain) (operand_at ss).tail (omega arith)
@@ -131,24 +131,24 @@ meaning_at-operator es es' v w o r ss same e = same ((o, (operand_at ss).first) 
 abbrev pub SettlesTo : List Waiting → Value → List Waiting → Value → Type 0
 SettlesTo es v es' w = (c : Chain) (t : Tail) → IsBelow c 0 → meaning es' w c t ≡ meaning es v c t
 
-meaning_at-close-settled : (es es' : List Waiting) (v w : Value) (ss : List Symbol) → SettlesTo es v es' w →
+meaning_at-close-settled : (es es' : List Waiting) (v w : Value) (ss : List ConditionSymbol) → SettlesTo es v es' w →
     meaning es' w [] (Closed (operator_at ss).chain (operator_at ss).tail) ≡ meaning_at (AfterOperand v) es (symbol.Close ∷ ss)
 unfolding meaning_at operand_at
 meaning_at-close-settled es es' v w ss same = same [] (Closed (operator_at ss).chain (operator_at ss).tail) (tt {0})
 
 -- the parenthesis that is closed
-pub meaning_at-close : (es below : List Waiting) (v w : Value) (ss : List Symbol) → SettlesTo es v (Parenthesis ∷ below) w →
+pub meaning_at-close : (es below : List Waiting) (v w : Value) (ss : List ConditionSymbol) → SettlesTo es v (Parenthesis ∷ below) w →
     meaning_at (AfterOperand w) below ss ≡ meaning_at (AfterOperand v) es (symbol.Close ∷ ss)
 unfolding meaning_at meaning resolved
 meaning_at-close es below v w ss same = meaning_at-close-settled es (Parenthesis ∷ below) v w ss same
 
 -- a parenthesis is closed that was not opened
-pub meaning_at-close-unopened : (es es' : List Waiting) (v w : Value) (ss : List Symbol) → SettlesTo es v [] w →
+pub meaning_at-close-unopened : (es es' : List Waiting) (v w : Value) (ss : List ConditionSymbol) → SettlesTo es v [] w →
     meaning_at Nowhere es' ss ≡ meaning_at (AfterOperand v) es (symbol.Close ∷ ss)
 unfolding meaning_at meaning
 meaning_at-close-unopened es es' v w ss same = meaning_at-close-settled es [] v w ss same
 
-pub meaning_at-no-operator : (es es' : List Waiting) (v : Value) (k : Symbol) (ss : List Symbol) → ((o : Operator) → k ≢ symbol.Operator o) → k ≢ symbol.Close →
+pub meaning_at-no-operator : (es es' : List Waiting) (v : Value) (k : ConditionSymbol) (ss : List ConditionSymbol) → ((o : Operator) → k ≢ symbol.Operator o) → k ≢ symbol.Close →
     meaning_at Nowhere es' ss ≡ meaning_at (AfterOperand v) es (k ∷ ss)
 unfolding meaning_at operand_at
 meaning_at-no-operator es es' v (symbol.Number n) ss a b = sym (meaning-bad es v [])
@@ -162,11 +162,11 @@ meaning_at-no-operator es es' v symbol.Other ss a b = sym (meaning-bad es v [])
 
 -- ---- the two ends
 
-pub meaning_at-start : (ss : List Symbol) → meaning_at BeforeOperand [] ss ≡ condition ss
+pub meaning_at-start : (ss : List ConditionSymbol) → meaning_at BeforeOperand [] ss ≡ condition ss
 unfolding meaning_at meaning condition
 meaning_at-start ss = refl
 
-pub meaning_at-nowhere : (es : List Waiting) (ss : List Symbol) → None ≡ meaning_at Nowhere es ss
+pub meaning_at-nowhere : (es : List Waiting) (ss : List ConditionSymbol) → None ≡ meaning_at Nowhere es ss
 unfolding meaning_at
 meaning_at-nowhere es ss = refl
 

@@ -6,8 +6,8 @@ use Rattle.idl_macro.specs.declared.conditions.operator.Operator.{Operator}
 use Rattle.idl_macro.specs.declared.conditions.operator.Operator.TheVariants as op
 use Rattle.idl_macro.specs.declared.conditions.operator.Sign.{Sign}
 use Rattle.idl_macro.specs.declared.conditions.operator.Sign.TheVariants as sign
-use Rattle.idl_macro.specs.declared.conditions.symbol.Symbol.{Symbol}
-use Rattle.idl_macro.specs.declared.conditions.symbol.Symbol.TheVariants as symbol
+use Rattle.idl_macro.specs.declared.conditions.symbol.ConditionSymbol.{ConditionSymbol}
+use Rattle.idl_macro.specs.declared.conditions.symbol.ConditionSymbol.TheVariants as symbol
 
 -- operators, each with the operand after it
 abbrev pub Chain : Type 0
@@ -72,7 +72,7 @@ sign_of_operator op.Subtract = Some sign.Minus
 sign_of_operator op.Add = Some sign.Plus
 sign_of_operator _ = None
 
-abbrev pub sign_of : Symbol → Option Sign
+abbrev pub sign_of : ConditionSymbol → Option Sign
 sign_of symbol.Not = Some sign.Not
 sign_of symbol.Complement = Some sign.Complement
 sign_of (symbol.Operator o) = sign_of_operator o
@@ -85,7 +85,7 @@ signed (Some s) front =
 
 unfoldable mutual
   -- the symbols from an operand on
-  pub operand_at : List Symbol → Front
+  pub operand_at : List ConditionSymbol → Front
   operand_at [] = bad_front
   operand_at (symbol.Number n ∷ ss) = first_before (checked (pos n)) (operator_at ss)
   operand_at (symbol.Name ∷ ss) = first_before (Some (pos 0)) (operator_at ss)
@@ -98,7 +98,7 @@ unfoldable mutual
   operand_at (symbol.Other ∷ ss) = bad_front
 
   -- the symbols from an operator on
-  pub operator_at : List Symbol → Rest
+  pub operator_at : List ConditionSymbol → Rest
   operator_at [] = record { chain = []; tail = End }
   operator_at (symbol.Number n ∷ ss) = bad_rest
   operator_at (symbol.Name ∷ ss) = bad_rest
@@ -116,5 +116,5 @@ at_end v (Closed c t) = None
 at_end v Bad = None
 
 -- the value of a condition, or nothing where it is faulty
-unfoldable pub condition : List Symbol → Value
+unfoldable pub condition : List ConditionSymbol → Value
 condition ss = at_end (resolved (operand_at ss).first (operand_at ss).chain) (operand_at ss).tail

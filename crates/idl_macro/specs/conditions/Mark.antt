@@ -1,8 +1,8 @@
 -- What each mark counts as in a condition.
 use Rattle.std.specs.Prelude.{ℕ, List, Option, Some}
 use Rattle.idl_macro.specs.declared.conditions.operator.Operator.TheVariants as op
-use Rattle.idl_macro.specs.declared.conditions.symbol.Symbol.{Symbol}
-use Rattle.idl_macro.specs.declared.conditions.symbol.Symbol.TheVariants.{Operator, Not, Complement, Open, Close, Other}
+use Rattle.idl_macro.specs.declared.conditions.symbol.ConditionSymbol.{ConditionSymbol}
+use Rattle.idl_macro.specs.declared.conditions.symbol.ConditionSymbol.TheVariants.{Operator, Not, Complement, Open, Close, Other}
 use Rattle.idl_lex.specs.kinds.Marks.{mark_kind}
 use Rattle.idl_lex.specs.declared.kinds.kind.TokenKind.{TokenKind}
 use Rattle.idl_lex.specs.declared.kinds.kind.TokenKind.TheVariants.{Punctuation, Preprocessing}
@@ -12,7 +12,7 @@ use Rattle.idl_lex.specs.declared.kinds.mark.PreprocessorMark.{PreprocessorMark}
 use Rattle.idl_lex.specs.declared.kinds.mark.PreprocessorMark.TheVariants as preprocessor
 
 -- a mark of IDL
-abbrev pub symbol_of_mark : Mark → Symbol
+abbrev pub symbol_of_mark : Mark → ConditionSymbol
 symbol_of_mark mark.OpenParenthesis = Open
 symbol_of_mark mark.CloseParenthesis = Close
 symbol_of_mark mark.Tilde = Complement
@@ -31,7 +31,7 @@ symbol_of_mark mark.Bar = Operator op.BitOr
 symbol_of_mark _ = Other
 
 -- a mark that the preprocessor alone knows
-abbrev pub symbol_of_preprocessor_mark : PreprocessorMark → Symbol
+abbrev pub symbol_of_preprocessor_mark : PreprocessorMark → ConditionSymbol
 symbol_of_preprocessor_mark preprocessor.Exclamation = Not
 symbol_of_preprocessor_mark preprocessor.LessEquals = Operator op.LessOrEqual
 symbol_of_preprocessor_mark preprocessor.GreaterEquals = Operator op.GreaterOrEqual
@@ -41,11 +41,11 @@ symbol_of_preprocessor_mark preprocessor.AndAnd = Operator op.And
 symbol_of_preprocessor_mark preprocessor.OrOr = Operator op.Or
 symbol_of_preprocessor_mark _ = Other
 
-abbrev pub symbol_of_kind : Option TokenKind → Symbol
+abbrev pub symbol_of_kind : Option TokenKind → ConditionSymbol
 symbol_of_kind (Some (Punctuation m)) = symbol_of_mark m
 symbol_of_kind (Some (Preprocessing m)) = symbol_of_preprocessor_mark m
 symbol_of_kind _ = Other
 
 -- what the mark with this spelling counts as; any other text is no symbol of a condition
-abbrev pub mark_of : List ℕ → Symbol
+abbrev pub mark_of : List ℕ → ConditionSymbol
 mark_of spelling = symbol_of_kind (mark_kind spelling)

@@ -7,7 +7,7 @@ use Rattle.idl_macro.specs.declared.conditions.condition.Awaited.{Awaited}
 use Rattle.idl_macro.specs.declared.conditions.condition.Awaited.TheVariants.{BeforeOperand, AfterOperand, Nowhere}
 use Rattle.idl_macro.specs.declared.conditions.stack.Waiting.{Waiting}
 use Rattle.idl_macro.specs.declared.conditions.stack.Waiting.TheVariants.{Infix, Prefix, Parenthesis}
-use Rattle.idl_macro.specs.declared.conditions.symbol.Symbol.{Symbol}
+use Rattle.idl_macro.specs.declared.conditions.symbol.ConditionSymbol.{ConditionSymbol}
 
 -- the value of the whole, where an operand with its chain and what follows come after these entries
 unfoldable pub meaning : List Waiting → Value → Chain → Tail → Value
@@ -19,7 +19,7 @@ meaning (Parenthesis ∷ es) v c (Closed d t) = meaning es (resolved v c) d t
 meaning (Parenthesis ∷ es) v c Bad = None
 
 -- the value of the whole, where these entries wait and these symbols follow
-unfoldable pub meaning_at : Awaited → List Waiting → List Symbol → Value
+unfoldable pub meaning_at : Awaited → List Waiting → List ConditionSymbol → Value
 meaning_at BeforeOperand es ss =
     meaning es (operand_at ss).first (operand_at ss).chain (operand_at ss).tail
 meaning_at (AfterOperand v) es ss = meaning es v (operator_at ss).chain (operator_at ss).tail

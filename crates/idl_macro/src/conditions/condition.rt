@@ -5,12 +5,12 @@ ghost use Rattle.idl_macro.specs.conditions.Arithmetic.{Value};
 ghost use Rattle.idl_macro.specs.conditions.Condition.{Chain, Tail, condition, sign_of};
 ghost use Rattle.idl_macro.specs.conditions.Grammar.{HasValue};
 ghost use Rattle.idl_macro.specs.conditions.Waiting.{meaning, meaning_at, IsAbove, IsBelow, IsRising, IsComplete, IsSound};
-ghost use Rattle.idl_macro.specs.declared.conditions.symbol.Symbol.{Symbol};
+ghost use Rattle.idl_macro.specs.declared.conditions.symbol.ConditionSymbol.{ConditionSymbol};
 
 use crate::conditions::arithmetic::signed;
 use crate::conditions::operator::{Operator, Sign};
 use crate::conditions::stack::Waiting;
-use crate::conditions::symbol::Symbol;
+use crate::conditions::symbol::ConditionSymbol;
 use idl_base::Stack;
 use std::alloc::{AllocError, Global};
 
@@ -30,7 +30,7 @@ pub enum Awaited {
 /// The operators and their ranks are C's (C 2011, 6.5 and 6.10.1), and all values are signed numbers of 64 bits. Faults are
 /// an overflow, a division by zero, a shift whose count is not from 0 to 63 or whose left side is negative, and any other
 /// text. A side of `&&` or `||` that is not needed may have any fault but that of its form.
-pub fn evaluate(alloc: Global, symbols: &[Symbol]) -> Result<Option<i64>, AllocError>
+pub fn evaluate(alloc: Global, symbols: &[ConditionSymbol]) -> Result<Option<i64>, AllocError>
     ensures { IfOk result (λ value. value ≡ condition symbols.now) }
 {
     let mut stack = Stack::new(alloc);
@@ -55,29 +55,29 @@ pub fn evaluate(alloc: Global, symbols: &[Symbol]) -> Result<Option<i64>, AllocE
 /// A condition has the value of the expression of C that its symbols are, and is faulty where they are none. This does
 /// nothing: it carries the law.
 pub fn grammar()
-    ensures value { (symbols : List Symbol) (value : Value) →
+    ensures value { (symbols : List ConditionSymbol) (value : Value) →
         HasValue 1 symbols value → condition symbols ≡ value }
-    ensures form { (symbols : List Symbol) (value : ℤ) →
+    ensures form { (symbols : List ConditionSymbol) (value : ℤ) →
         condition symbols ≡ Some value → HasValue 1 symbols (Some value) }
 {}
 
 // A symbol where an operand has to follow.
-fn operand(stack: &mut Stack<Waiting>, symbol: Symbol) -> Result<Awaited, AllocError>
+fn operand(stack: &mut Stack<Waiting>, symbol: ConditionSymbol) -> Result<Awaited, AllocError>
     requires { IsSound Awaited.BeforeOperand stack.old }
     ensures sound { IfOk result (λ place. IsSound place stack.new) }
-    ensures meaning { IfOk result (λ place. (rest : List Symbol) →
+    ensures meaning { IfOk result (λ place. (rest : List ConditionSymbol) →
         meaning_at place stack.new rest ≡ meaning_at Awaited.BeforeOperand stack.old (symbol ∷ rest)) }
 {
     match symbol {
-        Symbol::Number(number) => {
+        ConditionSymbol::Number(number) => {
             let value = complete(stack, signed(number))?;
             Ok(Awaited::AfterOperand(value))
         }
-        Symbol::Name => {
+        ConditionSymbol::Name => {
             let value = complete(stack, Some(0))?;
             Ok(Awaited::AfterOperand(value))
         }
-        Symbol::Open => {
+        ConditionSymbol::Open => {
             stack.push(Waiting::Parenthesis)?;
             Ok(Awaited::BeforeOperand)
         }
@@ -95,20 +95,20 @@ fn operand(stack: &mut Stack<Waiting>, symbol: Symbol) -> Result<Awaited, AllocE
 fn operator(
     stack: &mut Stack<Waiting>,
     value: Option<i64>,
-    symbol: Symbol,
+    symbol: ConditionSymbol,
 ) -> Result<Awaited, AllocError>
     requires { IsSound (Awaited.AfterOperand value) stack.old }
     ensures sound { IfOk result (λ place. IsSound place stack.new) }
-    ensures meaning { IfOk result (λ place. (rest : List Symbol) →
+    ensures meaning { IfOk result (λ place. (rest : List ConditionSymbol) →
         meaning_at place stack.new rest ≡ meaning_at (Awaited.AfterOperand value) stack.old (symbol ∷ rest)) }
 {
     match symbol {
-        Symbol::Operator(operator) => {
+        ConditionSymbol::Operator(operator) => {
             let left = settle(stack, value, operator.rank())?;
             stack.push(Waiting::Infix(left, operator))?;
             Ok(Awaited::BeforeOperand)
         }
-        Symbol::Close => close(stack, value),
+        ConditionSymbol::Close => close(stack, value),
         _ => Ok(Awaited::Nowhere),
     }
 }
@@ -117,8 +117,9 @@ fn operator(
 fn close(stack: &mut Stack<Waiting>, value: Option<i64>) -> Result<Awaited, AllocError>
     requires { IsSound (Awaited.AfterOperand value) stack.old }
     ensures sound { IfOk result (λ place. IsSound place stack.new) }
-    ensures meaning { IfOk result (λ place. (rest : List Symbol) →
-        meaning_at place stack.new rest ≡ meaning_at (Awaited.AfterOperand value) stack.old (Symbol.Close ∷ rest)) }
+    ensures meaning { IfOk result (λ place. (rest : List ConditionSymbol) →
+        meaning_at place stack.new rest
+        ≡ meaning_at (Awaited.AfterOperand value) stack.old (ConditionSymbol.Close ∷ rest)) }
 {
     let inside = settle(stack, value, 0)?;
     let Some(entry) = stack.pop() else {
@@ -184,14 +185,14 @@ fn settle(
 }
 
 // The operator that a symbol is where an operand has to follow.
-fn sign_of(symbol: Symbol) -> Option<Sign>
+fn sign_of(symbol: ConditionSymbol) -> Option<Sign>
     ensures { result ≡ sign_of symbol }
 {
     match symbol {
-        Symbol::Not => Some(Sign::Not),
-        Symbol::Complement => Some(Sign::Complement),
-        Symbol::Operator(Operator::Subtract) => Some(Sign::Minus),
-        Symbol::Operator(Operator::Add) => Some(Sign::Plus),
+        ConditionSymbol::Not => Some(Sign::Not),
+        ConditionSymbol::Complement => Some(Sign::Complement),
+        ConditionSymbol::Operator(Operator::Subtract) => Some(Sign::Minus),
+        ConditionSymbol::Operator(Operator::Add) => Some(Sign::Plus),
         _ => None,
     }
 }

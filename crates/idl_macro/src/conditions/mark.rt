@@ -4,54 +4,54 @@ ghost use Rattle.std.specs.Prelude.{◌≡◌};
 ghost use Rattle.idl_macro.specs.conditions.Mark.{mark_of, symbol_of_mark, symbol_of_preprocessor_mark};
 
 use crate::conditions::operator::Operator;
-use crate::conditions::symbol::Symbol;
+use crate::conditions::symbol::ConditionSymbol;
 use idl_lex::kinds::{Mark, PreprocessorMark, TokenKind, mark_kind};
 
 /// What the mark with this spelling counts as; any other text is `Other`.
-pub fn mark(spelling: &[u8]) -> Symbol
+pub fn mark(spelling: &[u8]) -> ConditionSymbol
     ensures { result ≡ mark_of spelling.now }
 {
     match mark_kind(spelling) {
         Some(TokenKind::Punctuation(mark)) => symbol_of_mark(mark),
         Some(TokenKind::Preprocessing(mark)) => symbol_of_preprocessor_mark(mark),
-        _ => Symbol::Other,
+        _ => ConditionSymbol::Other,
     }
 }
 
-fn symbol_of_mark(mark: Mark) -> Symbol
+fn symbol_of_mark(mark: Mark) -> ConditionSymbol
     ensures { result ≡ symbol_of_mark mark }
 {
     match mark {
-        Mark::OpenParenthesis => Symbol::Open,
-        Mark::CloseParenthesis => Symbol::Close,
-        Mark::Tilde => Symbol::Complement,
-        Mark::Star => Symbol::Operator(Operator::Multiply),
-        Mark::Slash => Symbol::Operator(Operator::Divide),
-        Mark::Percent => Symbol::Operator(Operator::Remainder),
-        Mark::Plus => Symbol::Operator(Operator::Add),
-        Mark::Minus => Symbol::Operator(Operator::Subtract),
-        Mark::ShiftLeft => Symbol::Operator(Operator::ShiftLeft),
-        Mark::ShiftRight => Symbol::Operator(Operator::ShiftRight),
-        Mark::Less => Symbol::Operator(Operator::Less),
-        Mark::Greater => Symbol::Operator(Operator::Greater),
-        Mark::Ampersand => Symbol::Operator(Operator::BitAnd),
-        Mark::Caret => Symbol::Operator(Operator::BitXor),
-        Mark::Bar => Symbol::Operator(Operator::BitOr),
-        _ => Symbol::Other,
+        Mark::OpenParenthesis => ConditionSymbol::Open,
+        Mark::CloseParenthesis => ConditionSymbol::Close,
+        Mark::Tilde => ConditionSymbol::Complement,
+        Mark::Star => ConditionSymbol::Operator(Operator::Multiply),
+        Mark::Slash => ConditionSymbol::Operator(Operator::Divide),
+        Mark::Percent => ConditionSymbol::Operator(Operator::Remainder),
+        Mark::Plus => ConditionSymbol::Operator(Operator::Add),
+        Mark::Minus => ConditionSymbol::Operator(Operator::Subtract),
+        Mark::ShiftLeft => ConditionSymbol::Operator(Operator::ShiftLeft),
+        Mark::ShiftRight => ConditionSymbol::Operator(Operator::ShiftRight),
+        Mark::Less => ConditionSymbol::Operator(Operator::Less),
+        Mark::Greater => ConditionSymbol::Operator(Operator::Greater),
+        Mark::Ampersand => ConditionSymbol::Operator(Operator::BitAnd),
+        Mark::Caret => ConditionSymbol::Operator(Operator::BitXor),
+        Mark::Bar => ConditionSymbol::Operator(Operator::BitOr),
+        _ => ConditionSymbol::Other,
     }
 }
 
-fn symbol_of_preprocessor_mark(mark: PreprocessorMark) -> Symbol
+fn symbol_of_preprocessor_mark(mark: PreprocessorMark) -> ConditionSymbol
     ensures { result ≡ symbol_of_preprocessor_mark mark }
 {
     match mark {
-        PreprocessorMark::Exclamation => Symbol::Not,
-        PreprocessorMark::LessEquals => Symbol::Operator(Operator::LessOrEqual),
-        PreprocessorMark::GreaterEquals => Symbol::Operator(Operator::GreaterOrEqual),
-        PreprocessorMark::EqualsEquals => Symbol::Operator(Operator::Equal),
-        PreprocessorMark::NotEquals => Symbol::Operator(Operator::NotEqual),
-        PreprocessorMark::AndAnd => Symbol::Operator(Operator::And),
-        PreprocessorMark::OrOr => Symbol::Operator(Operator::Or),
-        _ => Symbol::Other,
+        PreprocessorMark::Exclamation => ConditionSymbol::Not,
+        PreprocessorMark::LessEquals => ConditionSymbol::Operator(Operator::LessOrEqual),
+        PreprocessorMark::GreaterEquals => ConditionSymbol::Operator(Operator::GreaterOrEqual),
+        PreprocessorMark::EqualsEquals => ConditionSymbol::Operator(Operator::Equal),
+        PreprocessorMark::NotEquals => ConditionSymbol::Operator(Operator::NotEqual),
+        PreprocessorMark::AndAnd => ConditionSymbol::Operator(Operator::And),
+        PreprocessorMark::OrOr => ConditionSymbol::Operator(Operator::Or),
+        _ => ConditionSymbol::Other,
     }
 }

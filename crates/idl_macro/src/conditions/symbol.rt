@@ -10,7 +10,7 @@ use idl_lex::is_word;
 
 /// What a token counts as in a condition.
 #[derive(Clone, Copy)]
-pub enum Symbol {
+pub enum ConditionSymbol {
     /// An integer without sign. One of 2^63 or more is an overflow where it is evaluated.
     Number(u64),
     /// A name that is no macro, a keyword too. Its value is 0.
@@ -29,19 +29,19 @@ pub enum Symbol {
     Other,
 }
 
-impl Symbol {
+impl ConditionSymbol {
     /// The symbol that the token with this spelling is (C 2011, 6.4 and 6.10.1).
     ///
     /// An integer is as in C, with any number of the letters `u`, `U`, `l` and `L` behind it in any order, and is below
     /// 2^64.
-    pub fn from_spelling(spelling: &[u8]) -> Symbol
+    pub fn from_spelling(spelling: &[u8]) -> ConditionSymbol
         ensures { result ≡ symbol_of spelling.now }
     {
         if is_word(spelling) {
-            return Symbol::Name;
+            return ConditionSymbol::Name;
         }
         match integer(spelling) {
-            Some(value) => Symbol::Number(value),
+            Some(value) => ConditionSymbol::Number(value),
             None => mark(spelling),
         }
     }

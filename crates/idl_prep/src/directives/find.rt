@@ -9,7 +9,7 @@ ghost use Rattle.idl_event.specs.declared.asked.key.RootKey.TheVariants.{File};
 ghost use Rattle.idl_prep.specs.Include.{directories_in, file_in, file_of, first_present, present_along};
 ghost use Rattle.idl_source.specs.names.Path.{joined_path};
 
-use crate::directives::operand::Operand;
+use crate::directives::operand::IncludeOperand;
 use idl_event::{LexedFile, Progress, RootAnswer, RootBank, RootKey};
 use idl_fault::FileName;
 use idl_source::path::is_rooted;
@@ -35,7 +35,7 @@ impl<'b> Model for FoundFile<'b> {
 /// The file that an operand finds from another file.
 pub fn find<'b, B: RootBank>(
     from: &FileName,
-    operand: &Operand,
+    operand: &IncludeOperand,
     bank: &'b B,
     progress: &mut Progress<B>,
 ) -> Result<Option<FoundFile<'b>>, AllocError>

@@ -6,8 +6,8 @@ ghost use Rattle.idl_prep.specs.Pass.{entered};
 ghost use Rattle.idl_prep.specs.State.{onward};
 
 use crate::directives::inclusion::Inclusion;
-use crate::directives::line::Directive;
-use crate::directives::operand::Operand;
+use crate::directives::line::DirectiveLine;
+use crate::directives::operand::IncludeOperand;
 use crate::walk::root::Root;
 use crate::walk::walked_file::WalkedFile;
 use idl_event::RootBank;
@@ -18,7 +18,7 @@ use std::alloc::AllocError;
 pub fn include<'b, B: RootBank>(
     root: &mut Root<B>,
     site: &WalkedFile<'b, B>,
-    directive: &Directive<'_>,
+    directive: &DirectiveLine<'_>,
 ) -> Result<Option<Inclusion<'b>>, AllocError>
     ensures { let bank = B.at site.now.bank.now in IfOk result (λ inclusion. (enter : Enter)
         → onward bank (entered enter inclusion) root.new
@@ -35,8 +35,8 @@ pub fn include<'b, B: RootBank>(
 fn included<'b, B: RootBank>(
     root: &mut Root<B>,
     site: &WalkedFile<'b, B>,
-    directive: &Directive<'_>,
-    operand: &Operand,
+    directive: &DirectiveLine<'_>,
+    operand: &IncludeOperand,
 ) -> Result<Option<Inclusion<'b>>, AllocError>
     ensures { let bank = B.at site.now.bank.now in let file = site.now.file.now in
         IfOk result (λ inclusion. (enter : Enter) → onward bank (entered enter inclusion) root.new

@@ -17,7 +17,7 @@ use std::marker::Model;
 
 /// A directive: its kind, the number of its line, its word, the tokens after that, and both together.
 #[derive(Drop)]
-pub struct Directive<'t> {
+pub struct DirectiveLine<'t> {
     pub kind: DirectiveKind,
     pub line: u32,
     pub word: FileToken<'t>,
@@ -25,7 +25,7 @@ pub struct Directive<'t> {
     pub tokens: FileTokens<'t>,
 }
 
-impl<'t> Model for Directive<'t> {
+impl<'t> Model for DirectiveLine<'t> {
     ghost use Rattle.std.specs.Prelude.{◌≡◌, ◌∷◌};
     ghost use Rattle.idl_text.specs.Line as spec;
 
@@ -41,7 +41,7 @@ impl<'t> Model for Directive<'t> {
     ghost invariant = { λ d. d.tokens ≡ d.word ∷ d.operands };
 }
 
-impl<'t> Directive<'t> {
+impl<'t> DirectiveLine<'t> {
     /// Its word.
     pub fn word(&self) -> &'t Bytes
         ensures { result.now ≡ self.now.word.token }
@@ -84,12 +84,12 @@ impl<'t> Directive<'t> {
     }
 
     /// The directive as macros take it.
-    pub fn stated(&self, file: &FileName) -> Result<idl_macro::Directive<'t>, AllocError>
+    pub fn stated(&self, file: &FileName) -> Result<idl_macro::PlacedDirective<'t>, AllocError>
         ensures { IfOk result (λ stated. (stated.place ≡ place_in file.now self.now)
             × (stated.word.now ≡ self.now.word.token)
             × (stated.operands ≡ self.now.operands)) }
     {
-        Ok(idl_macro::Directive {
+        Ok(idl_macro::PlacedDirective {
             place: self.place(file)?,
             word: self.word(),
             operands: self.operands.copied(),
@@ -102,7 +102,7 @@ impl<'t> Directive<'t> {
 pub enum LineKind<'t> {
     Text(FileTokens<'t>),
     NullDirective(u32),
-    Directed(Directive<'t>),
+    Directed(DirectiveLine<'t>),
 }
 
 /// The line that these tokens are: a directive where the first is `#`.
@@ -130,7 +130,7 @@ fn after_hash<'t>(line: u32, tokens: FileTokens<'t>) -> LineKind<'t>
     ensures { line_of result ≡ after_hash line tokens.entry }
 {
     match tokens.split_first() {
-        Some((word, operands)) => LineKind::Directed(Directive {
+        Some((word, operands)) => LineKind::Directed(DirectiveLine {
             kind: DirectiveKind::of(word.token().as_bytes()),
             line,
             word,

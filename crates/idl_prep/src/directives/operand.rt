@@ -11,12 +11,12 @@ use std::marker::Model;
 
 /// An operand: how it is spelled, with its delimiters, and whether these are quotes.
 #[derive(Drop)]
-pub struct Operand {
+pub struct IncludeOperand {
     pub spelling: Bytes,
     pub is_quoted: bool,
 }
 
-impl Model for Operand {
+impl Model for IncludeOperand {
     ghost use Rattle.idl_prep.specs.Include as spec;
 
     ghost Value = { spec.Operand };
@@ -28,7 +28,7 @@ impl Model for Operand {
     } };
 }
 
-impl Operand {
+impl IncludeOperand {
     /// The bytes between the delimiters, which name a file.
     pub fn name(&self) -> &[u8]
         ensures { result.now ≡ self.now.name }
@@ -52,12 +52,12 @@ impl Operand {
 }
 
 /// The operand that a token of the line is: a string that is closed on the line, or a name in `<` and `>`.
-pub fn operand_in(token: &Token) -> Result<Option<Operand>, AllocError>
+pub fn operand_in(token: &Token) -> Result<Option<IncludeOperand>, AllocError>
     ensures { IfOk result (λ operand. operand ≡ operand_in token.now) }
 {
     let is_quoted = is_string(token);
     if is_quoted || is_header(token.kind()) {
-        return Ok(Some(Operand {
+        return Ok(Some(IncludeOperand {
             spelling: token.spelling().clone()?,
             is_quoted,
         }));
@@ -66,7 +66,7 @@ pub fn operand_in(token: &Token) -> Result<Option<Operand>, AllocError>
 }
 
 /// The operand that the tokens of a macro give: one string.
-pub fn operand_given(tokens: &[Token]) -> Result<Option<Operand>, AllocError>
+pub fn operand_given(tokens: &[Token]) -> Result<Option<IncludeOperand>, AllocError>
     ensures { IfOk result (λ operand. operand ≡ operand_given tokens.now) }
 {
     match tokens {

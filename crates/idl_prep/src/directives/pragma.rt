@@ -6,7 +6,7 @@ ghost use Rattle.std.specs.Str.{bytes_eq};
 ghost use Rattle.idl_prep.specs.Directive.{first_spelling, is_of_idl, pragma};
 ghost use Rattle.idl_prep.specs.State.{ended, onward};
 
-use crate::directives::line::Directive;
+use crate::directives::line::DirectiveLine;
 use crate::walk::root::Root;
 use idl_base::Bytes;
 use idl_event::{Event, Item, RootAnswer, RootBank, RootKey};
@@ -18,7 +18,7 @@ use std::alloc::AllocError;
 pub fn pragma<B: RootBank>(
     root: &mut Root<B>,
     file: &FileName,
-    directive: &Directive<'_>,
+    directive: &DirectiveLine<'_>,
 ) -> Result<(), AllocError>
     ensures { OnOk result ((bank : RootKey → Option RootAnswer)
         → ended root.new ≡ onward bank (λ s. pragma file.now directive.now s) root.old) }

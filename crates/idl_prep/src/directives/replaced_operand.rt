@@ -4,7 +4,7 @@ ghost use Rattle.std.specs.Prelude.{◌≡◌, IfOk};
 ghost use Rattle.idl_prep.specs.Include.{operand_at, operand_of};
 ghost use Rattle.idl_event.specs.Expanding.{arrival, arrived};
 
-use crate::directives::operand::{Operand, operand_given, operand_in};
+use crate::directives::operand::{IncludeOperand, operand_given, operand_in};
 use idl_event::{Item, Progress, RootBank};
 use idl_fault::Place;
 use idl_lex::Token;
@@ -20,7 +20,7 @@ pub fn operand_of<B: RootBank>(
     place: &Place,
     tokens: &FileTokens<'_>,
     progress: &mut Progress<B>,
-) -> Result<Option<Operand>, AllocError>
+) -> Result<Option<IncludeOperand>, AllocError>
     ensures { let query = operand_of place.now macros.now.definitions.now tokens.now in
         IfOk result (λ operand. arrived operand progress.new
         ≡ arrival (B.at macros.now.bank.now) query progress.old) }
@@ -37,7 +37,7 @@ fn operand_at<B: RootBank>(
     place: &Place,
     token: &Token,
     progress: &mut Progress<B>,
-) -> Result<Option<Operand>, AllocError>
+) -> Result<Option<IncludeOperand>, AllocError>
     ensures { let query = operand_at place.now macros.now.definitions.now token.now in
         IfOk result (λ operand. arrived operand progress.new
         ≡ arrival (B.at macros.now.bank.now) query progress.old) }

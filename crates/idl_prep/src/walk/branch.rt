@@ -11,7 +11,7 @@ ghost use Rattle.idl_prep.specs.Pass.{begun, is_walked, to_come};
 ghost use Rattle.idl_prep.specs.Walk.{decision, opener_of};
 ghost use Rattle.idl_prep.specs.declared.walk.groups.Group as declared;
 
-use crate::directives::line::Directive;
+use crate::directives::line::DirectiveLine;
 use crate::walk::groups::{Group, Opener};
 use crate::walk::root::Root;
 use crate::walk::walked_file::WalkedFile;
@@ -24,7 +24,7 @@ use std::alloc::AllocError;
 pub fn begin_group<B: RootBank>(
     root: &mut Root<B>,
     site: &WalkedFile<'_, B>,
-    directive: &Directive<'_>,
+    directive: &DirectiveLine<'_>,
     what: Test,
 ) -> Result<Group, AllocError>
     requires { directive.now.kind ≡ Opening what }
@@ -47,7 +47,7 @@ pub fn begin_group<B: RootBank>(
 }
 
 /// A group begins in lines that are skipped.
-pub fn skip_group(directive: &Directive<'_>) -> Result<Group, AllocError>
+pub fn skip_group(directive: &DirectiveLine<'_>) -> Result<Group, AllocError>
     ensures { IfOk result (λ group. group ≡ begun (opener_of directive.now) false false) }
 {
     let opener = Opener::of(directive)?;
@@ -65,7 +65,7 @@ pub fn begin_branch<B: RootBank>(
     root: &mut Root<B>,
     group: &mut Group,
     site: &WalkedFile<'_, B>,
-    directive: &Directive<'_>,
+    directive: &DirectiveLine<'_>,
 ) -> Result<(), AllocError>
     requires branch { IsBranch directive.now.kind }
     requires no_else { group.old.has_else ≡ false }
@@ -90,7 +90,7 @@ pub fn end_group<B: RootBank>(
     root: &mut Root<B>,
     group: &Group,
     file: &FileName,
-    directive: &Directive<'_>,
+    directive: &DirectiveLine<'_>,
 ) -> Result<(), AllocError>
     requires { directive.now.kind ≡ Endif }
     ensures { let file = file.now in OnOk result ((bank : RootKey → Option RootAnswer) (enter : Enter)
@@ -108,7 +108,7 @@ pub fn end_group<B: RootBank>(
 fn decide<B: RootBank>(
     root: &mut Root<B>,
     site: &WalkedFile<'_, B>,
-    directive: &Directive<'_>,
+    directive: &DirectiveLine<'_>,
     is_taken: bool,
 ) -> Result<bool, AllocError>
     ensures arrival { IfOk result (λ taken. arrived taken root.new.progress

@@ -12,8 +12,8 @@ ghost use Rattle.idl_prep.specs.Explore.{StopsAt};
 ghost use Rattle.idl_prep.specs.Root.{absent_files};
 
 use crate::directives::find::{FoundFile, file_named, find};
-use crate::directives::line::{Directive, LineKind, read};
-use crate::directives::operand::Operand;
+use crate::directives::line::{DirectiveLine, LineKind, read};
+use crate::directives::operand::IncludeOperand;
 use crate::walk::groups::{Group, is_walked};
 use crate::walk::jump::jump;
 use crate::walk::pass::walk_line;
@@ -94,7 +94,7 @@ fn copied(file: Option<&LexedFile>) -> Result<Option<LexedFile>, AllocError> {
 
 /// Where the exploration of a file has come to.
 #[derive(Drop)]
-pub enum Next {
+pub enum Waypoint {
     /// At an include that asks for these names, one after the other up to the first that is there, and these aren't.
     Absent(Vec<Name>),
     /// At a file that is entered.
@@ -110,7 +110,7 @@ pub struct FileWalk<'f> {
     name: &'f FileName,
     left: LinesLeft<'f>,
     groups: Stack<Group>,
-    waiting: Option<Operand>,
+    waiting: Option<IncludeOperand>,
 }
 
 impl<'f> FileWalk<'f> {
@@ -130,7 +130,7 @@ impl<'f> FileWalk<'f> {
         &mut self,
         explorer: &mut Explorer<B>,
         bank: &B,
-    ) -> Result<Next, AllocError>
+    ) -> Result<Waypoint, AllocError>
         ensures { IfOk result (λ next. StopsAt (B.at bank.now) next) }
     {
         let root = &mut explorer.root;
@@ -139,7 +139,7 @@ impl<'f> FileWalk<'f> {
             bank,
         };
         if let Some(open) = self.brought(root, &site)? {
-            return Ok(Next::Entered(open));
+            return Ok(Waypoint::Entered(open));
         }
         let mut asking = Asking::past_limits(root.allocator(), self.name)?;
         self.walk_lines(root, &site, &mut asking.progress)
@@ -163,22 +163,22 @@ impl<'f> FileWalk<'f> {
         root: &mut Root<B>,
         site: &WalkedFile<'_, B>,
         asking: &mut Progress<B>,
-    ) -> Result<Next, AllocError>
+    ) -> Result<Waypoint, AllocError>
         ensures { IfOk result (λ next. StopsAt (B.at site.now.bank.now) next) }
     {
         'lines: while !self.left.is_empty() {
             if root.is_over() {
-                return Ok(Next::End);
+                return Ok(Waypoint::End);
             }
             let Some(operand) = self.walk_on(root, site, asking)? else {
                 continue;
             };
             match stop_at(root, site, operand, &mut self.waiting)? {
-                Next::End => {}
+                Waypoint::End => {}
                 next => return Ok(next),
             }
         }
-        Ok(Next::End)
+        Ok(Waypoint::End)
     }
 
     // Walks the next lines: gives the operand of the include that they are, if they are one.
@@ -187,7 +187,7 @@ impl<'f> FileWalk<'f> {
         root: &mut Root<B>,
         site: &WalkedFile<'_, B>,
         asking: &mut Progress<B>,
-    ) -> Result<Option<Operand>, AllocError>
+    ) -> Result<Option<IncludeOperand>, AllocError>
         requires { 0 < length self.old.left }
         ensures { OnOk result (length self.new.left < length self.old.left) }
     {
@@ -210,7 +210,7 @@ impl<'f> FileWalk<'f> {
 fn entered_by<B: RootBank>(
     root: &Root<B>,
     site: &WalkedFile<'_, B>,
-    operand: &Operand,
+    operand: &IncludeOperand,
 ) -> Result<Option<OpenFile>, AllocError> {
     let asked = ask(root, site, operand)?;
     entered(root, asked.found)
@@ -221,19 +221,19 @@ fn entered_by<B: RootBank>(
 fn stop_at<B: RootBank>(
     root: &Root<B>,
     site: &WalkedFile<'_, B>,
-    operand: Operand,
-    waiting: &mut Option<Operand>,
-) -> Result<Next, AllocError>
+    operand: IncludeOperand,
+    waiting: &mut Option<IncludeOperand>,
+) -> Result<Waypoint, AllocError>
     ensures { IfOk result (λ next. StopsAt (B.at site.now.bank.now) next) }
 {
     let asked = ask(root, site, &operand)?;
     if !asked.absent.is_empty() {
         *waiting = Some(operand);
-        return Ok(Next::Absent(asked.absent));
+        return Ok(Waypoint::Absent(asked.absent));
     }
     match entered(root, asked.found)? {
-        Some(open) => Ok(Next::Entered(open)),
-        None => Ok(Next::End),
+        Some(open) => Ok(Waypoint::Entered(open)),
+        None => Ok(Waypoint::End),
     }
 }
 
@@ -243,7 +243,7 @@ fn walk_one<B: RootBank>(
     groups: &mut Stack<Group>,
     site: &WalkedFile<'_, B>,
     tokens: &FileTokens<'_>,
-) -> Result<Option<Operand>, AllocError> {
+) -> Result<Option<IncludeOperand>, AllocError> {
     match read(tokens) {
         LineKind::Directed(directive) if is_include(&directive) && is_walked(groups) => {
             root.turn(site.file, &directive)?;
@@ -261,13 +261,13 @@ fn walk_one<B: RootBank>(
 }
 
 // Whether it is an include.
-fn is_include(directive: &Directive<'_>) -> bool {
+fn is_include(directive: &DirectiveLine<'_>) -> bool {
     matches!(directive.kind, DirectiveKind::Alone(Plain::Include))
 }
 
 // What an include asks for: the files that aren't there, and the one that is found.
 #[derive(Drop)]
-struct Asked<'b> {
+struct IncludeSearch<'b> {
     absent: Vec<Name>,
     found: Option<FoundFile<'b>>,
 }
@@ -320,8 +320,8 @@ impl<B: RootBank> Asking<B> {
 fn ask<'b, B: RootBank>(
     root: &Root<B>,
     site: &WalkedFile<'b, B>,
-    operand: &Operand,
-) -> Result<Asked<'b>, AllocError>
+    operand: &IncludeOperand,
+) -> Result<IncludeSearch<'b>, AllocError>
     ensures { let bank = B.at site.now.bank.now in
         IfOk result (λ asked. All (λ name. bank (File name) ≡ None) asked.absent.items) }
 {
@@ -329,7 +329,7 @@ fn ask<'b, B: RootBank>(
     let mut asking = Asking::new(alloc);
     let found = find(site.file, operand, site.bank, &mut asking.progress)?;
     let absent = asking.absent(alloc)?;
-    Ok(Asked { absent, found })
+    Ok(IncludeSearch { absent, found })
 }
 
 // The file that is entered where this one is found, if it is.

@@ -5,7 +5,7 @@ ghost use Rattle.std.specs.Option.{option_copied};
 ghost use Rattle.idl_prep.specs.Pass.{innermost, is_walked};
 ghost use Rattle.idl_prep.specs.Walk.{opener_of};
 
-use crate::directives::line::Directive;
+use crate::directives::line::DirectiveLine;
 use idl_base::{Bytes, Stack};
 use std::alloc::AllocError;
 
@@ -18,7 +18,7 @@ pub struct Opener {
 
 impl Opener {
     /// The group that the directive opens.
-    pub fn of(directive: &Directive<'_>) -> Result<Opener, AllocError>
+    pub fn of(directive: &DirectiveLine<'_>) -> Result<Opener, AllocError>
         ensures { IfOk result (λ opener. opener ≡ opener_of directive.now) }
     {
         Ok(Opener {

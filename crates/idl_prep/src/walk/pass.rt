@@ -12,7 +12,7 @@ ghost use Rattle.idl_prep.specs.Pass.{coming, entered, to_come};
 ghost use Rattle.idl_prep.specs.State.{ended, onward};
 
 use crate::directives::inclusion::Inclusion;
-use crate::directives::line::{Directive, LineKind, read};
+use crate::directives::line::{DirectiveLine, LineKind, read};
 use crate::walk::branch::{begin_branch, begin_group, end_group, skip_group};
 use crate::walk::groups::{Group, is_walked};
 use crate::walk::perform::{act_bare, act_directive, act_text};
@@ -109,7 +109,7 @@ fn walk_directive<'b, B: RootBank>(
     root: &mut Root<B>,
     groups: &mut Stack<Group>,
     site: &WalkedFile<'b, B>,
-    directive: &Directive<'_>,
+    directive: &DirectiveLine<'_>,
 ) -> Result<Option<Inclusion<'b>>, AllocError>
     ensures { let bank = B.at site.now.bank.now in let file = site.now.file.now in
         IfOk result (λ inclusion. (enter : Enter) (lines : List spec.Line)
@@ -147,7 +147,7 @@ fn walk_branch<B: RootBank>(
     root: &mut Root<B>,
     groups: &mut Stack<Group>,
     site: &WalkedFile<'_, B>,
-    directive: &Directive<'_>,
+    directive: &DirectiveLine<'_>,
 ) -> Result<(), AllocError>
     requires { IsBranch directive.now.kind }
     ensures { let bank = B.at site.now.bank.now in let file = site.now.file.now in
@@ -178,7 +178,7 @@ fn walk_endif<B: RootBank>(
     root: &mut Root<B>,
     groups: &mut Stack<Group>,
     file: &FileName,
-    directive: &Directive<'_>,
+    directive: &DirectiveLine<'_>,
 ) -> Result<(), AllocError>
     requires { directive.now.kind ≡ Endif }
     ensures { OnOk result ((bank : RootKey → Option RootAnswer) (enter : Enter) (lines : List spec.Line)

@@ -14,7 +14,7 @@ ghost use Rattle.idl_prep.specs.State.{ended, onward, telling};
 
 use crate::directives::include::include;
 use crate::directives::inclusion::Inclusion;
-use crate::directives::line::Directive;
+use crate::directives::line::DirectiveLine;
 use crate::directives::pragma::pragma;
 use crate::directives::text::parted;
 use crate::walk::root::Root;
@@ -59,7 +59,7 @@ pub fn act_bare<B: RootBank>(
 pub fn act_directive<'b, B: RootBank>(
     root: &mut Root<B>,
     site: &WalkedFile<'b, B>,
-    directive: &Directive<'_>,
+    directive: &DirectiveLine<'_>,
     what: Plain,
 ) -> Result<Option<Inclusion<'b>>, AllocError>
     requires { directive.now.kind ≡ Alone what }
@@ -98,7 +98,7 @@ pub fn act_directive<'b, B: RootBank>(
 fn act_error<B: RootBank>(
     root: &mut Root<B>,
     file: &FileName,
-    directive: &Directive<'_>,
+    directive: &DirectiveLine<'_>,
 ) -> Result<(), AllocError>
     ensures { let text = parted (tokens_in (directive.now.word ∷ directive.now.operands)) in
         let fault = Fault (place_in file.now directive.now) Error (Some text) in

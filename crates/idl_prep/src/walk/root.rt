@@ -21,8 +21,8 @@ ghost use Rattle.idl_memo.specs.Query.{and_then};
 ghost use Rattle.idl_macro.specs.Directives.{define, undef};
 
 use crate::directives::find::{FoundFile, file_named, find};
-use crate::directives::line::Directive;
-use crate::directives::operand::Operand;
+use crate::directives::line::DirectiveLine;
+use crate::directives::operand::IncludeOperand;
 use crate::directives::replaced_operand::operand_of;
 use crate::walk::walked_file::WalkedFile;
 use idl_base::Bytes;
@@ -127,7 +127,7 @@ impl<B: RootBank> Root<B> {
     }
 
     /// A directive that isn't skipped is a turn.
-    pub fn turn(&mut self, file: &FileName, directive: &Directive<'_>) -> Result<(), AllocError>
+    pub fn turn(&mut self, file: &FileName, directive: &DirectiveLine<'_>) -> Result<(), AllocError>
         ensures { let place = place_in file.now directive.now in
             OnOk result (self.new ≡ telling (Turn place) self.old) }
     {
@@ -146,7 +146,7 @@ impl<B: RootBank> Root<B> {
     pub fn fault_at(
         &mut self,
         file: &FileName,
-        directive: &Directive<'_>,
+        directive: &DirectiveLine<'_>,
         code: Code,
     ) -> Result<(), AllocError>
         ensures { let word = directive.now.word.token in
@@ -211,7 +211,7 @@ impl<B: RootBank> Root<B> {
     pub fn test(
         &mut self,
         site: &WalkedFile<'_, B>,
-        directive: &Directive<'_>,
+        directive: &DirectiveLine<'_>,
         what: Test,
     ) -> Result<bool, AllocError>
         ensures arrival { let query = test site.now.file.now directive.now what self.old.state in
@@ -235,8 +235,8 @@ impl<B: RootBank> Root<B> {
     pub fn operand_of(
         &mut self,
         site: &WalkedFile<'_, B>,
-        directive: &Directive<'_>,
-    ) -> Result<Option<Operand>, AllocError>
+        directive: &DirectiveLine<'_>,
+    ) -> Result<Option<IncludeOperand>, AllocError>
         ensures arrival { let place = place_in site.now.file.now directive.now in
             let query = operand_of place self.old.state.definitions directive.now.operands in
             IfOk result (λ operand. arrived operand self.new.progress
@@ -254,7 +254,7 @@ impl<B: RootBank> Root<B> {
     pub fn find<'b>(
         &mut self,
         site: &WalkedFile<'b, B>,
-        operand: &Operand,
+        operand: &IncludeOperand,
     ) -> Result<Option<FoundFile<'b>>, AllocError>
         ensures arrival { let query = file_of site.now.file.now operand.now in
             IfOk result (λ found. arrived found self.new.progress
@@ -268,7 +268,7 @@ impl<B: RootBank> Root<B> {
     pub fn define(
         &mut self,
         site: &WalkedFile<'_, B>,
-        directive: &Directive<'_>,
+        directive: &DirectiveLine<'_>,
     ) -> Result<(), AllocError>
         ensures { let d = directive.now in let place = place_in site.now.file.now d in
             OnOk result (ended self.new ≡ onward (B.at site.now.bank.now)
@@ -285,7 +285,11 @@ impl<B: RootBank> Root<B> {
     }
 
     /// `undef`.
-    pub fn undef(&mut self, file: &FileName, directive: &Directive<'_>) -> Result<(), AllocError>
+    pub fn undef(
+        &mut self,
+        file: &FileName,
+        directive: &DirectiveLine<'_>,
+    ) -> Result<(), AllocError>
         ensures { let d = directive.now in let place = place_in file.now d in
             OnOk result ((bank : RootKey → Option RootAnswer) → ended self.new ≡ onward bank
             (λ s. and_then (undef place d.word.token s.definitions d.operands) (redefined s))

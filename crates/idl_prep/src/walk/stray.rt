@@ -9,7 +9,7 @@ ghost use Rattle.idl_prep.specs.Pass.{to_come, visit_tree};
 ghost use Rattle.idl_prep.specs.State.{ended, onward};
 ghost use Rattle.idl_prep.specs.declared.walk.groups.Group as declared;
 
-use crate::directives::line::Directive;
+use crate::directives::line::DirectiveLine;
 use crate::walk::groups::Group;
 use crate::walk::root::Root;
 use idl_event::{RootAnswer, RootBank, RootKey};
@@ -21,7 +21,7 @@ pub fn stray_inside<B: RootBank>(
     root: &mut Root<B>,
     group: &Group,
     file: &FileName,
-    directive: &Directive<'_>,
+    directive: &DirectiveLine<'_>,
 ) -> Result<(), AllocError>
     requires branch { IsBranch directive.now.kind }
     requires has_else { group.now.has_else ≡ true }
@@ -37,7 +37,7 @@ pub fn stray_inside<B: RootBank>(
 pub fn stray_outside<B: RootBank>(
     root: &mut Root<B>,
     file: &FileName,
-    directive: &Directive<'_>,
+    directive: &DirectiveLine<'_>,
 ) -> Result<(), AllocError>
     requires { IsOfGroup directive.now.kind }
     ensures { OnOk result ((bank : RootKey → Option RootAnswer) (enter : Enter) (lines : List spec.Line)
@@ -53,7 +53,7 @@ fn stray<B: RootBank>(
     root: &mut Root<B>,
     is_active: bool,
     file: &FileName,
-    directive: &Directive<'_>,
+    directive: &DirectiveLine<'_>,
 ) -> Result<(), AllocError>
     ensures { OnOk result ((bank : RootKey → Option RootAnswer) (enter : Enter) → ended root.new
         ≡ onward bank (visit_tree enter file.now is_active (Stray directive.now)) root.old) }

@@ -15,7 +15,7 @@ use Rattle.idl_repo.specs.declared.details.type_code_tree.TypeCodeParts.TheVaria
 use Rattle.idl_repo.specs.declared.details.type_code_tree.TypeCodeTree.{TypeCodeTree}
 use Rattle.idl_repo.specs.declared.details.type_tree.ElementTree.{ElementTree}
 use Rattle.idl_repo.specs.declared.details.type_tree.ElementTree.TheVariants as tree
-use Rattle.idl_repo.specs.declared.details.type_tree.TypeTree.{TypeTree}
+use Rattle.idl_repo.specs.declared.details.type_tree.LayeredType.{LayeredType}
 use Rattle.idl_entity.specs.Kind.{kind_eq}
 use Rattle.idl_entity.specs.declared.kind.Kind.{Kind}
 use Rattle.idl_entity.specs.declared.kind.Kind.TheVariants as kind
@@ -43,7 +43,7 @@ element_text (tree.Constants t) = target_word t
 element_text (tree.Unvalued u) = unvalued_word u
 element_text (tree.Named id) = reference_text id
 
-abbrev pub type_text : TypeTree → List ℕ
+abbrev pub type_text : LayeredType → List ℕ
 type_text t = layers_begin t.layers ++ (element_text t.element ++ flat_map layer_end t.layers)
 
 -- NAME:TYPE

@@ -6,7 +6,7 @@ use Rattle.idl_base.specs.Exact.{both, same_list}
 use Rattle.idl_repo.specs.contracts.details.type_tree.ElementTreePartialEq.TheImpl.{ghosts as element_ghosts}
 use Rattle.idl_repo.specs.declared.details.type_tree.ElementTree.{ElementTree}
 use Rattle.idl_repo.specs.declared.details.type_tree.ElementTree.TheVariants as tree
-use Rattle.idl_repo.specs.declared.details.type_tree.TypeTree.{TypeTree}
+use Rattle.idl_repo.specs.declared.details.type_tree.LayeredType.{LayeredType}
 use Rattle.idl_entity.specs.DataType.{layer_eq, same_layer}
 use Rattle.idl_entity.specs.Unvalued.{same_unvalued}
 use Rattle.idl_value.specs.Exact.{same_target}
@@ -23,10 +23,10 @@ same_element_tree (tree.Named i) (tree.Named j) h = ap tree.Named ((bytes_decide
 same_element_tree e f h = cc
 
 -- whether two types are one
-abbrev pub type_tree_eq : TypeTree → TypeTree → Bool
+abbrev pub type_tree_eq : LayeredType → LayeredType → Bool
 type_tree_eq t u = element_tree_eq t.element u.element && pointwise layer_eq t.layers u.layers
 
-pub same_type_tree : (t u : TypeTree) → type_tree_eq t u ≡ true → t ≡ u
+pub same_type_tree : (t u : LayeredType) → type_tree_eq t u ≡ true → t ≡ u
 same_type_tree t u h =
     let a = both _ _ h in
     let element = same_element_tree t.element u.element a.0 in

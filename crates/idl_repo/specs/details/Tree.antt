@@ -18,7 +18,7 @@ use Rattle.idl_repo.specs.declared.details.type_code_tree.TypeCodeTree.{TypeCode
 use Rattle.idl_repo.specs.declared.details.type_code_tree.UnionTree.{UnionTree}
 use Rattle.idl_repo.specs.declared.details.type_tree.ElementTree.{ElementTree}
 use Rattle.idl_repo.specs.declared.details.type_tree.ElementTree.TheVariants as tree
-use Rattle.idl_repo.specs.declared.details.type_tree.TypeTree.{TypeTree}
+use Rattle.idl_repo.specs.declared.details.type_tree.LayeredType.{LayeredType}
 use Rattle.idl_entity.specs.Kind.{kind_eq}
 use Rattle.idl_entity.specs.Path.{name_of}
 use Rattle.idl_entity.specs.declared.data_type.DataType.{DataType}
@@ -54,7 +54,7 @@ element_over bank (element.Constants t) = tree.Constants t
 element_over bank (element.Named path) = tree.Named (id_over bank path)
 element_over bank (element.Unvalued u) = tree.Unvalued u
 
-abbrev pub type_over : Bank → Option DataType → TypeTree
+abbrev pub type_over : Bank → Option DataType → LayeredType
 type_over bank None = record { element = tree.Void; layers = [] }
 type_over bank (Some t) = record { element = element_over bank t.element; layers = t.layers }
 

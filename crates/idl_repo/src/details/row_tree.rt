@@ -4,7 +4,7 @@
 //! over any answers. What is around a type is a list of layers, so no tree holds itself. Trees are made when asked for.
 
 use crate::details::type_code_tree::{MemberTree, TypeCodeTree};
-use crate::details::type_tree::TypeTree;
+use crate::details::type_tree::LayeredType;
 use idl_base::{Bytes, Seq};
 use idl_entity::Kind;
 
@@ -16,14 +16,14 @@ pub struct DeclaredType {
 
 /// A constant: its type, and its value as it is listed.
 pub struct ConstantTree {
-    pub data_type: TypeTree,
+    pub data_type: LayeredType,
     pub value: Option<Bytes>,
 }
 
 /// An attribute: its type, and the ids of the exceptions that reading and writing it raise.
 pub struct AttributeTree {
     pub is_readonly: bool,
-    pub data_type: TypeTree,
+    pub data_type: LayeredType,
     pub raised: Seq<Bytes>,
     pub raised_by_set: Seq<Bytes>,
 }
@@ -39,7 +39,7 @@ pub struct ParameterTree {
 /// are listed.
 pub struct OperationTree {
     pub is_oneway: bool,
-    pub data_type: TypeTree,
+    pub data_type: LayeredType,
     pub parameters: Seq<ParameterTree>,
     pub raised: Seq<Bytes>,
     pub contexts: Seq<Bytes>,

@@ -1,12 +1,12 @@
 //! TypeCodes as trees.
 
-use crate::details::type_tree::TypeTree;
+use crate::details::type_tree::LayeredType;
 use idl_base::{Bytes, Seq};
 
 /// A member, or a parameter: its name, and its type.
 pub struct MemberTree {
     pub name: Bytes,
-    pub data_type: TypeTree,
+    pub data_type: LayeredType,
 }
 
 /// The entry of a union's label: the value as it is listed, or nothing for `default`; and the member that it stands at.
@@ -18,7 +18,7 @@ pub struct CaseTree {
 /// What a union's TypeCode has behind its name.
 pub struct UnionTree {
     /// The type of its labels.
-    pub discriminator: TypeTree,
+    pub discriminator: LayeredType,
     /// The number of the case of `default`, if there is one.
     pub default: Option<usize>,
     /// One for each label, in order.
@@ -36,7 +36,7 @@ pub enum TypeCodeParts {
     /// The names of the enumerators.
     Enumeration(Seq<Bytes>),
     /// What it is another name for.
-    Alias(TypeTree),
+    Alias(LayeredType),
 }
 
 /// The TypeCode of a declared name: a type that is named in it is told by its id.

@@ -19,7 +19,7 @@ pub enum ElementTree {
 
 /// A type: what it is of, and what is around that, the innermost first.
 #[derive(PartialEq, Eq)]
-pub struct TypeTree {
+pub struct LayeredType {
     pub element: ElementTree,
     pub layers: Seq<Layer>,
 }
@@ -35,9 +35,9 @@ impl Drop for ElementTree {
     }
 }
 
-impl Drop for TypeTree {
+impl Drop for LayeredType {
     fn drop(self) {
-        let TypeTree {
+        let LayeredType {
             element: _element,
             layers: _layers,
         } = self;

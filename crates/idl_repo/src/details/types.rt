@@ -7,7 +7,7 @@ ghost use Rattle.idl_env.specs.Facts.{answers};
 ghost use Rattle.idl_repo.specs.TypeCode.{listed_value};
 
 use crate::details::type_code_tree::MemberTree;
-use crate::details::type_tree::{ElementTree, TypeTree};
+use crate::details::type_tree::{ElementTree, LayeredType};
 use crate::{RowWriter, push_listed};
 use idl_base::{Bytes, Seq, Shared};
 use idl_entity::{DataType, Element, Member, Path};
@@ -40,11 +40,11 @@ pub fn ids_at(env: &Env, paths: &[Path]) -> Result<Seq<Bytes>, AllocError>
 }
 
 /// A type.
-pub fn type_of(env: &Env, data_type: &Option<Shared<DataType>>) -> Result<TypeTree, AllocError>
+pub fn type_of(env: &Env, data_type: &Option<Shared<DataType>>) -> Result<LayeredType, AllocError>
     ensures { IfOk result (λ tree. tree ≡ type_over (answers env.now) data_type.now) }
 {
     let Some(data_type) = data_type else {
-        return Ok(TypeTree {
+        return Ok(LayeredType {
             element: ElementTree::Void,
             layers: Seq::new(env.alloc()),
         });
@@ -52,7 +52,7 @@ pub fn type_of(env: &Env, data_type: &Option<Shared<DataType>>) -> Result<TypeTr
     let DataType { element, layers } = data_type.get();
     let element = element_of(env, element)?;
     let layers = layers.clone()?;
-    Ok(TypeTree { element, layers })
+    Ok(LayeredType { element, layers })
 }
 
 // What a type is of.

@@ -6,13 +6,13 @@ ghost use Rattle.idl_repo.specs.Row.{direction_word, kind_word};
 ghost use Rattle.idl_repo.specs.TypeCode.{code_word};
 
 use crate::details::type_code_tree::TypeCodeParts;
-use crate::details::type_tree::{ElementTree, TypeTree};
+use crate::details::type_tree::{ElementTree, LayeredType};
 use crate::{TypeCodeKind, begin_layers, end_layers, push_target, unvalued_word};
 use idl_entity::Kind;
 use std::alloc::AllocError;
 
 /// Writes a type: a named one is told by its id, and another one is written in place.
-pub fn push_type(text: &mut Vec<u8>, data_type: &TypeTree) -> Result<(), AllocError>
+pub fn push_type(text: &mut Vec<u8>, data_type: &LayeredType) -> Result<(), AllocError>
     ensures { OnOk result (text.new.items ≡ text.old.items ++ type_text data_type.now) }
 {
     begin_layers(text, data_type.layers.as_slice())?;

@@ -5,7 +5,7 @@ ghost use Rattle.idl_syntax.specs.Gives.{Advances, Reads, Remains};
 
 use crate::cursor::{behind, behind_word, closed, identifier, is_at, is_at_word};
 use crate::fault::SyntaxFault;
-use crate::name::Name;
+use crate::name::NameProduction;
 use crate::production::listed;
 use idl_base::Bytes;
 use idl_lex::Token;
@@ -86,6 +86,6 @@ fn bases(
         return Ok((None, tokens));
     }
     let rest = behind(tokens, Mark::Colon)?;
-    let (names, rest) = listed(alloc, &Name, rest)?;
+    let (names, rest) = listed(alloc, &NameProduction, rest)?;
     Ok((Some(names), rest))
 }

@@ -2,8 +2,8 @@
 
 use idl_entity::{Layer, Unvalued};
 use idl_repo::details::{
-    ElementTree, MemberTree, OperationTree, ParameterTree, RowDetails, RowTree, TypeCodeParts,
-    TypeTree,
+    ElementTree, LayeredType, MemberTree, OperationTree, ParameterTree, RowDetails, RowTree,
+    TypeCodeParts,
 };
 use idl_session::{Details, Session};
 use idl_source::cut;
@@ -135,7 +135,7 @@ impl<'a> Generator<'a> {
     }
 
     // A name of a type: around what the type is of stand its sequences and arrays, the innermost first.
-    fn declared(&self, data_type: &TypeTree, name: &str) -> Result<String, AllocError> {
+    fn declared(&self, data_type: &LayeredType, name: &str) -> Result<String, AllocError> {
         let mut words = self.element(&data_type.element)?;
         let mut lengths = String::new(self.alloc);
         for layer in data_type.layers.as_slice() {

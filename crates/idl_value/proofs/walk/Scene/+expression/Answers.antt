@@ -10,7 +10,7 @@ use Rattle.idl_tree.specs.declared.expression.Unary.{out-Unary}
 use Rattle.idl_value.specs.Evaluation.{behind}
 use Rattle.idl_value.specs.Term.{links, shift_operator, sum_operator, product_operator, expression_term, exclusive_or_term, and_term, shift_term, sum_term, product_term, unary_term, primary_term}
 use Rattle.idl_value.specs.Walk.{seen, walk_links, walk_parenthesis, walk_sign, walk_term}
-use Rattle.idl_value.specs.declared.operator.Operator.TheVariants as operator
+use Rattle.idl_value.specs.declared.operator.BinaryOperator.TheVariants as operator
 use Rattle.idl_value.proofs.TermEquations.{expression_term-out, exclusive_or_term-out, and_term-out, shift_term-out, sum_term-out, product_term-out, unary_term-out, primary_term-parentheses}
 use Rattle.idl_value.proofs.walk.Scene.+expression.Goals as goal
 

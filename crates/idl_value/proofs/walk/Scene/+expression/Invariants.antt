@@ -7,7 +7,7 @@ use Rattle.idl_tree.specs.declared.expression.Shift.{out-Shift}
 use Rattle.idl_tree.specs.declared.expression.Sum.{out-Sum}
 use Rattle.idl_value.specs.Term.{links, shift_operator, sum_operator, product_operator, expression_term, exclusive_or_term, and_term, shift_term, sum_term, product_term, unary_term}
 use Rattle.idl_value.specs.Walk.{stepped, walk_links, walk_term}
-use Rattle.idl_value.specs.declared.operator.Operator.TheVariants as operator
+use Rattle.idl_value.specs.declared.operator.BinaryOperator.TheVariants as operator
 use Rattle.idl_value.proofs.walk.Scene.+expression.Given as goal
 
 abbrev pub invariant-expression-loop-operand : goal.invariant-expression-loop-operand

@@ -2,7 +2,7 @@ use Rattle.std.proofs.Common.{◌≡◌, ◌∙◌, ◌+◌, ◌-◌, ◌≤◌,
 use Rattle.idl_event.proofs.SitesLemmas.{line-run, push-run, stretch-more}
 use Rattle.idl_event.specs.Apart.{sites_at}
 use Rattle.idl_event.specs.Sites.{AreKept, in_stretch, sites_of}
-use Rattle.idl_event.specs.declared.told.sites.Spot.{Spot}
+use Rattle.idl_event.specs.declared.told.sites.LineEntry.{LineEntry}
 use Rattle.idl_event.specs.declared.told.sites.Stretch.{Stretch}
 use Rattle.idl_event.proofs.told.sites.Sites.push_run.Goals as goal
 
@@ -60,7 +60,7 @@ pub invariant_of-self-2 : goal.invariant_of-self-2
 invariant_of-self-2 c =
     let b = c.self.inside in
     let s : Stretch = record { file = c.args.place.file; others = c.args.others } in
-    let spot : Spot = record { first = b.count; line = c.args.place.line; stretch = c.in_ok-stretch.stretch } in
+    let spot : LineEntry = record { first = b.count; line = c.args.place.line; stretch = c.in_ok-stretch.stretch } in
     let more = c.stretch_of.ensures.more in
     let there : slice_get c.stretch_of.new.stretches.items spot.stretch ≡ Some s = search rules in
     let spots : c.push.new.self.items ≡ b.spots.items ++ spot ∷ [] = search rules in
@@ -74,7 +74,7 @@ pub returns-clause-more : goal.returns-clause-more
 returns-clause-more c =
     let b = c.self.inside in
     let s : Stretch = record { file = c.args.place.file; others = c.args.others } in
-    let spot : Spot = record { first = b.count; line = c.args.place.line; stretch = c.in_ok-stretch.stretch } in
+    let spot : LineEntry = record { first = b.count; line = c.args.place.line; stretch = c.in_ok-stretch.stretch } in
     let more = c.stretch_of.ensures.more in
     let there : slice_get c.stretch_of.new.stretches.items spot.stretch ≡ Some s = search rules in
     let spots : c.push.new.self.items ≡ b.spots.items ++ spot ∷ [] = search rules in

@@ -1,5 +1,5 @@
 use Rattle.std.proofs.Common.{◌≡◌, ◌+◌, drop, length, take}
-use Rattle.idl_event.proofs.told.runs.Runs.gathered.Given as goal
+use Rattle.idl_event.proofs.told.runs.TokenRuns.gathered.Given as goal
 
 abbrev pub invariant-runs : goal.invariant-runs
 invariant-runs l = record {

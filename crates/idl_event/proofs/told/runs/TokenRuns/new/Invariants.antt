@@ -1,6 +1,6 @@
 use Rattle.std.proofs.Common.{◌≡◌, length, take}
 use Rattle.idl_event.specs.Runs.{starts_of, tokens_of}
-use Rattle.idl_event.proofs.told.runs.Runs.new.Given as goal
+use Rattle.idl_event.proofs.told.runs.TokenRuns.new.Given as goal
 
 abbrev pub invariant-runs : goal.invariant-runs
 invariant-runs l = record {

@@ -6,7 +6,7 @@ use Rattle.idl_check.specs.walk.Held.{held}
 use Rattle.idl_check.specs.walk.Walk.{walk}
 use Rattle.idl_env.specs.Facts.{answers}
 use Rattle.idl_env.specs.Turns.{turns_for}
-use Rattle.idl_check.proofs.walk.judge.Sited.walked.Goals as goal
+use Rattle.idl_check.proofs.walk.judge.ParsedUnit.walked.Goals as goal
 
 pub sound-requires : goal.sound-requires
 sound-requires c = record { sites = c.requires.sites; room = omega (arith, c.requires.room) }

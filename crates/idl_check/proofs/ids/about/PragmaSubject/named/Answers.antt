@@ -13,7 +13,7 @@ use Rattle.idl_entity.specs.declared.entity.Entity.{Entity}
 use Rattle.idl_scope.specs.declared.fault.NameFault.TheVariants.{At}
 use Rattle.idl_env.specs.Turns.{turns_among, turns_for}
 use Rattle.idl_unit.specs.TokenRules.{fault_at}
-use Rattle.idl_check.proofs.ids.about.Subject.named.Goals as goal
+use Rattle.idl_check.proofs.ids.about.PragmaSubject.named.Goals as goal
 
 pub returns-then-not-has_id-clause-said : goal.returns-then-not-has_id-clause-said
 returns-then-not-has_id-clause-said c = λ turns more change.

@@ -2,7 +2,7 @@ use Rattle.std.proofs.Common.{◌≡◌, ◌∙◌, ◌+◌, ◌≤◌, ◌++◌
 use Rattle.std.proofs.Math.Seq.{take-add}
 use Rattle.std.proofs.lemmas.List.{drop-drop, length-take-le, take-append-le}
 use Rattle.idl_lex.specs.tokens.Tokens.{Token}
-use Rattle.idl_event.proofs.told.runs.Runs.gathered.Goals as goal
+use Rattle.idl_event.proofs.told.runs.TokenRuns.gathered.Goals as goal
 
 pub runs-preserved : goal.runs-preserved
 runs-preserved c =

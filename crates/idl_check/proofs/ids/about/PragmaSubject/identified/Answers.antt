@@ -4,7 +4,7 @@ use Rattle.idl_env.specs.Facts.{answers}
 use Rattle.idl_memo.specs.Query.{Done}
 use Rattle.idl_scope.proofs.LookupLaws.RunLemmas.{runs-and_then}
 use Rattle.idl_scope.specs.Known.{known}
-use Rattle.idl_check.proofs.ids.about.Subject.identified.Goals as goal
+use Rattle.idl_check.proofs.ids.about.PragmaSubject.identified.Goals as goal
 
 pub returns-in_ok-clone-in-Some : goal.returns-in_ok-clone-in-Some
 returns-in_ok-clone-in-Some c =

@@ -2,7 +2,7 @@ use Rattle.std.proofs.Common.{◌≡◌, ◌∙◌, ◌-◌, ◌<◌, ◌≤◌,
 use Rattle.std.proofs.lemmas.List.Sorted.{IsPartitionPoint-from_clause, IsPartitionedBy-leb}
 use Rattle.idl_event.specs.Runs.{starts_of, tokens_of}
 use Rattle.idl_event.proofs.RunsLemmas.{IsRunAt-point, length-starts, run-from, starts-rise, starts_at}
-use Rattle.idl_event.proofs.told.runs.Runs.run_from.Goals as goal
+use Rattle.idl_event.proofs.told.runs.TokenRuns.run_from.Goals as goal
 
 pub overflow_sub-place : goal.overflow_sub-place
 overflow_sub-place c =

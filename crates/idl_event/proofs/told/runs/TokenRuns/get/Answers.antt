@@ -3,7 +3,7 @@ use Rattle.std.specs.Option.{option_copied}
 use Rattle.idl_lex.specs.tokens.Tokens.{Token}
 use Rattle.idl_event.proofs.RunsLemmas.{read-behind}
 use Rattle.idl_event.proofs.SitesLemmas.{copied-get}
-use Rattle.idl_event.proofs.told.runs.Runs.get.Goals as goal
+use Rattle.idl_event.proofs.told.runs.TokenRuns.get.Goals as goal
 
 lent : (r : Option (Bor Token)) (o : Option Token) → option_copied r ≡ o → IfSome r (λ t. o ≡ Some t.now)
 lent None o e = tt

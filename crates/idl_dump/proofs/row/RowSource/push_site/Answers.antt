@@ -5,7 +5,7 @@ use Rattle.idl_dump.specs.HeldRow.{rest_at}
 use Rattle.idl_dump.specs.Row.{behind_site}
 use Rattle.idl_parts.specs.Item.{item_at, item_length}
 use Rattle.idl_tree.specs.Interface.{spell_text}
-use Rattle.idl_dump.proofs.row.Rest.push_site.Goals as goal
+use Rattle.idl_dump.proofs.row.RowSource.push_site.Goals as goal
 
 pub overflow_add-len : goal.overflow_add-len
 overflow_add-len c =

@@ -4,7 +4,7 @@ use Rattle.idl_event.specs.Runs.{starts_of, tokens_of}
 use Rattle.idl_lex.specs.tokens.Tokens.{Token}
 use Rattle.idl_event.proofs.RunsLemmas.{starts_of-push, tokens_of-push}
 use Rattle.std.proofs.lemmas.Grind.{common_steps}
-use Rattle.idl_event.proofs.told.runs.Runs.new.Goals as goal
+use Rattle.idl_event.proofs.told.runs.TokenRuns.new.Goals as goal
 
 pub runs-preserved : goal.runs-preserved
 runs-preserved c =
