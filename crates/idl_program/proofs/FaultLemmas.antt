@@ -15,9 +15,10 @@ use Rattle.clap.specs.declared.builder.action.ArgAction.TheVariants as action
 use Rattle.clap.specs.declared.builder.value_parser.ValueParser.{ValueParser}
 use Rattle.clap.specs.declared.error.kind.ErrorKind.{ErrorKind}
 use Rattle.clap.specs.declared.error.kind.ErrorKind.TheVariants as kind
-use Rattle.idl_program.specs.Words.{AreWrong, IsDisplay, IsRefusal, IsRequestOf, faults_in, idlc}
-use Rattle.idl_program.specs.declared.request.Request.{Request}
-use Rattle.idl_program.specs.declared.request.Request.TheVariants.{Compile, Serve, Show}
+use Rattle.idl_program.specs.Parsed.{IsDisplay, IsRefusal}
+use Rattle.idl_program.specs.Words.{AreWrong, IsRequestOf, faults_in, idlc}
+use Rattle.idl_program.specs.declared.request.CompilerRequest.{CompilerRequest}
+use Rattle.idl_program.specs.declared.request.CompilerRequest.TheVariants.{Compile, Serve, Show}
 
 record IsSingle (kinds : Kinds) : Type 0 where
   bound : length kinds ≤ 1
@@ -220,7 +221,7 @@ not-both k is (inr version) = is.1 version
 not-true : true ≡ false → ⊥
 not-true e = absurd (cc)
 
-pub apart : (words : List Text) (request : Request) → AreWrong words → IsRequestOf words request → ⊥
+pub apart : (words : List Text) (request : CompilerRequest) → AreWrong words → IsRequestOf words request → ⊥
 apart words (Show text) (inl (k, among, is)) (j, has, shows) =
     not-both k is (subst IsDisplay (sym (same (faults_in words) k j (single words) among has)) shows)
 apart words (Show text) (inr (inl (taken, many))) (j, has, shows) = among-none _ j taken.0 has

@@ -1,6 +1,7 @@
 pub mod FaultLemmas
 pub mod LoadingLemmas
 pub mod OptionLemmas
+pub mod ParsedLemmas
 pub mod RequestLemmas
 pub mod ServedLemmas
 pub mod WordLemmas

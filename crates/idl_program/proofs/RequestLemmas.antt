@@ -1,34 +1,39 @@
 -- What the program's words are to clap.
-use Rattle.std.proofs.Common.{◌≡◌, ◌⊎◌, ◌∙◌, ◌∷◌, List, [], Option, None, Some, Result, Ok, Err, IfErr, true, ap, inl, inr, map, option_map, refl, subst, sym, unwrap_or}
+use Rattle.std.proofs.Common.{◌≡◌, ◌∙◌, ◌∷◌, List, [], Option, None, Some, true, ap, inl, map, option_map, refl, subst, sym, unwrap_or}
 use Rattle.std.specs.Borrow.{Bor}
-use Rattle.std.specs.Result.{IsErrAnd}
-use Rattle.clap.specs.Words.{App, FailsBy, HasMatchesOf, IsAmong, Text, fault_of, found_of, is_simple, is_simple_and_free, matched_of, matches_of, raw_values, rows_of}
-use Rattle.clap.specs.declared.error.Error.{Error}
+use Rattle.clap.specs.Words.{App, Row, Text, fault_of, found_of, is_simple_and_free, matched_of, matches_of, raw_values, rows_of}
 use Rattle.clap.specs.declared.error.kind.ErrorKind.{ErrorKind}
-use Rattle.clap.specs.declared.error.kind.ErrorKind.TheVariants.{OutOfMemory}
 use Rattle.clap.specs.declared.parser.matches.ArgMatches.{ArgMatches}
 use Rattle.clap.specs.declared.parser.matches.Found.{Found}
 use Rattle.clap.proofs.WalkLemmas.{raw_values-rows}
-use Rattle.idl_program.specs.Words.{AreWrong, IsDisplay, IsRefusal, Tells, faults_in, found_in, idlc, values_of}
-
-pub idlc_is_simple : is_simple idlc ≡ true
-unfolding idlc
-idlc_is_simple = refl
+use Rattle.idl_program.specs.Parsed.{IsParsedBy, IsRefusal, SaysWrong, Tells}
+use Rattle.idl_program.specs.Words.{AreWrong, faults_in, found_in, idlc, values_of}
+use Rattle.idl_program.specs.declared.words.ParsedWords.{ParsedWords}
+use Rattle.idl_program.specs.declared.words.ParsedWords.TheVariants as parsed
+use Rattle.idl_program.specs.declared.words.WordsFault.{WordsFault}
+use Rattle.idl_program.specs.declared.words.WordsFault.TheVariants.{Wrong, NoMemory}
 
 pub idlc_is_free : is_simple_and_free idlc ≡ true
 unfolding idlc
 idlc_is_free = refl
 
--- what a parse by the program's command gives
-pub matched : (app : App) (words : List Text) (m : ArgMatches) → app ≡ idlc → HasMatchesOf app words m → rows_of (found_of m) ≡ found_in words
+-- what the program's command finds in words that it takes
+pub found : (app : App) (words : List Text) (rows : List Row) → app ≡ idlc → rows ≡ matches_of app words → rows ≡ found_in words
 unfolding found_in
-matched app words m is has =
-    (has (ap is_simple is ∙ idlc_is_simple)).0 ∙ ap (λ (a : App). matches_of a words) is
+found app words rows is e = e ∙ ap (λ (a : App). matches_of a words) is
 
-pub failed : {T : Type 0} (app : App) (words : List Text) (r : Result T Error) → app ≡ idlc → (is_simple_and_free app ≡ true → FailsBy (fault_of app words) r) → FailsBy (faults_in words) r
+pub none_wrong : (app : App) (words : List Text) → app ≡ idlc → fault_of app words ≡ [] → faults_in words ≡ []
 unfolding faults_in
-failed app words r is fails =
-    subst (λ (a : App). FailsBy (fault_of a words) r) is (fails (ap is_simple_and_free is ∙ idlc_is_free))
+none_wrong app words is none = sym (ap (λ (a : App). fault_of a words) is) ∙ none
+
+-- what is told of words
+pub told : (app : App) (words : List Text) (sort : ErrorKind → Type 0) → app ≡ idlc → Tells sort (fault_of app words) → Tells sort (faults_in words)
+unfolding faults_in
+told app words sort is tells = subst (λ (a : App). Tells sort (fault_of a words)) is tells
+
+pub refused : (app : App) (words : List Text) (fault : WordsFault) → app ≡ idlc → SaysWrong (Tells IsRefusal (fault_of app words)) fault → SaysWrong (AreWrong words) fault
+refused app words (Wrong text) is tells = inl (told app words IsRefusal is tells)
+refused app words NoMemory is tells = tt
 
 -- the values that a getter gives
 pub values_given : (f : Found) (id : Text) (given : Option (Bor (List (Bor Text)))) → option_map (λ s. map (λ v. v.now) s.now) given ≡ option_map raw_values (matched_of f id)
@@ -50,17 +55,8 @@ pub none_of : (xs : List (Bor Text)) → map (λ v. v.now) xs ≡ [] → xs ≡ 
 none_of [] e = refl
 none_of (x ∷ xs) e = absurd (cc)
 
--- what is told of words, by the error that a parse gave
-pub told : (words : List Text) (kind : ErrorKind) → (kind ≡ OutOfMemory) ⊎ IsAmong kind (faults_in words) → IsDisplay kind → Tells IsDisplay words
-told words kind (inr among) is = (kind, among, is)
-told words kind (inl memory) (inl is) = absurd (cc)
-told words kind (inl memory) (inr is) = absurd (cc)
-
-pub refused : (words : List Text) (kind : ErrorKind) → (kind ≡ OutOfMemory) ⊎ IsAmong kind (faults_in words) → IsRefusal kind → AreWrong words
-refused words kind (inl memory) is = absurd (is.2 memory)
-refused words kind (inr among) is = inl (kind, among, is)
-
--- of what an error is
-pub for_error : {T E : Type 0} (r : Result T E) (P Q : E → Type 0) → IsErrAnd r Q → ((e : E) → Q e → P e) → IfErr r P
-for_error (Ok x) P Q is f = absurd is
-for_error (Err e) P Q is f = f e is
+-- what a parse by the program's command gives
+pub taken : (app : App) (words : List Text) (p : ParsedWords) (m : ArgMatches) → app ≡ idlc → p ≡ parsed.Taken m → IsParsedBy app words p → (faults_in words ≡ []) × (rows_of (found_of m) ≡ found_in words)
+taken app words p m is same held =
+    let has : IsParsedBy app words (parsed.Taken m) = subst (λ (q : ParsedWords). IsParsedBy app words q) same held in
+    (none_wrong app words is has.0, found app words (rows_of (found_of m)) is has.1)

@@ -1,7 +1,9 @@
+pub mod Compilations
 pub mod Compiled
 pub mod Loading
 pub mod Messages
 pub mod Options
+pub mod Parsed
 pub mod Rows
 pub mod Served
 pub mod Tried

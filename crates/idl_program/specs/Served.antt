@@ -10,8 +10,8 @@ use Rattle.idl_program.specs.Compiled.{IsCompiled, Written}
 use Rattle.idl_loader.specs.Holding.{Holding}
 use Rattle.idl_loader.specs.declared.status.Status.{Status}
 use Rattle.idl_loader.specs.declared.status.Status.TheVariants.{Sound}
-use Rattle.idl_program.specs.declared.request.Request.{Request}
-use Rattle.idl_program.specs.declared.request.Request.TheVariants.{Show, Serve, Compile}
+use Rattle.idl_program.specs.declared.request.CompilerRequest.{CompilerRequest}
+use Rattle.idl_program.specs.declared.request.CompilerRequest.TheVariants.{Show, Serve, Compile}
 
 -- the text went out
 pub record IsShownText (text : List ℕ) (before after : Written) (status : Status) : Type 0 where
@@ -30,7 +30,7 @@ pub record AreAnswered (input : Option (List ℕ)) (before after : Written) (sta
   pub sound : status ≡ Sound
 
 -- what is asked for was done
-abbrev pub IsDone : (List ℕ → Holding) → Option (List ℕ) → Written → Written → Status → Request
+abbrev pub IsDone : (List ℕ → Holding) → Option (List ℕ) → Written → Written → Status → CompilerRequest
     → Type 0
 IsDone told input before after status (Show text) =
     IsShownText (string_bytes text) before after status

@@ -2,15 +2,14 @@
 -- is to them by clap's `matches_of`, or what is wrong with the words by its `fault_of`.
 use Rattle.std.specs.Prelude.{◌≡◌, ◌≢◌, ◌⊎◌, ◌<◌, ◌≤◌, ℕ, List, [], ◌∷◌, ◌++◌, Some, Bool, true, false, codes, length, map, nat_eq, nat_lt, unwrap_or}
 use Rattle.std.specs.List.{slice_split}
-use Rattle.clap.specs.Words.{App, IsAmong, Kinds, Row, Rule, Text, all_of, count_of, fault_of, matches_of, new_app, new_rule, with_rule}
+use Rattle.clap.specs.Words.{App, Kinds, Row, Rule, Text, all_of, count_of, fault_of, matches_of, new_app, new_rule, with_rule}
 use Rattle.clap.specs.Simple.{on_top}
 use Rattle.clap.specs.declared.builder.action.ArgAction.{ArgAction}
 use Rattle.clap.specs.declared.builder.action.ArgAction.TheVariants.{Append, Count, Help, Version}
-use Rattle.clap.specs.declared.error.kind.ErrorKind.{ErrorKind}
-use Rattle.clap.specs.declared.error.kind.ErrorKind.TheVariants.{DisplayHelp, DisplayVersion, OutOfMemory}
+use Rattle.idl_program.specs.Parsed.{IsDisplay, IsRefusal, Tells}
 use Rattle.idl_program.specs.declared.request.Options.{Options}
-use Rattle.idl_program.specs.declared.request.Request.{Request}
-use Rattle.idl_program.specs.declared.request.Request.TheVariants.{Show, Serve, Compile}
+use Rattle.idl_program.specs.declared.request.CompilerRequest.{CompilerRequest}
+use Rattle.idl_program.specs.declared.request.CompilerRequest.TheVariants.{Show, Serve, Compile}
 
 -- an option of one letter with a value, which may stand again
 abbrev pub option_rule : Text → ℕ → Rule
@@ -90,18 +89,6 @@ pub record AreOptionsOf (rows : List Row) (options : Options) : Type 0 where
   pub dump : options.shows_dump ≡ stands (codes "dump") rows
   pub listing : options.shows_listing ≡ stands (codes "listing") rows
 
--- clap's error shows how the program is used, or its version
-abbrev pub IsDisplay : ErrorKind → Type 0
-IsDisplay kind = (kind ≡ DisplayHelp) ⊎ (kind ≡ DisplayVersion)
-
--- it says that words are wrong
-abbrev pub IsRefusal : ErrorKind → Type 0
-IsRefusal kind = (kind ≢ DisplayHelp) × (kind ≢ DisplayVersion) × (kind ≢ OutOfMemory)
-
--- clap tells of the words an error of this sort
-abbrev pub Tells : (ErrorKind → Type 0) → List Text → Type 0
-Tells sort words = (kind : ErrorKind) × IsAmong kind (faults_in words) × sort kind
-
 -- clap takes the words, and whether they ask to serve commands
 abbrev pub AreTaken : List Text → Bool → Type 0
 AreTaken words serves = (faults_in words ≡ [])
@@ -112,13 +99,13 @@ files_in words = values_of (codes "file") (found_in words)
 
 -- what words ask for: to show a text; to serve commands, and nothing else; or to compile files, of
 -- which there is one at least
-abbrev pub IsRequestOf : List Text → Request → Type 0
-IsRequestOf words (Show text) = Tells IsDisplay words
+abbrev pub IsRequestOf : List Text → CompilerRequest → Type 0
+IsRequestOf words (Show text) = Tells IsDisplay (faults_in words)
 IsRequestOf words Serve = AreTaken words true × (length words ≤ 1)
 IsRequestOf words (Compile options) =
     AreTaken words false × (files_in words ≢ []) × AreOptionsOf (found_in words) options
 
 -- words that ask for nothing
 abbrev pub AreWrong : List Text → Type 0
-AreWrong words = Tells IsRefusal words
+AreWrong words = Tells IsRefusal (faults_in words)
     ⊎ ((AreTaken words true × (1 < length words)) ⊎ (AreTaken words false × (files_in words ≡ [])))

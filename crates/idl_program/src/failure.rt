@@ -1,16 +1,15 @@
-//! How the program ends.
-//!
-//! What options and what roots fail by are types of their own, so neither can say that a device failed or that words
-//! are wrong.
+//! What a program tells where it fails.
 
 ghost use Rattle.std.specs.Prelude.{◌≡◌, ◌<◌, ◌-◌, ◌^◌, OnOk};
 ghost use Rattle.idl_source.specs.devices.Device.{append};
-ghost use Rattle.idl_program.specs.Messages.{message_of, refused_message};
+ghost use Rattle.idl_program.specs.Messages.{line_of, message_of, name_of, named_line, refused_message};
 
-use crate::request::WordsFault;
-use idl_session::{ReadFailed, Sink, Stop, WriteFailed, write_all};
+use crate::words::WordsFault;
+use idl_loader::ServiceFault;
+use idl_session::{Sink, Stop, WriteFailed, write_all};
 use idl_source::{Name, Refusal};
 use itoa::Buffer;
+use std::alloc::AllocError;
 
 /// Why options can't be taken.
 #[derive(Drop)]
@@ -30,100 +29,164 @@ pub enum CompileFault {
     CannotRead(Name),
 }
 
-/// What a refusal is about.
+/// What a failure is about.
 #[derive(Drop)]
-pub enum Subject<'a> {
+pub enum FailureSubject<'a> {
     /// A word as it was given.
     Word(&'a str),
-    /// A file that was to be loaded.
+    /// A file that was to be loaded, or its name to be written.
     File(Name),
 }
 
-/// Why the program ends with [`Status::Failed`].
-#[derive(Drop)]
-pub enum Failure<'a> {
-    BadArguments,
-    Refused(Subject<'a>, Refusal),
-    CannotRead(Name),
-    ReadFailed,
-    WriteFailed,
-}
-
-impl<'a> Failure<'a> {
-    /// Writes the one line that tells of it.
-    #[inline(never)]
-    pub fn tell<K: Sink>(&self, errors: &mut K) -> Result<(), WriteFailed>
-        requires counts { K.failures errors.old < 2 ^ 64 - 1 }
-        ensures { OnOk result
-            (K.written errors.new ≡ append (K.written errors.old) (message_of self.now)) }
+impl<'a> FailureSubject<'a> {
+    /// The word, or the file's name.
+    pub fn as_bytes(&self) -> &[u8]
+        ensures { result.now ≡ name_of self.entry.now }
     {
         match self {
-            Failure::BadArguments => write_all(errors, b"idlc: bad arguments\n"),
-            Failure::Refused(Subject::Word(word), refusal) => {
-                tell_refusal(errors, word.as_bytes(), *refusal)
-            }
-            Failure::Refused(Subject::File(name), refusal) => {
-                tell_refusal(errors, name.as_bytes(), *refusal)
-            }
-            Failure::CannotRead(name) => {
-                write_all(errors, b"idlc: ")?;
-                write_all(errors, name.as_bytes())?;
-                write_all(errors, b": cannot read\n")
-            }
-            Failure::ReadFailed => write_all(errors, b"idlc: read failed\n"),
-            Failure::WriteFailed => write_all(errors, b"idlc: write failed\n"),
+            FailureSubject::Word(word) => word.as_bytes(),
+            FailureSubject::File(name) => name.as_bytes(),
         }
     }
 }
 
-fn tell_refusal<K: Sink>(errors: &mut K, word: &[u8], refusal: Refusal) -> Result<(), WriteFailed>
+/// Why a program ends with [`Status::Failed`], as each of the programs may.
+#[derive(Drop)]
+pub enum ProgramFailure<'a> {
+    BadArguments,
+    Refused(FailureSubject<'a>, Refusal),
+    CannotRead(Name),
+    NoMemory,
+    ReadFailed,
+    WriteFailed,
+}
+
+impl<'a> ProgramFailure<'a> {
+    /// Writes the one line that a program of this name tells of it. It takes no memory.
+    #[inline(never)]
+    pub fn tell<K: Sink>(&self, program: &[u8], errors: &mut K) -> Result<(), WriteFailed>
+        requires counts { K.failures errors.old < 2 ^ 64 - 1 }
+        ensures { OnOk result
+            (K.written errors.new ≡ append (K.written errors.old) (message_of program.now self.now)) }
+    {
+        match self {
+            ProgramFailure::BadArguments => tell_line(program, b"bad arguments", errors),
+            ProgramFailure::Refused(subject, refusal) => {
+                tell_refusal(program, subject.as_bytes(), *refusal, errors)
+            }
+            ProgramFailure::CannotRead(name) => {
+                tell_of(program, name.as_bytes(), b"cannot read", errors)
+            }
+            ProgramFailure::NoMemory => tell_line(program, b"no memory", errors),
+            ProgramFailure::ReadFailed => tell_line(program, b"read failed", errors),
+            ProgramFailure::WriteFailed => tell_line(program, b"write failed", errors),
+        }
+    }
+}
+
+/// Writes a line of a program about a name.
+pub fn tell_of<K: Sink>(
+    program: &[u8],
+    name: &[u8],
+    told: &[u8],
+    errors: &mut K,
+) -> Result<(), WriteFailed>
     requires counts { K.failures errors.old < 2 ^ 64 - 1 }
     ensures { OnOk result (K.written errors.new
-        ≡ append (K.written errors.old) (refused_message word.now refusal)) }
+        ≡ append (K.written errors.old) (named_line program.now name.now told.now)) }
+{
+    write_all(errors, program)?;
+    write_all(errors, b": ")?;
+    tell_line(name, told, errors)
+}
+
+// Writes a line of who tells, and what is told.
+fn tell_line<K: Sink>(who: &[u8], told: &[u8], errors: &mut K) -> Result<(), WriteFailed>
+    requires counts { K.failures errors.old < 2 ^ 64 - 1 }
+    ensures { OnOk result
+        (K.written errors.new ≡ append (K.written errors.old) (line_of who.now told.now)) }
+{
+    write_all(errors, who)?;
+    write_all(errors, b": ")?;
+    write_all(errors, told)?;
+    write_all(errors, b"\n")
+}
+
+fn tell_refusal<K: Sink>(
+    program: &[u8],
+    word: &[u8],
+    refusal: Refusal,
+    errors: &mut K,
+) -> Result<(), WriteFailed>
+    requires counts { K.failures errors.old < 2 ^ 64 - 1 }
+    ensures { OnOk result (K.written errors.new
+        ≡ append (K.written errors.old) (refused_message program.now word.now refusal)) }
 {
     let mut number = Buffer::new();
-    write_all(errors, b"idlc: ")?;
+    write_all(errors, program)?;
+    write_all(errors, b": ")?;
     write_all(errors, word)?;
     write_all(errors, b": refused ")?;
     write_all(errors, number.format(refusal.number()).as_bytes())?;
     write_all(errors, b"\n")
 }
 
-impl<'a> From<WordsFault> for Failure<'a> {
-    fn from(_fault: WordsFault) -> Failure<'a> {
-        Failure::BadArguments
+impl<'a> From<WordsFault> for ProgramFailure<'a> {
+    // Words that memory is wanted for are told as wrong ones: the first program's lines are a closed list.
+    fn from(_fault: WordsFault) -> ProgramFailure<'a> {
+        ProgramFailure::BadArguments
     }
 }
 
-impl<'a> From<OptionsFault<'a>> for Failure<'a> {
-    fn from(fault: OptionsFault<'a>) -> Failure<'a> {
+impl<'a> From<OptionsFault<'a>> for ProgramFailure<'a> {
+    fn from(fault: OptionsFault<'a>) -> ProgramFailure<'a> {
         match fault {
-            OptionsFault::NoLine(_word) => Failure::BadArguments,
-            OptionsFault::Refused(word, refusal) => Failure::Refused(Subject::Word(word), refusal),
+            OptionsFault::NoLine(_word) => ProgramFailure::BadArguments,
+            OptionsFault::Refused(word, refusal) => {
+                ProgramFailure::Refused(FailureSubject::Word(word), refusal)
+            }
         }
     }
 }
 
-impl<'a> From<CompileFault> for Failure<'a> {
-    fn from(fault: CompileFault) -> Failure<'a> {
+impl<'a> From<CompileFault> for ProgramFailure<'a> {
+    fn from(fault: CompileFault) -> ProgramFailure<'a> {
         match fault {
-            CompileFault::Refused(name, refusal) => Failure::Refused(Subject::File(name), refusal),
-            CompileFault::CannotRead(name) => Failure::CannotRead(name),
+            CompileFault::Refused(name, refusal) => {
+                ProgramFailure::Refused(FailureSubject::File(name), refusal)
+            }
+            CompileFault::CannotRead(name) => ProgramFailure::CannotRead(name),
         }
     }
 }
 
-impl<'a> From<WriteFailed> for Failure<'a> {
-    fn from(_failed: WriteFailed) -> Failure<'a> {
-        Failure::WriteFailed
+impl<'a> From<ServiceFault> for ProgramFailure<'a> {
+    fn from(fault: ServiceFault) -> ProgramFailure<'a> {
+        match fault {
+            ServiceFault::NoMemory => ProgramFailure::NoMemory,
+            ServiceFault::ReadFailed => ProgramFailure::ReadFailed,
+            ServiceFault::WriteFailed => ProgramFailure::WriteFailed,
+        }
     }
 }
 
-impl<'a> From<Stop> for Failure<'a> {
-    fn from(stop: Stop) -> Failure<'a> {
+impl<'a> From<AllocError> for ProgramFailure<'a> {
+    fn from(_refused: AllocError) -> ProgramFailure<'a> {
+        ProgramFailure::NoMemory
+    }
+}
+
+impl<'a> From<WriteFailed> for ProgramFailure<'a> {
+    fn from(_failed: WriteFailed) -> ProgramFailure<'a> {
+        ProgramFailure::WriteFailed
+    }
+}
+
+impl<'a> From<Stop> for ProgramFailure<'a> {
+    fn from(stop: Stop) -> ProgramFailure<'a> {
         match stop {
-            Stop::ReadFailed => Failure::ReadFailed,
-            Stop::WriteFailed => Failure::WriteFailed,
+            Stop::ReadFailed => ProgramFailure::ReadFailed,
+            Stop::WriteFailed => ProgramFailure::WriteFailed,
         }
     }
 }

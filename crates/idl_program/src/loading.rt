@@ -37,7 +37,7 @@ pub fn compile_all<L: Loader>(
         loading.explore_all(roots, loader)?;
         let compiled = compile_each(&mut loading.sources, roots)?;
         let Some(name) = loading.untried(&compiled) else {
-            let Loading { sources, .. } = loading;
+            let sources = loading.into_sources();
             sources.keeps_form();
             return Ok((sources, compiled));
         };
@@ -51,11 +51,20 @@ pub fn compile_all<L: Loader>(
 }
 
 // Sources while files are loaded, the names that were tried and are missing, and how far the present root is explored.
-#[derive(Drop)]
 struct Loading {
     sources: Sources,
     missing: IndexSet<Name>,
     explorer: Explorer<Sources>,
+}
+
+impl Drop for Loading {
+    fn drop(self) {
+        let Loading {
+            sources: _sources,
+            missing: _missing,
+            explorer: _explorer,
+        } = self;
+    }
 }
 
 impl Loading {
@@ -70,6 +79,18 @@ impl Loading {
             missing: IndexSet::new(alloc),
             explorer: Explorer::new(alloc),
         }
+    }
+
+    // The sources, in the end.
+    fn into_sources(self) -> Sources
+        ensures { result ≡ self.sources }
+    {
+        let Loading {
+            sources,
+            missing: _missing,
+            explorer: _explorer,
+        } = self;
+        sources
     }
 
     // Loads what the roots ask for.

@@ -9,24 +9,23 @@ ghost use Rattle.idl_program.specs.Rows.{AreShown, output_of};
 ghost use Rattle.idl_program.specs.Served.{IsDone};
 ghost use Rattle.idl_program.specs.Words.{IsRequestOf};
 
-use crate::failure::Failure;
-use crate::loading::compile_all;
-use crate::preparing::prepared;
-use crate::request::{Options, Request, request_of};
+use crate::compilation::compile_files;
+use crate::failure::ProgramFailure;
+use crate::request::{CompilerRequest, Options, request_of};
 use idl_loader::{Loader, Status};
 use idl_session::idl_project::CompiledRoot;
 use idl_session::{Session, Sink, Source, WriteFailed, run, write_all, write_lines};
 use std::alloc::Global;
 use std::mem::forget;
 
-/// What the program reads and writes.
+/// What a program reads and writes.
 #[derive(Drop)]
 pub struct Devices<L, S, O, E> {
     /// Where files come from.
     pub loader: L,
-    /// Where commands come from.
+    /// Where commands and messages come from.
     pub source: S,
-    /// Where dumps, listings and replies go.
+    /// Where dumps, listings and answers go.
     pub output: O,
     /// Where errors go, and why the program fails.
     pub errors: E,
@@ -43,7 +42,7 @@ pub fn run_program<L: Loader, S: Source, O: Sink, E: Sink>(
     requires writes { O.failures devices.old.output < 2 ^ 64 - 1 }
     requires tells { E.failures devices.old.errors < 2 ^ 64 - 2 }
 
-    ensures done { result ≢ Status.Failed → (request : Request)
+    ensures done { result ≢ Status.Failed → (request : CompilerRequest)
         × IsRequestOf (map (λ w. w.now) words.now) request
         × IsDone (L.told devices.old.loader) (S.remaining devices.old.source)
         (record { errors = E.written devices.old.errors; output = O.written devices.old.output })
@@ -59,7 +58,7 @@ pub fn run_program<L: Loader, S: Source, O: Sink, E: Sink>(
         Ok(status) => status,
         Err(failure) => {
             // Where this can't be written either, the status tells.
-            let _ = failure.tell(&mut devices.errors);
+            let _ = failure.tell(b"idlc", &mut devices.errors);
             Status::Failed
         }
     }
@@ -69,12 +68,12 @@ fn perform<'a, L: Loader, S: Source, O: Sink, E: Sink>(
     alloc: Global,
     words: &'a [&'a str],
     devices: &mut Devices<L, S, O, E>,
-) -> Result<Status, Failure<'a>>
+) -> Result<Status, ProgramFailure<'a>>
     requires reads { S.failures devices.old.source < 2 ^ 64 - 1 }
     requires writes { O.failures devices.old.output < 2 ^ 64 - 1 }
     requires tells { E.failures devices.old.errors < 2 ^ 64 - 2 }
 
-    ensures done { IfOk result (λ status. (request : Request)
+    ensures done { IfOk result (λ status. (request : CompilerRequest)
         × IsRequestOf (map (λ w. w.now) words.entry.now) request
         × IsDone (L.told devices.old.loader) (S.remaining devices.old.source)
         (record { errors = E.written devices.old.errors; output = O.written devices.old.output })
@@ -93,9 +92,9 @@ fn perform<'a, L: Loader, S: Source, O: Sink, E: Sink>(
 // Does what is asked for.
 fn fulfil<'a, L: Loader, S: Source, O: Sink, E: Sink>(
     alloc: Global,
-    request: &Request<'a>,
+    request: &CompilerRequest<'a>,
     devices: &mut Devices<L, S, O, E>,
-) -> Result<Status, Failure<'a>>
+) -> Result<Status, ProgramFailure<'a>>
     requires reads { S.failures devices.old.source < 2 ^ 64 - 1 }
     requires writes { O.failures devices.old.output < 2 ^ 64 - 1 }
     requires tells { E.failures devices.old.errors < 2 ^ 64 - 2 }
@@ -112,18 +111,18 @@ fn fulfil<'a, L: Loader, S: Source, O: Sink, E: Sink>(
     ensures most { E.failures devices.new.errors ≤ E.failures devices.old.errors + 1 }
 {
     match request {
-        Request::Show(text) => {
+        CompilerRequest::Show(text) => {
             write_all(&mut devices.output, text.as_bytes())?;
             Ok(Status::Sound)
         }
-        Request::Serve => {
+        CompilerRequest::Serve => {
             let mut session = Session::new(alloc);
             run(&mut session, &mut devices.source, &mut devices.output)?;
             // The program ends here, and all memory goes back at once.
             forget(session);
             Ok(Status::Sound)
         }
-        Request::Compile(options) => compile(alloc, options, devices),
+        CompilerRequest::Compile(options) => compile(alloc, options, devices),
     }
 }
 
@@ -132,7 +131,7 @@ fn compile<'a, L: Loader, S: Source, O: Sink, E: Sink>(
     alloc: Global,
     options: &Options<'a>,
     devices: &mut Devices<L, S, O, E>,
-) -> Result<Status, Failure<'a>>
+) -> Result<Status, ProgramFailure<'a>>
     requires writes { O.failures devices.old.output < 2 ^ 64 - 1 }
     requires tells { E.failures devices.old.errors < 2 ^ 64 - 2 }
 
@@ -146,11 +145,10 @@ fn compile<'a, L: Loader, S: Source, O: Sink, E: Sink>(
         × (E.failures devices.new.errors ≡ E.failures devices.old.errors)) }
     ensures most { E.failures devices.new.errors ≤ E.failures devices.old.errors + 1 }
 {
-    let (sources, roots) = prepared(alloc, options)?;
-    let (sources, compiled) = compile_all(sources, roots.as_slice(), &mut devices.loader)?;
-    let status = show_all(&compiled, options, devices)?;
+    let compilation = compile_files(alloc, options, &mut devices.loader)?;
+    let status = show_all(&compilation.compiled, options, devices)?;
     // The program ends here, and all memory goes back at once.
-    forget((sources, compiled));
+    forget(compilation);
     Ok(status)
 }
 

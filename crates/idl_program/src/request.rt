@@ -1,12 +1,13 @@
 //! The words that the program is given.
 
 ghost use Rattle.std.specs.Prelude.{◌≡◌, IfErr, IfOk, map, false, []};
-ghost use Rattle.clap.specs.Words.{FailsBy, app_of, found_of, kind_of, rows_of, rule_of};
+ghost use Rattle.clap.specs.Words.{app_of, found_of, rows_of, rule_of};
 ghost use Rattle.clap.specs.declared.builder.command.Command.TheViews.{out-Command as fields_of};
-ghost use Rattle.idl_program.specs.Words.{AreOptionsOf, AreWrong, IsDisplay, IsRefusal, IsRequestOf, bare, faults_in, flag_rule, flag_rules, found_in, idlc, option_rule, option_rules, text_rule, values_of, with_rules};
+ghost use Rattle.idl_program.specs.Parsed.{SaysWrong};
+ghost use Rattle.idl_program.specs.Words.{AreOptionsOf, AreWrong, IsRequestOf, bare, faults_in, flag_rule, flag_rules, found_in, idlc, option_rule, option_rules, text_rule, values_of, with_rules};
 
-use clap::error::ErrorKind;
-use clap::{Arg, ArgAction, ArgMatches, Command, Error};
+use crate::words::{ParsedWords, WordsFault, parse_words};
+use clap::{Arg, ArgAction, ArgMatches, Command};
 use std::alloc::{AllocError, Global};
 
 /// What is to be compiled and shown.
@@ -28,7 +29,7 @@ pub struct Options<'a> {
 
 /// What the words ask for.
 #[derive(Drop)]
-pub enum Request<'a> {
+pub enum CompilerRequest<'a> {
     /// To show a text, which tells how the program is used or its version.
     Show(String),
     /// To serve commands.
@@ -37,36 +38,19 @@ pub enum Request<'a> {
     Compile(Options<'a>),
 }
 
-/// Why words make no request.
-#[derive(Drop)]
-pub enum WordsFault {
-    /// They are none that the program takes.
-    Wrong,
-    /// There was no memory to read them.
-    NoMemory,
-}
-
-impl From<AllocError> for WordsFault {
-    ghost use Rattle.idl_program.specs.declared.request.WordsFault.{WordsFault};
-
-    ghost from_gives = { λ _ fault. fault ≡ WordsFault.NoMemory };
-
-    fn from(_error: AllocError) -> WordsFault {
-        WordsFault::NoMemory
-    }
-}
-
 /// Reads the words behind the program's name.
-#[tactic(auto, using(crate::proofs::RequestLemmas::told, crate::proofs::RequestLemmas::refused))]
 #[inline(never)]
-pub fn request_of<'a>(alloc: Global, words: &'a [&'a str]) -> Result<Request<'a>, WordsFault>
+pub fn request_of<'a>(
+    alloc: Global,
+    words: &'a [&'a str],
+) -> Result<CompilerRequest<'a>, WordsFault>
     ensures asked { IfOk result (IsRequestOf (map (λ w. w.now) words.entry.now)) }
-    ensures wrong { IfErr result (λ fault. fault ≡ WordsFault.Wrong
-        → AreWrong (map (λ w. w.now) words.entry.now)) }
+    ensures wrong { IfErr result (SaysWrong (AreWrong (map (λ w. w.now) words.entry.now))) }
 {
-    match matches_of(alloc, words) {
-        Ok(matches) => chosen(alloc, words, &matches),
-        Err(error) => Ok(Request::Show(text_of(alloc, &error)?)),
+    match parse_words(alloc, command(alloc)?, words) {
+        Ok(ParsedWords::Taken(matches)) => chosen(alloc, words, &matches),
+        Ok(ParsedWords::Text(text)) => Ok(CompilerRequest::Show(text)),
+        Err(fault) => Err(fault),
     }
 }
 
@@ -75,46 +59,24 @@ fn chosen<'a>(
     alloc: Global,
     words: &'a [&'a str],
     matches: &ArgMatches<'a>,
-) -> Result<Request<'a>, WordsFault>
+) -> Result<CompilerRequest<'a>, WordsFault>
     requires taken { faults_in (map (λ w. w.now) words.now) ≡ [] }
     requires rows { rows_of (found_of matches.now) ≡ found_in (map (λ w. w.now) words.now) }
 
     ensures asked { IfOk result (IsRequestOf (map (λ w. w.now) words.entry.now)) }
-    ensures wrong { IfErr result (λ fault. fault ≡ WordsFault.Wrong
-        → AreWrong (map (λ w. w.now) words.entry.now)) }
+    ensures wrong { IfErr result (SaysWrong (AreWrong (map (λ w. w.now) words.entry.now))) }
 {
     if matches.get_count("session") > 0 {
         if words.len() > 1 {
-            return Err(WordsFault::Wrong);
+            return Err(WordsFault::Wrong(String::new(alloc)));
         }
-        return Ok(Request::Serve);
+        return Ok(CompilerRequest::Serve);
     }
     let options = options_of(alloc, matches)?;
     if options.files.is_empty() {
-        return Err(WordsFault::Wrong);
+        return Err(WordsFault::Wrong(String::new(alloc)));
     }
-    Ok(Request::Compile(options))
-}
-
-// How the program is used, or its version, where that is why there are no matches.
-fn text_of(alloc: Global, error: &Error) -> Result<String, WordsFault>
-    ensures text { IfOk result (λ _. IsDisplay (kind_of error.now)) }
-    ensures wrong { IfErr result (λ fault. fault ≡ WordsFault.Wrong
-        → IsRefusal (kind_of error.now)) }
-{
-    match error.kind() {
-        ErrorKind::DisplayHelp | ErrorKind::DisplayVersion => Ok(format!(in alloc; "{error}")?),
-        ErrorKind::OutOfMemory => Err(WordsFault::NoMemory),
-        _ => Err(WordsFault::Wrong),
-    }
-}
-
-fn matches_of<'a>(alloc: Global, words: &'a [&'a str]) -> Result<ArgMatches<'a>, Error>
-    ensures rows { IfOk result (λ m.
-        rows_of (found_of m) ≡ found_in (map (λ w. w.now) words.entry.now)) }
-    ensures kinds { FailsBy (faults_in (map (λ w. w.now) words.entry.now)) result }
-{
-    command(alloc)?.try_get_matches_from(words)
+    Ok(CompilerRequest::Compile(options))
 }
 
 fn command<'a>(alloc: Global) -> Result<Command<'a>, AllocError>

@@ -12,18 +12,25 @@ use Rattle.idl_source.specs.devices.Device.{append}
 use Rattle.idl_related.specs.idl_project.Bank.{bank_of}
 use Rattle.idl_related.specs.idl_project.Details.{details_over}
 use Rattle.idl_related.specs.idl_project.Project.{Inputs}
+use Rattle.idl_program.specs.Compilations.{IsCompilation, HasCompiled}
+use Rattle.idl_program.specs.idl_loader.Holding.{Holding}
 use Rattle.idl_program.specs.Rows.{are_faulty}
+use Rattle.idl_program.specs.declared.request.Options.{Options}
+use Rattle.idl_program.specs.declared.compilation.Compilation.{Compilation}
 use Rattle.idl_program.specs.idl_loader.declared.status.Status.TheVariants.{Failed, Faulty, Sound}
-use Rattle.idl_tool.specs.Compared.{IsCompiled, Version, all_trees, are_breaking, change_lines, changes_between, ending_of, has_error, is_breaking, seen, shown_between, trees_in}
-use Rattle.idl_tool.specs.declared.diff.CompiledVersion.{CompiledVersion}
+use Rattle.idl_tool.specs.Compared.{IsVersion, Version, all_trees, are_breaking, change_lines, changes_between, ending_of, has_error, is_breaking, seen, shown_between, trees_in}
 use Rattle.idl_tool.proofs.DepsLemmas.{ending-of}
 
 -- the trees of what the roots tell
 pub trees-of-all : (inputs : Inputs) (roots : List (List ℕ)) → flat_map trees_in (map (details_over (bank_of inputs)) roots) ≡ all_trees inputs roots
 trees-of-all inputs roots = flat_map-map trees_in (details_over (bank_of inputs)) roots
 
+-- what options ask for, compiled, is the version that they ask for
+pub version-of : (told : List ℕ → Holding) (options : Options) (all : Compilation) → IsCompilation told options all → IsVersion told options (seen all)
+version-of told options all is = record { asked = is.asked; formed = is.formed; loaded = is.loaded; complete = is.complete }
+
 -- whether one of two versions has an error, by what they compile to
-pub error-of : (old new : CompiledVersion) → IsCompiled old → IsCompiled new
+pub error-of : (old new : Compilation) → HasCompiled old → HasCompiled new
     → (are_faulty old.compiled.items || are_faulty new.compiled.items) ≡ has_error (seen old) (seen new)
 error-of old new first second =
     ap₂ (λ (a b : Bool). a || b) (ending-of old.sources old.roots.keys old.compiled.items first) (ending-of new.sources new.roots.keys new.compiled.items second)

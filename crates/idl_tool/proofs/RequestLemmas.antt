@@ -1,17 +1,18 @@
 -- What the program's words are to clap.
-use Rattle.std.proofs.Common.{◌≡◌, ◌∙◌, ◌||◌, ◌⊎◌, Bool, true, false, List, Result, ap, inl, inr, refl, subst}
-use Rattle.clap.specs.Words.{App, FailsBy, HasMatchesOf, IsAmong, Text, fault_of, is_simple, is_simple_and_free, subcommand_of, subcommand_rows_of}
+use Rattle.std.proofs.Common.{◌≡◌, ◌∙◌, ◌||◌, [], Bool, true, false, List, Option, ap, inl, refl, subst, sym}
+use Rattle.clap.specs.Words.{App, Row, Text, fault_of, is_simple_and_free, subcommand_of, subcommand_rows_of}
 use Rattle.clap.specs.Simple.{Shape}
 use Rattle.clap.specs.declared.builder.arg.Arg.{Arg}
 use Rattle.clap.specs.declared.builder.command.Command.{Command}
 use Rattle.clap.specs.declared.builder.command.Command.TheOpen.{Command-F}
-use Rattle.clap.specs.declared.error.Error.{Error}
 use Rattle.clap.specs.declared.error.kind.ErrorKind.{ErrorKind}
-use Rattle.clap.specs.declared.error.kind.ErrorKind.TheVariants.{OutOfMemory}
 use Rattle.clap.specs.declared.parser.matches.ArgMatches.{ArgMatches}
-use Rattle.idl_tool.specs.Words.{AreWrong, IsDisplay, IsFaultBy, Tells, entered_in, faults_in, idltool}
-use Rattle.idl_tool.specs.declared.request.WordsFault.{WordsFault}
-use Rattle.idl_tool.specs.declared.request.WordsFault.TheVariants.{Wrong, NoMemory}
+use Rattle.idl_program.specs.Parsed.{IsParsedBy, IsRefusal, SaysWrong, Tells}
+use Rattle.idl_program.specs.declared.words.ParsedWords.{ParsedWords}
+use Rattle.idl_program.specs.declared.words.ParsedWords.TheVariants as parsed
+use Rattle.idl_program.specs.declared.words.WordsFault.{WordsFault}
+use Rattle.idl_program.specs.declared.words.WordsFault.TheVariants.{Wrong, NoMemory}
+use Rattle.idl_tool.specs.Words.{AreWrong, entered_in, faults_in, idltool}
 
 abbrev pub is_global : Arg → Bool
 is_global a = a.global
@@ -26,32 +27,30 @@ has_globals_of c = c.has_globals
 pub local-more : (has is : Bool) → has ≡ false → is ≡ false → (has || is) ≡ false
 local-more has is h e = ap (λ b. b || is) h ∙ e
 
-pub idltool_is_simple : is_simple idltool ≡ true
-unfolding idltool
-idltool_is_simple = refl
-
 pub idltool_is_free : is_simple_and_free idltool ≡ true
 unfolding idltool
 idltool_is_free = refl
 
--- what a parse by the program's command enters
-pub entered : (app : App) (words : List Text) (m : ArgMatches) → app ≡ idltool → HasMatchesOf app words m → subcommand_rows_of m ≡ entered_in words
+-- what the program's command enters among words that it takes
+pub entered : (app : App) (words : List Text) (rows : Option (Text × List Row)) → app ≡ idltool → rows ≡ subcommand_of app words → rows ≡ entered_in words
 unfolding entered_in
-entered app words m is has =
-    (has (ap is_simple is ∙ idltool_is_simple)).1 ∙ ap (λ (a : App). subcommand_of a words) is
+entered app words rows is found = found ∙ ap (λ (a : App). subcommand_of a words) is
 
-pub failed : {T : Type 0} (app : App) (words : List Text) (r : Result T Error) → app ≡ idltool → (is_simple_and_free app ≡ true → FailsBy (fault_of app words) r) → FailsBy (faults_in words) r
+pub none_wrong : (app : App) (words : List Text) → app ≡ idltool → fault_of app words ≡ [] → faults_in words ≡ []
 unfolding faults_in
-failed app words r is fails =
-    subst (λ (a : App). FailsBy (fault_of a words) r) is (fails (ap is_simple_and_free is ∙ idltool_is_free))
+none_wrong app words is none = sym (ap (λ (a : App). fault_of a words) is) ∙ none
 
--- what is told of words, by the error that a parse gave
-pub told : (words : List Text) (kind : ErrorKind) → (kind ≡ OutOfMemory) ⊎ IsAmong kind (faults_in words) → IsDisplay kind → Tells IsDisplay words
-told words kind (inr among) is = (kind, among, is)
-told words kind (inl memory) (inl is) = absurd (cc)
-told words kind (inl memory) (inr is) = absurd (cc)
+-- what is told of words
+pub told : (app : App) (words : List Text) (sort : ErrorKind → Type 0) → app ≡ idltool → Tells sort (fault_of app words) → Tells sort (faults_in words)
+unfolding faults_in
+told app words sort is tells = subst (λ (a : App). Tells sort (fault_of a words)) is tells
 
-pub refused : (words : List Text) (kind : ErrorKind) (fault : WordsFault) → (kind ≡ OutOfMemory) ⊎ IsAmong kind (faults_in words) → IsFaultBy kind fault → AreWrong words fault
-refused words kind NoMemory among is = tt
-refused words kind (Wrong text) (inl memory) is = absurd (is.2 memory)
-refused words kind (Wrong text) (inr among) is = inl (kind, among, is)
+pub refused : (app : App) (words : List Text) (fault : WordsFault) → app ≡ idltool → SaysWrong (Tells IsRefusal (fault_of app words)) fault → SaysWrong (AreWrong words) fault
+refused app words (Wrong text) is tells = inl (told app words IsRefusal is tells)
+refused app words NoMemory is tells = tt
+
+-- what a parse by the program's command gives
+pub taken : (app : App) (words : List Text) (p : ParsedWords) (m : ArgMatches) → app ≡ idltool → p ≡ parsed.Taken m → IsParsedBy app words p → (faults_in words ≡ []) × (subcommand_rows_of m ≡ entered_in words)
+taken app words p m is same held =
+    let has : IsParsedBy app words (parsed.Taken m) = subst (λ (q : ParsedWords). IsParsedBy app words q) same held in
+    (none_wrong app words is has.0, entered app words (subcommand_rows_of m) is has.2)

@@ -117,6 +117,13 @@ all_of told = flat_map (λ one. one) told
 abbrev pub entry_text : Entry → List ℕ
 entry_text entry = entry.0 ++ entry.1
 
+-- a text is the reports of what is told of roots
+abbrev pub IsReportText : Inputs → List (List ℕ) → List ℕ → Type 0
+IsReportText inputs roots text =
+    (told : List (List Told)) × AreToldOf inputs roots told
+    × (reports : List Entry) × AreReported inputs.files (all_of told) [] reports
+    × (text ≡ flat_map entry_text reports)
+
 -- what went out of the roots over these inputs, and how the program ends
 pub record AreTold (inputs : Inputs) (roots : List (List ℕ)) (before after : Written)
     (status : Status) : Type 0 where

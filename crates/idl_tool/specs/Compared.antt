@@ -9,7 +9,6 @@ use Rattle.idl_repo.specs.declared.details.row_tree.RowTree.{RowTree}
 use Rattle.idl_related.specs.idl_root.declared.compiling.detailing.Details.{Details}
 use Rattle.idl_program.specs.idl_session.replies.Replies.{whole_line}
 use Rattle.idl_source.specs.devices.Device.{append}
-use Rattle.idl_related.specs.idl_project.Compile.{compiled_root}
 use Rattle.idl_related.specs.idl_project.Made.{rootless}
 use Rattle.idl_related.specs.idl_project.Project.{Inputs}
 use Rattle.idl_related.specs.idl_project.WellFormed.{IsWellFormed}
@@ -17,11 +16,11 @@ use Rattle.idl_program.specs.Compiled.{Written, errors_in, is_faulty, lines_of}
 use Rattle.idl_program.specs.idl_loader.Holding.{Holding}
 use Rattle.idl_program.specs.Loading.{AreLoaded, AreComplete}
 use Rattle.idl_program.specs.Options.{AreAsked}
+use Rattle.idl_program.specs.declared.compilation.Compilation.{Compilation}
 use Rattle.idl_program.specs.idl_loader.declared.status.Status.{Status}
 use Rattle.idl_program.specs.idl_loader.declared.status.Status.TheVariants.{Failed, Faulty, Sound}
 use Rattle.idl_program.specs.declared.request.Options.{Options}
 use Rattle.idl_tool.specs.Json.{trees_of}
-use Rattle.idl_tool.specs.declared.diff.CompiledVersion.{CompiledVersion}
 use Rattle.idl_tool.specs.declared.request.Diff.{Diff}
 
 -- the trees of details
@@ -49,13 +48,9 @@ pub record Version : Type 0 where
   pub inputs : Inputs
   pub roots : List (List ℕ)
 
--- a compiled one, as a version, and that its rows are what compiling it tells
-abbrev pub seen : CompiledVersion → Version
+-- a compiled one, as a version
+abbrev pub seen : Compilation → Version
 seen version = record { inputs = version.sources; roots = version.roots.keys }
-
-abbrev pub IsCompiled : CompiledVersion → Type 0
-IsCompiled version =
-    version.compiled.items ≡ map (compiled_root version.sources) version.roots.keys
 
 -- it is the one that the options ask for, over the files that the loader tells of
 pub record IsVersion (told : List ℕ → Holding) (options : Options) (version : Version)

@@ -1,31 +1,20 @@
 -- What the program tells of a failure.
-use Rattle.std.specs.Prelude.{◌≡◌, ℕ, List, [], ◌++◌, codes}
+use Rattle.std.specs.Prelude.{◌≡◌, ℕ, List, [], ◌++◌, Option, codes}
 use Rattle.std.specs.String.{string_bytes}
 use Rattle.idl_explain.specs.Explained.{headline, topic_of}
 use Rattle.idl_explain.specs.declared.explanation.Explanation.{Explanation}
 use Rattle.idl_explain.specs.declared.explanation.Topic.TheVariants as topic
-use Rattle.idl_program.specs.idl_session.replies.Replies.{whole_line}
+use Rattle.idl_program.specs.Messages.{message_of, name_of, named_line}
+use Rattle.idl_program.specs.declared.failure.ProgramFailure.{ProgramFailure}
+use Rattle.idl_program.specs.declared.failure.ProgramFailure.TheVariants as program
 use Rattle.idl_source.specs.declared.refusal.Refusal.{Refusal}
-use Rattle.idl_program.specs.declared.failure.CompileFault.{CompileFault}
-use Rattle.idl_program.specs.declared.failure.CompileFault.TheVariants as compile
-use Rattle.idl_program.specs.declared.failure.OptionsFault.{OptionsFault}
-use Rattle.idl_program.specs.declared.failure.OptionsFault.TheVariants as options
-use Rattle.idl_program.specs.declared.failure.Subject.{Subject}
-use Rattle.idl_program.specs.declared.failure.Subject.TheVariants.{Word, File}
-use Rattle.idl_tool.specs.declared.failure.Failure.{Failure}
-use Rattle.idl_tool.specs.declared.failure.Failure.TheVariants as failure
-
--- a line of the program
-abbrev pub line_of : List ℕ → List ℕ
-line_of told = codes "idltool: " ++ whole_line told
+use Rattle.idl_source.specs.devices.Device.{append}
+use Rattle.idl_tool.specs.declared.failure.ToolFailure.{ToolFailure}
+use Rattle.idl_tool.specs.declared.failure.ToolFailure.TheVariants as failure
 
 -- a line of the program about a name
-abbrev pub named_line : List ℕ → List ℕ → List ℕ
-named_line name told = codes "idltool: " ++ name ++ codes ": " ++ whole_line told
-
-abbrev pub name_of : Subject → List ℕ
-name_of (Word word) = word.now
-name_of (File name) = name
+abbrev pub line_about : List ℕ → List ℕ → List ℕ
+line_about name told = named_line (codes "idltool") name told
 
 -- the line about a name that is refused, with what explains the refusal
 abbrev pub IsRefusedMessage : List ℕ → Refusal → List ℕ → Type 0
@@ -33,22 +22,29 @@ IsRefusedMessage name refusal text =
     (explanation : Explanation) × (topic_of explanation.told ≡ topic.Refusal refusal)
     × (text ≡ codes "idltool: " ++ name ++ codes ": " ++ headline explanation [])
 
-abbrev pub IsOptionsMessage : OptionsFault → List ℕ → Type 0
-IsOptionsMessage (options.NoLine word) text = text ≡ line_of (codes "bad arguments")
-IsOptionsMessage (options.Refused word refusal) text = IsRefusedMessage word.now refusal text
+-- what each of the programs may tell: of a refusal this one explains it
+abbrev pub IsProgramMessage : ProgramFailure → List ℕ → Type 0
+IsProgramMessage (program.Refused subject refusal) text =
+    IsRefusedMessage (name_of subject) refusal text
+IsProgramMessage other text = text ≡ message_of (codes "idltool") other
 
-abbrev pub IsCompileMessage : CompileFault → List ℕ → Type 0
-IsCompileMessage (compile.Refused name refusal) text = IsRefusedMessage name refusal text
-IsCompileMessage (compile.CannotRead name) text = text ≡ named_line name (codes "cannot read")
-
-abbrev pub IsMessage : Failure → List ℕ → Type 0
+abbrev pub IsMessage : ToolFailure → List ℕ → Type 0
 IsMessage (failure.Words told) text = text ≡ string_bytes told
 IsMessage (failure.NoTopic word) text =
-    text ≡ named_line word.now (codes "no code and no refusal")
+    text ≡ line_about word.now (codes "no code and no refusal")
 IsMessage (failure.NoMakeName subject) text =
-    text ≡ named_line (name_of subject) (codes "no name for make")
-IsMessage (failure.Options fault) text = IsOptionsMessage fault text
-IsMessage (failure.Compile fault) text = IsCompileMessage fault text
-IsMessage failure.NoMemory text = text ≡ line_of (codes "no memory")
-IsMessage failure.ReadFailed text = text ≡ line_of (codes "read failed")
-IsMessage failure.WriteFailed text = text ≡ line_of (codes "write failed")
+    text ≡ line_about (name_of subject) (codes "no name for make")
+IsMessage (failure.Program failure) text = IsProgramMessage failure text
+
+-- it went out
+abbrev pub IsTold : ToolFailure → Option (List ℕ) → Option (List ℕ) → Type 0
+IsTold failure before after =
+    (text : List ℕ) × IsMessage failure text × (after ≡ append before text)
+
+abbrev pub IsProgramTold : ProgramFailure → Option (List ℕ) → Option (List ℕ) → Type 0
+IsProgramTold failure before after =
+    (text : List ℕ) × IsProgramMessage failure text × (after ≡ append before text)
+
+abbrev pub IsRefusalTold : List ℕ → Refusal → Option (List ℕ) → Option (List ℕ) → Type 0
+IsRefusalTold name refusal before after =
+    (text : List ℕ) × IsRefusedMessage name refusal text × (after ≡ append before text)

@@ -12,8 +12,8 @@ use Rattle.idl_tool.specs.Checked.{IsChecked}
 use Rattle.idl_tool.specs.Compared.{IsCompared}
 use Rattle.idl_tool.specs.Deps.{IsServed}
 use Rattle.idl_tool.specs.Json.{IsWritten}
-use Rattle.idl_tool.specs.declared.request.Request.{Request}
-use Rattle.idl_tool.specs.declared.request.Request.TheVariants.{Show, Explain, Deps, Check, Json, Diff, Serve}
+use Rattle.idl_tool.specs.declared.request.ToolRequest.{ToolRequest}
+use Rattle.idl_tool.specs.declared.request.ToolRequest.TheVariants.{Show, Explain, Deps, Check, Json, Diff, Serve}
 
 -- what a word asks for, or nothing else, was explained
 pub record IsToldOf (word : Option (List ℕ)) (before after : Written) (status : Status)
@@ -23,7 +23,7 @@ pub record IsToldOf (word : Option (List ℕ)) (before after : Written) (status 
   pub sound : status ≡ Sound
 
 -- what is asked for was done
-abbrev pub IsDone : (List ℕ → Holding) → Written → Written → Status → Request → Type 0
+abbrev pub IsDone : (List ℕ → Holding) → Written → Written → Status → ToolRequest → Type 0
 IsDone told before after status (Show text) = IsShownText (string_bytes text) before after status
 IsDone told before after status (Explain word) =
     IsToldOf (option_map (λ w. w.now) word) before after status

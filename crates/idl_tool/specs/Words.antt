@@ -2,19 +2,16 @@
 -- is to them by clap's `subcommand_of`, or what is wrong with the words by its `fault_of`.
 use Rattle.std.specs.Prelude.{◌≡◌, ◌≢◌, ◌⊎◌, List, [], ◌∷◌, ◌++◌, Option, Some, true, codes, map}
 use Rattle.std.specs.Option.{option_map, option_to_list}
-use Rattle.clap.specs.Words.{App, IsAmong, Kinds, Row, Rule, Shape, Text, fault_of, first_of, new_app, new_rule, subcommand_of, with_subcommand}
+use Rattle.clap.specs.Words.{App, Kinds, Row, Rule, Shape, Text, fault_of, first_of, new_app, new_rule, subcommand_of, with_subcommand}
 use Rattle.clap.specs.Simple.{new_shape, on_top}
 use Rattle.clap.specs.declared.builder.action.ArgAction.TheVariants.{Append, Set}
-use Rattle.clap.specs.declared.error.kind.ErrorKind.{ErrorKind}
-use Rattle.clap.specs.declared.error.kind.ErrorKind.TheVariants.{DisplayHelp, DisplayVersion, OutOfMemory}
+use Rattle.idl_program.specs.Parsed.{IsDisplay, IsRefusal, Tells}
 use Rattle.idl_program.specs.Words.{AreOptionsOf, file_rule, flag_rule, option_rules, stands, values_of}
 use Rattle.idl_program.specs.declared.request.Options.{Options}
 use Rattle.idl_tool.specs.declared.request.Deps.{Deps}
 use Rattle.idl_tool.specs.declared.request.Diff.{Diff}
-use Rattle.idl_tool.specs.declared.request.Request.{Request}
-use Rattle.idl_tool.specs.declared.request.Request.TheVariants as request
-use Rattle.idl_tool.specs.declared.request.WordsFault.{WordsFault}
-use Rattle.idl_tool.specs.declared.request.WordsFault.TheVariants.{Wrong, NoMemory}
+use Rattle.idl_tool.specs.declared.request.ToolRequest.{ToolRequest}
+use Rattle.idl_tool.specs.declared.request.ToolRequest.TheVariants as request
 
 -- the word of `explain`, once at most
 abbrev pub word_rule : Rule
@@ -124,22 +121,10 @@ pub record AreDiffOf (rows : List Row) (diff : Diff) : Type 0 where
   pub old : AreSideOf (codes "old") (codes "old-directory") rows diff.old
   pub new : AreSideOf (codes "new") (codes "new-directory") rows diff.new
 
--- clap's error shows how the program is used, or its version
-abbrev pub IsDisplay : ErrorKind → Type 0
-IsDisplay kind = (kind ≡ DisplayHelp) ⊎ (kind ≡ DisplayVersion)
-
--- it says that words are wrong
-abbrev pub IsRefusal : ErrorKind → Type 0
-IsRefusal kind = (kind ≢ DisplayHelp) × (kind ≢ DisplayVersion) × (kind ≢ OutOfMemory)
-
--- clap tells of the words an error of this sort
-abbrev pub Tells : (ErrorKind → Type 0) → List Text → Type 0
-Tells sort words = (kind : ErrorKind) × IsAmong kind (faults_in words) × sort kind
-
 -- what words ask for: to show a text, to explain a word or all, to write rules, to check files, to
 -- write JSON, to tell what changes, or to serve an editor
-abbrev pub IsRequestOf : List Text → Request → Type 0
-IsRequestOf words (request.Show text) = Tells IsDisplay words
+abbrev pub IsRequestOf : List Text → ToolRequest → Type 0
+IsRequestOf words (request.Show text) = Tells IsDisplay (faults_in words)
 IsRequestOf words (request.Explain word) =
     (rows : List Row) × Enters (codes "explain") words rows
     × (option_map (λ w. w.now) word ≡ first_of (codes "word") rows)
@@ -153,11 +138,6 @@ IsRequestOf words (request.Diff diff) =
     (rows : List Row) × Enters (codes "diff") words rows × AreDiffOf rows diff
 IsRequestOf words request.Serve = (rows : List Row) × Enters (codes "lsp") words rows
 
--- an error of this kind is such a fault
-abbrev pub IsFaultBy : ErrorKind → WordsFault → Type 0
-IsFaultBy kind (Wrong text) = IsRefusal kind
-IsFaultBy kind NoMemory = Unit {0}
-
 -- clap takes the words, and they name no subcommand
 abbrev pub NamesNone : List Text → Type 0
 NamesNone words = (faults_in words ≡ [])
@@ -168,7 +148,6 @@ NamesNone words = (faults_in words ≡ [])
     × ((rows : List Row) → entered_in words ≢ Some (codes "diff", rows))
     × ((rows : List Row) → entered_in words ≢ Some (codes "lsp", rows))
 
--- words that ask for nothing, if there was memory to read them
-abbrev pub AreWrong : List Text → WordsFault → Type 0
-AreWrong words (Wrong text) = Tells IsRefusal words ⊎ NamesNone words
-AreWrong words NoMemory = Unit {0}
+-- words that ask for nothing
+abbrev pub AreWrong : List Text → Type 0
+AreWrong words = Tells IsRefusal (faults_in words) ⊎ NamesNone words

@@ -4,20 +4,20 @@ ghost use Rattle.std.specs.Prelude.{◌≡◌, ◌<◌, ◌-◌, ◌^◌, [], If
 ghost use Rattle.std.specs.List.{zip};
 ghost use Rattle.std.specs.Option.{option_copied};
 ghost use Rattle.idl_explain.specs.declared.explanation.Explanation.{Explanation};
+ghost use Rattle.idl_program.specs.Compilations.{HasCompiled};
 ghost use Rattle.idl_program.specs.Rows.{are_faulty};
 ghost use Rattle.idl_program.specs.idl_loader.declared.status.Status.TheVariants.{Faulty, Sound};
 ghost use Rattle.idl_related.specs.idl_project.Compile.{compiled_root};
-ghost use Rattle.idl_tool.specs.Checked.{AreReported, AreToldOf, Explains, IsChecked, Told as ToldFinding, all_of, column_of, entry_text, in_order, line_at, report_in, seconds_in};
+ghost use Rattle.idl_tool.specs.Checked.{AreReported, AreToldOf, Explains, IsChecked, IsReportText, IsToldOf, Told, all_of, column_of, entry_text, in_order, line_at, report_in, seconds_in};
 ghost use Rattle.idl_tool.specs.ToldAt.{told_at};
 
-use crate::failure::Failure;
-use crate::program::Devices;
-use crate::report::{Found, push_second};
+use crate::failure::ToolFailure;
+use crate::report::{LocatedFinding, push_second};
 use idl_base::{Bytes, Seq};
 use idl_explain::{Topic, explanation_of};
 use idl_fault::Place;
 use idl_program::idl_session::{Sink, write_all};
-use idl_program::{Loader, Options, Status, compile_all, prepared};
+use idl_program::{Compilation, Devices, Loader, Options, Status, compile_files};
 use idl_related::idl_project::{CompiledRoot, Finding, Sources};
 use idl_related::{Related, follows, related_over};
 use idl_source::Name;
@@ -26,11 +26,11 @@ use std::alloc::{AllocError, Global};
 use std::mem::forget;
 
 /// Writes a report of each finding of these files, and what several of them tell alike once.
-pub fn check<'a, L: Loader, O: Sink, E: Sink, V>(
+pub fn check<'a, L: Loader, S, O: Sink, E: Sink>(
     alloc: Global,
     options: &Options<'a>,
-    devices: &mut Devices<L, O, E, V>,
-) -> Result<Status, Failure<'a>>
+    devices: &mut Devices<L, S, O, E>,
+) -> Result<Status, ToolFailure<'a>>
     requires writes { O.failures devices.old.output < 2 ^ 64 - 1 }
 
     ensures checked { IfOk result (λ status. IsChecked (L.told devices.old.loader) options.now
@@ -40,15 +40,22 @@ pub fn check<'a, L: Loader, O: Sink, E: Sink, V>(
     ensures well { OnOk result (O.failures devices.new.output ≡ O.failures devices.old.output) }
     ensures same { E.failures devices.new.errors ≡ E.failures devices.old.errors }
 {
-    let (sources, roots) = prepared(alloc, options)?;
-    let (sources, compiled) = compile_all(sources, roots.as_slice(), &mut devices.loader)?;
-    let reports = reports_of(&sources, roots.as_slice(), &compiled)?;
-    let text = joined(alloc, &reports)?;
-    let status = status_of(&compiled);
+    let all = compile_files(alloc, options, &mut devices.loader)?;
+    let text = report_text(&all)?;
+    let status = status_of(&all.compiled);
     write_all(&mut devices.output, &text)?;
     // The program ends here, and all memory goes back at once.
-    forget((sources, compiled, reports));
+    forget(all);
     Ok(status)
+}
+
+// The reports of what is found in compiled files, each once.
+fn report_text(all: &Compilation) -> Result<Vec<u8>, AllocError>
+    requires { HasCompiled all.now }
+    ensures { IfOk result (λ text. IsReportText all.now.sources all.now.roots.keys text.items) }
+{
+    let reports = reports_of(&all.sources, all.roots.as_slice(), &all.compiled)?;
+    joined(all.sources.allocator(), &reports)
 }
 
 // The reports of what is found in these roots, each once, with the lines behind it.
@@ -58,24 +65,38 @@ fn reports_of(
     compiled: &[CompiledRoot],
 ) -> Result<IndexMap<Bytes, Bytes>, AllocError>
     requires { compiled.now ≡ map (compiled_root sources.now) roots.now }
-    ensures { IfOk result (λ reports. (told : List (List ToldFinding))
+    ensures { IfOk result (λ reports. (told : List (List Told))
         × AreToldOf sources.now roots.now told
         × AreReported sources.now.files (all_of told) [] reports.entries) }
 {
     let mut reports = IndexMap::new(sources.allocator());
     'roots: for index in 0..roots.len() {
-        let findings = compiled[index].rows.findings.as_slice();
-        let related = related_over(sources, &roots[index], findings)?;
-        let told = told_of(sources.allocator(), findings, related.as_slice())?;
-        let told = in_order(sources.allocator(), &told)?;
-        add_reports(sources, &told, &mut reports)?;
+        add_root(sources, &roots[index], &compiled[index], &mut reports)?;
     }
     Ok(reports)
 }
 
+// Puts in the reports of what is found in this root that aren't there.
+fn add_root(
+    sources: &Sources,
+    root: &Name,
+    compiled: &CompiledRoot,
+    reports: &mut IndexMap<Bytes, Bytes>,
+) -> Result<(), AllocError>
+    requires { compiled.now ≡ compiled_root sources.now root.now }
+    ensures { OnOk result ((told : List Told) × IsToldOf sources.now root.now told
+        × AreReported sources.now.files told reports.old.entries reports.new.entries) }
+{
+    let findings = compiled.rows.findings.as_slice();
+    let related = related_over(sources, root, findings)?;
+    let told = told_of(sources.allocator(), findings, related.as_slice())?;
+    let told = in_order(sources.allocator(), &told)?;
+    add_reports(sources, &told, reports)
+}
+
 // A finding with its second places.
 #[derive(Clone, Copy)]
-struct Told<'a> {
+struct RelatedFinding<'a> {
     finding: &'a Finding,
     related: &'a [Related],
 }
@@ -85,13 +106,13 @@ fn told_of<'f>(
     alloc: Global,
     findings: &'f [Finding],
     related: &'f [Seq<Related>],
-) -> Result<Vec<Told<'f>>, AllocError>
+) -> Result<Vec<RelatedFinding<'f>>, AllocError>
     requires { length related.now ≡ length findings.now }
     ensures { IfOk result (λ told. map told_at told.items ≡ zip findings.now related.now) }
 {
     let mut told = Vec::with_capacity(alloc, findings.len())?;
     'findings: for index in 0..findings.len() {
-        told.push(Told {
+        told.push(RelatedFinding {
             finding: &findings[index],
             related: related[index].as_slice(),
         })?;
@@ -100,7 +121,10 @@ fn told_of<'f>(
 }
 
 // The same, those last that follow from an error elsewhere.
-fn in_order<'f>(alloc: Global, told: &[Told<'f>]) -> Result<Vec<Told<'f>>, AllocError>
+fn in_order<'f>(
+    alloc: Global,
+    told: &[RelatedFinding<'f>],
+) -> Result<Vec<RelatedFinding<'f>>, AllocError>
     ensures { IfOk result (λ ordered. map told_at ordered.items ≡ in_order (map told_at told.now)) }
 {
     let mut ordered = Vec::with_capacity(alloc, told.len())?;
@@ -122,7 +146,7 @@ fn in_order<'f>(alloc: Global, told: &[Told<'f>]) -> Result<Vec<Told<'f>>, Alloc
 // Puts in the reports of these findings that aren't there.
 fn add_reports(
     sources: &Sources,
-    told: &[Told<'_>],
+    told: &[RelatedFinding<'_>],
     reports: &mut IndexMap<Bytes, Bytes>,
 ) -> Result<(), AllocError>
     ensures { OnOk result (AreReported sources.now.files (map told_at told.entry.now)
@@ -140,13 +164,13 @@ fn add_reports(
 }
 
 // The report of a finding.
-fn report_of(sources: &Sources, told: Told<'_>) -> Result<Bytes, AllocError>
+fn report_of(sources: &Sources, told: RelatedFinding<'_>) -> Result<Bytes, AllocError>
     ensures { IfOk result (λ bytes. (explanation : Explanation)
         × Explains (told_at told.entry, explanation)
         × (bytes ≡ report_in sources.now.files (told_at told.entry, explanation))) }
 {
     let finding = told.finding;
-    let found = Found {
+    let found = LocatedFinding {
         finding,
         line: line_at(sources, &finding.place),
         column: column_of(sources, finding),

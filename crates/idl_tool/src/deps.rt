@@ -7,23 +7,22 @@ ghost use Rattle.idl_program.specs.idl_loader.declared.status.Status.TheVariants
 ghost use Rattle.idl_tool.specs.Deps.{IsServed, empty_rule, is_other, need_of, rules_in, stem, target_of};
 ghost use Rattle.idl_tool.specs.make_rules.Make.{IsMakeRule, is_make_name, need_text, rules_text, target_text};
 
-use crate::failure::Failure;
+use crate::failure::ToolFailure;
 use crate::make_rules::{is_make_name, push_need, push_need_if_there, push_target};
-use crate::program::Devices;
 use crate::request::Deps;
 use idl_program::idl_session::{Sink, WriteFailed, write_all, write_lines};
-use idl_program::{Loader, Status, Subject, compile_all, prepared};
+use idl_program::{Devices, FailureSubject, Loader, Status, compile_files};
 use idl_related::idl_project::{CompiledRoot, Sources};
 use idl_source::Name;
 use std::alloc::{AllocError, Global};
 use std::mem::forget;
 
 /// Writes a rule of make for each file, and what is told of the files.
-pub fn write_deps<'a, L: Loader, O: Sink, E: Sink, V>(
+pub fn write_deps<'a, L: Loader, S, O: Sink, E: Sink>(
     alloc: Global,
     deps: &Deps<'a>,
-    devices: &mut Devices<L, O, E, V>,
-) -> Result<Status, Failure<'a>>
+    devices: &mut Devices<L, S, O, E>,
+) -> Result<Status, ToolFailure<'a>>
     requires writes { O.failures devices.old.output < 2 ^ 64 - 1 }
     requires tells { E.failures devices.old.errors < 2 ^ 64 - 2 }
 
@@ -36,18 +35,21 @@ pub fn write_deps<'a, L: Loader, O: Sink, E: Sink, V>(
         × (E.failures devices.new.errors ≡ E.failures devices.old.errors)) }
     ensures most { E.failures devices.new.errors ≤ E.failures devices.old.errors + 1 }
 {
-    let (sources, roots) = prepared(alloc, &deps.options)?;
-    let (sources, compiled) = compile_all(sources, roots.as_slice(), &mut devices.loader)?;
-    let rules = rules_of(&sources, roots.as_slice(), deps)?;
-    let status = tell_errors(&compiled, &mut devices.errors)?;
+    let all = compile_files(alloc, &deps.options, &mut devices.loader)?;
+    let rules = rules_of(&all.sources, all.roots.as_slice(), deps)?;
+    let status = tell_errors(&all.compiled, &mut devices.errors)?;
     write_all(&mut devices.output, &rules)?;
     // The program ends here, and all memory goes back at once.
-    forget((sources, compiled));
+    forget(all);
     Ok(status)
 }
 
 // The rules of these roots.
-fn rules_of<'a>(sources: &Sources, roots: &[Name], deps: &Deps<'a>) -> Result<Vec<u8>, Failure<'a>>
+fn rules_of<'a>(
+    sources: &Sources,
+    roots: &[Name],
+    deps: &Deps<'a>,
+) -> Result<Vec<u8>, ToolFailure<'a>>
     ensures rules { IfOk result (λ text.
         text.items ≡ rules_text (flat_map (rules_in deps.now sources.now) roots.now)) }
     ensures readable { OnOk result
@@ -66,7 +68,7 @@ fn push_rules<'a>(
     root: &Name,
     deps: &Deps<'a>,
     out: &mut Vec<u8>,
-) -> Result<(), Failure<'a>>
+) -> Result<(), ToolFailure<'a>>
     ensures more { OnOk result (out.new.items
         ≡ out.old.items ++ rules_text (rules_in deps.now sources.now root.now)) }
     ensures readable { OnOk result (All IsMakeRule (rules_in deps.now sources.now root.now)) }
@@ -80,19 +82,23 @@ fn push_rules<'a>(
 }
 
 // Refuses names that no rule can have in it.
-fn refuse_names<'a>(names: &[Name]) -> Result<(), Failure<'a>>
+fn refuse_names<'a>(names: &[Name]) -> Result<(), ToolFailure<'a>>
     ensures { OnOk result (All (λ name. IsTrue (is_make_name name)) names.now) }
 {
     'names: for name in names {
         if !is_make_name(name.as_bytes()) {
-            return Err(Failure::NoMakeName(Subject::File(name.copied())));
+            return Err(ToolFailure::NoMakeName(FailureSubject::File(name.copied())));
         }
     }
     Ok(())
 }
 
 // Writes the target of a root's rule: the one that is given, or the root's listing.
-fn push_target_of<'a>(root: &Name, deps: &Deps<'a>, out: &mut Vec<u8>) -> Result<(), Failure<'a>>
+fn push_target_of<'a>(
+    root: &Name,
+    deps: &Deps<'a>,
+    out: &mut Vec<u8>,
+) -> Result<(), ToolFailure<'a>>
     ensures more { OnOk result
         (out.new.items ≡ out.old.items ++ target_text (target_of deps.now root.now)) }
     ensures readable { OnOk result (IsTrue (is_make_name (target_of deps.now root.now))) }
@@ -100,7 +106,7 @@ fn push_target_of<'a>(root: &Name, deps: &Deps<'a>, out: &mut Vec<u8>) -> Result
     match deps.target {
         Some(target) => {
             if !is_make_name(target.as_bytes()) {
-                return Err(Failure::NoMakeName(Subject::Word(target)));
+                return Err(ToolFailure::NoMakeName(FailureSubject::Word(target)));
             }
             push_target(target.as_bytes(), out)?;
             Ok(())
@@ -110,14 +116,14 @@ fn push_target_of<'a>(root: &Name, deps: &Deps<'a>, out: &mut Vec<u8>) -> Result
 }
 
 // Writes the listing of a root as a target.
-fn push_listing<'a>(root: &Name, out: &mut Vec<u8>) -> Result<(), Failure<'a>>
+fn push_listing<'a>(root: &Name, out: &mut Vec<u8>) -> Result<(), ToolFailure<'a>>
     ensures more { OnOk result (out.new.items
         ≡ out.old.items ++ target_text (stem root.now ++ codes ".listing")) }
     ensures readable { OnOk result (IsTrue (is_make_name (stem root.now ++ codes ".listing"))) }
 {
     let listing = listing_of(*out.allocator(), root.as_bytes())?;
     if !is_make_name(&listing) {
-        return Err(Failure::NoMakeName(Subject::File(root.copied())));
+        return Err(ToolFailure::NoMakeName(FailureSubject::File(root.copied())));
     }
     push_target(&listing, out)?;
     Ok(())

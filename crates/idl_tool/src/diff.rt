@@ -5,48 +5,30 @@ ghost use Rattle.idl_source.specs.devices.Device.{append};
 ghost use Rattle.idl_related.specs.idl_project.Bank.{bank_of};
 ghost use Rattle.idl_related.specs.idl_project.Details.{details_over};
 ghost use Rattle.idl_program.specs.idl_loader.declared.status.Status.TheVariants.{Faulty, Sound};
+ghost use Rattle.idl_program.specs.Compilations.{HasCompiled};
 ghost use Rattle.idl_program.specs.Rows.{are_faulty};
-ghost use Rattle.idl_tool.specs.Compared.{IsCompared, IsCompiled, IsVersion, are_breaking, change_lines, changes_between, ending_of, has_error, is_breaking, seen, shown_between, trees_in};
+ghost use Rattle.idl_tool.specs.Compared.{IsCompared, are_breaking, change_lines, changes_between, ending_of, has_error, is_breaking, seen, shown_between, trees_in};
 
 use crate::check::status_of;
 use crate::deps::tell_errors;
-use crate::failure::Failure;
+use crate::failure::ToolFailure;
 use crate::json::trees_of;
-use crate::program::Devices;
 use crate::request::Diff;
 use idl_changes::{Change, Weight, changes};
 use idl_program::idl_session::{Sink, write_all};
-use idl_program::{Loader, Options, Status, compile_all, prepared};
+use idl_program::{Compilation, Devices, Loader, Status, compile_files};
 use idl_related::idl_project::{CompiledRoot, Details, Sources};
 use idl_repo::details::RowTree;
 use idl_source::Name;
-use indexmap::IndexSet;
 use std::alloc::{AllocError, Global};
 use std::mem::forget;
 
-// A version of a file: what it is compiled over, the root that it is, and what that compiles to.
-struct CompiledVersion {
-    sources: Sources,
-    roots: IndexSet<Name>,
-    compiled: Vec<CompiledRoot>,
-}
-
-impl Drop for CompiledVersion {
-    fn drop(self) {
-        let CompiledVersion {
-            sources: _sources,
-            roots: _roots,
-            compiled: _compiled,
-        } = self;
-    }
-}
-
 /// Writes what changes from one version of a file to another, and what is told of the two.
-pub fn write_diff<'a, L: Loader, O: Sink, E: Sink, V>(
+pub fn write_diff<'a, L: Loader, S, O: Sink, E: Sink>(
     alloc: Global,
     diff: &Diff<'a>,
-    devices: &mut Devices<L, O, E, V>,
-) -> Result<Status, Failure<'a>>
+    devices: &mut Devices<L, S, O, E>,
+) -> Result<Status, ToolFailure<'a>>
     requires writes { O.failures devices.old.output < 2 ^ 64 - 1 }
     requires tells { E.failures devices.old.errors < 2 ^ 64 - 2 }
 
@@ -59,8 +41,8 @@ pub fn write_diff<'a, L: Loader, O: Sink, E: Sink, V>(
         × (E.failures devices.new.errors ≡ E.failures devices.old.errors)) }
     ensures most { E.failures devices.new.errors ≤ E.failures devices.old.errors + 1 }
 {
-    let old = version_of(alloc, &diff.old, &mut devices.loader)?;
-    let new = version_of(alloc, &diff.new, &mut devices.loader)?;
+    let old = compile_files(alloc, &diff.old, &mut devices.loader)?;
+    let new = compile_files(alloc, &diff.new, &mut devices.loader)?;
     tell_errors(&old.compiled, &mut devices.errors)?;
     tell_errors(&new.compiled, &mut devices.errors)?;
     let status = write_between(alloc, &old, &new, &mut devices.output)?;
@@ -69,34 +51,15 @@ pub fn write_diff<'a, L: Loader, O: Sink, E: Sink, V>(
     Ok(status)
 }
 
-// The version that options ask for.
-fn version_of<'a, L: Loader>(
-    alloc: Global,
-    options: &Options<'a>,
-    loader: &mut L,
-) -> Result<CompiledVersion, Failure<'a>>
-    ensures version { IfOk result (λ v. IsVersion (L.told loader.old) options.now (seen v)) }
-    ensures compiled { IfOk result IsCompiled }
-    ensures still { OnOk result (L.told loader.new ≡ L.told loader.old) }
-{
-    let (sources, roots) = prepared(alloc, options)?;
-    let (sources, compiled) = compile_all(sources, roots.as_slice(), loader)?;
-    Ok(CompiledVersion {
-        sources,
-        roots,
-        compiled,
-    })
-}
-
 // Writes the changes from one version to another, unless one of them has an error.
 fn write_between<'a, K: Sink>(
     alloc: Global,
-    old: &CompiledVersion,
-    new: &CompiledVersion,
+    old: &Compilation,
+    new: &Compilation,
     output: &mut K,
-) -> Result<Status, Failure<'a>>
-    requires first { IsCompiled old.now }
-    requires second { IsCompiled new.now }
+) -> Result<Status, ToolFailure<'a>>
+    requires first { HasCompiled old.now }
+    requires second { HasCompiled new.now }
     requires counts { K.failures output.old < 2 ^ 64 - 1 }
 
     ensures written { OnOk result (K.written output.new
@@ -111,9 +74,9 @@ fn write_between<'a, K: Sink>(
 }
 
 // Whether one of two versions has an error.
-fn has_error(old: &CompiledVersion, new: &CompiledVersion) -> bool
-    requires first { IsCompiled old.now }
-    requires second { IsCompiled new.now }
+fn has_error(old: &Compilation, new: &Compilation) -> bool
+    requires first { HasCompiled old.now }
+    requires second { HasCompiled new.now }
     ensures { result ≡ has_error (seen old.now) (seen new.now) }
 {
     let is_old_faulty = are_faulty(&old.compiled);
@@ -134,10 +97,10 @@ fn are_faulty(compiled: &[CompiledRoot]) -> bool
 // Writes the changes from one version to another.
 fn write_changes<'a, K: Sink>(
     alloc: Global,
-    old: &CompiledVersion,
-    new: &CompiledVersion,
+    old: &Compilation,
+    new: &Compilation,
     output: &mut K,
-) -> Result<Status, Failure<'a>>
+) -> Result<Status, ToolFailure<'a>>
     requires counts { K.failures output.old < 2 ^ 64 - 1 }
 
     ensures written { let told = changes_between (seen old.now) (seen new.now) in
@@ -159,8 +122,8 @@ fn write_changes<'a, K: Sink>(
 // The changes from one version to another.
 fn changes_between(
     alloc: Global,
-    old: &CompiledVersion,
-    new: &CompiledVersion,
+    old: &Compilation,
+    new: &Compilation,
 ) -> Result<Vec<Change>, AllocError>
     ensures { IfOk result (λ told.
         told.items ≡ changes_between (seen old.now) (seen new.now)) }

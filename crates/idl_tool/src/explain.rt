@@ -4,7 +4,7 @@ ghost use Rattle.std.specs.Prelude.{◌≡◌, ◌≤◌, ◌<◌, ◌+◌, ◌-
 ghost use Rattle.std.specs.Option.{option_map};
 ghost use Rattle.idl_tool.specs.Answered.{AreAllListed, AreListed, IsExplained, IsShown};
 
-use crate::failure::Failure;
+use crate::failure::ToolFailure;
 use idl_explain::{Topic, all_codes, all_refusals, explanation_of, topic_named};
 use idl_program::idl_session::{Sink, write_all};
 use std::alloc::{AllocError, Global};
@@ -14,7 +14,7 @@ pub fn explain<'a, K: Sink>(
     alloc: Global,
     word: Option<&'a str>,
     output: &mut K,
-) -> Result<(), Failure<'a>>
+) -> Result<(), ToolFailure<'a>>
     requires counts { K.failures output.old < 2 ^ 64 - 1 }
 
     ensures explained { OnOk result (IsExplained (option_map (λ w. w.now) word.entry)
@@ -32,7 +32,7 @@ pub fn explain<'a, K: Sink>(
 }
 
 // Writes what explains the code or the refusal that a word names.
-fn push_named<'a>(word: &'a str, out: &mut Vec<u8>) -> Result<(), Failure<'a>>
+fn push_named<'a>(word: &'a str, out: &mut Vec<u8>) -> Result<(), ToolFailure<'a>>
     ensures { OnOk result (IsShown word.now out.old.items out.new.items) }
 {
     match topic_named(word.as_bytes()) {
@@ -40,7 +40,7 @@ fn push_named<'a>(word: &'a str, out: &mut Vec<u8>) -> Result<(), Failure<'a>>
             explanation_of(topic).push(out)?;
             Ok(())
         }
-        None => Err(Failure::NoTopic(word)),
+        None => Err(ToolFailure::NoTopic(word)),
     }
 }
 

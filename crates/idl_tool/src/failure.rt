@@ -1,153 +1,130 @@
 //! How the program fails, and what it tells of that.
 
-ghost use Rattle.std.specs.Prelude.{◌≡◌, IfOk};
-ghost use Rattle.idl_tool.specs.Messages.{IsCompileMessage, IsMessage, IsOptionsMessage, IsRefusedMessage, line_of, name_of, named_line};
+ghost use Rattle.std.specs.Prelude.{◌≡◌, ◌<◌, ◌-◌, ◌^◌, [], OnOk};
+ghost use Rattle.idl_source.specs.devices.Device.{append};
+ghost use Rattle.idl_explain.specs.Explained.{said};
+ghost use Rattle.idl_tool.specs.Messages.{IsProgramTold, IsRefusalTold, IsTold};
 
-use crate::request::WordsFault;
-use idl_explain::{Topic, explanation_of};
-use idl_program::idl_session::WriteFailed;
-use idl_program::{CompileFault, OptionsFault, ServiceFault, Subject};
+use idl_explain::{Topic, Words, explanation_of};
+use idl_program::idl_session::{Sink, WriteFailed, write_all};
+use idl_program::{FailureSubject, ProgramFailure, ServiceFault, WordsFault, tell_of};
 use idl_source::Refusal;
-use std::alloc::{AllocError, Global};
+use itoa::Buffer;
+use std::alloc::AllocError;
 
 /// Why the program ends with status 2.
 #[derive(Drop)]
-pub enum Failure<'a> {
+pub enum ToolFailure<'a> {
     /// The words are none that the program takes: what is told of them.
     Words(String),
     /// A word names no code and no refusal.
     NoTopic(&'a str),
     /// No rule of make can have this name in it.
-    NoMakeName(Subject<'a>),
-    Options(OptionsFault<'a>),
-    Compile(CompileFault),
-    NoMemory,
-    ReadFailed,
-    WriteFailed,
+    NoMakeName(FailureSubject<'a>),
+    /// As each of the programs may.
+    Program(ProgramFailure<'a>),
 }
 
-impl<'a> Failure<'a> {
-    /// What standard error is told of it.
-    pub fn message(&self, alloc: Global) -> Result<Vec<u8>, AllocError>
-        ensures { IfOk result (λ text. IsMessage self.now text.items) }
+impl<'a> ToolFailure<'a> {
+    /// Writes what standard error is told of it. It takes no memory.
+    #[inline(never)]
+    pub fn tell<K: Sink>(&self, errors: &mut K) -> Result<(), WriteFailed>
+        requires counts { K.failures errors.old < 2 ^ 64 - 1 }
+        ensures { OnOk result (IsTold self.now (K.written errors.old) (K.written errors.new)) }
     {
         match self {
-            Failure::Words(text) => Vec::from_slice(alloc, text.as_bytes()),
-            Failure::NoTopic(word) => {
-                named_line(alloc, word.as_bytes(), b"no code and no refusal")
+            ToolFailure::Words(text) => write_all(errors, text.as_bytes()),
+            ToolFailure::NoTopic(word) => {
+                tell_of(
+                    b"idltool",
+                    word.as_bytes(),
+                    b"no code and no refusal",
+                    errors,
+                )
             }
-            Failure::NoMakeName(subject) => {
-                named_line(alloc, name_of(subject), b"no name for make")
+            ToolFailure::NoMakeName(subject) => {
+                tell_of(b"idltool", subject.as_bytes(), b"no name for make", errors)
             }
-            Failure::Options(fault) => options_message(alloc, fault),
-            Failure::Compile(fault) => compile_message(alloc, fault),
-            Failure::NoMemory => line_of(alloc, b"no memory"),
-            Failure::ReadFailed => line_of(alloc, b"read failed"),
-            Failure::WriteFailed => line_of(alloc, b"write failed"),
+            ToolFailure::Program(failure) => tell_program(failure, errors),
         }
     }
 }
 
-// As `idlc` tells it: a word with a newline in it would take two lines.
-fn options_message(alloc: Global, fault: &OptionsFault<'_>) -> Result<Vec<u8>, AllocError>
-    ensures { IfOk result (λ text. IsOptionsMessage fault.now text.items) }
+// Writes what either program may tell: of a refusal with what it says.
+fn tell_program<K: Sink>(failure: &ProgramFailure<'_>, errors: &mut K) -> Result<(), WriteFailed>
+    requires counts { K.failures errors.old < 2 ^ 64 - 1 }
+    ensures { OnOk result
+        (IsProgramTold failure.now (K.written errors.old) (K.written errors.new)) }
 {
-    match fault {
-        OptionsFault::NoLine(_word) => line_of(alloc, b"bad arguments"),
-        OptionsFault::Refused(word, refusal) => refused_message(alloc, word.as_bytes(), *refusal),
+    match failure {
+        ProgramFailure::Refused(subject, refusal) => {
+            tell_refusal(subject.as_bytes(), *refusal, errors)
+        }
+        _ => failure.tell(b"idltool", errors),
     }
 }
 
-fn compile_message(alloc: Global, fault: &CompileFault) -> Result<Vec<u8>, AllocError>
-    ensures { IfOk result (λ text. IsCompileMessage fault.now text.items) }
+// Writes the line about a word or a file that is refused, with what the refusal says.
+fn tell_refusal<K: Sink>(name: &[u8], refusal: Refusal, errors: &mut K) -> Result<(), WriteFailed>
+    requires counts { K.failures errors.old < 2 ^ 64 - 1 }
+    ensures { OnOk result
+        (IsRefusalTold name.now refusal (K.written errors.old) (K.written errors.new)) }
 {
-    match fault {
-        CompileFault::Refused(name, refusal) => refused_message(alloc, name.as_bytes(), *refusal),
-        CompileFault::CannotRead(name) => named_line(alloc, name.as_bytes(), b"cannot read"),
+    let mut number = Buffer::new();
+    write_all(errors, b"idltool: ")?;
+    write_all(errors, name)?;
+    write_all(errors, b": refused ")?;
+    write_all(errors, number.format(refusal.number()).as_bytes())?;
+    write_all(errors, b": ")?;
+    tell_words(explanation_of(Topic::Refusal(refusal)).words, errors)?;
+    write_all(errors, b"\n")
+}
+
+// Writes words that stand around no token.
+fn tell_words<K: Sink>(words: Words, errors: &mut K) -> Result<(), WriteFailed>
+    requires counts { K.failures errors.old < 2 ^ 64 - 1 }
+    ensures told { OnOk result
+        (K.written errors.new ≡ append (K.written errors.old) (said words [])) }
+    ensures ok { OnOk result (K.failures errors.new ≡ K.failures errors.old) }
+{
+    match words {
+        Words::Whole(words) => write_all(errors, words.as_bytes()),
+        Words::Around(before, behind) => {
+            write_all(errors, before.as_bytes())?;
+            write_all(errors, behind.as_bytes())
+        }
     }
 }
 
-// The line about a word or a file that is refused, with what the refusal says.
-fn refused_message(alloc: Global, name: &[u8], refusal: Refusal) -> Result<Vec<u8>, AllocError>
-    ensures { IfOk result (λ text. IsRefusedMessage name.now refusal text.items) }
-{
-    let mut text = Vec::from_slice(alloc, b"idltool: ")?;
-    text.extend_from_slice(name)?;
-    text.extend_from_slice(b": ")?;
-    explanation_of(Topic::Refusal(refusal)).push_headline(b"", &mut text)?;
-    Ok(text)
-}
-
-// A line of the program.
-fn line_of(alloc: Global, told: &[u8]) -> Result<Vec<u8>, AllocError>
-    ensures { IfOk result (λ text. text.items ≡ line_of told.now) }
-{
-    let mut text = Vec::from_slice(alloc, b"idltool: ")?;
-    text.extend_from_slice(told)?;
-    text.extend_from_slice(b"\n")?;
-    Ok(text)
-}
-
-// A line of the program about a name.
-fn named_line(alloc: Global, name: &[u8], told: &[u8]) -> Result<Vec<u8>, AllocError>
-    ensures { IfOk result (λ text. text.items ≡ named_line name.now told.now) }
-{
-    let mut text = Vec::from_slice(alloc, b"idltool: ")?;
-    text.extend_from_slice(name)?;
-    text.extend_from_slice(b": ")?;
-    text.extend_from_slice(told)?;
-    text.extend_from_slice(b"\n")?;
-    Ok(text)
-}
-
-fn name_of<'s>(subject: &'s Subject<'_>) -> &'s [u8]
-    ensures { result.now ≡ name_of subject.entry.now }
-{
-    match subject {
-        Subject::Word(word) => word.as_bytes(),
-        Subject::File(name) => name.as_bytes(),
-    }
-}
-
-impl<'a> From<WordsFault> for Failure<'a> {
-    fn from(fault: WordsFault) -> Failure<'a> {
+impl<'a> From<WordsFault> for ToolFailure<'a> {
+    fn from(fault: WordsFault) -> ToolFailure<'a> {
         match fault {
-            WordsFault::Wrong(text) => Failure::Words(text),
-            WordsFault::NoMemory => Failure::NoMemory,
+            WordsFault::Wrong(text) => ToolFailure::Words(text),
+            WordsFault::NoMemory => ToolFailure::Program(ProgramFailure::NoMemory),
         }
     }
 }
 
-impl<'a> From<OptionsFault<'a>> for Failure<'a> {
-    fn from(fault: OptionsFault<'a>) -> Failure<'a> {
-        Failure::Options(fault)
+impl<'a> From<ProgramFailure<'a>> for ToolFailure<'a> {
+    fn from(failure: ProgramFailure<'a>) -> ToolFailure<'a> {
+        ToolFailure::Program(failure)
     }
 }
 
-impl<'a> From<CompileFault> for Failure<'a> {
-    fn from(fault: CompileFault) -> Failure<'a> {
-        Failure::Compile(fault)
+impl<'a> From<ServiceFault> for ToolFailure<'a> {
+    fn from(fault: ServiceFault) -> ToolFailure<'a> {
+        ToolFailure::Program(ProgramFailure::from(fault))
     }
 }
 
-impl<'a> From<ServiceFault> for Failure<'a> {
-    fn from(fault: ServiceFault) -> Failure<'a> {
-        match fault {
-            ServiceFault::NoMemory => Failure::NoMemory,
-            ServiceFault::ReadFailed => Failure::ReadFailed,
-            ServiceFault::WriteFailed => Failure::WriteFailed,
-        }
+impl<'a> From<AllocError> for ToolFailure<'a> {
+    fn from(_refused: AllocError) -> ToolFailure<'a> {
+        ToolFailure::Program(ProgramFailure::NoMemory)
     }
 }
 
-impl<'a> From<AllocError> for Failure<'a> {
-    fn from(_error: AllocError) -> Failure<'a> {
-        Failure::NoMemory
-    }
-}
-
-impl<'a> From<WriteFailed> for Failure<'a> {
-    fn from(_failed: WriteFailed) -> Failure<'a> {
-        Failure::WriteFailed
+impl<'a> From<WriteFailed> for ToolFailure<'a> {
+    fn from(_failed: WriteFailed) -> ToolFailure<'a> {
+        ToolFailure::Program(ProgramFailure::WriteFailed)
     }
 }

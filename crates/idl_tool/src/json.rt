@@ -9,12 +9,11 @@ ghost use Rattle.idl_related.specs.idl_project.Compile.{compiled_root};
 ghost use Rattle.idl_tool.specs.Json.{IsLineOf, IsLineWith, IsWritten, declared_in, listing_of, located_in, row_in, second_at, told_of};
 
 use crate::check::{column_of, status_of};
-use crate::failure::Failure;
-use crate::program::Devices;
+use crate::failure::ToolFailure;
 use idl_base::Seq;
 use idl_json::{Diagnostic, ListedRow, NamePlace, RootTold, SecondPlace, root_line};
 use idl_program::idl_session::{Sink, write_all};
-use idl_program::{Loader, Options, Status, compile_all, prepared};
+use idl_program::{Devices, Loader, Options, Status, compile_files};
 use idl_related::idl_project::{
     CompiledRoot, DeclaredPlace, DetailedEntry, Details, Finding, SitedToken, Sources,
 };
@@ -25,11 +24,11 @@ use std::alloc::{AllocError, Global};
 use std::mem::forget;
 
 /// Writes an object for each of these files, on a line.
-pub fn write_json<'a, L: Loader, O: Sink, E: Sink, V>(
+pub fn write_json<'a, L: Loader, S, O: Sink, E: Sink>(
     alloc: Global,
     options: &Options<'a>,
-    devices: &mut Devices<L, O, E, V>,
-) -> Result<Status, Failure<'a>>
+    devices: &mut Devices<L, S, O, E>,
+) -> Result<Status, ToolFailure<'a>>
     requires writes { O.failures devices.old.output < 2 ^ 64 - 1 }
 
     ensures written { IfOk result (λ status. IsWritten (L.told devices.old.loader) options.now
@@ -39,13 +38,12 @@ pub fn write_json<'a, L: Loader, O: Sink, E: Sink, V>(
     ensures well { OnOk result (O.failures devices.new.output ≡ O.failures devices.old.output) }
     ensures same { E.failures devices.new.errors ≡ E.failures devices.old.errors }
 {
-    let (sources, roots) = prepared(alloc, options)?;
-    let (sources, compiled) = compile_all(sources, roots.as_slice(), &mut devices.loader)?;
-    let text = lines_of(&sources, roots.as_slice(), &compiled)?;
-    let status = status_of(&compiled);
+    let all = compile_files(alloc, options, &mut devices.loader)?;
+    let text = lines_of(&all.sources, all.roots.as_slice(), &all.compiled)?;
+    let status = status_of(&all.compiled);
     write_all(&mut devices.output, &text)?;
     // The program ends here, and all memory goes back at once.
-    forget((sources, compiled));
+    forget(all);
     Ok(status)
 }
 

@@ -17,4 +17,4 @@ mod report;
 mod request;
 
 pub use laws::{findings_are_told_once, rules_tell_what_is_asked, sound_changes_break_nothing};
-pub use program::{Devices, run_tool};
+pub use program::run_tool;

@@ -4,45 +4,33 @@ ghost use Rattle.std.specs.Prelude.{◌≡◌, ◌≢◌, ◌≤◌, ◌<◌, �
 ghost use Rattle.idl_program.specs.idl_loader.declared.status.Status.TheVariants as status;
 ghost use Rattle.idl_tool.specs.Served.{IsDone};
 ghost use Rattle.idl_tool.specs.Words.{IsRequestOf};
-ghost use Rattle.idl_tool.specs.declared.request.Request.{Request};
+ghost use Rattle.idl_tool.specs.declared.request.ToolRequest.{ToolRequest};
 
 use crate::check::check;
 use crate::deps::write_deps;
 use crate::diff::write_diff;
 use crate::explain::explain;
-use crate::failure::Failure;
+use crate::failure::ToolFailure;
 use crate::json::write_json;
-use crate::request::{Request, request_of};
+use crate::request::{ToolRequest, request_of};
 use idl_program::idl_session::{Sink, Source, write_all};
-use idl_program::{Loader, PathLoader, Service, Status};
+use idl_program::{Devices, Loader, PathLoader, Service, Status};
 use std::alloc::Global;
 
-/// What the program reads and writes, and what serves an editor over it.
-#[derive(Drop)]
-pub struct Devices<L, O, E, V> {
-    /// Where files come from.
-    pub loader: L,
-    /// Where answers go.
-    pub output: O,
-    /// Where errors go, and why the program fails.
-    pub errors: E,
-    /// What serves an editor: the program stands on none.
-    pub service: V,
-}
-
-/// Does what the words behind the program's name ask for, and answers how the program ends.
+/// Does what the words behind the program's name ask for, and answers how the program ends. An editor is served by the service: the program
+/// stands on none.
 pub fn run_tool<L: Loader + PathLoader, S: Source, O: Sink, E: Sink, V: Service>(
     alloc: Global,
     words: &[&str],
-    source: &mut S,
-    devices: &mut Devices<L, O, E, V>,
+    service: &V,
+    devices: &mut Devices<L, S, O, E>,
 ) -> Status
-    requires reads { S.failures source.old < 2 ^ 64 - 1 }
+    requires reads { S.failures devices.old.source < 2 ^ 64 - 1 }
     // A device that counts its failures from 0 can't come near.
     requires writes { O.failures devices.old.output < 2 ^ 64 - 1 }
     requires tells { E.failures devices.old.errors < 2 ^ 64 - 2 }
 
-    ensures done { result ≢ status.Failed → (request : Request)
+    ensures done { result ≢ status.Failed → (request : ToolRequest)
         × IsRequestOf (map (λ w. w.now) words.now) request
         × IsDone (L.told devices.old.loader)
         (record { errors = E.written devices.old.errors; output = O.written devices.old.output })
@@ -53,10 +41,11 @@ pub fn run_tool<L: Loader + PathLoader, S: Source, O: Sink, E: Sink, V: Service>
         ((O.failures devices.new.output ≡ O.failures devices.old.output)
         × (E.failures devices.new.errors ≡ E.failures devices.old.errors)) }
 {
-    match perform(alloc, words, source, devices) {
+    match perform(alloc, words, service, devices) {
         Ok(status) => status,
         Err(failure) => {
-            tell(alloc, &failure, &mut devices.errors);
+            // Where this can't be written either, the status tells.
+            let _ = failure.tell(&mut devices.errors);
             Status::Failed
         }
     }
@@ -65,14 +54,14 @@ pub fn run_tool<L: Loader + PathLoader, S: Source, O: Sink, E: Sink, V: Service>
 fn perform<'a, L: Loader + PathLoader, S: Source, O: Sink, E: Sink, V: Service>(
     alloc: Global,
     words: &'a [&'a str],
-    source: &mut S,
-    devices: &mut Devices<L, O, E, V>,
-) -> Result<Status, Failure<'a>>
-    requires reads { S.failures source.old < 2 ^ 64 - 1 }
+    service: &V,
+    devices: &mut Devices<L, S, O, E>,
+) -> Result<Status, ToolFailure<'a>>
+    requires reads { S.failures devices.old.source < 2 ^ 64 - 1 }
     requires writes { O.failures devices.old.output < 2 ^ 64 - 1 }
     requires tells { E.failures devices.old.errors < 2 ^ 64 - 2 }
 
-    ensures done { IfOk result (λ status. (request : Request)
+    ensures done { IfOk result (λ status. (request : ToolRequest)
         × IsRequestOf (map (λ w. w.now) words.entry.now) request
         × IsDone (L.told devices.old.loader)
         (record { errors = E.written devices.old.errors; output = O.written devices.old.output })
@@ -84,17 +73,17 @@ fn perform<'a, L: Loader + PathLoader, S: Source, O: Sink, E: Sink, V: Service>(
     ensures most { E.failures devices.new.errors ≤ E.failures devices.old.errors + 1 }
 {
     let request = request_of(alloc, words)?;
-    fulfil(alloc, &request, source, devices)
+    fulfil(alloc, &request, service, devices)
 }
 
 // Does what is asked for.
 fn fulfil<'a, L: Loader + PathLoader, S: Source, O: Sink, E: Sink, V: Service>(
     alloc: Global,
-    request: &Request<'a>,
-    source: &mut S,
-    devices: &mut Devices<L, O, E, V>,
-) -> Result<Status, Failure<'a>>
-    requires reads { S.failures source.old < 2 ^ 64 - 1 }
+    request: &ToolRequest<'a>,
+    service: &V,
+    devices: &mut Devices<L, S, O, E>,
+) -> Result<Status, ToolFailure<'a>>
+    requires reads { S.failures devices.old.source < 2 ^ 64 - 1 }
     requires writes { O.failures devices.old.output < 2 ^ 64 - 1 }
     requires tells { E.failures devices.old.errors < 2 ^ 64 - 2 }
 
@@ -108,31 +97,25 @@ fn fulfil<'a, L: Loader + PathLoader, S: Source, O: Sink, E: Sink, V: Service>(
     ensures most { E.failures devices.new.errors ≤ E.failures devices.old.errors + 1 }
 {
     match request {
-        Request::Show(text) => {
+        ToolRequest::Show(text) => {
             write_all(&mut devices.output, text.as_bytes())?;
             Ok(Status::Sound)
         }
-        Request::Explain(word) => {
+        ToolRequest::Explain(word) => {
             explain(alloc, *word, &mut devices.output)?;
             Ok(Status::Sound)
         }
-        Request::Deps(deps) => write_deps(alloc, deps, devices),
-        Request::Check(options) => check(alloc, options, devices),
-        Request::Json(options) => write_json(alloc, options, devices),
-        Request::Diff(diff) => write_diff(alloc, diff, devices),
-        Request::Serve => {
-            let service = &devices.service;
-            Ok(service.serve(&mut devices.loader, source, &mut devices.output)?)
+        ToolRequest::Deps(deps) => write_deps(alloc, deps, devices),
+        ToolRequest::Check(options) => check(alloc, options, devices),
+        ToolRequest::Json(options) => write_json(alloc, options, devices),
+        ToolRequest::Diff(diff) => write_diff(alloc, diff, devices),
+        ToolRequest::Serve => {
+            let status = service.serve(
+                &mut devices.loader,
+                &mut devices.source,
+                &mut devices.output,
+            )?;
+            Ok(status)
         }
     }
-}
-
-// Tells of a failure, if that can be written; where it can't, the status tells.
-fn tell<K: Sink>(alloc: Global, failure: &Failure<'_>, errors: &mut K)
-    requires counts { K.failures errors.old < 2 ^ 64 - 1 }
-{
-    let _ = match failure.message(alloc) {
-        Ok(text) => write_all(errors, &text),
-        Err(_) => write_all(errors, b"idltool: no memory\n"),
-    };
 }

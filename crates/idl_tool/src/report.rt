@@ -13,7 +13,7 @@ use std::alloc::{AllocError, Global};
 
 /// A finding, with what a report shows beside it.
 #[derive(Clone, Copy)]
-pub struct Found<'a> {
+pub struct LocatedFinding<'a> {
     pub finding: &'a Finding,
     /// The line of its place, if there is one.
     pub line: Option<&'a [u8]>,
@@ -21,7 +21,7 @@ pub struct Found<'a> {
     pub column: Option<usize>,
 }
 
-impl<'a> Found<'a> {
+impl<'a> LocatedFinding<'a> {
     /// Writes the report, with these words on the token.
     pub fn push(self, words: Words, out: &mut Vec<u8>) -> Result<(), AllocError>
         ensures { OnOk result (out.new.items ≡ out.old.items ++ report

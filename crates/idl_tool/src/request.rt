@@ -2,14 +2,16 @@
 
 ghost use Rattle.std.specs.Prelude.{◌≡◌, IfErr, IfOk, [], codes, false, map, true};
 ghost use Rattle.std.specs.Option.{option_to_list};
-ghost use Rattle.clap.specs.Words.{FailsBy, app_of, first_of, found_of, kind_of, rows_of, rule_of, shape_of, subcommand_rows_of};
+ghost use Rattle.clap.specs.Words.{app_of, first_of, found_of, rows_of, rule_of, shape_of, subcommand_rows_of};
 ghost use Rattle.clap.specs.declared.builder.command.Command.TheViews.{out-Command as fields_of};
+ghost use Rattle.idl_program.specs.Parsed.{SaysWrong};
 ghost use Rattle.idl_program.specs.Words.{file_rule};
-ghost use Rattle.idl_tool.specs.Words.{AreDepsOf, AreWrong, IsDisplay, IsFaultBy, AreDiffOf, AreSideOf, IsRequestOf, bare, check_shape, deps_shape, diff_shape, lsp_shape, entered_in, explain_shape, faults_in, generated_rule, idltool, json_shape, side_rule, target_rule, version_rule, word_rule};
+ghost use Rattle.idl_tool.specs.Words.{AreDepsOf, AreWrong, AreDiffOf, AreSideOf, IsRequestOf, bare, check_shape, deps_shape, diff_shape, lsp_shape, entered_in, explain_shape, faults_in, generated_rule, idltool, json_shape, side_rule, target_rule, version_rule, word_rule};
 
-use clap::error::ErrorKind;
-use clap::{Arg, ArgAction, ArgMatches, Command, Error};
-use idl_program::{Options, options_of, values_of, with_options};
+use clap::{Arg, ArgAction, ArgMatches, Command};
+use idl_program::{
+    Options, ParsedWords, WordsFault, options_of, parse_words, values_of, with_options,
+};
 use std::alloc::{AllocError, Global};
 
 /// Whose rules of make are to be written, and how.
@@ -34,7 +36,7 @@ pub struct Diff<'a> {
 
 /// What the words ask for.
 #[derive(Drop)]
-pub enum Request<'a> {
+pub enum ToolRequest<'a> {
     /// To show a text, which tells how the program is used or its version.
     Show(String),
     /// To explain the code or the refusal that a word names, or all without one.
@@ -51,36 +53,15 @@ pub enum Request<'a> {
     Serve,
 }
 
-/// Why words make no request.
-#[derive(Drop)]
-pub enum WordsFault {
-    /// They are none that the program takes: what is told of them.
-    Wrong(String),
-    /// There was no memory to read them.
-    NoMemory,
-}
-
-impl From<AllocError> for WordsFault {
-    ghost use Rattle.idl_tool.specs.declared.request.WordsFault.{WordsFault};
-
-    ghost from_gives = { λ _ fault. fault ≡ WordsFault.NoMemory };
-
-    fn from(_error: AllocError) -> WordsFault {
-        WordsFault::NoMemory
-    }
-}
-
 /// Reads the words behind the program's name.
-pub fn request_of<'a>(alloc: Global, words: &'a [&'a str]) -> Result<Request<'a>, WordsFault>
+pub fn request_of<'a>(alloc: Global, words: &'a [&'a str]) -> Result<ToolRequest<'a>, WordsFault>
     ensures asked { IfOk result (IsRequestOf (map (λ w. w.now) words.entry.now)) }
-    ensures wrong { IfErr result (AreWrong (map (λ w. w.now) words.entry.now)) }
+    ensures wrong { IfErr result (SaysWrong (AreWrong (map (λ w. w.now) words.entry.now))) }
 {
-    match matches_of(alloc, words) {
-        Ok(matches) => chosen(alloc, words, &matches),
-        Err(error) => match text_of(alloc, &error) {
-            Ok(text) => Ok(Request::Show(text)),
-            Err(fault) => Err(fault),
-        },
+    match parse_words(alloc, command(alloc)?, words) {
+        Ok(ParsedWords::Taken(matches)) => chosen(alloc, words, &matches),
+        Ok(ParsedWords::Text(text)) => Ok(ToolRequest::Show(text)),
+        Err(fault) => Err(fault),
     }
 }
 
@@ -89,54 +70,33 @@ fn chosen<'a>(
     alloc: Global,
     words: &'a [&'a str],
     matches: &ArgMatches<'a>,
-) -> Result<Request<'a>, WordsFault>
+) -> Result<ToolRequest<'a>, WordsFault>
     requires taken { faults_in (map (λ w. w.now) words.now) ≡ [] }
     requires entered { subcommand_rows_of matches.now ≡ entered_in (map (λ w. w.now) words.now) }
 
     ensures asked { IfOk result (IsRequestOf (map (λ w. w.now) words.entry.now)) }
-    ensures wrong { IfErr result (AreWrong (map (λ w. w.now) words.entry.now)) }
+    ensures wrong { IfErr result (SaysWrong (AreWrong (map (λ w. w.now) words.entry.now))) }
 {
     if let Some(explain) = matches.subcommand_matches("explain") {
-        return Ok(Request::Explain(explain.get_str("word")));
+        return Ok(ToolRequest::Explain(explain.get_str("word")));
     }
     if let Some(deps) = matches.subcommand_matches("deps") {
-        return Ok(Request::Deps(deps_of(alloc, deps)?));
+        return Ok(ToolRequest::Deps(deps_of(alloc, deps)?));
     }
     if let Some(check) = matches.subcommand_matches("check") {
-        return Ok(Request::Check(options_of(alloc, check)?));
+        return Ok(ToolRequest::Check(options_of(alloc, check)?));
     }
     if let Some(json) = matches.subcommand_matches("json") {
-        return Ok(Request::Json(options_of(alloc, json)?));
+        return Ok(ToolRequest::Json(options_of(alloc, json)?));
     }
     if let Some(_lsp) = matches.subcommand_matches("lsp") {
-        return Ok(Request::Serve);
+        return Ok(ToolRequest::Serve);
     }
     match matches.subcommand_matches("diff") {
-        Some(diff) => Ok(Request::Diff(diff_of(alloc, diff)?)),
+        Some(diff) => Ok(ToolRequest::Diff(diff_of(alloc, diff)?)),
         // One of the six is wanted.
         None => Err(WordsFault::Wrong(String::new(alloc))),
     }
-}
-
-// How the program is used, or its version, where that is why there are no matches; or what is wrong.
-fn text_of(alloc: Global, error: &Error) -> Result<String, WordsFault>
-    ensures text { IfOk result (λ _. IsDisplay (kind_of error.now)) }
-    ensures wrong { IfErr result (IsFaultBy (kind_of error.now)) }
-{
-    let text = format!(in alloc; "{error}")?;
-    match error.kind() {
-        ErrorKind::DisplayHelp | ErrorKind::DisplayVersion => Ok(text),
-        ErrorKind::OutOfMemory => Err(WordsFault::NoMemory),
-        _ => Err(WordsFault::Wrong(text)),
-    }
-}
-
-fn matches_of<'a>(alloc: Global, words: &'a [&'a str]) -> Result<ArgMatches<'a>, Error>
-    ensures entered { IfOk result (λ m.
-        subcommand_rows_of m ≡ entered_in (map (λ w. w.now) words.entry.now)) }
-    ensures kinds { FailsBy (faults_in (map (λ w. w.now) words.entry.now)) result }
-{
-    command(alloc)?.try_get_matches_from(words)
 }
 
 fn command<'a>(alloc: Global) -> Result<Command<'a>, AllocError>

@@ -4,9 +4,9 @@
 #![tactic(auto)]
 
 use idl_disk::{Disk, StandardInput, StandardOutput, texts, words};
-use idl_program::Status;
+use idl_program::{Devices, Status};
 use idl_server::LanguageServer;
-use idl_tool::{Devices, run_tool};
+use idl_tool::run_tool;
 use std::process::ExitCode;
 
 fn main(rt: HostRuntime) -> ExitCode {
@@ -27,10 +27,10 @@ fn run(rt: &HostRuntime, words: &[String]) -> Status {
     };
     let mut devices = Devices {
         loader: Disk::new(rt),
+        source: StandardInput::new(rt.reader()),
         output: StandardOutput::new(std::io::writer(rt)),
         errors: StandardOutput::new(rt.stderr()),
-        service: LanguageServer::new(rt.alloc()),
     };
-    let mut source = StandardInput::new(rt.reader());
-    run_tool(rt.alloc(), &texts, &mut source, &mut devices)
+    let service = LanguageServer::new(rt.alloc());
+    run_tool(rt.alloc(), &texts, &service, &mut devices)
 }

@@ -113,12 +113,7 @@ pub fn told<L: Loader + Drop>(
     input: &str,
 ) -> Result<String, AllocError> {
     let list = list_of(room.alloc, words)?;
-    let mut devices = Devices {
-        loader,
-        source: SliceSource::new(input.as_bytes()),
-        output: BufferSink::new(room.alloc, room.output)?,
-        errors: BufferSink::new(room.alloc, room.errors)?,
-    };
+    let mut devices = devices_of(&room, loader, input)?;
     let status = run_program(room.alloc, &list, &mut devices);
     text_of(room.alloc, status, &devices.output, &devices.errors)
 }
@@ -131,15 +126,24 @@ pub fn tool_told(
     input: &str,
 ) -> Result<String, AllocError> {
     let list = list_of(room.alloc, words)?;
-    let mut devices = idl_tool::Devices {
+    let mut devices = devices_of(&room, loader, input)?;
+    let service = LanguageServer::new(room.alloc);
+    let status = run_tool(room.alloc, &list, &service, &mut devices);
+    text_of(room.alloc, status, &devices.output, &devices.errors)
+}
+
+// The files of a loader, this input, and sinks with room.
+fn devices_of<'i, L: Loader + Drop>(
+    room: &OutputRoom,
+    loader: L,
+    input: &'i str,
+) -> Result<Devices<L, SliceSource<'i>, BufferSink, BufferSink>, AllocError> {
+    Ok(Devices {
         loader,
+        source: SliceSource::new(input.as_bytes()),
         output: BufferSink::new(room.alloc, room.output)?,
         errors: BufferSink::new(room.alloc, room.errors)?,
-        service: LanguageServer::new(room.alloc),
-    };
-    let mut source = SliceSource::new(input.as_bytes());
-    let status = run_tool(room.alloc, &list, &mut source, &mut devices);
-    text_of(room.alloc, status, &devices.output, &devices.errors)
+    })
 }
 
 // The status, and what was written.

@@ -4,7 +4,7 @@ use Rattle.idl_session.specs.idl_project.Work.{no_work}
 use Rattle.idl_program.specs.Compiled.{Written}
 use Rattle.idl_program.specs.Served.{AreAnswered, IsDone}
 use Rattle.idl_loader.specs.declared.status.Status.TheVariants.{Sound}
-use Rattle.idl_program.specs.declared.request.Request.{Request}
+use Rattle.idl_program.specs.declared.request.CompilerRequest.{CompilerRequest}
 use Rattle.idl_program.proofs.ServedLemmas.{answered}
 use Rattle.idl_program.proofs.program.fulfil.Goals as goal
 
@@ -19,4 +19,4 @@ returns-in_ok-run-in-Serve-clause-done g c =
       errors = refl;
       sound = refl;
     } in
-    subst (λ (r : Request). IsDone told input before after Sound r) (sym c.in-Serve.is) are
+    subst (λ (r : CompilerRequest). IsDone told input before after Sound r) (sym c.in-Serve.is) are

@@ -1,44 +1,32 @@
-use Rattle.std.proofs.Common.{◌∙◌, ℕ, List, Some, ap, if◌then◌else◌, map, refl, subst, sym}
+use Rattle.std.proofs.Common.{◌∙◌, ap, if◌then◌else◌, refl}
 use Rattle.idl_source.specs.devices.Device.{append}
-use Rattle.idl_related.specs.idl_project.Compile.{compiled_root}
-use Rattle.idl_program.specs.Loading.{AreCompiled}
-use Rattle.idl_program.specs.Options.{AreAsked}
 use Rattle.idl_program.specs.Rows.{are_faulty}
 use Rattle.idl_program.specs.idl_loader.declared.status.Status.TheVariants.{Faulty, Sound}
-use Rattle.idl_tool.specs.Checked.{AreToldOf}
 use Rattle.idl_tool.proofs.DepsLemmas.{ending-of}
 use Rattle.idl_tool.proofs.check.check.Goals as goal
 
-pub reports_of-requires : goal.reports_of-requires
-reports_of-requires g c =
-    c.deref.ensures.value ∙ c.in_ok-sources-2.ensures.compiled.rows ∙ ap (map (compiled_root c.in_ok-sources-2.sources)) (c.as_slice.ensures.keys ∙ sym c.as_slice-2.ensures.keys)
+pub report_text-requires : goal.report_text-requires
+report_text-requires g c = c.in_ok-all.ensures.compiled.compiled
 
 pub returns-clause-checked : goal.returns-clause-checked
 returns-clause-checked g c =
-    let told = g.L.Loader.told c.args.devices.now.loader in
-    let options = c.args.options.now in
-    let inputs = c.in_ok-sources-2.sources in
-    let roots = c.in_ok-sources.roots.keys in
-    let compiled = c.in_ok-sources-2.compiled.items in
-    let first = c.in_ok-sources.ensures.asked in
-    let are = subst (λ (rs : List (List ℕ)). AreCompiled told c.in_ok-sources.sources inputs rs compiled) c.as_slice.ensures.keys c.in_ok-sources-2.ensures.compiled in
-    let asked : AreAsked options inputs roots = record { macros = are.stays.macros ∙ first.macros; search = first.search ∙ ap Some (sym are.stays.search); named = first.named } in
-    let reports = c.in_ok-reports.ensures in
+    let all = c.in_ok-all.all in
+    let is = c.in_ok-all.ensures.compiled in
+    let text = c.in_ok-text.ensures in
     record {
-      inputs = inputs;
-      roots = roots;
-      asked = asked;
-      formed = are.formed;
-      loaded = are.loaded;
-      complete = are.complete;
+      inputs = all.sources;
+      roots = all.roots.keys;
+      asked = is.asked;
+      formed = is.formed;
+      loaded = is.loaded;
+      complete = is.complete;
       reports = record {
-        told = reports.0;
-        each = subst (λ (rs : List (List ℕ)). AreToldOf inputs rs reports.0) c.as_slice-2.ensures.keys reports.1;
-        reports = c.in_ok-reports.reports.entries;
-        reported = reports.2;
-        output = c.in_ok-write_all.ensures.written
-            ∙ ap (append (g.O.Sink.written c.args.devices.now.output)) (c.deref-3.ensures.value ∙ c.in_ok-text.ensures);
+        told = text.0;
+        each = text.1;
+        reports = text.2;
+        reported = text.3;
+        output = c.in_ok-write_all.ensures.written ∙ ap (append (g.O.Sink.written c.args.devices.now.output)) (c.deref-2.ensures.value ∙ text.4);
         errors = refl;
-        ending = c.status_of-status.ensures ∙ ap (λ b. if b then Faulty else Sound) (ap are_faulty c.deref-2.ensures.value ∙ ending-of inputs roots compiled are.rows);
+        ending = c.status_of-status.ensures ∙ ap (λ b. if b then Faulty else Sound) (ap are_faulty c.deref.ensures.value ∙ ending-of all.sources all.roots.keys all.compiled.items is.compiled);
       };
     }

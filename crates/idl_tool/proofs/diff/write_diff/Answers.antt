@@ -5,7 +5,14 @@ use Rattle.idl_program.specs.Compiled.{errors_in, lines_of}
 use Rattle.idl_program.specs.Rows.{lines_with}
 use Rattle.idl_tool.specs.Compared.{IsVersion, seen}
 use Rattle.idl_tool.proofs.DepsLemmas.{told-of}
+use Rattle.idl_tool.proofs.DiffLemmas.{version-of}
 use Rattle.idl_tool.proofs.diff.write_diff.Goals as goal
+
+pub write_between-requires-clause-first : goal.write_between-requires-clause-first
+write_between-requires-clause-first g c = c.in_ok-old.ensures.compiled.compiled
+
+pub write_between-requires-clause-second : goal.write_between-requires-clause-second
+write_between-requires-clause-second g c = c.in_ok-new.ensures.compiled.compiled
 
 pub returns-clause-compared : goal.returns-clause-compared
 returns-clause-compared g c =
@@ -14,16 +21,16 @@ returns-clause-compared g c =
     let before = g.E.Sink.written c.args.devices.now.errors in
     let rows = lines_with (λ root. root.rows.diagnostics) in
     let first : rows c.deref.result.now ≡ lines_of (errors_in old.sources) old.roots.keys =
-    ap rows c.deref.ensures.value ∙ told-of old.sources old.roots.keys old.compiled.items c.in_ok-old.ensures.compiled
+    ap rows c.deref.ensures.value ∙ told-of old.sources old.roots.keys old.compiled.items c.in_ok-old.ensures.compiled.compiled
     in
     let second : rows c.deref-2.result.now ≡ lines_of (errors_in new.sources) new.roots.keys =
-    ap rows c.deref-2.ensures.value ∙ told-of new.sources new.roots.keys new.compiled.items c.in_ok-new.ensures.compiled
+    ap rows c.deref-2.ensures.value ∙ told-of new.sources new.roots.keys new.compiled.items c.in_ok-new.ensures.compiled.compiled
     in
     record {
       old = seen old;
       new = seen new;
-      old_is = c.in_ok-old.ensures.version;
-      new_is = subst (λ (told : List ℕ → Holding). IsVersion told c.args.diff.now.new (seen new)) c.in_ok-old.ensures.still c.in_ok-new.ensures.version;
+      old_is = version-of _ c.args.diff.now.old old c.in_ok-old.ensures.compiled;
+      new_is = subst (λ (told : List ℕ → Holding). IsVersion told c.args.diff.now.new (seen new)) c.in_ok-old.ensures.still (version-of _ c.args.diff.now.new new c.in_ok-new.ensures.compiled);
       compared = record {
         errors = c.in_ok-tell_errors-2.ensures.told ∙ ap₂ append (c.in_ok-tell_errors.ensures.told ∙ ap (append before) first) second;
         output = c.in_ok-status.ensures.written;

@@ -1,7 +1,7 @@
 use Rattle.std.proofs.Common.{◌∙◌, ◌++◌, ℕ, List, ap, append_assoc}
 use Rattle.std.proofs.lemmas.Result.{on_ok_weaker}
 use Rattle.idl_tool.specs.Report.{beginning, saying}
-use Rattle.idl_tool.proofs.report.Found.push_heading.Goals as goal
+use Rattle.idl_tool.proofs.report.LocatedFinding.push_heading.Goals as goal
 
 pub returns : goal.returns
 returns c =

@@ -1,9 +1,9 @@
 use Rattle.std.proofs.Common.{◌∙◌, ℕ, List, Some, ap, subst, sym}
 use Rattle.idl_program.specs.Loading.{AreCompiled}
-use Rattle.idl_tool.proofs.diff.version_of.Goals as goal
+use Rattle.idl_program.proofs.compilation.compile_files.Goals as goal
 
-pub returns-clause-version : goal.returns-clause-version
-returns-clause-version g c =
+pub returns-clause-compiled : goal.returns-clause-compiled
+returns-clause-compiled g c =
     let told = g.L.Loader.told c.args.loader.now in
     let first = c.in_ok-sources.ensures.asked in
     let compiled = c.in_ok-sources-2.compiled.items in
@@ -13,4 +13,5 @@ returns-clause-version g c =
       formed = are.formed;
       loaded = are.loaded;
       complete = are.complete;
+      compiled = are.rows;
     }

@@ -1,0 +1,24 @@
+-- The files that options ask for, compiled.
+use Rattle.std.specs.Prelude.{◌≡◌, ℕ, List, map}
+use Rattle.idl_session.specs.idl_project.Compile.{compiled_root}
+use Rattle.idl_session.specs.idl_project.Made.{rootless}
+use Rattle.idl_session.specs.idl_project.WellFormed.{IsWellFormed}
+use Rattle.idl_loader.specs.Holding.{Holding}
+use Rattle.idl_program.specs.Loading.{AreLoaded, AreComplete}
+use Rattle.idl_program.specs.Options.{AreAsked}
+use Rattle.idl_program.specs.declared.compilation.Compilation.{Compilation}
+use Rattle.idl_program.specs.declared.request.Options.{Options}
+
+-- each root has what it compiles to
+abbrev pub HasCompiled : Compilation → Type 0
+HasCompiled all = all.compiled.items ≡ map (compiled_root all.sources) all.roots.keys
+
+-- these are the files that the options ask for, over those that the loader tells of and within the
+-- limits, and what each compiles to
+pub record IsCompilation (told : List ℕ → Holding) (options : Options) (all : Compilation)
+    : Type 0 where
+  pub asked : AreAsked options all.sources all.roots.keys
+  pub formed : IsWellFormed (rootless all.sources)
+  pub loaded : AreLoaded told all.sources.files
+  pub complete : AreComplete told all.sources all.roots.keys
+  pub compiled : HasCompiled all

@@ -1,0 +1,27 @@
+use Rattle.std.proofs.Common.{◌∙◌, ap, ap₂, length, map, subst}
+use Rattle.std.proofs.lemmas.Result.{on_ok_weaker}
+use Rattle.std.specs.List.{zip}
+use Rattle.idl_related.specs.Related.{AreRelatedOver}
+use Rattle.idl_related.specs.idl_project.Bank.{bank_of}
+use Rattle.idl_tool.specs.Checked.{AreReported, in_order}
+use Rattle.idl_tool.specs.ToldAt.{told_at}
+use Rattle.idl_tool.proofs.CheckLemmas.{told-root}
+use Rattle.idl_tool.proofs.check.add_root.Goals as goal
+
+pub told_of-requires : goal.told_of-requires
+told_of-requires c = ap length c.as_slice.ensures ∙ c.in_ok-related.ensures.0
+
+pub returns : goal.returns
+returns c =
+    let inputs = c.args.sources.now in
+    let root = c.args.root.now in
+    let one = c.args.compiled.now in
+    let related = c.in_ok-related.related in
+    let told = map told_at c.in_ok-told-2.told.items in
+    let before = c.args.reports.now.entries in
+    let after = c.add_reports.new.reports.entries in
+    let is = c.in_ok-told-2.ensures ∙ ap (λ ts. in_order (map told_at ts)) c.deref.ensures.value ∙ ap in_order (c.in_ok-told.ensures ∙ ap₂ zip c.as_slice-findings.ensures c.as_slice.ensures) in
+    let of = told-root inputs root one related told c.requires (subst (λ fs. AreRelatedOver (bank_of inputs) root fs related) c.as_slice-findings.ensures c.in_ok-related.ensures) is in
+    on_ok_weaker c.add_reports.result
+    (λ reported. (told, of, subst (λ ts. AreReported inputs.files (map told_at ts) before after) c.deref-2.ensures.value reported))
+    c.add_reports.ensures

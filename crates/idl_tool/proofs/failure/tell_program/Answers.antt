@@ -1,0 +1,20 @@
+use Rattle.std.proofs.Common.{ℕ, List, codes, subst, sym}
+use Rattle.std.proofs.lemmas.Result.{on_ok_weaker}
+use Rattle.std.specs.Result.{OnOk}
+use Rattle.idl_program.specs.Messages.{message_of}
+use Rattle.idl_program.specs.declared.failure.ProgramFailure.{ProgramFailure}
+use Rattle.idl_tool.specs.Messages.{IsProgramTold, IsRefusalTold}
+use Rattle.idl_tool.proofs.FailureLemmas.{plain}
+use Rattle.idl_tool.proofs.failure.tell_program.Goals as goal
+
+pub returns-in-Refused : goal.returns-in-Refused
+returns-in-Refused g c =
+    let before = g.K.Sink.written c.args.errors.now in
+    let after = g.K.Sink.written c.tell_refusal.new.errors in
+    subst (λ (f : ProgramFailure). OnOk c.tell_refusal.result (IsProgramTold f before after)) (sym c.in-Refused.is)
+    (subst (λ (name : List ℕ). OnOk c.tell_refusal.result (IsRefusalTold name c.in-Refused.refusal before after)) c.as_bytes.ensures c.tell_refusal.ensures)
+
+pub returns-in_default : goal.returns-in_default
+returns-in_default g c =
+    let failure = c.args.failure.now in
+    on_ok_weaker c.tell.result (λ out. (message_of (codes "idltool") failure, plain failure c.in_default.not-Refused, out)) c.tell.ensures
