@@ -1,5 +1,5 @@
 -- Open documents, and which of them are roots.
-use Rattle.std.proofs.Common.{◌≡◌, ◌⊎◌, ◌∙◌, ◌<◌, ◌≤◌, ◌||◌, ℕ, Bool, IsTrue, true, false, cond, List, [], ◌∷◌, ◌++◌, Option, None, Some, Result, Ok, Err, arith, get_or, inl, inr, is_some, length, nat_le, not, refl, slice_get, sym, ap, subst, true≢false}
+use Rattle.std.proofs.Common.{◌≡◌, ◌⊎◌, ◌∙◌, ◌<◌, ◌≤◌, ◌||◌, ℕ, Bool, IsTrue, true, false, cond, List, [], ◌∷◌, ◌++◌, Option, None, Some, Result, Ok, Err, arith, get_or, if◌then◌else◌, inl, inr, is_some, length, nat_le, not, refl, slice_get, sym, ap, subst, true≢false}
 use Rattle.std.proofs.lemmas.List.Folds.{list_any-append, list_any_at}
 use Rattle.std.proofs.lemmas.Map.Keys.{IsDistinct-head, IsDistinct-tail}
 use Rattle.std.proofs.lemmas.Option.{slice_get_cases}
@@ -15,12 +15,13 @@ use Rattle.idl_source.specs.Limits.{most_roots}
 use Rattle.idl_source.specs.names.Name.{is_name}
 use Rattle.idl_source.specs.declared.refusal.Refusal.{Refusal}
 use Rattle.idl_source.specs.declared.refusal.Refusal.TheVariants.{BadName, NoSuchRoot, OverLimit, RootThere}
-use Rattle.idl_related.specs.idl_project.Asked.{asked_of}
+use Rattle.idl_related.specs.idl_project.Compile.{compiled_root}
 use Rattle.idl_related.specs.idl_project.Edited.{IsRefused}
 use Rattle.idl_related.specs.idl_project.Edits.{AddRoot, DropRoot, after, result_map}
 use Rattle.idl_related.specs.idl_project.Project.{Project, is_root, with_roots}
-use Rattle.idl_related.specs.idl_project.UpToDate.{State}
+use Rattle.idl_related.specs.idl_project.UpToDate.{State, findings_of}
 use Rattle.idl_related.specs.idl_project.WellFormed.{IsWellFormed}
+use Rattle.idl_related.specs.idl_project.declared.compile.CompiledRoot.{CompiledRoot}
 use Rattle.idl_server.specs.Documents.{AreSameBeside, texts_of}
 use Rattle.idl_server.specs.Files.{IsKept}
 use Rattle.idl_server.specs.Named.{asks_for, root_with}
@@ -48,6 +49,15 @@ full-there project at root last is some = by (slice_get_cases project.roots at).
 pub copied-some : {X : Type 0} (found : Option (Bor X)) → is_some (option_copied found) ≡ is_some found
 copied-some (Some x) = refl
 copied-some None = refl
+
+-- nothing is told of what is no root
+pub unrooted : (project : Project) (name : List ℕ) → is_root project name ≡ false → findings_of project name ≡ None
+unrooted project name rootless = λ i. option_map (λ (root : CompiledRoot). root.rows.findings) (if rootless i then Some (compiled_root project.inputs name) else None)
+
+-- no document stays turned away, or there are as many roots as there may be
+pub room-called : (project : Project) (names : List (List ℕ)) (last : Option (List ℕ)) → last ≡ slice_get project.roots 255 → (names ≡ []) ⊎ IsSome last → (names ≡ []) ⊎ IsFull project
+room-called project names last is (inl none) = inl none
+room-called project names last is (inr some) = inr (full-there project 255 last refl is some)
 
 -- ---- names that roots ask for
 
@@ -79,18 +89,14 @@ still-there true old new removed there = absurd (true≢false (sym there ∙ rem
 still-there false old new removed there = sym removed ∙ there
 
 -- a name more is taken out of those that are left
-pub taken-more : (project : Project) (root : List ℕ) (asked : List (List ℕ)) (i : ℕ) (item : List ℕ) (first old new : List (List ℕ)) → asked ≡ asked_of project root → i < length asked
-    → item ≡ get_or asked i item → ((q : List ℕ) → list_any (bytes_eq q) new ≡ cond (bytes_eq item q) false (list_any (bytes_eq q) old))
-    → ((name : List ℕ) → list_any (bytes_eq name) first ≡ true → (list_any (bytes_eq name) old ≡ true) ⊎ (asks_for project name root ≡ true))
-    → (name : List ℕ) → list_any (bytes_eq name) first ≡ true → (list_any (bytes_eq name) new ≡ true) ⊎ (asks_for project name root ≡ true)
-taken-more project root asked i item first old new same within is removed before name there = by (before name there)
+pub taken-more : (asked : List (List ℕ)) (i : ℕ) (item : List ℕ) (first old new : List (List ℕ)) → i < length asked → item ≡ get_or asked i item
+    → ((q : List ℕ) → list_any (bytes_eq q) new ≡ cond (bytes_eq item q) false (list_any (bytes_eq q) old))
+    → ((name : List ℕ) → list_any (bytes_eq name) first ≡ true → (list_any (bytes_eq name) old ≡ true) ⊎ (list_any (λ a. bytes_eq a name) asked ≡ true))
+    → (name : List ℕ) → list_any (bytes_eq name) first ≡ true → (list_any (bytes_eq name) new ≡ true) ⊎ (list_any (λ a. bytes_eq a name) asked ≡ true)
+taken-more asked i item first old new within is removed before name there = by (before name there)
   where
-    on : (list_any (bytes_eq name) new ≡ true) ⊎ (list_any (λ a. bytes_eq a name) asked ≡ true) → (list_any (bytes_eq name) new ≡ true) ⊎ (asks_for project name root ≡ true)
-    on (inl left) = inl left
-    on (inr asks) = inr ((λ k. list_any (λ a. bytes_eq a name) (sym same k)) ∙ asks)
-
-    by : (list_any (bytes_eq name) old ≡ true) ⊎ (asks_for project name root ≡ true) → (list_any (bytes_eq name) new ≡ true) ⊎ (asks_for project name root ≡ true)
-    by (inl left) = on (one-taken asked i item name old new within is (removed name) left)
+    by : (list_any (bytes_eq name) old ≡ true) ⊎ (list_any (λ a. bytes_eq a name) asked ≡ true) → (list_any (bytes_eq name) new ≡ true) ⊎ (list_any (λ a. bytes_eq a name) asked ≡ true)
+    by (inl left) = one-taken asked i item name old new within is (removed name) left
     by (inr asks) = inr asks
 
 -- the first name is one of them

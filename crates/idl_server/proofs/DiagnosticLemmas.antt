@@ -7,7 +7,7 @@ use Rattle.serde_json.specs.View.{view}
 use Rattle.serde_json.specs.declared.value.Value.{Value}
 use Rattle.idl_related.specs.idl_root.declared.compiling.finding.Finding.{Finding}
 use Rattle.idl_server.specs.Found.{findings_in}
-use Rattle.idl_server.specs.declared.found.Found.{Found}
+use Rattle.idl_server.specs.declared.found.RootFinding.{RootFinding}
 
 zip-push : (R : Finding → Data → Type 0) (fs : List Finding) (ds : List Data) (f : Finding) (d : Data) → AllZip R fs ds → R f d → AllZip R (fs ++ f ∷ []) (ds ++ d ∷ [])
 zip-push R [] [] f d are next = (next, tt)
@@ -16,12 +16,12 @@ zip-push R (a ∷ fs) [] f d are next = absurd are
 zip-push R (a ∷ fs) (b ∷ ds) f d are next = (are.0, zip-push R fs ds f d are.1 next)
 
 -- one more
-pub zip-found : (R : Finding → Data → Type 0) (found : List Found) (i : ℕ) (one : Found) (values after : List Value) (value : Value) → i < length found → one ≡ get_or found i one
+pub zip-found : (R : Finding → Data → Type 0) (found : List RootFinding) (i : ℕ) (one : RootFinding) (values after : List Value) (value : Value) → i < length found → one ≡ get_or found i one
     → after ≡ values ++ value ∷ [] → AllZip R (findings_in (take i found)) (map view values) → R one.finding.now (view value)
     → AllZip R (findings_in (take (i + 1) found)) (map view after)
 zip-found R found i one values after value within is pushed are next =
     let fs : findings_in (take (i + 1) found) ≡ findings_in (take i found) ++ one.finding.now ∷ [] =
-    ap findings_in (take_more found i one within ∙ ap (λ y. take i found ++ y ∷ []) (sym is)) ∙ map-append (λ (f : Found). f.finding.now) (take i found) (one ∷ []) in
+    ap findings_in (take_more found i one within ∙ ap (λ y. take i found ++ y ∷ []) (sym is)) ∙ map-append (λ (f : RootFinding). f.finding.now) (take i found) (one ∷ []) in
     let ds : map view after ≡ map view values ++ view value ∷ [] = ap (map view) pushed ∙ map-append view values (value ∷ []) in
     subst (λ gs. AllZip R gs (map view after)) (sym fs)
     (subst (λ es. AllZip R (findings_in (take i found) ++ one.finding.now ∷ []) es) (sym ds) (zip-push R (findings_in (take i found)) (map view values) one.finding.now (view value) are next))

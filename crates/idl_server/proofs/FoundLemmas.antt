@@ -16,7 +16,7 @@ use Rattle.idl_related.specs.idl_project.Project.{Project}
 use Rattle.idl_related.specs.idl_project.UpToDate.{findings_of}
 use Rattle.idl_related.specs.idl_project.declared.compile.CompiledRoot.{CompiledRoot}
 use Rattle.idl_server.specs.Found.{findings_by, findings_in, found_by, found_in, is_in, is_later, is_same, most_told, put_in_order, told_if, told_with, with_one}
-use Rattle.idl_server.specs.declared.found.Found.{Found}
+use Rattle.idl_server.specs.declared.found.RootFinding.{RootFinding}
 
 -- ---- the order of lines
 
@@ -141,12 +141,12 @@ put-placed (f ∷ fs) x = by (is_later x.place.line f) (put-placed fs x)
         let next : suc k ≡ 1 + k = omega arith in
         ap (λ gs. f ∷ gs) rest ∙ ap (λ n. insert (f ∷ fs) n x) next
 
-pub findings-insert : (found : List Found) (place : ℕ) (one : Found) → findings_in (insert found place one) ≡ insert (findings_in found) place one.finding.now
+pub findings-insert : (found : List RootFinding) (place : ℕ) (one : RootFinding) → findings_in (insert found place one) ≡ insert (findings_in found) place one.finding.now
 findings-insert found zero one = refl
 findings-insert [] (suc place) one = refl
 findings-insert (first ∷ found) (suc place) one = ap (λ gs. first.finding.now ∷ gs) (findings-insert found place one)
 
-pub findings-take : (n : ℕ) (found : List Found) → findings_in (take n found) ≡ take n (findings_in found)
+pub findings-take : (n : ℕ) (found : List RootFinding) → findings_in (take n found) ≡ take n (findings_in found)
 findings-take zero found = refl
 findings-take (suc n) [] = refl
 findings-take (suc n) (first ∷ found) = ap (λ gs. first.finding.now ∷ gs) (findings-take n found)
@@ -199,7 +199,7 @@ findings-next name findings i x old before after within is so now =
     ∙ ap (λ fs. fold told_with old (filter p fs)) (sym more)
 
 -- and one that is put in, of which the first ones stay
-pub put-told : (found inserted after : List Found) (one : Found) (place : ℕ) → list_any (is_same one.finding.now) (findings_in found) ≡ false
+pub put-told : (found inserted after : List RootFinding) (one : RootFinding) (place : ℕ) → list_any (is_same one.finding.now) (findings_in found) ≡ false
     → place ≡ position_or_len (is_later one.finding.now.place.line) (findings_in found) → inserted ≡ insert found place one → after ≡ take most_told inserted
     → findings_in after ≡ told_with (findings_in found) one.finding.now
 put-told found inserted after one place none at put cut =

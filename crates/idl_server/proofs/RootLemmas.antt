@@ -12,7 +12,8 @@ use Rattle.idl_related.specs.idl_project.Compile.{compiled_root}
 use Rattle.idl_related.specs.idl_project.Project.{Project, is_root}
 use Rattle.idl_related.specs.idl_project.UpToDate.{absent_of}
 use Rattle.idl_related.specs.idl_project.declared.compile.CompiledRoot.{CompiledRoot}
-use Rattle.idl_server.specs.Files.{IsAmong, IsTried}
+use Rattle.idl_server.specs.Files.{IsNamed, IsTried}
+use Rattle.idl_server.specs.declared.document.Document.{Document}
 use Rattle.idl_server.specs.declared.workspace.Workspace.{Workspace}
 use Rattle.idl_server.proofs.FileLemmas.{gone, some-same}
 
@@ -71,18 +72,18 @@ all-inserted P names name all one = by (list_any (bytes_eq name) names)
     by false = All-push P names name all one
 
 -- with one more those that were among them are, and that one is
-pub still-among : (w : Workspace) (names new : List (List ℕ)) (name : List ℕ) → ((q : List ℕ) → list_any (bytes_eq q) new ≡ cond (bytes_eq name q) true (list_any (bytes_eq q) names))
-    → (q : List ℕ) → IsAmong names w q → IsAmong new w q
-still-among w names new name made q (inl there) = inl (made q ∙ either (bytes_eq name q) (list_any (bytes_eq q) names) there)
+pub still-among : (documents : List (List ℕ × Document)) (names new : List (List ℕ)) (name : List ℕ) → ((q : List ℕ) → list_any (bytes_eq q) new ≡ cond (bytes_eq name q) true (list_any (bytes_eq q) names))
+    → (q : List ℕ) → IsNamed names documents q → IsNamed new documents q
+still-among documents names new name made q (inl there) = inl (made q ∙ either (bytes_eq name q) (list_any (bytes_eq q) names) there)
   where
     either : (b c : Bool) → c ≡ true → cond b true c ≡ true
     either true c there = refl
     either false c there = there
-still-among w names new name made q (inr opened) = inr opened
+still-among documents names new name made q (inr opened) = inr opened
 
-pub one-among : (w : Workspace) (names new : List (List ℕ)) (name : List ℕ) → ((q : List ℕ) → list_any (bytes_eq q) new ≡ cond (bytes_eq name q) true (list_any (bytes_eq q) names))
-    → IsAmong new w name
-one-among w names new name made = inl (made name ∙ ap (λ (b : Bool). cond b true (list_any (bytes_eq name) names)) (nat_list_eq_equiv.refl name))
+pub one-among : (documents : List (List ℕ × Document)) (names new : List (List ℕ)) (name : List ℕ) → ((q : List ℕ) → list_any (bytes_eq q) new ≡ cond (bytes_eq name q) true (list_any (bytes_eq q) names))
+    → IsNamed new documents name
+one-among documents names new name made = inl (made name ∙ ap (λ (b : Bool). cond b true (list_any (bytes_eq name) names)) (nat_list_eq_equiv.refl name))
 
 -- with one more there is one
 pub some-inserted : (names : List (List ℕ)) (name : List ℕ) → insert_key bytes_eq names name ≡ [] → ⊥

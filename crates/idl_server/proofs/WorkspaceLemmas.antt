@@ -22,7 +22,7 @@ use Rattle.idl_editor.specs.declared.change.ContentChange.{ContentChange}
 use Rattle.idl_editor.specs.declared.column.Encoding.{Encoding}
 use Rattle.idl_server.specs.Documents.{AreSameBeside, TextChange, change_told, text_after_all, text_with, texts_of}
 use Rattle.idl_server.specs.Edited.{IsSameButFor}
-use Rattle.idl_server.specs.Files.{AreFiled, AreTried, IsClosed, IsFiled, IsKept, IsTried, StaysBeside, StaysCompiled, StaysFiled, StaysSet}
+use Rattle.idl_server.specs.Files.{AreFiled, AreTried, IsClosed, IsFiled, IsKept, IsTried, IsWith, StaysBeside, StaysCompiled, StaysFiled, StaysSet}
 use Rattle.idl_server.specs.Loading.{IsLoadedEdit, StaysOpen}
 use Rattle.idl_server.specs.Roots.{AddsNoRoot}
 use Rattle.idl_server.specs.declared.document.Document.{Document}
@@ -195,6 +195,18 @@ beside-kept name old new kept = record {
   roots = adds-none old.session.project new.session.project (λ i. (kept.session i).project.roots);
 }
 
+-- a name isn't known any more
+pub beside-forgotten : (name : List ℕ) (old new : Workspace) → StaysCompiled old new → IsWith name false old.tried.keys new.tried.keys → IsWith name false old.unread.keys new.unread.keys
+    → StaysBeside name old new
+beside-forgotten name old new same tried unread = record {
+  set = (open-compiled old new same).set;
+  documents = λ other apart. (λ i. lookup (bytes_eq other) (same.documents i).entries);
+  files = λ other apart. (λ i. finite.get (same.session i).project.inputs.files other);
+  tried = λ other apart. tried other ∙ ap (λ (b : Bool). cond b false (list_any (bytes_eq other) old.tried.keys)) apart;
+  unread = λ other apart. unread other ∙ ap (λ (b : Bool). cond b false (list_any (bytes_eq other) old.unread.keys)) apart;
+  roots = (open-compiled old new same).roots;
+}
+
 pub beside-filed : (name : List ℕ) (old new : Workspace) → StaysFiled old new → AddsNoRoot old.session.project new.session.project → StaysBeside name old new
 beside-filed name old new stays adds = record {
   set = set-filed old new stays;
@@ -311,10 +323,6 @@ all-tried told old new same known are = λ name.
     by name before (inl tried) = before.missing tried.0 tried.1
     by name before (inr none) = none
 
--- whether names are among some after one was put in or taken out
-abbrev IsWith : List ℕ → Bool → List (List ℕ) → List (List ℕ) → Type 0
-IsWith name is old new = (q : List ℕ) → list_any (bytes_eq q) new ≡ cond (bytes_eq name q) is (list_any (bytes_eq q) old)
-
 -- a name isn't known any more
 pub all-forgotten : (told : List ℕ → Holding) (name : List ℕ) (old new : Workspace) → StaysCompiled old new → IsWith name false old.tried.keys new.tried.keys
     → IsWith name false old.unread.keys new.unread.keys → AreFiled told old → AreFiled told new
@@ -369,6 +377,13 @@ pub put-edit : (told : List ℕ → Holding) (documents : List (List ℕ × Docu
     → lookup (bytes_eq name) documents ≡ None → IsLoadedEdit told documents (Put other lines)
 put-edit told documents name other lines same is closed =
     subst (λ (n : List ℕ). IsFileOf told n lines × (lookup (bytes_eq n) documents ≡ None)) (sym same) (is, closed)
+
+-- the same, where it is tried
+pub all-passed-over : (told : List ℕ → Holding) (name : List ℕ) (old new : Workspace) → StaysCompiled old new → IsWith name true old.unread.keys new.unread.keys
+    → IsWith name true old.tried.keys new.tried.keys → AreFiled told old → AreFiled told new
+all-passed-over told name old new same unread tried =
+    all-passed told name old new same unread
+    (λ q apart. tried q ∙ ap (λ (b : Bool). cond b true (list_any (bytes_eq q) old.tried.keys)) apart)
 
 pub remove-edit : (told : List ℕ → Holding) (documents : List (List ℕ × Document)) (name other : List ℕ) → other ≡ name → lookup (bytes_eq name) documents ≡ None
     → IsLoadedEdit told documents (Remove other)

@@ -1,5 +1,5 @@
 -- The files that are compiled: those of the open documents, and of the disk what roots ask for.
-use Rattle.std.specs.Prelude.{◌≡◌, ◌⊎◌, ℕ, false, true, List, All, IsSome, Option, None, Some, option_and_then}
+use Rattle.std.specs.Prelude.{◌≡◌, ◌⊎◌, ℕ, Bool, cond, false, true, List, All, IsSome, Option, None, Some, option_and_then}
 use Rattle.std.specs.FinMap as finite
 use Rattle.std.specs.List.{list_any}
 use Rattle.std.specs.Map.{lookup}
@@ -57,10 +57,19 @@ pub record IsFiled (told : List ℕ → Holding) (w : Workspace) (name : List �
 abbrev pub AreFiled : (List ℕ → Holding) → Workspace → Type 0
 AreFiled told w = (name : List ℕ) → IsFiled told w name
 
+-- names after one was put in or taken out
+abbrev pub IsWith : List ℕ → Bool → List (List ℕ) → List (List ℕ) → Type 0
+IsWith name is old new = (other : List ℕ)
+    → list_any (bytes_eq other) new ≡ cond (bytes_eq name other) is (list_any (bytes_eq other) old)
+
+-- a name is among these, or it is that of one of these documents
+abbrev pub IsNamed : List (List ℕ) → List (List ℕ × Document) → List ℕ → Type 0
+IsNamed names documents name = (list_any (bytes_eq name) names ≡ true)
+    ⊎ IsSome (lookup (bytes_eq name) documents)
+
 -- a name is among these, or it is open
 abbrev pub IsAmong : List (List ℕ) → Workspace → List ℕ → Type 0
-IsAmong names w name = (list_any (bytes_eq name) names ≡ true)
-    ⊎ IsSome (lookup (bytes_eq name) w.documents.entries)
+IsAmong names w name = IsNamed names w.documents.entries name
 
 -- a name was tried, or it is open
 abbrev pub IsTried : Workspace → List ℕ → Type 0

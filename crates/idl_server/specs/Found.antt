@@ -7,7 +7,7 @@ use Rattle.idl_fault.specs.Code.{number_of}
 use Rattle.idl_related.specs.idl_root.declared.compiling.finding.Finding.{Finding}
 use Rattle.idl_related.specs.idl_project.Compile.{compiled_root}
 use Rattle.idl_related.specs.idl_project.Project.{Inputs, Project}
-use Rattle.idl_server.specs.declared.found.Found.{Found}
+use Rattle.idl_server.specs.declared.found.RootFinding.{RootFinding}
 
 -- so many findings of a file are told at most
 abbrev pub most_told : ℕ
@@ -63,5 +63,5 @@ abbrev pub told_if : Bool → List Finding → Finding → List Finding
 told_if is_told found one = if is_told then told_with found one else found
 
 -- the findings alone
-abbrev pub findings_in : List Found → List Finding
+abbrev pub findings_in : List RootFinding → List Finding
 findings_in found = map (λ one. one.finding.now) found

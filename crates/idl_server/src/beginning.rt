@@ -3,14 +3,14 @@
 ghost use Rattle.idl_server.specs.Server.{OnlySets};
 
 use crate::params::items_at;
-use crate::workspace::Workspace;
+use crate::workspace::{RefusedEdit, Workspace, push_refused};
 use idl_editor::Encoding;
 use idl_editor::messages::text_at;
 use idl_editor::uris::{Folders, path_of};
 use idl_source::path::{directory_at, is_rooted};
-use idl_source::{Directory, Line, Refusal, first_part};
+use idl_source::{Directory, Line, Name, Refusal, first_part};
 use serde_json::{Value, json};
-use std::alloc::AllocError;
+use std::alloc::{AllocError, Global};
 
 impl Workspace {
     /// Begins with what an editor offers and sets, and tells what the server can do.
@@ -18,84 +18,12 @@ impl Workspace {
         ensures { OnlySets self.old self.new }
     {
         self.encoding = encoding_in(params);
-        self.add_folders(params)?;
+        add_folders(self.session.allocator(), &mut self.folders, params)?;
         if let Some(options) = params.get("initializationOptions") {
             self.define_all(items_at(options, "define"))?;
             self.search_all(items_at(options, "search"))?;
         }
-        self.abilities()
-    }
-
-    // What the server can do.
-    fn abilities(&self) -> Result<Value, AllocError> {
-        let encoding = match self.encoding {
-            Encoding::Utf8 => "utf-8",
-            Encoding::Utf16 => "utf-16",
-        };
-        json!(in self.alloc(); {
-            "capabilities": {
-                "definitionProvider": true,
-                "documentSymbolProvider": true,
-                "hoverProvider": true,
-                "positionEncoding": encoding,
-                "textDocumentSync": {"change": 2, "openClose": true, "save": true},
-            },
-            "serverInfo": {"name": "idltool", "version": "0.1.0"},
-        })
-    }
-
-    // The folders of the workspace: names in the only one begin with nothing, and of several with the folder's own.
-    fn add_folders(&mut self, params: &Value) -> Result<(), AllocError>
-        ensures { OnlySets self.old self.new }
-    {
-        let folders = items_at(params, "workspaceFolders");
-        if folders.is_empty() {
-            return match text_at(params, "rootUri") {
-                Some(uri) => self.add_only(uri),
-                None => Ok(()),
-            };
-        }
-        if let [folder] = folders {
-            return match text_at(folder, "uri") {
-                Some(uri) => self.add_only(uri),
-                None => Ok(()),
-            };
-        }
-        'folders: for folder in folders {
-            if let Some(uri) = text_at(folder, "uri") {
-                self.add_one(uri)?;
-            }
-        }
-        Ok(())
-    }
-
-    // Adds the only folder.
-    fn add_only(&mut self, uri: &str) -> Result<(), AllocError>
-        ensures { OnlySets self.old self.new }
-    {
-        if let Some(path) = path_of(self.alloc(), uri.as_bytes())? {
-            self.folders.add(without_slash(&path), b"")?;
-        }
-        Ok(())
-    }
-
-    // Adds one folder of several.
-    fn add_one(&mut self, uri: &str) -> Result<(), AllocError>
-        ensures { OnlySets self.old self.new }
-    {
-        let Some(path) = path_of(self.alloc(), uri.as_bytes())? else {
-            return Ok(());
-        };
-        let path = without_slash(&path);
-        let mut around = Folders::new(self.alloc());
-        around.add(without_slash(folder_of(path)), b"")?;
-        let Some(name) = around.name_of(path)? else {
-            return Ok(());
-        };
-        let mut front = Vec::from_slice(self.alloc(), name.as_bytes())?;
-        front.push(b'/')?;
-        self.folders.add(path, &front)?;
-        Ok(())
+        abilities(self.session.allocator(), self.encoding)
     }
 
     // Defines macros, each by `NAME` or `NAME=BODY`.
@@ -119,12 +47,12 @@ impl Workspace {
             Some(value) => value,
             None => b"1",
         };
-        let Some(line) = Line::new(self.alloc(), body)? else {
-            return self.keep_refused(word, Refusal::BadMacro);
+        let Some(line) = Line::new(self.session.allocator(), body)? else {
+            return push_refused(&mut self.refused, word, Refusal::BadMacro);
         };
         match self.session.define(name, line) {
             Ok(_) => Ok(()),
-            Err(refusal) => self.keep_refused(word, refusal),
+            Err(refusal) => push_refused(&mut self.refused, word, refusal),
         }
     }
 
@@ -132,61 +60,139 @@ impl Workspace {
     fn search_all(&mut self, words: &[Value]) -> Result<(), AllocError>
         ensures { OnlySets self.old self.new }
     {
-        let directories = self.directories_in(words)?;
-        let mut texts: Vec<&[u8]> = Vec::with_capacity(self.alloc(), directories.len())?;
+        let alloc = self.session.allocator();
+        let directories = directories_in(alloc, &self.folders, &mut self.refused, words)?;
+        let mut texts: Vec<&[u8]> = Vec::with_capacity(alloc, directories.len())?;
         'directories: for directory in &directories {
             texts.push(directory.as_bytes())?;
         }
         match self.session.search(&texts) {
             Ok(_) => Ok(()),
-            Err(refusal) => self.keep_refused(b"search", refusal),
+            Err(refusal) => push_refused(&mut self.refused, b"search", refusal),
         }
     }
+}
 
-    // The directories among words. Those that are none are refused.
-    fn directories_in(&mut self, words: &[Value]) -> Result<Vec<Directory>, AllocError>
-        ensures { OnlySets self.old self.new }
-    {
-        let mut directories = Vec::new(self.alloc());
-        'words: for value in words {
-            let Some(word) = value.as_str() else {
-                continue;
-            };
-            let Some(directory) = self.directory_of(word.as_bytes())? else {
-                continue;
-            };
-            directories.push(directory)?;
-        }
-        Ok(directories)
+// What the server can do.
+fn abilities(alloc: Global, encoding: Encoding) -> Result<Value, AllocError> {
+    json!(in alloc; {
+        "capabilities": capabilities(alloc, encoding)?,
+        "serverInfo": json!(in alloc; {"name": "idltool", "version": "0.1.0"})?,
+    })
+}
+
+// What it can do in documents.
+fn capabilities(alloc: Global, encoding: Encoding) -> Result<Value, AllocError> {
+    let encoding = match encoding {
+        Encoding::Utf8 => "utf-8",
+        Encoding::Utf16 => "utf-16",
+    };
+    let sync = json!(in alloc; {"change": 2, "openClose": true, "save": true})?;
+    json!(in alloc; {
+        "textDocumentSync": sync,
+        "definitionProvider": true,
+        "documentSymbolProvider": true,
+        "hoverProvider": true,
+        "positionEncoding": encoding,
+    })
+}
+
+// Adds the folders of the workspace: names in the only one begin with nothing, and of several with the folder's own.
+fn add_folders(alloc: Global, folders: &mut Folders, params: &Value) -> Result<(), AllocError> {
+    match items_at(params, "workspaceFolders") {
+        [] => add_only(alloc, folders, text_at(params, "rootUri")),
+        [folder] => add_only(alloc, folders, text_at(folder, "uri")),
+        several => add_each(alloc, folders, several),
     }
+}
 
-    // The directory that a word is, unless it is none, which is refused.
-    fn directory_of(&mut self, word: &[u8]) -> Result<Option<Directory>, AllocError>
-        ensures { OnlySets self.old self.new }
-    {
-        let directory = self.directory_named(word)?;
-        if directory.is_none() {
-            self.keep_refused(word, Refusal::BadName)?;
-        }
-        Ok(directory)
+// Adds the only folder, if there is one.
+fn add_only(alloc: Global, folders: &mut Folders, uri: Option<&str>) -> Result<(), AllocError> {
+    let Some(uri) = uri else {
+        return Ok(());
+    };
+    if let Some(path) = path_of(alloc, uri.as_bytes())? {
+        folders.add(without_slash(&path), b"")?;
     }
+    Ok(())
+}
 
-    // The directory that a word is, if it is one: a whole path as it stands in the names of the files in it.
-    fn directory_named(&self, word: &[u8]) -> Result<Option<Directory>, AllocError> {
-        let found = directory_at(word);
-        if !is_rooted(word) {
-            return Ok(found);
+// Adds several folders.
+fn add_each(alloc: Global, folders: &mut Folders, several: &[Value]) -> Result<(), AllocError> {
+    'several: for folder in several {
+        if let Some(uri) = text_at(folder, "uri") {
+            add_one(alloc, folders, uri)?;
         }
-        let path = match &found {
-            Some(directory) => directory.as_bytes(),
-            None => word,
+    }
+    Ok(())
+}
+
+// Adds one folder of several.
+fn add_one(alloc: Global, folders: &mut Folders, uri: &str) -> Result<(), AllocError> {
+    let Some(path) = path_of(alloc, uri.as_bytes())? else {
+        return Ok(());
+    };
+    let path = without_slash(&path);
+    if let Some(name) = name_in_parent(alloc, path)? {
+        let front = front_of(alloc, &name)?;
+        folders.add(path, &front)?;
+    }
+    Ok(())
+}
+
+// The name that a path has in the folder that it is in.
+fn name_in_parent(alloc: Global, path: &[u8]) -> Result<Option<Name>, AllocError> {
+    let mut parent = Folders::new(alloc);
+    parent.add(without_slash(folder_of(path)), b"")?;
+    parent.name_of(path)
+}
+
+// What the names of files in a folder begin with.
+fn front_of(alloc: Global, folder: &Name) -> Result<Vec<u8>, AllocError> {
+    let mut front = Vec::from_slice(alloc, folder.as_bytes())?;
+    front.push(b'/')?;
+    Ok(front)
+}
+
+// The directories among words. Those that are none are refused.
+fn directories_in(
+    alloc: Global,
+    folders: &Folders,
+    refused: &mut Vec<RefusedEdit>,
+    words: &[Value],
+) -> Result<Vec<Directory>, AllocError> {
+    let mut directories = Vec::new(alloc);
+    'words: for value in words {
+        let Some(word) = value.as_str() else {
+            continue;
         };
-        let mut file = Vec::from_slice(self.alloc(), without_slash(path))?;
-        file.extend_from_slice(b"/file")?;
-        match self.folders.name_of(&file)? {
-            Some(name) => Ok(directory_at(folder_of(name.as_bytes()))),
-            None => Ok(None),
+        match directory_named(alloc, folders, word.as_bytes())? {
+            Some(directory) => directories.push(directory)?,
+            None => push_refused(refused, word.as_bytes(), Refusal::BadName)?,
         }
+    }
+    Ok(directories)
+}
+
+// The directory that a word is, if it is one: a whole path as it stands in the names of the files in it.
+fn directory_named(
+    alloc: Global,
+    folders: &Folders,
+    word: &[u8],
+) -> Result<Option<Directory>, AllocError> {
+    let found = directory_at(word);
+    if !is_rooted(word) {
+        return Ok(found);
+    }
+    let path = match &found {
+        Some(directory) => directory.as_bytes(),
+        None => word,
+    };
+    let mut file = Vec::from_slice(alloc, without_slash(path))?;
+    file.extend_from_slice(b"/file")?;
+    match folders.name_of(&file)? {
+        Some(name) => Ok(directory_at(folder_of(name.as_bytes()))),
+        None => Ok(None),
     }
 }
 

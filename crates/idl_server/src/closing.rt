@@ -9,17 +9,20 @@ ghost use Rattle.idl_related.specs.idl_project.Project.{is_root};
 ghost use Rattle.idl_loader.specs.Holding.{Allows, Holding, NoFile};
 ghost use Rattle.idl_loader.specs.Holding.{IsFileOf};
 ghost use Rattle.idl_server.specs.Documents.{texts_of};
-ghost use Rattle.idl_server.specs.Files.{AreFiled, IsClosed, IsFiled, StaysBeside, StaysCompiled, StaysFiled, told_by};
+ghost use Rattle.idl_server.specs.Files.{AreFiled, IsClosed, IsFiled, IsWith, StaysBeside, StaysCompiled, StaysFiled, told_by};
 ghost use Rattle.idl_server.specs.Loading.{IsLoadedEdit, StaysOpen};
 ghost use Rattle.idl_server.specs.OnDisk.{IsOnDisk};
 ghost use Rattle.idl_server.specs.Roots.{AddsNoRoot, IsRooted};
+ghost use Rattle.idl_server.specs.declared.document.Document.{Document};
 
 use crate::document::set_behind;
-use crate::workspace::Workspace;
+use crate::workspace::{Workspace, keep_all, push_refused};
+use idl_editor::uris::Folders;
 use idl_loader::{Loaded, PathLoader};
 use idl_related::idl_project::FileEdit;
 use idl_source::{Line, Name, cut};
-use std::alloc::AllocError;
+use indexmap::IndexSet;
+use std::alloc::{AllocError, Global};
 
 /// What there is of a file on the disk.
 #[derive(Drop)]
@@ -81,8 +84,8 @@ impl Workspace {
             (IsClosed (told_by self.old.folders (L.told_of loader.old)) self.new name.now) }
         ensures stays { L.told_of loader.new ≡ L.told_of loader.old }
     {
-        self.forget(name);
-        match self.loaded(loader, name)? {
+        forget(&mut self.tried, &mut self.unread, name);
+        match loaded(self.session.allocator(), &self.folders, loader, name)? {
             OnDisk::Lines(lines) => self.put(name, lines),
             OnDisk::Missing => self.take_out(name),
             OnDisk::Unread => {
@@ -105,7 +108,7 @@ impl Workspace {
             AreFiled told self.old → OnOk result (AreFiled told self.new) }
         ensures stays { L.told_of loader.new ≡ L.told_of loader.old }
     {
-        let mut edits = Vec::with_capacity(self.alloc(), names.len())?;
+        let mut edits = Vec::with_capacity(self.session.allocator(), names.len())?;
         'names: for name in names {
             let Some(edit) = self.disk_edit(loader, name)? else {
                 continue;
@@ -113,7 +116,7 @@ impl Workspace {
             edits.push(edit)?;
         }
         match self.session.batch(edits) {
-            Ok(_) => self.keep_touched(),
+            Ok(_) => keep_all(&mut self.touched, self.session.touched()),
             Err(_) => self.reload_each(loader, names),
         }
     }
@@ -152,52 +155,11 @@ impl Workspace {
             IsLoadedEdit told self.old.documents.entries (edit_of e))) }
         ensures stays { L.told_of loader.new ≡ L.told_of loader.old }
     {
-        self.forget(name);
-        match self.lines_of(loader, name)? {
-            Some(lines) => Ok(Some(FileEdit::Put(name.as_bytes(), lines))),
-            None => Ok(self.removal(name)),
-        }
-    }
-
-    // The edit that takes a file out of the session, if it is there.
-    fn removal<'n>(&self, name: &'n Name) -> Option<FileEdit<'n>>
-        ensures { (told : List ℕ → Holding)
-            → lookup (bytes_eq name.now) self.now.documents.entries ≡ None
-            → IfSome result (λ edit. IsLoadedEdit told self.now.documents.entries (edit_of edit)) }
-    {
         let bytes = name.as_bytes();
-        match self.session.file(bytes) {
-            Some(_) => Some(FileEdit::Remove(bytes)),
-            None => None,
-        }
-    }
-
-    // It isn't known any more whether there is a file of this name.
-    fn forget(&mut self, name: &Name)
-        ensures same { StaysCompiled self.old self.new }
-        ensures filed { (told : List ℕ → Holding)
-            → AreFiled told self.old → AreFiled told self.new }
-        ensures tried { list_any (bytes_eq name.now) self.new.tried.keys ≡ false }
-        ensures beside { StaysBeside name.now self.old self.new }
-    {
-        self.tried.shift_remove(name);
-        self.unread.shift_remove(name);
-    }
-
-    /// What there is of the file of a name on the disk.
-    pub fn loaded<L: PathLoader>(&self, loader: &mut L, name: &Name) -> Result<OnDisk, AllocError>
-        ensures gives { IfOk result
-            (IsOnDisk (told_by self.now.folders (L.told_of loader.old)) name.now) }
-        ensures stays { L.told_of loader.new ≡ L.told_of loader.old }
-    {
-        let Some(path) = self.folders.path_for(name.as_bytes())? else {
-            return Ok(OnDisk::Missing);
-        };
-        match loader.load_path(&path) {
-            Loaded::Bytes(bytes) => Ok(OnDisk::Lines(cut(self.alloc(), &bytes)?)),
-            Loaded::Missing => Ok(OnDisk::Missing),
-            Loaded::Failed => Ok(OnDisk::Unread),
-            Loaded::NoMemory => Err(AllocError),
+        forget(&mut self.tried, &mut self.unread, name);
+        match self.lines_of(loader, name)? {
+            Some(lines) => Ok(Some(FileEdit::Put(bytes, lines))),
+            None => Ok(removal(self.session.file(bytes), name)),
         }
     }
 
@@ -210,9 +172,9 @@ impl Workspace {
             → OnOk result (IsClosed told self.new name.now) }
     {
         match self.session.put(name.as_bytes(), lines) {
-            Ok(_) => self.keep_touched(),
+            Ok(_) => keep_all(&mut self.touched, self.session.touched()),
             Err(refusal) => {
-                self.keep_refused(name.as_bytes(), refusal)?;
+                push_refused(&mut self.refused, name.as_bytes(), refusal)?;
                 self.unread.insert(name.copied())?;
                 self.take_out(name)
             }
@@ -233,9 +195,53 @@ impl Workspace {
             return Ok(());
         }
         match self.session.remove(name.as_bytes()) {
-            Ok(_) => self.keep_touched(),
+            Ok(_) => keep_all(&mut self.touched, self.session.touched()),
             // Of a file that is there, for want of memory alone.
             Err(_) => Err(AllocError),
         }
+    }
+}
+
+// It isn't known any more whether there is a file of this name.
+fn forget(tried: &mut IndexSet<Name>, unread: &mut IndexSet<Name>, name: &Name)
+    ensures tried { IsWith name.now false tried.old.keys tried.new.keys }
+    ensures unread { IsWith name.now false unread.old.keys unread.new.keys }
+    ensures gone { list_any (bytes_eq name.now) tried.new.keys ≡ false }
+{
+    tried.shift_remove(name);
+    unread.shift_remove(name);
+}
+
+// The edit that takes a file out of the session, if it is there.
+fn removal<'n>(file: Option<&[Line]>, name: &'n Name) -> Option<FileEdit<'n>>
+    ensures { (told : List ℕ → Holding) → (documents : List (List ℕ × Document))
+        → lookup (bytes_eq name.now) documents ≡ None
+        → IfSome result (λ edit. IsLoadedEdit told documents (edit_of edit)) }
+{
+    match file {
+        Some(_) => Some(FileEdit::Remove(name.as_bytes())),
+        None => None,
+    }
+}
+
+/// What there is of the file of a name on the disk.
+pub(crate) fn loaded<L: PathLoader>(
+    alloc: Global,
+    folders: &Folders,
+    loader: &mut L,
+    name: &Name,
+) -> Result<OnDisk, AllocError>
+    ensures gives { IfOk result
+        (IsOnDisk (told_by folders.now (L.told_of loader.old)) name.now) }
+    ensures stays { L.told_of loader.new ≡ L.told_of loader.old }
+{
+    let Some(path) = folders.path_for(name.as_bytes())? else {
+        return Ok(OnDisk::Missing);
+    };
+    match loader.load_path(&path) {
+        Loaded::Bytes(bytes) => Ok(OnDisk::Lines(cut(alloc, &bytes)?)),
+        Loaded::Missing => Ok(OnDisk::Missing),
+        Loaded::Failed => Ok(OnDisk::Unread),
+        Loaded::NoMemory => Err(AllocError),
     }
 }

@@ -2,12 +2,12 @@
 
 ghost use Rattle.std.specs.Prelude.{◌≡◌, ◌<◌, [], IfOk, length, unwrap_or};
 ghost use Rattle.serde_json.specs.View.{view};
-ghost use Rattle.idl_server.specs.Diagnostics.{AreDiagnostics, IsDiagnostic, IsSaid, finding_range, severity};
+ghost use Rattle.idl_server.specs.Diagnostics.{AreDiagnostics, IsSaid, diagnostic_json, finding_range, severity};
 
 use crate::found::found_in;
-use crate::places::{Token, line_range, location_value, range_of, range_value};
+use crate::places::{LocatedToken, line_range, lines_of, location_value, range_of, range_value};
 use crate::shown::shown_value;
-use crate::workspace::Workspace;
+use crate::workspace::{Workspace, uri_for};
 use idl_base::Seq;
 use idl_editor::{Encoding, Range};
 use idl_explain::{Topic, explanation_of};
@@ -22,7 +22,18 @@ use std::alloc::{AllocError, Global};
 #[derive(Drop)]
 struct RootRelated {
     root: usize,
-    related: Seq<Seq<Related>>,
+    related: Option<Seq<Seq<Related>>>,
+}
+
+// The second places of a finding among those of a root.
+fn related_of(root: &RootRelated, index: usize) -> &[Related] {
+    match &root.related {
+        Some(related) => match related.as_slice().get(index) {
+            Some(related) => related.as_slice(),
+            None => &[],
+        },
+        None => &[],
+    }
 }
 
 impl Workspace {
@@ -31,19 +42,19 @@ impl Workspace {
         ensures { IfOk result (λ value. AreDiagnostics self.now.encoding
             self.now.session.project name.now (view value)) }
     {
+        let alloc = self.session.allocator();
         let found = found_in(&self.session, name)?;
-        let mut roots = Vec::new(self.alloc());
+        let mut roots = Vec::new(alloc);
         let held = found.as_slice();
-        let mut list = Vec::with_capacity(self.alloc(), held.len())?;
+        let mut list = Vec::with_capacity(alloc, held.len())?;
         'each: for index in 0..held.len() {
             let one = held[index];
             let at = self.place_of_related(&mut roots, one.root)?;
-            let related = match roots[at].related.as_slice().get(one.index) {
-                Some(related) => related.as_slice(),
-                None => &[],
-            };
-            let related = self.related_value(related)?;
-            list.push(diagnostic_value(&self.session, self.encoding, one.finding, related)?)?;
+            let message = message_of(alloc, one.finding)?;
+            let said = message.as_slice();
+            let related = self.related_value(related_of(&roots[at], one.index))?;
+            let range = finding_range(&self.session, self.encoding, one.finding);
+            list.push(diagnostic_value(alloc, range, one.finding, said, related)?)?;
         }
         Ok(Value::Array(list))
     }
@@ -61,62 +72,63 @@ impl Workspace {
                 return Ok(at);
             }
         }
-        let related = self.related_at(root)?;
+        let related = match self.session.root(root) {
+            Some(name) => related_in(&self.session, name.as_bytes())?,
+            None => None,
+        };
         let at = roots.len();
         roots.push(RootRelated { root, related })?;
         Ok(at)
     }
 
-    // The second places of all that the root with this number finds.
-    fn related_at(&self, root: usize) -> Result<Seq<Seq<Related>>, AllocError> {
-        if let Some(name) = self.session.root(root) {
-            if let Some(related) = related_in(&self.session, name.as_bytes())? {
-                return Ok(related);
-            }
-        }
-        Ok(Seq::new(self.alloc()))
-    }
-
     // Second places, as they are told.
     fn related_value(&self, related: &[Related]) -> Result<Value, AllocError> {
-        let alloc = self.alloc();
+        let alloc = self.session.allocator();
         let mut list = Vec::with_capacity(alloc, related.len())?;
         'related: for second in related {
-            let uri = self.uri_for(&second.place.file.name())?;
-            let token = Token {
+            let uri = uri_for(&self.documents, &self.folders, &second.place.file.name())?;
+            let token = LocatedToken {
                 place: &second.place,
                 number: second.number,
                 text: second.text.as_bytes(),
             };
             let range = range_of(&self.session, self.encoding, token);
-            let location = location_value(alloc, &uri, range)?;
-            let message = second_message(alloc, second)?;
-            list.push(json!(in alloc; {"location": location, "message": message})?)?;
+            list.push(second_value(alloc, &uri, range, second)?)?;
         }
         Ok(Value::Array(list))
     }
 }
 
-// A finding, with what is told of its second places.
+// A second place, as it is told.
+fn second_value(
+    alloc: Global,
+    uri: &String,
+    range: Range,
+    second: &Related,
+) -> Result<Value, AllocError> {
+    json!(in alloc; {
+        "location": location_value(alloc, uri, range)?,
+        "message": second_message(alloc, second)?,
+    })
+}
+
+// A finding that says this, with what is told of its second places.
 fn diagnostic_value(
-    session: &Session,
-    encoding: Encoding,
+    alloc: Global,
+    range: Range,
     finding: &Finding,
+    message: &[u8],
     related: Value,
 ) -> Result<Value, AllocError>
-    ensures { IfOk result (λ value. IsDiagnostic encoding session.now.project finding.now
-        (view related) (view value)) }
+    ensures { IfOk result (λ value. view value
+        ≡ diagnostic_json finding.now range message.now (view related)) }
 {
-    let alloc = session.allocator();
-    let code = shown_value(alloc, &finding.code.text())?;
-    let message = message_of(alloc, finding)?;
-    let message = shown_value(alloc, &message)?;
-    let range = range_value(alloc, finding_range(session, encoding, finding))?;
+    // What is owned goes in first, and what is made when it goes in.
     json!(in alloc; {
-        "code": code,
-        "message": message,
-        "range": range,
         "relatedInformation": related,
+        "code": shown_value(alloc, &finding.code.text())?,
+        "message": shown_value(alloc, message)?,
+        "range": range_value(alloc, range)?,
         "severity": severity(finding.code),
         "source": "idltool",
     })
@@ -128,14 +140,17 @@ fn finding_range(session: &Session, encoding: Encoding, finding: &Finding) -> Ra
 {
     match &finding.text {
         Some(text) => {
-            let token = Token {
+            let token = LocatedToken {
                 place: &finding.place,
                 number: finding.number,
                 text: text.as_bytes(),
             };
             range_of(session, encoding, token)
         }
-        None => line_range(session, encoding, &finding.place),
+        None => {
+            let lines = lines_of(session, &finding.place);
+            line_range(encoding, lines, finding.place.line)
+        }
     }
 }
 

@@ -13,10 +13,10 @@ ghost use Rattle.idl_server.specs.Files.{IsFiled, StaysBeside};
 ghost use Rattle.idl_server.specs.declared.document.Document.{Document};
 
 use crate::document::{Document, set_behind, set_text};
-use crate::workspace::Workspace;
-use idl_editor::{ContentChange, LineSplice, after_change};
+use crate::workspace::{Workspace, keep_all, push_refused};
+use idl_editor::{ContentChange, Encoding, LineSplice, after_change};
 use idl_source::{Name, Refusal, cut};
-use std::alloc::AllocError;
+use std::alloc::{AllocError, Global};
 
 impl Workspace {
     /// A document is opened.
@@ -27,7 +27,7 @@ impl Workspace {
         ensures held { OnOk result (OnlyRefusedIsBehind self.old.session.project name.now
             self.new.documents.entries) }
     {
-        let alloc = self.alloc();
+        let alloc = self.session.allocator();
         let uri = String::from_str(alloc, uri)?;
         let text = Vec::from_slice(alloc, text.as_bytes())?;
         self.documents
@@ -60,31 +60,23 @@ impl Workspace {
         if let [change] = changes
             && !document.is_behind
         {
-            let after = after_change(self.alloc(), self.encoding, &document.text, *change)?;
+            let after = after_change(
+                self.session.allocator(),
+                self.encoding,
+                &document.text,
+                *change,
+            )?;
             set_text(&mut self.documents, name, after.text);
             return self.splice(name, after.splice);
         }
-        let text = self.text_after_all(&document.text, changes)?;
+        let text = text_after_all(
+            self.session.allocator(),
+            self.encoding,
+            &document.text,
+            changes,
+        )?;
         set_text(&mut self.documents, name, text);
         self.put_whole(name)
-    }
-
-    // A text after changes.
-    fn text_after_all(
-        &self,
-        old: &[u8],
-        changes: &[ContentChange<'_>],
-    ) -> Result<Vec<u8>, AllocError>
-        ensures { IfOk result (λ text. text.items
-            ≡ text_after_all self.now.encoding old.now (map change_told changes.now)) }
-    {
-        let alloc = self.alloc();
-        let mut text = Vec::from_slice(alloc, old)?;
-        'changes: for change in changes {
-            let after = after_change(alloc, self.encoding, &text, *change)?;
-            text = after.text;
-        }
-        Ok(text)
     }
 
     // Splices the lines of a document's file. Where that is refused, puts its whole text. So where the splice makes its text the file, it is filed.
@@ -107,7 +99,7 @@ impl Workspace {
         {
             Ok(_) => {
                 set_behind(&mut self.documents, name, false);
-                self.keep_touched()
+                keep_all(&mut self.touched, self.session.touched())
             }
             Err(_) => self.put_whole(name),
         }
@@ -126,17 +118,35 @@ impl Workspace {
         let Some(document) = self.documents.get(name) else {
             return Ok(());
         };
-        let lines = cut(self.alloc(), &document.text)?;
+        let lines = cut(self.session.allocator(), &document.text)?;
         match self.session.put(name.as_bytes(), lines) {
             Ok(_) => {
                 set_behind(&mut self.documents, name, false);
-                self.keep_touched()
+                keep_all(&mut self.touched, self.session.touched())
             }
             Err(Refusal::NoMemory) => Err(AllocError),
             Err(refusal) => {
                 set_behind(&mut self.documents, name, true);
-                self.keep_refused(name.as_bytes(), refusal)
+                push_refused(&mut self.refused, name.as_bytes(), refusal)
             }
         }
     }
+}
+
+// A text after changes.
+fn text_after_all(
+    alloc: Global,
+    encoding: Encoding,
+    old: &[u8],
+    changes: &[ContentChange<'_>],
+) -> Result<Vec<u8>, AllocError>
+    ensures { IfOk result (λ text. text.items
+        ≡ text_after_all encoding old.now (map change_told changes.now)) }
+{
+    let mut text = Vec::from_slice(alloc, old)?;
+    'changes: for change in changes {
+        let after = after_change(alloc, encoding, &text, *change)?;
+        text = after.text;
+    }
+    Ok(text)
 }

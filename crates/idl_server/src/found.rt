@@ -14,14 +14,17 @@ const MOST_TOLD: usize = 20;
 
 /// What a root finds: the number of the root, and that of the finding among those of the root.
 #[derive(Clone, Copy)]
-pub(crate) struct Found<'a> {
+pub(crate) struct RootFinding<'a> {
     pub root: usize,
     pub index: usize,
     pub finding: &'a Finding,
 }
 
 /// What roots find in a file, each once, in the order of lines: the first ones.
-pub(crate) fn found_in<'a>(session: &'a Session, name: &Name) -> Result<Vec<Found<'a>>, AllocError>
+pub(crate) fn found_in<'a>(
+    session: &'a Session,
+    name: &Name,
+) -> Result<Vec<RootFinding<'a>>, AllocError>
     ensures { IfOk result (λ found. findings_in found.items
         ≡ found_in session.now.project name.now) }
 {
@@ -50,7 +53,7 @@ fn findings_at(session: &Session, root: usize) -> Option<&[Finding]>
 
 // Puts in what a root finds in a file.
 fn put_all<'a>(
-    found: &mut Vec<Found<'a>>,
+    found: &mut Vec<RootFinding<'a>>,
     name: &Name,
     root: usize,
     findings: &'a [Finding],
@@ -60,7 +63,7 @@ fn put_all<'a>(
         (filter (is_in name.now) findings.entry.now)) }
 {
     'findings: for index in 0..findings.len() {
-        let one = Found {
+        let one = RootFinding {
             root,
             index,
             finding: &findings[index],
@@ -71,7 +74,11 @@ fn put_all<'a>(
 }
 
 // Puts one in, if it is in this file.
-fn put_if_in<'a>(found: &mut Vec<Found<'a>>, name: &Name, one: Found<'a>) -> Result<(), AllocError>
+fn put_if_in<'a>(
+    found: &mut Vec<RootFinding<'a>>,
+    name: &Name,
+    one: RootFinding<'a>,
+) -> Result<(), AllocError>
     ensures { OnOk result (findings_in found.new.items
         ≡ told_if (is_in name.now one.entry.finding.now)
         (findings_in found.old.items) one.entry.finding.now) }
@@ -83,7 +90,10 @@ fn put_if_in<'a>(found: &mut Vec<Found<'a>>, name: &Name, one: Found<'a>) -> Res
 }
 
 // Puts one in behind those of its line and before those of later ones, unless one of them tells the same: the first ones stay.
-fn put_in_order<'a>(found: &mut Vec<Found<'a>>, one: Found<'a>) -> Result<(), AllocError>
+fn put_in_order<'a>(
+    found: &mut Vec<RootFinding<'a>>,
+    one: RootFinding<'a>,
+) -> Result<(), AllocError>
     ensures { OnOk result (findings_in found.new.items
         ≡ told_with (findings_in found.old.items) one.entry.finding.now) }
 {
@@ -99,7 +109,7 @@ fn put_in_order<'a>(found: &mut Vec<Found<'a>>, one: Found<'a>) -> Result<(), Al
 }
 
 // How many of these are before those of later lines.
-fn place_behind(found: &[Found<'_>], line: u32) -> usize
+fn place_behind(found: &[RootFinding<'_>], line: u32) -> usize
     ensures place { result ≡ position_or_len (is_later line) (findings_in found.entry.now) }
     ensures within { result ≤ length found.entry.now }
 {
@@ -110,7 +120,7 @@ fn place_behind(found: &[Found<'_>], line: u32) -> usize
 }
 
 // Whether one of these tells what a finding does.
-fn is_among(found: &[Found<'_>], finding: &Finding) -> bool
+fn is_among(found: &[RootFinding<'_>], finding: &Finding) -> bool
     ensures { result ≡ list_any (is_same finding.now) (findings_in found.entry.now) }
 {
     match found {

@@ -32,5 +32,5 @@ mod workspace;
 
 pub use idl_loader;
 pub use outbox::Outbox;
-pub use server::{Next, Server};
+pub use server::{Server, StepOutcome};
 pub use service::LanguageServer;

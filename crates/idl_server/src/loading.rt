@@ -6,18 +6,19 @@ ghost use Rattle.std.specs.Str.{bytes_eq};
 ghost use Rattle.idl_related.specs.idl_project.Asked.{asked_of};
 ghost use Rattle.idl_related.specs.idl_project.Batch.{edit_of};
 ghost use Rattle.idl_related.specs.idl_project.Project.{is_root};
-ghost use Rattle.idl_loader.specs.Holding.{Allows, Holding, NoFile};
+ghost use Rattle.idl_loader.specs.Holding.{Holding};
 ghost use Rattle.idl_loader.specs.Holding.{IsFileOf};
-ghost use Rattle.idl_server.specs.Files.{AreFiled, AreTried, AreTriedBy, IsAmong, IsTried, StaysCompiled, StaysSet, told_by};
+ghost use Rattle.idl_server.specs.Files.{AreFiled, AreTried, AreTriedBy, IsAmong, IsNamed, IsWith, StaysCompiled, StaysSet, told_by};
 ghost use Rattle.idl_server.specs.Loading.{IsLoadedEdit, StaysOpen};
 ghost use Rattle.idl_server.specs.Roots.{AreCovered, AreRooted};
 
-use crate::closing::OnDisk;
-use crate::workspace::Workspace;
+use crate::closing::{OnDisk, loaded};
+use crate::document::Document;
+use crate::workspace::{Workspace, keep_all, push_refused};
 use idl_loader::PathLoader;
 use idl_related::idl_project::FileEdit;
 use idl_source::{Line, Name};
-use indexmap::IndexSet;
+use indexmap::{IndexMap, IndexSet};
 use std::alloc::AllocError;
 
 impl Workspace {
@@ -56,7 +57,7 @@ impl Workspace {
         if untried.is_empty() {
             return Ok(false);
         }
-        let alloc = self.alloc();
+        let alloc = self.session.allocator();
         let mut loaded = Vec::new(alloc);
         let mut edits = Vec::new(alloc);
         let names = untried.as_slice();
@@ -77,8 +78,8 @@ impl Workspace {
             All (λ name. lookup (bytes_eq name) self.now.documents.entries ≡ None) names.keys) }
         ensures tried { IfOk result (λ names. names.keys ≡ [] → AreTried self.now) }
     {
-        let mut names = IndexSet::new(self.alloc());
         let roots = self.roots()?;
+        let mut names = IndexSet::new(self.session.allocator());
         self.add_untried(&roots, &mut names)?;
         Ok(names)
     }
@@ -97,25 +98,7 @@ impl Workspace {
             let Some(absent) = self.session.absent(root.as_bytes()) else {
                 continue;
             };
-            self.add_absent(absent, names)?;
-        }
-        Ok(())
-    }
-
-    // Adds those of these names that aren't open and weren't tried.
-    fn add_absent(&self, absent: &[Name], names: &mut IndexSet<Name>) -> Result<(), AllocError>
-        ensures closed { All (λ name. lookup (bytes_eq name) self.now.documents.entries ≡ None)
-            names.old.keys
-            → OnOk result (All (λ name. lookup (bytes_eq name) self.now.documents.entries ≡ None)
-            names.new.keys) }
-        ensures tried { OnOk result (names.new.keys ≡ []
-            → (names.old.keys ≡ []) × All (IsTried self.now) absent.now) }
-    {
-        'absent: for name in absent {
-            if self.is_tried(name) {
-                continue;
-            }
-            names.insert(name.copied())?;
+            add_absent(&self.documents, &self.tried, absent, names)?;
         }
         Ok(())
     }
@@ -128,41 +111,13 @@ impl Workspace {
             IfOk result (λ names. All (λ root.
             All (IsAmong names.keys self.now) (asked_of project root)) project.roots) }
     {
-        let mut names = IndexSet::new(self.alloc());
         let roots = self.roots()?;
+        let mut names = IndexSet::new(self.session.allocator());
         'roots: for root in &roots {
             let asked = self.session.asked(root.as_bytes())?;
-            self.add_closed(&asked, &mut names)?;
+            add_closed(&self.documents, &asked, &mut names)?;
         }
         Ok(names)
-    }
-
-    // Adds those of these names that aren't open.
-    fn add_closed(&self, asked: &[Name], names: &mut IndexSet<Name>) -> Result<(), AllocError>
-        ensures closed { All (λ name. lookup (bytes_eq name) self.now.documents.entries ≡ None)
-            names.old.keys
-            → OnOk result (All (λ name. lookup (bytes_eq name) self.now.documents.entries ≡ None)
-            names.new.keys) }
-        ensures all { OnOk result (All (IsAmong names.new.keys self.now) asked.now) }
-        ensures kept { OnOk result ((name : List ℕ)
-            → IsAmong names.old.keys self.now name → IsAmong names.new.keys self.now name) }
-    {
-        'asked: for name in asked {
-            if self.documents.contains_key(name) {
-                continue;
-            }
-            names.insert(name.copied())?;
-        }
-        Ok(())
-    }
-
-    // Whether a name was tried, or is open.
-    fn is_tried(&self, name: &Name) -> bool
-        ensures tried { result ≡ true → IsTried self.now name.now }
-        ensures closed { result ≡ false
-            → lookup (bytes_eq name.now) self.now.documents.entries ≡ None }
-    {
-        self.tried.contains(name) || self.documents.contains_key(name)
     }
 
     /// The lines of a file on the disk, or it is kept that there are none.
@@ -178,38 +133,17 @@ impl Workspace {
             IfOk result (λ lines. IfSome lines (λ l. IsFileOf told name.now l.items)) }
         ensures stays { L.told_of loader.new ≡ L.told_of loader.old }
     {
-        match self.loaded(loader, name)? {
+        match loaded(self.session.allocator(), &self.folders, loader, name)? {
             OnDisk::Lines(lines) => Ok(Some(lines)),
             OnDisk::Missing => {
-                self.keep_missing(name)?;
+                self.tried.insert(name.copied())?;
                 Ok(None)
             }
             OnDisk::Unread => {
-                self.pass_over(name)?;
+                pass_over(&mut self.tried, &mut self.unread, name)?;
                 Ok(None)
             }
         }
-    }
-
-    // Keeps that there is no file.
-    fn keep_missing(&mut self, name: &Name) -> Result<(), AllocError>
-        ensures same { StaysCompiled self.old self.new }
-        ensures filed { (told : List ℕ → Holding) → Allows (told name.now) NoFile
-            → AreFiled told self.old → OnOk result (AreFiled told self.new) }
-    {
-        self.tried.insert(name.copied())?;
-        Ok(())
-    }
-
-    // Keeps that a file can't be read, or that it is refused.
-    fn pass_over(&mut self, name: &Name) -> Result<(), AllocError>
-        ensures same { StaysCompiled self.old self.new }
-        ensures filed { (told : List ℕ → Holding)
-            → AreFiled told self.old → OnOk result (AreFiled told self.new) }
-    {
-        self.unread.insert(name.copied())?;
-        self.tried.insert(name.copied())?;
-        Ok(())
     }
 
     // Puts files of these names, as one edit. The first one that is refused isn't tried again.
@@ -220,14 +154,85 @@ impl Workspace {
             × (AreFiled told self.old → AreFiled told self.new)) }
     {
         match self.session.batch(edits) {
-            Ok(_) => self.keep_touched(),
+            Ok(_) => keep_all(&mut self.touched, self.session.touched()),
             Err((number, refusal)) => match names.get(number) {
                 Some(name) => {
-                    self.pass_over(name)?;
-                    self.keep_refused(name.as_bytes(), refusal)
+                    pass_over(&mut self.tried, &mut self.unread, name)?;
+                    push_refused(&mut self.refused, name.as_bytes(), refusal)
                 }
                 None => Err(AllocError),
             },
         }
     }
+}
+
+// Adds those of these names that aren't open and weren't tried.
+fn add_absent(
+    documents: &IndexMap<Name, Document>,
+    tried: &IndexSet<Name>,
+    absent: &[Name],
+    names: &mut IndexSet<Name>,
+) -> Result<(), AllocError>
+    ensures closed { All (λ name. lookup (bytes_eq name) documents.now.entries ≡ None)
+        names.old.keys
+        → OnOk result (All (λ name. lookup (bytes_eq name) documents.now.entries ≡ None)
+        names.new.keys) }
+    ensures tried { OnOk result (names.new.keys ≡ [] → (names.old.keys ≡ [])
+        × All (IsNamed tried.now.keys documents.now.entries) absent.now) }
+{
+    'absent: for name in absent {
+        if is_tried(documents, tried, name) {
+            continue;
+        }
+        names.insert(name.copied())?;
+    }
+    Ok(())
+}
+
+// Whether a name was tried, or is open.
+fn is_tried(documents: &IndexMap<Name, Document>, tried: &IndexSet<Name>, name: &Name) -> bool
+    ensures tried { result ≡ true → IsNamed tried.now.keys documents.now.entries name.now }
+    ensures closed { result ≡ false
+        → lookup (bytes_eq name.now) documents.now.entries ≡ None }
+{
+    tried.contains(name) || documents.contains_key(name)
+}
+
+// Adds those of these names that aren't open.
+fn add_closed(
+    documents: &IndexMap<Name, Document>,
+    asked: &[Name],
+    names: &mut IndexSet<Name>,
+) -> Result<(), AllocError>
+    ensures closed { All (λ name. lookup (bytes_eq name) documents.now.entries ≡ None)
+        names.old.keys
+        → OnOk result (All (λ name. lookup (bytes_eq name) documents.now.entries ≡ None)
+        names.new.keys) }
+    ensures all { OnOk result
+        (All (IsNamed names.new.keys documents.now.entries) asked.now) }
+    ensures kept { OnOk result ((name : List ℕ)
+        → IsNamed names.old.keys documents.now.entries name
+        → IsNamed names.new.keys documents.now.entries name) }
+{
+    'asked: for name in asked {
+        if documents.contains_key(name) {
+            continue;
+        }
+        names.insert(name.copied())?;
+    }
+    Ok(())
+}
+
+// Keeps that a file can't be read, or that it is refused.
+fn pass_over(
+    tried: &mut IndexSet<Name>,
+    unread: &mut IndexSet<Name>,
+    name: &Name,
+) -> Result<(), AllocError>
+    ensures unread { OnOk result (IsWith name.now true unread.old.keys unread.new.keys) }
+    ensures tried { OnOk result (IsWith name.now true tried.old.keys tried.new.keys) }
+{
+    unread.insert(name.copied())?;
+    tried.insert(name.copied())?;
+    Ok(())
 }

@@ -5,12 +5,12 @@ ghost use Rattle.std.specs.Option.{option_copied, option_map};
 ghost use Rattle.serde_json.specs.View.{view};
 ghost use Rattle.idl_server.specs.Named.{declared_entry, declared_place, definition_at, definition_json, details_with, entry_at, entry_of, entry_text, has_path, is_declared_at, stands_at, used_at};
 
-use crate::places::{Token, is_up_to, location_value, range_of};
+use crate::places::{LocatedToken, is_up_to, location_value, range_of};
 use crate::shown::shown_value;
-use crate::workspace::Workspace;
+use crate::workspace::{Workspace, uri_for};
 use idl_editor::{Encoding, Position};
 use idl_related::idl_project::{
-    DeclaredPlace, DetailedEntry, Details, Session, SitedToken, UsedName,
+    DeclaredPlace, DetailedEntry, Details, Row, Session, SitedToken, UsedName,
 };
 use idl_repo::details::kind_word;
 use idl_repo::push_path;
@@ -19,22 +19,31 @@ use serde_json::{Value, json};
 use std::alloc::{AllocError, Global};
 
 /// What is told of a root.
-#[derive(Drop)]
 pub(crate) struct RootDetails {
     pub root: Name,
     pub details: Details,
 }
 
+// One call wherever one is dropped, in place of all its parts.
+impl Drop for RootDetails {
+    fn drop(self) {
+        let RootDetails {
+            root: _root,
+            details: _details,
+        } = self;
+    }
+}
+
 /// A position in a file.
 #[derive(Clone, Copy)]
-pub(crate) struct Spot<'a> {
+pub(crate) struct DocumentPosition<'a> {
     pub name: &'a Name,
     pub position: Position,
 }
 
 impl Workspace {
     /// Where what the name at a position denotes is declared, and else nothing.
-    pub fn definition_at(&self, spot: Spot<'_>) -> Result<Value, AllocError>
+    pub fn definition_at(&self, spot: DocumentPosition<'_>) -> Result<Value, AllocError>
         ensures { IfOk result (λ value. view value ≡ definition_json self.now
             (definition_at self.now.encoding self.now.session.project
             spot.entry.name.now spot.entry.position)) }
@@ -46,7 +55,11 @@ impl Workspace {
     }
 
     // The same by what is told of a root.
-    fn definition_in(&self, details: &Details, spot: Spot<'_>) -> Result<Value, AllocError>
+    fn definition_in(
+        &self,
+        details: &Details,
+        spot: DocumentPosition<'_>,
+    ) -> Result<Value, AllocError>
         ensures { IfOk result (λ value. view value ≡ definition_json self.now
             (declared_place self.now.encoding self.now.session.project details.now
             spot.entry.name.now spot.entry.position)) }
@@ -55,28 +68,24 @@ impl Workspace {
             return Ok(Value::Null);
         };
         let token = &declared.name;
-        let uri = self.uri_for(&token.place.file.name())?;
-        let range = range_of(&self.session, self.encoding, Token::of(token));
-        location_value(self.alloc(), &uri, range)
+        let uri = uri_for(&self.documents, &self.folders, &token.place.file.name())?;
+        let range = range_of(&self.session, self.encoding, LocatedToken::of(token));
+        location_value(self.session.allocator(), &uri, range)
     }
 
     /// What the name at a position denotes, and else nothing.
-    pub fn hover_at(&self, spot: Spot<'_>) -> Result<Value, AllocError> {
-        let alloc = self.alloc();
+    pub fn hover_at(&self, spot: DocumentPosition<'_>) -> Result<Value, AllocError> {
         let Some(told) = self.details_with(spot.name)? else {
             return Ok(Value::Null);
         };
         let Some(entry) = entry_at(&self.session, self.encoding, &told.details, spot)? else {
             return Ok(Value::Null);
         };
-        let mut text = entry_text(alloc, entry)?;
-        if let Some(row) = row_of(&self.session, &told, entry) {
-            text.extend_from_slice(b"\n")?;
-            text.extend_from_slice(row)?;
-        }
-        let text = shown_value(alloc, &text)?;
-        let contents = json!(in alloc; {"kind": "plaintext", "value": text})?;
-        json!(in alloc; {"contents": contents})
+        let row = match self.session.listing(told.root.as_bytes()) {
+            Some(rows) => row_of(rows, &told.details, entry),
+            None => None,
+        };
+        hover_value(self.session.allocator(), entry, row)
     }
 
     /// What is told of the first root that asks for a file.
@@ -94,10 +103,36 @@ impl Workspace {
     }
 }
 
+// What is shown of an entry, as it is told.
+fn hover_value(
+    alloc: Global,
+    entry: &DetailedEntry,
+    row: Option<&[u8]>,
+) -> Result<Value, AllocError> {
+    let contents = json!(in alloc; {
+        "kind": "plaintext",
+        "value": hover_text(alloc, entry, row)?,
+    })?;
+    json!(in alloc; {"contents": contents})
+}
+
+// The text that is shown of an entry, with its row in the listing behind it.
+fn hover_text(
+    alloc: Global,
+    entry: &DetailedEntry,
+    row: Option<&[u8]>,
+) -> Result<Value, AllocError> {
+    let mut text = entry_text(alloc, entry)?;
+    if let Some(row) = row {
+        text.extend_from_slice(b"\n")?;
+        text.extend_from_slice(row)?;
+    }
+    shown_value(alloc, &text)
+}
+
 // The row of an entry in the listing of its root, which has one for each entry, and none where the root has an error.
-fn row_of<'a>(session: &'a Session, told: &RootDetails, entry: &DetailedEntry) -> Option<&'a [u8]> {
-    let rows = session.listing(told.root.as_bytes())?;
-    for (index, other) in told.details.entries.as_slice().iter().enumerate() {
+fn row_of<'a>(rows: &'a [Row], details: &Details, entry: &DetailedEntry) -> Option<&'a [u8]> {
+    for (index, other) in details.entries.as_slice().iter().enumerate() {
         if other.tree.path == entry.tree.path {
             return Some(rows.get(index)?.as_bytes());
         }
@@ -110,7 +145,7 @@ fn declared_place<'d>(
     session: &Session,
     encoding: Encoding,
     details: &'d Details,
-    spot: Spot<'_>,
+    spot: DocumentPosition<'_>,
 ) -> Result<Option<&'d DeclaredPlace>, AllocError>
     ensures { IfOk result (λ place. option_copied place
         ≡ declared_place encoding session.now.project details.now
@@ -127,7 +162,7 @@ fn entry_at<'d>(
     session: &Session,
     encoding: Encoding,
     details: &'d Details,
-    spot: Spot<'_>,
+    spot: DocumentPosition<'_>,
 ) -> Result<Option<&'d DetailedEntry>, AllocError>
     ensures { IfOk result (λ entry. option_copied entry ≡ entry_at encoding session.now.project
         details.now spot.entry.name.now spot.entry.position) }
@@ -148,7 +183,7 @@ fn declared_entry<'d>(
     session: &Session,
     encoding: Encoding,
     details: &'d Details,
-    spot: Spot<'_>,
+    spot: DocumentPosition<'_>,
 ) -> Option<&'d DetailedEntry>
     ensures { option_copied result ≡ declared_entry encoding session.now.project
         spot.entry.name.now spot.entry.position details.now }
@@ -168,7 +203,7 @@ fn used_at<'d>(
     session: &Session,
     encoding: Encoding,
     details: &'d Details,
-    spot: Spot<'_>,
+    spot: DocumentPosition<'_>,
 ) -> Option<&'d UsedName>
     ensures { option_copied result ≡ used_at encoding session.now.project
         spot.entry.name.now spot.entry.position details.now }
@@ -209,7 +244,7 @@ fn is_declared_at(
     session: &Session,
     encoding: Encoding,
     entry: &DetailedEntry,
-    spot: Spot<'_>,
+    spot: DocumentPosition<'_>,
 ) -> bool
     ensures { result ≡ is_declared_at encoding session.now.project
         spot.entry.name.now spot.entry.position entry.now }
@@ -225,7 +260,12 @@ fn is_declared_at(
 }
 
 // Whether a token stands at a position.
-fn stands_at(session: &Session, encoding: Encoding, token: &SitedToken, spot: Spot<'_>) -> bool
+fn stands_at(
+    session: &Session,
+    encoding: Encoding,
+    token: &SitedToken,
+    spot: DocumentPosition<'_>,
+) -> bool
     ensures { result ≡ stands_at encoding session.now.project
         spot.entry.name.now spot.entry.position token.now }
 {
@@ -236,7 +276,7 @@ fn stands_at(session: &Session, encoding: Encoding, token: &SitedToken, spot: Sp
     if column.is_none() {
         return false;
     }
-    let range = range_of(session, encoding, Token::of(token));
+    let range = range_of(session, encoding, LocatedToken::of(token));
     is_up_to(range.start, spot.position) && is_up_to(spot.position, range.end)
 }
 

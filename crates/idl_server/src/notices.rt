@@ -1,6 +1,6 @@
 //! What an editor tells: documents that are opened, changed, saved and closed, and files that became others.
 
-ghost use Rattle.std.specs.Prelude.{◌≡◌, ℕ, All, List, IfOk, IfSome, None, OnOk, map};
+ghost use Rattle.std.specs.Prelude.{◌≡◌, ℕ, All, List, IfOk, None, OnOk, map};
 ghost use Rattle.std.specs.Option.{option_map};
 ghost use Rattle.std.specs.Map.{lookup};
 ghost use Rattle.std.specs.Str.{bytes_eq};
@@ -8,47 +8,24 @@ ghost use Rattle.serde_json.specs.View.{view};
 ghost use Rattle.idl_editor.specs.declared.messages.method.Method.TheVariants.{DidChange, DidClose, DidOpen};
 ghost use Rattle.idl_loader.specs.Holding.{Holding};
 ghost use Rattle.idl_server.specs.Documents.{HaveTexts, OnlyRefusedAreBehind, change_told, open_after_told, texts_of};
-ghost use Rattle.idl_server.specs.Files.{AreFiled, AreTried, StaysSet, told_by};
+ghost use Rattle.idl_server.specs.Files.{AreFiled, StaysSet, told_by};
 ghost use Rattle.idl_server.specs.Notices.{changes_told, name_in, told_by_notice};
-ghost use Rattle.idl_server.specs.Roots.{AreCovered, AreRooted};
+ghost use Rattle.idl_server.specs.Roots.{AreRooted};
 
 use crate::params::{items_at, opened_text};
-use crate::workspace::Workspace;
+use crate::workspace::{Workspace, name_for};
 use idl_editor::ContentChange;
 use idl_editor::messages::{Method, change_of, changes_of, text_at, uri_of};
+use idl_editor::uris::Folders;
 use idl_loader::PathLoader;
-use idl_source::Name;
+use idl_source::{Line, Name};
 use indexmap::IndexSet;
 use serde_json::Value;
 use std::alloc::{AllocError, Global};
 
 impl Workspace {
-    /// Takes in what a notice tells. One that makes no sense is passed over.
-    pub fn take_in<L: PathLoader>(
-        &mut self,
-        loader: &mut L,
-        method: Method,
-        params: &Value,
-    ) -> Result<(), AllocError>
-        ensures set { OnOk result (StaysSet self.old self.new) }
-        ensures filed { let told = told_by self.old.folders (L.told_of loader.old) in
-            AreFiled told self.old → OnOk result (AreFiled told self.new) }
-        ensures tried { OnOk result (AreTried self.new) }
-        ensures rooted { AreRooted self.old → OnOk result (AreRooted self.new) }
-        ensures covered { OnOk result (AreCovered self.new) }
-        ensures texts { OnOk result (HaveTexts self.new.documents.entries
-            (open_after_told self.old.encoding (texts_of self.old.documents.entries)
-            (told_by_notice self.old.folders method (view params.now)))) }
-        ensures held { OnOk result (OnlyRefusedAreBehind self.old.session.project
-            self.old.documents.entries self.new.documents.entries) }
-        ensures stays { L.told_of loader.new ≡ L.told_of loader.old }
-    {
-        self.take_told(loader, method, params)?;
-        self.settle(loader)
-    }
-
-    // Takes in what a notice tells of documents and files.
-    fn take_told<L: PathLoader>(
+    /// Takes in what a notice tells of documents and files. One that makes no sense is passed over.
+    pub fn take_told<L: PathLoader>(
         &mut self,
         loader: &mut L,
         method: Method,
@@ -75,16 +52,6 @@ impl Workspace {
         }
     }
 
-    /// The name of the document that parameters are about.
-    pub fn name_in(&self, params: &Value) -> Result<Option<Name>, AllocError>
-        ensures { IfOk result (λ name. name ≡ name_in self.now.folders (view params.now)) }
-    {
-        match uri_of(params) {
-            Some(uri) => self.name_for(uri),
-            None => Ok(None),
-        }
-    }
-
     // A document is opened.
     fn take_opened(&mut self, params: &Value) -> Result<(), AllocError>
         ensures set { OnOk result (StaysSet self.old self.new) }
@@ -100,7 +67,7 @@ impl Workspace {
         let (Some(uri), Some(text)) = (uri_of(params), opened_text(params)) else {
             return Ok(());
         };
-        match self.name_for(uri)? {
+        match name_for(self.session.allocator(), &self.folders, uri)? {
             Some(name) => self.open_document(&name, uri, text),
             None => Ok(()),
         }
@@ -118,10 +85,10 @@ impl Workspace {
         ensures held { OnOk result (OnlyRefusedAreBehind self.old.session.project
             self.old.documents.entries self.new.documents.entries) }
     {
-        let Some(name) = self.name_in(params)? else {
+        let Some(name) = name_in(self.session.allocator(), &self.folders, params)? else {
             return Ok(());
         };
-        match changes_told(self.alloc(), params)? {
+        match changes_told(self.session.allocator(), params)? {
             Some(changes) => self.change_document(&name, &changes),
             None => Ok(()),
         }
@@ -144,7 +111,7 @@ impl Workspace {
             self.old.documents.entries self.new.documents.entries) }
         ensures stays { L.told_of loader.new ≡ L.told_of loader.old }
     {
-        match self.name_in(params)? {
+        match name_in(self.session.allocator(), &self.folders, params)? {
             Some(name) => self.close_document(loader, &name),
             None => Ok(()),
         }
@@ -192,32 +159,43 @@ impl Workspace {
         ensures { IfOk result (λ names.
             All (λ name. lookup (bytes_eq name) self.now.documents.entries ≡ None) names.keys) }
     {
-        let mut names = IndexSet::new(self.alloc());
+        let mut names = IndexSet::new(self.session.allocator());
         'files: for file in files {
             let Some(uri) = text_at(file, "uri") else {
                 continue;
             };
-            let Some(name) = self.written_at(uri)? else {
+            let Some(name) = name_for(self.session.allocator(), &self.folders, uri)? else {
                 continue;
             };
+            // What is on the disk is nothing to the session where the file is open, or nothing asked for it.
+            if self.documents.contains_key(&name) {
+                continue;
+            }
+            if !is_known(&self.tried, self.session.file(name.as_bytes()), &name) {
+                continue;
+            }
             names.insert(name)?;
         }
         Ok(names)
     }
+}
 
-    // The name of the file at a URI, unless it is open or nothing asked for it: then what is on the disk is nothing to the session.
-    fn written_at(&self, uri: &str) -> Result<Option<Name>, AllocError>
-        ensures { IfOk result (λ name. IfSome name (λ n.
-            lookup (bytes_eq n) self.now.documents.entries ≡ None)) }
-    {
-        let Some(name) = self.name_for(uri)? else {
-            return Ok(None);
-        };
-        let is_known = self.tried.contains(&name) || self.session.file(name.as_bytes()).is_some();
-        if self.documents.contains_key(&name) || !is_known {
-            return Ok(None);
-        }
-        Ok(Some(name))
+// Whether there is a file of a name, or it was tried.
+fn is_known(tried: &IndexSet<Name>, file: Option<&[Line]>, name: &Name) -> bool {
+    tried.contains(name) || file.is_some()
+}
+
+/// The name of the document that parameters are about.
+pub(crate) fn name_in(
+    alloc: Global,
+    folders: &Folders,
+    params: &Value,
+) -> Result<Option<Name>, AllocError>
+    ensures { IfOk result (λ name. name ≡ name_in folders.now (view params.now)) }
+{
+    match uri_of(params) {
+        Some(uri) => name_for(alloc, folders, uri),
+        None => Ok(None),
     }
 }
 

@@ -21,20 +21,20 @@ const RETURN: u8 = b'\r';
 
 /// A token of a file: the line on which it is found, its number there, and how it is spelled.
 #[derive(Clone, Copy)]
-pub(crate) struct Token<'a> {
+pub(crate) struct LocatedToken<'a> {
     pub place: &'a Place,
     pub number: Option<usize>,
     pub text: &'a [u8],
 }
 
-impl<'a> Token<'a> {
+impl<'a> LocatedToken<'a> {
     /// This token.
-    pub fn of(token: &'a SitedToken) -> Token<'a>
+    pub fn of(token: &'a SitedToken) -> LocatedToken<'a>
         ensures place { result.place.now ≡ token.now.place }
         ensures number { result.number ≡ token.now.number }
         ensures text { result.text.now ≡ token.now.text }
     {
-        Token {
+        LocatedToken {
             place: &token.place,
             number: token.number,
             text: token.text.as_bytes(),
@@ -43,31 +43,30 @@ impl<'a> Token<'a> {
 }
 
 /// The range of a token, or of its whole line where it isn't known where it begins.
-pub(crate) fn range_of(session: &Session, encoding: Encoding, token: Token<'_>) -> Range
+pub(crate) fn range_of(session: &Session, encoding: Encoding, token: LocatedToken<'_>) -> Range
     ensures { result ≡ range_of encoding session.now.project
         token.entry.place.now token.entry.number token.entry.text.now }
 {
+    let lines = lines_of(session, token.place);
     match session.column(token.place, token.number, token.text) {
         Some(column) => {
-            let lines = lines_of(session, token.place);
             let end = column.saturating_add(token.text.len());
             range_between(encoding, lines, token.place.line, (column, end))
         }
-        None => line_range(session, encoding, token.place),
+        None => line_range(encoding, lines, token.place.line),
     }
 }
 
-/// The range of a line.
-pub(crate) fn line_range(session: &Session, encoding: Encoding, place: &Place) -> Range
-    ensures { result ≡ line_range encoding (lines_of session.now.project place.now.file)
-        place.now.line }
+/// The range of a line of a file.
+pub(crate) fn line_range(encoding: Encoding, lines: &[Line], number: u32) -> Range
+    requires { IsAllowedFile lines.now }
+    ensures { result ≡ line_range encoding lines.now number }
 {
-    let lines = lines_of(session, place);
-    range_between(encoding, lines, place.line, (0, usize::MAX))
+    range_between(encoding, lines, number, (0, usize::MAX))
 }
 
-// The lines of the file in which a place is.
-fn lines_of<'a>(session: &'a Session, place: &Place) -> &'a [Line]
+/// The lines of the file in which a place is.
+pub(crate) fn lines_of<'a>(session: &'a Session, place: &Place) -> &'a [Line]
     ensures lines { result.now ≡ lines_of session.now.project place.now.file }
     ensures allowed { IsAllowedFile result.now }
 {
@@ -172,17 +171,17 @@ pub(crate) fn is_up_to(one: Position, other: Position) -> bool
 pub(crate) fn range_value(alloc: Global, range: Range) -> Result<Value, AllocError>
     ensures { IfOk result (λ value. view value ≡ range_json range) }
 {
-    let start = position_value(alloc, range.start)?;
-    let end = position_value(alloc, range.end)?;
-    json!(in alloc; {"end": end, "start": start})
+    json!(in alloc; {
+        "end": position_value(alloc, range.end)?,
+        "start": position_value(alloc, range.start)?,
+    })
 }
 
 /// A range of a document, as it is told.
 pub(crate) fn location_value(alloc: Global, uri: &String, range: Range) -> Result<Value, AllocError>
     ensures { IfOk result (λ value. view value ≡ location_json (string_bytes uri.now) range) }
 {
-    let range = range_value(alloc, range)?;
-    json!(in alloc; {"range": range, "uri": uri})
+    json!(in alloc; {"range": range_value(alloc, range)?, "uri": uri})
 }
 
 // A position, as it is told.

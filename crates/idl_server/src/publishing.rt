@@ -7,7 +7,8 @@ ghost use Rattle.idl_server.specs.Json.{said_by};
 ghost use Rattle.idl_server.specs.Published.{ArePublished, found_json};
 
 use crate::outbox::Outbox;
-use crate::workspace::Workspace;
+use crate::workspace::{Workspace, uri_for};
+use idl_related::idl_project::Finding;
 use idl_source::Name;
 use indexmap::{IndexMap, IndexSet};
 use serde_json::{Value, json};
@@ -16,16 +17,16 @@ use std::alloc::{AllocError, Global};
 /// What was told last of each file of which anything was, as text; in which files each root finds anything; and of which files it is to
 /// be told anew.
 #[derive(Drop)]
-pub(crate) struct Told {
+pub(crate) struct PublishedDiagnostics {
     texts: IndexMap<Name, Vec<u8>>,
     finders: IndexMap<Name, IndexSet<Name>>,
     pending: IndexSet<Name>,
 }
 
-impl Told {
+impl PublishedDiagnostics {
     /// Nothing was told.
-    pub fn new(alloc: Global) -> Told {
-        Told {
+    pub fn new(alloc: Global) -> PublishedDiagnostics {
+        PublishedDiagnostics {
             texts: IndexMap::new(alloc),
             finders: IndexMap::new(alloc),
             pending: IndexSet::new(alloc),
@@ -63,19 +64,33 @@ impl Told {
     // Adds the files in which touched and dropped roots found anything, or find it now.
     fn gather(&mut self, workspace: &Workspace) -> Result<(), AllocError> {
         'dropped: for root in workspace.dropped.iter() {
-            if let Some(before) = self.finders.get(root) {
-                add_all(&mut self.pending, before)?;
-            }
+            self.add_found(root)?;
             self.finders.shift_remove(root);
         }
         'touched: for root in workspace.touched.iter() {
-            if let Some(before) = self.finders.get(root) {
-                add_all(&mut self.pending, before)?;
-            }
-            let now = files_found_by(workspace, root)?;
-            add_all(&mut self.pending, &now)?;
-            self.finders.insert(root.copied(), now)?;
+            self.add_found(root)?;
+            let findings = match workspace.session.findings(root.as_bytes()) {
+                Some(findings) => findings,
+                None => &[],
+            };
+            self.keep_found(root, findings)?;
+            self.add_found(root)?;
         }
+        Ok(())
+    }
+
+    // Adds the files in which a root finds anything, as it was kept last.
+    fn add_found(&mut self, root: &Name) -> Result<(), AllocError> {
+        match self.finders.get(root) {
+            Some(files) => add_all(&mut self.pending, files),
+            None => Ok(()),
+        }
+    }
+
+    // Keeps in which files a root finds anything.
+    fn keep_found(&mut self, root: &Name, findings: &[Finding]) -> Result<(), AllocError> {
+        let files = files_of(*self.finders.allocator(), findings)?;
+        self.finders.insert(root.copied(), files)?;
         Ok(())
     }
 
@@ -94,7 +109,7 @@ impl Told {
         if self.has_told(name, &text) {
             return Ok(());
         }
-        let uri = workspace.uri_for(name)?;
+        let uri = uri_for(&workspace.documents, &workspace.folders, name)?;
         let params = params_of(out.alloc(), uri, list)?;
         out.tell("textDocument/publishDiagnostics", &params)?;
         self.texts.insert(name.copied(), text)?;
@@ -110,13 +125,11 @@ impl Told {
     }
 }
 
-// The files in which a root finds anything, if it is one.
-fn files_found_by(workspace: &Workspace, root: &Name) -> Result<IndexSet<Name>, AllocError> {
-    let mut files = IndexSet::new(workspace.alloc());
-    if let Some(findings) = workspace.session.findings(root.as_bytes()) {
-        'findings: for finding in findings {
-            files.insert(finding.place.file.name())?;
-        }
+// The files that findings are in.
+fn files_of(alloc: Global, findings: &[Finding]) -> Result<IndexSet<Name>, AllocError> {
+    let mut files = IndexSet::new(alloc);
+    'findings: for finding in findings {
+        files.insert(finding.place.file.name())?;
     }
     Ok(files)
 }

@@ -2,14 +2,15 @@
 
 ghost use Rattle.std.specs.Prelude.{◌≡◌, ◌⊎◌, ℕ, List, [], IfOk, IfSome, IsSome, None, OnOk, false, true};
 ghost use Rattle.std.specs.List.{list_any};
+ghost use Rattle.std.specs.Option.{option_copied};
 ghost use Rattle.std.specs.Str.{bytes_eq};
 ghost use Rattle.idl_server.specs.Files.{IsKept, StaysFiled};
-ghost use Rattle.idl_server.specs.Named.{asks_for, root_with};
-ghost use Rattle.idl_server.specs.Roots.{AreCovered, AreRooted, IsFull, IsOpen, IsWaiting};
+ghost use Rattle.idl_server.specs.Named.{root_with};
+ghost use Rattle.idl_server.specs.Roots.{AreCovered, AreRooted, IsOpen, IsWaiting};
 
-use crate::workspace::Workspace;
-use idl_related::idl_project::{MAX_ROOTS, Session};
-use idl_source::{Name, Refusal};
+use crate::workspace::{Workspace, keep_all, push_refused};
+use idl_related::idl_project::{Finding, MAX_ROOTS};
+use idl_source::{Line, Name, Refusal};
 use indexmap::IndexSet;
 use std::alloc::AllocError;
 
@@ -21,23 +22,12 @@ impl Workspace {
         ensures covered { IfOk result (λ any. any ≡ false → AreCovered self.new) }
         ensures rooted { AreRooted self.old → OnOk result (AreRooted self.new) }
     {
-        self.call_back();
+        call_back(self.session.root(MAX_ROOTS - 1), &mut self.turned_away);
         let Some(name) = self.first_unasked()? else {
             return Ok(false);
         };
         self.adopt(&name)?;
         Ok(true)
-    }
-
-    // No document stays turned away where there may be a further root.
-    fn call_back(&mut self)
-        ensures kept { IsKept self.old self.new }
-        ensures room { (self.new.turned_away.keys ≡ []) ⊎ IsFull self.new.session.project }
-    {
-        if self.session.root(MAX_ROOTS - 1).is_some() {
-            return;
-        }
-        self.turned_away.clear();
     }
 
     // Makes a root of an open document; where there are as many as there may be, it is turned away.
@@ -47,11 +37,11 @@ impl Workspace {
             → OnOk result (AreRooted self.new) }
     {
         match self.session.add_root(name.as_bytes()) {
-            Ok(_) => self.keep_touched(),
+            Ok(_) => keep_all(&mut self.touched, self.session.touched()),
             Err(Refusal::NoMemory) => Err(AllocError),
             Err(refusal) => {
                 self.turned_away.insert(name.copied())?;
-                self.keep_refused(name.as_bytes(), refusal)
+                push_refused(&mut self.refused, name.as_bytes(), refusal)
             }
         }
     }
@@ -60,7 +50,7 @@ impl Workspace {
     pub fn roots(&self) -> Result<Vec<Name>, AllocError>
         ensures { IfOk result (λ names. names.items ≡ self.now.session.project.roots) }
     {
-        let mut names = Vec::new(self.alloc());
+        let mut names = Vec::new(self.session.allocator());
         'roots: for at in 0..usize::MAX {
             match self.session.root(at) {
                 Some(root) => names.push(root.copied())?,
@@ -79,8 +69,8 @@ impl Workspace {
         let held = roots.as_slice();
         'each: for index in 0..held.len() {
             let root = &held[index];
-            let is_asked = asks_for(&self.session, root, name)?;
-            if is_asked {
+            let asked = self.session.asked(root.as_bytes())?;
+            if asked.contains(name) {
                 return Ok(Some(root.copied()));
             }
         }
@@ -93,13 +83,14 @@ impl Workspace {
             → IsWaiting self.now other → IsSome (root_with self.now.session.project other)) }
         ensures opened { IfOk result (λ name. IfSome name (IsOpen self.now)) }
     {
-        let mut left = self.waiting()?;
         let roots = self.roots()?;
+        let mut left = self.waiting()?;
         'roots: for root in &roots {
             if left.is_empty() {
                 return Ok(None);
             }
-            take_asked(&self.session, root, &mut left)?;
+            let asked = self.session.asked(root.as_bytes())?;
+            take_all(&asked, &mut left);
         }
         match left.first() {
             Some(name) => Ok(Some(name.copied())),
@@ -114,45 +105,53 @@ impl Workspace {
         ensures opened { IfOk result (λ names. (name : List ℕ)
             → list_any (bytes_eq name) names.keys ≡ true → IsOpen self.now name) }
     {
-        let mut names = IndexSet::new(self.alloc());
+        let mut names = IndexSet::new(self.session.allocator());
         'documents: for (name, _document) in self.documents.iter() {
-            if !self.is_waiting(name) {
+            let bytes = name.as_bytes();
+            let file = self.session.file(bytes);
+            let findings = self.session.findings(bytes);
+            if !is_waiting(&self.turned_away, file, findings, name) {
                 continue;
             }
             names.insert(name.copied())?;
         }
         Ok(names)
     }
-
-    // Whether an open document waits to become a root: the session has its file, it isn't one, and it wasn't turned away.
-    fn is_waiting(&self, name: &Name) -> bool
-        ensures { IsWaiting self.now name.now → result ≡ true }
-    {
-        !self.turned_away.contains(name)
-            && self.session.file(name.as_bytes()).is_some()
-            && self.session.findings(name.as_bytes()).is_none()
-    }
 }
 
-// Takes out of names those that a root asks for.
-fn take_asked(session: &Session, root: &Name, names: &mut IndexSet<Name>) -> Result<(), AllocError>
-    ensures left { OnOk result ((name : List ℕ) → list_any (bytes_eq name) names.old.keys ≡ true
-        → (list_any (bytes_eq name) names.new.keys ≡ true)
-        ⊎ (asks_for session.now.project name root.now ≡ true)) }
-    ensures few { OnOk result ((name : List ℕ) → list_any (bytes_eq name) names.new.keys ≡ true
-        → list_any (bytes_eq name) names.old.keys ≡ true) }
+// Whether an open document waits to become a root: there is its file, it has no findings as a root, and it wasn't turned away.
+fn is_waiting(
+    turned_away: &IndexSet<Name>,
+    file: Option<&[Line]>,
+    findings: Option<&[Finding]>,
+    name: &Name,
+) -> bool
+    ensures { list_any (bytes_eq name.now) turned_away.now.keys ≡ false
+        → IsSome (option_copied file.entry) → option_copied findings.entry ≡ None
+        → result ≡ true }
 {
-    let asked = session.asked(root.as_bytes())?;
-    'names: for name in &asked {
+    !turned_away.contains(name) && file.is_some() && findings.is_none()
+}
+
+// No document stays turned away where there isn't the last root that there may be.
+fn call_back(last: Option<&Name>, turned_away: &mut IndexSet<Name>)
+    ensures { (turned_away.new.keys ≡ []) ⊎ IsSome (option_copied last.entry) }
+{
+    if last.is_some() {
+        return;
+    }
+    turned_away.clear();
+}
+
+// Takes names out of others.
+fn take_all(asked: &[Name], names: &mut IndexSet<Name>)
+    ensures left { (name : List ℕ) → list_any (bytes_eq name) names.old.keys ≡ true
+        → (list_any (bytes_eq name) names.new.keys ≡ true)
+        ⊎ (list_any (λ one. bytes_eq one name) asked.now ≡ true) }
+    ensures few { (name : List ℕ) → list_any (bytes_eq name) names.new.keys ≡ true
+        → list_any (bytes_eq name) names.old.keys ≡ true }
+{
+    'names: for name in asked {
         names.shift_remove(name);
     }
-    Ok(())
-}
-
-// Whether a root asks for a file.
-fn asks_for(session: &Session, root: &Name, name: &Name) -> Result<bool, AllocError>
-    ensures { IfOk result (λ is. is ≡ asks_for session.now.project name.now root.now) }
-{
-    let asked = session.asked(root.as_bytes())?;
-    Ok(asked.contains(name))
 }

@@ -3,26 +3,29 @@
 ghost use Rattle.std.specs.Prelude.{◌≡◌, ℕ, List, None, OnOk};
 ghost use Rattle.serde_json.specs.View.{view};
 ghost use Rattle.idl_loader.specs.Holding.{Holding};
-ghost use Rattle.idl_server.specs.Files.{IsKept};
 ghost use Rattle.idl_server.specs.Json.{said_by};
-ghost use Rattle.idl_server.specs.Notices.{told_by_notice};
+ghost use Rattle.idl_server.specs.Notices.{told_by_message, told_by_notice};
 ghost use Rattle.idl_server.specs.Published.{ArePublished};
 ghost use Rattle.idl_server.specs.Server.{HasTaken, IsSettled, if_running, told_to};
 ghost use Rattle.idl_server.specs.declared.workspace.Workspace.{Workspace};
 
 use crate::outbox::Outbox;
-use crate::publishing::Told;
-use crate::requests::Outcome;
+use crate::publishing::PublishedDiagnostics;
+use crate::requests::RequestOutcome;
 use crate::shown::shown_value;
-use crate::workspace::{Refused, Workspace};
+use crate::workspace::{RefusedEdit, Workspace};
+use idl_editor::Encoding;
 use idl_editor::messages::{ErrorCode, Message, Method, message_of};
+use idl_editor::uris::Folders;
 use idl_explain::{Topic, explanation_of};
 use idl_loader::PathLoader;
+use idl_related::idl_project::Session;
+use indexmap::{IndexMap, IndexSet};
 use serde_json::{Value, json};
 use std::alloc::{AllocError, Global};
 
 // How far a server has come.
-#[derive(Clone, Copy, Debug, PartialEq, Eq)]
+#[derive(Clone, Copy)]
 enum Phase {
     // It waits for `initialize`.
     Waiting,
@@ -31,9 +34,19 @@ enum Phase {
     ShutDown,
 }
 
+impl Phase {
+    // What `exit` comes to.
+    fn end(self) -> StepOutcome {
+        match self {
+            Phase::ShutDown => StepOutcome::Ends,
+            Phase::Waiting | Phase::Running => StepOutcome::BreaksOff,
+        }
+    }
+}
+
 /// What is next after a step.
 #[derive(Clone, Copy, Debug, PartialEq, Eq)]
-pub enum Next {
+pub enum StepOutcome {
     /// A further message.
     Goes,
     /// The end, as an editor has it: no further request was to come.
@@ -46,8 +59,8 @@ pub enum Next {
 #[derive(Drop)]
 pub struct Server {
     phase: Phase,
-    workspace: Workspace,
-    told: Told,
+    pub(crate) workspace: Workspace,
+    told: PublishedDiagnostics,
 }
 
 impl Server {
@@ -55,16 +68,26 @@ impl Server {
     pub fn new(alloc: Global) -> Server
         ensures { (told : List ℕ → Holding) → IsSettled told result }
     {
+        let session = Session::new(alloc);
+        let documents = IndexMap::new(alloc);
+        let tried = IndexSet::new(alloc);
+        let workspace = Workspace {
+            encoding: Encoding::Utf16,
+            folders: Folders::new(alloc),
+            session,
+            documents,
+            tried,
+            unread: IndexSet::new(alloc),
+            turned_away: IndexSet::new(alloc),
+            touched: IndexSet::new(alloc),
+            dropped: IndexSet::new(alloc),
+            refused: Vec::new(alloc),
+        };
         Server {
             phase: Phase::Waiting,
-            workspace: Workspace::new(alloc),
-            told: Told::new(alloc),
+            workspace,
+            told: PublishedDiagnostics::new(alloc),
         }
-    }
-
-    /// Where its memory comes from.
-    pub(crate) fn alloc(&self) -> Global {
-        self.workspace.alloc()
     }
 
     /// Does what a message asks for, and gathers what is to be said.
@@ -73,7 +96,7 @@ impl Server {
         loader: &mut L,
         body: &[u8],
         out: &mut Outbox,
-    ) -> Result<Next, AllocError>
+    ) -> Result<StepOutcome, AllocError>
         ensures settled { IsSettled (L.told_of loader.old) self.old
             → OnOk result (IsSettled (L.told_of loader.old) self.new) }
         ensures taken { OnOk result (HasTaken (told_to self.old body.now) self.old self.new) }
@@ -81,40 +104,49 @@ impl Server {
             (said_by out.old) (said_by out.new)) }
         ensures stays { L.told_of loader.new ≡ L.told_of loader.old }
     {
-        let value = match Value::from_slice(out.alloc(), body) {
-            Ok(value) => value,
+        match Value::from_slice(out.alloc(), body) {
+            Ok(value) => self.take_value(loader, &value, out),
             Err(error) => {
                 if error.is_memory() {
                     return Err(AllocError);
                 }
                 out.refuse(&Value::Null, ErrorCode::NoJson)?;
-                return Ok(Next::Goes);
-            }
-        };
-        let nothing = Value::Null;
-        match message_of(&value) {
-            Message::Request(id, method, params) => {
-                self.take_request(id, method, params.unwrap_or(&nothing), out)?;
-                Ok(Next::Goes)
-            }
-            Message::Notice(Method::Exit, _) => Ok(self.end()),
-            Message::Notice(method, params) => {
-                self.take_notice(loader, method, params.unwrap_or(&nothing), out)?;
-                Ok(Next::Goes)
-            }
-            Message::Answer => Ok(Next::Goes),
-            Message::Invalid => {
-                out.refuse(&Value::Null, ErrorCode::NoMessage)?;
-                Ok(Next::Goes)
+                Ok(StepOutcome::Goes)
             }
         }
     }
 
-    // What `exit` comes to.
-    fn end(&self) -> Next {
-        match self.phase {
-            Phase::ShutDown => Next::Ends,
-            Phase::Waiting | Phase::Running => Next::BreaksOff,
+    // The same for the JSON that the message is.
+    fn take_value<L: PathLoader>(
+        &mut self,
+        loader: &mut L,
+        value: &Value,
+        out: &mut Outbox,
+    ) -> Result<StepOutcome, AllocError>
+        ensures settled { IsSettled (L.told_of loader.old) self.old
+            → OnOk result (IsSettled (L.told_of loader.old) self.new) }
+        ensures taken { OnOk result (HasTaken (if_running self.old.phase
+            (told_by_message self.old.workspace.folders (view value.now))) self.old self.new) }
+        ensures published { OnOk result (ArePublished self.new.workspace
+            (said_by out.old) (said_by out.new)) }
+        ensures stays { L.told_of loader.new ≡ L.told_of loader.old }
+    {
+        let nothing = Value::Null;
+        match message_of(value) {
+            Message::Request(id, method, params) => {
+                self.take_request(id, method, params.unwrap_or(&nothing), out)?;
+                Ok(StepOutcome::Goes)
+            }
+            Message::Notice(Method::Exit, _) => Ok(self.phase.end()),
+            Message::Notice(method, params) => {
+                self.take_notice(loader, method, params.unwrap_or(&nothing), out)?;
+                Ok(StepOutcome::Goes)
+            }
+            Message::Answer => Ok(StepOutcome::Goes),
+            Message::Invalid => {
+                out.refuse(&Value::Null, ErrorCode::NoMessage)?;
+                Ok(StepOutcome::Goes)
+            }
         }
     }
 
@@ -133,11 +165,11 @@ impl Server {
             → OnOk result (ArePublished w (said_by out.old) (said_by out.new)) }
     {
         say_outcome(id, self.outcome(method, params), out)?;
-        self.show_refused(out)
+        show_refused(&mut self.workspace.refused, out)
     }
 
     // What comes of a request.
-    fn outcome(&mut self, method: Method, params: &Value) -> Result<Outcome, AllocError>
+    fn outcome(&mut self, method: Method, params: &Value) -> Result<RequestOutcome, AllocError>
         ensures settled { (told : List ℕ → Holding)
             → IsSettled told self.old → IsSettled told self.new }
         ensures taken { HasTaken None self.old self.new }
@@ -146,15 +178,15 @@ impl Server {
             (Phase::Waiting, Method::Initialize) => {
                 let abilities = self.workspace.begin(params)?;
                 self.phase = Phase::Running;
-                Ok(Outcome::Done(abilities))
+                Ok(RequestOutcome::Done(abilities))
             }
-            (Phase::Waiting, _) => Ok(Outcome::Refused(ErrorCode::NotInitialized)),
+            (Phase::Waiting, _) => Ok(RequestOutcome::Refused(ErrorCode::NotInitialized)),
             (Phase::Running, Method::Shutdown) => {
                 self.phase = Phase::ShutDown;
-                Ok(Outcome::Done(Value::Null))
+                Ok(RequestOutcome::Done(Value::Null))
             }
             (Phase::ShutDown, _) | (Phase::Running, Method::Initialize) => {
-                Ok(Outcome::Refused(ErrorCode::NoMessage))
+                Ok(RequestOutcome::Refused(ErrorCode::NoMessage))
             }
             (Phase::Running, _) => self.workspace.answer(method, params),
         }
@@ -180,51 +212,54 @@ impl Server {
         let Phase::Running = self.phase else {
             return Ok(());
         };
-        self.workspace.take_in(loader, method, params)?;
-        self.show_refused(out)?;
+        self.workspace.take_told(loader, method, params)?;
+        self.workspace.settle(loader)?;
+        show_refused(&mut self.workspace.refused, out)?;
         self.told.publish(&mut self.workspace, out)
     }
+}
 
-    // Shows what was refused.
-    fn show_refused(&mut self, out: &mut Outbox) -> Result<(), AllocError>
-        ensures phase { self.new.phase ≡ self.old.phase }
-        ensures kept { IsKept self.old.workspace self.new.workspace }
-        ensures published { (w : Workspace)
-            → OnOk result (ArePublished w (said_by out.old) (said_by out.new)) }
-    {
-        'refused: for one in &self.workspace.refused {
-            let params = shown_params(out.alloc(), one)?;
-            out.tell("window/showMessage", &params)?;
-        }
-        self.workspace.refused.clear();
-        Ok(())
+// Shows what was refused.
+fn show_refused(refused: &mut Vec<RefusedEdit>, out: &mut Outbox) -> Result<(), AllocError>
+    ensures { (w : Workspace)
+        → OnOk result (ArePublished w (said_by out.old) (said_by out.new)) }
+{
+    'refused: for one in refused.as_slice() {
+        let params = shown_params(out.alloc(), one)?;
+        out.tell("window/showMessage", &params)?;
     }
+    refused.clear();
+    Ok(())
 }
 
 // Says what comes of a request.
 fn say_outcome(
     id: &Value,
-    outcome: Result<Outcome, AllocError>,
+    outcome: Result<RequestOutcome, AllocError>,
     out: &mut Outbox,
 ) -> Result<(), AllocError>
     ensures { (w : Workspace)
         → OnOk result (ArePublished w (said_by out.old) (said_by out.new)) }
 {
     match outcome {
-        Ok(Outcome::Done(value)) => out.answer(id, &value),
-        Ok(Outcome::Refused(code)) => out.refuse(id, code),
+        Ok(RequestOutcome::Done(value)) => out.answer(id, &value),
+        Ok(RequestOutcome::Refused(code)) => out.refuse(id, code),
         Err(_) => out.refuse(id, ErrorCode::Internal),
     }
 }
 
 // What is shown of an edit that was refused.
-fn shown_params(alloc: Global, refused: &Refused) -> Result<Value, AllocError> {
+fn shown_params(alloc: Global, refused: &RefusedEdit) -> Result<Value, AllocError> {
+    json!(in alloc; {"message": shown_message(alloc, refused)?, "type": 1})
+}
+
+// What its message says: what was to be done, and the line about the refusal without its end.
+fn shown_message(alloc: Global, refused: &RefusedEdit) -> Result<Value, AllocError> {
     let mut text = Vec::from_slice(alloc, &refused.subject)?;
     text.extend_from_slice(b": ")?;
     explanation_of(Topic::Refusal(refused.refusal)).push_headline(b"", &mut text)?;
     if text.last() == Some(&b'\n') {
         text.truncate(text.len() - 1);
     }
-    let message = shown_value(alloc, &text)?;
-    json!(in alloc; {"message": message, "type": 1})
+    shown_value(alloc, &text)
 }

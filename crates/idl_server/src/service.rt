@@ -3,7 +3,7 @@
 ghost use Rattle.std.specs.Prelude.{◌≡◌, ◌<◌, ◌-◌, ◌^◌, OnOk};
 
 use crate::outbox::Outbox;
-use crate::server::{Next, Server};
+use crate::server::{Server, StepOutcome};
 use idl_editor::frames::{ReadFault, Reader, Received, message_of};
 use idl_loader::{PathLoader, Service, ServiceFault, Status};
 use idl_source::devices::write_all;
@@ -48,15 +48,15 @@ fn answer_messages<L: PathLoader, S: Source, O: Sink>(
     requires writes { O.failures output.old < 2 ^ 64 - 1 }
     ensures well { OnOk result (O.failures output.new ≡ O.failures output.old) }
 {
-    let mut reader = Reader::new(server.alloc());
+    let mut reader = Reader::new(server.workspace.session.allocator());
     'messages: for _ in 0..u64::MAX {
         let Received::Body(body) = received(&mut reader, source)? else {
             return Ok(Status::Faulty);
         };
         match answer_message(server, loader, &body, output)? {
-            Next::Goes => {}
-            Next::Ends => return Ok(Status::Sound),
-            Next::BreaksOff => return Ok(Status::Faulty),
+            StepOutcome::Goes => {}
+            StepOutcome::Ends => return Ok(Status::Sound),
+            StepOutcome::BreaksOff => return Ok(Status::Faulty),
         }
     }
     Ok(Status::Faulty)
@@ -81,13 +81,13 @@ fn answer_message<L: PathLoader, O: Sink>(
     loader: &mut L,
     body: &[u8],
     output: &mut O,
-) -> Result<Next, ServiceFault>
+) -> Result<StepOutcome, ServiceFault>
     requires writes { O.failures output.old < 2 ^ 64 - 1 }
     ensures ok { OnOk result (O.failures output.new ≡ O.failures output.old) }
 {
-    let mut out = Outbox::new(server.alloc());
+    let mut out = Outbox::new(server.workspace.session.allocator());
     let next = server.step(loader, body, &mut out)?;
-    write_messages(server.alloc(), out.messages(), output)?;
+    write_messages(server.workspace.session.allocator(), out.messages(), output)?;
     Ok(next)
 }
 

@@ -2,19 +2,19 @@
 
 ghost use Rattle.std.specs.Prelude.{◌<◌, IfSome, length};
 
-use crate::places::{Token, is_around, range_of, range_value};
+use crate::places::{LocatedToken, is_around, range_of, range_value};
 use crate::shown::shown_value;
 use crate::workspace::Workspace;
 use idl_editor::Range;
 use idl_entity::Kind;
-use idl_related::idl_project::{DeclaredPlace, DetailedEntry, SitedToken};
+use idl_related::idl_project::{DeclaredPlace, DetailedEntry};
 use idl_source::Name;
 use serde_json::{Value, json};
 use std::alloc::{AllocError, Global};
 
 // A name where it is declared in a document.
 #[derive(Clone, Copy)]
-struct Symbol<'d> {
+struct DocumentSymbol<'d> {
     entry: &'d DetailedEntry,
     text: &'d [u8],
     name: Range,
@@ -24,7 +24,8 @@ struct Symbol<'d> {
 impl Workspace {
     /// The names that are declared in a file, as they are told.
     pub fn symbols_in(&self, name: &Name) -> Result<Value, AllocError> {
-        let alloc = self.alloc();
+        let (session, encoding) = (&self.session, self.encoding);
+        let alloc = session.allocator();
         let Some(told) = self.details_with(name)? else {
             return Ok(Value::Null);
         };
@@ -32,45 +33,42 @@ impl Workspace {
         'entries: for entry in told.details.entries.as_slice() {
             'places: for declared in entry.places.as_slice() {
                 if declared.name.place.file.as_bytes() == name.as_bytes() {
-                    symbols.push(self.symbol_of(entry, declared))?;
+                    let token = range_of(session, encoding, LocatedToken::of(&declared.name));
+                    let first = range_of(session, encoding, LocatedToken::of(&declared.first));
+                    let last = range_of(session, encoding, LocatedToken::of(&declared.last));
+                    let (start, end) = (first.start, last.end);
+                    symbols.push(symbol_of(entry, declared, token, Range { start, end }))?;
                 }
             }
         }
         nested(alloc, &symbols)
     }
+}
 
-    // A name where it is declared. What is declared goes from its first token through its last one, where these are known.
-    fn symbol_of<'d>(&self, entry: &'d DetailedEntry, declared: &'d DeclaredPlace) -> Symbol<'d> {
-        let name = self.range_of_token(&declared.name);
-        let first = self.range_of_token(&declared.first);
-        let last = self.range_of_token(&declared.last);
-        let whole = Range {
-            start: first.start,
-            end: last.end,
-        };
-        let file = declared.name.place.file.as_bytes();
-        let is_here = declared.first.place.file.as_bytes() == file
-            && declared.last.place.file.as_bytes() == file;
-        Symbol {
-            entry,
-            text: declared.name.text.as_bytes(),
-            name,
-            whole: if is_here && is_around(whole, name) {
-                whole
-            } else {
-                name
-            },
-        }
-    }
-
-    // The range of a token.
-    fn range_of_token(&self, token: &SitedToken) -> Range {
-        range_of(&self.session, self.encoding, Token::of(token))
+// A name where it is declared, by its range. What is declared goes from its first token through its last one, where these are known.
+fn symbol_of<'d>(
+    entry: &'d DetailedEntry,
+    declared: &'d DeclaredPlace,
+    name: Range,
+    whole: Range,
+) -> DocumentSymbol<'d> {
+    let file = declared.name.place.file.as_bytes();
+    let is_here = declared.first.place.file.as_bytes() == file
+        && declared.last.place.file.as_bytes() == file;
+    DocumentSymbol {
+        entry,
+        text: declared.name.text.as_bytes(),
+        name,
+        whole: if is_here && is_around(whole, name) {
+            whole
+        } else {
+            name
+        },
     }
 }
 
 // These symbols, each in the one around it: of a symbol that is in another one, that comes before.
-fn nested(alloc: Global, symbols: &[Symbol<'_>]) -> Result<Value, AllocError> {
+fn nested(alloc: Global, symbols: &[DocumentSymbol<'_>]) -> Result<Value, AllocError> {
     let mut inside: Vec<Vec<Value>> = Vec::with_capacity(alloc, symbols.len())?;
     'symbols: for _symbol in symbols {
         inside.push(Vec::new(alloc))?;
@@ -90,7 +88,7 @@ fn nested(alloc: Global, symbols: &[Symbol<'_>]) -> Result<Value, AllocError> {
 }
 
 // The place of the symbol that a symbol stands in, among these: the last such one.
-fn place_around(symbols: &[Symbol<'_>], symbol: Symbol<'_>) -> Option<usize>
+fn place_around(symbols: &[DocumentSymbol<'_>], symbol: DocumentSymbol<'_>) -> Option<usize>
     ensures { IfSome result (λ place. place < length symbols.entry.now) }
 {
     for place in (0..symbols.len()).rev() {
@@ -102,7 +100,7 @@ fn place_around(symbols: &[Symbol<'_>], symbol: Symbol<'_>) -> Option<usize>
 }
 
 // Whether a symbol stands in another one: it does in the text, and its path is that one's and a name.
-fn is_in(symbol: Symbol<'_>, outer: Symbol<'_>) -> bool {
+fn is_in(symbol: DocumentSymbol<'_>, outer: DocumentSymbol<'_>) -> bool {
     let path = symbol.entry.tree.path.as_bytes();
     match path.strip_prefix(outer.entry.tree.path.as_bytes()) {
         Some(rest) => rest.starts_with(b"::") && is_around(outer.whole, symbol.name),
@@ -113,20 +111,16 @@ fn is_in(symbol: Symbol<'_>, outer: Symbol<'_>) -> bool {
 // A symbol, as it is told.
 fn symbol_value(
     alloc: Global,
-    symbol: Symbol<'_>,
+    symbol: DocumentSymbol<'_>,
     children: Vec<Value>,
 ) -> Result<Value, AllocError> {
-    let name = shown_value(alloc, symbol.text)?;
-    let range = range_value(alloc, symbol.whole)?;
-    let selection = range_value(alloc, symbol.name)?;
-    let kind = symbol_kind(symbol.entry.tree.kind);
-    let children = Value::Array(children);
+    // What is owned goes in first, and what is made when it goes in.
     json!(in alloc; {
-        "children": children,
-        "kind": kind,
-        "name": name,
-        "range": range,
-        "selectionRange": selection,
+        "children": Value::Array(children),
+        "kind": symbol_kind(symbol.entry.tree.kind),
+        "name": shown_value(alloc, symbol.text)?,
+        "range": range_value(alloc, symbol.whole)?,
+        "selectionRange": range_value(alloc, symbol.name)?,
     })
 }
 

@@ -7,10 +7,9 @@
 //! at a position is looked for by the columns of declared and used names. What is told of a file is kept as text, and
 //! told where it becomes another.
 
-ghost use Rattle.std.specs.Prelude.{◌≡◌, [], IfOk, string_bytes};
-ghost use Rattle.idl_related.specs.idl_project.Project.{no_project};
-ghost use Rattle.idl_server.specs.Files.{IsKept, name_for};
-ghost use Rattle.idl_server.specs.Uris.{uri_for};
+ghost use Rattle.std.specs.Prelude.{◌≡◌, IfOk, string_bytes};
+ghost use Rattle.idl_server.specs.Files.{name_for};
+ghost use Rattle.idl_server.specs.Uris.{uri_among};
 
 use crate::document::Document;
 use idl_editor::Encoding;
@@ -22,7 +21,7 @@ use std::alloc::{AllocError, Global};
 
 /// An edit of the session that was refused.
 #[derive(Drop)]
-pub(crate) struct Refused {
+pub(crate) struct RefusedEdit {
     pub subject: Vec<u8>,
     pub refusal: Refusal,
 }
@@ -47,77 +46,54 @@ pub(crate) struct Workspace {
     /// Roots that went since then.
     pub dropped: IndexSet<Name>,
     /// What was refused since then.
-    pub refused: Vec<Refused>,
+    pub refused: Vec<RefusedEdit>,
 }
 
-impl Workspace {
-    /// No folders and no documents.
-    pub fn new(alloc: Global) -> Workspace
-        ensures documents { result.documents.entries ≡ [] }
-        ensures project { result.session.project ≡ no_project }
-        ensures tried { result.tried.keys ≡ [] }
-    {
-        Workspace {
-            encoding: Encoding::Utf16,
-            folders: Folders::new(alloc),
-            session: Session::new(alloc),
-            documents: IndexMap::new(alloc),
-            tried: IndexSet::new(alloc),
-            unread: IndexSet::new(alloc),
-            turned_away: IndexSet::new(alloc),
-            touched: IndexSet::new(alloc),
-            dropped: IndexSet::new(alloc),
-            refused: Vec::new(alloc),
-        }
-    }
-
-    /// Where its memory comes from.
-    pub fn alloc(&self) -> Global {
-        self.session.allocator()
-    }
-
-    /// The name of the file that a URI stands for, if it has one.
-    pub fn name_for(&self, uri: &str) -> Result<Option<Name>, AllocError>
-        ensures { IfOk result (λ name. name ≡ name_for self.now.folders uri.now) }
-    {
-        match path_of(self.alloc(), uri.as_bytes())? {
-            Some(path) => self.folders.name_of(&path),
-            None => Ok(None),
-        }
-    }
-
-    /// The URI of a file: the editor's own of a document that is open.
-    pub fn uri_for(&self, name: &Name) -> Result<String, AllocError>
-        ensures { IfOk result (λ uri. string_bytes uri ≡ uri_for self.now name.now) }
-    {
-        if let Some(document) = self.documents.get(name) {
-            return String::from_str(self.alloc(), document.uri.as_str());
-        }
-        match self.folders.path_for(name.as_bytes())? {
-            Some(path) => uri_of(self.alloc(), &path),
-            None => uri_of(self.alloc(), name.as_bytes()),
-        }
-    }
-
-    /// Keeps which roots the last edit compiled anew.
-    pub fn keep_touched(&mut self) -> Result<(), AllocError>
-        ensures { IsKept self.old self.new }
-    {
-        keep_all(&mut self.touched, self.session.touched())
-    }
-
-    /// Keeps that an edit was refused.
-    pub fn keep_refused(&mut self, subject: &[u8], refusal: Refusal) -> Result<(), AllocError>
-        ensures { IsKept self.old self.new }
-    {
-        let subject = Vec::from_slice(self.alloc(), subject)?;
-        self.refused.push(Refused { subject, refusal })?;
-        Ok(())
+/// The name of the file that a URI stands for, if it has one.
+pub(crate) fn name_for(
+    alloc: Global,
+    folders: &Folders,
+    uri: &str,
+) -> Result<Option<Name>, AllocError>
+    ensures { IfOk result (λ name. name ≡ name_for folders.now uri.now) }
+{
+    match path_of(alloc, uri.as_bytes())? {
+        Some(path) => folders.name_of(&path),
+        None => Ok(None),
     }
 }
 
-// Adds names to others.
-fn keep_all(kept: &mut IndexSet<Name>, names: &[Name]) -> Result<(), AllocError> {
+/// The URI of a file: the editor's own of a document that is open.
+pub(crate) fn uri_for(
+    documents: &IndexMap<Name, Document>,
+    folders: &Folders,
+    name: &Name,
+) -> Result<String, AllocError>
+    ensures { IfOk result (λ uri. string_bytes uri
+        ≡ uri_among documents.now.entries folders.now name.now) }
+{
+    let alloc = *documents.allocator();
+    if let Some(document) = documents.get(name) {
+        return String::from_str(alloc, document.uri.as_str());
+    }
+    match folders.path_for(name.as_bytes())? {
+        Some(path) => uri_of(alloc, &path),
+        None => uri_of(alloc, name.as_bytes()),
+    }
+}
+
+/// Adds an edit that was refused.
+pub(crate) fn push_refused(
+    refused: &mut Vec<RefusedEdit>,
+    subject: &[u8],
+    refusal: Refusal,
+) -> Result<(), AllocError> {
+    let subject = Vec::from_slice(*refused.allocator(), subject)?;
+    Ok(refused.push(RefusedEdit { subject, refusal })?)
+}
+
+/// Adds names to others.
+pub(crate) fn keep_all(kept: &mut IndexSet<Name>, names: &[Name]) -> Result<(), AllocError> {
     'names: for name in names {
         kept.insert(name.copied())?;
     }

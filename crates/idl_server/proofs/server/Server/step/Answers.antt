@@ -1,15 +1,22 @@
-use Rattle.std.proofs.Common.{◌≡◌, ◌∙◌, None, Option, ap, subst, sym, true≢false}
+use Rattle.std.proofs.Common.{◌∙◌, Option, subst, sym, true≢false}
+use Rattle.std.specs.Result.{OnOk}
 use Rattle.serde_json.specs.View.{view}
 use Rattle.serde_json.specs.declared.value.Value.{Null}
 use Rattle.idl_editor.specs.declared.messages.answer.ErrorCode.TheVariants.{NoJson}
-use Rattle.idl_editor.specs.messages.Message.{seen}
 use Rattle.idl_server.specs.Documents.{Told}
-use Rattle.idl_server.specs.Notices.{told_by_notice}
-use Rattle.idl_server.specs.Server.{HasTaken, if_running, told_to}
 use Rattle.idl_server.specs.Json.{said_by}
-use Rattle.idl_server.proofs.PublishedLemmas.{error-published, none-published, one-published}
-use Rattle.idl_server.proofs.NoticeLemmas.{json-none, json-some, none-running, params-given, taken-same, told-json, told-notice, told-nothing, told-request, view-Null}
+use Rattle.idl_server.specs.Server.{HasTaken, told_to}
+use Rattle.idl_server.proofs.PublishedLemmas.{error-published, one-published}
+use Rattle.idl_server.proofs.NoticeLemmas.{json-none, json-some, taken-same, told-json, told-nothing}
 use Rattle.idl_server.proofs.server.Server.step.Goals as goal
+
+pub returns-in-Ok-clause-taken : goal.returns-in-Ok-clause-taken
+returns-in-Ok-clause-taken g c =
+    let old = c.args.self.now in
+    let body = c.args.body.now in
+    let json = view c.in-Ok.value in
+    subst (λ (told : Option Told). OnOk c.take_value.result (HasTaken told old c.take_value.new.self)) (sym (told-json old body json (json-some body json c.in-Ok.ensures.ok.0 c.in-Ok.ensures.ok.1)))
+    c.take_value.ensures.taken
 
 pub returns-in-Err-clause-taken : goal.returns-in-Err-clause-taken
 returns-in-Err-clause-taken g c =
@@ -18,48 +25,6 @@ returns-in-Err-clause-taken g c =
     taken-same (told_to old body) old
     (told-nothing old body (json-none body (c.in-Err.ensures.err (λ memory. absurd (true≢false (sym (c.is_memory.ensures.1 memory) ∙ c.if-is_memory.false))))))
 
-pub returns-in-Request-clause-settled : goal.returns-in-Request-clause-settled
-returns-in-Request-clause-settled g c = c.in_ok-take_request-in-Request.ensures.settled (g.L.PathLoader.told_of c.args.loader.now)
-
-pub returns-in-Request-clause-taken : goal.returns-in-Request-clause-taken
-returns-in-Request-clause-taken g c =
-    let old = c.args.self.now in
-    let body = c.args.body.now in
-    let json = view c.in-Ok.value in
-    let none : told_to old body ≡ None =
-    told-json old body json (json-some body json c.in-Ok.ensures.ok.0 c.in-Ok.ensures.ok.1)
-    ∙ ap (if_running old.phase) (told-request old.workspace.folders json (view c.in-Request.id.now) c.in-Request.ensures.0)
-    ∙ none-running old.phase in
-    subst (λ (told : Option Told). HasTaken told old c.take_request.new.self) (sym none) c.in_ok-take_request-in-Request.ensures.taken
-
-pub returns-in-Notice : goal.returns-in-Notice
-returns-in-Notice g c =
-    let old = c.args.self.now in
-    let body = c.args.body.now in
-    let json = view c.in-Ok.value in
-    let folders = old.workspace.folders in
-    let method = c.in-Notice.method in
-    let told : told_to old body ≡ if_running old.phase (told_by_notice folders method (view c.unwrap_or-in-Notice.result.now)) =
-    told-json old body json (json-some body json c.in-Ok.ensures.ok.0 c.in-Ok.ensures.ok.1)
-    ∙ ap (if_running old.phase)
-    (told-notice folders json method (seen c.in-Notice.params) c.in-Notice.ensures.0 c.in-Notice.ensures.1 c.in-Notice.ensures.2
-    ∙ ap (told_by_notice folders method)
-    (sym (params-given c.in-Notice.params _ c.unwrap_or-in-Notice.result c.unwrap_or-in-Notice.ensures view-Null))) in
-    record {
-      settled = λ is. c.in_ok-take_notice-in-Notice.ensures.settled is;
-      taken = subst (λ (t : Option Told). HasTaken t old c.take_notice.new.self) (sym told) c.in_ok-take_notice-in-Notice.ensures.taken;
-      published = c.in_ok-take_notice-in-Notice.ensures.published;
-      stays = c.take_notice.ensures.stays;
-    }
-
-pub returns-in-Request-clause-published : goal.returns-in-Request-clause-published
-returns-in-Request-clause-published g c =
-    c.in_ok-take_request-in-Request.ensures.published c.take_request.new.self.workspace
-
-pub returns-in-Answer-clause-published : goal.returns-in-Answer-clause-published
-returns-in-Answer-clause-published g c =
-    none-published c.args.self.now.workspace (said_by c.args.out.now)
-
 pub returns-in-Err-clause-published : goal.returns-in-Err-clause-published
 returns-in-Err-clause-published g c =
-    one-published c.args.self.now.workspace (said_by c.args.out.now) (said_by c.refuse.new.self) _ c.in_ok-refuse-in-Err.ensures (error-published c.args.self.now.workspace (view Null) NoJson)
+    one-published c.args.self.now.workspace (said_by c.args.out.now) (said_by c.refuse.new.out) _ c.in_ok-refuse.ensures (error-published c.args.self.now.workspace (view Null) NoJson)

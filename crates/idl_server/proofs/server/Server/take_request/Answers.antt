@@ -1,4 +1,4 @@
-use Rattle.std.proofs.Common.{◌∙◌, None, sym}
+use Rattle.std.proofs.Common.{None, refl}
 use Rattle.idl_server.specs.Json.{said_by}
 use Rattle.idl_server.proofs.PublishedLemmas.{then-published}
 use Rattle.idl_server.proofs.NoticeLemmas.{taken-before}
@@ -8,13 +8,19 @@ use Rattle.idl_server.proofs.server.Server.take_request.Goals as goal
 
 pub returns-clause-settled : goal.returns-clause-settled
 returns-clause-settled c = λ told is.
+    let mid = c.outcome.new.self in
+    let new = record mid { workspace = record mid.workspace { refused = c.show_refused.new.refused } } in
     on_ok c.show_refused.result
-    (settled-kept told c.outcome.new.self c.show_refused.new.self (λ waiting. sym c.show_refused.ensures.phase ∙ waiting) c.show_refused.ensures.kept (c.outcome.ensures.settled told is))
+    (settled-kept told mid new (λ waiting. waiting) (record { encoding = refl; folders = refl; session = refl; documents = refl; tried = refl; unread = refl }) (c.outcome.ensures.settled told is))
 
 pub returns-clause-taken : goal.returns-clause-taken
-returns-clause-taken c = on_ok c.show_refused.result (taken-before None c.args.self.now c.outcome.new.self c.show_refused.new.self c.show_refused.ensures.kept c.outcome.ensures.taken)
+returns-clause-taken c =
+    let mid = c.outcome.new.self in
+    let new = record mid { workspace = record mid.workspace { refused = c.show_refused.new.refused } } in
+    on_ok c.show_refused.result
+    (taken-before None c.args.self.now mid new (record { encoding = refl; folders = refl; session = refl; documents = refl; tried = refl; unread = refl }) c.outcome.ensures.taken)
 
 pub returns-clause-published : goal.returns-clause-published
 returns-clause-published c = λ w.
     then-published c.show_refused.result w (said_by c.args.out.now) (said_by c.say_outcome.new.out) (said_by c.show_refused.new.out)
-    (c.in_ok-say_outcome.ensures w) (c.show_refused.ensures.published w)
+    (c.in_ok-say_outcome.ensures w) (c.show_refused.ensures w)

@@ -1,17 +1,26 @@
-use Rattle.std.proofs.Common.{◌∙◌, ap, map, subst}
+use Rattle.std.proofs.Common.{◌∙◌, ℕ, List, ap, map, subst}
 use Rattle.std.proofs.lemmas.List.{take_all}
 use Rattle.std.specs.List.{AllZip}
 use Rattle.serde_json.proofs.Views.{view-Array}
 use Rattle.serde_json.specs.View.{view}
-use Rattle.idl_server.specs.Diagnostics.{IsToldOf}
+use Rattle.idl_editor.specs.declared.change.Range.{Range}
+use Rattle.idl_server.specs.Diagnostics.{IsToldOf, diagnostic_json}
 use Rattle.idl_server.specs.Found.{findings_in}
 use Rattle.idl_server.proofs.DiagnosticLemmas.{zip-found}
 use Rattle.idl_server.proofs.workspace.Workspace.diagnostics_in.Goals as goal
 
 pub each-preserved : goal.each-preserved
 each-preserved c =
+    let finding = c.index-held-index.result.finding.now in
+    let message = c.in_ok-message.message.items in
+    let related = view c.in_ok-related.related in
+    let is =
+    c.in_ok-diagnostic_value.ensures
+    ∙ ap (λ (said : List ℕ). diagnostic_json finding c.finding_range-range.result said related) c.as_slice-said.ensures.value
+    ∙ ap (λ (range : Range). diagnostic_json finding range message related) c.finding_range-range.ensures
+    in
     zip-found (IsToldOf c.args.self.now.encoding c.args.self.now.session.project) c.as_slice-held.result.now c.each.index c.index-held-index.result c.each.list.items c.push.new.self.items
-    c.in_ok-diagnostic_value.field-0 c.each-test.true c.index-held-index.is c.in_ok-push.ensures.items c.each.invariant (_, c.in_ok-diagnostic_value.ensures)
+    c.in_ok-diagnostic_value.field-0 c.each-test.true c.index-held-index.is c.in_ok-push.ensures.items c.each.invariant (related, message, c.in_ok-message.ensures, is)
 
 pub returns : goal.returns
 returns c =

@@ -1,4 +1,7 @@
-use Rattle.std.proofs.Common.{◌∙◌, ℕ, List, inl, subst, sym}
+use Rattle.std.proofs.Common.{◌≡◌, ◌⊎◌, ◌∙◌, ℕ, List, ap, inl, subst, sym, true}
+use Rattle.std.specs.List.{list_any}
+use Rattle.std.specs.Str.{bytes_eq}
+use Rattle.idl_related.specs.idl_project.Asked.{asked_of}
 use Rattle.idl_server.specs.Roots.{IsOpen}
 use Rattle.idl_server.proofs.CoveredLemmas.{first-none, first-there, left-asked, left-none}
 use Rattle.idl_server.proofs.workspace.Workspace.first_unasked.Goals as goal
@@ -9,8 +12,14 @@ roots-init c = record { all = λ name waits. inl (c.in_ok-left.ensures.all name 
 -- one root more
 pub roots-preserved : goal.roots-preserved
 roots-preserved c =
-    left-asked c.args.self.now c.deref-root-items.result.now c.roots.root-index c.root-item.result c.roots.left.keys c.take_asked.new.names.keys
-    (c.deref-root-items.ensures.value ∙ c.in_ok-roots.ensures) c.roots-test.true c.root-item.is c.in_ok-take_asked.ensures.left c.in_ok-take_asked.ensures.few c.roots.invariant
+    let project = c.args.self.now.session.project in
+    let left = c.take_all.new.names.keys in
+    left-asked c.args.self.now c.deref-root-items.result.now c.roots.root-index c.root-item.result c.roots.left.keys left
+    (c.deref-root-items.ensures.value ∙ c.in_ok-roots.ensures) c.roots-test.true c.root-item.is
+    (λ name there.
+    subst (λ (names : List (List ℕ)). (list_any (bytes_eq name) left ≡ true) ⊎ (list_any (λ one. bytes_eq one name) names ≡ true))
+    (c.deref.ensures.value ∙ c.in_ok-asked.ensures ∙ ap (asked_of project) c.as_bytes.ensures.bytes) (c.take_all.ensures.left name there))
+    c.take_all.ensures.few c.roots.invariant
 
 pub returns-then-is_empty-clause-none : goal.returns-then-is_empty-clause-none
 returns-then-is_empty-clause-none c = λ none. left-none c.args.self.now c.roots.left.keys (c.is_empty.ensures.0 c.if-is_empty.true) c.roots.invariant

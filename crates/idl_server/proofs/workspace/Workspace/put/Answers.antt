@@ -17,13 +17,13 @@ returns-in-Ok-clause-beside c =
     let old = c.args.self.now in
     let put = record old { session = c.put.new.self } in
     let made = subst (λ (n : List ℕ). after old.session.project (Put n c.args.lines.items) ≡ Ok put.session.project) c.as_bytes.ensures.bytes c.in-Ok.ensures.project in
-    on_ok c.keep_touched.result
-    (beside-both name old put c.keep_touched.new.self
+    on_ok c.keep_all.result
+    (beside-both name old put (record put { touched = c.keep_all.new.kept })
     (beside-edited name old put refl refl (put-alone name c.args.lines.items old.session.project put.session.project made) (λ other apart. refl) refl refl)
-    (beside-kept name put c.keep_touched.new.self c.keep_touched.ensures))
+    (beside-kept name put (record put { touched = c.keep_all.new.kept }) (record { encoding = refl; folders = refl; session = refl; documents = refl; tried = refl; unread = refl })))
 
 pub returns-in-Ok-clause-documents : goal.returns-in-Ok-clause-documents
-returns-in-Ok-clause-documents c = on_ok c.keep_touched.result c.keep_touched.ensures.documents
+returns-in-Ok-clause-documents c = on_ok c.keep_all.result refl
 
 pub returns-in-Ok-clause-closed : goal.returns-in-Ok-clause-closed
 returns-in-Ok-clause-closed c = λ told is.
@@ -31,8 +31,8 @@ returns-in-Ok-clause-closed c = λ told is.
     let old = c.args.self.now in
     let put = record old { session = c.put.new.self } in
     let made = subst (λ (n : List ℕ). after old.session.project (Put n c.args.lines.items) ≡ Ok put.session.project) c.as_bytes.ensures.bytes c.in-Ok.ensures.project in
-    on_ok c.keep_touched.result
-    (closed-kept told name put c.keep_touched.new.self c.keep_touched.ensures (record {
+    on_ok c.keep_all.result
+    (closed-kept told name put (record put { touched = c.keep_all.new.kept }) (record { encoding = refl; folders = refl; session = refl; documents = refl; tried = refl; unread = refl }) (record {
       loaded = λ lines there.
           subst (λ (ls : List (List ℕ)). IsFileOf told name ls)
           (some-same c.args.lines.items lines (sym (put-lines name c.args.lines.items old.session.project put.session.project made) ∙ there)) is;
@@ -44,13 +44,13 @@ returns-in_ok-insert-in-Err-clause-beside c =
     let name = c.args.name.now in
     let old = c.args.self.now in
     let put = record old { session = c.put.new.self } in
-    let kept = c.keep_refused.new.self in
+    let kept = (record put { refused = c.push_refused.new.refused }) in
     let passed = record kept { unread = c.insert.new.self } in
     let same = subst (λ (s : State). IsSameButFor name old.session.project s.project) (sym c.in-Err.ensures.unchanged) (same-self name old.session.project) in
     on_ok_weaker c.take_out.result
     (λ (b : StaysBeside name passed c.take_out.new.self).
     beside-both name old put c.take_out.new.self (beside-edited name old put refl refl same (λ other apart. refl) refl refl)
-    (beside-both name put kept c.take_out.new.self (beside-kept name put kept c.keep_refused.ensures)
+    (beside-both name put kept c.take_out.new.self (beside-kept name put kept (record { encoding = refl; folders = refl; session = refl; documents = refl; tried = refl; unread = refl }))
     (beside-both name kept passed c.take_out.new.self (record {
       set = record { encoding = refl; folders = refl; macros = refl; search = refl };
       documents = λ other apart. refl;
@@ -62,7 +62,7 @@ returns-in_ok-insert-in-Err-clause-beside c =
     c.take_out.ensures.beside
 
 pub returns-in_ok-insert-in-Err-clause-documents : goal.returns-in_ok-insert-in-Err-clause-documents
-returns-in_ok-insert-in-Err-clause-documents c = on_ok_weaker c.take_out.result (λ is. is ∙ c.keep_refused.ensures.documents) c.take_out.ensures.documents
+returns-in_ok-insert-in-Err-clause-documents c = on_ok_weaker c.take_out.result (λ is. is) c.take_out.ensures.documents
 
 pub returns-in_ok-insert-in-Err-clause-closed : goal.returns-in_ok-insert-in-Err-clause-closed
 returns-in_ok-insert-in-Err-clause-closed c = λ told is.

@@ -1,4 +1,4 @@
-use Rattle.std.proofs.Common.{◌≡◌, ◌∙◌, ℕ, All, List, None, ap, map, subst, sym}
+use Rattle.std.proofs.Common.{◌≡◌, ◌∙◌, ℕ, All, List, None, ap, map, refl, subst, sym}
 use Rattle.std.proofs.lemmas.List.{map-append}
 use Rattle.std.proofs.lemmas.List.Elements.{All-get_or, All-push}
 use Rattle.std.proofs.lemmas.Result.{on_ok_weaker}
@@ -76,25 +76,25 @@ returns-in-Ok-clause-stays_open g c =
     let old = c.args.self.now in
     let start = c.names.self in
     let before = c.names.invariant in
-    let new = c.keep_touched.new.self in
+    let new = (record (record start { session = c.batch.new.self }) { touched = c.keep_all.new.kept }) in
     let all = told_by old.folders (g.L.PathLoader.told_of c.args.loader.now) in
     let edits = map edit_of c.names.edits.items in
     let are : All (IsLoadedEdit all start.documents.entries) edits =
     subst (λ (ds : List (List ℕ × Document)). All (IsLoadedEdit all ds) edits) (λ i. (sym before.same.documents i).entries) before.edits in
-    on_ok c.keep_touched.result
-    (open-both old start new (open-compiled old start before.same) (put-loaded all edits start c.batch.new.self new are c.in-Ok.ensures.project c.keep_touched.ensures).0)
+    on_ok c.keep_all.result
+    (open-both old start new (open-compiled old start before.same) (put-loaded all edits start c.batch.new.self new are c.in-Ok.ensures.project (record { encoding = refl; folders = refl; session = refl; documents = refl; tried = refl; unread = refl })).0)
 
 pub returns-in-Ok-clause-filed : goal.returns-in-Ok-clause-filed
 returns-in-Ok-clause-filed g c = λ filed.
     let old = c.args.self.now in
     let start = c.names.self in
     let before = c.names.invariant in
-    let new = c.keep_touched.new.self in
+    let new = (record (record start { session = c.batch.new.self }) { touched = c.keep_all.new.kept }) in
     let all = told_by old.folders (g.L.PathLoader.told_of c.args.loader.now) in
     let edits = map edit_of c.names.edits.items in
     let are : All (IsLoadedEdit all start.documents.entries) edits =
     subst (λ (ds : List (List ℕ × Document)). All (IsLoadedEdit all ds) edits) (λ i. (sym before.same.documents i).entries) before.edits in
-    on_ok c.keep_touched.result ((put-loaded all edits start c.batch.new.self new are c.in-Ok.ensures.project c.keep_touched.ensures).1 (before.filed filed))
+    on_ok c.keep_all.result ((put-loaded all edits start c.batch.new.self new are c.in-Ok.ensures.project (record { encoding = refl; folders = refl; session = refl; documents = refl; tried = refl; unread = refl })).1 (before.filed filed))
 
 pub returns-in-Err-clause-stays_open : goal.returns-in-Err-clause-stays_open
 returns-in-Err-clause-stays_open g c =

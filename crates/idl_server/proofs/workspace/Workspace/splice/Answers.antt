@@ -14,10 +14,10 @@ returns-in-Ok-clause-beside c =
     let splice = c.args.splice in
     let new = record old { session = c.splice.new.self; documents = c.set_behind.new.documents } in
     let made = subst (λ (n : List ℕ). after old.session.project (Splice n splice.span.from splice.span.del splice.lines.items) ≡ Ok new.session.project) c.as_bytes.ensures.bytes c.in-Ok.ensures.project in
-    on_ok c.keep_touched.result
-    (beside-both name old new c.keep_touched.new.self
+    on_ok c.keep_all.result
+    (beside-both name old new (record new { touched = c.keep_all.new.kept })
     (beside-edited name old new refl refl (splice-alone name splice.span.from splice.span.del splice.lines.items old.session.project new.session.project made) c.set_behind.ensures.beside refl refl)
-    (beside-kept name new c.keep_touched.new.self c.keep_touched.ensures))
+    (beside-kept name new (record new { touched = c.keep_all.new.kept }) (record { encoding = refl; folders = refl; session = refl; documents = refl; tried = refl; unread = refl })))
 
 pub returns-in-Ok-clause-filed : goal.returns-in-Ok-clause-filed
 returns-in-Ok-clause-filed c = λ document lines is there splices.
@@ -26,8 +26,8 @@ returns-in-Ok-clause-filed c = λ document lines is there splices.
     let splice = c.args.splice in
     let new = record old { session = c.splice.new.self; documents = c.set_behind.new.documents } in
     let made = subst (λ (n : List ℕ). after old.session.project (Splice n splice.span.from splice.span.del splice.lines.items) ≡ Ok new.session.project) c.as_bytes.ensures.bytes c.in-Ok.ensures.project in
-    on_ok c.keep_touched.result (λ told.
-    filed-kept told name new c.keep_touched.new.self c.keep_touched.ensures
+    on_ok c.keep_all.result (λ told.
+    filed-kept told name new (record new { touched = c.keep_all.new.kept }) (record { encoding = refl; folders = refl; session = refl; documents = refl; tried = refl; unread = refl })
     (filed-open told new name _ (c.set_behind.ensures.there document is)
     (λ now.
     splice-lines name lines splice.span.from splice.span.del splice.lines.items old.session.project new.session.project there made

@@ -22,8 +22,8 @@ returns-in-Ok-clause-beside c =
     let tried = record old { tried = c.insert.new.self } in
     let out = record tried { session = c.remove.new.self } in
     let made = subst (λ (n : List ℕ). after old.session.project (Remove n) ≡ Ok out.session.project) c.as_bytes-2.ensures.bytes c.in-Ok.ensures.project in
-    on_ok c.keep_touched.result
-    (beside-both name old tried c.keep_touched.new.self (record {
+    on_ok c.keep_all.result
+    (beside-both name old tried (record out { touched = c.keep_all.new.kept }) (record {
       set = record { encoding = refl; folders = refl; macros = refl; search = refl };
       documents = λ other apart. refl;
       files = λ other apart. refl;
@@ -31,12 +31,12 @@ returns-in-Ok-clause-beside c =
       unread = λ other apart. refl;
       roots = λ other root. root;
     })
-    (beside-both name tried out c.keep_touched.new.self
+    (beside-both name tried out (record out { touched = c.keep_all.new.kept })
     (beside-edited name tried out refl refl (remove-alone name old.session.project out.session.project made) (λ other apart. refl) refl refl)
-    (beside-kept name out c.keep_touched.new.self c.keep_touched.ensures)))
+    (beside-kept name out (record out { touched = c.keep_all.new.kept }) (record { encoding = refl; folders = refl; session = refl; documents = refl; tried = refl; unread = refl }))))
 
 pub returns-in-Ok-clause-documents : goal.returns-in-Ok-clause-documents
-returns-in-Ok-clause-documents c = on_ok c.keep_touched.result c.keep_touched.ensures.documents
+returns-in-Ok-clause-documents c = on_ok c.keep_all.result refl
 
 pub returns-in-Ok-clause-closed : goal.returns-in-Ok-clause-closed
 returns-in-Ok-clause-closed c = λ told none.
@@ -44,8 +44,8 @@ returns-in-Ok-clause-closed c = λ told none.
     let old = c.args.self.now in
     let out = record old { tried = c.insert.new.self; session = c.remove.new.self } in
     let made = subst (λ (n : List ℕ). after old.session.project (Remove n) ≡ Ok out.session.project) c.as_bytes-2.ensures.bytes c.in-Ok.ensures.project in
-    on_ok c.keep_touched.result
-    (closed-kept told name out c.keep_touched.new.self c.keep_touched.ensures (record {
+    on_ok c.keep_all.result
+    (closed-kept told name out (record out { touched = c.keep_all.new.kept }) (record { encoding = refl; folders = refl; session = refl; documents = refl; tried = refl; unread = refl }) (record {
       loaded = λ lines there. absurd (gone lines (sym (remove-lines name old.session.project out.session.project made) ∙ there));
       missing = λ tried unread. none unread;
     }))

@@ -1,8 +1,9 @@
-use Rattle.std.proofs.Common.{◌≡◌, ◌∙◌, ℕ, IsTrue, List, Ok, false, subst, sym}
+use Rattle.std.proofs.Common.{◌≡◌, ◌∙◌, ℕ, IsTrue, List, Ok, false, refl, subst, sym}
 use Rattle.idl_source.specs.names.Name.{is_name}
 use Rattle.idl_related.specs.idl_project.Edits.{DropRoot, after}
 use Rattle.idl_related.specs.idl_project.Project.{is_root}
 use Rattle.idl_server.proofs.CoveredLemmas.{adds-none, drops-root, none-dropped, root-gone}
+use Rattle.idl_server.proofs.FileLemmas.{drop-inputs}
 use Rattle.idl_server.proofs.workspace.Workspace.uproot.Goals as goal
 
 pub returns-in_ok-insert-in-Ok-clause-roots : goal.returns-in_ok-insert-in-Ok-clause-roots
@@ -26,3 +27,34 @@ returns-in-Err-clause-gone c =
     (λ i. is_root (c.in-Err.ensures.unchanged i).project c.args.name.now)
     ∙ subst (λ (n : List ℕ). is_root old.project n ≡ false) c.as_bytes.ensures.bytes
     (none-dropped _ old c.drop_root.new.self _ (subst (λ (n : List ℕ). IsTrue (is_name n)) (sym c.as_bytes.ensures.bytes) c.as_bytes.ensures.allowed) c.in-Err.ensures)
+
+-- the files that are compiled stay
+pub returns-in_ok-insert-in-Ok-clause-filed : goal.returns-in_ok-insert-in-Ok-clause-filed
+returns-in_ok-insert-in-Ok-clause-filed c = record {
+  encoding = refl;
+  folders = refl;
+  inputs = drop-inputs c.as_bytes.result.now c.args.self.now.session.project c.drop_root.new.self.project c.in-Ok.ensures.project;
+  documents = refl;
+  tried = refl;
+  unread = refl;
+}
+
+pub returns-in_err-insert-in-Ok-clause-filed : goal.returns-in_err-insert-in-Ok-clause-filed
+returns-in_err-insert-in-Ok-clause-filed c = record {
+  encoding = refl;
+  folders = refl;
+  inputs = drop-inputs c.as_bytes.result.now c.args.self.now.session.project c.drop_root.new.self.project c.in-Ok.ensures.project;
+  documents = refl;
+  tried = refl;
+  unread = refl;
+}
+
+pub returns-in-Err-clause-filed : goal.returns-in-Err-clause-filed
+returns-in-Err-clause-filed c = record {
+  encoding = refl;
+  folders = refl;
+  inputs = λ i. (c.in-Err.ensures.unchanged i).project.inputs;
+  documents = refl;
+  tried = refl;
+  unread = refl;
+}

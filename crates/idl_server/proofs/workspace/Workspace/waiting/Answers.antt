@@ -1,7 +1,9 @@
-use Rattle.std.proofs.Common.{◌≡◌, ◌∙◌, ℕ, List, cond, subst, sym, true, true≢false}
+use Rattle.std.proofs.Common.{◌≡◌, ◌∙◌, ℕ, List, ap, cond, is_some, subst, sym, true, true≢false}
+use Rattle.std.specs.FinMap as finite
 use Rattle.std.specs.List.{list_any}
 use Rattle.std.specs.Str.{bytes_eq}
-use Rattle.idl_server.proofs.CoveredLemmas.{gathered-all, gathers-none, gathers-one, gathers-passed}
+use Rattle.idl_related.specs.idl_project.UpToDate.{findings_of}
+use Rattle.idl_server.proofs.CoveredLemmas.{gathered-all, gathers-none, gathers-one, gathers-passed, unrooted}
 use Rattle.idl_server.proofs.workspace.Workspace.waiting.Goals as goal
 
 pub documents-init : goal.documents-init
@@ -11,8 +13,15 @@ documents-init c =
 -- one that doesn't wait
 pub documents-preserved-then-not-is_waiting : goal.documents-preserved-then-not-is_waiting
 documents-preserved-then-not-is_waiting c =
+    let project = c.args.self.now.session.project in
     gathers-passed c.args.self.now c.documents.name-iterator c.in-Some.name.now c.in-Some._document.now c.next.new.self c.documents.names.keys c.in-Some.ensures.steps
-    (λ waits. true≢false (sym (c.is_waiting.ensures waits) ∙ c.if-not-is_waiting.true)) c.documents.invariant
+    (λ waits.
+    true≢false
+    (sym
+    (c.is_waiting.ensures waits.welcome ((λ i. is_some ((c.file-file.ensures ∙ ap (finite.get project.inputs.files) c.as_bytes-bytes.ensures.bytes) i)) ∙ waits.there)
+    (c.findings-findings.ensures ∙ ap (findings_of project) c.as_bytes-bytes.ensures.bytes ∙ unrooted project c.in-Some.name.now waits.rootless))
+    ∙ c.if-not-is_waiting.true))
+    c.documents.invariant
 
 -- one that does
 pub documents-preserved : goal.documents-preserved

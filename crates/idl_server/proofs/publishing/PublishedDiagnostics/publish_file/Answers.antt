@@ -1,0 +1,13 @@
+use Rattle.serde_json.specs.View.{view}
+use Rattle.idl_server.specs.Json.{said_by}
+use Rattle.idl_server.proofs.PublishedLemmas.{found-published, none-published, one-published}
+use Rattle.idl_server.proofs.publishing.PublishedDiagnostics.publish_file.Goals as goal
+
+pub returns-then-has_told : goal.returns-then-has_told
+returns-then-has_told c = none-published c.args.workspace.now (said_by c.args.out.now)
+
+pub returns : goal.returns
+returns c =
+    let w = c.args.workspace.now in
+    one-published w (said_by c.args.out.now) (said_by c.tell.new.self) _ c.in_ok-tell.ensures
+    (found-published w c.args.name.now _ (view c.in_ok-list.list) (view c.in_ok-params.params) c.in_ok-params.ensures c.in_ok-uri.ensures c.in_ok-list.ensures)

@@ -1,9 +1,0 @@
-use Rattle.idl_server.specs.Json.{said_by}
-use Rattle.idl_server.specs.Published.{ArePublished}
-use Rattle.idl_server.proofs.publishing.Told.publish.Given as goal
-
--- what was said tells what is found
-abbrev pub invariant-files : goal.invariant-files
-invariant-files l = record {
-  published : ArePublished l.workspace (said_by l.fn.out) (said_by l.out);
-}

@@ -1,0 +1,48 @@
+use Rattle.std.proofs.Common.{◌≡◌, ◌∙◌, None, Option, ap, subst, sym}
+use Rattle.serde_json.specs.View.{view}
+use Rattle.idl_messages.specs.Message.{seen}
+use Rattle.idl_server.specs.Documents.{Told}
+use Rattle.idl_server.specs.Notices.{told_by_message, told_by_notice}
+use Rattle.idl_server.specs.Server.{HasTaken, if_running}
+use Rattle.idl_server.specs.Json.{said_by}
+use Rattle.idl_server.proofs.PublishedLemmas.{none-published}
+use Rattle.idl_server.proofs.NoticeLemmas.{none-running, params-given, told-notice, told-request, view-Null}
+use Rattle.idl_server.proofs.server.Server.take_value.Goals as goal
+
+pub returns-in-Request-clause-settled : goal.returns-in-Request-clause-settled
+returns-in-Request-clause-settled g c = c.in_ok-take_request.ensures.settled (g.L.PathLoader.told_of c.args.loader.now)
+
+pub returns-in-Request-clause-taken : goal.returns-in-Request-clause-taken
+returns-in-Request-clause-taken g c =
+    let old = c.args.self.now in
+    let json = view c.args.value.now in
+    let none : if_running old.phase (told_by_message old.workspace.folders json) ≡ None =
+    ap (if_running old.phase) (told-request old.workspace.folders json (view c.in-Request.id.now) c.in-Request.ensures.0)
+    ∙ none-running old.phase in
+    subst (λ (told : Option Told). HasTaken told old c.take_request.new.self) (sym none) c.in_ok-take_request.ensures.taken
+
+pub returns-in-Request-clause-published : goal.returns-in-Request-clause-published
+returns-in-Request-clause-published g c =
+    c.in_ok-take_request.ensures.published c.take_request.new.self.workspace
+
+pub returns-in-Notice : goal.returns-in-Notice
+returns-in-Notice g c =
+    let old = c.args.self.now in
+    let json = view c.args.value.now in
+    let folders = old.workspace.folders in
+    let method = c.in-Notice.method in
+    let told : if_running old.phase (told_by_message folders json) ≡ if_running old.phase (told_by_notice folders method (view c.unwrap_or-in-Notice.result.now)) =
+    ap (if_running old.phase)
+    (told-notice folders json method (seen c.in-Notice.params) c.in-Notice.ensures.0 c.in-Notice.ensures.1 c.in-Notice.ensures.2
+    ∙ ap (told_by_notice folders method)
+    (sym (params-given c.in-Notice.params _ c.unwrap_or-in-Notice.result c.unwrap_or-in-Notice.ensures view-Null))) in
+    record {
+      settled = λ is. c.in_ok-take_notice.ensures.settled is;
+      taken = subst (λ (t : Option Told). HasTaken t old c.take_notice.new.self) (sym told) c.in_ok-take_notice.ensures.taken;
+      published = c.in_ok-take_notice.ensures.published;
+      stays = c.take_notice.ensures.stays;
+    }
+
+pub returns-in-Answer-clause-published : goal.returns-in-Answer-clause-published
+returns-in-Answer-clause-published g c =
+    none-published c.args.self.now.workspace (said_by c.args.out.now)

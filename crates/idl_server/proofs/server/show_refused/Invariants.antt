@@ -1,0 +1,10 @@
+use Rattle.idl_server.specs.Json.{said_by}
+use Rattle.idl_server.specs.Published.{ArePublished}
+use Rattle.idl_server.specs.declared.workspace.Workspace.{Workspace}
+use Rattle.idl_server.proofs.server.show_refused.Given as goal
+
+-- no message tells what is found
+abbrev pub invariant-refused : goal.invariant-refused
+invariant-refused l = record {
+  published : (w : Workspace) → ArePublished w (said_by l.fn.out) (said_by l.out);
+}

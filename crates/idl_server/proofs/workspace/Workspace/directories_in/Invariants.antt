@@ -1,5 +1,0 @@
-use Rattle.idl_server.specs.Server.{OnlySets}
-use Rattle.idl_server.proofs.workspace.Workspace.directories_in.Given as goal
-
-abbrev pub invariant-words : goal.invariant-words
-invariant-words l = OnlySets l.fn.self l.self
