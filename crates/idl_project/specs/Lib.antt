@@ -10,6 +10,7 @@ pub mod Edits
 pub mod Made
 pub mod Project
 pub mod Refiled
+pub mod Related
 pub mod Renewed
 pub mod Tasks
 pub mod UpToDate

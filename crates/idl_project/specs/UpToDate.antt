@@ -10,7 +10,7 @@ use Rattle.idl_memo.specs.Kept.{HoldsOver}
 use Rattle.idl_prep.specs.Root.{expanded, expansion}
 use Rattle.idl_root.specs.Results.{root_marks}
 use Rattle.idl_root.specs.Turns.{IsWithinTurns}
-use Rattle.idl_root.specs.declared.compiling.finding.Finding.{Finding}
+use Rattle.idl_finding.specs.declared.finding.Finding.{Finding}
 use Rattle.idl_root.specs.declared.kept.keeper.Keeper.{Keeper}
 use Rattle.idl_project.specs.Bank.{bank_of}
 use Rattle.idl_project.specs.Compile.{compiled_root, compile_over}

@@ -20,6 +20,7 @@ mod macro_body;
 mod no_step;
 mod reading;
 mod refiled;
+mod related;
 mod root_table;
 mod session;
 mod sources;
@@ -41,6 +42,7 @@ pub use limits::{
     MAX_BODY, MAX_DIRECTORIES, MAX_MACROS, MAX_ROOTS, edits_keep_form, edits_keep_limits,
 };
 pub use no_step::Stepless;
+pub use related::{related_in, related_over};
 pub use session::Session;
 pub use sources::Sources;
 pub use work::{Work, compared_is_bounded, untouched_roots_stay};

@@ -8,7 +8,7 @@ use idl_env::OpenScopes;
 use idl_fault::Code;
 use idl_map::Table;
 use idl_memo::Journal;
-use idl_project::idl_scope::{Found, NameCode, NameFault, ScopeAt, Standpoint, View, resolve};
+use idl_scope::{Found, NameCode, NameFault, ScopeAt, Standpoint, View, resolve};
 use idl_tree::ScopedName;
 use std::alloc::{AllocError, Global};
 

@@ -8,7 +8,7 @@ use idl_env::LentKey;
 use idl_fault::Code;
 use idl_map::Lent;
 use idl_parts::{UnitPart, Use, sites};
-use idl_project::idl_syntax::UnitTree;
+use idl_syntax::UnitTree;
 use idl_tree::{Pragma, Tree};
 use std::alloc::{AllocError, Global};
 

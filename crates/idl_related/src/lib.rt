@@ -11,7 +11,6 @@
 mod about;
 mod denoting;
 mod given;
-mod in_project;
 mod known;
 mod names;
 mod near;
@@ -19,7 +18,5 @@ mod related;
 mod repeated;
 mod second;
 
-pub use idl_project;
-pub use in_project::{related_in, related_over};
 pub use related::{related_of, unrelated};
 pub use second::{Reason, Related, follows};

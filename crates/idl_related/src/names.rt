@@ -3,7 +3,7 @@
 use idl_base::Bytes;
 use idl_entity::Path;
 use idl_parts::{UnitPart, sites};
-use idl_project::idl_syntax::{SyntaxFault, UnitTree, parse};
+use idl_syntax::{SyntaxFault, UnitTree, parse};
 use idl_tree::{ScopedName, Tree};
 use idl_unit::UnitText;
 use std::alloc::{AllocError, Global};

@@ -5,19 +5,19 @@ ghost use Rattle.idl_event.specs.declared.told.event.Event.{Event};
 ghost use Rattle.std.specs.Option.{option_copied};
 ghost use Rattle.idl_related.specs.Related.{AreAtTokens, AreRelated, IsAtToken};
 ghost use Rattle.idl_related.specs.Judged.{AreTold, IsOfRoot};
-ghost use Rattle.idl_project.specs.idl_root.Findings.{site_of, tokens_of};
+ghost use Rattle.idl_finding.specs.Findings.{site_of, tokens_of};
 ghost use Rattle.idl_unit.specs.Units.{units_of};
 
 use crate::about::About;
 use crate::known::KnownUnits;
 use crate::second::{Reason, Related, Second};
 use idl_base::{Bytes, Seq};
+use idl_check::{Scratch, verdict_of};
 use idl_env::{Env, Facts, Step, Writes};
 use idl_event::{Expansion, Site};
 use idl_fault::Code;
+use idl_finding::{Finding, token_number};
 use idl_memo::Journal;
-use idl_project::idl_check::{Scratch, verdict_of};
-use idl_project::idl_root::{Finding, token_number};
 use idl_unit::{Fault, SiteRun, Unit, UnitText, split};
 use std::alloc::{AllocError, Global};
 

@@ -11,7 +11,8 @@ use Rattle.idl_fault.specs.declared.place.Place.{Place}
 use Rattle.idl_root.specs.AsBefore.{AreAsBefore, AreCourse, IsCompiledOf, closing_beside, judged_beside, texts_from, texts_of}
 use Rattle.idl_root.specs.Compared.{entry_keys, root_keys}
 use Rattle.idl_root.specs.Compile.{all_findings, compile, findings_told, has_error, is_open, outcome_of, row_in, rows_beside}
-use Rattle.idl_root.specs.Findings.{event_finding, finding_row, unit_finding}
+use Rattle.idl_finding.specs.Findings.{event_finding, finding_row}
+use Rattle.idl_root.specs.Findings.{unit_finding}
 use Rattle.idl_root.specs.Judged.{HasTurns, facts_after, judged_after, judged_over, verdict_over}
 use Rattle.idl_block.specs.facts.Written.{boundary}
 use Rattle.idl_root.specs.Places.{EntryPlace, declarations_after, declarations_of, entries_of, entries_over, root_pieces}
@@ -24,8 +25,8 @@ use Rattle.idl_root_blocks.specs.declared.text.BlockPart.TheVariants.{Text, Ente
 use Rattle.idl_root.specs.Printed.{Listed, closing_finding, entry_over, entry_row, first_paths, listed_in, listed_with}
 use Rattle.idl_root.specs.Results.{DeclarationResult, EntryResult, entry_result, marks_of}
 use Rattle.idl_root.specs.declared.compiling.compiled.Compiled.{Compiled}
-use Rattle.idl_root.specs.declared.compiling.finding.EventFinding.{EventFinding}
-use Rattle.idl_root.specs.declared.compiling.finding.Finding.{Finding}
+use Rattle.idl_finding.specs.declared.finding.EventFinding.{EventFinding}
+use Rattle.idl_finding.specs.declared.finding.Finding.{Finding}
 use Rattle.idl_root.specs.declared.kept.course.Course.{Course}
 use Rattle.idl_root.specs.declared.kept.marks.Mark.{Mark}
 use Rattle.idl_root.specs.declared.kept.marks.Mark.TheVariants as mark

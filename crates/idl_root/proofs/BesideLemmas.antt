@@ -4,12 +4,12 @@ use Rattle.std.specs.Option.{option_map}
 use Rattle.std.specs.Prelude.{slice_get}
 use Rattle.idl_event.specs.declared.told.site.Site.{Site}
 use Rattle.idl_root.specs.AsBefore.{IsBehindMark, IsBehindSame, closing_beside, judged_beside, text_at, texts_from, texts_of}
-use Rattle.idl_root.specs.Findings.{fault_finding}
+use Rattle.idl_finding.specs.Findings.{fault_finding}
 use Rattle.idl_root.specs.Judged.{Judged}
 use Rattle.idl_root.specs.Held.{listed_at}
 use Rattle.idl_root.specs.Printed.{name_index}
 use Rattle.idl_root.specs.Results.{DeclarationResult, EntryResult, mark_at, marks_of}
-use Rattle.idl_root.specs.declared.compiling.finding.EventFinding.{EventFinding}
+use Rattle.idl_finding.specs.declared.finding.EventFinding.{EventFinding}
 use Rattle.idl_root.specs.declared.compiling.printing.Listed.{Listed as HeldListed}
 use Rattle.idl_root.specs.declared.kept.course.Course.{Course}
 use Rattle.idl_root.specs.declared.kept.marks.Mark.TheVariants as mark

@@ -52,13 +52,13 @@ use Rattle.idl_root.proofs.PlacedLemmas.{IsPlaced, both-lists, closings-there, e
 use Rattle.idl_root.proofs.ToldLemmas.{AreSited, IsSited, item-there, units-sited}
 use Rattle.idl_root.specs.Closing.{ClosesAtFirst, StandsAtFirst}
 use Rattle.idl_root.specs.Compile.{Outcome, outcome_of}
-use Rattle.idl_root.specs.Findings.{fault_finding, finding_at, numbered, site_of, tokens_of}
+use Rattle.idl_finding.specs.Findings.{fault_finding, finding_at, numbered, site_of, tokens_of}
 use Rattle.idl_root.specs.Judged.{facts_after, judged_after, verdict_over}
 use Rattle.idl_root.specs.Named.{NamedUnit, closings_in, end_before, ends_of, named_after, named_over, names_over}
 use Rattle.idl_root.specs.NamePlaces.{declared_by, declared_in, declared_names, declared_until, declared_with, is_at, last_in, places_at, sited, sited_in}
-use Rattle.idl_root.specs.Number.{token_number}
+use Rattle.idl_finding.specs.Number.{token_number}
 use Rattle.idl_root.specs.Printed.{Listed, entry_over, first_paths, listed_in, listed_with, name_index}
-use Rattle.idl_root.specs.declared.compiling.finding.EventFinding.{EventFinding}
+use Rattle.idl_finding.specs.declared.finding.EventFinding.{EventFinding}
 use Rattle.idl_root.specs.declared.compiling.places.PlacedName.{PlacedName}
 use Rattle.idl_root.specs.declared.compiling.places.DeclaredPlace.{DeclaredPlace}
 use Rattle.idl_root.specs.declared.compiling.places.SitedToken.{SitedToken}

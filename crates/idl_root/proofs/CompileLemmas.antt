@@ -6,13 +6,13 @@ use Rattle.idl_event.specs.declared.told.event.Event.{Event}
 use Rattle.idl_store.specs.Stored.{Stored, begun, grown, list_at, results_in, with_draft}
 use Rattle.idl_memo.specs.declared.meter.Meter.{Meter}
 use Rattle.idl_root.specs.Compile.{Outcome, outcome_of}
-use Rattle.idl_root.specs.Findings.{event_finding}
+use Rattle.idl_finding.specs.Findings.{event_finding}
 use Rattle.idl_root.specs.AsBefore.{AreCourse}
 use Rattle.idl_root.specs.Followed.{ArePrinted, IsKeeping, WereThere, added_by, facts_of, results_from}
 use Rattle.idl_root.specs.Held.{to_come}
 use Rattle.idl_root.specs.Places.{declarations_after, declarations_of, entries_of, entries_over}
 use Rattle.idl_root.specs.Results.{ChecksOnly, DeclarationResult, EntryResult, ExpandsNone, IsDeclarationPass, IsEntryPass, IsKeptOf, KeptLists, PrintsOnly, RootMarks, entry_result}
-use Rattle.idl_root.specs.declared.compiling.finding.EventFinding.{EventFinding}
+use Rattle.idl_finding.specs.declared.finding.EventFinding.{EventFinding}
 use Rattle.idl_root.specs.declared.kept.course.Course.{Course}
 use Rattle.idl_root.specs.declared.kept.keeping.Keeping.{Keeping}
 use Rattle.idl_root.proofs.JudgingLemmas.{to_come-start}

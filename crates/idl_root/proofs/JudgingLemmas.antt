@@ -5,7 +5,8 @@ use Rattle.std.proofs.lemmas.Grind.{flat_map-append}
 use Rattle.idl_event.specs.declared.told.event.Event.{Event}
 use Rattle.idl_fault.specs.declared.place.Place.{Place}
 use Rattle.idl_root.specs.Compile.{Outcome, findings_told, outcome_of, row_in, rows_of_findings, told}
-use Rattle.idl_root.specs.Findings.{event_finding, unit_finding}
+use Rattle.idl_finding.specs.Findings.{event_finding}
+use Rattle.idl_root.specs.Findings.{unit_finding}
 use Rattle.idl_root.specs.Held.{IsEnded, to_come, told_of, with_gathered, with_judged, with_units}
 use Rattle.idl_root.specs.Judged.{Judged, added, facts_after, judged_after, judged_at}
 use Rattle.idl_root.specs.Printed.{listed_in}

@@ -46,11 +46,11 @@ use Rattle.idl_memo.specs.Query.{Done, and_then, outcome}
 use Rattle.idl_root.proofs.ToldLemmas.{AreSited, IsSited, item-there, units-sited}
 use Rattle.idl_root.specs.Compile.{Outcome, outcome_of}
 use Rattle.idl_root.specs.Details.{details, entry_of, listed_entries}
-use Rattle.idl_root.specs.Findings.{site_of, tokens_of}
+use Rattle.idl_finding.specs.Findings.{site_of, tokens_of}
 use Rattle.idl_root.specs.Judged.{judged_after, verdict_over}
 use Rattle.idl_root.specs.Named.{NamedUnit, closes, closings_in, end_before, ends_of, named_after, named_over, names_over, opens}
 use Rattle.idl_root.specs.NamePlaces.{declared_by, declared_in, declared_names, declared_until, declared_with, is_at, last_in, places_at, sited, sited_in}
-use Rattle.idl_root.specs.Number.{token_number}
+use Rattle.idl_finding.specs.Number.{token_number}
 use Rattle.idl_root.specs.Printed.{Listed, first_paths, listed_in, listed_with}
 use Rattle.idl_root.specs.declared.compiling.detailing.DetailedEntry.{DetailedEntry}
 use Rattle.idl_root.specs.declared.compiling.places.PlacedName.{PlacedName}

@@ -9,7 +9,7 @@ use Rattle.idl_event.specs.declared.told.event.Event.TheVariants as event
 use Rattle.idl_event.specs.declared.told.site.Site.{Site}
 use Rattle.idl_lex.specs.tokens.Tokens.{Token}
 use Rattle.idl_memo.specs.Query.{outcome}
-use Rattle.idl_root.specs.Findings.{fault_finding, finding_at, site_of, tokens_of}
+use Rattle.idl_finding.specs.Findings.{fault_finding, finding_at, site_of, tokens_of}
 use Rattle.idl_root.specs.Judged.{judged_after, verdict_over}
 use Rattle.idl_block.specs.facts.Written.{boundary}
 use Rattle.idl_root.specs.Told.{IsTold}

@@ -7,7 +7,7 @@ use Rattle.idl_memo.specs.Meter.{compared_after}
 use Rattle.idl_memo.specs.declared.meter.Meter.{Meter}
 use Rattle.idl_root.specs.Compared.{AreOf, compared_root, root_keys}
 use Rattle.idl_root.specs.Compile.{compile}
-use Rattle.idl_root.specs.Findings.{fault_finding}
+use Rattle.idl_finding.specs.Findings.{fault_finding}
 use Rattle.idl_root.specs.Followed.{results_from}
 use Rattle.idl_root.specs.Judged.{HasTurns, Judged}
 use Rattle.idl_root.specs.Places.{EntryPlace, begins_of, blocks_of, declarations_after, declarations_of, entries_of, root_pieces}
@@ -16,7 +16,7 @@ use Rattle.idl_root.specs.Results.{DeclarationResult, EntryResult, IsDeclaration
 use Rattle.idl_root_blocks.specs.Met.{Known}
 use Rattle.idl_root_blocks.specs.Places.{block_result, declaration_result}
 use Rattle.idl_root.specs.declared.compiling.compiled.Compiled.{Compiled}
-use Rattle.idl_root.specs.declared.compiling.finding.EventFinding.{EventFinding}
+use Rattle.idl_finding.specs.declared.finding.EventFinding.{EventFinding}
 use Rattle.idl_root.specs.declared.kept.course.Course.{Course}
 use Rattle.idl_root.specs.declared.kept.keeper.Keeper.{Keeper}
 use Rattle.idl_root.specs.declared.kept.marks.Mark.{Mark}

@@ -2,10 +2,10 @@
 use Rattle.std.specs.Prelude.{◌≡◌, List, [], ◌∷◌, All, Some}
 use Rattle.idl_env.specs.Facts.{UnitFacts}
 use Rattle.idl_event.specs.declared.told.event.Event.{Event}
-use Rattle.idl_root.specs.Findings.{numbered}
+use Rattle.idl_finding.specs.Findings.{numbered}
 use Rattle.idl_root.specs.NamePlaces.{places_at}
 use Rattle.idl_root.specs.Printed.{Listed, closing_finding}
-use Rattle.idl_root.specs.declared.compiling.finding.Finding.{Finding}
+use Rattle.idl_finding.specs.declared.finding.Finding.{Finding}
 use Rattle.idl_root.specs.declared.compiling.places.PlacedName.{PlacedName}
 use Rattle.idl_root.specs.declared.compiling.places.DeclaredPlace.{DeclaredPlace}
 

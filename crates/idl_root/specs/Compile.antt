@@ -5,12 +5,13 @@ use Rattle.idl_fault.specs.Code.{is_error}
 use Rattle.idl_fault.specs.declared.code.Code.TheVariants.{OpenScope}
 use Rattle.idl_event.specs.declared.told.event.Event.{Event}
 use Rattle.idl_fault.specs.declared.place.Place.{Place}
-use Rattle.idl_root.specs.Findings.{event_finding, finding_row, in_order, numbered, unit_finding}
+use Rattle.idl_finding.specs.Findings.{event_finding, finding_row, in_order, numbered}
+use Rattle.idl_root.specs.Findings.{unit_finding}
 use Rattle.idl_root.specs.Judged.{Judged, facts_after, judged_after}
 use Rattle.idl_root.specs.Printed.{Listed, closing_finding, entry_row, listed_in}
 use Rattle.idl_root.specs.declared.compiling.compiled.Compiled.{Compiled}
-use Rattle.idl_root.specs.declared.compiling.finding.EventFinding.{EventFinding}
-use Rattle.idl_root.specs.declared.compiling.finding.Finding.{Finding}
+use Rattle.idl_finding.specs.declared.finding.EventFinding.{EventFinding}
+use Rattle.idl_finding.specs.declared.finding.Finding.{Finding}
 use Rattle.idl_env.specs.Facts.{UnitFacts, answers, scopes_in}
 use Rattle.idl_env.specs.declared.keys.key.Key.TheVariants.{Cursor}
 use Rattle.idl_unit.specs.Units.{units_of}

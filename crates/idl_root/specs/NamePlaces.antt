@@ -10,9 +10,9 @@ use Rattle.idl_event.specs.Apart.{place_in}
 use Rattle.idl_event.specs.declared.told.event.Event.{Event}
 use Rattle.idl_event.specs.declared.told.site.Site.{Site}
 use Rattle.idl_lex.specs.tokens.Tokens.{Token}
-use Rattle.idl_root.specs.Findings.{site_of, tokens_of}
+use Rattle.idl_finding.specs.Findings.{site_of, tokens_of}
 use Rattle.idl_root.specs.Named.{AreNumbersIn, NamedUnit, ends_of}
-use Rattle.idl_root.specs.Number.{token_number}
+use Rattle.idl_finding.specs.Number.{token_number}
 use Rattle.idl_root.specs.declared.compiling.places.PlacedName.{PlacedName}
 use Rattle.idl_root.specs.declared.compiling.places.DeclaredPlace.{DeclaredPlace}
 use Rattle.idl_root.specs.declared.compiling.places.RootNames.{RootNames}

@@ -5,9 +5,9 @@ use Rattle.idl_event.specs.declared.told.site.Site.{Site}
 use Rattle.idl_memo.specs.Query.{outcome}
 use Rattle.idl_repo.specs.Entry.{entry}
 use Rattle.idl_repo.specs.declared.entry.Entry.{Entry}
-use Rattle.idl_root.specs.Findings.{fault_finding, tokens_of}
+use Rattle.idl_finding.specs.Findings.{fault_finding, tokens_of}
 use Rattle.idl_root.specs.Judged.{Judged}
-use Rattle.idl_root.specs.declared.compiling.finding.EventFinding.{EventFinding}
+use Rattle.idl_finding.specs.declared.finding.EventFinding.{EventFinding}
 use Rattle.idl_root.specs.declared.compiling.printing.Sought.{Sought}
 use Rattle.idl_env.specs.Facts.{UnitFacts, answers}
 use Rattle.idl_env.specs.declared.additions.addition.Addition.{Addition}

@@ -1,8 +1,9 @@
 -- The fault of a unit is told.
 use Rattle.std.specs.Prelude.{◌≡◌, [], ◌∷◌, slice_get, Some}
-use Rattle.idl_root.specs.Findings.{tokens_of, unit_finding}
+use Rattle.idl_finding.specs.Findings.{tokens_of}
+use Rattle.idl_root.specs.Findings.{unit_finding}
 use Rattle.idl_root.specs.Judged.{Judged}
-use Rattle.idl_root.specs.declared.compiling.finding.EventFinding.{EventFinding}
+use Rattle.idl_finding.specs.declared.finding.EventFinding.{EventFinding}
 use Rattle.idl_unit.specs.declared.fault.Fault.{Fault}
 
 -- the fault of a unit, if it has one, is found once, with its code and its token

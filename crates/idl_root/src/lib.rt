@@ -3,11 +3,10 @@
 //!
 //! Nothing here knows how a root is expanded, what a unit asks, or what became of other roots.
 //!
-//! `compiling/` has units (`judging.rt`), pieces (`passing.rt`), entries (`printing.rt`), findings and their numbers
-//! (`finding.rt`, `number.rt`), and details (`detailing.rt`, `naming.rt`, `places.rt`). `kept/` has the units of before
-//! (`course.rt`), beside those of now (`following.rt`, `changed.rt`), open blocks (`keeping_blocks.rt`) and entries
-//! (`reprinting.rt`). `specs/Compared.antt` says at how many keys is compared. Without a keeper what verdicts add is
-//! given up to the `Env` (`added.rt`).
+//! `compiling/` has units (`judging.rt`), pieces (`passing.rt`), entries (`printing.rt`) and details (`detailing.rt`,
+//! `naming.rt`, `places.rt`). `kept/` has the units of before (`course.rt`), beside those of now (`following.rt`,
+//! `changed.rt`), open blocks (`keeping_blocks.rt`) and entries (`reprinting.rt`). `specs/Compared.antt` says at how many
+//! keys is compared. Without a keeper what verdicts add is given up to the `Env` (`added.rt`).
 #![tactic(auto)]
 
 mod compiling;
@@ -15,11 +14,10 @@ mod kept;
 
 pub use compiling::compiled::{Compiled, KeptSource, Recompiled, Row, compile, compile_kept};
 pub use compiling::detailing::{DetailedEntry, Details, details_of};
-pub use compiling::finding::Finding;
 pub use compiling::laws::{closing, detailing, facts, ordering, placing, telling, texts};
 pub use compiling::memory::Memory;
-pub use compiling::number::token_number;
 pub use compiling::places::{DeclaredPlace, SitedToken, UsedName};
+pub use idl_finding::Finding;
 pub use idl_root_blocks;
 pub use idl_root_blocks::{idl_check, idl_syntax};
 pub use idl_scope;

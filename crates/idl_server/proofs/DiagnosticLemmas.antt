@@ -5,7 +5,7 @@ use Rattle.std.specs.List.{AllZip}
 use Rattle.serde_json.specs.Data.{Data}
 use Rattle.serde_json.specs.View.{view}
 use Rattle.serde_json.specs.declared.value.Value.{Value}
-use Rattle.idl_related.specs.idl_root.declared.compiling.finding.Finding.{Finding}
+use Rattle.idl_finding.specs.declared.finding.Finding.{Finding}
 use Rattle.idl_server.specs.Found.{findings_in}
 use Rattle.idl_server.specs.declared.found.RootFinding.{RootFinding}
 

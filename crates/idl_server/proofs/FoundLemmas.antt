@@ -10,11 +10,11 @@ use Rattle.std.specs.List.{filter, flat_map, fold, insert, list_any, position_or
 use Rattle.std.specs.Option.{option_map}
 use Rattle.std.specs.Str.{bytes_eq}
 use Rattle.std.specs.Prelude.{if◌then◌else◌, ⊤}
-use Rattle.idl_related.specs.idl_root.declared.compiling.finding.Finding.{Finding}
-use Rattle.idl_related.specs.idl_project.Compile.{compiled_root}
-use Rattle.idl_related.specs.idl_project.Project.{Project}
-use Rattle.idl_related.specs.idl_project.UpToDate.{findings_of}
-use Rattle.idl_related.specs.idl_project.declared.compile.CompiledRoot.{CompiledRoot}
+use Rattle.idl_finding.specs.declared.finding.Finding.{Finding}
+use Rattle.idl_project.specs.Compile.{compiled_root}
+use Rattle.idl_project.specs.Project.{Project}
+use Rattle.idl_project.specs.UpToDate.{findings_of}
+use Rattle.idl_project.specs.declared.compile.CompiledRoot.{CompiledRoot}
 use Rattle.idl_server.specs.Found.{findings_by, findings_in, found_by, found_in, is_in, is_later, is_same, most_told, put_in_order, told_if, told_with, with_one}
 use Rattle.idl_server.specs.declared.found.RootFinding.{RootFinding}
 

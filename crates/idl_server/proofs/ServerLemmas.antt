@@ -5,11 +5,11 @@ use Rattle.std.specs.FinMap as finite
 use Rattle.std.specs.List.{list_any}
 use Rattle.std.specs.Map.{lookup}
 use Rattle.std.specs.Str.{bytes_eq}
-use Rattle.idl_related.specs.idl_project.Compile.{compiled_root}
-use Rattle.idl_related.specs.idl_project.Edited.{IsAccepted}
-use Rattle.idl_related.specs.idl_project.Edits.{Define, Search}
-use Rattle.idl_related.specs.idl_project.UpToDate.{State}
-use Rattle.idl_related.specs.idl_project.declared.work.Work.{Work}
+use Rattle.idl_project.specs.Compile.{compiled_root}
+use Rattle.idl_project.specs.Edited.{IsAccepted}
+use Rattle.idl_project.specs.Edits.{Define, Search}
+use Rattle.idl_project.specs.UpToDate.{State}
+use Rattle.idl_project.specs.declared.work.Work.{Work}
 use Rattle.idl_loader.specs.Holding.{Holding}
 use Rattle.idl_server.specs.Files.{AreFiled, AreTried, AreTriedBy, IsKept, IsTried, StaysSet, told_by}
 use Rattle.idl_server.specs.Roots.{AreCovered, AreRooted}

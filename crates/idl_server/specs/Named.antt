@@ -8,15 +8,15 @@ use Rattle.idl_editor.specs.declared.change.Range.{Range}
 use Rattle.idl_editor.specs.declared.column.Encoding.{Encoding}
 use Rattle.idl_editor.specs.declared.position.Position.{Position}
 use Rattle.serde_json.specs.Data.{Data, null}
-use Rattle.idl_related.specs.idl_project.Asked.{asked_of}
-use Rattle.idl_related.specs.idl_project.Columns.{column_of}
-use Rattle.idl_related.specs.idl_project.Details.{details_of}
-use Rattle.idl_related.specs.idl_project.Project.{Project}
-use Rattle.idl_related.specs.idl_root.declared.compiling.detailing.DetailedEntry.{DetailedEntry}
-use Rattle.idl_related.specs.idl_root.declared.compiling.detailing.Details.{Details}
-use Rattle.idl_related.specs.idl_root.declared.compiling.places.DeclaredPlace.{DeclaredPlace}
-use Rattle.idl_related.specs.idl_root.declared.compiling.places.SitedToken.{SitedToken}
-use Rattle.idl_related.specs.idl_root.declared.compiling.places.UsedName.{UsedName}
+use Rattle.idl_project.specs.Asked.{asked_of}
+use Rattle.idl_project.specs.Columns.{column_of}
+use Rattle.idl_project.specs.Details.{details_of}
+use Rattle.idl_project.specs.Project.{Project}
+use Rattle.idl_project.specs.idl_root.declared.compiling.detailing.DetailedEntry.{DetailedEntry}
+use Rattle.idl_project.specs.idl_root.declared.compiling.detailing.Details.{Details}
+use Rattle.idl_project.specs.idl_root.declared.compiling.places.DeclaredPlace.{DeclaredPlace}
+use Rattle.idl_project.specs.idl_root.declared.compiling.places.SitedToken.{SitedToken}
+use Rattle.idl_project.specs.idl_root.declared.compiling.places.UsedName.{UsedName}
 use Rattle.idl_server.specs.Json.{location_json}
 use Rattle.idl_server.specs.Places.{is_up_to, range_of}
 use Rattle.idl_server.specs.Uris.{uri_for}

@@ -5,7 +5,7 @@ ghost use Rattle.std.specs.List.{filter, list_any, position_or_len};
 ghost use Rattle.std.specs.Option.{option_copied, option_map};
 ghost use Rattle.idl_server.specs.Found.{findings_by, findings_in, found_in, is_in, is_later, is_same, told_if, told_with};
 
-use idl_related::idl_project::{Finding, MAX_ROOTS, Session};
+use idl_project::{Finding, MAX_ROOTS, Session};
 use idl_source::Name;
 use std::alloc::AllocError;
 

@@ -9,9 +9,7 @@ use crate::places::{LocatedToken, is_up_to, location_value, range_of};
 use crate::shown::shown_value;
 use crate::workspace::{Workspace, uri_for};
 use idl_editor::{Encoding, Position};
-use idl_related::idl_project::{
-    DeclaredPlace, DetailedEntry, Details, Row, Session, SitedToken, UsedName,
-};
+use idl_project::{DeclaredPlace, DetailedEntry, Details, Row, Session, SitedToken, UsedName};
 use idl_repo::details::kind_word;
 use idl_repo::push_path;
 use idl_source::Name;

@@ -4,13 +4,13 @@ ghost use Rattle.std.specs.Prelude.{◌≡◌, ◌≤◌, ◌<◌, ◌+◌, ◌*
 ghost use Rattle.std.specs.List.{sum_by};
 ghost use Rattle.serde_json.specs.View.{view};
 ghost use Rattle.idl_source.specs.Limits.{longest_line};
-ghost use Rattle.idl_related.specs.idl_project.WithinLimits.{IsAllowedFile};
+ghost use Rattle.idl_project.specs.WithinLimits.{IsAllowedFile};
 ghost use Rattle.idl_server.specs.Json.{location_json, position_json, range_json};
 ghost use Rattle.idl_server.specs.Places.{behind_return, is_around, is_up_to, line_range, lines_of, position_behind, position_in, range_of, returns};
 
 use idl_editor::{Encoding, Position, Range, units_of};
 use idl_fault::Place;
-use idl_related::idl_project::{Session, SitedToken};
+use idl_project::{Session, SitedToken};
 use idl_source::Line;
 use memchr::{memchr_iter, memrchr};
 use serde_json::{Value, json};

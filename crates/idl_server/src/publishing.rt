@@ -8,7 +8,7 @@ ghost use Rattle.idl_server.specs.Published.{ArePublished, found_json};
 
 use crate::outbox::Outbox;
 use crate::workspace::{Workspace, uri_for};
-use idl_related::idl_project::Finding;
+use idl_project::Finding;
 use idl_source::Name;
 use indexmap::{IndexMap, IndexSet};
 use serde_json::{Value, json};

@@ -9,7 +9,7 @@ ghost use Rattle.idl_server.specs.Named.{root_with};
 ghost use Rattle.idl_server.specs.Roots.{AreCovered, AreRooted, IsOpen, IsWaiting};
 
 use crate::workspace::{Workspace, keep_all, push_refused};
-use idl_related::idl_project::{Finding, MAX_ROOTS};
+use idl_project::{Finding, MAX_ROOTS};
 use idl_source::{Line, Name, Refusal};
 use indexmap::IndexSet;
 use std::alloc::AllocError;

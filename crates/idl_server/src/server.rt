@@ -19,7 +19,7 @@ use idl_editor::messages::{ErrorCode, Message, Method, message_of};
 use idl_editor::uris::Folders;
 use idl_explain::{Topic, explanation_of};
 use idl_loader::PathLoader;
-use idl_related::idl_project::Session;
+use idl_project::Session;
 use indexmap::{IndexMap, IndexSet};
 use serde_json::{Value, json};
 use std::alloc::{AllocError, Global};

@@ -7,7 +7,7 @@ use crate::shown::shown_value;
 use crate::workspace::Workspace;
 use idl_editor::Range;
 use idl_entity::Kind;
-use idl_related::idl_project::{DeclaredPlace, DetailedEntry};
+use idl_project::{DeclaredPlace, DetailedEntry};
 use idl_source::Name;
 use serde_json::{Value, json};
 use std::alloc::{AllocError, Global};

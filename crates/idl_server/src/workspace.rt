@@ -14,7 +14,7 @@ ghost use Rattle.idl_server.specs.Uris.{uri_among};
 use crate::document::Document;
 use idl_editor::Encoding;
 use idl_editor::uris::{Folders, path_of, uri_of};
-use idl_related::idl_project::Session;
+use idl_project::Session;
 use idl_source::{Name, Refusal};
 use indexmap::{IndexMap, IndexSet};
 use std::alloc::{AllocError, Global};

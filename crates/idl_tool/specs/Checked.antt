@@ -9,17 +9,17 @@ use Rattle.idl_explain.specs.declared.explanation.Explanation.{Explanation}
 use Rattle.idl_explain.specs.declared.explanation.Topic.TheVariants as topic
 use Rattle.idl_fault.specs.declared.place.Place.{Place}
 use Rattle.idl_related.specs.Follows.{follows}
-use Rattle.idl_related.specs.Related.{AreRelatedOver}
+use Rattle.idl_project.specs.Related.{AreRelatedOver}
 use Rattle.idl_related.specs.declared.second.Related.{Related}
-use Rattle.idl_related.specs.idl_root.declared.compiling.finding.Finding.{Finding}
+use Rattle.idl_finding.specs.declared.finding.Finding.{Finding}
 use Rattle.idl_source.specs.devices.Device.{append}
 use Rattle.idl_source.specs.texts.Texts.{Texts}
-use Rattle.idl_related.specs.idl_project.Bank.{bank_of}
-use Rattle.idl_related.specs.idl_project.Columns.{column_at}
-use Rattle.idl_related.specs.idl_project.Compile.{compiled_root}
-use Rattle.idl_related.specs.idl_project.Made.{rootless}
-use Rattle.idl_related.specs.idl_project.Project.{Inputs}
-use Rattle.idl_related.specs.idl_project.WellFormed.{IsWellFormed}
+use Rattle.idl_project.specs.Bank.{bank_of}
+use Rattle.idl_project.specs.Columns.{column_at}
+use Rattle.idl_project.specs.Compile.{compiled_root}
+use Rattle.idl_project.specs.Made.{rootless}
+use Rattle.idl_project.specs.Project.{Inputs}
+use Rattle.idl_project.specs.WellFormed.{IsWellFormed}
 use Rattle.idl_program.specs.Compiled.{Written, is_faulty}
 use Rattle.idl_program.specs.idl_loader.Holding.{Holding}
 use Rattle.idl_program.specs.Loading.{AreLoaded, AreComplete}

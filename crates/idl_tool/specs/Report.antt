@@ -8,7 +8,7 @@ use Rattle.idl_fault.specs.declared.code.Code.{Code}
 use Rattle.idl_fault.specs.declared.place.Place.{Place}
 use Rattle.idl_related.specs.Reasons.{reason_words}
 use Rattle.idl_related.specs.declared.second.Related.{Related}
-use Rattle.idl_related.specs.idl_root.declared.compiling.finding.Finding.{Finding}
+use Rattle.idl_finding.specs.declared.finding.Finding.{Finding}
 
 -- a hexadecimal digit
 abbrev pub hex_digit : ℕ → ℕ

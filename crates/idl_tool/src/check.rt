@@ -7,7 +7,7 @@ ghost use Rattle.idl_explain.specs.declared.explanation.Explanation.{Explanation
 ghost use Rattle.idl_program.specs.Compilations.{HasCompiled};
 ghost use Rattle.idl_program.specs.Rows.{are_faulty};
 ghost use Rattle.idl_program.specs.idl_loader.declared.status.Status.TheVariants.{Faulty, Sound};
-ghost use Rattle.idl_related.specs.idl_project.Compile.{compiled_root};
+ghost use Rattle.idl_project.specs.Compile.{compiled_root};
 ghost use Rattle.idl_tool.specs.Checked.{AreReported, AreToldOf, Explains, IsChecked, IsReportText, IsToldOf, Told, all_of, column_of, entry_text, in_order, line_at, report_in, seconds_in};
 ghost use Rattle.idl_tool.specs.ToldAt.{told_at};
 
@@ -18,8 +18,8 @@ use idl_explain::{Topic, explanation_of};
 use idl_fault::Place;
 use idl_program::idl_session::{Sink, write_all};
 use idl_program::{Compilation, Devices, Loader, Options, Status, compile_files};
-use idl_related::idl_project::{CompiledRoot, Finding, Sources};
-use idl_related::{Related, follows, related_over};
+use idl_project::{CompiledRoot, Finding, Sources, related_over};
+use idl_related::{Related, follows};
 use idl_source::Name;
 use indexmap::IndexMap;
 use std::alloc::{AllocError, Global};

@@ -12,7 +12,7 @@ use crate::make_rules::{is_make_name, push_need, push_need_if_there, push_target
 use crate::request::Deps;
 use idl_program::idl_session::{Sink, WriteFailed, write_all, write_lines};
 use idl_program::{Devices, FailureSubject, Loader, Status, compile_files};
-use idl_related::idl_project::{CompiledRoot, Sources};
+use idl_project::{CompiledRoot, Sources};
 use idl_source::Name;
 use std::alloc::{AllocError, Global};
 use std::mem::forget;

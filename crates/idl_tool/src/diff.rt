@@ -2,8 +2,8 @@
 
 ghost use Rattle.std.specs.Prelude.{◌≡◌, ◌≤◌, ◌<◌, ◌+◌, ◌-◌, ◌^◌, IfOk, OnOk, flat_map, if◌then◌else◌, map};
 ghost use Rattle.idl_source.specs.devices.Device.{append};
-ghost use Rattle.idl_related.specs.idl_project.Bank.{bank_of};
-ghost use Rattle.idl_related.specs.idl_project.Details.{details_over};
+ghost use Rattle.idl_project.specs.Bank.{bank_of};
+ghost use Rattle.idl_project.specs.Details.{details_over};
 ghost use Rattle.idl_program.specs.idl_loader.declared.status.Status.TheVariants.{Faulty, Sound};
 ghost use Rattle.idl_program.specs.Compilations.{HasCompiled};
 ghost use Rattle.idl_program.specs.Rows.{are_faulty};
@@ -17,7 +17,7 @@ use crate::request::Diff;
 use idl_changes::{Change, Weight, changes};
 use idl_program::idl_session::{Sink, write_all};
 use idl_program::{Compilation, Devices, Loader, Status, compile_files};
-use idl_related::idl_project::{CompiledRoot, Details, Sources};
+use idl_project::{CompiledRoot, Details, Sources};
 use idl_repo::details::RowTree;
 use idl_source::Name;
 use std::alloc::{AllocError, Global};

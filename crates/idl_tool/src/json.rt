@@ -5,7 +5,7 @@ ghost use Rattle.std.specs.List.{AllZip, concat, zip};
 ghost use Rattle.idl_json.specs.Diagnostic.{located, second_of};
 ghost use Rattle.idl_json.specs.Listed.{place_of, row_of};
 ghost use Rattle.idl_json.specs.Root.{IsRootLine};
-ghost use Rattle.idl_related.specs.idl_project.Compile.{compiled_root};
+ghost use Rattle.idl_project.specs.Compile.{compiled_root};
 ghost use Rattle.idl_tool.specs.Json.{IsLineOf, IsLineWith, IsWritten, declared_in, listing_of, located_in, row_in, second_at, told_of};
 
 use crate::check::{column_of, status_of};
@@ -14,10 +14,10 @@ use idl_base::Seq;
 use idl_json::{Diagnostic, ListedRow, NamePlace, RootTold, SecondPlace, root_line};
 use idl_program::idl_session::{Sink, write_all};
 use idl_program::{Devices, Loader, Options, Status, compile_files};
-use idl_related::idl_project::{
-    CompiledRoot, DeclaredPlace, DetailedEntry, Details, Finding, SitedToken, Sources,
+use idl_project::{
+    CompiledRoot, DeclaredPlace, DetailedEntry, Details, Finding, SitedToken, Sources, related_over,
 };
-use idl_related::{Related, related_over};
+use idl_related::Related;
 use idl_repo::details::RowTree;
 use idl_source::Name;
 use std::alloc::{AllocError, Global};

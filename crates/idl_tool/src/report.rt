@@ -6,8 +6,8 @@ ghost use Rattle.idl_tool.specs.Report.{beginning, column_text, excerpt, gap_bel
 
 use idl_explain::Words;
 use idl_fault::{Code, Place};
+use idl_project::Finding;
 use idl_related::Related;
-use idl_related::idl_project::Finding;
 use itoa::Buffer;
 use std::alloc::{AllocError, Global};
 

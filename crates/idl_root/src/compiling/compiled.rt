@@ -4,15 +4,12 @@ ghost use Rattle.std.specs.Prelude.{◌≡◌, ◌⊎◌, ◌++◌, IfNone, IfOk
 ghost use Rattle.std.specs.Option.{unwrap_or};
 ghost use Rattle.idl_event.specs.declared.told.event.Event.{Event};
 ghost use Rattle.idl_root.specs.AsBefore.{AreAsBefore, AreListsLeft, IsAsBefore, IsCompiledOf, IsMade, kept_lists};
-ghost use Rattle.idl_root.specs.Compile.{compile, findings_told, open_finding, rows_beside};
+ghost use Rattle.idl_root.specs.Compile.{compile, findings_told, has_error, open_finding, rows_beside};
 ghost use Rattle.idl_root.specs.Held.{told_of};
 ghost use Rattle.idl_root.specs.Judged.{HasTurns};
 ghost use Rattle.idl_root.specs.Results.{ExpandsNone, IsKeptOf, root_marks};
 ghost use Rattle.idl_unit.specs.Units.{units_of};
 
-use crate::compiling::finding::{
-    EventFinding, Finding, event_findings, has_error, in_order, push_numbered, rows_of,
-};
 use crate::compiling::judging::{Ended, RootState};
 use crate::compiling::memory::Memory;
 use crate::compiling::printing::{Printed, print_all};
@@ -26,6 +23,7 @@ use crate::kept::printing::Printing;
 use idl_base::{Bytes, Seq, Shared};
 use idl_event::Expansion;
 use idl_fault::{Code, Place};
+use idl_finding::{EventFinding, Finding, event_findings, in_order, push_numbered, rows_of};
 use idl_memo::Meter;
 use idl_unit::{Unit, split};
 use std::alloc::{AllocError, Global};
@@ -343,4 +341,11 @@ fn rows_beside(alloc: Global, is_faulty: bool, rows: Vec<Row>) -> Seq<Row>
     } else {
         Seq::from_vec(rows)
     }
+}
+
+// Whether one of them is an error.
+fn has_error(findings: &[Finding]) -> bool
+    ensures { result ≡ has_error findings.now }
+{
+    findings.iter().any(|finding| finding.code.is_error())
 }

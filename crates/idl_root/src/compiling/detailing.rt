@@ -8,13 +8,13 @@ ghost use Rattle.idl_root.specs.NamePlaces.{AreNamesOf, AreNumbered};
 
 use crate::compiling::judging::RootState;
 use crate::compiling::naming::Naming;
-use crate::compiling::number::LineNumbers;
 use crate::compiling::places::{DeclaredPlace, RootNames, UsedName};
 use crate::compiling::printing::Listed;
 use idl_base::Seq;
 use idl_entity::Path;
 use idl_env::{Env, LentKey, entity_in};
 use idl_event::Expansion;
+use idl_finding::LineNumbers;
 use idl_memo::Bank;
 use idl_repo::details::{RowTree, tree_of};
 use idl_unit::split;

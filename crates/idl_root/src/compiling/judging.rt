@@ -23,7 +23,6 @@ ghost use Rattle.idl_root_blocks.specs.Met.{outermost_keys};
 ghost use Rattle.idl_root_blocks.specs.Units.{parts_of_unit, text_of};
 
 use crate::compiling::compiled::Row;
-use crate::compiling::finding::{EventFinding, Spelled, push_fault};
 use crate::compiling::memory::Memory;
 use crate::compiling::naming::Naming;
 use crate::compiling::printing::{Listed, Printed, push_listed};
@@ -33,6 +32,7 @@ use crate::kept::marks::Mark;
 use crate::kept::noting::noting;
 use crate::kept::reading::kept_verdict;
 use idl_env::{DigestedKey, Env, Facts, OpenScopes, PlainEnv, Step, Writes, scopes_in};
+use idl_finding::{EventFinding, Spelled, push_fault};
 use idl_kept::KeptTexts;
 use idl_memo::{Bank, Journal, passing, placement};
 use idl_root_blocks::idl_check::{DeclarationTask, Scratch, Verdict, verdict_of};

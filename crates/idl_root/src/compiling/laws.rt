@@ -20,8 +20,8 @@ ghost use Rattle.idl_unit.specs.declared.unit.Unit.{Unit as RootUnit};
 ghost use Rattle.idl_root.specs.Told.{IsTold};
 ghost use Rattle.idl_unit.specs.Units.{units_of};
 ghost use Rattle.std.specs.List.Sorted.{IsNonDecreasingBy};
-ghost use Rattle.idl_root.specs.Findings.{finding_row, in_order};
-ghost use Rattle.idl_root.specs.declared.compiling.finding.EventFinding.{EventFinding};
+ghost use Rattle.idl_finding.specs.Findings.{finding_row, in_order};
+ghost use Rattle.idl_finding.specs.declared.finding.EventFinding.{EventFinding};
 
 use idl_repo::details::printing;
 use idl_repo::listed_row;

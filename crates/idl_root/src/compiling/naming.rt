@@ -7,10 +7,10 @@ ghost use Rattle.idl_root.specs.Held.{with_gathered, with_units};
 ghost use Rattle.idl_root.specs.Judged.{added, judged_at, verdict_over};
 ghost use Rattle.idl_root.specs.Named.{AreNumbersIn, closings_from, end_before, ends_of, named_as, named_at, names_over};
 
-use crate::compiling::finding::Spelled;
 use crate::compiling::judging::{Accumulator, RootState, verdict_over};
 use crate::kept::added::Added;
 use idl_env::{Env, Step};
+use idl_finding::Spelled;
 use idl_root_blocks::idl_check::{NamedSite, Scratch, names_of};
 use idl_unit::{Fault, Unit, UnitText};
 use std::alloc::{AllocError, Global};

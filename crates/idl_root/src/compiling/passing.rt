@@ -26,7 +26,6 @@ ghost use Rattle.idl_root_blocks.specs.Places.{block_at as block_place, block_re
 ghost use Rattle.idl_root_blocks.specs.Units.{text_of};
 ghost use Rattle.idl_unit.specs.declared.unit.Unit.{Unit as RootUnit};
 
-use crate::compiling::finding::Spelled;
 use crate::compiling::judging::{Accumulator, crossed};
 use crate::kept::added::Added;
 use crate::kept::keeping::Keeping;
@@ -35,6 +34,7 @@ use crate::kept::marks::Mark;
 use crate::kept::noting::noting;
 use crate::kept::reading::kept_verdict;
 use idl_env::{Env, PlainEnv};
+use idl_finding::Spelled;
 use idl_kept::KeptTexts;
 use idl_memo::{passing, placement};
 use idl_root_blocks::idl_check::DeclarationTask;

@@ -2,16 +2,15 @@
 
 ghost use Rattle.std.specs.Prelude.{◌≡◌, ◌++◌, ◌-◌, IfOk, OnOk, length, map, slice_get};
 ghost use Rattle.std.specs.Option.{option_to_list};
-ghost use Rattle.idl_root.specs.Findings.{site_of, tokens_of};
+ghost use Rattle.idl_finding.specs.Findings.{site_of, tokens_of};
 ghost use Rattle.idl_root.specs.NamePlaces.{AreNamesOf, AreNumbered, declared_by, declared_in, declared_with, last_in, numbers_at, places_at, sited, sited_in, used_by, used_in, used_with};
 ghost use Rattle.idl_root.specs.Named.{named_as};
 
-use crate::compiling::finding::Spelled;
 use crate::compiling::naming::{NamedUnit, ends_of};
-use crate::compiling::number::LineNumbers;
 use idl_base::{Bytes, Seq};
 use idl_entity::Path;
 use idl_fault::Place;
+use idl_finding::{LineNumbers, Spelled};
 use idl_map::{Map, SharedList};
 use idl_root_blocks::idl_check::{NameRole, NamedSite};
 use idl_unit::UnitText;
@@ -268,9 +267,9 @@ fn declared_by(
         ≡ declared_with site.now.path (sited_in events.now (named_as unit.now) site.now.index)
         (sited_in events.now (named_as unit.now) 0) (last_in events.now (named_as end.now))) }
 {
-    let name = unit.unit.sited(events, site.index)?;
-    let first = unit.unit.sited(events, 0)?;
-    let last = end.unit.sited(events, last_index(end.unit.text))?;
+    let name = sited(unit.unit, events, site.index)?;
+    let first = sited(unit.unit, events, 0)?;
+    let last = sited(end.unit, events, last_index(end.unit.text))?;
     let (Some(name), Some(first), Some(last)) = (name, first, last) else {
         return Ok(None);
     };
@@ -292,31 +291,33 @@ fn push_used(
         ≡ used.old.items
         ++ used_with site.now.path (sited_in events.now (named_as unit.now) site.now.index)) }
 {
-    if let Some(name) = unit.unit.sited(events, site.index)? {
+    if let Some(name) = sited(unit.unit, events, site.index)? {
         let path = site.path.clone()?;
         used.push(UsedName { name, path })?;
     }
     Ok(())
 }
 
-impl<'a> Spelled<'a> {
-    // The token with this number, and where it stands.
-    fn sited(self, events: &LineNumbers<'_>, index: usize) -> Result<Option<SitedToken>, AllocError>
-        ensures { IfOk result (λ token.
-            token
-            ≡ sited events.now (site_of self.entry.text.now self.entry.sites.now index)
-            (slice_get (tokens_of self.entry.text.now) index)) }
-    {
-        let site = self.site(index)?;
-        let (Some(site), Some(token)) = (site, self.token(index)) else {
-            return Ok(None);
-        };
-        Ok(Some(SitedToken {
-            place: site.place()?,
-            number: events.number(site.event),
-            text: Bytes::from_slice(events.allocator(), token)?,
-        }))
-    }
+// The token of a unit with this number, and where it stands.
+fn sited(
+    unit: Spelled<'_>,
+    events: &LineNumbers<'_>,
+    index: usize,
+) -> Result<Option<SitedToken>, AllocError>
+    ensures { IfOk result (λ token.
+        token
+        ≡ sited events.now (site_of unit.entry.text.now unit.entry.sites.now index)
+        (slice_get (tokens_of unit.entry.text.now) index)) }
+{
+    let site = unit.site(index)?;
+    let (Some(site), Some(token)) = (site, unit.token(index)) else {
+        return Ok(None);
+    };
+    Ok(Some(SitedToken {
+        place: site.place()?,
+        number: events.number(site.event),
+        text: Bytes::from_slice(events.allocator(), token)?,
+    }))
 }
 
 // The number of the last token; 0 where there is none.

@@ -3,17 +3,17 @@
 ghost use Rattle.std.specs.Prelude.{◌≡◌, ◌∷◌, ◌++◌, [], All, IfOk, IfSome, OnOk, flat_map, map, option_to_list};
 ghost use Rattle.std.specs.Option.{option_copied, option_map};
 ghost use Rattle.idl_base.specs.Spans.{AreWithin, pieces};
-ghost use Rattle.idl_root.specs.Findings.{fault_finding};
+ghost use Rattle.idl_finding.specs.Findings.{fault_finding};
 ghost use Rattle.idl_root.specs.Held.{listed_at};
 ghost use Rattle.idl_root.specs.Printed.{closing_finding, entry_over, entry_row, first_paths, listed_with, name_index, sought_finding, sought_row};
 ghost use Rattle.idl_unit.specs.TokenRules.{fault_at};
 
 use crate::compiling::compiled::Row;
-use crate::compiling::finding::{EventFinding, Spelled, push_fault};
 use idl_base::{ByteRange, push_texts};
 use idl_entity::Path;
 use idl_env::{Addition, Env, Facts};
 use idl_fault::Code;
+use idl_finding::{EventFinding, Spelled, push_fault};
 use idl_repo::{Answered, Entry, Pushed};
 use idl_unit::{Fault, UnitText};
 use std::alloc::{AllocError, Global};

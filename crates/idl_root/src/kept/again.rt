@@ -7,17 +7,18 @@
 
 ghost use Rattle.std.specs.Prelude.{◌≡◌, ◌++◌, [], IfOk, IsTrue, List, OnOk, flat_map, map};
 ghost use Rattle.idl_root.specs.AsBefore.{AreAsBefore, AreCourse, closing_beside, judged_beside};
-ghost use Rattle.idl_root.specs.Findings.{fault_finding, unit_finding};
+ghost use Rattle.idl_finding.specs.Findings.{fault_finding};
+ghost use Rattle.idl_root.specs.Findings.{unit_finding};
 ghost use Rattle.idl_root.specs.Held.{listed_at};
 ghost use Rattle.idl_root.specs.Printed.{first_paths, listed_in, listed_with};
 ghost use Rattle.idl_store.specs.Stored.{list_at};
 ghost use Rattle.idl_unit.specs.declared.unit.Unit.{Unit as RootUnit};
 
-use crate::compiling::finding::{EventFinding, Spelled, push_fault};
 use crate::compiling::printing::{Listed, push_closing, push_listed};
 use crate::kept::course::Course;
 use crate::kept::keeper::Entries;
 use crate::kept::reading::{entry_at, kept_verdict};
+use idl_finding::{EventFinding, Spelled, push_fault};
 use idl_kept::Declarations;
 use idl_root_blocks::idl_check::Verdict;
 use idl_unit::Unit;

@@ -1,6 +1,6 @@
 use Rattle.std.proofs.Common.{◌∙◌, ap, sym}
 use Rattle.std.specs.Option.{option_copied}
-use Rattle.idl_related.specs.idl_project.UpToDate.{findings_of}
+use Rattle.idl_project.specs.UpToDate.{findings_of}
 use Rattle.idl_server.proofs.FoundLemmas.{found-at}
 use Rattle.idl_server.proofs.found.findings_at.Goals as goal
 

@@ -5,7 +5,7 @@ use Rattle.idl_env.specs.Facts.{UnitFacts}
 use Rattle.idl_env.specs.Turns.{most_turns, turns_for}
 use Rattle.idl_store.proofs.Obtaining.{on_ok}
 use Rattle.idl_root.specs.Compile.{Outcome, compile, told}
-use Rattle.idl_root.specs.Findings.{event_finding}
+use Rattle.idl_finding.specs.Findings.{event_finding}
 use Rattle.idl_root.specs.Held.{held, to_come}
 use Rattle.idl_root.proofs.JudgingLemmas.{to_come-start, told-ended}
 use Rattle.idl_root.proofs.compiling.compiled.compile.Goals as goal

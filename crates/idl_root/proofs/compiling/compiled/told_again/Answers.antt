@@ -1,10 +1,11 @@
 use Rattle.std.proofs.Common.{◌≡◌, ◌∙◌, ◌++◌, List, ap, flat_map, map, refl, rules, subst, sym}
 use Rattle.idl_root.specs.AsBefore.{AreAsBefore, closing_beside, judged_beside}
 use Rattle.idl_root.specs.Compile.{has_error, outcome_of}
-use Rattle.idl_root.specs.Findings.{finding_row, unit_finding}
+use Rattle.idl_finding.specs.Findings.{finding_row}
+use Rattle.idl_root.specs.Findings.{unit_finding}
 use Rattle.idl_root.specs.Held.{listed_at}
 use Rattle.idl_root.specs.Printed.{closing_finding, listed_in}
-use Rattle.idl_root.specs.declared.compiling.finding.EventFinding.{EventFinding}
+use Rattle.idl_finding.specs.declared.finding.EventFinding.{EventFinding}
 use Rattle.idl_root.specs.declared.compiling.printing.Listed.{Listed as HeldListed}
 use Rattle.idl_root.proofs.AsBeforeLemmas.{closing-again, found-again, told-again}
 use Rattle.idl_root.specs.Places.{declarations_of}

@@ -5,7 +5,7 @@ use Rattle.idl_root.specs.Named.{named_as}
 use Rattle.idl_root.specs.NamePlaces.{declared_names, used_names}
 use Rattle.idl_root.specs.declared.compiling.detailing.DetailedEntry.{DetailedEntry}
 use Rattle.idl_root.specs.declared.compiling.detailing.Details.{Details}
-use Rattle.idl_root.specs.declared.compiling.finding.EventFinding.{EventFinding}
+use Rattle.idl_finding.specs.declared.finding.EventFinding.{EventFinding}
 use Rattle.idl_root.specs.declared.compiling.places.UsedName.{UsedName}
 use Rattle.idl_root.specs.declared.compiling.printing.Listed.{Listed as HeldListed}
 use Rattle.idl_root.proofs.DetailLemmas.{details-judged}

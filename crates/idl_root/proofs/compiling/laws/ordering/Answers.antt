@@ -1,4 +1,4 @@
-use Rattle.idl_root.proofs.OrderLemmas.{at-in_order, in_order-rises}
+use Rattle.idl_finding.proofs.OrderLemmas.{at-in_order, in_order-rises}
 use Rattle.idl_root.proofs.compiling.laws.ordering.Goals as goal
 
 pub returns-clause-order : goal.returns-clause-order

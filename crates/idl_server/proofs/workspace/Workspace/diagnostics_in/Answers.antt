@@ -20,7 +20,7 @@ each-preserved c =
     ∙ ap (λ (range : Range). diagnostic_json finding range message related) c.finding_range-range.ensures
     in
     zip-found (IsToldOf c.args.self.now.encoding c.args.self.now.session.project) c.as_slice-held.result.now c.each.index c.index-held-index.result c.each.list.items c.push.new.self.items
-    c.in_ok-diagnostic_value.field-0 c.each-test.true c.index-held-index.is c.in_ok-push.ensures.items c.each.invariant (related, message, c.in_ok-message.ensures, is)
+    c.in_ok-diagnostic_value.field-0 c.each-test.true c.index-held-index.is c.in_ok-push.ensures.items c.each.invariant (related, (message, c.in_ok-message.ensures, is))
 
 pub returns : goal.returns
 returns c =

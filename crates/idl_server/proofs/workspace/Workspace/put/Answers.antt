@@ -2,8 +2,8 @@ use Rattle.std.proofs.Common.{◌≡◌, ◌∙◌, ℕ, List, Ok, false, refl, 
 use Rattle.std.proofs.lemmas.Result.{on_ok_weaker}
 use Rattle.std.specs.List.{list_any}
 use Rattle.std.specs.Str.{bytes_eq}
-use Rattle.idl_related.specs.idl_project.Edits.{Put, after}
-use Rattle.idl_related.specs.idl_project.UpToDate.{State}
+use Rattle.idl_project.specs.Edits.{Put, after}
+use Rattle.idl_project.specs.UpToDate.{State}
 use Rattle.idl_loader.specs.Holding.{IsFileOf}
 use Rattle.idl_server.specs.Edited.{IsSameButFor}
 use Rattle.idl_server.specs.Files.{StaysBeside}

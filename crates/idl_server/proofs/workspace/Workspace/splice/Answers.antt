@@ -1,6 +1,6 @@
 use Rattle.std.proofs.Common.{◌≡◌, ◌∙◌, ℕ, List, Ok, OnOk, Some, ap, refl, subst}
-use Rattle.idl_related.specs.idl_project.Edits.{Splice, after}
-use Rattle.idl_related.specs.idl_project.UpToDate.{State}
+use Rattle.idl_project.specs.Edits.{Splice, after}
+use Rattle.idl_project.specs.UpToDate.{State}
 use Rattle.idl_server.specs.Documents.{OnlyRefusedIsBehind}
 use Rattle.idl_server.specs.Files.{StaysBeside}
 use Rattle.idl_server.proofs.FileLemmas.{splice-alone, splice-lines}

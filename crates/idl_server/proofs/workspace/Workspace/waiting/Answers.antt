@@ -2,7 +2,7 @@ use Rattle.std.proofs.Common.{◌≡◌, ◌∙◌, ℕ, List, ap, cond, is_some
 use Rattle.std.specs.FinMap as finite
 use Rattle.std.specs.List.{list_any}
 use Rattle.std.specs.Str.{bytes_eq}
-use Rattle.idl_related.specs.idl_project.UpToDate.{findings_of}
+use Rattle.idl_project.specs.UpToDate.{findings_of}
 use Rattle.idl_server.proofs.CoveredLemmas.{gathered-all, gathers-none, gathers-one, gathers-passed, unrooted}
 use Rattle.idl_server.proofs.workspace.Workspace.waiting.Goals as goal
 

@@ -7,7 +7,7 @@ use Rattle.idl_memo.specs.Meter.{compared_after}
 use Rattle.idl_store.specs.Stored.{grown, results_in}
 use Rattle.idl_repo.specs.declared.entry.Entry.{Entry}
 use Rattle.idl_root.specs.Compared.{entry_keys, shared_entries}
-use Rattle.idl_root.specs.Findings.{fault_finding}
+use Rattle.idl_finding.specs.Findings.{fault_finding}
 use Rattle.idl_root.specs.Held.{listed_at}
 use Rattle.idl_root.specs.Places.{EntryPlace, entries_over}
 use Rattle.idl_root.specs.Printed.{Listed, closing_finding, entry_over, entry_row, name_index}

@@ -1,0 +1,4 @@
+mod FindingLemmas
+pub mod LineNumberLemmas
+pub mod NumberLemmas
+pub mod OrderLemmas

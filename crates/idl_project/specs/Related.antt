@@ -1,0 +1,27 @@
+-- Second places of what is found in a root of a project.
+use Rattle.std.specs.Prelude.{◌≡◌, ℕ, ⊥, List, Option, None, Some}
+use Rattle.idl_event.specs.declared.asked.key.RootAnswer.{RootAnswer}
+use Rattle.idl_event.specs.declared.asked.key.RootKey.{RootKey}
+use Rattle.idl_finding.specs.declared.finding.Finding.{Finding}
+use Rattle.idl_prep.specs.Root.{expanded}
+use Rattle.idl_project.specs.Bank.{bank_of}
+use Rattle.idl_project.specs.Project.{Project}
+use Rattle.idl_project.specs.UpToDate.{findings_of}
+use Rattle.idl_related.specs.Related.{AreRelated}
+use Rattle.idl_related.specs.declared.second.Related.{Related}
+
+-- those of findings of a root over these answers
+abbrev pub AreRelatedOver : (RootKey → Option RootAnswer) → List ℕ → List Finding
+    → List (List Related) → Type 0
+AreRelatedOver bank root findings related = AreRelated (expanded root bank).0 findings related
+
+-- those of all that is found in a root of a project, of another name than a root's nothing
+abbrev pub AreRelatedTo : Project → List ℕ → Option (List Finding) → Option (List (List Related))
+    → Type 0
+AreRelatedTo project root None related = related ≡ None
+AreRelatedTo project root (Some findings) None = ⊥
+AreRelatedTo project root (Some findings) (Some related) =
+    AreRelatedOver (bank_of project.inputs) root findings related
+
+abbrev pub AreRelatedIn : Project → List ℕ → Option (List (List Related)) → Type 0
+AreRelatedIn project root related = AreRelatedTo project root (findings_of project root) related

@@ -1,1 +1,0 @@
-pub use Rattle.idl_project.proofs as IdlProject
