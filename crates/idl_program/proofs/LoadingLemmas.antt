@@ -14,7 +14,7 @@ use Rattle.idl_session.specs.replies.Replies.{whole_line}
 use Rattle.idl_source.specs.devices.Device.{append}
 use Rattle.idl_source.specs.texts.Texts.{Texts}
 use Rattle.idl_session.specs.idl_project.Compile.{compiled_root}
-use Rattle.idl_session.specs.idl_project.Project.{Inputs}
+use Rattle.idl_inputs.specs.Project.{Inputs}
 use Rattle.idl_session.specs.idl_project.declared.compile.CompiledRoot.{CompiledRoot}
 use Rattle.idl_program.specs.Compiled.{IsShown, Written}
 use Rattle.idl_loader.specs.Holding.{Allows, Holding, NoFile}

@@ -7,7 +7,7 @@ use Rattle.std.specs.List.{list_any}
 use Rattle.std.specs.Option.{option_and_then}
 use Rattle.std.specs.Str.{bytes_eq}
 use Rattle.idl_source.specs.names.Path.{directory_path, joined_path}
-use Rattle.idl_session.specs.idl_project.Project.{Macros}
+use Rattle.idl_inputs.specs.Project.{Macros}
 use Rattle.idl_program.specs.Options.{defined_by, named_by, searched_by, undefined_by, with_name}
 
 -- what is left of a list, at its next element

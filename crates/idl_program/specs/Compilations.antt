@@ -1,8 +1,8 @@
 -- The files that options ask for, compiled.
 use Rattle.std.specs.Prelude.{◌≡◌, ℕ, List, map}
 use Rattle.idl_session.specs.idl_project.Compile.{compiled_root}
-use Rattle.idl_session.specs.idl_project.Made.{rootless}
-use Rattle.idl_session.specs.idl_project.WellFormed.{IsWellFormed}
+use Rattle.idl_inputs.specs.Made.{rootless}
+use Rattle.idl_inputs.specs.WellFormed.{IsWellFormed}
 use Rattle.idl_loader.specs.Holding.{Holding}
 use Rattle.idl_program.specs.Loading.{AreLoaded, AreComplete}
 use Rattle.idl_program.specs.Options.{AreAsked}

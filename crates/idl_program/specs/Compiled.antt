@@ -5,9 +5,9 @@ use Rattle.std.specs.List.{flat_map, list_any}
 use Rattle.idl_session.specs.replies.Replies.{whole_line}
 use Rattle.idl_source.specs.devices.Device.{append}
 use Rattle.idl_session.specs.idl_project.Compile.{compiled_root}
-use Rattle.idl_session.specs.idl_project.Made.{rootless}
-use Rattle.idl_session.specs.idl_project.Project.{Inputs}
-use Rattle.idl_session.specs.idl_project.WellFormed.{IsWellFormed}
+use Rattle.idl_inputs.specs.Made.{rootless}
+use Rattle.idl_inputs.specs.Project.{Inputs}
+use Rattle.idl_inputs.specs.WellFormed.{IsWellFormed}
 use Rattle.idl_loader.specs.Holding.{Holding}
 use Rattle.idl_program.specs.Loading.{AreLoaded, AreComplete}
 use Rattle.idl_program.specs.Options.{AreAsked}

@@ -4,9 +4,9 @@ use Rattle.std.specs.FinMap as finite
 use Rattle.idl_source.specs.texts.Cut.{cut_lines}
 use Rattle.idl_source.specs.texts.Texts.{Texts}
 use Rattle.idl_session.specs.idl_project.Compile.{compiled_root}
-use Rattle.idl_session.specs.idl_project.Made.{rootless}
-use Rattle.idl_session.specs.idl_project.Project.{Inputs}
-use Rattle.idl_session.specs.idl_project.WellFormed.{IsWellFormed}
+use Rattle.idl_inputs.specs.Made.{rootless}
+use Rattle.idl_inputs.specs.Project.{Inputs}
+use Rattle.idl_inputs.specs.WellFormed.{IsWellFormed}
 use Rattle.idl_session.specs.idl_project.declared.compile.CompiledRoot.{CompiledRoot}
 use Rattle.idl_loader.specs.Holding.{Holding, NoFile, Allows, IsFileOf}
 

@@ -5,7 +5,7 @@ use Rattle.std.specs.Map.{remove_entry}
 use Rattle.std.specs.Str.{bytes_eq}
 use Rattle.indexmap.specs.IndexMap.{insert_entry}
 use Rattle.idl_source.specs.names.Path.{directory_path, joined_path}
-use Rattle.idl_session.specs.idl_project.Project.{Inputs, Macros}
+use Rattle.idl_inputs.specs.Project.{Inputs, Macros}
 use Rattle.idl_program.specs.declared.request.Options.{Options}
 
 -- what stands before the first `=`

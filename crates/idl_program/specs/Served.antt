@@ -3,7 +3,7 @@ use Rattle.std.specs.Prelude.{◌≡◌, ℕ, List, [], Option, IfSome}
 use Rattle.std.specs.String.{string_bytes}
 use Rattle.idl_session.specs.Answers.{IsReply}
 use Rattle.idl_source.specs.devices.Device.{append}
-use Rattle.idl_session.specs.idl_project.Project.{no_project}
+use Rattle.idl_inputs.specs.Project.{no_project}
 use Rattle.idl_session.specs.idl_project.UpToDate.{State}
 use Rattle.idl_session.specs.idl_project.Work.{no_work}
 use Rattle.idl_program.specs.Compiled.{IsCompiled, Written}

@@ -1,6 +1,6 @@
 -- Names that were tried: files that were loaded, and names that are missing.
 use Rattle.std.specs.Prelude.{◌≡◌, ℕ, List, All, Contains}
-use Rattle.idl_session.specs.idl_project.Project.{Inputs}
+use Rattle.idl_inputs.specs.Project.{Inputs}
 use Rattle.idl_session.specs.idl_project.declared.compile.CompiledRoot.{CompiledRoot}
 use Rattle.idl_loader.specs.Holding.{Holding, NoFile, Allows}
 use Rattle.idl_program.specs.Loading.{AreLoaded, StaysAsked}

@@ -3,7 +3,7 @@
 ghost use Rattle.std.specs.Prelude.{◌≡◌, ◌≤◌, ◌∷◌, ℕ, List, [], Some, codes, false, length, true};
 ghost use Rattle.clap.specs.Words.{Text};
 ghost use Rattle.clap.specs.declared.error.kind.ErrorKind.TheVariants.{DisplayHelp, DisplayVersion, InvalidValue, TooManyValues, UnknownArgument};
-ghost use Rattle.idl_session.specs.idl_project.Project.{Project, is_root};
+ghost use Rattle.idl_inputs.specs.Project.{Project, is_root};
 ghost use Rattle.idl_session.specs.idl_project.UpToDate.{diagnostics_of, dump_of, is_faulty_of, listing_of};
 ghost use Rattle.idl_program.specs.Compiled.{dump_in, errors_in, has_errors, listing_in};
 ghost use Rattle.idl_program.specs.declared.request.CompilerRequest.{CompilerRequest};

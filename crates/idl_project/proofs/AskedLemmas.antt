@@ -1,40 +1,16 @@
--- The files that a root asked for: those of its log, entry by entry, and those of a root that is held.
-use Rattle.std.proofs.Common.{◌≡◌, ℕ, Bool, true, false, cond, ◌||◌, ◌+◌, ◌<◌, ◌≤◌, List, [], ◌∷◌, ◌++◌, Option, None, Some, length, take, flat_map, append-nil, ap, refl, sym, ◌∙◌, Bor, if◌then◌else◌}
-use Rattle.std.proofs.lemmas.Grind.{flat_map-append}
-use Rattle.std.proofs.lemmas.List.{take_all, take_more}
+-- The files that a root asked for that is held.
+use Rattle.std.proofs.Common.{◌≡◌, ℕ, Bool, true, false, cond, ◌||◌, List, [], ◌∷◌, Option, None, Some, ap, refl, sym, ◌∙◌, Bor, if◌then◌else◌}
 use Rattle.std.proofs.lemmas.List.Elements.{All-head, All-tail}
-use Rattle.std.proofs.lemmas.Option.{slice_get-get_or}
 use Rattle.std.specs.Cmp.Lexicographic.{bytes_decides}
-use Rattle.std.specs.List.{list_any, slice_get}
+use Rattle.std.specs.List.{list_any}
 use Rattle.std.specs.Map.{keys_of, lookup}
-use Rattle.std.specs.Option.{IfNone, IfSome, option_copied, option_map, option_to_list}
+use Rattle.std.specs.Option.{IfNone, IfSome, option_copied, option_map}
 use Rattle.std.specs.Str.{bytes_eq}
 use Rattle.idl_event.specs.declared.asked.key.RootAnswer.{RootAnswer}
 use Rattle.idl_event.specs.declared.asked.key.RootKey.{RootKey}
-use Rattle.idl_event.specs.declared.asked.key.RootKey.TheVariants as key
-use Rattle.idl_project.specs.Asked.{asked_file, asked_files, asked_over}
+use Rattle.idl_inputs.specs.Asked.{asked_files, asked_over}
 use Rattle.idl_project.specs.UpToDate.{AreKept, IsKept}
 use Rattle.idl_project.specs.declared.kept_root.KeptRoot.{KeptRoot}
-
-module _ (log : List (RootKey × Option RootAnswer)) (i : ℕ) where
-  -- the files, with one entry more
-  pub asked-more : (names found : List (List ℕ)) → i < length log → names ≡ flat_map asked_file (take i log) → found ≡ flat_map asked_file (option_to_list (slice_get log i))
-      → names ++ found ≡ flat_map asked_file (take (i + 1) log)
-  asked-more names found below before here =
-      let e : RootKey × Option RootAnswer = (key.Search, None) in
-      ap (λ ns. ns ++ found) before
-      ∙ ap (λ ns. flat_map asked_file (take i log) ++ ns) (here ∙ ap (λ o. flat_map asked_file (option_to_list o)) (slice_get-get_or log i e below))
-      ∙ sym (ap (flat_map asked_file) (take_more log i e below) ∙ flat_map-append asked_file (take i log) _)
-
-  -- with an entry that is of none
-  pub asked-no_more : (names : List (List ℕ)) → i < length log → names ≡ flat_map asked_file (take i log) → [] ≡ flat_map asked_file (option_to_list (slice_get log i))
-      → names ≡ flat_map asked_file (take (i + 1) log)
-  asked-no_more names below before here = sym (append-nil names) ∙ asked-more names [] below before here
-
-  -- with all entries
-  pub asked-all : (names : List (List ℕ)) → length log ≤ i → names ≡ flat_map asked_file (take i log) → names ≡ asked_files log
-  unfolding asked_files
-  asked-all names past before = before ∙ ap (flat_map asked_file) (take_all i log past)
 
 -- what is kept of a root asked for what compiling the root asks for
 asked-kept : (bank : RootKey → Option RootAnswer) (name : List ℕ) (kept : KeptRoot) → IsKept bank (name, kept) → asked_files kept.result.value.log ≡ asked_over bank name

@@ -14,10 +14,10 @@ use Rattle.idl_prep.specs.Root.{expanded}
 use Rattle.idl_root.specs.Compile.{compile}
 use Rattle.idl_root.specs.Details.{details, printed}
 use Rattle.idl_root.specs.declared.compiling.detailing.Details.{Details}
-use Rattle.idl_project.specs.Bank.{bank_of}
+use Rattle.idl_inputs.specs.Bank.{bank_of}
 use Rattle.idl_project.specs.Compile.{compile_over, end_of}
 use Rattle.idl_project.specs.Details.{details_of, details_over}
-use Rattle.idl_project.specs.Project.{Project, is_root}
+use Rattle.idl_inputs.specs.Project.{Project, is_root}
 use Rattle.idl_project.specs.UpToDate.{AreKept, IsKept, is_faulty_of, listing_of}
 use Rattle.idl_project.specs.declared.compile.CompiledRoot.{CompiledRoot}
 use Rattle.idl_project.specs.declared.kept_root.KeptRoot.{KeptRoot}

@@ -1,16 +1,9 @@
 pub mod AddedLemmas
 pub mod AskedLemmas
-pub mod BankLemmas
-pub mod BatchLemmas
 pub mod CauseLemmas
 pub mod DetailLemmas
-pub mod EditLemmas
-pub mod FileLemmas
-pub mod FormLemmas
 pub mod KeptLemmas
-pub mod LimitLemmas
 pub mod MetLemmas
-pub mod RefiledLemmas
 pub mod RenewedLemmas
 pub mod RootLemmas
 pub mod StoreLemmas

@@ -26,16 +26,16 @@ use Rattle.idl_root.specs.Turns.{IsWithinTurns}
 use Rattle.idl_root.specs.declared.kept.keeper.Keeper.{Keeper}
 use Rattle.idl_source.specs.names.Name.{is_name}
 use Rattle.idl_project.specs.Compile.{compile_over}
-use Rattle.idl_project.specs.Bank.{bank_of}
-use Rattle.idl_project.specs.Project.{Inputs, Project, no_inputs}
+use Rattle.idl_inputs.specs.Bank.{bank_of}
+use Rattle.idl_inputs.specs.Project.{Inputs, Project, no_inputs}
 use Rattle.idl_project.specs.Renewed.{IsKeeperLeft, IsRenewed}
 use Rattle.idl_project.specs.Tasks.{kept_entries, kept_texts, lists_for}
 use Rattle.idl_project.specs.UpToDate.{AreKept, IsKept, IsUpToDate, State, project_held}
-use Rattle.idl_project.specs.WellFormed.{IsWellFormed}
+use Rattle.idl_inputs.specs.WellFormed.{IsWellFormed}
 use Rattle.idl_project.specs.Work.{touched_between, touched_of, work_between, work_of}
 use Rattle.idl_project.specs.declared.work.Work.{Work}
 use Rattle.idl_project.specs.declared.kept_root.KeptRoot.{KeptRoot}
-use Rattle.idl_project.proofs.FormLemmas.{none-formed}
+use Rattle.idl_inputs.proofs.FormLemmas.{none-formed}
 
 -- of roots that are kept a name is found with what compiling it gives, and no other name is found
 pub lookup-held : (bank : RootKey → Option RootAnswer) (held : List (List ℕ × KeptRoot)) (name : List ℕ) → AreKept bank held

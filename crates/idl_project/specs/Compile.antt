@@ -7,8 +7,8 @@ use Rattle.idl_fault.specs.declared.place.Place.{Place}
 use Rattle.idl_prep.specs.Include.{file_in}
 use Rattle.idl_prep.specs.Root.{expanded, absent_files}
 use Rattle.idl_root.specs.Compile.{compile}
-use Rattle.idl_project.specs.Bank.{bank_of}
-use Rattle.idl_project.specs.Project.{Inputs}
+use Rattle.idl_inputs.specs.Bank.{bank_of}
+use Rattle.idl_inputs.specs.Project.{Inputs}
 use Rattle.idl_project.specs.declared.compile.CompiledRoot.{CompiledRoot}
 
 -- how many lines the file has that is answered

@@ -6,8 +6,8 @@ use Rattle.idl_event.specs.declared.told.event.Event.{Event}
 use Rattle.idl_prep.specs.Root.{expanded}
 use Rattle.idl_root.specs.Details.{details}
 use Rattle.idl_root.specs.declared.compiling.detailing.Details.{Details}
-use Rattle.idl_project.specs.Bank.{bank_of}
-use Rattle.idl_project.specs.Project.{Project, is_root}
+use Rattle.idl_inputs.specs.Bank.{bank_of}
+use Rattle.idl_inputs.specs.Project.{Project, is_root}
 
 -- that of a root over these answers
 abbrev pub details_over : (RootKey → Option RootAnswer) → List ℕ → Details

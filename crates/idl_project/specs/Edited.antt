@@ -1,16 +1,13 @@
 -- What a session does with an edit.
-use Rattle.std.specs.Prelude.{◌≡◌, ◌≢◌, Bool, true, false, IsTrue, Result, Ok, Err, MatchResult}
+use Rattle.std.specs.Prelude.{◌≡◌, ◌≢◌, IsTrue, Result, Ok, Err, MatchResult}
 use Rattle.idl_source.specs.declared.refusal.Refusal.{Refusal}
 use Rattle.idl_source.specs.declared.refusal.Refusal.TheVariants.{NoMemory}
-use Rattle.idl_project.specs.Edits.{Edit, DropRoot, after}
+use Rattle.idl_source.specs.texts.Texts.{Texts}
+use Rattle.idl_inputs.specs.Edits.{Edit, after, takes_memory}
+use Rattle.idl_inputs.specs.Project.{with_files}
 use Rattle.idl_project.specs.UpToDate.{State}
 use Rattle.idl_project.specs.Work.{touched_of, work_of}
 use Rattle.idl_project.specs.declared.work.Work.{Work}
-
--- all edits take memory but one: a root is dropped without
-abbrev pub takes_memory : Edit → Bool
-takes_memory (DropRoot name) = false
-takes_memory other = true
 
 -- an accepted edit: the project is the one after it, and the work is that between the two projects,
 -- which is told and kept, and the roots that it expanded anew are kept
@@ -30,3 +27,10 @@ pub record IsRefused (edit : Edit) (old new : State) (refusal : Refusal) : Type 
 -- an edit, by its result
 abbrev pub IsEdited : Edit → State → State → Result Work Refusal → Type 0
 IsEdited edit old new result = MatchResult result (IsAccepted edit old new) (IsRefused edit old new)
+
+-- a session with these files in place of its own, by the work of that: all else is as it was
+pub record IsSettled (files : Texts) (old new : State) (work : Work) : Type 0 where
+  pub project : new.project ≡ with_files old.project files
+  pub kept : new.work ≡ work
+  pub told : work ≡ work_of old.project new.project
+  pub touched : new.touched ≡ touched_of old.project new.project

@@ -1,11 +1,11 @@
 -- Second places of what is found in a root of a project.
-use Rattle.std.specs.Prelude.{◌≡◌, ℕ, ⊥, List, Option, None, Some}
+use Rattle.std.specs.Prelude.{◌≡◌, ℕ, List, Option, None, Some}
 use Rattle.idl_event.specs.declared.asked.key.RootAnswer.{RootAnswer}
 use Rattle.idl_event.specs.declared.asked.key.RootKey.{RootKey}
 use Rattle.idl_finding.specs.declared.finding.Finding.{Finding}
 use Rattle.idl_prep.specs.Root.{expanded}
-use Rattle.idl_project.specs.Bank.{bank_of}
-use Rattle.idl_project.specs.Project.{Project}
+use Rattle.idl_inputs.specs.Bank.{bank_of}
+use Rattle.idl_inputs.specs.Project.{Project}
 use Rattle.idl_project.specs.UpToDate.{findings_of}
 use Rattle.idl_related.specs.Related.{AreRelated}
 use Rattle.idl_related.specs.declared.second.Related.{Related}

@@ -9,9 +9,9 @@ use Rattle.idl_memo.specs.Fresh.{fresh_among, places_over}
 use Rattle.idl_memo.specs.Meter.{compared_after}
 use Rattle.idl_prep.specs.Root.{expansion}
 use Rattle.idl_root.specs.Results.{fresh_declarations, fresh_entries}
-use Rattle.idl_project.specs.Bank.{bank_of}
+use Rattle.idl_inputs.specs.Bank.{bank_of}
 use Rattle.idl_project.specs.Compared.{PlaceMet, compared_in, met_between}
-use Rattle.idl_project.specs.Project.{Project}
+use Rattle.idl_inputs.specs.Project.{Project}
 use Rattle.idl_project.specs.Tasks.{alike_root, answer_eq, declarations_among, entries_among}
 use Rattle.idl_project.specs.declared.work.Work.{Work}
 

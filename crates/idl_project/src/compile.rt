@@ -10,28 +10,22 @@ ghost use Rattle.idl_root.specs.AsBefore.{AreListsLeft, IsAsBefore, IsCompiledOf
 ghost use Rattle.idl_finding.specs.Findings.{finding_row};
 ghost use Rattle.idl_root.specs.Results.{ExpandsNone, IsKeptOf, root_marks};
 ghost use Rattle.idl_root.specs.Turns.{IsWithinTurns};
-ghost use Rattle.idl_project.specs.Asked.{asked_over};
-ghost use Rattle.idl_project.specs.Bank.{bank_of};
+ghost use Rattle.idl_inputs.specs.Bank.{bank_of};
 ghost use Rattle.idl_project.specs.Compile.{compile_over, compiled_root, end_of, line_count};
-ghost use Rattle.idl_project.specs.Project.{Project};
+ghost use Rattle.idl_inputs.specs.Project.{Project};
 ghost use Rattle.idl_project.specs.Renewed.{IsDrafted};
 ghost use Rattle.idl_project.specs.UpToDate.{diagnostics_of, findings_of};
 
-use crate::asked::asked;
-use crate::bank::SessionBank;
-use crate::reading::{absent_names, root_expansion, root_log, root_name};
 use idl_base::Seq;
-use idl_event::{Expansion, RootAnswer, RootBank, RootKey};
+use idl_event::{RootAnswer, RootBank, RootKey};
 use idl_fault::{FileName, Place};
-use idl_memo::{Kept, Meter, run_anew};
-use idl_prep::RootTask;
+use idl_inputs::SessionBank;
+use idl_inputs::expanding::{KeptExpansion, expanded_alone};
+use idl_inputs::reading::{absent_names, root_expansion, root_name};
+use idl_memo::Meter;
 use idl_root::{Compiled, Keeper, KeptSource, Marks, Memory, Recompiled, telling};
 use idl_source::Name;
 use std::alloc::{AllocError, Global};
-use std::rc::Rc;
-
-/// The result of a root's task, as a session keeps it.
-pub type KeptExpansion = Kept<SessionBank, Name, Expansion>;
 
 /// What a root compiles to: its rows, and the files that it asks for and that aren't there, in the order first asked.
 pub struct CompiledRoot {
@@ -76,27 +70,6 @@ pub fn compile_alone(
 {
     let kept = expanded_alone(memory.alloc(), bank, root)?;
     compile(memory, bank, &kept)
-}
-
-/// The files that a root asks for over a bank, there or not, in the order first asked. It is expanded for that alone.
-pub fn asked_alone(alloc: Global, bank: &SessionBank, root: &Name) -> Result<Vec<Name>, AllocError>
-    ensures { IfOk result (λ names. names.items ≡ asked_over (bank_of bank.now) root.now) }
-{
-    let kept = expanded_alone(alloc, bank, root)?;
-    asked(alloc, root_log(&kept))
-}
-
-/// The result of a root's task over a bank. Nothing is kept of it.
-pub fn expanded_alone(
-    alloc: Global,
-    bank: &SessionBank,
-    root: &Name,
-) -> Result<Rc<KeptExpansion>, AllocError>
-    ensures text { IfOk result (λ kept. kept.value.text ≡ root.now) }
-    ensures over { IfOk result (λ kept. HoldsOver key_eq expansion (bank_of bank.now) kept.value) }
-{
-    let task = RootTask::new(root.copied());
-    run_anew(alloc, &task, bank, &mut Meter::new())
 }
 
 /// Compiles a root over a bank, in which its own file may be absent, from the result of its task.

@@ -3,16 +3,16 @@
 ghost use Rattle.std.specs.Prelude.{◌≡◌, ℕ, IfOk, List, Some, false};
 ghost use Rattle.std.specs.Option.{option_map};
 ghost use Rattle.idl_root.specs.Details.{printed};
-ghost use Rattle.idl_project.specs.Bank.{bank_of};
+ghost use Rattle.idl_inputs.specs.Bank.{bank_of};
 ghost use Rattle.idl_project.specs.Compile.{compiled_root};
 ghost use Rattle.idl_project.specs.Details.{details_of, details_over};
-ghost use Rattle.idl_project.specs.Project.{Inputs, Project};
+ghost use Rattle.idl_inputs.specs.Project.{Inputs, Project};
 ghost use Rattle.idl_project.specs.UpToDate.{is_faulty_of, listing_of};
 
-use crate::bank::SessionBank;
-use crate::compile::expanded_alone;
-use crate::reading::root_expansion;
 use crate::session::Session;
+use idl_inputs::SessionBank;
+use idl_inputs::expanding::expanded_alone;
+use idl_inputs::reading::root_expansion;
 use idl_root::{Details, detailing};
 use idl_source::Name;
 use std::alloc::{AllocError, Global};

@@ -2,7 +2,7 @@
 
 ghost use Rattle.std.specs.Prelude.{◌≡◌, ◌⊎◌, ◌+◌, ◌<◌, IfNone, IfOk, IfSome, IsTrue, List, OnOk, Option, length};
 ghost use Rattle.std.specs.List.{list_any};
-ghost use Rattle.std.specs.Option.{option_copied, unwrap_or};
+ghost use Rattle.std.specs.Option.{unwrap_or};
 ghost use Rattle.idl_event.specs.declared.told.event.Event.{Event};
 ghost use Rattle.idl_event.specs.Key.{key_eq};
 ghost use Rattle.idl_event.specs.declared.asked.key.RootAnswer.{RootAnswer};
@@ -14,26 +14,24 @@ ghost use Rattle.idl_prep.specs.Root.{expanded, expansion};
 ghost use Rattle.idl_root.specs.AsBefore.{AreListsLeft, IsAsBefore, IsCompiledOf, kept_lists};
 ghost use Rattle.idl_root.specs.Details.{details};
 ghost use Rattle.idl_root.specs.Results.{IsKeptOf, nothing_kept};
-ghost use Rattle.idl_project.specs.Asked.{asked_files};
-ghost use Rattle.idl_project.specs.Bank.{bank_of, bank_with};
-ghost use Rattle.idl_project.specs.Refiled.{AreCauses};
+ghost use Rattle.idl_inputs.specs.Asked.{asked_files};
+ghost use Rattle.idl_inputs.specs.Bank.{bank_of};
+ghost use Rattle.idl_inputs.specs.Refiled.{AreCauses};
 ghost use Rattle.idl_project.specs.Renewed.{IsDrafted, IsRenewedAt};
 ghost use Rattle.idl_project.specs.Tasks.{alike_root, root_lists};
 ghost use Rattle.idl_project.specs.UpToDate.{IsKept};
 
-use crate::asked::asked;
-use crate::bank::SessionBank;
-use crate::compile::{CompiledAgain, CompiledRoot, KeptExpansion, KeptTask, compile_kept};
-use crate::no_step::Stepless;
-use crate::reading::{root_expansion, root_log, root_name};
+use crate::compile::{CompiledAgain, CompiledRoot, KeptTask, compile_kept};
 use idl_event::{Expansion, RootBank, RootKey};
-use idl_memo::{Edited, Meter, freshness, reliance, run_anew};
+use idl_inputs::expanding::KeptExpansion;
+use idl_inputs::reading::{asked, root_expansion, root_log, root_name};
+use idl_inputs::{SessionBank, Stepless};
+use idl_memo::{Meter, freshness, reliance, run_anew};
 use idl_prep::RootTask;
 use idl_root::{Compiled, Details, Keeper, Marks};
 use idl_source::Name;
 use std::alloc::{AllocError, Global};
 use std::rc::Rc;
-use std::slice::from_ref;
 
 /// What is kept of a root: the result of its task, what the root compiles to, and what its units are. The results of its
 /// declarations, blocks and entries are a keeper's, at the root's place among all.
@@ -60,19 +58,6 @@ pub struct BankChange<'a, B> {
     pub base: &'a SessionBank,
     pub bank: &'a B,
     pub causes: &'a [RootKey],
-}
-
-/// The key of an edit, if its answer is another one: the only cause there is.
-pub fn causes_by<'a>(edited: &Edited<'a, SessionBank>) -> &'a [RootKey]
-    ensures { let before = bank_of edited.now.base.now in
-        let after = bank_with edited.now.base.now edited.now.key.now
-        (option_copied edited.now.answer) in
-        AreCauses before after result.now }
-{
-    match edited.cause() {
-        Some(key) => from_ref(key),
-        None => &[],
-    }
 }
 
 // A root of this name, which stands at this place among all: what its units were and what they came to when it was compiled last, if

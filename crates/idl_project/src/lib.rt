@@ -3,23 +3,13 @@
 //!
 //! Names, words and lines come from a caller, and rows are lent to one. Nothing here knows of commands, replies or devices.
 //!
-//! An edit is data (`specs/Edits.antt`), and each call has one clause, `IsEdited`, or `IsBatch` where it does many.
-//! What an edit makes waits in drafts until it is settled.
+//! An edit is data (`specs/Edits.antt` of `idl_inputs`), and each call has one clause, `IsEdited`, or `IsBatch` where it
+//! does many. What an edit makes waits in drafts until it is settled.
 #![tactic(auto)]
 
-mod asked;
-mod bank;
 mod compile;
 mod detailed;
-mod directories;
-mod edited_files;
-mod file_edit;
 mod kept_root;
-mod limits;
-mod macro_body;
-mod no_step;
-mod reading;
-mod refiled;
 mod related;
 mod root_table;
 mod session;
@@ -27,10 +17,12 @@ mod sources;
 mod word;
 mod work;
 
-pub use bank::answers_come_from_inputs;
 pub use compile::{CompiledRoot, diagnostics_are_findings};
 pub use detailed::listing_is_details;
-pub use file_edit::FileEdit;
+pub use idl_inputs::{
+    FileEdit, MAX_BODY, MAX_DIRECTORIES, MAX_MACROS, MAX_ROOTS, Stepless, answers_come_from_inputs,
+    edits_keep_form, edits_keep_limits,
+};
 pub use idl_prep;
 pub use idl_root;
 pub use idl_root::{
@@ -38,10 +30,6 @@ pub use idl_root::{
     idl_root_blocks, idl_scope, idl_syntax,
 };
 pub use idl_source::Span;
-pub use limits::{
-    MAX_BODY, MAX_DIRECTORIES, MAX_MACROS, MAX_ROOTS, edits_keep_form, edits_keep_limits,
-};
-pub use no_step::Stepless;
 pub use related::{related_in, related_over};
 pub use session::Session;
 pub use sources::Sources;

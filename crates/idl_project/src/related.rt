@@ -1,7 +1,7 @@
 //! The second places of what is found in a root of a project, which are worked out when they are asked for.
 
 ghost use Rattle.std.specs.Prelude.{◌≡◌, IfOk};
-ghost use Rattle.idl_project.specs.Bank.{bank_of};
+ghost use Rattle.idl_inputs.specs.Bank.{bank_of};
 ghost use Rattle.idl_project.specs.Related.{AreRelatedIn, AreRelatedOver};
 
 use crate::session::Session;

@@ -1,8 +1,8 @@
 //! Roots by name, each with what is kept of it.
 
 ghost use Rattle.std.specs.Prelude.{◌≡◌, ◌+◌, ◌<◌, ◌∷◌, ◌++◌, [], false, IfOk, OnOk, OnErr, is_some, length, nat_le, slice_get};
-ghost use Rattle.idl_project.specs.Bank.{bank_of};
-ghost use Rattle.idl_project.specs.Refiled.{AreCauses};
+ghost use Rattle.idl_inputs.specs.Bank.{bank_of};
+ghost use Rattle.idl_inputs.specs.Refiled.{AreCauses};
 ghost use Rattle.idl_root.specs.AsBefore.{AreListsLeft};
 ghost use Rattle.idl_project.specs.Renewed.{IsAdded, IsKeeperLeft, IsDrafted, IsRenewed};
 ghost use Rattle.idl_project.specs.Tasks.{kept_entries, kept_texts};
@@ -14,14 +14,12 @@ ghost use Rattle.idl_memo.specs.Meter.{compared_after, most_compared};
 ghost use Rattle.idl_source.specs.Limits.{most_roots};
 ghost use Rattle.idl_project.specs.UpToDate.{IsUpToDate, keys_asked, project_held};
 
-use crate::bank::SessionBank;
 use crate::compile::CompiledRoot;
 use crate::kept_root::{BankChange, KeptRoot};
-use crate::limits::MAX_ROOTS;
-use crate::no_step::Stepless;
 use crate::work::Work;
 use idl_base::Seq;
 use idl_event::RootBank;
+use idl_inputs::{MAX_ROOTS, SessionBank, Stepless};
 use idl_memo::{Meter, one_bank};
 use idl_prep::RootTask;
 use idl_root::{Keeper, comparing, fresh_tasks};

@@ -5,28 +5,24 @@ ghost use Rattle.std.specs.FinMap as finite;
 ghost use Rattle.std.specs.Option.{option_copied};
 ghost use Rattle.idl_prep.specs.Root.{expanded};
 ghost use Rattle.idl_root.specs.Turns.{IsWithinTurns};
-ghost use Rattle.idl_project.specs.Asked.{asked_over};
-ghost use Rattle.idl_project.specs.Bank.{bank_of};
-ghost use Rattle.idl_project.specs.Columns.{column_at};
+ghost use Rattle.idl_inputs.specs.Asked.{asked_over};
+ghost use Rattle.idl_inputs.specs.Bank.{bank_of};
+ghost use Rattle.idl_inputs.specs.Columns.{column_at};
 ghost use Rattle.idl_project.specs.Compile.{compiled_root};
 ghost use Rattle.idl_project.specs.Details.{details_over};
-ghost use Rattle.idl_project.specs.Edits.{Define, Put, Search, Undef};
-ghost use Rattle.idl_project.specs.Made.{IsMade, rootless};
-ghost use Rattle.idl_project.specs.Project.{no_inputs};
-ghost use Rattle.idl_project.specs.WellFormed.{IsWellFormed};
+ghost use Rattle.idl_inputs.specs.Edits.{Define, Put, Search, Undef};
+ghost use Rattle.idl_inputs.specs.Made.{IsMade, rootless};
+ghost use Rattle.idl_inputs.specs.Project.{no_inputs};
+ghost use Rattle.idl_inputs.specs.WellFormed.{IsWellFormed};
 
-use crate::bank::SessionBank;
-use crate::compile::{CompiledRoot, asked_alone, compile_alone};
+use crate::compile::{CompiledRoot, compile_alone};
 use crate::detailed::details_alone;
-use crate::directories::directories;
-use crate::edited_files::EditedFiles;
-use crate::file_edit::FileEdit;
-use crate::macro_body::MacroBody;
-use crate::no_step::Stepless;
 use crate::word::spelled;
 use idl_base::Seq;
 use idl_event::{RootAnswer, RootKey};
 use idl_fault::Place;
+use idl_inputs::expanding::asked_alone;
+use idl_inputs::{EditedFiles, FileEdit, MacroBody, SessionBank, Stepless, directories};
 use idl_macro::is_macro_word;
 use idl_memo::{Bank, PlainBank};
 use idl_root::{Details, Memory};
@@ -45,9 +41,9 @@ pub struct Sources {
 }
 
 impl Model for Sources {
-    ghost use Rattle.idl_project.specs.Made.{rootless};
-    ghost use Rattle.idl_project.specs.Project.{Inputs, inputs_code};
-    ghost use Rattle.idl_project.specs.WellFormed.{IsWellFormed};
+    ghost use Rattle.idl_inputs.specs.Made.{rootless};
+    ghost use Rattle.idl_inputs.specs.Project.{Inputs, inputs_code};
+    ghost use Rattle.idl_inputs.specs.WellFormed.{IsWellFormed};
 
     ghost Value = { Inputs };
 
@@ -190,7 +186,7 @@ impl Sources {
 }
 
 impl Bank for Sources {
-    ghost use Rattle.idl_project.specs.Bank.{bank_of};
+    ghost use Rattle.idl_inputs.specs.Bank.{bank_of};
 
     type Key = RootKey;
 

@@ -4,14 +4,14 @@ ghost use Rattle.std.specs.Prelude.{◌≡◌, ◌≤◌, ℕ, List, false, leng
 ghost use Rattle.std.specs.List.{IsDistinct, list_any};
 ghost use Rattle.std.specs.Str.{bytes_eq};
 ghost use Rattle.idl_memo.specs.Meter.{compared_after};
-ghost use Rattle.idl_project.specs.Asked.{asked_of};
+ghost use Rattle.idl_inputs.specs.Asked.{asked_of};
 ghost use Rattle.idl_project.specs.Compared.{compared_in, most_compared_in};
 ghost use Rattle.idl_project.specs.Details.{details_of};
-ghost use Rattle.idl_project.specs.Project.{Project, is_root};
+ghost use Rattle.idl_inputs.specs.Project.{Project, is_root};
 ghost use Rattle.idl_project.specs.UpToDate.{compiled_of};
 ghost use Rattle.idl_project.specs.Work.{met_of, no_work, touched_of, work_of};
 
-use crate::bank::SessionBank;
+use idl_inputs::SessionBank;
 use idl_memo::{Meter, freshness, reliance, sharing};
 use idl_prep::RootTask;
 use idl_root::comparing;

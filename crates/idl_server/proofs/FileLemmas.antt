@@ -11,11 +11,11 @@ use Rattle.idl_source.specs.names.Name.{is_name}
 use Rattle.idl_source.specs.texts.Texts.{Texts, after_put, after_remove, after_splice, after_splice_of, is_inside, is_over, is_splice_over, spliced}
 use Rattle.idl_source.specs.declared.refusal.Refusal.{Refusal}
 use Rattle.idl_source.specs.declared.refusal.Refusal.TheVariants.{BadName, NoSuchFile, OutsideFile, OverLimit}
-use Rattle.idl_project.specs.Bank.{IsSameBeside}
-use Rattle.idl_project.specs.Batch.{after_all, after_from}
-use Rattle.idl_project.specs.Edits.{Edit, Put, Splice, Remove, Define, Undef, Search, AddRoot, DropRoot, after, macros_with, result_map, roots_with, roots_without, search_list}
-use Rattle.idl_project.specs.Project.{Macros, Project, with_files, with_macros, with_roots, with_search}
-use Rattle.idl_project.proofs.FileLemmas.{put-beside, remove-beside, splice-beside}
+use Rattle.idl_inputs.specs.Bank.{IsSameBeside}
+use Rattle.idl_inputs.specs.Batch.{after_all, after_from}
+use Rattle.idl_inputs.specs.Edits.{Edit, Put, Splice, Remove, Define, Undef, Search, AddRoot, DropRoot, after, macros_with, result_map, roots_with, roots_without, search_list}
+use Rattle.idl_inputs.specs.Project.{Macros, Project, with_files, with_macros, with_roots, with_search}
+use Rattle.idl_inputs.proofs.FileLemmas.{put-beside, remove-beside, splice-beside}
 use Rattle.idl_loader.specs.Holding.{Holding}
 use Rattle.idl_loader.specs.Holding.{IsFileOf}
 use Rattle.idl_server.specs.Edited.{IsSameButFor}

@@ -12,7 +12,7 @@ use Rattle.std.specs.Str.{bytes_eq}
 use Rattle.std.specs.Prelude.{if◌then◌else◌, ⊤}
 use Rattle.idl_finding.specs.declared.finding.Finding.{Finding}
 use Rattle.idl_project.specs.Compile.{compiled_root}
-use Rattle.idl_project.specs.Project.{Project}
+use Rattle.idl_inputs.specs.Project.{Project}
 use Rattle.idl_project.specs.UpToDate.{findings_of}
 use Rattle.idl_project.specs.declared.compile.CompiledRoot.{CompiledRoot}
 use Rattle.idl_server.specs.Found.{findings_by, findings_in, found_by, found_in, is_in, is_later, is_same, most_told, put_in_order, told_if, told_with, with_one}

@@ -4,7 +4,7 @@ use Rattle.std.specs.Cmp.Lexicographic.{bytes_decides}
 use Rattle.std.specs.Map.{lookup}
 use Rattle.std.specs.Option.{option_map}
 use Rattle.std.specs.Str.{bytes_eq}
-use Rattle.idl_project.specs.Project.{Project}
+use Rattle.idl_inputs.specs.Project.{Project}
 use Rattle.idl_server.specs.Documents.{AreSameBeside, OnlyRefusedAreBehind, OnlyRefusedIsBehind, texts_of}
 use Rattle.idl_server.specs.declared.document.Document.{Document}
 

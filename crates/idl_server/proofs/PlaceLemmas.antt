@@ -7,7 +7,7 @@ use Rattle.std.specs.Option.{unwrap_or}
 use Rattle.memchr.specs.Find.{IsLastByte, is_byte}
 use Rattle.memchr.proofs.lemmas.ValueLemmas.{IsLastByte-value}
 use Rattle.idl_source.specs.Limits.{longest_line}
-use Rattle.idl_project.specs.WithinLimits.{IsAllowedFile}
+use Rattle.idl_inputs.specs.WithinLimits.{IsAllowedFile}
 use Rattle.idl_editor.specs.declared.change.Range.{Range}
 use Rattle.idl_editor.specs.declared.column.Encoding.{Encoding}
 use Rattle.idl_editor.specs.declared.position.Position.{Position}

@@ -7,7 +7,7 @@ use Rattle.std.specs.Map.{lookup}
 use Rattle.std.specs.Str.{bytes_eq}
 use Rattle.idl_project.specs.Compile.{compiled_root}
 use Rattle.idl_project.specs.Edited.{IsAccepted}
-use Rattle.idl_project.specs.Edits.{Define, Search}
+use Rattle.idl_inputs.specs.Edits.{Define, Search}
 use Rattle.idl_project.specs.UpToDate.{State}
 use Rattle.idl_project.specs.declared.work.Work.{Work}
 use Rattle.idl_loader.specs.Holding.{Holding}

@@ -10,7 +10,7 @@ use Rattle.idl_explain.specs.declared.explanation.Explanation.{Explanation}
 use Rattle.idl_explain.specs.declared.explanation.Topic.TheVariants as topic
 use Rattle.idl_fault.specs.Code.{code_text, is_error}
 use Rattle.idl_fault.specs.declared.code.Code.{Code}
-use Rattle.idl_project.specs.Project.{Project}
+use Rattle.idl_inputs.specs.Project.{Project}
 use Rattle.idl_finding.specs.declared.finding.Finding.{Finding}
 use Rattle.idl_server.specs.Found.{found_in}
 use Rattle.idl_server.specs.Json.{range_json, shown_json}

@@ -5,8 +5,8 @@ use Rattle.std.specs.Option.{option_map}
 use Rattle.std.specs.Str.{bytes_eq}
 use Rattle.idl_source.specs.declared.refusal.Refusal.{Refusal}
 use Rattle.idl_source.specs.texts.Cut.{cut_lines}
-use Rattle.idl_project.specs.Edits.{Put, after}
-use Rattle.idl_project.specs.Project.{Project}
+use Rattle.idl_inputs.specs.Edits.{Put, after}
+use Rattle.idl_inputs.specs.Project.{Project}
 use Rattle.idl_editor.specs.Changes.{changed_in, replaced}
 use Rattle.idl_editor.specs.declared.change.ContentChange.{ContentChange}
 use Rattle.idl_editor.specs.declared.change.Range.{Range}

@@ -1,7 +1,7 @@
 -- Edits of one file of a project.
 use Rattle.std.specs.Prelude.{◌≡◌, ℕ, List}
-use Rattle.idl_project.specs.Bank.{IsSameBeside}
-use Rattle.idl_project.specs.Project.{Project}
+use Rattle.idl_inputs.specs.Bank.{IsSameBeside}
+use Rattle.idl_inputs.specs.Project.{Project}
 
 -- no file but the one of this name is another, and all else is the same
 pub record IsSameButFor (name : List ℕ) (old new : Project) : Type 0 where

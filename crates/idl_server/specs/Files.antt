@@ -5,7 +5,7 @@ use Rattle.std.specs.List.{list_any}
 use Rattle.std.specs.Map.{lookup}
 use Rattle.std.specs.Str.{bytes_eq}
 use Rattle.idl_source.specs.texts.Cut.{cut_lines}
-use Rattle.idl_project.specs.Bank.{IsSameBeside}
+use Rattle.idl_inputs.specs.Bank.{IsSameBeside}
 use Rattle.idl_project.specs.Compile.{compiled_root}
 use Rattle.idl_loader.specs.Holding.{Holding, NoFile, Allows}
 use Rattle.idl_loader.specs.Holding.{IsFileOf}

@@ -6,7 +6,7 @@ use Rattle.std.specs.Str.{bytes_eq}
 use Rattle.idl_fault.specs.Code.{number_of}
 use Rattle.idl_finding.specs.declared.finding.Finding.{Finding}
 use Rattle.idl_project.specs.Compile.{compiled_root}
-use Rattle.idl_project.specs.Project.{Inputs, Project}
+use Rattle.idl_inputs.specs.Project.{Inputs, Project}
 use Rattle.idl_server.specs.declared.found.RootFinding.{RootFinding}
 
 -- so many findings of a file are told at most

@@ -8,10 +8,10 @@ use Rattle.idl_editor.specs.declared.change.Range.{Range}
 use Rattle.idl_editor.specs.declared.column.Encoding.{Encoding}
 use Rattle.idl_editor.specs.declared.position.Position.{Position}
 use Rattle.serde_json.specs.Data.{Data, null}
-use Rattle.idl_project.specs.Asked.{asked_of}
-use Rattle.idl_project.specs.Columns.{column_of}
+use Rattle.idl_inputs.specs.Asked.{asked_of}
+use Rattle.idl_inputs.specs.Columns.{column_of}
 use Rattle.idl_project.specs.Details.{details_of}
-use Rattle.idl_project.specs.Project.{Project}
+use Rattle.idl_inputs.specs.Project.{Project}
 use Rattle.idl_project.specs.idl_root.declared.compiling.detailing.DetailedEntry.{DetailedEntry}
 use Rattle.idl_project.specs.idl_root.declared.compiling.detailing.Details.{Details}
 use Rattle.idl_project.specs.idl_root.declared.compiling.places.DeclaredPlace.{DeclaredPlace}

@@ -10,8 +10,8 @@ use Rattle.idl_editor.specs.declared.change.Range.{Range}
 use Rattle.idl_editor.specs.declared.column.Encoding.{Encoding}
 use Rattle.idl_editor.specs.declared.position.Position.{Position}
 use Rattle.idl_fault.specs.declared.place.Place.{Place}
-use Rattle.idl_project.specs.Columns.{column_of}
-use Rattle.idl_project.specs.Project.{Project}
+use Rattle.idl_inputs.specs.Columns.{column_of}
+use Rattle.idl_inputs.specs.Project.{Project}
 
 -- where the carriage returns are in bytes, and how many
 abbrev pub return_places : List ℕ → List ℕ

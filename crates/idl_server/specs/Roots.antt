@@ -5,7 +5,7 @@ use Rattle.std.specs.List.{list_any}
 use Rattle.std.specs.Map.{lookup}
 use Rattle.std.specs.Str.{bytes_eq}
 use Rattle.idl_source.specs.Limits.{most_roots}
-use Rattle.idl_project.specs.Project.{Project, is_root}
+use Rattle.idl_inputs.specs.Project.{Project, is_root}
 use Rattle.idl_server.specs.Named.{root_with}
 use Rattle.idl_server.specs.declared.workspace.Workspace.{Workspace}
 

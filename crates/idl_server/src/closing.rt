@@ -4,8 +4,8 @@ ghost use Rattle.std.specs.Prelude.{◌≡◌, ℕ, All, List, IfOk, IfSome, Non
 ghost use Rattle.std.specs.List.{list_any};
 ghost use Rattle.std.specs.Map.{lookup};
 ghost use Rattle.std.specs.Str.{bytes_eq};
-ghost use Rattle.idl_project.specs.Batch.{edit_of};
-ghost use Rattle.idl_project.specs.Project.{is_root};
+ghost use Rattle.idl_inputs.specs.Batch.{edit_of};
+ghost use Rattle.idl_inputs.specs.Project.{is_root};
 ghost use Rattle.idl_loader.specs.Holding.{Allows, Holding, NoFile};
 ghost use Rattle.idl_loader.specs.Holding.{IsFileOf};
 ghost use Rattle.idl_server.specs.Documents.{texts_of};

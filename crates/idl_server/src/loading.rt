@@ -3,9 +3,9 @@
 ghost use Rattle.std.specs.Prelude.{◌≡◌, ℕ, All, List, [], IfOk, IfSome, None, OnOk, false, map, true};
 ghost use Rattle.std.specs.Map.{lookup};
 ghost use Rattle.std.specs.Str.{bytes_eq};
-ghost use Rattle.idl_project.specs.Asked.{asked_of};
-ghost use Rattle.idl_project.specs.Batch.{edit_of};
-ghost use Rattle.idl_project.specs.Project.{is_root};
+ghost use Rattle.idl_inputs.specs.Asked.{asked_of};
+ghost use Rattle.idl_inputs.specs.Batch.{edit_of};
+ghost use Rattle.idl_inputs.specs.Project.{is_root};
 ghost use Rattle.idl_loader.specs.Holding.{Holding};
 ghost use Rattle.idl_loader.specs.Holding.{IsFileOf};
 ghost use Rattle.idl_server.specs.Files.{AreFiled, AreTried, AreTriedBy, IsAmong, IsNamed, IsWith, StaysCompiled, StaysSet, told_by};

@@ -4,7 +4,7 @@ ghost use Rattle.std.specs.Prelude.{◌≡◌, ◌≤◌, ◌<◌, ◌+◌, ◌*
 ghost use Rattle.std.specs.List.{sum_by};
 ghost use Rattle.serde_json.specs.View.{view};
 ghost use Rattle.idl_source.specs.Limits.{longest_line};
-ghost use Rattle.idl_project.specs.WithinLimits.{IsAllowedFile};
+ghost use Rattle.idl_inputs.specs.WithinLimits.{IsAllowedFile};
 ghost use Rattle.idl_server.specs.Json.{location_json, position_json, range_json};
 ghost use Rattle.idl_server.specs.Places.{behind_return, is_around, is_up_to, line_range, lines_of, position_behind, position_in, range_of, returns};
 

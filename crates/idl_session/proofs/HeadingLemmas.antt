@@ -4,7 +4,7 @@ use Rattle.std.proofs.lemmas.List.Elements.{Contains-append_right}
 use Rattle.std.proofs.lemmas.List.Splits.{join_with_byte-slice_split, length-slice_split}
 use Rattle.std.specs.List.{slice_split, onto_first, join_with_byte}
 use Rattle.idl_source.specs.texts.Line.{IsLine}
-use Rattle.idl_project.specs.Edits.{Define}
+use Rattle.idl_inputs.specs.Edits.{Define}
 use Rattle.idl_session.specs.Requests.{Malformed, Make, counted_request, define_request, is_command_word, words}
 
 -- five words after the first are too many

@@ -4,7 +4,7 @@ use Rattle.std.specs.Prelude.{◌≡◌, ℕ, List, [], ◌∷◌, ◌++◌, Res
 use Rattle.idl_source.specs.declared.refusal.Refusal.{Refusal}
 use Rattle.idl_source.specs.declared.refusal.Refusal.TheVariants as refusal
 use Rattle.idl_project.specs.Edited.{IsEdited}
-use Rattle.idl_project.specs.Edits.{Edit}
+use Rattle.idl_inputs.specs.Edits.{Edit}
 use Rattle.idl_project.specs.UpToDate.{State}
 use Rattle.idl_project.specs.declared.work.Work.{Work}
 use Rattle.idl_session.specs.Commands.{Command, Malformed, Unfinished, Make, Ask, TellWork, commands_of}

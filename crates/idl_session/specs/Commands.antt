@@ -1,7 +1,7 @@
 -- The commands that lines make.
 use Rattle.std.specs.Prelude.{ℕ, Bool, true, false, List, [], ◌∷◌, length, nat_eq, take, zero, suc, if◌then◌else◌}
 use Rattle.std.specs.List.{filter}
-use Rattle.idl_project.specs.Edits.{Edit}
+use Rattle.idl_inputs.specs.Edits.{Edit}
 use Rattle.idl_session.specs.Lines.{lines_of, whole_lines}
 use Rattle.idl_session.specs.Requests.{Request, request_of, lines_taken}
 use Rattle.idl_session.specs.Requests as request

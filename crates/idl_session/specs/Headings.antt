@@ -2,7 +2,7 @@
 use Rattle.std.specs.Prelude.{ℕ, List, [], Option, None, Some}
 use Rattle.std.specs.Borrow.{Bor}
 use Rattle.idl_source.specs.texts.Line.{IsLine}
-use Rattle.idl_project.specs.Edits.{Edit, Put, Splice, Remove, Define, Undef, Search, AddRoot, DropRoot}
+use Rattle.idl_inputs.specs.Edits.{Edit, Put, Splice, Remove, Define, Undef, Search, AddRoot, DropRoot}
 use Rattle.idl_session.specs.Requests.{Request, Malformed, Place, Make, Ask, TellWork, words}
 use Rattle.idl_session.specs.declared.heading.EditCommand.{EditCommand}
 use Rattle.idl_session.specs.declared.heading.EditCommand.TheVariants as change

@@ -4,7 +4,7 @@ use Rattle.std.specs.List.{join_with_byte, slice_split, list_all}
 use Rattle.std.specs.Str.{bytes_eq}
 use Rattle.idl_source.specs.Limits.{longest_command}
 use Rattle.idl_source.specs.names.Name.{is_visible}
-use Rattle.idl_project.specs.Edits.{Edit, Put, Splice, Remove, Define, Undef, Search, AddRoot, DropRoot}
+use Rattle.idl_inputs.specs.Edits.{Edit, Put, Splice, Remove, Define, Undef, Search, AddRoot, DropRoot}
 use Rattle.idl_session.specs.Lines.{line_within}
 use Rattle.idl_session.specs.declared.heading.RootQuery.{RootQuery}
 use Rattle.idl_session.specs.declared.heading.RootQuery.TheVariants.{Diagnostics, Listing, Dump, Absent}

@@ -3,7 +3,7 @@
 ghost use Rattle.std.specs.Prelude.{◌≡◌, ℕ, List, true, Err, IfOk, MatchBool, map, nat_eq, length};
 ghost use Rattle.idl_source.specs.texts.Line.{IsLine};
 ghost use Rattle.idl_project.specs.Edited.{IsEdited};
-ghost use Rattle.idl_project.specs.Edits.{Define, Search, after, are_too_long};
+ghost use Rattle.idl_inputs.specs.Edits.{Define, Search, after, are_too_long};
 ghost use Rattle.idl_session.specs.replies.Announced.{IsAnnounced};
 ghost use Rattle.idl_session.specs.Headings.{HasLine, edit_by, edit_with, words_after};
 

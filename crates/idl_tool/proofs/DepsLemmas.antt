@@ -9,10 +9,10 @@ use Rattle.clap.proofs.WalkLemmas.{list_any-map}
 use Rattle.idl_tool.specs.make_rules.Make.{IfThere, IsMakeRule, Need, Rule, There, is_make_name, name_in, rule_text, rules_text}
 use Rattle.idl_program.specs.idl_session.replies.Replies.{whole_line}
 use Rattle.idl_source.specs.texts.Texts.{Texts}
-use Rattle.idl_project.specs.Asked.{asked_over}
-use Rattle.idl_project.specs.Bank.{bank_of}
+use Rattle.idl_inputs.specs.Asked.{asked_over}
+use Rattle.idl_inputs.specs.Bank.{bank_of}
 use Rattle.idl_project.specs.Compile.{compiled_root}
-use Rattle.idl_project.specs.Project.{Inputs}
+use Rattle.idl_inputs.specs.Project.{Inputs}
 use Rattle.idl_project.specs.declared.compile.CompiledRoot.{CompiledRoot}
 use Rattle.idl_program.specs.Compiled.{errors_in, is_faulty, lines_of}
 use Rattle.idl_program.specs.Rows.{are_faulty, lines_with}

@@ -9,9 +9,9 @@ use Rattle.idl_changes.specs.declared.change.Change.{Change}
 use Rattle.idl_changes.specs.declared.change.Weight.{Weight}
 use Rattle.idl_changes.specs.declared.change.Weight.TheVariants.{Breaks}
 use Rattle.idl_source.specs.devices.Device.{append}
-use Rattle.idl_project.specs.Bank.{bank_of}
+use Rattle.idl_inputs.specs.Bank.{bank_of}
 use Rattle.idl_project.specs.Details.{details_over}
-use Rattle.idl_project.specs.Project.{Inputs}
+use Rattle.idl_inputs.specs.Project.{Inputs}
 use Rattle.idl_program.specs.Compilations.{IsCompilation, HasCompiled}
 use Rattle.idl_program.specs.idl_loader.Holding.{Holding}
 use Rattle.idl_program.specs.Rows.{are_faulty}

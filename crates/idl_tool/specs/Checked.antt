@@ -14,12 +14,12 @@ use Rattle.idl_related.specs.declared.second.Related.{Related}
 use Rattle.idl_finding.specs.declared.finding.Finding.{Finding}
 use Rattle.idl_source.specs.devices.Device.{append}
 use Rattle.idl_source.specs.texts.Texts.{Texts}
-use Rattle.idl_project.specs.Bank.{bank_of}
-use Rattle.idl_project.specs.Columns.{column_at}
+use Rattle.idl_inputs.specs.Bank.{bank_of}
+use Rattle.idl_inputs.specs.Columns.{column_at}
 use Rattle.idl_project.specs.Compile.{compiled_root}
-use Rattle.idl_project.specs.Made.{rootless}
-use Rattle.idl_project.specs.Project.{Inputs}
-use Rattle.idl_project.specs.WellFormed.{IsWellFormed}
+use Rattle.idl_inputs.specs.Made.{rootless}
+use Rattle.idl_inputs.specs.Project.{Inputs}
+use Rattle.idl_inputs.specs.WellFormed.{IsWellFormed}
 use Rattle.idl_program.specs.Compiled.{Written, is_faulty}
 use Rattle.idl_program.specs.idl_loader.Holding.{Holding}
 use Rattle.idl_program.specs.Loading.{AreLoaded, AreComplete}

@@ -9,9 +9,9 @@ use Rattle.idl_repo.specs.declared.details.row_tree.RowTree.{RowTree}
 use Rattle.idl_project.specs.idl_root.declared.compiling.detailing.Details.{Details}
 use Rattle.idl_program.specs.idl_session.replies.Replies.{whole_line}
 use Rattle.idl_source.specs.devices.Device.{append}
-use Rattle.idl_project.specs.Made.{rootless}
-use Rattle.idl_project.specs.Project.{Inputs}
-use Rattle.idl_project.specs.WellFormed.{IsWellFormed}
+use Rattle.idl_inputs.specs.Made.{rootless}
+use Rattle.idl_inputs.specs.Project.{Inputs}
+use Rattle.idl_inputs.specs.WellFormed.{IsWellFormed}
 use Rattle.idl_program.specs.Compiled.{Written, errors_in, is_faulty, lines_of}
 use Rattle.idl_program.specs.idl_loader.Holding.{Holding}
 use Rattle.idl_program.specs.Loading.{AreLoaded, AreComplete}

@@ -5,11 +5,11 @@ use Rattle.std.specs.List.{flat_map}
 use Rattle.std.specs.Str.{bytes_eq}
 use Rattle.idl_source.specs.devices.Device.{append}
 use Rattle.idl_source.specs.texts.Texts.{Texts}
-use Rattle.idl_project.specs.Asked.{asked_over}
-use Rattle.idl_project.specs.Bank.{bank_of}
-use Rattle.idl_project.specs.Made.{rootless}
-use Rattle.idl_project.specs.Project.{Inputs}
-use Rattle.idl_project.specs.WellFormed.{IsWellFormed}
+use Rattle.idl_inputs.specs.Asked.{asked_over}
+use Rattle.idl_inputs.specs.Bank.{bank_of}
+use Rattle.idl_inputs.specs.Made.{rootless}
+use Rattle.idl_inputs.specs.Project.{Inputs}
+use Rattle.idl_inputs.specs.WellFormed.{IsWellFormed}
 use Rattle.idl_program.specs.Compiled.{Written, errors_in, is_faulty, lines_of}
 use Rattle.idl_program.specs.idl_loader.Holding.{Holding}
 use Rattle.idl_program.specs.Loading.{AreLoaded, AreComplete}

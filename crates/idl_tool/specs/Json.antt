@@ -14,14 +14,14 @@ use Rattle.idl_project.specs.idl_root.declared.compiling.detailing.DetailedEntry
 use Rattle.idl_project.specs.idl_root.declared.compiling.places.DeclaredPlace.{DeclaredPlace}
 use Rattle.idl_source.specs.devices.Device.{append}
 use Rattle.idl_source.specs.texts.Texts.{Texts}
-use Rattle.idl_project.specs.Asked.{asked_over}
-use Rattle.idl_project.specs.Bank.{bank_of}
-use Rattle.idl_project.specs.Columns.{column_at}
+use Rattle.idl_inputs.specs.Asked.{asked_over}
+use Rattle.idl_inputs.specs.Bank.{bank_of}
+use Rattle.idl_inputs.specs.Columns.{column_at}
 use Rattle.idl_project.specs.Compile.{compiled_root}
 use Rattle.idl_project.specs.Details.{details_over}
-use Rattle.idl_project.specs.Made.{rootless}
-use Rattle.idl_project.specs.Project.{Inputs}
-use Rattle.idl_project.specs.WellFormed.{IsWellFormed}
+use Rattle.idl_inputs.specs.Made.{rootless}
+use Rattle.idl_inputs.specs.Project.{Inputs}
+use Rattle.idl_inputs.specs.WellFormed.{IsWellFormed}
 use Rattle.idl_project.specs.declared.compile.CompiledRoot.{CompiledRoot}
 use Rattle.idl_program.specs.Compiled.{Written, is_faulty}
 use Rattle.idl_program.specs.idl_loader.Holding.{Holding}

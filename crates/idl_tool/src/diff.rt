@@ -2,7 +2,7 @@
 
 ghost use Rattle.std.specs.Prelude.{◌≡◌, ◌≤◌, ◌<◌, ◌+◌, ◌-◌, ◌^◌, IfOk, OnOk, flat_map, if◌then◌else◌, map};
 ghost use Rattle.idl_source.specs.devices.Device.{append};
-ghost use Rattle.idl_project.specs.Bank.{bank_of};
+ghost use Rattle.idl_inputs.specs.Bank.{bank_of};
 ghost use Rattle.idl_project.specs.Details.{details_over};
 ghost use Rattle.idl_program.specs.idl_loader.declared.status.Status.TheVariants.{Faulty, Sound};
 ghost use Rattle.idl_program.specs.Compilations.{HasCompiled};

@@ -13,7 +13,7 @@ ghost use Rattle.idl_tool.specs.Checked.{AreReported, Entry, IsTold, Told};
 ghost use Rattle.idl_tool.specs.Compared.{AreCompared, AreKept, Version};
 ghost use Rattle.idl_tool.specs.Deps.{needs_in, needs_of, rules_in};
 ghost use Rattle.idl_tool.specs.declared.request.Deps.{Deps};
-ghost use Rattle.idl_project.specs.Project.{Inputs};
+ghost use Rattle.idl_inputs.specs.Project.{Inputs};
 
 use crate::make_rules::rules_read_back;
 use idl_changes::nothing_breaks;

@@ -1,19 +1,18 @@
 //! The edits of files: one, or many as one.
 
 ghost use Rattle.std.specs.Prelude.{◌≡◌, IfOk, OnErr, map};
-ghost use Rattle.idl_project.specs.Batch.{IsBatch, edit_of};
-ghost use Rattle.idl_project.specs.Edited.{IsEdited};
-ghost use Rattle.idl_project.specs.Edits.{Put, Remove, Splice};
-ghost use Rattle.idl_project.specs.Project.{with_files};
-ghost use Rattle.idl_project.specs.Refiled.{AreRefiled, IsSettled, files_after};
-ghost use Rattle.idl_project.specs.WellFormed.{IsWellFormed};
+ghost use Rattle.idl_inputs.specs.Batch.{edit_of};
+ghost use Rattle.idl_project.specs.Batch.{IsBatch};
+ghost use Rattle.idl_project.specs.Edited.{IsEdited, IsSettled};
+ghost use Rattle.idl_inputs.specs.Edits.{Put, Remove, Splice};
+ghost use Rattle.idl_inputs.specs.Project.{with_files};
+ghost use Rattle.idl_inputs.specs.Refiled.{AreRefiled, files_after};
+ghost use Rattle.idl_inputs.specs.WellFormed.{IsWellFormed};
 
-use crate::edited_files::EditedFiles;
-use crate::file_edit::FileEdit;
 use crate::kept_root::BankChange;
-use crate::refiled::Refiled;
 use crate::session::Session;
 use crate::work::Work;
+use idl_inputs::{EditedFiles, FileEdit, Refiled};
 use idl_source::{Line, Refusal, Span};
 use std::alloc::AllocError;
 

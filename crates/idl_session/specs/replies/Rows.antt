@@ -1,6 +1,6 @@
 -- The rows that answer a question, and rows that are lent.
 use Rattle.std.specs.Prelude.{ℕ, List, Option}
-use Rattle.idl_project.specs.Project.{Project}
+use Rattle.idl_inputs.specs.Project.{Project}
 use Rattle.idl_project.specs.UpToDate.{diagnostics_of, listing_of, dump_of, absent_of}
 use Rattle.idl_session.specs.declared.heading.RootQuery.{RootQuery}
 use Rattle.idl_session.specs.declared.heading.RootQuery.TheVariants.{Diagnostics, Listing, Dump, Absent}

@@ -1,7 +1,7 @@
 use Rattle.std.proofs.Common.{◌≡◌, ◌∙◌, ℕ, All, List, ap, map, refl, subst, sym}
 use Rattle.std.proofs.lemmas.List.Elements.{All-nil}
 use Rattle.idl_session.specs.idl_project.Compile.{compiled_root}
-use Rattle.idl_session.specs.idl_project.Project.{Inputs}
+use Rattle.idl_inputs.specs.Project.{Inputs}
 use Rattle.idl_session.specs.idl_project.declared.compile.CompiledRoot.{CompiledRoot}
 use Rattle.idl_loader.specs.Holding.{Allows, Holding, NoFile}
 use Rattle.idl_program.specs.Loading.{AreLoaded}

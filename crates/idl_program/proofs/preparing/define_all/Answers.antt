@@ -1,5 +1,5 @@
 use Rattle.std.proofs.Common.{◌≡◌, ◌∙◌, ℕ, List, Bor, ap, sym}
-use Rattle.idl_session.specs.idl_project.Project.{Inputs, Macros}
+use Rattle.idl_inputs.specs.Project.{Inputs, Macros}
 use Rattle.idl_program.proofs.OptionLemmas.{defined-next}
 use Rattle.idl_program.proofs.preparing.define_all.Goals as goal
 

@@ -1,5 +1,5 @@
 use Rattle.std.proofs.Common.{◌≡◌, ◌∙◌, ◌∷◌, ◌+◌, [], ℕ, List, Bor, Some, ap, drop, map, rules, sym}
-use Rattle.idl_session.specs.idl_project.Project.{Inputs}
+use Rattle.idl_inputs.specs.Project.{Inputs}
 use Rattle.idl_program.specs.Options.{searched_by}
 use Rattle.idl_program.proofs.OptionLemmas.{drop-map-next, searched-more}
 use Rattle.idl_program.proofs.preparing.search_all.Goals as goal

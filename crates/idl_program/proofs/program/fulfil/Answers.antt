@@ -1,5 +1,5 @@
 use Rattle.std.proofs.Common.{[], refl, subst, sym}
-use Rattle.idl_session.specs.idl_project.Project.{no_project}
+use Rattle.idl_inputs.specs.Project.{no_project}
 use Rattle.idl_session.specs.idl_project.Work.{no_work}
 use Rattle.idl_program.specs.Compiled.{Written}
 use Rattle.idl_program.specs.Served.{AreAnswered, IsDone}

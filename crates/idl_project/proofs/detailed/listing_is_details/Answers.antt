@@ -1,4 +1,4 @@
-use Rattle.idl_project.specs.Bank.{bank_of}
+use Rattle.idl_inputs.specs.Bank.{bank_of}
 use Rattle.idl_project.proofs.DetailLemmas.{listing-of, listing-over}
 use Rattle.idl_project.proofs.detailed.listing_is_details.Goals as goal
 

@@ -13,8 +13,8 @@ use Rattle.idl_memo.specs.Kept.{Kept, result_over}
 use Rattle.idl_memo.specs.Query.{HoldsIn}
 use Rattle.idl_prep.specs.Root.{expanded, expansion}
 use Rattle.idl_root.specs.Details.{details}
-use Rattle.idl_project.specs.Asked.{asked_files}
-use Rattle.idl_project.specs.Bank.{bank_of}
+use Rattle.idl_inputs.specs.Asked.{asked_files}
+use Rattle.idl_inputs.specs.Bank.{bank_of}
 use Rattle.idl_project.specs.Compile.{compile_over}
 use Rattle.idl_project.specs.Details.{details_over}
 use Rattle.idl_project.specs.Tasks.{RootPlace, alike_root, answer_eq}

@@ -1,5 +1,5 @@
 use Rattle.std.proofs.Common.{◌≡◌, map, take}
-use Rattle.idl_project.specs.Bank.{bank_of}
+use Rattle.idl_inputs.specs.Bank.{bank_of}
 use Rattle.idl_project.specs.Details.{details_over}
 use Rattle.idl_tool.proofs.diff.details_of.Given as goal
 

@@ -2,7 +2,7 @@ use Rattle.std.proofs.Common.{◌≡◌, ap, rules, subst, sym}
 use Rattle.std.specs.FinMap as finite
 use Rattle.idl_source.specs.texts.Cut.{cut_lines}
 use Rattle.idl_source.specs.texts.Texts.{Texts}
-use Rattle.idl_session.specs.idl_project.Project.{Inputs}
+use Rattle.idl_inputs.specs.Project.{Inputs}
 use Rattle.idl_program.specs.Loading.{AreLoaded}
 use Rattle.idl_loader.specs.Holding.{IsFileOf}
 use Rattle.idl_program.proofs.LoadingLemmas.{AreLoaded-insert}

@@ -1,6 +1,7 @@
 -- It asked for no cause, or for one.
 use Rattle.std.proofs.Common.{◌∙◌, sym}
-use Rattle.idl_project.proofs.CauseLemmas.{alike-unless, class-of, false-by-not, over-beside}
+use Rattle.idl_inputs.proofs.CauseLemmas.{false-by-not}
+use Rattle.idl_project.proofs.CauseLemmas.{alike-unless, class-of, over-beside}
 use Rattle.idl_project.proofs.kept_root.KeptRoot.outlasts.Goals as goal
 
 pub returns-clause-over : goal.returns-clause-over

@@ -6,7 +6,7 @@ use Rattle.std.specs.Map.{keys_of}
 use Rattle.idl_root.specs.idl_kept.Texts.{Texts}
 use Rattle.idl_store.specs.Stored.{Stored, list_at}
 use Rattle.idl_root.specs.Results.{EntryResult}
-use Rattle.idl_project.specs.Bank.{bank_of}
+use Rattle.idl_inputs.specs.Bank.{bank_of}
 use Rattle.idl_project.specs.Tasks.{begin_list, block_list, declaration_list, entry_list}
 use Rattle.idl_project.proofs.RootLemmas.{IsKeeperLeft-discarded}
 use Rattle.idl_project.proofs.StoreLemmas.{list_at-end}

@@ -14,7 +14,7 @@ use Rattle.idl_prep.specs.Root.{expansion}
 use Rattle.idl_store.specs.Stored.{list_at}
 use Rattle.idl_root.specs.Results.{entry_result, fresh_declarations, fresh_entries}
 use Rattle.idl_root.specs.idl_root_blocks.Places.{block_result, declaration_result}
-use Rattle.idl_project.specs.Bank.{bank_of}
+use Rattle.idl_inputs.specs.Bank.{bank_of}
 use Rattle.idl_project.specs.Compared.{KnownTasks, compared_in, met_among, met_at, tasks_of, with_tasks}
 use Rattle.idl_project.specs.Renewed.{IsRenewedAt}
 use Rattle.idl_project.specs.Tasks.{answer_eq, begin_list, block_list, blocks_at, declaration_list, declarations_at, entries_at, entry_list}

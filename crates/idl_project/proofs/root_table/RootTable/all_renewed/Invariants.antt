@@ -6,7 +6,7 @@ use Rattle.idl_memo.specs.Meter.{compared_after, most_compared}
 use Rattle.idl_root.specs.AsBefore.{AreListsLeft}
 use Rattle.idl_root.specs.Results.{entry_result, fresh_declarations, fresh_entries}
 use Rattle.idl_root.specs.idl_root_blocks.Places.{block_result, declaration_result}
-use Rattle.idl_project.specs.Bank.{bank_of}
+use Rattle.idl_inputs.specs.Bank.{bank_of}
 use Rattle.idl_project.specs.Compared.{compared_in, met_among, met_between, tasks_of, with_tasks}
 use Rattle.idl_project.specs.Tasks.{begin_list, blocks_at, declarations_at, entries_at}
 use Rattle.idl_project.specs.UpToDate.{AreKept}

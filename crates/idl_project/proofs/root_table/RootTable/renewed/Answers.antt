@@ -1,6 +1,6 @@
 -- What is discarded leaves what was there.
 use Rattle.std.specs.Map.{keys_of}
-use Rattle.idl_project.specs.Bank.{bank_of}
+use Rattle.idl_inputs.specs.Bank.{bank_of}
 use Rattle.idl_project.proofs.RootLemmas.{IsKeeperLeft-discarded}
 use Rattle.idl_project.proofs.root_table.RootTable.renewed.Goals as goal
 

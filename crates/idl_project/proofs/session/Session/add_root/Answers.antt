@@ -21,15 +21,15 @@ use Rattle.idl_root.specs.idl_kept.Texts.{Texts}
 use Rattle.idl_store.specs.Stored.{with_draft}
 use Rattle.idl_root.specs.Results.{entry_result, fresh_declarations, fresh_entries}
 use Rattle.idl_root.specs.idl_root_blocks.Places.{declaration_result}
-use Rattle.idl_project.specs.Bank.{bank_of}
+use Rattle.idl_inputs.specs.Bank.{bank_of}
 use Rattle.idl_project.specs.Compared.{compared_in, met_between}
 use Rattle.idl_project.specs.Tasks.{alike_root, begin_list, block_list, declaration_list, declarations_among, declarations_at, entries_among, entries_at, entry_list}
-use Rattle.idl_project.specs.Edits.{AddRoot, after, result_map, roots_with}
-use Rattle.idl_project.specs.Project.{Project, is_root, with_roots}
+use Rattle.idl_inputs.specs.Edits.{AddRoot, after, result_map, roots_with}
+use Rattle.idl_inputs.specs.Project.{Project, is_root, with_roots}
 use Rattle.idl_project.specs.UpToDate.{IsUpToDate, State}
 use Rattle.idl_project.specs.Work.{touched_between, touched_of, work_of}
 use Rattle.idl_project.specs.declared.kept_root.KeptRoot.{KeptRoot}
-use Rattle.idl_project.proofs.FormLemmas.{after-formed}
+use Rattle.idl_inputs.proofs.FormLemmas.{after-formed}
 use Rattle.idl_project.proofs.AddedLemmas.{compared-added}
 use Rattle.idl_project.proofs.KeptLemmas.{answer_eq-derived, keys_asked-kept, work-roots}
 use Rattle.idl_project.proofs.RootLemmas.{IsUpToDate-left, IsUpToDate-push, list-more}

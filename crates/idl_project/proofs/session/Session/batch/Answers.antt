@@ -2,12 +2,12 @@ use Rattle.std.proofs.Common.{◌≡◌, ◌∙◌, Ok, ap, length, map, refl, r
 use Rattle.std.proofs.lemmas.List.{length-map}
 use Rattle.std.specs.Map.{keys_of}
 use Rattle.idl_source.specs.declared.refusal.Refusal.TheVariants.{NoMemory}
-use Rattle.idl_project.specs.Batch.{IsStopped, edit_of}
-use Rattle.idl_project.specs.Project.{Project, with_files}
-use Rattle.idl_project.specs.Refiled.{AreDone, AreRefiled, files_after}
+use Rattle.idl_inputs.specs.Batch.{IsStopped, edit_of}
+use Rattle.idl_inputs.specs.Project.{Project, with_files}
+use Rattle.idl_inputs.specs.Refiled.{AreDone, AreRefiled, files_after}
 use Rattle.idl_project.specs.UpToDate.{State}
-use Rattle.idl_project.specs.WellFormed.{IsWellFormed}
-use Rattle.idl_project.proofs.BatchLemmas.{formed-all, stopped-after}
+use Rattle.idl_inputs.specs.WellFormed.{IsWellFormed}
+use Rattle.idl_inputs.proofs.BatchLemmas.{formed-all, stopped-after}
 use Rattle.idl_project.proofs.session.Session.batch.Goals as goal
 
 pub settle-requires-clause-refiled : goal.settle-requires-clause-refiled

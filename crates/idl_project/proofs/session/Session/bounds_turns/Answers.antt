@@ -1,7 +1,7 @@
 use Rattle.std.proofs.Common.{All, subst}
 use Rattle.idl_prep.specs.Root.{expanded}
 use Rattle.idl_root.specs.Turns.{IsWithinTurns}
-use Rattle.idl_project.specs.Bank.{bank_of}
+use Rattle.idl_inputs.specs.Bank.{bank_of}
 use Rattle.idl_project.specs.UpToDate.{State}
 use Rattle.idl_project.proofs.RootLemmas.{turns-held}
 use Rattle.idl_project.proofs.session.Session.bounds_turns.Goals as goal

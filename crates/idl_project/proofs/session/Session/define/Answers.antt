@@ -5,12 +5,12 @@ use Rattle.std.specs.Str.{bytes_eq}
 use Rattle.indexmap.specs.IndexMap.{insert_entry}
 use Rattle.idl_event.specs.declared.asked.key.RootAnswer.TheVariants as answers
 use Rattle.idl_event.specs.declared.asked.key.RootKey.TheVariants as keys
-use Rattle.idl_project.specs.Edits.{Define, after, macros_with}
-use Rattle.idl_project.specs.Bank.{bank_of}
-use Rattle.idl_project.specs.Project.{Inputs, Project}
+use Rattle.idl_inputs.specs.Edits.{Define, after, macros_with}
+use Rattle.idl_inputs.specs.Bank.{bank_of}
+use Rattle.idl_inputs.specs.Project.{Inputs, Project}
 use Rattle.idl_project.specs.UpToDate.{IsUpToDate, State}
-use Rattle.idl_project.proofs.EditLemmas.{define-accepted, define-refused}
-use Rattle.idl_project.proofs.FormLemmas.{after-formed}
+use Rattle.idl_inputs.proofs.EditLemmas.{define-accepted, define-refused}
+use Rattle.idl_inputs.proofs.FormLemmas.{after-formed}
 use Rattle.idl_project.proofs.RootLemmas.{IsKeeperLeft-discarded, IsUpToDate-edited, IsUpToDate-left, work-edited}
 use Rattle.idl_project.proofs.session.Session.define.Goals as goal
 

@@ -19,15 +19,15 @@ use Rattle.idl_source.specs.declared.refusal.Refusal.TheVariants.{BadName, NoSuc
 use Rattle.idl_store.specs.Stored.{Stored, removed}
 use Rattle.idl_root.specs.Results.{entry_result, fresh_declarations, fresh_entries}
 use Rattle.idl_root.specs.idl_root_blocks.Places.{declaration_result}
-use Rattle.idl_project.specs.Bank.{bank_of}
+use Rattle.idl_inputs.specs.Bank.{bank_of}
 use Rattle.idl_project.specs.Compared.{compared_in, met_between, tasks_of}
-use Rattle.idl_project.specs.Edits.{DropRoot, after, result_map, roots_without}
-use Rattle.idl_project.specs.Project.{Project, is_root, with_roots}
+use Rattle.idl_inputs.specs.Edits.{DropRoot, after, result_map, roots_without}
+use Rattle.idl_inputs.specs.Project.{Project, is_root, with_roots}
 use Rattle.idl_project.specs.Tasks.{alike_root, begin_list, block_list, declaration_list, declarations_at, entries_at, entry_list, lists_for}
 use Rattle.idl_project.specs.UpToDate.{AreKept, State, keys_asked, project_held}
 use Rattle.idl_project.specs.declared.kept_root.KeptRoot.{KeptRoot}
 use Rattle.idl_project.specs.Work.{touched_of, work_of}
-use Rattle.idl_project.proofs.FormLemmas.{after-formed}
+use Rattle.idl_inputs.proofs.FormLemmas.{after-formed}
 use Rattle.idl_project.proofs.KeptLemmas.{answer_eq-derived, keys_asked-kept, work-roots}
 use Rattle.idl_project.proofs.MetLemmas.{all-alike, compared-stay}
 use Rattle.idl_project.proofs.RootLemmas.{AreKept-remove, remaining-there}

@@ -2,14 +2,14 @@ use Rattle.std.proofs.Common.{◌≡◌, ◌∙◌, Ok, Option, ap, refl, sym, s
 use Rattle.std.specs.Map.{keys_of}
 use Rattle.std.specs.Option.{unwrap_or}
 use Rattle.idl_source.specs.texts.Texts.{Texts}
-use Rattle.idl_project.specs.Batch.{edit_of}
-use Rattle.idl_project.specs.Edits.{after}
-use Rattle.idl_project.specs.Project.{Project, with_files}
-use Rattle.idl_project.specs.Refiled.{AreRefiled, files_after}
+use Rattle.idl_inputs.specs.Batch.{edit_of}
+use Rattle.idl_inputs.specs.Edits.{after}
+use Rattle.idl_inputs.specs.Project.{Project, with_files}
+use Rattle.idl_inputs.specs.Refiled.{AreRefiled, files_after}
 use Rattle.idl_project.specs.UpToDate.{State}
-use Rattle.idl_project.specs.WellFormed.{IsWellFormed}
-use Rattle.idl_project.proofs.FormLemmas.{after-formed}
-use Rattle.idl_project.proofs.RefiledLemmas.{accepted-by, refiled-none, refused-by, takes-by}
+use Rattle.idl_inputs.specs.WellFormed.{IsWellFormed}
+use Rattle.idl_inputs.proofs.FormLemmas.{after-formed}
+use Rattle.idl_inputs.proofs.RefiledLemmas.{accepted-by, refiled-none, refused-by, takes-by}
 use Rattle.idl_project.proofs.session.Session.edit.Goals as goal
 
 pub edit-requires : goal.edit-requires

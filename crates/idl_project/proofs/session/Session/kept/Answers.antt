@@ -4,8 +4,8 @@ use Rattle.std.specs.List.{list_any}
 use Rattle.std.specs.Map.{keys_of, lookup}
 use Rattle.std.specs.Option.{IfNone, IfSome, option_copied, option_map}
 use Rattle.std.specs.Str.{bytes_eq}
-use Rattle.idl_project.specs.Asked.{asked_files, asked_of}
-use Rattle.idl_project.specs.Bank.{bank_of}
+use Rattle.idl_inputs.specs.Asked.{asked_files, asked_of}
+use Rattle.idl_inputs.specs.Bank.{bank_of}
 use Rattle.idl_project.specs.Details.{details_of, expansion_of}
 use Rattle.idl_project.specs.UpToDate.{State}
 use Rattle.idl_project.specs.declared.kept_root.KeptRoot.{KeptRoot}

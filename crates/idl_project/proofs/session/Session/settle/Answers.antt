@@ -1,11 +1,11 @@
 use Rattle.std.proofs.Common.{◌≡◌, ◌∙◌, refl, ap, subst, sym}
 use Rattle.std.specs.Map.{keys_of}
-use Rattle.idl_project.specs.Bank.{bank_of}
-use Rattle.idl_project.specs.Project.{Inputs, Project, with_files}
-use Rattle.idl_project.specs.Refiled.{AreRefiled, files_after, refiled}
+use Rattle.idl_inputs.specs.Bank.{bank_of}
+use Rattle.idl_inputs.specs.Project.{Inputs, Project, with_files}
+use Rattle.idl_inputs.specs.Refiled.{AreRefiled, files_after, refiled}
 use Rattle.idl_project.specs.UpToDate.{IsUpToDate, State}
-use Rattle.idl_project.specs.WellFormed.{IsWellFormed}
-use Rattle.idl_project.proofs.RefiledLemmas.{refiled-is}
+use Rattle.idl_inputs.specs.WellFormed.{IsWellFormed}
+use Rattle.idl_inputs.proofs.RefiledLemmas.{refiled-is}
 use Rattle.idl_project.proofs.RootLemmas.{IsKeeperLeft-discarded, IsUpToDate-left, IsUpToDate-renewed, work-renewed}
 use Rattle.idl_project.proofs.session.Session.settle.Goals as goal
 

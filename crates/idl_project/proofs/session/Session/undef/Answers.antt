@@ -2,11 +2,11 @@ use Rattle.std.proofs.Common.{◌∙◌, None, refl, ap, sym}
 use Rattle.std.specs.Map.{keys_of}
 use Rattle.idl_event.specs.declared.asked.key.RootKey.TheVariants as keys
 use Rattle.idl_macro.specs.Words.{is_macro_word}
-use Rattle.idl_project.specs.Edits.{Undef, after}
-use Rattle.idl_project.specs.Project.{Project}
+use Rattle.idl_inputs.specs.Edits.{Undef, after}
+use Rattle.idl_inputs.specs.Project.{Project}
 use Rattle.idl_project.specs.UpToDate.{State}
-use Rattle.idl_project.proofs.EditLemmas.{undef-accepted}
-use Rattle.idl_project.proofs.FormLemmas.{after-formed}
+use Rattle.idl_inputs.proofs.EditLemmas.{undef-accepted}
+use Rattle.idl_inputs.proofs.FormLemmas.{after-formed}
 use Rattle.idl_project.proofs.RootLemmas.{IsUpToDate-edited, IsUpToDate-left, work-edited}
 use Rattle.idl_project.proofs.session.Session.undef.Goals as goal
 

@@ -1,11 +1,11 @@
 use Rattle.std.proofs.Common.{◌≡◌, ◌∙◌, ℕ, List, ap, refl, sym}
 use Rattle.std.specs.Str.{bytes_eq}
 use Rattle.indexmap.specs.IndexMap.{insert_entry}
-use Rattle.idl_project.specs.Edits.{Define, after}
-use Rattle.idl_project.specs.Made.{rootless}
-use Rattle.idl_project.specs.Project.{Inputs}
-use Rattle.idl_project.proofs.EditLemmas.{define-accepted, define-refused}
-use Rattle.idl_project.proofs.FormLemmas.{after-formed}
+use Rattle.idl_inputs.specs.Edits.{Define, after}
+use Rattle.idl_inputs.specs.Made.{rootless}
+use Rattle.idl_inputs.specs.Project.{Inputs}
+use Rattle.idl_inputs.proofs.EditLemmas.{define-accepted, define-refused}
+use Rattle.idl_inputs.proofs.FormLemmas.{after-formed}
 use Rattle.idl_project.proofs.sources.Sources.define.Goals as goal
 
 pub returns-in-Some : goal.returns-in-Some

@@ -1,8 +1,8 @@
 use Rattle.std.proofs.Common.{ap, subst, sym}
-use Rattle.idl_project.specs.Made.{rootless}
-use Rattle.idl_project.specs.Project.{Project}
-use Rattle.idl_project.specs.WellFormed.{IsWellFormed}
-use Rattle.idl_project.proofs.FormLemmas.{none-formed}
+use Rattle.idl_inputs.specs.Made.{rootless}
+use Rattle.idl_inputs.specs.Project.{Project}
+use Rattle.idl_inputs.specs.WellFormed.{IsWellFormed}
+use Rattle.idl_inputs.proofs.FormLemmas.{none-formed}
 use Rattle.idl_project.proofs.sources.Sources.new.Goals as goal
 
 pub invariant_of-result : goal.invariant_of-result

@@ -1,13 +1,13 @@
 use Rattle.std.proofs.Common.{◌≡◌, ◌∙◌, ℕ, List, Ok, Option, ap, refl, sym}
 use Rattle.std.specs.Option.{unwrap_or}
 use Rattle.idl_source.specs.texts.Texts.{Texts}
-use Rattle.idl_project.specs.Edits.{Put, after}
-use Rattle.idl_project.specs.Made.{rootless}
-use Rattle.idl_project.specs.Project.{Inputs, with_files}
-use Rattle.idl_project.specs.Refiled.{files_after}
-use Rattle.idl_project.specs.declared.file_edit.FileEdit.TheVariants as file
-use Rattle.idl_project.proofs.FormLemmas.{after-formed}
-use Rattle.idl_project.proofs.RefiledLemmas.{accepted-by, refiled-none, refused-by}
+use Rattle.idl_inputs.specs.Edits.{Put, after}
+use Rattle.idl_inputs.specs.Made.{rootless}
+use Rattle.idl_inputs.specs.Project.{Inputs, with_files}
+use Rattle.idl_inputs.specs.Refiled.{files_after}
+use Rattle.idl_inputs.specs.declared.file_edit.FileEdit.TheVariants as file
+use Rattle.idl_inputs.proofs.FormLemmas.{after-formed}
+use Rattle.idl_inputs.proofs.RefiledLemmas.{accepted-by, refiled-none, refused-by}
 use Rattle.idl_project.proofs.sources.Sources.put.Goals as goal
 
 pub edit-requires : goal.edit-requires

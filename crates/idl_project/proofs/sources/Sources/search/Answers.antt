@@ -1,10 +1,10 @@
 use Rattle.std.proofs.Common.{◌≡◌, ◌∙◌, ℕ, List, ap, map, refl}
 use Rattle.std.specs.Borrow.{Bor}
-use Rattle.idl_project.specs.Edits.{Search}
-use Rattle.idl_project.specs.Made.{rootless}
-use Rattle.idl_project.specs.Project.{Inputs}
-use Rattle.idl_project.proofs.EditLemmas.{search-accepted}
-use Rattle.idl_project.proofs.FormLemmas.{after-formed}
+use Rattle.idl_inputs.specs.Edits.{Search}
+use Rattle.idl_inputs.specs.Made.{rootless}
+use Rattle.idl_inputs.specs.Project.{Inputs}
+use Rattle.idl_inputs.proofs.EditLemmas.{search-accepted}
+use Rattle.idl_inputs.proofs.FormLemmas.{after-formed}
 use Rattle.idl_project.proofs.sources.Sources.search.Goals as goal
 
 pub invariant_of-self : goal.invariant_of-self

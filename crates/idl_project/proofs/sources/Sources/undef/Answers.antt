@@ -1,10 +1,10 @@
 use Rattle.std.proofs.Common.{◌∙◌, ap, refl, sym}
 use Rattle.idl_macro.specs.Words.{is_macro_word}
-use Rattle.idl_project.specs.Edits.{Undef}
-use Rattle.idl_project.specs.Made.{rootless}
-use Rattle.idl_project.specs.Project.{Inputs}
-use Rattle.idl_project.proofs.EditLemmas.{undef-accepted}
-use Rattle.idl_project.proofs.FormLemmas.{after-formed}
+use Rattle.idl_inputs.specs.Edits.{Undef}
+use Rattle.idl_inputs.specs.Made.{rootless}
+use Rattle.idl_inputs.specs.Project.{Inputs}
+use Rattle.idl_inputs.proofs.EditLemmas.{undef-accepted}
+use Rattle.idl_inputs.proofs.FormLemmas.{after-formed}
 use Rattle.idl_project.proofs.sources.Sources.undef.Goals as goal
 
 pub invariant_of-self : goal.invariant_of-self

@@ -1,5 +1,5 @@
 use Rattle.std.proofs.Common.{◌≡◌, ℕ, List, Ok, refl, subst}
-use Rattle.idl_project.specs.Edits.{AddRoot, after}
+use Rattle.idl_inputs.specs.Edits.{AddRoot, after}
 use Rattle.idl_server.proofs.CoveredLemmas.{adds-none, rooted-added, rooted-fewer}
 use Rattle.idl_server.proofs.FileLemmas.{add-inputs}
 use Rattle.idl_server.proofs.WorkspaceLemmas.{on_ok, stays-kept}

@@ -4,7 +4,7 @@ use Rattle.std.proofs.lemmas.List.Elements.{All-nil, All-same, All-weaker}
 use Rattle.std.specs.Map.{lookup}
 use Rattle.std.specs.Str.{bytes_eq}
 use Rattle.idl_loader.proofs.ListLemmas.{All-take_more}
-use Rattle.idl_project.specs.Asked.{asked_of}
+use Rattle.idl_inputs.specs.Asked.{asked_of}
 use Rattle.idl_server.specs.Files.{IsAmong}
 use Rattle.idl_server.proofs.workspace.Workspace.asked_closed.Goals as goal
 

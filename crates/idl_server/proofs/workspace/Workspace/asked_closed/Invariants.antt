@@ -1,7 +1,7 @@
 use Rattle.std.proofs.Common.{◌≡◌, All, None, take}
 use Rattle.std.specs.Map.{lookup}
 use Rattle.std.specs.Str.{bytes_eq}
-use Rattle.idl_project.specs.Asked.{asked_of}
+use Rattle.idl_inputs.specs.Asked.{asked_of}
 use Rattle.idl_server.specs.Files.{IsAmong}
 use Rattle.idl_server.proofs.workspace.Workspace.asked_closed.Given as goal
 

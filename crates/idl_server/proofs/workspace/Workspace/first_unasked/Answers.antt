@@ -1,7 +1,7 @@
 use Rattle.std.proofs.Common.{◌≡◌, ◌⊎◌, ◌∙◌, ℕ, List, ap, inl, subst, sym, true}
 use Rattle.std.specs.List.{list_any}
 use Rattle.std.specs.Str.{bytes_eq}
-use Rattle.idl_project.specs.Asked.{asked_of}
+use Rattle.idl_inputs.specs.Asked.{asked_of}
 use Rattle.idl_server.specs.Roots.{IsOpen}
 use Rattle.idl_server.proofs.CoveredLemmas.{first-none, first-there, left-asked, left-none}
 use Rattle.idl_server.proofs.workspace.Workspace.first_unasked.Goals as goal

@@ -3,8 +3,8 @@ use Rattle.std.proofs.lemmas.List.{map-append}
 use Rattle.std.proofs.lemmas.List.Elements.{All-get_or, All-push}
 use Rattle.std.specs.Map.{lookup}
 use Rattle.std.specs.Str.{bytes_eq}
-use Rattle.idl_project.specs.Batch.{edit_of}
-use Rattle.idl_project.specs.Edits.{Edit}
+use Rattle.idl_inputs.specs.Batch.{edit_of}
+use Rattle.idl_inputs.specs.Edits.{Edit}
 use Rattle.idl_loader.specs.Holding.{Holding}
 use Rattle.idl_loader.specs.Holding.{IsFileOf}
 use Rattle.idl_server.specs.Files.{AreFiled, told_by}

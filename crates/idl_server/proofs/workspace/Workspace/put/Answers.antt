@@ -2,7 +2,7 @@ use Rattle.std.proofs.Common.{◌≡◌, ◌∙◌, ℕ, List, Ok, false, refl, 
 use Rattle.std.proofs.lemmas.Result.{on_ok_weaker}
 use Rattle.std.specs.List.{list_any}
 use Rattle.std.specs.Str.{bytes_eq}
-use Rattle.idl_project.specs.Edits.{Put, after}
+use Rattle.idl_inputs.specs.Edits.{Put, after}
 use Rattle.idl_project.specs.UpToDate.{State}
 use Rattle.idl_loader.specs.Holding.{IsFileOf}
 use Rattle.idl_server.specs.Edited.{IsSameButFor}

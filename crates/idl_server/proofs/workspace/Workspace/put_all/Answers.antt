@@ -1,5 +1,5 @@
 use Rattle.std.proofs.Common.{map, refl}
-use Rattle.idl_project.specs.Batch.{edit_of}
+use Rattle.idl_inputs.specs.Batch.{edit_of}
 use Rattle.idl_server.specs.Files.{StaysCompiled}
 use Rattle.idl_server.proofs.WorkspaceLemmas.{all-passed-over, on_ok, put-loaded, put-passed}
 use Rattle.idl_server.proofs.workspace.Workspace.put_all.Goals as goal

@@ -1,6 +1,6 @@
 use Rattle.std.proofs.Common.{◌≡◌, ◌∙◌, ℕ, List, Ok, Some, ap, refl, subst, sym}
 use Rattle.idl_source.specs.texts.Cut.{cut_lines}
-use Rattle.idl_project.specs.Edits.{Put, after}
+use Rattle.idl_inputs.specs.Edits.{Put, after}
 use Rattle.idl_server.proofs.FileLemmas.{put-alone, put-lines}
 use Rattle.idl_server.proofs.WorkspaceLemmas.{beside-both, beside-edited, beside-kept, filed-kept, filed-open, on_ok}
 use Rattle.idl_server.proofs.workspace.Workspace.put_whole.Goals as goal

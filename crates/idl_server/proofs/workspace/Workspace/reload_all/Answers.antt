@@ -5,8 +5,8 @@ use Rattle.std.proofs.lemmas.Result.{on_ok_weaker}
 use Rattle.std.specs.Map.{lookup}
 use Rattle.std.specs.Result.{OnOk}
 use Rattle.std.specs.Str.{bytes_eq}
-use Rattle.idl_project.specs.Batch.{edit_of}
-use Rattle.idl_project.specs.Edits.{Edit}
+use Rattle.idl_inputs.specs.Batch.{edit_of}
+use Rattle.idl_inputs.specs.Edits.{Edit}
 use Rattle.idl_loader.specs.Holding.{Holding}
 use Rattle.idl_server.specs.Files.{AreFiled, told_by}
 use Rattle.idl_server.specs.Loading.{IsLoadedEdit, StaysOpen}

@@ -1,5 +1,5 @@
 use Rattle.std.proofs.Common.{◌≡◌, All, map}
-use Rattle.idl_project.specs.Batch.{edit_of}
+use Rattle.idl_inputs.specs.Batch.{edit_of}
 use Rattle.idl_server.specs.Files.{AreFiled, StaysCompiled, told_by}
 use Rattle.idl_server.specs.Loading.{IsLoadedEdit}
 use Rattle.idl_server.proofs.workspace.Workspace.reload_all.Given as goal

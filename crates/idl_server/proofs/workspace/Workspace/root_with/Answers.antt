@@ -1,7 +1,7 @@
 use Rattle.std.proofs.Common.{◌∙◌, Some, ap, sym}
 use Rattle.std.specs.List.{find, list_any}
 use Rattle.std.specs.Str.{bytes_eq}
-use Rattle.idl_project.specs.Asked.{asked_of}
+use Rattle.idl_inputs.specs.Asked.{asked_of}
 use Rattle.idl_server.specs.Named.{asks_for}
 use Rattle.idl_server.proofs.NamedLemmas.{find-end, find-here, find-past}
 use Rattle.idl_server.proofs.workspace.Workspace.root_with.Goals as goal

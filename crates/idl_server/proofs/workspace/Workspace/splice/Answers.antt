@@ -1,5 +1,5 @@
 use Rattle.std.proofs.Common.{◌≡◌, ◌∙◌, ℕ, List, Ok, OnOk, Some, ap, refl, subst}
-use Rattle.idl_project.specs.Edits.{Splice, after}
+use Rattle.idl_inputs.specs.Edits.{Splice, after}
 use Rattle.idl_project.specs.UpToDate.{State}
 use Rattle.idl_server.specs.Documents.{OnlyRefusedIsBehind}
 use Rattle.idl_server.specs.Files.{StaysBeside}

@@ -1,6 +1,6 @@
 use Rattle.std.proofs.Common.{◌≡◌, ◌∙◌, ℕ, List, Ok, false, refl, sym, subst}
 use Rattle.std.specs.Str.{bytes_eq}
-use Rattle.idl_project.specs.Edits.{Remove, after}
+use Rattle.idl_inputs.specs.Edits.{Remove, after}
 use Rattle.idl_server.proofs.FileLemmas.{gone, remove-alone, remove-lines}
 use Rattle.idl_server.proofs.WorkspaceLemmas.{beside-both, beside-edited, beside-kept, closed-kept, on_ok}
 use Rattle.idl_server.proofs.workspace.Workspace.take_out.Goals as goal

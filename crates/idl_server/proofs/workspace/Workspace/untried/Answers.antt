@@ -2,7 +2,7 @@ use Rattle.std.proofs.Common.{◌≡◌, ◌∙◌, ℕ, All, List, None, subst,
 use Rattle.std.proofs.lemmas.List.Elements.{All-nil}
 use Rattle.std.specs.Map.{lookup}
 use Rattle.std.specs.Str.{bytes_eq}
-use Rattle.idl_project.specs.Project.{is_root}
+use Rattle.idl_inputs.specs.Project.{is_root}
 use Rattle.idl_server.specs.Files.{AreTriedBy}
 use Rattle.idl_server.proofs.RootLemmas.{each-among}
 use Rattle.idl_server.proofs.workspace.Workspace.untried.Goals as goal

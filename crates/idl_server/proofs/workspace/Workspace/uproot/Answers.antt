@@ -1,7 +1,7 @@
 use Rattle.std.proofs.Common.{◌≡◌, ◌∙◌, ℕ, IsTrue, List, Ok, false, refl, subst, sym}
 use Rattle.idl_source.specs.names.Name.{is_name}
-use Rattle.idl_project.specs.Edits.{DropRoot, after}
-use Rattle.idl_project.specs.Project.{is_root}
+use Rattle.idl_inputs.specs.Edits.{DropRoot, after}
+use Rattle.idl_inputs.specs.Project.{is_root}
 use Rattle.idl_server.proofs.CoveredLemmas.{adds-none, drops-root, none-dropped, root-gone}
 use Rattle.idl_server.proofs.FileLemmas.{drop-inputs}
 use Rattle.idl_server.proofs.workspace.Workspace.uproot.Goals as goal

@@ -1,0 +1,9 @@
+pub mod AskedLemmas
+pub mod BankLemmas
+pub mod BatchLemmas
+pub mod CauseLemmas
+pub mod EditLemmas
+pub mod FileLemmas
+pub mod FormLemmas
+pub mod LimitLemmas
+pub mod RefiledLemmas

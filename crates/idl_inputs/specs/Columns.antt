@@ -1,0 +1,20 @@
+-- Where a token begins that is found in a project.
+use Rattle.std.specs.Prelude.{ℕ, List, Option, None, Some}
+use Rattle.std.specs.FinMap as map
+use Rattle.idl_fault.specs.declared.place.Place.{Place}
+use Rattle.idl_source.specs.texts.Texts.{Texts}
+use Rattle.idl_text.specs.Starts.{column_in}
+use Rattle.idl_inputs.specs.Project.{Project}
+
+-- how many bytes of its line are before a token of these files, by its place, its number there and
+-- its spelling
+abbrev pub column_at : Texts → Place → Option ℕ → List ℕ → Option ℕ
+column_at files place number text =
+    elim (map.get files place.file) [
+      | None ↦ None
+      | Some lines ↦ column_in lines place.line number text
+    ]
+
+-- the same in a project
+abbrev pub column_of : Project → Place → Option ℕ → List ℕ → Option ℕ
+column_of project place number text = column_at project.inputs.files place number text

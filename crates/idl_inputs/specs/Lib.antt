@@ -1,0 +1,10 @@
+pub mod Asked
+pub mod Bank
+pub mod Batch
+pub mod Columns
+pub mod Edits
+pub mod Made
+pub mod Project
+pub mod Refiled
+pub mod WellFormed
+pub mod WithinLimits

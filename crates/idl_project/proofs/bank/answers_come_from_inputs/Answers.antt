@@ -1,7 +1,0 @@
-use Rattle.std.proofs.Common.{refl}
-use Rattle.idl_project.specs.Bank.{bank_of}
-use Rattle.idl_project.proofs.bank.answers_come_from_inputs.Goals as goal
-
-pub returns : goal.returns
-unfolding bank_of
-returns c = λ inputs. record { by_name = λ name. refl; listed = refl }

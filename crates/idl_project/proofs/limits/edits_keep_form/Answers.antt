@@ -1,8 +1,0 @@
-use Rattle.idl_project.proofs.FormLemmas.{none-formed, after-formed}
-use Rattle.idl_project.proofs.limits.edits_keep_form.Goals as goal
-
-pub returns-clause-first : goal.returns-clause-first
-returns-clause-first c = none-formed
-
-pub returns-clause-kept : goal.returns-clause-kept
-returns-clause-kept c = after-formed
