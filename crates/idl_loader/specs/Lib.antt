@@ -1,2 +1,4 @@
 pub mod Exit
+pub mod Gathering
 pub mod Holding
+pub mod Lines

@@ -15,7 +15,7 @@ use Rattle.clap.specs.declared.builder.action.ArgAction.TheVariants as action
 use Rattle.clap.specs.declared.builder.value_parser.ValueParser.{ValueParser}
 use Rattle.clap.specs.declared.error.kind.ErrorKind.{ErrorKind}
 use Rattle.clap.specs.declared.error.kind.ErrorKind.TheVariants as kind
-use Rattle.idl_program.specs.Parsed.{IsDisplay, IsRefusal}
+use Rattle.idl_driver.specs.Parsed.{IsDisplay, IsRefusal}
 use Rattle.idl_program.specs.Words.{AreWrong, IsRequestOf, faults_in, idlc}
 use Rattle.idl_program.specs.declared.request.CompilerRequest.{CompilerRequest}
 use Rattle.idl_program.specs.declared.request.CompilerRequest.TheVariants.{Compile, Serve, Show}

@@ -1,17 +1,15 @@
 -- What the program's words are to clap.
-use Rattle.std.proofs.Common.{◌≡◌, ◌∙◌, ◌∷◌, List, [], Option, None, Some, true, ap, inl, map, option_map, refl, subst, sym, unwrap_or}
+use Rattle.std.proofs.Common.{◌≡◌, ◌∙◌, ◌∷◌, List, [], true, ap, inl, map, refl, subst, sym}
 use Rattle.std.specs.Borrow.{Bor}
-use Rattle.clap.specs.Words.{App, Row, Text, fault_of, found_of, is_simple_and_free, matched_of, matches_of, raw_values, rows_of}
+use Rattle.clap.specs.Words.{App, Row, Text, fault_of, found_of, is_simple_and_free, matches_of, rows_of}
 use Rattle.clap.specs.declared.error.kind.ErrorKind.{ErrorKind}
 use Rattle.clap.specs.declared.parser.matches.ArgMatches.{ArgMatches}
-use Rattle.clap.specs.declared.parser.matches.Found.{Found}
-use Rattle.clap.proofs.WalkLemmas.{raw_values-rows}
-use Rattle.idl_program.specs.Parsed.{IsParsedBy, IsRefusal, SaysWrong, Tells}
-use Rattle.idl_program.specs.Words.{AreWrong, faults_in, found_in, idlc, values_of}
-use Rattle.idl_program.specs.declared.words.ParsedWords.{ParsedWords}
-use Rattle.idl_program.specs.declared.words.ParsedWords.TheVariants as parsed
-use Rattle.idl_program.specs.declared.words.WordsFault.{WordsFault}
-use Rattle.idl_program.specs.declared.words.WordsFault.TheVariants.{Wrong, NoMemory}
+use Rattle.idl_driver.specs.Parsed.{IsParsedBy, IsRefusal, SaysWrong, Tells}
+use Rattle.idl_program.specs.Words.{AreWrong, faults_in, found_in, idlc}
+use Rattle.idl_driver.specs.declared.words.ParsedWords.{ParsedWords}
+use Rattle.idl_driver.specs.declared.words.ParsedWords.TheVariants as parsed
+use Rattle.idl_driver.specs.declared.words.WordsFault.{WordsFault}
+use Rattle.idl_driver.specs.declared.words.WordsFault.TheVariants.{Wrong, NoMemory}
 
 pub idlc_is_free : is_simple_and_free idlc ≡ true
 unfolding idlc
@@ -34,21 +32,6 @@ told app words sort is tells = subst (λ (a : App). Tells sort (fault_of a words
 pub refused : (app : App) (words : List Text) (fault : WordsFault) → app ≡ idlc → SaysWrong (Tells IsRefusal (fault_of app words)) fault → SaysWrong (AreWrong words) fault
 refused app words (Wrong text) is tells = inl (told app words IsRefusal is tells)
 refused app words NoMemory is tells = tt
-
--- the values that a getter gives
-pub values_given : (f : Found) (id : Text) (given : Option (Bor (List (Bor Text)))) → option_map (λ s. map (λ v. v.now) s.now) given ≡ option_map raw_values (matched_of f id)
-    → unwrap_or (option_map (λ s. map (λ v. v.now) s.now) given) [] ≡ values_of id (rows_of f)
-values_given f id given e = ap (λ (o : Option (List Text)). unwrap_or o []) (e ∙ raw_values-rows f id)
-
-pub some_given : (f : Found) (id : Text) (o : Option (Bor (List (Bor Text)))) (given : Bor (List (Bor Text))) → o ≡ Some given
-    → option_map (λ s. map (λ v. v.now) s.now) o ≡ option_map raw_values (matched_of f id) → map (λ v. v.now) given.now ≡ values_of id (rows_of f)
-some_given f id o given is e =
-    sym (ap (λ (p : Option (Bor (List (Bor Text)))). unwrap_or (option_map (λ s. map (λ v. v.now) s.now) p) []) is) ∙ values_given f id o e
-
-pub none_given : (f : Found) (id : Text) (o : Option (Bor (List (Bor Text)))) → o ≡ None
-    → option_map (λ s. map (λ v. v.now) s.now) o ≡ option_map raw_values (matched_of f id) → [] ≡ values_of id (rows_of f)
-none_given f id o is e =
-    sym (ap (λ (p : Option (Bor (List (Bor Text)))). unwrap_or (option_map (λ s. map (λ v. v.now) s.now) p) []) is) ∙ values_given f id o e
 
 -- a list is empty where its texts are
 pub none_of : (xs : List (Bor Text)) → map (λ v. v.now) xs ≡ [] → xs ≡ []

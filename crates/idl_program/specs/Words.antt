@@ -1,39 +1,19 @@
 -- What the words behind the program's name ask for: the options that there are, and what each word
 -- is to them by clap's `matches_of`, or what is wrong with the words by its `fault_of`.
-use Rattle.std.specs.Prelude.{◌≡◌, ◌≢◌, ◌⊎◌, ◌<◌, ◌≤◌, ℕ, List, [], ◌∷◌, ◌++◌, Some, Bool, true, false, codes, length, map, nat_eq, nat_lt, unwrap_or}
+use Rattle.std.specs.Prelude.{◌≡◌, ◌≢◌, ◌⊎◌, ◌<◌, ◌≤◌, ℕ, List, [], ◌∷◌, ◌++◌, Some, Bool, true, false, codes, length, nat_eq}
 use Rattle.std.specs.List.{slice_split}
-use Rattle.clap.specs.Words.{App, Kinds, Row, Rule, Text, all_of, count_of, fault_of, matches_of, new_app, new_rule, with_rule}
+use Rattle.clap.specs.Words.{App, Kinds, Row, Rule, Text, fault_of, matches_of, new_app, new_rule}
 use Rattle.clap.specs.Simple.{on_top}
 use Rattle.clap.specs.declared.builder.action.ArgAction.{ArgAction}
-use Rattle.clap.specs.declared.builder.action.ArgAction.TheVariants.{Append, Count, Help, Version}
-use Rattle.idl_program.specs.Parsed.{IsDisplay, IsRefusal, Tells}
-use Rattle.idl_program.specs.declared.request.Options.{Options}
+use Rattle.clap.specs.declared.builder.action.ArgAction.TheVariants.{Help, Version}
+use Rattle.idl_driver.specs.Parsed.{IsDisplay, IsRefusal, Tells}
+use Rattle.idl_driver.specs.Words.{AreOptionsOf, file_rule, flag_rule, option_rules, stands, values_of, with_rules}
 use Rattle.idl_program.specs.declared.request.CompilerRequest.{CompilerRequest}
 use Rattle.idl_program.specs.declared.request.CompilerRequest.TheVariants.{Show, Serve, Compile}
-
--- an option of one letter with a value, which may stand again
-abbrev pub option_rule : Text → ℕ → Rule
-option_rule id letter =
-    record (new_rule id) { short = Some letter; action = Some Append; value_names = 1 }
-
--- an option without a value, which may stand again
-abbrev pub flag_rule : Text → Rule
-flag_rule id = record (new_rule id) { action = Some Count }
 
 -- an option `--ID` that is answered with a text
 abbrev pub text_rule : Text → ArgAction → Rule
 text_rule id text = record (new_rule id) { long = Some id; action = Some text }
-
--- words that are no option's
-abbrev pub file_rule : Rule
-file_rule = record (new_rule (codes "file")) { action = Some Append; value_names = 1 }
-
--- `-D`, `-U`, `-I`
-abbrev pub option_rules : List Rule
-option_rules = option_rule (codes "define") 68
-    ∷ option_rule (codes "undefine") 85
-    ∷ option_rule (codes "directory") 73
-    ∷ []
 
 -- `-d`, `--listing`, `--session`, `--help`, `--version`
 abbrev pub flag_rules : List Rule
@@ -53,10 +33,6 @@ bare = on_top (λ top. record top {
   disable_version_flag = true;
 }) (new_app (codes "idlc"))
 
-abbrev pub with_rules : App → List Rule → App
-with_rules app [] = app
-with_rules app (rule ∷ rules) = with_rules (with_rule app rule) rules
-
 -- the program
 unfoldable pub idlc : App
 idlc = with_rules bare (option_rules ++ flag_rules ++ file_rule ∷ [])
@@ -71,23 +47,6 @@ faults_in words = fault_of idlc words
 -- words that stand in a text, parted by blanks
 abbrev pub words_in : List ℕ → List Text
 words_in text = slice_split (λ b. nat_eq b 32) text
-
--- the values that stand for an option, in the order of the words
-abbrev pub values_of : Text → List Row → List Text
-values_of id rows = unwrap_or (all_of id rows) []
-
--- an option stands among the words
-abbrev pub stands : Text → List Row → Bool
-stands id rows = nat_lt 0 (count_of id rows)
-
--- what is asked for of files
-pub record AreOptionsOf (rows : List Row) (options : Options) : Type 0 where
-  pub defines : map (λ w. w.now) options.defines.items ≡ values_of (codes "define") rows
-  pub undefines : map (λ w. w.now) options.undefines.items ≡ values_of (codes "undefine") rows
-  pub directories : map (λ w. w.now) options.directories.items ≡ values_of (codes "directory") rows
-  pub files : map (λ w. w.now) options.files.items ≡ values_of (codes "file") rows
-  pub dump : options.shows_dump ≡ stands (codes "dump") rows
-  pub listing : options.shows_listing ≡ stands (codes "listing") rows
 
 -- clap takes the words, and whether they ask to serve commands
 abbrev pub AreTaken : List Text → Bool → Type 0

@@ -5,9 +5,10 @@ ghost use Rattle.clap.specs.Words.{Text};
 ghost use Rattle.clap.specs.declared.error.kind.ErrorKind.TheVariants.{DisplayHelp, DisplayVersion, InvalidValue, TooManyValues, UnknownArgument};
 ghost use Rattle.idl_inputs.specs.Project.{Project, is_root};
 ghost use Rattle.idl_session.specs.idl_project.UpToDate.{diagnostics_of, dump_of, is_faulty_of, listing_of};
-ghost use Rattle.idl_program.specs.Compiled.{dump_in, errors_in, has_errors, listing_in};
+ghost use Rattle.idl_driver.specs.Compiled.{dump_in, errors_in, has_errors, listing_in};
+ghost use Rattle.idl_driver.specs.Words.{stands, values_of};
 ghost use Rattle.idl_program.specs.declared.request.CompilerRequest.{CompilerRequest};
-ghost use Rattle.idl_program.specs.Words.{AreWrong, IsRequestOf, faults_in, files_in, found_in, stands, values_of, words_in};
+ghost use Rattle.idl_program.specs.Words.{AreWrong, IsRequestOf, faults_in, files_in, found_in, words_in};
 
 /// Words have one fault at most, so that wrong words ask for nothing. This does nothing: it carries the laws.
 pub fn single_fault()

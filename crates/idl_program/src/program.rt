@@ -2,34 +2,22 @@
 
 ghost use Rattle.std.specs.Prelude.{◌≡◌, ◌≢◌, ◌≤◌, ◌<◌, ◌+◌, ◌-◌, ◌^◌, IfOk, OnOk, map};
 ghost use Rattle.std.specs.List.{flat_map};
-ghost use Rattle.idl_session.specs.replies.Replies.{whole_line};
+ghost use Rattle.idl_loader.specs.Lines.{whole_line};
 ghost use Rattle.idl_source.specs.devices.Device.{append};
 ghost use Rattle.idl_program.specs.Compiled.{IsCompiled};
 ghost use Rattle.idl_program.specs.Rows.{AreShown, output_of};
 ghost use Rattle.idl_program.specs.Served.{IsDone};
 ghost use Rattle.idl_program.specs.Words.{IsRequestOf};
 
-use crate::compilation::compile_files;
-use crate::failure::ProgramFailure;
-use crate::request::{CompilerRequest, Options, request_of};
-use idl_loader::{Loader, Status};
+use crate::request::{CompilerRequest, request_of};
+use idl_driver::{Devices, Options, ProgramFailure, compile_files};
+use idl_loader::{Loader, Status, write_lines};
 use idl_session::idl_project::CompiledRoot;
-use idl_session::{Session, Sink, Source, WriteFailed, run, write_all, write_lines};
+use idl_session::{Session, run};
+use idl_source::devices::{WriteFailed, write_all};
+use idl_source::{Sink, Source};
 use std::alloc::Global;
 use std::mem::forget;
-
-/// What a program reads and writes.
-#[derive(Drop)]
-pub struct Devices<L, S, O, E> {
-    /// Where files come from.
-    pub loader: L,
-    /// Where commands and messages come from.
-    pub source: S,
-    /// Where dumps, listings and answers go.
-    pub output: O,
-    /// Where errors go, and why the program fails.
-    pub errors: E,
-}
 
 /// Does what the words behind the program's name ask for, and answers how the program ends.
 pub fn run_program<L: Loader, S: Source, O: Sink, E: Sink>(

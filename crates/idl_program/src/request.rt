@@ -2,30 +2,13 @@
 
 ghost use Rattle.std.specs.Prelude.{◌≡◌, IfErr, IfOk, map, false, []};
 ghost use Rattle.clap.specs.Words.{app_of, found_of, rows_of, rule_of};
-ghost use Rattle.clap.specs.declared.builder.command.Command.TheViews.{out-Command as fields_of};
-ghost use Rattle.idl_program.specs.Parsed.{SaysWrong};
-ghost use Rattle.idl_program.specs.Words.{AreOptionsOf, AreWrong, IsRequestOf, bare, faults_in, flag_rule, flag_rules, found_in, idlc, option_rule, option_rules, text_rule, values_of, with_rules};
+ghost use Rattle.idl_driver.specs.Parsed.{SaysWrong};
+ghost use Rattle.idl_driver.specs.Words.{flag_rule, with_rules};
+ghost use Rattle.idl_program.specs.Words.{AreWrong, IsRequestOf, bare, faults_in, flag_rules, found_in, idlc, text_rule};
 
-use crate::words::{ParsedWords, WordsFault, parse_words};
 use clap::{Arg, ArgAction, ArgMatches, Command};
+use idl_driver::{Options, ParsedWords, WordsFault, options_of, parse_words, with_options};
 use std::alloc::{AllocError, Global};
-
-/// What is to be compiled and shown.
-#[derive(Drop)]
-pub struct Options<'a> {
-    /// Each `NAME` or `NAME=VALUE` of `-D`.
-    pub defines: Vec<&'a str>,
-    /// Each name of `-U`.
-    pub undefines: Vec<&'a str>,
-    /// Each directory of `-I`.
-    pub directories: Vec<&'a str>,
-    /// The files that are roots.
-    pub files: Vec<&'a str>,
-    /// Whether `-d` stands there.
-    pub shows_dump: bool,
-    /// Whether `--listing` stands there.
-    pub shows_listing: bool,
-}
 
 /// What the words ask for.
 #[derive(Drop)]
@@ -107,23 +90,6 @@ fn bare<'a>(alloc: Global) -> Command<'a>
         )
 }
 
-/// A command with the options that say what files are compiled over: `-D`, `-U` and `-I`.
-pub fn with_options<'a>(alloc: Global, command: Command<'a>) -> Result<Command<'a>, AllocError>
-    ensures rules { IfOk result (λ more.
-        app_of more ≡ with_rules (app_of command.entry) option_rules) }
-    ensures local { IfOk result (λ more.
-        (fields_of more).has_globals ≡ (fields_of command.entry).has_globals) }
-{
-    command
-        .arg(valued(alloc, "define", 'D', "NAME[=VALUE]").help(
-            "Defines a macro, with the body 1 where there is no =VALUE",
-        ))?
-        .arg(valued(alloc, "undefine", 'U', "NAME").help("Takes a macro of -D out"))?
-        .arg(valued(alloc, "directory", 'I', "DIRECTORY").help(
-            "Searches included files there, too",
-        ))
-}
-
 // A command with the options that have none.
 fn with_flags<'a>(alloc: Global, command: Command<'a>) -> Result<Command<'a>, AllocError>
     ensures { IfOk result (λ more. app_of more ≡ with_rules (app_of command.entry) flag_rules) }
@@ -148,17 +114,6 @@ fn with_flags<'a>(alloc: Global, command: Command<'a>) -> Result<Command<'a>, Al
         .arg(text(alloc, "version", ArgAction::Version).help("Shows the version"))
 }
 
-// An option with a value, which may stand again.
-fn valued<'a>(alloc: Global, id: &'a str, short: char, value: &'a str) -> Arg<'a>
-    ensures rule { rule_of result ≡ option_rule id.now short }
-    ensures global { result.global ≡ false }
-{
-    Arg::new(alloc, id)
-        .short(short)
-        .value_name(value)
-        .action(ArgAction::Append)
-}
-
 // An option without value, which may stand again.
 fn flag<'a>(alloc: Global, id: &'a str) -> Arg<'a>
     ensures rule { rule_of result ≡ flag_rule id.now }
@@ -173,33 +128,4 @@ fn text<'a>(alloc: Global, id: &'a str, action: ArgAction) -> Arg<'a>
     ensures global { result.global ≡ false }
 {
     Arg::new(alloc, id).long(id).action(action)
-}
-
-/// What the options of a command and its FILEs ask for, of those that it has.
-pub fn options_of<'a>(alloc: Global, matches: &ArgMatches<'a>) -> Result<Options<'a>, AllocError>
-    ensures { IfOk result (AreOptionsOf (rows_of (found_of matches.now))) }
-{
-    Ok(Options {
-        defines: values_of(alloc, matches, "define")?,
-        undefines: values_of(alloc, matches, "undefine")?,
-        directories: values_of(alloc, matches, "directory")?,
-        files: values_of(alloc, matches, "file")?,
-        shows_dump: matches.get_count("dump") > 0,
-        shows_listing: matches.get_count("listing") > 0,
-    })
-}
-
-/// The values that stand for an option, in the order of the words.
-pub fn values_of<'a>(
-    alloc: Global,
-    matches: &ArgMatches<'a>,
-    id: &str,
-) -> Result<Vec<&'a str>, AllocError>
-    ensures { IfOk result (λ values.
-        map (λ v. v.now) values.items ≡ values_of id.now (rows_of (found_of matches.now))) }
-{
-    match matches.get_strs(id) {
-        Some(given) => Vec::from_slice(alloc, given),
-        None => Ok(Vec::new(alloc)),
-    }
 }

@@ -1,7 +1,6 @@
 pub mod AnnouncedLemmas
 pub mod CompleteLemmas
 pub mod HeadingLemmas
-pub mod ReplyLemmas
 pub mod RunLemmas
 pub mod ServeLemmas
 pub mod SearchLemmas

@@ -15,9 +15,9 @@ use Rattle.idl_session.specs.Requests as request
 use Rattle.idl_session.specs.Serving.{Standing, Serves, SendsReply, IsCut, Served, TakesCommands, commands_left, moment_of, to_come}
 use Rattle.idl_session.specs.Stopping.{Moment, IsLeft}
 use Rattle.idl_session.specs.Streams.{Stream, TakesLine, TakesLines, FailsWithin, IsTakenBy, IsOver, onto, unread}
-use Rattle.idl_session.specs.declared.stop.Stop.{Stop}
-use Rattle.idl_session.specs.declared.stop.Stop.TheVariants.{ReadFailed, WriteFailed}
-use Rattle.idl_session.proofs.ReplyLemmas.{append-none}
+use Rattle.idl_loader.specs.declared.stop.Stop.{Stop}
+use Rattle.idl_loader.specs.declared.stop.Stop.TheVariants.{ReadFailed, WriteFailed}
+use Rattle.idl_loader.proofs.ReplyLemmas.{append-none}
 use Rattle.idl_session.proofs.StreamLemmas.{prepend-none, prepend-prepend, onto-none, onto-onto, lines-more, clash}
 use Rattle.idl_project.specs.UpToDate.{State}
 

@@ -7,8 +7,8 @@ use Rattle.idl_session.specs.Commands.{command_of}
 use Rattle.idl_session.specs.Requests.{Request, lines_taken}
 use Rattle.idl_session.specs.Serving.{Standing, Serves, IsCut, to_come}
 use Rattle.idl_session.specs.Streams.{Stream, TakesLines}
-use Rattle.idl_session.specs.declared.stop.Stop.{Stop}
-use Rattle.idl_session.specs.declared.stop.Stop.TheVariants.{WriteFailed}
+use Rattle.idl_loader.specs.declared.stop.Stop.{Stop}
+use Rattle.idl_loader.specs.declared.stop.Stop.TheVariants.{WriteFailed}
 use Rattle.idl_session.proofs.StreamLemmas.{lines-none}
 
 -- a request that takes no further line was served

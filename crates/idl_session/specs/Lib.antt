@@ -1,6 +1,5 @@
 pub mod Answers
 pub mod Commands
-pub mod Gathering
 pub mod Headings
 pub mod Lines
 pub mod Reading

@@ -8,8 +8,8 @@ use Rattle.idl_session.specs.Commands.{Command, command_of, commands_of, complet
 use Rattle.idl_session.specs.Requests.{Request, lines_taken}
 use Rattle.idl_session.specs.Stopping.{Moment}
 use Rattle.idl_session.specs.Streams.{Fed, Stream, stream_of, onto, IsTakenBy, TakesLines, FailsWithin}
-use Rattle.idl_session.specs.declared.stop.Stop.{Stop}
-use Rattle.idl_session.specs.declared.stop.Stop.TheVariants.{ReadFailed, WriteFailed}
+use Rattle.idl_loader.specs.declared.stop.Stop.{Stop}
+use Rattle.idl_loader.specs.declared.stop.Stop.TheVariants.{ReadFailed, WriteFailed}
 
 -- where a run stands, with what was read and not yet taken
 pub record Standing : Type 0 where

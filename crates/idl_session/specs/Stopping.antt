@@ -4,8 +4,8 @@ use Rattle.idl_source.specs.devices.Device.{prepend, append, WritesPart}
 use Rattle.idl_project.specs.UpToDate.{State}
 use Rattle.idl_session.specs.Answers.{Answers, Replies}
 use Rattle.idl_session.specs.Commands.{Command, commands_of, complete_commands}
-use Rattle.idl_session.specs.declared.stop.Stop.{Stop}
-use Rattle.idl_session.specs.declared.stop.Stop.TheVariants.{ReadFailed, WriteFailed}
+use Rattle.idl_loader.specs.declared.stop.Stop.{Stop}
+use Rattle.idl_loader.specs.declared.stop.Stop.TheVariants.{ReadFailed, WriteFailed}
 
 -- where a run stands: what the source still has and what has gone out, as far as the devices tell,
 -- and the session's state

@@ -7,7 +7,7 @@ ghost use Rattle.idl_session.specs.Stopping.{IsCounted, IsLeft};
 
 use crate::line_buffer::read_line;
 use crate::serve::{Input, serve};
-use crate::stop::Stop;
+use idl_loader::Stop;
 use idl_project::Session;
 use idl_source::{Sink, Source};
 

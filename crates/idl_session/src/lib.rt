@@ -4,8 +4,8 @@
 //! caller hands in where the bytes come from and where the replies go.
 //!
 //! `feed.rt` reads up to 4,096 bytes, `line_buffer.rt` takes a line in parts, `serve.rt` does one command, `rows.rt`
-//! the queries, `reply.rt` is the buffer. Which bytes are replies to which is a relation over the list of commands that
-//! the bytes make.
+//! the queries, `reply.rt` writes over a buffer of `idl_loader`. Which bytes are replies to which is a relation over the
+//! list of commands that the bytes make.
 #![tactic(auto)]
 
 mod announced;
@@ -18,9 +18,9 @@ mod line_buffer;
 mod reply;
 mod rows;
 mod serve;
-mod stop;
 
 pub use commands::run;
+pub use idl_loader::{Stop, write_lines};
 pub use idl_project;
 pub use idl_project::{
     DetailedEntry, Details, FileEdit, Finding, MAX_BODY, MAX_DIRECTORIES, MAX_MACROS, MAX_ROOTS,
@@ -29,8 +29,6 @@ pub use idl_project::{
 pub use idl_source::devices::{BufferSink, ReadFailed, SliceSource, WriteFailed, write_all};
 pub use idl_source::{Line, Name, Refusal, Sink, Source};
 pub use laws::complete_commands;
-pub use reply::write_lines;
-pub use stop::Stop;
 
 /// Bytes that a command line has at most.
 pub const MAX_COMMAND: usize = 8192;

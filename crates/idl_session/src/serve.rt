@@ -19,7 +19,7 @@ use crate::heading::{Heading, parse};
 use crate::line_buffer::LineBuffer;
 use crate::reply::{write_ok, write_refused, write_rows, write_work};
 use crate::rows::{Rows, ask};
-use crate::stop::Stop;
+use idl_loader::Stop;
 use idl_project::{Session, Work};
 use idl_source::devices::WriteFailed;
 use idl_source::{Name, Refusal, Sink, Source};

@@ -12,12 +12,12 @@ use Rattle.idl_source.specs.devices.Device.{append}
 use Rattle.idl_inputs.specs.Bank.{bank_of}
 use Rattle.idl_project.specs.Details.{details_over}
 use Rattle.idl_inputs.specs.Project.{Inputs}
-use Rattle.idl_program.specs.Compilations.{IsCompilation, HasCompiled}
-use Rattle.idl_program.specs.idl_loader.Holding.{Holding}
-use Rattle.idl_program.specs.Rows.{are_faulty}
-use Rattle.idl_program.specs.declared.request.Options.{Options}
-use Rattle.idl_program.specs.declared.compilation.Compilation.{Compilation}
-use Rattle.idl_program.specs.idl_loader.declared.status.Status.TheVariants.{Failed, Faulty, Sound}
+use Rattle.idl_driver.specs.Compilations.{IsCompilation, HasCompiled}
+use Rattle.idl_loader.specs.Holding.{Holding}
+use Rattle.idl_driver.specs.Rows.{are_faulty}
+use Rattle.idl_driver.specs.declared.options.Options.{Options}
+use Rattle.idl_driver.specs.declared.compilation.Compilation.{Compilation}
+use Rattle.idl_loader.specs.declared.status.Status.TheVariants.{Failed, Faulty, Sound}
 use Rattle.idl_tool.specs.Compared.{IsVersion, Version, all_trees, are_breaking, change_lines, changes_between, ending_of, has_error, is_breaking, seen, shown_between, trees_in}
 use Rattle.idl_tool.proofs.DepsLemmas.{ending-of}
 

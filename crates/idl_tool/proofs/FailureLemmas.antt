@@ -8,10 +8,10 @@ use Rattle.idl_source.specs.Refusal.{number_of}
 use Rattle.idl_source.specs.declared.refusal.Refusal.{Refusal}
 use Rattle.idl_source.specs.devices.Device.{append}
 use Rattle.idl_source.proofs.DeviceLemmas.{append-append}
-use Rattle.idl_program.specs.Messages.{message_of}
-use Rattle.idl_program.specs.declared.failure.FailureSubject.{FailureSubject}
-use Rattle.idl_program.specs.declared.failure.ProgramFailure.{ProgramFailure}
-use Rattle.idl_program.specs.declared.failure.ProgramFailure.TheVariants as program
+use Rattle.idl_driver.specs.Messages.{message_of}
+use Rattle.idl_driver.specs.declared.failure.FailureSubject.{FailureSubject}
+use Rattle.idl_driver.specs.declared.failure.ProgramFailure.{ProgramFailure}
+use Rattle.idl_driver.specs.declared.failure.ProgramFailure.TheVariants as program
 use Rattle.idl_tool.specs.Messages.{IsProgramMessage}
 
 -- a piece, and then what stands behind it

@@ -7,11 +7,11 @@ use Rattle.clap.specs.declared.builder.command.Command.{Command}
 use Rattle.clap.specs.declared.builder.command.Command.TheOpen.{Command-F}
 use Rattle.clap.specs.declared.error.kind.ErrorKind.{ErrorKind}
 use Rattle.clap.specs.declared.parser.matches.ArgMatches.{ArgMatches}
-use Rattle.idl_program.specs.Parsed.{IsParsedBy, IsRefusal, SaysWrong, Tells}
-use Rattle.idl_program.specs.declared.words.ParsedWords.{ParsedWords}
-use Rattle.idl_program.specs.declared.words.ParsedWords.TheVariants as parsed
-use Rattle.idl_program.specs.declared.words.WordsFault.{WordsFault}
-use Rattle.idl_program.specs.declared.words.WordsFault.TheVariants.{Wrong, NoMemory}
+use Rattle.idl_driver.specs.Parsed.{IsParsedBy, IsRefusal, SaysWrong, Tells}
+use Rattle.idl_driver.specs.declared.words.ParsedWords.{ParsedWords}
+use Rattle.idl_driver.specs.declared.words.ParsedWords.TheVariants as parsed
+use Rattle.idl_driver.specs.declared.words.WordsFault.{WordsFault}
+use Rattle.idl_driver.specs.declared.words.WordsFault.TheVariants.{Wrong, NoMemory}
 use Rattle.idl_tool.specs.Words.{AreWrong, entered_in, faults_in, idltool}
 
 abbrev pub is_global : Arg → Bool

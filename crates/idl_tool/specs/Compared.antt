@@ -7,19 +7,20 @@ use Rattle.idl_changes.specs.declared.change.Weight.{Weight}
 use Rattle.idl_changes.specs.declared.change.Weight.TheVariants.{Breaks}
 use Rattle.idl_repo.specs.declared.details.row_tree.RowTree.{RowTree}
 use Rattle.idl_project.specs.idl_root.declared.compiling.detailing.Details.{Details}
-use Rattle.idl_program.specs.idl_session.replies.Replies.{whole_line}
+use Rattle.idl_loader.specs.Lines.{whole_line}
 use Rattle.idl_source.specs.devices.Device.{append}
 use Rattle.idl_inputs.specs.Made.{rootless}
 use Rattle.idl_inputs.specs.Project.{Inputs}
 use Rattle.idl_inputs.specs.WellFormed.{IsWellFormed}
-use Rattle.idl_program.specs.Compiled.{Written, errors_in, is_faulty, lines_of}
-use Rattle.idl_program.specs.idl_loader.Holding.{Holding}
-use Rattle.idl_program.specs.Loading.{AreLoaded, AreComplete}
-use Rattle.idl_program.specs.Options.{AreAsked}
-use Rattle.idl_program.specs.declared.compilation.Compilation.{Compilation}
-use Rattle.idl_program.specs.idl_loader.declared.status.Status.{Status}
-use Rattle.idl_program.specs.idl_loader.declared.status.Status.TheVariants.{Failed, Faulty, Sound}
-use Rattle.idl_program.specs.declared.request.Options.{Options}
+use Rattle.idl_driver.specs.Written.{Written}
+use Rattle.idl_driver.specs.Compiled.{errors_in, is_faulty, lines_of}
+use Rattle.idl_loader.specs.Holding.{Holding}
+use Rattle.idl_driver.specs.Loading.{AreLoaded, AreComplete}
+use Rattle.idl_driver.specs.Options.{AreAsked}
+use Rattle.idl_driver.specs.declared.compilation.Compilation.{Compilation}
+use Rattle.idl_loader.specs.declared.status.Status.{Status}
+use Rattle.idl_loader.specs.declared.status.Status.TheVariants.{Failed, Faulty, Sound}
+use Rattle.idl_driver.specs.declared.options.Options.{Options}
 use Rattle.idl_tool.specs.Json.{trees_of}
 use Rattle.idl_tool.specs.declared.request.Diff.{Diff}
 

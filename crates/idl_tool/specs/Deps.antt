@@ -10,12 +10,13 @@ use Rattle.idl_inputs.specs.Bank.{bank_of}
 use Rattle.idl_inputs.specs.Made.{rootless}
 use Rattle.idl_inputs.specs.Project.{Inputs}
 use Rattle.idl_inputs.specs.WellFormed.{IsWellFormed}
-use Rattle.idl_program.specs.Compiled.{Written, errors_in, is_faulty, lines_of}
-use Rattle.idl_program.specs.idl_loader.Holding.{Holding}
-use Rattle.idl_program.specs.Loading.{AreLoaded, AreComplete}
-use Rattle.idl_program.specs.Options.{AreAsked}
-use Rattle.idl_program.specs.idl_loader.declared.status.Status.{Status}
-use Rattle.idl_program.specs.idl_loader.declared.status.Status.TheVariants.{Sound, Faulty}
+use Rattle.idl_driver.specs.Written.{Written}
+use Rattle.idl_driver.specs.Compiled.{errors_in, is_faulty, lines_of}
+use Rattle.idl_loader.specs.Holding.{Holding}
+use Rattle.idl_driver.specs.Loading.{AreLoaded, AreComplete}
+use Rattle.idl_driver.specs.Options.{AreAsked}
+use Rattle.idl_loader.specs.declared.status.Status.{Status}
+use Rattle.idl_loader.specs.declared.status.Status.TheVariants.{Sound, Faulty}
 use Rattle.idl_tool.specs.make_rules.Make.{IsMakeRule, Need, There, IfThere, Rule, rules_text}
 use Rattle.idl_tool.specs.declared.request.Deps.{Deps}
 

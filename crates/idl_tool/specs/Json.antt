@@ -23,13 +23,14 @@ use Rattle.idl_inputs.specs.Made.{rootless}
 use Rattle.idl_inputs.specs.Project.{Inputs}
 use Rattle.idl_inputs.specs.WellFormed.{IsWellFormed}
 use Rattle.idl_project.specs.declared.compile.CompiledRoot.{CompiledRoot}
-use Rattle.idl_program.specs.Compiled.{Written, is_faulty}
-use Rattle.idl_program.specs.idl_loader.Holding.{Holding}
-use Rattle.idl_program.specs.Loading.{AreLoaded, AreComplete}
-use Rattle.idl_program.specs.Options.{AreAsked}
-use Rattle.idl_program.specs.idl_loader.declared.status.Status.{Status}
-use Rattle.idl_program.specs.idl_loader.declared.status.Status.TheVariants.{Sound, Faulty}
-use Rattle.idl_program.specs.declared.request.Options.{Options}
+use Rattle.idl_driver.specs.Written.{Written}
+use Rattle.idl_driver.specs.Compiled.{is_faulty}
+use Rattle.idl_loader.specs.Holding.{Holding}
+use Rattle.idl_driver.specs.Loading.{AreLoaded, AreComplete}
+use Rattle.idl_driver.specs.Options.{AreAsked}
+use Rattle.idl_loader.specs.declared.status.Status.{Status}
+use Rattle.idl_loader.specs.declared.status.Status.TheVariants.{Sound, Faulty}
+use Rattle.idl_driver.specs.declared.options.Options.{Options}
 use Rattle.idl_tool.specs.Checked.{Told, column_of}
 
 -- a second place, with the column of its token

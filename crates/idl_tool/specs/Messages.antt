@@ -4,9 +4,9 @@ use Rattle.std.specs.String.{string_bytes}
 use Rattle.idl_explain.specs.Explained.{headline, topic_of}
 use Rattle.idl_explain.specs.declared.explanation.Explanation.{Explanation}
 use Rattle.idl_explain.specs.declared.explanation.Topic.TheVariants as topic
-use Rattle.idl_program.specs.Messages.{message_of, name_of, named_line}
-use Rattle.idl_program.specs.declared.failure.ProgramFailure.{ProgramFailure}
-use Rattle.idl_program.specs.declared.failure.ProgramFailure.TheVariants as program
+use Rattle.idl_driver.specs.Messages.{message_of, name_of, named_line}
+use Rattle.idl_driver.specs.declared.failure.ProgramFailure.{ProgramFailure}
+use Rattle.idl_driver.specs.declared.failure.ProgramFailure.TheVariants as program
 use Rattle.idl_source.specs.declared.refusal.Refusal.{Refusal}
 use Rattle.idl_source.specs.devices.Device.{append}
 use Rattle.idl_tool.specs.declared.failure.ToolFailure.{ToolFailure}

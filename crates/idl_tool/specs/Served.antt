@@ -2,11 +2,11 @@
 use Rattle.std.specs.Prelude.{◌≡◌, ℕ, List, Option}
 use Rattle.std.specs.Option.{option_map}
 use Rattle.std.specs.String.{string_bytes}
-use Rattle.idl_program.specs.Compiled.{Written}
-use Rattle.idl_program.specs.idl_loader.Holding.{Holding}
-use Rattle.idl_program.specs.Served.{IsShownText}
-use Rattle.idl_program.specs.idl_loader.declared.status.Status.{Status}
-use Rattle.idl_program.specs.idl_loader.declared.status.Status.TheVariants.{Sound}
+use Rattle.idl_driver.specs.Written.{Written}
+use Rattle.idl_loader.specs.Holding.{Holding}
+use Rattle.idl_driver.specs.Written.{IsShownText}
+use Rattle.idl_loader.specs.declared.status.Status.{Status}
+use Rattle.idl_loader.specs.declared.status.Status.TheVariants.{Sound}
 use Rattle.idl_tool.specs.Answered.{IsExplained}
 use Rattle.idl_tool.specs.Checked.{IsChecked}
 use Rattle.idl_tool.specs.Compared.{IsCompared}

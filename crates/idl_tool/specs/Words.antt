@@ -5,9 +5,9 @@ use Rattle.std.specs.Option.{option_map, option_to_list}
 use Rattle.clap.specs.Words.{App, Kinds, Row, Rule, Shape, Text, fault_of, first_of, new_app, new_rule, subcommand_of, with_subcommand}
 use Rattle.clap.specs.Simple.{new_shape, on_top}
 use Rattle.clap.specs.declared.builder.action.ArgAction.TheVariants.{Append, Set}
-use Rattle.idl_program.specs.Parsed.{IsDisplay, IsRefusal, Tells}
-use Rattle.idl_program.specs.Words.{AreOptionsOf, file_rule, flag_rule, option_rules, stands, values_of}
-use Rattle.idl_program.specs.declared.request.Options.{Options}
+use Rattle.idl_driver.specs.Parsed.{IsDisplay, IsRefusal, Tells}
+use Rattle.idl_driver.specs.Words.{AreOptionsOf, file_rule, flag_rule, option_rules, stands, values_of}
+use Rattle.idl_driver.specs.declared.options.Options.{Options}
 use Rattle.idl_tool.specs.declared.request.Deps.{Deps}
 use Rattle.idl_tool.specs.declared.request.Diff.{Diff}
 use Rattle.idl_tool.specs.declared.request.ToolRequest.{ToolRequest}

@@ -2,18 +2,19 @@
 
 ghost use Rattle.std.specs.Prelude.{◌≡◌, ◌++◌, ◌∷◌, ◌≤◌, ◌<◌, ◌+◌, ◌-◌, ◌^◌, [], All, IfOk, IsTrue, OnOk, codes, filter, flat_map, if◌then◌else◌, map};
 ghost use Rattle.idl_source.specs.devices.Device.{append};
-ghost use Rattle.idl_program.specs.Rows.{are_faulty, lines_with};
-ghost use Rattle.idl_program.specs.idl_loader.declared.status.Status.TheVariants.{Faulty, Sound};
+ghost use Rattle.idl_driver.specs.Rows.{are_faulty, lines_with};
+ghost use Rattle.idl_loader.specs.declared.status.Status.TheVariants.{Faulty, Sound};
 ghost use Rattle.idl_tool.specs.Deps.{IsServed, empty_rule, is_other, need_of, rules_in, stem, target_of};
 ghost use Rattle.idl_tool.specs.make_rules.Make.{IsMakeRule, is_make_name, need_text, rules_text, target_text};
 
 use crate::failure::ToolFailure;
 use crate::make_rules::{is_make_name, push_need, push_need_if_there, push_target};
 use crate::request::Deps;
-use idl_program::idl_session::{Sink, WriteFailed, write_all, write_lines};
-use idl_program::{Devices, FailureSubject, Loader, Status, compile_files};
+use idl_driver::{Devices, FailureSubject, compile_files};
+use idl_loader::{Loader, Status, write_lines};
 use idl_project::{CompiledRoot, Sources};
-use idl_source::Name;
+use idl_source::devices::{WriteFailed, write_all};
+use idl_source::{Name, Sink};
 use std::alloc::{AllocError, Global};
 use std::mem::forget;
 

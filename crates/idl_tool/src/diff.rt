@@ -4,9 +4,9 @@ ghost use Rattle.std.specs.Prelude.{◌≡◌, ◌≤◌, ◌<◌, ◌+◌, ◌-
 ghost use Rattle.idl_source.specs.devices.Device.{append};
 ghost use Rattle.idl_inputs.specs.Bank.{bank_of};
 ghost use Rattle.idl_project.specs.Details.{details_over};
-ghost use Rattle.idl_program.specs.idl_loader.declared.status.Status.TheVariants.{Faulty, Sound};
-ghost use Rattle.idl_program.specs.Compilations.{HasCompiled};
-ghost use Rattle.idl_program.specs.Rows.{are_faulty};
+ghost use Rattle.idl_loader.specs.declared.status.Status.TheVariants.{Faulty, Sound};
+ghost use Rattle.idl_driver.specs.Compilations.{HasCompiled};
+ghost use Rattle.idl_driver.specs.Rows.{are_faulty};
 ghost use Rattle.idl_tool.specs.Compared.{IsCompared, are_breaking, change_lines, changes_between, ending_of, has_error, is_breaking, seen, shown_between, trees_in};
 
 use crate::check::status_of;
@@ -15,11 +15,12 @@ use crate::failure::ToolFailure;
 use crate::json::trees_of;
 use crate::request::Diff;
 use idl_changes::{Change, Weight, changes};
-use idl_program::idl_session::{Sink, write_all};
-use idl_program::{Compilation, Devices, Loader, Status, compile_files};
+use idl_driver::{Compilation, Devices, compile_files};
+use idl_loader::{Loader, Status};
 use idl_project::{CompiledRoot, Details, Sources};
 use idl_repo::details::RowTree;
-use idl_source::Name;
+use idl_source::devices::write_all;
+use idl_source::{Name, Sink};
 use std::alloc::{AllocError, Global};
 use std::mem::forget;
 

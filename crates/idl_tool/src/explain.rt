@@ -6,7 +6,8 @@ ghost use Rattle.idl_tool.specs.Answered.{AreAllListed, AreListed, IsExplained, 
 
 use crate::failure::ToolFailure;
 use idl_explain::{Topic, all_codes, all_refusals, explanation_of, topic_named};
-use idl_program::idl_session::{Sink, write_all};
+use idl_source::Sink;
+use idl_source::devices::write_all;
 use std::alloc::{AllocError, Global};
 
 /// Writes what explains the code or the refusal that a word names; or of all of them a line each, without a word.

@@ -5,10 +5,11 @@ ghost use Rattle.idl_source.specs.devices.Device.{append};
 ghost use Rattle.idl_explain.specs.Explained.{said};
 ghost use Rattle.idl_tool.specs.Messages.{IsProgramTold, IsRefusalTold, IsTold};
 
+use idl_driver::{FailureSubject, ProgramFailure, WordsFault, tell_of};
 use idl_explain::{Topic, Words, explanation_of};
-use idl_program::idl_session::{Sink, WriteFailed, write_all};
-use idl_program::{FailureSubject, ProgramFailure, ServiceFault, WordsFault, tell_of};
-use idl_source::Refusal;
+use idl_loader::ServiceFault;
+use idl_source::devices::{WriteFailed, write_all};
+use idl_source::{Refusal, Sink};
 use itoa::Buffer;
 use std::alloc::AllocError;
 

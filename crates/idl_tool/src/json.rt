@@ -11,15 +11,16 @@ ghost use Rattle.idl_tool.specs.Json.{IsLineOf, IsLineWith, IsWritten, declared_
 use crate::check::{column_of, status_of};
 use crate::failure::ToolFailure;
 use idl_base::Seq;
+use idl_driver::{Devices, Options, compile_files};
 use idl_json::{Diagnostic, ListedRow, NamePlace, RootTold, SecondPlace, root_line};
-use idl_program::idl_session::{Sink, write_all};
-use idl_program::{Devices, Loader, Options, Status, compile_files};
+use idl_loader::{Loader, Status};
 use idl_project::{
     CompiledRoot, DeclaredPlace, DetailedEntry, Details, Finding, SitedToken, Sources, related_over,
 };
 use idl_related::Related;
 use idl_repo::details::RowTree;
-use idl_source::Name;
+use idl_source::devices::write_all;
+use idl_source::{Name, Sink};
 use std::alloc::{AllocError, Global};
 use std::mem::forget;
 

@@ -1,7 +1,7 @@
 //! The program over its words and devices.
 
 ghost use Rattle.std.specs.Prelude.{◌≡◌, ◌≢◌, ◌≤◌, ◌<◌, ◌+◌, ◌-◌, ◌^◌, IfOk, OnOk, map};
-ghost use Rattle.idl_program.specs.idl_loader.declared.status.Status.TheVariants as status;
+ghost use Rattle.idl_loader.specs.declared.status.Status.TheVariants as status;
 ghost use Rattle.idl_tool.specs.Served.{IsDone};
 ghost use Rattle.idl_tool.specs.Words.{IsRequestOf};
 ghost use Rattle.idl_tool.specs.declared.request.ToolRequest.{ToolRequest};
@@ -13,8 +13,10 @@ use crate::explain::explain;
 use crate::failure::ToolFailure;
 use crate::json::write_json;
 use crate::request::{ToolRequest, request_of};
-use idl_program::idl_session::{Sink, Source, write_all};
-use idl_program::{Devices, Loader, PathLoader, Service, Status};
+use idl_driver::Devices;
+use idl_loader::{Loader, PathLoader, Service, Status};
+use idl_source::devices::write_all;
+use idl_source::{Sink, Source};
 use std::alloc::Global;
 
 /// Does what the words behind the program's name ask for, and answers how the program ends. An editor is served by the service: the program

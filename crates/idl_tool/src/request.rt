@@ -4,12 +4,12 @@ ghost use Rattle.std.specs.Prelude.{◌≡◌, IfErr, IfOk, [], codes, false, ma
 ghost use Rattle.std.specs.Option.{option_to_list};
 ghost use Rattle.clap.specs.Words.{app_of, first_of, found_of, rows_of, rule_of, shape_of, subcommand_rows_of};
 ghost use Rattle.clap.specs.declared.builder.command.Command.TheViews.{out-Command as fields_of};
-ghost use Rattle.idl_program.specs.Parsed.{SaysWrong};
-ghost use Rattle.idl_program.specs.Words.{file_rule};
+ghost use Rattle.idl_driver.specs.Parsed.{SaysWrong};
+ghost use Rattle.idl_driver.specs.Words.{file_rule};
 ghost use Rattle.idl_tool.specs.Words.{AreDepsOf, AreWrong, AreDiffOf, AreSideOf, IsRequestOf, bare, check_shape, deps_shape, diff_shape, lsp_shape, entered_in, explain_shape, faults_in, generated_rule, idltool, json_shape, side_rule, target_rule, version_rule, word_rule};
 
 use clap::{Arg, ArgAction, ArgMatches, Command};
-use idl_program::{
+use idl_driver::{
     Options, ParsedWords, WordsFault, options_of, parse_words, values_of, with_options,
 };
 use std::alloc::{AllocError, Global};

@@ -1,18 +1,12 @@
 -- The replies to commands, each of whole lines.
-use Rattle.std.specs.Prelude.{ℕ, List, [], ◌∷◌, ◌++◌, length, codes, decimal, Option, None, Some, Result, Ok, Err, if◌then◌else◌}
+use Rattle.std.specs.Prelude.{ℕ, List, ◌++◌, length, codes, decimal, Option, None, Some, Result, Ok, Err, if◌then◌else◌}
 use Rattle.std.specs.List.{flat_map}
 use Rattle.idl_source.specs.names.Name.{is_name}
 use Rattle.idl_source.specs.Refusal.{number_of}
 use Rattle.idl_source.specs.declared.refusal.Refusal.{Refusal}
 use Rattle.idl_source.specs.declared.refusal.Refusal.TheVariants.{BadName, NoSuchRoot}
+use Rattle.idl_loader.specs.Lines.{number_line, whole_line}
 use Rattle.idl_project.specs.declared.work.Work.{Work}
-
-abbrev pub whole_line : List ℕ → List ℕ
-whole_line line = line ++ 10 ∷ []
-
--- a word, a number and the end of the line
-abbrev pub number_line : List ℕ → ℕ → List ℕ
-number_line word n = word ++ whole_line (decimal n)
 
 abbrev pub ok_reply : List ℕ
 ok_reply = whole_line (codes "ok")

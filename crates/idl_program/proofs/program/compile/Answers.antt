@@ -1,8 +1,8 @@
 use Rattle.std.proofs.Common.{List, subst}
 use Rattle.idl_session.specs.idl_project.declared.compile.CompiledRoot.{CompiledRoot}
-use Rattle.idl_program.specs.Compiled.{Written}
+use Rattle.idl_driver.specs.Written.{Written}
 use Rattle.idl_program.specs.Rows.{AreShown}
-use Rattle.idl_program.proofs.LoadingLemmas.{shown}
+use Rattle.idl_program.proofs.CompiledLemmas.{shown}
 use Rattle.idl_program.proofs.program.compile.Goals as goal
 
 pub returns-clause-compiled : goal.returns-clause-compiled

@@ -1,7 +1,7 @@
 use Rattle.std.proofs.Common.{[], refl, subst, sym}
 use Rattle.idl_inputs.specs.Project.{no_project}
 use Rattle.idl_session.specs.idl_project.Work.{no_work}
-use Rattle.idl_program.specs.Compiled.{Written}
+use Rattle.idl_driver.specs.Written.{Written}
 use Rattle.idl_program.specs.Served.{AreAnswered, IsDone}
 use Rattle.idl_loader.specs.declared.status.Status.TheVariants.{Sound}
 use Rattle.idl_program.specs.declared.request.CompilerRequest.{CompilerRequest}

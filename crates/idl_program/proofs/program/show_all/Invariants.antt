@@ -1,6 +1,7 @@
 use Rattle.std.proofs.Common.{◌≡◌, ◌||◌, drop}
 use Rattle.idl_source.specs.devices.Device.{append}
-use Rattle.idl_program.specs.Rows.{are_faulty, lines_with, output_of}
+use Rattle.idl_driver.specs.Rows.{are_faulty, lines_with}
+use Rattle.idl_program.specs.Rows.{output_of}
 use Rattle.idl_program.proofs.program.show_all.Given as goal
 
 abbrev pub invariant-roots : goal.invariant-roots

@@ -1,6 +1,6 @@
 use Rattle.std.proofs.Common.{◌≡◌, ◌∙◌, List, [], ap, arith, codes, nat_lt, rules, subst, sym}
 use Rattle.clap.specs.Words.{Row, count_of}
-use Rattle.idl_program.specs.Words.{AreOptionsOf}
+use Rattle.idl_driver.specs.Words.{AreOptionsOf}
 use Rattle.idl_program.proofs.RequestLemmas.{none_of}
 use Rattle.idl_program.proofs.request.chosen.Goals as goal
 

@@ -3,7 +3,8 @@ use Rattle.std.proofs.lemmas.Result.{IfOk-weaker}
 use Rattle.clap.specs.Words.{App, Rule, app_of, new_rule, rule_of, with_rule}
 use Rattle.clap.specs.declared.builder.action.ArgAction.TheVariants.{Append}
 use Rattle.clap.specs.declared.builder.arg.Arg.{Arg}
-use Rattle.idl_program.specs.Words.{bare, file_rule, flag_rules, idlc, option_rules, with_rules}
+use Rattle.idl_program.specs.Words.{bare, flag_rules, idlc}
+use Rattle.idl_driver.specs.Words.{file_rule, option_rules, with_rules}
 use Rattle.idl_program.proofs.request.command.Goals as goal
 
 abbrev is_global : Arg → Bool

@@ -1,9 +1,9 @@
 use Rattle.std.proofs.Common.{◌≡◌, ◌∙◌, ap, map, rules, subst}
 use Rattle.std.specs.Borrow.{Bor}
 use Rattle.clap.specs.Words.{Text, app_of, is_simple_and_free}
-use Rattle.idl_program.specs.Parsed.{IsDisplay, IsParsedBy}
-use Rattle.idl_program.specs.declared.words.ParsedWords.{ParsedWords}
-use Rattle.idl_program.specs.declared.words.ParsedWords.TheVariants as parsed
+use Rattle.idl_driver.specs.Parsed.{IsDisplay, IsParsedBy}
+use Rattle.idl_driver.specs.declared.words.ParsedWords.{ParsedWords}
+use Rattle.idl_driver.specs.declared.words.ParsedWords.TheVariants as parsed
 use Rattle.idl_program.proofs.RequestLemmas.{idlc_is_free, refused, taken, told}
 use Rattle.idl_program.proofs.request.request_of.Goals as goal
 

@@ -3,7 +3,8 @@ use Rattle.std.proofs.lemmas.Result.{IfOk-weaker}
 use Rattle.clap.specs.Words.{Rule, rule_of, with_rule}
 use Rattle.clap.specs.declared.builder.action.ArgAction.TheVariants.{Help, Version}
 use Rattle.clap.specs.declared.builder.arg.Arg.{Arg}
-use Rattle.idl_program.specs.Words.{flag_rule, text_rule}
+use Rattle.idl_driver.specs.Words.{flag_rule}
+use Rattle.idl_program.specs.Words.{text_rule}
 use Rattle.idl_program.proofs.request.with_flags.Goals as goal
 
 abbrev is_global : Arg → Bool

@@ -1,6 +1,6 @@
 use Rattle.std.proofs.Common.{◌∙◌, refl, arith}
 use Rattle.idl_session.proofs.AnnouncedLemmas.{gathering-none, gathering-more}
-use Rattle.idl_session.proofs.ReplyLemmas.{on_err}
+use Rattle.idl_loader.proofs.ReplyLemmas.{on_err}
 use Rattle.idl_session.proofs.StreamLemmas.{fails-later}
 use Rattle.idl_session.proofs.announced.read_announced.Goals as goal
 

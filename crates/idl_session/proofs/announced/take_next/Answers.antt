@@ -1,6 +1,6 @@
 use Rattle.std.proofs.Common.{◌≡◌, true, None, subst}
 use Rattle.idl_session.proofs.AnnouncedLemmas.{gathers-kept}
-use Rattle.idl_session.proofs.ReplyLemmas.{on_err}
+use Rattle.idl_loader.proofs.ReplyLemmas.{on_err}
 use Rattle.idl_session.specs.replies.Announced.{Gathers}
 use Rattle.idl_session.specs.Streams.{Fed, stream_of, IsOver, FailsWithin}
 use Rattle.idl_session.specs.declared.announced.Announced.{Announced}

@@ -3,8 +3,8 @@ use Rattle.std.proofs.lemmas.Result.{IfErr-weaker}
 use Rattle.idl_session.specs.Serving.{Standing, Served, moment_of}
 use Rattle.idl_session.specs.Stopping.{Moment, IsLeft}
 use Rattle.idl_session.specs.Streams.{Fed}
-use Rattle.idl_session.specs.declared.stop.Stop.{Stop}
-use Rattle.idl_session.specs.declared.stop.Stop.TheVariants.{ReadFailed}
+use Rattle.idl_loader.specs.declared.stop.Stop.{Stop}
+use Rattle.idl_loader.specs.declared.stop.Stop.TheVariants.{ReadFailed}
 use Rattle.idl_session.proofs.RunLemmas.{served-none, served-more, left-line, left-cut, start}
 use Rattle.idl_session.proofs.commands.run.Goals as goal
 

@@ -2,7 +2,7 @@ use Rattle.std.proofs.Common.{◌≡◌, ◌<◌, ◌++◌, ◌∷◌, ◌∙◌
 use Rattle.std.proofs.lemmas.List.{nil_from_length, take_all}
 use Rattle.idl_session.specs.Reading.{IsReading}
 use Rattle.idl_session.specs.Streams.{Stream, stream_of}
-use Rattle.idl_session.proofs.ReplyLemmas.{on_err}
+use Rattle.idl_loader.proofs.ReplyLemmas.{on_err}
 use Rattle.idl_session.proofs.SearchLemmas.{whole-line, line-before, newline-behind, line-all}
 use Rattle.idl_session.proofs.StreamLemmas.{fed-taken, fed-nearer, reading-more, reading-newline, reading-end, reading-fails}
 use Rattle.idl_session.proofs.line_buffer.read_line.Goals as goal

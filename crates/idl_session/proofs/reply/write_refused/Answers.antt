@@ -1,8 +1,9 @@
 use Rattle.std.proofs.Common.{◌≡◌, ◌++◌, ◌∙◌, List, ℕ, ap, subst, codes}
 use Rattle.std.proofs.lemmas.Result.{on_err_weaker}
-use Rattle.idl_session.specs.Gathering.{Sends}
-use Rattle.idl_session.specs.replies.Replies.{number_line, refused_reply}
-use Rattle.idl_session.proofs.ReplyLemmas.{sends-end-part}
+use Rattle.idl_loader.specs.Gathering.{Sends}
+use Rattle.idl_loader.specs.Lines.{number_line}
+use Rattle.idl_session.specs.replies.Replies.{refused_reply}
+use Rattle.idl_loader.proofs.ReplyLemmas.{sends-end-part}
 use Rattle.idl_session.proofs.reply.write_refused.Goals as goal
 
 pub returns-clause-part : goal.returns-clause-part

@@ -4,10 +4,11 @@ use Rattle.std.proofs.lemmas.Result.{on_err_weaker}
 use Rattle.std.proofs.lemmas.List.{take_all}
 use Rattle.std.proofs.lemmas.Option.{get_or_from_slice_get}
 use Rattle.idl_source.specs.devices.Device.{WritesPart}
-use Rattle.idl_session.specs.Gathering.{Sends}
-use Rattle.idl_session.specs.replies.Replies.{number_line, whole_line, rows_reply}
+use Rattle.idl_loader.specs.Gathering.{Sends}
+use Rattle.idl_loader.specs.Lines.{number_line, whole_line}
+use Rattle.idl_session.specs.replies.Replies.{rows_reply}
 use Rattle.idl_session.specs.replies.Rows.{rows_of}
-use Rattle.idl_session.proofs.ReplyLemmas.{on_err, part-front, sends-more, sends-part, sends-end-part, lines-more, lines-part}
+use Rattle.idl_loader.proofs.ReplyLemmas.{on_err, part-front, sends-more, sends-part, sends-end-part, lines-more, lines-part}
 use Rattle.idl_session.proofs.reply.write_rows.Goals as goal
 
 pub returns-in_err-push_counted-clause-part : goal.returns-in_err-push_counted-clause-part

@@ -1,7 +1,7 @@
 use Rattle.std.proofs.Common.{◌≡◌, ◌++◌, take, codes, length}
 use Rattle.std.specs.List.{flat_map}
-use Rattle.idl_session.specs.replies.Replies.{number_line, whole_line}
-use Rattle.idl_session.specs.Gathering.{Sends}
+use Rattle.idl_loader.specs.Lines.{number_line, whole_line}
+use Rattle.idl_loader.specs.Gathering.{Sends}
 use Rattle.idl_session.specs.replies.Rows.{rows_of}
 use Rattle.idl_session.proofs.reply.write_rows.Given as goal
 

@@ -2,9 +2,9 @@ use Rattle.std.proofs.Common.{◌++◌, ◌∷◌, [], List, ℕ, subst, codes}
 use Rattle.std.proofs.lemmas.Result.{on_err_weaker, on_ok_weaker}
 use Rattle.std.specs.Fmt.{decimal}
 use Rattle.idl_source.specs.devices.Device.{WritesPart}
-use Rattle.idl_session.specs.Gathering.{Sends}
+use Rattle.idl_loader.specs.Gathering.{Sends}
 use Rattle.idl_session.specs.replies.Replies.{work_reply}
-use Rattle.idl_session.proofs.ReplyLemmas.{on_err, part-front, sends-more, sends-part, sends-end, sends-end-part}
+use Rattle.idl_loader.proofs.ReplyLemmas.{on_err, part-front, sends-more, sends-part, sends-end, sends-end-part}
 use Rattle.idl_session.proofs.reply.write_work.Goals as goal
 
 pub returns-in_err-push_number-clause-part : goal.returns-in_err-push_number-clause-part

@@ -7,7 +7,7 @@ use Rattle.idl_session.specs.replies.Replies.{refused_reply, edit_reply, query_r
 use Rattle.idl_session.specs.Requests.{Malformed, Make, Ask, TellWork, request_kept}
 use Rattle.idl_session.specs.replies.Rows.{rows_for}
 use Rattle.idl_session.specs.Serving.{Standing}
-use Rattle.idl_session.specs.declared.stop.Stop.TheVariants.{WriteFailed}
+use Rattle.idl_loader.specs.declared.stop.Stop.TheVariants.{WriteFailed}
 use Rattle.idl_session.proofs.ServeLemmas.{serves-alone, cut-write}
 use Rattle.idl_session.proofs.serve.serve.Goals as goal
 

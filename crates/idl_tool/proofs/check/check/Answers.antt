@@ -1,7 +1,7 @@
 use Rattle.std.proofs.Common.{◌∙◌, ap, if◌then◌else◌, refl}
 use Rattle.idl_source.specs.devices.Device.{append}
-use Rattle.idl_program.specs.Rows.{are_faulty}
-use Rattle.idl_program.specs.idl_loader.declared.status.Status.TheVariants.{Faulty, Sound}
+use Rattle.idl_driver.specs.Rows.{are_faulty}
+use Rattle.idl_loader.specs.declared.status.Status.TheVariants.{Faulty, Sound}
 use Rattle.idl_tool.proofs.DepsLemmas.{ending-of}
 use Rattle.idl_tool.proofs.check.check.Goals as goal
 

@@ -1,5 +1,5 @@
 use Rattle.std.proofs.Common.{◌≡◌, drop}
-use Rattle.idl_program.specs.Rows.{are_faulty}
+use Rattle.idl_driver.specs.Rows.{are_faulty}
 use Rattle.idl_tool.proofs.check.status_of.Given as goal
 
 -- those before have no error

@@ -2,7 +2,7 @@ use Rattle.std.proofs.Common.{◌∙◌, ℕ, IsTrue, List, ap, sym, take}
 use Rattle.std.proofs.lemmas.List.{take_all}
 use Rattle.std.proofs.lemmas.List.Elements.{All-same}
 use Rattle.idl_tool.specs.make_rules.Make.{is_make_name}
-use Rattle.idl_program.proofs.IdlLoader.ListLemmas.{All-take_more}
+use Rattle.idl_loader.proofs.ListLemmas.{All-take_more}
 use Rattle.idl_tool.proofs.deps.refuse_names.Goals as goal
 
 pub names-preserved : goal.names-preserved

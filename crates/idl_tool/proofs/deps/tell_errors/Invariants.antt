@@ -1,6 +1,6 @@
 use Rattle.std.proofs.Common.{◌≡◌, ◌||◌, drop}
 use Rattle.idl_source.specs.devices.Device.{append}
-use Rattle.idl_program.specs.Rows.{are_faulty, lines_with}
+use Rattle.idl_driver.specs.Rows.{are_faulty, lines_with}
 use Rattle.idl_tool.proofs.deps.tell_errors.Given as goal
 
 -- what is left to be told is that of the roots that are left

@@ -1,7 +1,7 @@
 use Rattle.std.proofs.Common.{◌∙◌, ℕ, All, List, ap, flat_map, if◌then◌else◌, subst}
 use Rattle.idl_source.specs.devices.Device.{append}
-use Rattle.idl_program.specs.Rows.{are_faulty, lines_with}
-use Rattle.idl_program.specs.idl_loader.declared.status.Status.TheVariants.{Faulty, Sound}
+use Rattle.idl_driver.specs.Rows.{are_faulty, lines_with}
+use Rattle.idl_loader.specs.declared.status.Status.TheVariants.{Faulty, Sound}
 use Rattle.idl_tool.specs.make_rules.Make.{IsMakeRule, rules_text}
 use Rattle.idl_tool.specs.Deps.{rules_in}
 use Rattle.idl_tool.proofs.DepsLemmas.{ending-of, told-of}

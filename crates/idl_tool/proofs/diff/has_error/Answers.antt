@@ -1,5 +1,5 @@
 use Rattle.std.proofs.Common.{◌≡◌, ◌∙◌, ◌||◌, Bool, ap, sym}
-use Rattle.idl_program.specs.Rows.{are_faulty}
+use Rattle.idl_driver.specs.Rows.{are_faulty}
 use Rattle.idl_tool.proofs.DiffLemmas.{error-of}
 use Rattle.idl_tool.proofs.diff.has_error.Goals as goal
 

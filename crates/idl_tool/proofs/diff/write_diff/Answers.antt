@@ -1,8 +1,8 @@
 use Rattle.std.proofs.Common.{◌≡◌, ◌∙◌, ℕ, List, ap, ap₂, subst}
 use Rattle.idl_source.specs.devices.Device.{append}
-use Rattle.idl_program.specs.idl_loader.Holding.{Holding}
-use Rattle.idl_program.specs.Compiled.{errors_in, lines_of}
-use Rattle.idl_program.specs.Rows.{lines_with}
+use Rattle.idl_loader.specs.Holding.{Holding}
+use Rattle.idl_driver.specs.Compiled.{errors_in, lines_of}
+use Rattle.idl_driver.specs.Rows.{lines_with}
 use Rattle.idl_tool.specs.Compared.{IsVersion, seen}
 use Rattle.idl_tool.proofs.DepsLemmas.{told-of}
 use Rattle.idl_tool.proofs.DiffLemmas.{version-of}

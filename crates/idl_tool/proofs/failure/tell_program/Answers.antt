@@ -1,8 +1,8 @@
 use Rattle.std.proofs.Common.{ℕ, List, codes, subst, sym}
 use Rattle.std.proofs.lemmas.Result.{on_ok_weaker}
 use Rattle.std.specs.Result.{OnOk}
-use Rattle.idl_program.specs.Messages.{message_of}
-use Rattle.idl_program.specs.declared.failure.ProgramFailure.{ProgramFailure}
+use Rattle.idl_driver.specs.Messages.{message_of}
+use Rattle.idl_driver.specs.declared.failure.ProgramFailure.{ProgramFailure}
 use Rattle.idl_tool.specs.Messages.{IsProgramTold, IsRefusalTold}
 use Rattle.idl_tool.proofs.FailureLemmas.{plain}
 use Rattle.idl_tool.proofs.failure.tell_program.Goals as goal

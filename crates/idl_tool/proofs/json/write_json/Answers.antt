@@ -2,8 +2,8 @@ use Rattle.std.proofs.Common.{◌∙◌, ℕ, List, ap, if◌then◌else◌, map
 use Rattle.std.specs.List.{AllZip}
 use Rattle.idl_source.specs.devices.Device.{append}
 use Rattle.idl_project.specs.Compile.{compiled_root}
-use Rattle.idl_program.specs.Rows.{are_faulty}
-use Rattle.idl_program.specs.idl_loader.declared.status.Status.TheVariants.{Faulty, Sound}
+use Rattle.idl_driver.specs.Rows.{are_faulty}
+use Rattle.idl_loader.specs.declared.status.Status.TheVariants.{Faulty, Sound}
 use Rattle.idl_tool.specs.Json.{IsLineOf}
 use Rattle.idl_tool.proofs.DepsLemmas.{ending-of}
 use Rattle.idl_tool.proofs.json.write_json.Goals as goal

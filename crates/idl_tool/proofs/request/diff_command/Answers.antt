@@ -2,7 +2,7 @@ use Rattle.std.proofs.Common.{◌≡◌, ◌∙◌, ap, ap₂, codes}
 use Rattle.std.proofs.lemmas.Result.{IfOk-weaker}
 use Rattle.clap.specs.Words.{App, app_of, new_app, with_rule}
 use Rattle.clap.specs.Simple.{app_of_fields}
-use Rattle.idl_program.specs.Words.{option_rules, with_rules}
+use Rattle.idl_driver.specs.Words.{option_rules, with_rules}
 use Rattle.idl_tool.proofs.RequestLemmas.{has_globals_of, local-more, top_of}
 use Rattle.idl_tool.proofs.request.diff_command.Goals as goal
 

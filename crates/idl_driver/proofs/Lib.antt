@@ -1,0 +1,5 @@
+mod LoadingLemmas
+mod OptionLemmas
+mod ParsedLemmas
+mod ValueLemmas
+mod WordLemmas

@@ -1,0 +1,24 @@
+-- The files that options ask for, compiled.
+use Rattle.std.specs.Prelude.{◌≡◌, ℕ, List, map}
+use Rattle.idl_project.specs.Compile.{compiled_root}
+use Rattle.idl_inputs.specs.Made.{rootless}
+use Rattle.idl_inputs.specs.WellFormed.{IsWellFormed}
+use Rattle.idl_loader.specs.Holding.{Holding}
+use Rattle.idl_driver.specs.Loading.{AreLoaded, AreComplete}
+use Rattle.idl_driver.specs.Options.{AreAsked}
+use Rattle.idl_driver.specs.declared.compilation.Compilation.{Compilation}
+use Rattle.idl_driver.specs.declared.options.Options.{Options}
+
+-- each root has what it compiles to
+abbrev pub HasCompiled : Compilation → Type 0
+HasCompiled all = all.compiled.items ≡ map (compiled_root all.sources) all.roots.keys
+
+-- these are the files that the options ask for, over those that the loader tells of and within the
+-- limits, and what each compiles to
+pub record IsCompilation (told : List ℕ → Holding) (options : Options) (all : Compilation)
+    : Type 0 where
+  pub asked : AreAsked options all.sources all.roots.keys
+  pub formed : IsWellFormed (rootless all.sources)
+  pub loaded : AreLoaded told all.sources.files
+  pub complete : AreComplete told all.sources all.roots.keys
+  pub compiled : HasCompiled all

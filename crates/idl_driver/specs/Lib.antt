@@ -1,0 +1,10 @@
+pub mod Compilations
+pub mod Compiled
+pub mod Loading
+pub mod Messages
+pub mod Options
+pub mod Parsed
+pub mod Rows
+pub mod Tried
+pub mod Words
+pub mod Written

@@ -1,9 +1,0 @@
-use Rattle.std.proofs.Common.{◌≡◌, map, take}
-use Rattle.idl_session.specs.idl_project.Compile.{compiled_root}
-use Rattle.idl_program.proofs.loading.compile_each.Given as goal
-
-abbrev pub invariant-roots : goal.invariant-roots
-invariant-roots l = record {
-  rows : l.compiled.items ≡ map (compiled_root l.fn.sources) (take l.root-index l.roots);
-  same : l.sources ≡ l.fn.sources;
-}
