@@ -9,3 +9,6 @@ pub mod WrittenLemmas
 pub mod DigitLemmas
 pub mod UriLemmas
 pub mod FolderLemmas
+pub mod ChangeLemmas
+pub mod PlaceLemmas
+pub mod FoundLemmas

@@ -2,6 +2,9 @@ pub mod Columns
 pub mod Positions
 pub mod Changes
 pub mod Splices
+pub mod Places
 pub mod frames
 pub mod messages
 pub mod uris
+pub mod told
+pub mod documents

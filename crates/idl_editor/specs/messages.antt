@@ -3,3 +3,5 @@ pub mod Method
 pub mod Message
 pub mod Params
 pub mod Answers
+pub mod Items
+pub mod Said

@@ -22,11 +22,11 @@ use Rattle.idl_inputs.specs.Project.{Project, is_root, with_roots}
 use Rattle.idl_project.specs.UpToDate.{State, findings_of}
 use Rattle.idl_inputs.specs.WellFormed.{IsWellFormed}
 use Rattle.idl_project.specs.declared.compile.CompiledRoot.{CompiledRoot}
-use Rattle.idl_server.specs.Documents.{AreSameBeside, texts_of}
+use Rattle.idl_editor.specs.documents.Documents.{AreSameBeside, texts_of}
 use Rattle.idl_server.specs.Files.{IsKept}
 use Rattle.idl_server.specs.Named.{asks_for, root_with}
 use Rattle.idl_server.specs.Roots.{AddsNoRoot, AreCovered, AreRooted, IsCompiled, IsFull, IsOpen, IsRooted, IsThere, IsWaiting}
-use Rattle.idl_server.specs.declared.document.Document.{Document}
+use Rattle.idl_editor.specs.declared.documents.document.Document.{Document}
 use Rattle.idl_server.specs.declared.workspace.Workspace.{Workspace}
 
 -- ---- how many roots there are

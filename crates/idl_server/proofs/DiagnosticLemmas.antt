@@ -6,8 +6,8 @@ use Rattle.serde_json.specs.Data.{Data}
 use Rattle.serde_json.specs.View.{view}
 use Rattle.serde_json.specs.declared.value.Value.{Value}
 use Rattle.idl_finding.specs.declared.finding.Finding.{Finding}
-use Rattle.idl_server.specs.Found.{findings_in}
-use Rattle.idl_server.specs.declared.found.RootFinding.{RootFinding}
+use Rattle.idl_editor.specs.told.Found.{findings_in}
+use Rattle.idl_editor.specs.declared.told.found.RootFinding.{RootFinding}
 
 zip-push : (R : Finding → Data → Type 0) (fs : List Finding) (ds : List Data) (f : Finding) (d : Data) → AllZip R fs ds → R f d → AllZip R (fs ++ f ∷ []) (ds ++ d ∷ [])
 zip-push R [] [] f d are next = (next, tt)

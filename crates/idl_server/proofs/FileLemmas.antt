@@ -20,7 +20,7 @@ use Rattle.idl_loader.specs.Holding.{Holding}
 use Rattle.idl_loader.specs.Holding.{IsFileOf}
 use Rattle.idl_server.specs.Edited.{IsSameButFor}
 use Rattle.idl_server.specs.Loading.{IsLoadedEdit}
-use Rattle.idl_server.specs.declared.document.Document.{Document}
+use Rattle.idl_editor.specs.declared.documents.document.Document.{Document}
 
 -- a value that is reached is the one that it is said to be
 reached-same : {X : Type 0} (a b : X) (R : Type 0) → ◌≡◌ {A = Result X R} (Ok a) (Ok b) → a ≡ b

@@ -5,8 +5,9 @@ use Rattle.std.specs.Map.{lookup}
 use Rattle.std.specs.Option.{option_map}
 use Rattle.std.specs.Str.{bytes_eq}
 use Rattle.idl_inputs.specs.Project.{Project}
-use Rattle.idl_server.specs.Documents.{AreSameBeside, OnlyRefusedAreBehind, OnlyRefusedIsBehind, texts_of}
-use Rattle.idl_server.specs.declared.document.Document.{Document}
+use Rattle.idl_editor.specs.documents.Documents.{AreSameBeside, texts_of}
+use Rattle.idl_server.specs.Documents.{OnlyRefusedAreBehind, OnlyRefusedIsBehind}
+use Rattle.idl_editor.specs.declared.documents.document.Document.{Document}
 
 pub held-same : (project : Project) (old new : List (List ℕ × Document)) → new ≡ old → OnlyRefusedAreBehind project old new
 held-same project old new same = λ name. inl (λ i. lookup (bytes_eq name) (same i))

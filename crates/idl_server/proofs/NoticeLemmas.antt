@@ -1,6 +1,5 @@
 -- What a server takes in.
-use Rattle.std.proofs.Common.{◌≡◌, ◌∙◌, ◌+◌, ◌<◌, ◌++◌, ◌∷◌, [], ℕ, Bool, true, false, List, Option, None, Some, drop, get_or, if◌then◌else◌, is_some, length, map, option_and_then, refl, rules, sym, ap, subst, take}
-use Rattle.std.proofs.lemmas.List.{append_assoc, map-append, take-append-drop, take_more}
+use Rattle.std.proofs.Common.{◌≡◌, ◌∙◌, ℕ, Bool, true, false, List, Option, None, Some, if◌then◌else◌, is_some, option_and_then, refl, rules, sym, ap, subst}
 use Rattle.std.proofs.lemmas.Str.{IsUtf8-from_is_utf8, is_utf8-from_IsUtf8}
 use Rattle.std.specs.Borrow.{Bor}
 use Rattle.std.specs.Cmp.Lexicographic.{bytes_decides}
@@ -8,20 +7,18 @@ use Rattle.std.specs.Option.{option_map, unwrap_or}
 use Rattle.std.specs.Str.{IsUtf8, bytes_eq, is_utf8}
 use Rattle.serde_json.specs.Data.{Data, null}
 use Rattle.serde_json.specs.Read.{read}
-use Rattle.serde_json.specs.View.{items_of, items_view, view}
+use Rattle.serde_json.specs.View.{view}
 use Rattle.serde_json.specs.declared.value.Value.{Value, Null, the_lemmas}
 use Rattle.idl_editor.specs.messages.Message.{id_in, method_in, params_in, seen}
-use Rattle.idl_editor.specs.messages.Params.{both, told_in}
 use Rattle.idl_editor.specs.declared.messages.method.Method.{Method}
-use Rattle.idl_server.specs.Documents.{AreSameBeside, HaveTexts, TextChange, Told, texts_of, with_text}
+use Rattle.idl_editor.specs.documents.Documents.{AreSameBeside, HaveTexts, Told, texts_of, with_text}
 use Rattle.idl_server.specs.Files.{IsKept}
-use Rattle.idl_server.specs.Notices.{all_changes, json_of, told_by_message, told_by_notice}
+use Rattle.idl_editor.specs.documents.Notices.{json_of, told_by_message, told_by_notice}
 use Rattle.idl_server.specs.Server.{HasTaken, OnlySets, if_running, told_to}
-use Rattle.idl_server.specs.declared.document.Document.{Document}
+use Rattle.idl_editor.specs.declared.documents.document.Document.{Document}
 use Rattle.idl_server.specs.declared.server.Phase.{Phase}
 use Rattle.idl_server.specs.declared.server.Phase.TheVariants.{Running, ShutDown, Waiting}
 use Rattle.idl_server.specs.declared.server.Server.{Server}
-use Rattle.idl_server.specs.declared.workspace.Workspace.{Workspace}
 use Rattle.idl_editor.specs.uris.Folders.{FolderNamed}
 use Rattle.idl_server.proofs.HeldLemmas.{held-after, held-same}
 use Rattle.idl_server.proofs.WorkspaceLemmas.{set-both, set-kept}
@@ -33,53 +30,6 @@ texts-with name text old new beside here = λ other. by other (bytes_eq name oth
     by : (other : List ℕ) (b : Bool) → bytes_eq name other ≡ b → texts_of new other ≡ (if b then text else texts_of old other)
     by other true alike = subst (λ (n : List ℕ). texts_of new n ≡ text) ((bytes_decides name other).0 alike) here
     by other false apart = λ i. option_map (λ document. document.text.items) (beside other apart i)
-
--- ---- changes, one after another
-
-some-same : {X : Type 0} (a b : X) → Some a ≡ Some b → a ≡ b
-some-same a b h = cc
-
-none-some : {X : Type 0} (b : X) → ◌≡◌ {A = Option X} None (Some b) → ⊥
-none-some b h = absurd (cc)
-
-both-none : (t : Option TextChange) → both ◌∷◌ t None ≡ None
-both-none None = refl
-both-none (Some t) = refl
-
-changes-more : (values : List Data) (one : Data) (changes : List TextChange) (change : TextChange) → all_changes (items_of values) ≡ Some changes → told_in one ≡ Some change
-    → all_changes (items_of (values ++ one ∷ [])) ≡ Some (changes ++ change ∷ [])
-changes-more [] one changes change before there =
-    ap (λ (t : Option TextChange). both ◌∷◌ t (Some [])) there ∙ ap (λ (c : List TextChange). Some (c ++ change ∷ [])) (some-same [] changes before)
-changes-more (v ∷ values) one changes change before there =
-    by (told_in v) (all_changes (items_of values)) refl (sym before) (λ rest h. changes-more values one rest change h there)
-  where
-    by : (t : Option TextChange) (r : Option (List TextChange)) → all_changes (items_of values) ≡ r → Some changes ≡ both ◌∷◌ t r
-        → ((rest : List TextChange) → all_changes (items_of values) ≡ Some rest → all_changes (items_of (values ++ one ∷ [])) ≡ Some (rest ++ change ∷ []))
-        → both ◌∷◌ t (all_changes (items_of (values ++ one ∷ []))) ≡ Some (changes ++ change ∷ [])
-    by None r is h next = absurd (none-some changes (sym h))
-    by (Some t) None is h next = absurd (none-some changes (sym h))
-    by (Some t) (Some rest) is h next =
-        ap (λ (all : Option (List TextChange)). both ◌∷◌ (Some t) all) (next rest is) ∙ ap (λ (c : List TextChange). Some (c ++ change ∷ [])) (sym (some-same changes (t ∷ rest) h))
-
-changes-lost : (values : List Data) (one : Data) (after : List Data) → told_in one ≡ None → all_changes (items_of (values ++ one ∷ after)) ≡ None
-changes-lost [] one after none = ap (λ (t : Option TextChange). both ◌∷◌ t (all_changes (items_of after))) none
-changes-lost (v ∷ values) one after none =
-    ap (λ (all : Option (List TextChange)). both ◌∷◌ (told_in v) all) (changes-lost values one after none) ∙ both-none (told_in v)
-
-pub values-more : (values : List Value) (i : ℕ) (value : Value) (changes : List TextChange) (change : TextChange) → i < length values → value ≡ get_or values i value
-    → all_changes (items_view (take i values)) ≡ Some changes → told_in (view value) ≡ Some change → all_changes (items_view (take (i + 1) values)) ≡ Some (changes ++ change ∷ [])
-values-more values i value changes change lt is before there =
-    ap (λ (vs : List Value). all_changes (items_view vs)) (take_more values i value lt ∙ ap (λ (v : Value). take i values ++ v ∷ []) (sym is))
-    ∙ ap (λ (ds : List Data). all_changes (items_of ds)) (map-append view (take i values) (value ∷ []))
-    ∙ changes-more (map view (take i values)) (view value) changes change before there
-
-pub values-lost : (values : List Value) (i : ℕ) (value : Value) → i < length values → value ≡ get_or values i value → told_in (view value) ≡ None → all_changes (items_view values) ≡ None
-values-lost values i value lt is none =
-    ap (λ (vs : List Value). all_changes (items_view vs)) (sym (take-append-drop (i + 1) values))
-    ∙ ap (λ (vs : List Value). all_changes (items_view (vs ++ drop (i + 1) values))) (take_more values i value lt ∙ ap (λ (v : Value). take i values ++ v ∷ []) (sym is))
-    ∙ ap (λ (vs : List Value). all_changes (items_view vs)) (append_assoc (take i values) (value ∷ []) (drop (i + 1) values))
-    ∙ ap (λ (ds : List Data). all_changes (items_of ds)) (map-append view (take i values) (value ∷ drop (i + 1) values))
-    ∙ changes-lost (map view (take i values)) (view value) (map view (drop (i + 1) values)) none
 
 -- ---- what bytes are
 

@@ -1,17 +1,15 @@
--- Positions of an editor.
-use Rattle.std.proofs.Common.{◌≡◌, ◌≤◌, ◌∙◌, ℕ, zero, suc, ◌+◌, All, List, [], ◌∷◌, Option, None, Some, ap, arith, drop, length, min, pred, refl, sym, take, ⊎_elim}
+-- Ranges of lines, and of tokens.
+use Rattle.std.proofs.Common.{◌≡◌, ◌≤◌, ◌∙◌, ℕ, zero, suc, ◌+◌, All, List, [], ◌∷◌, ap, arith, length, min, pred, refl, sym, take, ⊎_elim}
 use Rattle.std.proofs.lemmas.Bool.{cases_lt}
 use Rattle.std.proofs.lemmas.List.{take_all}
 use Rattle.std.specs.List.{slice_get, sum_by}
 use Rattle.std.specs.Option.{unwrap_or}
-use Rattle.memchr.specs.Find.{IsLastByte, is_byte}
-use Rattle.memchr.proofs.lemmas.ValueLemmas.{IsLastByte-value}
 use Rattle.idl_source.specs.Limits.{longest_line}
 use Rattle.idl_inputs.specs.WithinLimits.{IsAllowedFile}
 use Rattle.idl_editor.specs.declared.change.Range.{Range}
 use Rattle.idl_editor.specs.declared.column.Encoding.{Encoding}
 use Rattle.idl_editor.specs.declared.position.Position.{Position}
-use Rattle.idl_server.specs.Places.{behind_return, line_range, position_behind, position_in, range_between, returns}
+use Rattle.idl_editor.specs.Places.{line_range, position_behind, position_in, range_between, returns}
 
 -- a line of a file, and one that isn't there
 abbrev line_at : List (List ℕ) → ℕ → List ℕ
@@ -60,9 +58,3 @@ pub token-range : (encoding : Encoding) (lines : List (List ℕ)) (number column
 token-range encoding lines number column end past most range allowed le is start stop =
     range-of_ends range (position_in encoding lines number column) (position_in encoding lines number end) start
     (stop ∙ ap (λ n. position_in encoding lines number n) is ∙ position-cut encoding lines number end most allowed le)
-
--- ---- the last carriage return
-
-pub behind-last : (bytes : List ℕ) (place : Option ℕ) → IsLastByte (is_byte 13) bytes place
-    → elim place [ None ↦ bytes | Some place ↦ drop (place + 1) bytes ] ≡ behind_return bytes
-behind-last bytes place is = ap (λ place. elim place [ None ↦ bytes | Some place ↦ drop (place + 1) bytes ]) (IsLastByte-value (is_byte 13) bytes place is)

@@ -10,7 +10,8 @@ use Rattle.idl_editor.specs.declared.messages.answer.ErrorCode.{ErrorCode}
 use Rattle.idl_server.specs.Diagnostics.{AreDiagnostics}
 use Rattle.idl_server.specs.Uris.{uri_for}
 use Rattle.idl_server.specs.declared.workspace.Workspace.{Workspace}
-use Rattle.idl_server.specs.Published.{ArePublished, IsPublished, found_json, published_json}
+use Rattle.idl_editor.specs.told.Published.{found_json, published_json}
+use Rattle.idl_server.specs.Published.{ArePublished, IsPublished}
 
 -- ---- one message
 

@@ -13,7 +13,7 @@ use Rattle.idl_inputs.specs.Project.{Project, is_root}
 use Rattle.idl_project.specs.UpToDate.{absent_of}
 use Rattle.idl_project.specs.declared.compile.CompiledRoot.{CompiledRoot}
 use Rattle.idl_server.specs.Files.{IsNamed, IsTried}
-use Rattle.idl_server.specs.declared.document.Document.{Document}
+use Rattle.idl_editor.specs.declared.documents.document.Document.{Document}
 use Rattle.idl_server.specs.declared.workspace.Workspace.{Workspace}
 use Rattle.idl_server.proofs.FileLemmas.{gone, some-same}
 

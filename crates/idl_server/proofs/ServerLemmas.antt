@@ -14,7 +14,7 @@ use Rattle.idl_loader.specs.Holding.{Holding}
 use Rattle.idl_server.specs.Files.{AreFiled, AreTried, AreTriedBy, IsKept, IsTried, StaysSet, told_by}
 use Rattle.idl_server.specs.Roots.{AreCovered, AreRooted}
 use Rattle.idl_server.specs.Server.{IsBlank, IsSettled, OnlySets}
-use Rattle.idl_server.specs.declared.document.Document.{Document}
+use Rattle.idl_editor.specs.declared.documents.document.Document.{Document}
 use Rattle.idl_server.specs.declared.server.Phase.TheVariants.{Waiting}
 use Rattle.idl_server.specs.declared.server.Server.{Server}
 use Rattle.idl_server.specs.declared.workspace.Workspace.{Workspace}

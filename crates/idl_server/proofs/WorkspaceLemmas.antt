@@ -1,8 +1,6 @@
 -- What holds of a workspace, through what is done in it.
-use Rattle.std.proofs.Common.{◌≡◌, ◌⊎◌, ◌∙◌, ◌+◌, ◌<◌, ◌∷◌, [], ℕ, All, Bool, true, false, cond, List, Option, None, Some, Result, Ok, Err, fold, get_or, inl, inr, length, map, refl, sym, ap, subst, take, true≢false}
-use Rattle.std.proofs.lemmas.List.{map-append, take_more}
+use Rattle.std.proofs.Common.{◌≡◌, ◌⊎◌, ◌∙◌, ℕ, All, Bool, true, false, cond, List, Option, None, Some, Result, Ok, Err, inl, inr, refl, sym, ap, subst, true≢false}
 use Rattle.std.proofs.lemmas.List.Elements.{All-weaker}
-use Rattle.std.proofs.lemmas.List.Sums.{fold-append}
 use Rattle.std.specs.Cmp.Lexicographic.{bytes_decides}
 use Rattle.std.specs.FinMap as finite
 use Rattle.std.specs.List.{list_any}
@@ -17,15 +15,12 @@ use Rattle.idl_inputs.specs.Edits.{Edit, Put, Remove}
 use Rattle.idl_project.specs.UpToDate.{State}
 use Rattle.idl_loader.specs.Holding.{Allows, Holding, NoFile}
 use Rattle.idl_loader.specs.Holding.{IsFileOf}
-use Rattle.idl_editor.specs.Changes.{text_after}
-use Rattle.idl_editor.specs.declared.change.ContentChange.{ContentChange}
-use Rattle.idl_editor.specs.declared.column.Encoding.{Encoding}
-use Rattle.idl_server.specs.Documents.{AreSameBeside, TextChange, change_told, text_after_all, text_with, texts_of}
+use Rattle.idl_editor.specs.documents.Documents.{AreSameBeside, texts_of}
 use Rattle.idl_server.specs.Edited.{IsSameButFor}
 use Rattle.idl_server.specs.Files.{AreFiled, AreTried, IsClosed, IsFiled, IsKept, IsTried, IsWith, StaysBeside, StaysCompiled, StaysFiled, StaysSet}
 use Rattle.idl_server.specs.Loading.{IsLoadedEdit, StaysOpen}
 use Rattle.idl_server.specs.Roots.{AddsNoRoot}
-use Rattle.idl_server.specs.declared.document.Document.{Document}
+use Rattle.idl_editor.specs.declared.documents.document.Document.{Document}
 use Rattle.idl_server.specs.declared.workspace.Workspace.{Workspace}
 use Rattle.idl_server.proofs.CoveredLemmas.{adds-none}
 use Rattle.idl_server.proofs.FileLemmas.{AreLoadedOver, loaded-all, lost}
@@ -249,20 +244,6 @@ reloaded-one told name old new none beside documents closed are =
 -- no document, no text
 pub text-none : (documents : List (List ℕ × Document)) (name : List ℕ) → lookup (bytes_eq name) documents ≡ None → texts_of documents name ≡ None
 text-none documents name is = ap (λ (o : Option Document). option_map (λ d. d.text.items) o) is
-
--- a text after one change more
-pub text-more : (encoding : Encoding) (old text : List ℕ) (changes : List ContentChange) (i : ℕ) (d : ContentChange) → i < length changes
-    → text ≡ text_after_all encoding old (map change_told (take i changes)) → text_after encoding text (get_or changes i d) ≡ text_after_all encoding old (map change_told (take (i + 1) changes))
-text-more encoding old text changes i d within is =
-    ap (λ (t : List ℕ). text_after encoding t (get_or changes i d)) is
-    ∙ sym (fold-append (text_with encoding) old (map change_told (take i changes)) (change_told (get_or changes i d) ∷ []))
-    ∙ ap (λ (cs : List TextChange). fold (text_with encoding) old cs) (sym (map-append change_told (take i changes) (get_or changes i d ∷ [])))
-    ∙ ap (λ (cs : List ContentChange). text_after_all encoding old (map change_told cs)) (sym (take_more changes i d within))
-
-pub text-next : (encoding : Encoding) (old now text after : List ℕ) (changes : List ContentChange) (i : ℕ) (d : ContentChange) → after ≡ text_after encoding now (get_or changes i d) → now ≡ text
-    → i < length changes → text ≡ text_after_all encoding old (map change_told (take i changes)) → after ≡ text_after_all encoding old (map change_told (take (i + 1) changes))
-text-next encoding old now text after changes i d made same within is =
-    made ∙ ap (λ (t : List ℕ). text_after encoding t (get_or changes i d)) same ∙ text-more encoding old text changes i d within is
 
 -- the document and the file of this name are others
 pub beside-edited : (name : List ℕ) (old new : Workspace) → new.encoding ≡ old.encoding → new.folders ≡ old.folders → IsSameButFor name old.session.project new.session.project

@@ -1,5 +1,5 @@
 -- The files that are compiled: those of the open documents, and of the disk what roots ask for.
-use Rattle.std.specs.Prelude.{◌≡◌, ◌⊎◌, ℕ, Bool, cond, false, true, List, All, IsSome, Option, None, Some, option_and_then}
+use Rattle.std.specs.Prelude.{◌≡◌, ◌⊎◌, ℕ, Bool, cond, false, true, List, All, IsSome, None, Some}
 use Rattle.std.specs.FinMap as finite
 use Rattle.std.specs.List.{list_any}
 use Rattle.std.specs.Map.{lookup}
@@ -9,16 +9,11 @@ use Rattle.idl_inputs.specs.Bank.{IsSameBeside}
 use Rattle.idl_project.specs.Compile.{compiled_root}
 use Rattle.idl_loader.specs.Holding.{Holding, NoFile, Allows}
 use Rattle.idl_loader.specs.Holding.{IsFileOf}
-use Rattle.idl_editor.specs.uris.Folders.{FolderNamed, name_of, named, path_for}
-use Rattle.idl_editor.specs.uris.Uri.{path_of}
-use Rattle.idl_server.specs.Documents.{AreSameBeside}
+use Rattle.idl_editor.specs.uris.Folders.{FolderNamed, path_for}
+use Rattle.idl_editor.specs.documents.Documents.{AreSameBeside}
 use Rattle.idl_server.specs.Roots.{AddsNoRoot}
-use Rattle.idl_server.specs.declared.document.Document.{Document}
+use Rattle.idl_editor.specs.declared.documents.document.Document.{Document}
 use Rattle.idl_server.specs.declared.workspace.Workspace.{Workspace}
-
--- the name of the file that a URI stands for
-abbrev pub name_for : List FolderNamed → List ℕ → Option (List ℕ)
-name_for folders uri = option_and_then (λ path. named (name_of folders path)) (path_of uri)
 
 -- what a loader that tells of paths tells of names
 abbrev pub told_by : List FolderNamed → (List ℕ → Holding) → List ℕ → Holding

@@ -1,5 +1,3 @@
-pub mod Json
-pub mod Params
 pub mod Places
 pub mod Documents
 pub mod Edited
@@ -11,7 +9,6 @@ pub mod Found
 pub mod Diagnostics
 pub mod Named
 pub mod Roots
-pub mod Notices
 pub mod Server
 pub mod Published
 pub use Rattle.idl_loader.specs as idl_loader

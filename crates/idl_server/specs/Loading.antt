@@ -7,7 +7,7 @@ use Rattle.idl_loader.specs.Holding.{Holding}
 use Rattle.idl_loader.specs.Holding.{IsFileOf}
 use Rattle.idl_server.specs.Files.{StaysSet}
 use Rattle.idl_server.specs.Roots.{AddsNoRoot}
-use Rattle.idl_server.specs.declared.document.Document.{Document}
+use Rattle.idl_editor.specs.declared.documents.document.Document.{Document}
 use Rattle.idl_server.specs.declared.workspace.Workspace.{Workspace}
 
 -- an edit puts a file that the loader has, or removes one, of a name that isn't open

@@ -17,8 +17,9 @@ use Rattle.idl_project.specs.idl_root.declared.compiling.detailing.Details.{Deta
 use Rattle.idl_project.specs.idl_root.declared.compiling.places.DeclaredPlace.{DeclaredPlace}
 use Rattle.idl_project.specs.idl_root.declared.compiling.places.SitedToken.{SitedToken}
 use Rattle.idl_project.specs.idl_root.declared.compiling.places.UsedName.{UsedName}
-use Rattle.idl_server.specs.Json.{location_json}
-use Rattle.idl_server.specs.Places.{is_up_to, range_of}
+use Rattle.idl_editor.specs.told.Json.{location_json}
+use Rattle.idl_editor.specs.Places.{is_up_to}
+use Rattle.idl_server.specs.Places.{range_of}
 use Rattle.idl_server.specs.Uris.{uri_for}
 use Rattle.idl_server.specs.declared.workspace.Workspace.{Workspace}
 

@@ -1,18 +1,10 @@
 -- What is told of what is found.
-use Rattle.std.specs.Prelude.{◌≡◌, ◌++◌, ℕ, List, All, codes}
-use Rattle.serde_json.specs.Data.{Data, member, no_members, object, string}
-use Rattle.idl_editor.specs.messages.Answers.{notice_json}
+use Rattle.std.specs.Prelude.{◌≡◌, ◌++◌, ℕ, List, All}
+use Rattle.serde_json.specs.Data.{Data}
+use Rattle.idl_editor.specs.told.Published.{published_json}
 use Rattle.idl_server.specs.Diagnostics.{AreDiagnostics}
 use Rattle.idl_server.specs.Uris.{uri_for}
 use Rattle.idl_server.specs.declared.workspace.Workspace.{Workspace}
-
--- what is told of a file of this URI, and the notice that tells it
-abbrev pub found_json : List ℕ → Data → Data
-found_json uri list = object (member (codes "diagnostics") list
-    (member (codes "uri") (string uri) no_members))
-
-abbrev pub published_json : List ℕ → Data → Data
-published_json uri list = notice_json (codes "textDocument/publishDiagnostics") (found_json uri list)
 
 -- a message that tells of a file what is found tells what the roots of the present project find there
 abbrev pub IsPublished : Workspace → Data → Type 0

@@ -4,9 +4,10 @@ use Rattle.std.specs.FinMap as finite
 use Rattle.idl_loader.specs.Holding.{Holding}
 use Rattle.idl_inputs.specs.Project.{Inputs, Project}
 use Rattle.idl_editor.specs.uris.Folders.{FolderNamed}
-use Rattle.idl_server.specs.Documents.{HaveTexts, OnlyRefusedAreBehind, Open, Told, open_after_told, texts_of}
+use Rattle.idl_editor.specs.documents.Documents.{HaveTexts, Open, Told, open_after_told, texts_of}
+use Rattle.idl_server.specs.Documents.{OnlyRefusedAreBehind}
 use Rattle.idl_server.specs.Files.{AreFiled, AreTried, StaysSet, told_by}
-use Rattle.idl_server.specs.Notices.{json_of, told_by_message}
+use Rattle.idl_editor.specs.documents.Notices.{json_of, told_by_message}
 use Rattle.idl_server.specs.Roots.{AreCovered, AreRooted}
 use Rattle.idl_server.specs.declared.server.Phase.{Phase}
 use Rattle.idl_server.specs.declared.server.Phase.TheVariants.{Running, ShutDown, Waiting}

@@ -1,16 +1,14 @@
-//! How a server begins: what an editor offers and sets, and what the server tells of itself.
+//! How a server begins: macros and directories that an editor sets.
 
 ghost use Rattle.idl_server.specs.Server.{OnlySets};
 
-use crate::params::items_at;
-use crate::workspace::{RefusedEdit, Workspace, push_refused};
-use idl_editor::Encoding;
-use idl_editor::messages::text_at;
-use idl_editor::uris::{Folders, path_of};
-use idl_source::path::{directory_at, is_rooted};
-use idl_source::{Directory, Line, Name, Refusal, first_part};
-use serde_json::{Value, json};
-use std::alloc::{AllocError, Global};
+use crate::workspace::Workspace;
+use idl_editor::beginning::{abilities, add_folders, directories_in, encoding_in};
+use idl_editor::documents::push_refused;
+use idl_editor::messages::items_at;
+use idl_source::{Line, Refusal, first_part};
+use serde_json::Value;
+use std::alloc::AllocError;
 
 impl Workspace {
     /// Begins with what an editor offers and sets, and tells what the server can do.
@@ -70,160 +68,5 @@ impl Workspace {
             Ok(_) => Ok(()),
             Err(refusal) => push_refused(&mut self.refused, b"search", refusal),
         }
-    }
-}
-
-// What the server can do.
-fn abilities(alloc: Global, encoding: Encoding) -> Result<Value, AllocError> {
-    json!(in alloc; {
-        "capabilities": capabilities(alloc, encoding)?,
-        "serverInfo": json!(in alloc; {"name": "idltool", "version": "0.1.0"})?,
-    })
-}
-
-// What it can do in documents.
-fn capabilities(alloc: Global, encoding: Encoding) -> Result<Value, AllocError> {
-    let encoding = match encoding {
-        Encoding::Utf8 => "utf-8",
-        Encoding::Utf16 => "utf-16",
-    };
-    let sync = json!(in alloc; {"change": 2, "openClose": true, "save": true})?;
-    json!(in alloc; {
-        "textDocumentSync": sync,
-        "definitionProvider": true,
-        "documentSymbolProvider": true,
-        "hoverProvider": true,
-        "positionEncoding": encoding,
-    })
-}
-
-// Adds the folders of the workspace: names in the only one begin with nothing, and of several with the folder's own.
-fn add_folders(alloc: Global, folders: &mut Folders, params: &Value) -> Result<(), AllocError> {
-    match items_at(params, "workspaceFolders") {
-        [] => add_only(alloc, folders, text_at(params, "rootUri")),
-        [folder] => add_only(alloc, folders, text_at(folder, "uri")),
-        several => add_each(alloc, folders, several),
-    }
-}
-
-// Adds the only folder, if there is one.
-fn add_only(alloc: Global, folders: &mut Folders, uri: Option<&str>) -> Result<(), AllocError> {
-    let Some(uri) = uri else {
-        return Ok(());
-    };
-    if let Some(path) = path_of(alloc, uri.as_bytes())? {
-        folders.add(without_slash(&path), b"")?;
-    }
-    Ok(())
-}
-
-// Adds several folders.
-fn add_each(alloc: Global, folders: &mut Folders, several: &[Value]) -> Result<(), AllocError> {
-    'several: for folder in several {
-        if let Some(uri) = text_at(folder, "uri") {
-            add_one(alloc, folders, uri)?;
-        }
-    }
-    Ok(())
-}
-
-// Adds one folder of several.
-fn add_one(alloc: Global, folders: &mut Folders, uri: &str) -> Result<(), AllocError> {
-    let Some(path) = path_of(alloc, uri.as_bytes())? else {
-        return Ok(());
-    };
-    let path = without_slash(&path);
-    if let Some(name) = name_in_parent(alloc, path)? {
-        let front = front_of(alloc, &name)?;
-        folders.add(path, &front)?;
-    }
-    Ok(())
-}
-
-// The name that a path has in the folder that it is in.
-fn name_in_parent(alloc: Global, path: &[u8]) -> Result<Option<Name>, AllocError> {
-    let mut parent = Folders::new(alloc);
-    parent.add(without_slash(folder_of(path)), b"")?;
-    parent.name_of(path)
-}
-
-// What the names of files in a folder begin with.
-fn front_of(alloc: Global, folder: &Name) -> Result<Vec<u8>, AllocError> {
-    let mut front = Vec::from_slice(alloc, folder.as_bytes())?;
-    front.push(b'/')?;
-    Ok(front)
-}
-
-// The directories among words. Those that are none are refused.
-fn directories_in(
-    alloc: Global,
-    folders: &Folders,
-    refused: &mut Vec<RefusedEdit>,
-    words: &[Value],
-) -> Result<Vec<Directory>, AllocError> {
-    let mut directories = Vec::new(alloc);
-    'words: for value in words {
-        let Some(word) = value.as_str() else {
-            continue;
-        };
-        match directory_named(alloc, folders, word.as_bytes())? {
-            Some(directory) => directories.push(directory)?,
-            None => push_refused(refused, word.as_bytes(), Refusal::BadName)?,
-        }
-    }
-    Ok(directories)
-}
-
-// The directory that a word is, if it is one: a whole path as it stands in the names of the files in it.
-fn directory_named(
-    alloc: Global,
-    folders: &Folders,
-    word: &[u8],
-) -> Result<Option<Directory>, AllocError> {
-    let found = directory_at(word);
-    if !is_rooted(word) {
-        return Ok(found);
-    }
-    let path = match &found {
-        Some(directory) => directory.as_bytes(),
-        None => word,
-    };
-    let mut file = Vec::from_slice(alloc, without_slash(path))?;
-    file.extend_from_slice(b"/file")?;
-    match folders.name_of(&file)? {
-        Some(name) => Ok(directory_at(folder_of(name.as_bytes()))),
-        None => Ok(None),
-    }
-}
-
-// What columns count: bytes, if the editor offers that.
-fn encoding_in(params: &Value) -> Encoding {
-    let Some(capabilities) = params.get("capabilities") else {
-        return Encoding::Utf16;
-    };
-    let Some(general) = capabilities.get("general") else {
-        return Encoding::Utf16;
-    };
-    'offered: for value in items_at(general, "positionEncodings") {
-        if value.as_str() == Some("utf-8") {
-            return Encoding::Utf8;
-        }
-    }
-    Encoding::Utf16
-}
-
-// A path without a slash at its end.
-fn without_slash(path: &[u8]) -> &[u8] {
-    match path {
-        [front @ .., b'/'] => front,
-        _ => path,
-    }
-}
-
-// The path of the folder that a path is in, with the slash behind it.
-fn folder_of(path: &[u8]) -> &[u8] {
-    match memchr::memrchr(b'/', path) {
-        Some(place) => &path[..=place],
-        None => b"",
     }
 }

@@ -1,22 +1,21 @@
 //! What is found, as an editor is told.
 
-ghost use Rattle.std.specs.Prelude.{◌≡◌, ◌<◌, [], IfOk, length, unwrap_or};
+ghost use Rattle.std.specs.Prelude.{◌≡◌, ◌<◌, [], IfOk, length};
 ghost use Rattle.serde_json.specs.View.{view};
-ghost use Rattle.idl_server.specs.Diagnostics.{AreDiagnostics, IsSaid, diagnostic_json, finding_range, severity};
+ghost use Rattle.idl_server.specs.Diagnostics.{AreDiagnostics, finding_range};
 
 use crate::found::found_in;
-use crate::places::{LocatedToken, line_range, lines_of, location_value, range_of, range_value};
-use crate::shown::shown_value;
-use crate::workspace::{Workspace, uri_for};
+use crate::places::{LocatedToken, line_range, lines_of, range_of};
+use crate::workspace::Workspace;
 use idl_base::Seq;
+use idl_editor::documents::uri_for;
+use idl_editor::told::{diagnostic_value, message_of, second_value};
 use idl_editor::{Encoding, Range};
-use idl_explain::{Topic, explanation_of};
-use idl_fault::Code;
 use idl_project::{Finding, Session, related_in};
 use idl_related::Related;
 use idl_source::Name;
-use serde_json::{Value, json};
-use std::alloc::{AllocError, Global};
+use serde_json::Value;
+use std::alloc::AllocError;
 
 // The second places of all that a root finds.
 #[derive(Drop)]
@@ -93,45 +92,11 @@ impl Workspace {
                 text: second.text.as_bytes(),
             };
             let range = range_of(&self.session, self.encoding, token);
-            list.push(second_value(alloc, &uri, range, second)?)?;
+            let reason = second.reason.words();
+            list.push(second_value(alloc, &uri, range, reason, token.text)?)?;
         }
         Ok(Value::Array(list))
     }
-}
-
-// A second place, as it is told.
-fn second_value(
-    alloc: Global,
-    uri: &String,
-    range: Range,
-    second: &Related,
-) -> Result<Value, AllocError> {
-    json!(in alloc; {
-        "location": location_value(alloc, uri, range)?,
-        "message": second_message(alloc, second)?,
-    })
-}
-
-// A finding that says this, with what is told of its second places.
-fn diagnostic_value(
-    alloc: Global,
-    range: Range,
-    finding: &Finding,
-    message: &[u8],
-    related: Value,
-) -> Result<Value, AllocError>
-    ensures { IfOk result (λ value. view value
-        ≡ diagnostic_json finding.now range message.now (view related)) }
-{
-    // What is owned goes in first, and what is made when it goes in.
-    json!(in alloc; {
-        "relatedInformation": related,
-        "code": shown_value(alloc, &finding.code.text())?,
-        "message": shown_value(alloc, message)?,
-        "range": range_value(alloc, range)?,
-        "severity": severity(finding.code),
-        "source": "idltool",
-    })
 }
 
 // The range of what a finding is about.
@@ -152,40 +117,4 @@ fn finding_range(session: &Session, encoding: Encoding, finding: &Finding) -> Ra
             line_range(encoding, lines, finding.place.line)
         }
     }
-}
-
-// What a finding says.
-fn message_of(alloc: Global, finding: &Finding) -> Result<Vec<u8>, AllocError>
-    ensures { IfOk result (λ message. IsSaid finding.now message.items) }
-{
-    let explanation = explanation_of(Topic::Code(finding.code));
-    let token = token_of(finding);
-    let mut message = Vec::new(alloc);
-    explanation.words.push(token, &mut message)?;
-    Ok(message)
-}
-
-// The token of a finding, if it tells one.
-fn token_of(finding: &Finding) -> &[u8]
-    ensures { result.now ≡ unwrap_or finding.now.text [] }
-{
-    match &finding.text {
-        Some(text) => text.as_bytes(),
-        None => b"",
-    }
-}
-
-// Why a second place is told, and its token.
-fn second_message(alloc: Global, second: &Related) -> Result<Value, AllocError> {
-    let mut text = Vec::from_slice(alloc, second.reason.words())?;
-    text.extend_from_slice(b": ")?;
-    text.extend_from_slice(second.text.as_bytes())?;
-    shown_value(alloc, &text)
-}
-
-// The number of an error, or of a warning.
-fn severity(code: Code) -> u8
-    ensures { result ≡ severity code }
-{
-    if code.is_error() { 1 } else { 2 }
 }

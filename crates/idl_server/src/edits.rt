@@ -1,6 +1,6 @@
 //! Documents that are opened, changed and closed.
 
-ghost use Rattle.std.specs.Prelude.{◌≡◌, ℕ, List, IfOk, IsSome, OnOk, Some, map};
+ghost use Rattle.std.specs.Prelude.{◌≡◌, ℕ, List, IsSome, OnOk, Some, map};
 ghost use Rattle.std.specs.FinMap as finite;
 ghost use Rattle.std.specs.Map.{lookup};
 ghost use Rattle.std.specs.Option.{option_map};
@@ -8,15 +8,16 @@ ghost use Rattle.std.specs.Str.{bytes_eq};
 ghost use Rattle.idl_source.specs.texts.Cut.{cut_lines};
 ghost use Rattle.idl_editor.specs.Splices.{IsSplice};
 ghost use Rattle.idl_loader.specs.Holding.{Holding};
-ghost use Rattle.idl_server.specs.Documents.{OnlyRefusedIsBehind, change_told, text_after_all, texts_of};
+ghost use Rattle.idl_editor.specs.documents.Documents.{change_told, text_after_all, texts_of};
+ghost use Rattle.idl_server.specs.Documents.{OnlyRefusedIsBehind};
 ghost use Rattle.idl_server.specs.Files.{IsFiled, StaysBeside};
-ghost use Rattle.idl_server.specs.declared.document.Document.{Document};
+ghost use Rattle.idl_editor.specs.declared.documents.document.Document.{Document};
 
-use crate::document::{Document, set_behind, set_text};
-use crate::workspace::{Workspace, keep_all, push_refused};
-use idl_editor::{ContentChange, Encoding, LineSplice, after_change};
+use crate::workspace::{Workspace, keep_all};
+use idl_editor::documents::{Document, push_refused, set_behind, set_text, text_after_all};
+use idl_editor::{ContentChange, LineSplice, after_change};
 use idl_source::{Name, Refusal, cut};
-use std::alloc::{AllocError, Global};
+use std::alloc::AllocError;
 
 impl Workspace {
     /// A document is opened.
@@ -131,22 +132,4 @@ impl Workspace {
             }
         }
     }
-}
-
-// A text after changes.
-fn text_after_all(
-    alloc: Global,
-    encoding: Encoding,
-    old: &[u8],
-    changes: &[ContentChange<'_>],
-) -> Result<Vec<u8>, AllocError>
-    ensures { IfOk result (λ text. text.items
-        ≡ text_after_all encoding old.now (map change_told changes.now)) }
-{
-    let mut text = Vec::from_slice(alloc, old)?;
-    'changes: for change in changes {
-        let after = after_change(alloc, encoding, &text, *change)?;
-        text = after.text;
-    }
-    Ok(text)
 }

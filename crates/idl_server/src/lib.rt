@@ -6,31 +6,27 @@
 //! `server.rt` is a step, `beginning.rt` and `notices.rt` its parts; `edits.rt`, `closing.rt`, `loading.rt`, `roots.rt`
 //! change the workspace. Each file of the session is an open document's or the loader's, by two clauses for each
 //! operation: what it does to a name, and nothing beside. `found.rt`, `publishing.rt` tell findings; `named.rt`,
-//! `symbols.rt` answer of names; `service.rt` is the loop.
+//! `symbols.rt` answer of names; `service.rt` is the loop. What names no session stands in `idl_editor`.
 #![tactic(auto)]
 
 mod beginning;
 mod closing;
 mod diagnostics;
-mod document;
 mod edits;
 mod found;
 mod loading;
 mod named;
 mod notices;
-mod outbox;
-mod params;
 mod places;
 mod publishing;
 mod requests;
 mod roots;
 mod server;
 mod service;
-mod shown;
 mod symbols;
 mod workspace;
 
+pub use idl_editor::messages::Outbox;
 pub use idl_loader;
-pub use outbox::Outbox;
 pub use server::{Server, StepOutcome};
 pub use service::LanguageServer;

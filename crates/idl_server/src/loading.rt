@@ -13,8 +13,8 @@ ghost use Rattle.idl_server.specs.Loading.{IsLoadedEdit, StaysOpen};
 ghost use Rattle.idl_server.specs.Roots.{AreCovered, AreRooted};
 
 use crate::closing::{OnDisk, loaded};
-use crate::document::Document;
-use crate::workspace::{Workspace, keep_all, push_refused};
+use crate::workspace::{Workspace, keep_all};
+use idl_editor::documents::{Document, push_refused};
 use idl_loader::PathLoader;
 use idl_project::FileEdit;
 use idl_source::{Line, Name};

@@ -5,15 +5,16 @@ ghost use Rattle.std.specs.Option.{option_copied, option_map};
 ghost use Rattle.serde_json.specs.View.{view};
 ghost use Rattle.idl_server.specs.Named.{declared_entry, declared_place, definition_at, definition_json, details_with, entry_at, entry_of, entry_text, has_path, is_declared_at, stands_at, used_at};
 
-use crate::places::{LocatedToken, is_up_to, location_value, range_of};
-use crate::shown::shown_value;
-use crate::workspace::{Workspace, uri_for};
-use idl_editor::{Encoding, Position};
+use crate::places::{LocatedToken, range_of};
+use crate::workspace::Workspace;
+use idl_editor::documents::uri_for;
+use idl_editor::told::{hover_value, location_value};
+use idl_editor::{Encoding, Position, is_up_to};
 use idl_project::{DeclaredPlace, DetailedEntry, Details, Row, Session, SitedToken, UsedName};
 use idl_repo::details::kind_word;
 use idl_repo::push_path;
 use idl_source::Name;
-use serde_json::{Value, json};
+use serde_json::Value;
 use std::alloc::{AllocError, Global};
 
 /// What is told of a root.
@@ -83,7 +84,8 @@ impl Workspace {
             Some(rows) => row_of(rows, &told.details, entry),
             None => None,
         };
-        hover_value(self.session.allocator(), entry, row)
+        let alloc = self.session.allocator();
+        hover_value(alloc, &hover_text(alloc, entry, row)?)
     }
 
     /// What is told of the first root that asks for a file.
@@ -101,31 +103,18 @@ impl Workspace {
     }
 }
 
-// What is shown of an entry, as it is told.
-fn hover_value(
-    alloc: Global,
-    entry: &DetailedEntry,
-    row: Option<&[u8]>,
-) -> Result<Value, AllocError> {
-    let contents = json!(in alloc; {
-        "kind": "plaintext",
-        "value": hover_text(alloc, entry, row)?,
-    })?;
-    json!(in alloc; {"contents": contents})
-}
-
 // The text that is shown of an entry, with its row in the listing behind it.
 fn hover_text(
     alloc: Global,
     entry: &DetailedEntry,
     row: Option<&[u8]>,
-) -> Result<Value, AllocError> {
+) -> Result<Vec<u8>, AllocError> {
     let mut text = entry_text(alloc, entry)?;
     if let Some(row) = row {
         text.extend_from_slice(b"\n")?;
         text.extend_from_slice(row)?;
     }
-    shown_value(alloc, &text)
+    Ok(text)
 }
 
 // The row of an entry in the listing of its root, which has one for each entry, and none where the root has an error.

@@ -1,27 +1,25 @@
 //! What an editor tells: documents that are opened, changed, saved and closed, and files that became others.
 
-ghost use Rattle.std.specs.Prelude.{◌≡◌, ℕ, All, List, IfOk, None, OnOk, map};
-ghost use Rattle.std.specs.Option.{option_map};
+ghost use Rattle.std.specs.Prelude.{◌≡◌, ℕ, All, List, IfOk, None, OnOk};
 ghost use Rattle.std.specs.Map.{lookup};
 ghost use Rattle.std.specs.Str.{bytes_eq};
 ghost use Rattle.serde_json.specs.View.{view};
 ghost use Rattle.idl_editor.specs.declared.messages.method.Method.TheVariants.{DidChange, DidClose, DidOpen};
 ghost use Rattle.idl_loader.specs.Holding.{Holding};
-ghost use Rattle.idl_server.specs.Documents.{HaveTexts, OnlyRefusedAreBehind, change_told, open_after_told, texts_of};
+ghost use Rattle.idl_editor.specs.documents.Documents.{HaveTexts, open_after_told, texts_of};
+ghost use Rattle.idl_server.specs.Documents.{OnlyRefusedAreBehind};
 ghost use Rattle.idl_server.specs.Files.{AreFiled, StaysSet, told_by};
-ghost use Rattle.idl_server.specs.Notices.{changes_told, name_in, told_by_notice};
+ghost use Rattle.idl_editor.specs.documents.Notices.{told_by_notice};
 ghost use Rattle.idl_server.specs.Roots.{AreRooted};
 
-use crate::params::{items_at, opened_text};
-use crate::workspace::{Workspace, name_for};
-use idl_editor::ContentChange;
-use idl_editor::messages::{Method, change_of, changes_of, text_at, uri_of};
-use idl_editor::uris::Folders;
+use crate::workspace::Workspace;
+use idl_editor::documents::{changes_told, name_for, name_in};
+use idl_editor::messages::{Method, items_at, opened_text, text_at, uri_of};
 use idl_loader::PathLoader;
 use idl_source::{Line, Name};
 use indexmap::IndexSet;
 use serde_json::Value;
-use std::alloc::{AllocError, Global};
+use std::alloc::AllocError;
 
 impl Workspace {
     /// Takes in what a notice tells of documents and files. One that makes no sense is passed over.
@@ -183,36 +181,4 @@ impl Workspace {
 // Whether there is a file of a name, or it was tried.
 fn is_known(tried: &IndexSet<Name>, file: Option<&[Line]>, name: &Name) -> bool {
     tried.contains(name) || file.is_some()
-}
-
-/// The name of the document that parameters are about.
-pub(crate) fn name_in(
-    alloc: Global,
-    folders: &Folders,
-    params: &Value,
-) -> Result<Option<Name>, AllocError>
-    ensures { IfOk result (λ name. name ≡ name_in folders.now (view params.now)) }
-{
-    match uri_of(params) {
-        Some(uri) => name_for(alloc, folders, uri),
-        None => Ok(None),
-    }
-}
-
-// The changes that parameters tell, if each of them makes sense.
-fn changes_told(alloc: Global, params: &Value) -> Result<Option<Vec<ContentChange<'_>>>, AllocError>
-    ensures { IfOk result (λ changes. option_map (λ c. map change_told c.items) changes
-        ≡ changes_told (view params.now)) }
-{
-    let Some(values) = changes_of(params) else {
-        return Ok(None);
-    };
-    let mut changes = Vec::with_capacity(alloc, values.len())?;
-    'values: for value in values {
-        match change_of(value) {
-            Some(change) => changes.push(change)?,
-            None => return Ok(None),
-        }
-    }
-    Ok(Some(changes))
 }

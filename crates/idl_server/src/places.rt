@@ -1,23 +1,16 @@
-//! Places in files as positions of an editor.
+//! Places in files of a session as positions of an editor.
 
-ghost use Rattle.std.specs.Prelude.{◌≡◌, ◌≤◌, ◌<◌, ◌+◌, ◌*◌, ◌^◌, IfOk, length, string_bytes};
+ghost use Rattle.std.specs.Prelude.{◌≡◌, ◌≤◌, ◌*◌, length};
 ghost use Rattle.std.specs.List.{sum_by};
-ghost use Rattle.serde_json.specs.View.{view};
 ghost use Rattle.idl_source.specs.Limits.{longest_line};
 ghost use Rattle.idl_inputs.specs.WithinLimits.{IsAllowedFile};
-ghost use Rattle.idl_server.specs.Json.{location_json, position_json, range_json};
-ghost use Rattle.idl_server.specs.Places.{behind_return, is_around, is_up_to, line_range, lines_of, position_behind, position_in, range_of, returns};
+ghost use Rattle.idl_editor.specs.Places.{line_range, position_in, returns};
+ghost use Rattle.idl_server.specs.Places.{lines_of, range_of};
 
-use idl_editor::{Encoding, Position, Range, units_of};
+use idl_editor::{Encoding, Position, Range, position_behind, returns_in};
 use idl_fault::Place;
 use idl_project::{Session, SitedToken};
 use idl_source::Line;
-use memchr::{memchr_iter, memrchr};
-use serde_json::{Value, json};
-use std::alloc::{AllocError, Global};
-
-// What ends a line to an editor, and none in a file.
-const RETURN: u8 = b'\r';
 
 /// A token of a file: the line on which it is found, its number there, and how it is spelled.
 #[derive(Clone, Copy)]
@@ -111,27 +104,6 @@ pub(crate) fn position_in(
     position_behind(encoding, before, &bytes[..column.min(bytes.len())])
 }
 
-// The position behind these bytes of a line, behind so many lines of an editor.
-fn position_behind(encoding: Encoding, before: usize, bytes: &[u8]) -> Position
-    requires { before < 2 ^ 62 }
-    ensures { result ≡ position_behind encoding before bytes.now }
-{
-    Position {
-        line: before + returns_in(bytes),
-        column: units_of(encoding, behind_return(bytes)),
-    }
-}
-
-// The bytes behind the last carriage return.
-fn behind_return(bytes: &[u8]) -> &[u8]
-    ensures { result.now ≡ behind_return bytes.now }
-{
-    match memrchr(RETURN, bytes) {
-        Some(place) => &bytes[place + 1..],
-        None => bytes,
-    }
-}
-
 // How many carriage returns these lines have.
 fn returns_in_all(lines: &[Line]) -> usize
     requires { IsAllowedFile lines.now }
@@ -143,50 +115,4 @@ fn returns_in_all(lines: &[Line]) -> usize
         count += returns_in(line.as_bytes());
     }
     count
-}
-
-// How many carriage returns these bytes have.
-fn returns_in(bytes: &[u8]) -> usize
-    ensures value { result ≡ returns bytes.now }
-    ensures few { result ≤ length bytes.now }
-{
-    memchr_iter(RETURN, bytes).count()
-}
-
-/// Whether a range goes from nowhere before to nowhere behind another one.
-pub(crate) fn is_around(outer: Range, inner: Range) -> bool
-    ensures { result ≡ is_around outer inner }
-{
-    is_up_to(outer.start, inner.start) && is_up_to(inner.end, outer.end)
-}
-
-/// Whether a position is the same as another one, or before it.
-pub(crate) fn is_up_to(one: Position, other: Position) -> bool
-    ensures { result ≡ is_up_to one other }
-{
-    one.line < other.line || one.line == other.line && one.column <= other.column
-}
-
-/// A range, as it is told.
-pub(crate) fn range_value(alloc: Global, range: Range) -> Result<Value, AllocError>
-    ensures { IfOk result (λ value. view value ≡ range_json range) }
-{
-    json!(in alloc; {
-        "end": position_value(alloc, range.end)?,
-        "start": position_value(alloc, range.start)?,
-    })
-}
-
-/// A range of a document, as it is told.
-pub(crate) fn location_value(alloc: Global, uri: &String, range: Range) -> Result<Value, AllocError>
-    ensures { IfOk result (λ value. view value ≡ location_json (string_bytes uri.now) range) }
-{
-    json!(in alloc; {"range": range_value(alloc, range)?, "uri": uri})
-}
-
-// A position, as it is told.
-fn position_value(alloc: Global, position: Position) -> Result<Value, AllocError>
-    ensures { IfOk result (λ value. view value ≡ position_json position) }
-{
-    json!(in alloc; {"character": position.column, "line": position.line})
 }

@@ -1,17 +1,17 @@
 //! What is found is told, of each file of which it has become another.
 
-ghost use Rattle.std.specs.Prelude.{◌≡◌, IfOk, OnOk, string_bytes};
-ghost use Rattle.serde_json.specs.View.{view};
+ghost use Rattle.std.specs.Prelude.{OnOk};
 ghost use Rattle.idl_server.specs.Files.{IsKept};
-ghost use Rattle.idl_server.specs.Json.{said_by};
-ghost use Rattle.idl_server.specs.Published.{ArePublished, found_json};
+ghost use Rattle.idl_editor.specs.messages.Said.{said_by};
+ghost use Rattle.idl_server.specs.Published.{ArePublished};
 
-use crate::outbox::Outbox;
-use crate::workspace::{Workspace, uri_for};
+use crate::workspace::Workspace;
+use idl_editor::documents::uri_for;
+use idl_editor::messages::Outbox;
+use idl_editor::told::found_params;
 use idl_project::Finding;
 use idl_source::Name;
 use indexmap::{IndexMap, IndexSet};
-use serde_json::{Value, json};
 use std::alloc::{AllocError, Global};
 
 /// What was told last of each file of which anything was, as text; in which files each root finds anything; and of which files it is to
@@ -110,7 +110,7 @@ impl PublishedDiagnostics {
             return Ok(());
         }
         let uri = uri_for(&workspace.documents, &workspace.folders, name)?;
-        let params = params_of(out.alloc(), uri, list)?;
+        let params = found_params(out.alloc(), uri, list)?;
         out.tell("textDocument/publishDiagnostics", &params)?;
         self.texts.insert(name.copied(), text)?;
         Ok(())
@@ -139,11 +139,4 @@ fn add_all(files: &mut IndexSet<Name>, more: &IndexSet<Name>) -> Result<(), Allo
         files.insert(name.copied())?;
     }
     Ok(())
-}
-
-// What a notice of findings has.
-fn params_of(alloc: Global, uri: String, list: Value) -> Result<Value, AllocError>
-    ensures { IfOk result (λ value. view value ≡ found_json (string_bytes uri) (view list)) }
-{
-    json!(in alloc; {"diagnostics": list, "uri": uri})
 }

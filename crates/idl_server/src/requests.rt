@@ -1,8 +1,8 @@
 //! What an editor asks for.
 
 use crate::named::DocumentPosition;
-use crate::notices::name_in;
 use crate::workspace::Workspace;
+use idl_editor::documents::name_in;
 use idl_editor::messages::{ErrorCode, Method, position_at};
 use serde_json::Value;
 use std::alloc::AllocError;

@@ -8,7 +8,8 @@ ghost use Rattle.idl_server.specs.Files.{IsKept, StaysFiled};
 ghost use Rattle.idl_server.specs.Named.{root_with};
 ghost use Rattle.idl_server.specs.Roots.{AreCovered, AreRooted, IsOpen, IsWaiting};
 
-use crate::workspace::{Workspace, keep_all, push_refused};
+use crate::workspace::{Workspace, keep_all};
+use idl_editor::documents::push_refused;
 use idl_project::{Finding, MAX_ROOTS};
 use idl_source::{Line, Name, Refusal};
 use indexmap::IndexSet;

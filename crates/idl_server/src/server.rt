@@ -3,25 +3,23 @@
 ghost use Rattle.std.specs.Prelude.{◌≡◌, ℕ, List, None, OnOk};
 ghost use Rattle.serde_json.specs.View.{view};
 ghost use Rattle.idl_loader.specs.Holding.{Holding};
-ghost use Rattle.idl_server.specs.Json.{said_by};
-ghost use Rattle.idl_server.specs.Notices.{told_by_message, told_by_notice};
+ghost use Rattle.idl_editor.specs.messages.Said.{said_by};
+ghost use Rattle.idl_editor.specs.documents.Notices.{told_by_message, told_by_notice};
 ghost use Rattle.idl_server.specs.Published.{ArePublished};
 ghost use Rattle.idl_server.specs.Server.{HasTaken, IsSettled, if_running, told_to};
 ghost use Rattle.idl_server.specs.declared.workspace.Workspace.{Workspace};
 
-use crate::outbox::Outbox;
 use crate::publishing::PublishedDiagnostics;
 use crate::requests::RequestOutcome;
-use crate::shown::shown_value;
-use crate::workspace::{RefusedEdit, Workspace};
+use crate::workspace::Workspace;
 use idl_editor::Encoding;
-use idl_editor::messages::{ErrorCode, Message, Method, message_of};
+use idl_editor::documents::{RefusedEdit, shown_params};
+use idl_editor::messages::{ErrorCode, Message, Method, Outbox, message_of};
 use idl_editor::uris::Folders;
-use idl_explain::{Topic, explanation_of};
 use idl_loader::PathLoader;
 use idl_project::Session;
 use indexmap::{IndexMap, IndexSet};
-use serde_json::{Value, json};
+use serde_json::Value;
 use std::alloc::{AllocError, Global};
 
 // How far a server has come.
@@ -246,20 +244,4 @@ fn say_outcome(
         Ok(RequestOutcome::Refused(code)) => out.refuse(id, code),
         Err(_) => out.refuse(id, ErrorCode::Internal),
     }
-}
-
-// What is shown of an edit that was refused.
-fn shown_params(alloc: Global, refused: &RefusedEdit) -> Result<Value, AllocError> {
-    json!(in alloc; {"message": shown_message(alloc, refused)?, "type": 1})
-}
-
-// What its message says: what was to be done, and the line about the refusal without its end.
-fn shown_message(alloc: Global, refused: &RefusedEdit) -> Result<Value, AllocError> {
-    let mut text = Vec::from_slice(alloc, &refused.subject)?;
-    text.extend_from_slice(b": ")?;
-    explanation_of(Topic::Refusal(refused.refusal)).push_headline(b"", &mut text)?;
-    if text.last() == Some(&b'\n') {
-        text.truncate(text.len() - 1);
-    }
-    shown_value(alloc, &text)
 }

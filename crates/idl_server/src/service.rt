@@ -2,9 +2,9 @@
 
 ghost use Rattle.std.specs.Prelude.{◌≡◌, ◌<◌, ◌-◌, ◌^◌, OnOk};
 
-use crate::outbox::Outbox;
 use crate::server::{Server, StepOutcome};
 use idl_editor::frames::{ReadFault, Reader, Received, message_of};
+use idl_editor::messages::Outbox;
 use idl_loader::{PathLoader, Service, ServiceFault, Status};
 use idl_source::devices::write_all;
 use idl_source::{Sink, Source};

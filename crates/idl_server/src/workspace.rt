@@ -7,24 +7,13 @@
 //! at a position is looked for by the columns of declared and used names. What is told of a file is kept as text, and
 //! told where it becomes another.
 
-ghost use Rattle.std.specs.Prelude.{◌≡◌, IfOk, string_bytes};
-ghost use Rattle.idl_server.specs.Files.{name_for};
-ghost use Rattle.idl_server.specs.Uris.{uri_among};
-
-use crate::document::Document;
 use idl_editor::Encoding;
-use idl_editor::uris::{Folders, path_of, uri_of};
+use idl_editor::documents::{Document, RefusedEdit};
+use idl_editor::uris::Folders;
 use idl_project::Session;
-use idl_source::{Name, Refusal};
+use idl_source::Name;
 use indexmap::{IndexMap, IndexSet};
-use std::alloc::{AllocError, Global};
-
-/// An edit of the session that was refused.
-#[derive(Drop)]
-pub(crate) struct RefusedEdit {
-    pub subject: Vec<u8>,
-    pub refusal: Refusal,
-}
+use std::alloc::AllocError;
 
 /// The documents of an editor, and the session that compiles them.
 ///
@@ -47,49 +36,6 @@ pub(crate) struct Workspace {
     pub dropped: IndexSet<Name>,
     /// What was refused since then.
     pub refused: Vec<RefusedEdit>,
-}
-
-/// The name of the file that a URI stands for, if it has one.
-pub(crate) fn name_for(
-    alloc: Global,
-    folders: &Folders,
-    uri: &str,
-) -> Result<Option<Name>, AllocError>
-    ensures { IfOk result (λ name. name ≡ name_for folders.now uri.now) }
-{
-    match path_of(alloc, uri.as_bytes())? {
-        Some(path) => folders.name_of(&path),
-        None => Ok(None),
-    }
-}
-
-/// The URI of a file: the editor's own of a document that is open.
-pub(crate) fn uri_for(
-    documents: &IndexMap<Name, Document>,
-    folders: &Folders,
-    name: &Name,
-) -> Result<String, AllocError>
-    ensures { IfOk result (λ uri. string_bytes uri
-        ≡ uri_among documents.now.entries folders.now name.now) }
-{
-    let alloc = *documents.allocator();
-    if let Some(document) = documents.get(name) {
-        return String::from_str(alloc, document.uri.as_str());
-    }
-    match folders.path_for(name.as_bytes())? {
-        Some(path) => uri_of(alloc, &path),
-        None => uri_of(alloc, name.as_bytes()),
-    }
-}
-
-/// Adds an edit that was refused.
-pub(crate) fn push_refused(
-    refused: &mut Vec<RefusedEdit>,
-    subject: &[u8],
-    refusal: Refusal,
-) -> Result<(), AllocError> {
-    let subject = Vec::from_slice(*refused.allocator(), subject)?;
-    Ok(refused.push(RefusedEdit { subject, refusal })?)
 }
 
 /// Adds names to others.

@@ -1,5 +1,5 @@
 use Rattle.std.proofs.Common.{arith}
-use Rattle.idl_server.specs.Found.{findings_in}
+use Rattle.idl_editor.specs.told.Found.{findings_in}
 use Rattle.idl_server.proofs.FoundLemmas.{roots-end, roots-past, roots-step}
 use Rattle.idl_server.proofs.found.found_in.Goals as goal
 

@@ -1,6 +1,7 @@
 use Rattle.std.proofs.Common.{◌≡◌, [], take}
 use Rattle.std.specs.List.{flat_map, fold}
-use Rattle.idl_server.specs.Found.{findings_in, found_by, told_with}
+use Rattle.idl_editor.specs.told.Found.{findings_in, told_with}
+use Rattle.idl_server.specs.Found.{found_by}
 use Rattle.idl_server.proofs.found.found_in.Given as goal
 
 -- what the roots before find

@@ -1,7 +1,7 @@
 use Rattle.std.proofs.Common.{◌≡◌, ◌≤◌, ◌*◌, take}
 use Rattle.std.specs.List.{sum_by}
 use Rattle.idl_source.specs.Limits.{longest_line}
-use Rattle.idl_server.specs.Places.{returns}
+use Rattle.idl_editor.specs.Places.{returns}
 use Rattle.idl_server.proofs.places.returns_in_all.Given as goal
 
 -- those of the lines before

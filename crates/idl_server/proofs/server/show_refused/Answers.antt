@@ -1,5 +1,5 @@
 use Rattle.serde_json.specs.View.{view}
-use Rattle.idl_server.specs.Json.{said_by}
+use Rattle.idl_editor.specs.messages.Said.{said_by}
 use Rattle.idl_server.proofs.PublishedLemmas.{both-published, none-published, one-published, shown-published}
 use Rattle.idl_server.proofs.server.show_refused.Goals as goal
 

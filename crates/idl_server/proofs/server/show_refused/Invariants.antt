@@ -1,4 +1,4 @@
-use Rattle.idl_server.specs.Json.{said_by}
+use Rattle.idl_editor.specs.messages.Said.{said_by}
 use Rattle.idl_server.specs.Published.{ArePublished}
 use Rattle.idl_server.specs.declared.workspace.Workspace.{Workspace}
 use Rattle.idl_server.proofs.server.show_refused.Given as goal

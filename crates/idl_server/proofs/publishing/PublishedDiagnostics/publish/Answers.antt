@@ -1,4 +1,4 @@
-use Rattle.idl_server.specs.Json.{said_by}
+use Rattle.idl_editor.specs.messages.Said.{said_by}
 use Rattle.idl_server.proofs.PublishedLemmas.{both-published, none-published}
 use Rattle.idl_server.proofs.publishing.PublishedDiagnostics.publish.Goals as goal
 

@@ -1,5 +1,5 @@
 use Rattle.serde_json.specs.View.{view}
-use Rattle.idl_server.specs.Json.{said_by}
+use Rattle.idl_editor.specs.messages.Said.{said_by}
 use Rattle.idl_server.proofs.PublishedLemmas.{found-published, none-published, one-published}
 use Rattle.idl_server.proofs.publishing.PublishedDiagnostics.publish_file.Goals as goal
 

@@ -3,8 +3,8 @@ use Rattle.std.specs.Result.{OnOk}
 use Rattle.serde_json.specs.View.{view}
 use Rattle.serde_json.specs.declared.value.Value.{Null}
 use Rattle.idl_editor.specs.declared.messages.answer.ErrorCode.TheVariants.{NoJson}
-use Rattle.idl_server.specs.Documents.{Told}
-use Rattle.idl_server.specs.Json.{said_by}
+use Rattle.idl_editor.specs.documents.Documents.{Told}
+use Rattle.idl_editor.specs.messages.Said.{said_by}
 use Rattle.idl_server.specs.Server.{HasTaken, told_to}
 use Rattle.idl_server.proofs.PublishedLemmas.{error-published, one-published}
 use Rattle.idl_server.proofs.NoticeLemmas.{json-none, json-some, taken-same, told-json, told-nothing}

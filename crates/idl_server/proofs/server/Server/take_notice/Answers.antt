@@ -1,13 +1,13 @@
 use Rattle.std.proofs.Common.{◌≡◌, ◌∙◌, ℕ, List, refl, subst, sym}
 use Rattle.serde_json.specs.View.{view}
 use Rattle.idl_loader.specs.Holding.{Holding}
-use Rattle.idl_server.specs.Documents.{texts_of}
+use Rattle.idl_editor.specs.documents.Documents.{texts_of}
 use Rattle.idl_server.specs.Files.{AreFiled, told_by}
-use Rattle.idl_server.specs.Notices.{told_by_notice}
+use Rattle.idl_editor.specs.documents.Notices.{told_by_notice}
 use Rattle.idl_server.specs.Server.{HasTaken, if_running}
 use Rattle.idl_server.specs.declared.server.Phase.{Phase}
 use Rattle.idl_server.specs.declared.server.Phase.TheVariants.{Running, Waiting}
-use Rattle.idl_server.specs.Json.{said_by}
+use Rattle.idl_editor.specs.messages.Said.{said_by}
 use Rattle.idl_server.proofs.PublishedLemmas.{then-published}
 use Rattle.idl_server.proofs.NoticeLemmas.{taken-before}
 use Rattle.idl_server.proofs.ServerLemmas.{settled-kept, told-settled}

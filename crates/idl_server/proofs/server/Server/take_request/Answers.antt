@@ -1,5 +1,5 @@
 use Rattle.std.proofs.Common.{None, refl}
-use Rattle.idl_server.specs.Json.{said_by}
+use Rattle.idl_editor.specs.messages.Said.{said_by}
 use Rattle.idl_server.proofs.PublishedLemmas.{then-published}
 use Rattle.idl_server.proofs.NoticeLemmas.{taken-before}
 use Rattle.idl_server.proofs.ServerLemmas.{settled-kept}

@@ -1,10 +1,10 @@
 use Rattle.std.proofs.Common.{◌≡◌, ◌∙◌, None, Option, ap, subst, sym}
 use Rattle.serde_json.specs.View.{view}
-use Rattle.idl_messages.specs.Message.{seen}
-use Rattle.idl_server.specs.Documents.{Told}
-use Rattle.idl_server.specs.Notices.{told_by_message, told_by_notice}
+use Rattle.idl_editor.specs.messages.Message.{seen}
+use Rattle.idl_editor.specs.documents.Documents.{Told}
+use Rattle.idl_editor.specs.documents.Notices.{told_by_message, told_by_notice}
 use Rattle.idl_server.specs.Server.{HasTaken, if_running}
-use Rattle.idl_server.specs.Json.{said_by}
+use Rattle.idl_editor.specs.messages.Said.{said_by}
 use Rattle.idl_server.proofs.PublishedLemmas.{none-published}
 use Rattle.idl_server.proofs.NoticeLemmas.{none-running, params-given, told-notice, told-request, view-Null}
 use Rattle.idl_server.proofs.server.Server.take_value.Goals as goal

@@ -4,7 +4,7 @@ use Rattle.idl_source.specs.texts.Cut.{cut_lines}
 use Rattle.idl_editor.specs.Splices.{IsSplice}
 use Rattle.idl_loader.specs.Holding.{Holding}
 use Rattle.idl_server.specs.Files.{IsFiled}
-use Rattle.idl_server.specs.declared.document.Document.{Document}
+use Rattle.idl_editor.specs.declared.documents.document.Document.{Document}
 use Rattle.idl_server.proofs.workspace.Workspace.change_document.Goals as goal
 
 pub returns-clause-filed : goal.returns-clause-filed

@@ -4,8 +4,9 @@ use Rattle.std.specs.List.{AllZip}
 use Rattle.serde_json.proofs.Views.{view-Array}
 use Rattle.serde_json.specs.View.{view}
 use Rattle.idl_editor.specs.declared.change.Range.{Range}
-use Rattle.idl_server.specs.Diagnostics.{IsToldOf, diagnostic_json}
-use Rattle.idl_server.specs.Found.{findings_in}
+use Rattle.idl_editor.specs.told.Diagnostics.{diagnostic_json}
+use Rattle.idl_server.specs.Diagnostics.{IsToldOf}
+use Rattle.idl_editor.specs.told.Found.{findings_in}
 use Rattle.idl_server.proofs.DiagnosticLemmas.{zip-found}
 use Rattle.idl_server.proofs.workspace.Workspace.diagnostics_in.Goals as goal
 

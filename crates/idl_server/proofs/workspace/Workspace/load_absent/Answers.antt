@@ -9,7 +9,7 @@ use Rattle.idl_loader.specs.Holding.{Holding}
 use Rattle.idl_loader.specs.Holding.{IsFileOf}
 use Rattle.idl_server.specs.Files.{AreFiled, told_by}
 use Rattle.idl_server.specs.Loading.{IsLoadedEdit}
-use Rattle.idl_server.specs.declared.document.Document.{Document}
+use Rattle.idl_editor.specs.declared.documents.document.Document.{Document}
 use Rattle.idl_server.proofs.WorkspaceLemmas.{compiled-both, open-both, open-compiled, put-edit, set-same, some_of}
 use Rattle.idl_server.proofs.workspace.Workspace.load_absent.Goals as goal
 

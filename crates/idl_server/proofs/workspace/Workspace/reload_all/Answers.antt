@@ -10,7 +10,7 @@ use Rattle.idl_inputs.specs.Edits.{Edit}
 use Rattle.idl_loader.specs.Holding.{Holding}
 use Rattle.idl_server.specs.Files.{AreFiled, told_by}
 use Rattle.idl_server.specs.Loading.{IsLoadedEdit, StaysOpen}
-use Rattle.idl_server.specs.declared.document.Document.{Document}
+use Rattle.idl_editor.specs.declared.documents.document.Document.{Document}
 use Rattle.idl_server.proofs.WorkspaceLemmas.{all-stay, compiled-both, on_ok, open-both, open-compiled, put-loaded, session-open, session-same, some_of}
 use Rattle.idl_server.proofs.workspace.Workspace.reload_all.Goals as goal
 

@@ -2,10 +2,10 @@ use Rattle.std.proofs.Common.{◌≡◌, ℕ, List, None, Option, subst}
 use Rattle.std.proofs.lemmas.Result.{on_ok_weaker}
 use Rattle.std.specs.Option.{option_map}
 use Rattle.std.specs.Result.{OnOk}
-use Rattle.idl_server.specs.Documents.{Closed, HaveTexts, open_after_told, texts_of}
+use Rattle.idl_editor.specs.documents.Documents.{Closed, HaveTexts, open_after_told, texts_of}
 use Rattle.serde_json.specs.View.{view}
 use Rattle.idl_server.specs.Files.{StaysBeside}
-use Rattle.idl_server.specs.Notices.{name_in}
+use Rattle.idl_editor.specs.documents.Notices.{name_in}
 use Rattle.idl_server.proofs.CoveredLemmas.{rooted-beside}
 use Rattle.idl_server.proofs.HeldLemmas.{held-beside, held-closed}
 use Rattle.idl_server.proofs.NoticeLemmas.{texts-with}

@@ -1,0 +1,4 @@
+pub mod Json
+pub mod Diagnostics
+pub mod Published
+pub mod Found

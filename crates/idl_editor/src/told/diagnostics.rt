@@ -1,0 +1,86 @@
+//! What is found, as an editor is told.
+
+ghost use Rattle.std.specs.Prelude.{◌≡◌, [], IfOk, unwrap_or};
+ghost use Rattle.serde_json.specs.View.{view};
+ghost use Rattle.idl_editor.specs.told.Diagnostics.{IsSaid, diagnostic_json, severity};
+
+use crate::change::Range;
+use crate::told::ranges::{location_value, range_value};
+use crate::told::shown::shown_value;
+use idl_explain::{Topic, explanation_of};
+use idl_fault::Code;
+use idl_finding::Finding;
+use serde_json::{Value, json};
+use std::alloc::{AllocError, Global};
+
+/// A second place, as it is told: why it is, and its token.
+pub fn second_value(
+    alloc: Global,
+    uri: &String,
+    range: Range,
+    reason: &[u8],
+    token: &[u8],
+) -> Result<Value, AllocError> {
+    json!(in alloc; {
+        "location": location_value(alloc, uri, range)?,
+        "message": second_message(alloc, reason, token)?,
+    })
+}
+
+/// A finding that says this, with what is told of its second places.
+pub fn diagnostic_value(
+    alloc: Global,
+    range: Range,
+    finding: &Finding,
+    message: &[u8],
+    related: Value,
+) -> Result<Value, AllocError>
+    ensures { IfOk result (λ value. view value
+        ≡ diagnostic_json finding.now range message.now (view related)) }
+{
+    // What is owned goes in first, and what is made when it goes in.
+    json!(in alloc; {
+        "relatedInformation": related,
+        "code": shown_value(alloc, &finding.code.text())?,
+        "message": shown_value(alloc, message)?,
+        "range": range_value(alloc, range)?,
+        "severity": severity(finding.code),
+        "source": "idltool",
+    })
+}
+
+/// What a finding says.
+pub fn message_of(alloc: Global, finding: &Finding) -> Result<Vec<u8>, AllocError>
+    ensures { IfOk result (λ message. IsSaid finding.now message.items) }
+{
+    let explanation = explanation_of(Topic::Code(finding.code));
+    let token = token_of(finding);
+    let mut message = Vec::new(alloc);
+    explanation.words.push(token, &mut message)?;
+    Ok(message)
+}
+
+// The token of a finding, if it tells one.
+fn token_of(finding: &Finding) -> &[u8]
+    ensures { result.now ≡ unwrap_or finding.now.text [] }
+{
+    match &finding.text {
+        Some(text) => text.as_bytes(),
+        None => b"",
+    }
+}
+
+// Why a second place is told, and its token.
+fn second_message(alloc: Global, reason: &[u8], token: &[u8]) -> Result<Value, AllocError> {
+    let mut text = Vec::from_slice(alloc, reason)?;
+    text.extend_from_slice(b": ")?;
+    text.extend_from_slice(token)?;
+    shown_value(alloc, &text)
+}
+
+// The number of an error, or of a warning.
+fn severity(code: Code) -> u8
+    ensures { result ≡ severity code }
+{
+    if code.is_error() { 1 } else { 2 }
+}
