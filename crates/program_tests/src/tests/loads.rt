@@ -1,9 +1,9 @@
 //! Each name is tried once, over all roots.
 
-ghost use Rattle.idl_server.specs.idl_loader.Holding.{Untold};
+ghost use Rattle.idl_loader.specs.Holding.{Untold};
 
 use super::support::{TextFiles, ample, parts_of, told};
-use idl_program::{Loaded, Loader};
+use idl_loader::{Loaded, Loader};
 use idl_source::Name;
 use std::test::Fail;
 

@@ -1,9 +1,9 @@
 //! Roots that ask for as many files as there may be.
 
-ghost use Rattle.idl_server.specs.idl_loader.Holding.{Untold};
+ghost use Rattle.idl_loader.specs.Holding.{Untold};
 
 use super::support::{ample, loaded, told};
-use idl_program::{Loaded, Loader};
+use idl_loader::{Loaded, Loader};
 use idl_source::Name;
 use std::alloc::{AllocError, Global};
 use std::test::Fail;

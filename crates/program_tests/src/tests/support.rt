@@ -1,12 +1,11 @@
-//! What the tests share: the programs over files of a text, and rows of what they give.
+//! What the tests share: the program over files of a text, and rows of what it gives.
 
-ghost use Rattle.idl_server.specs.idl_loader.Holding.{Untold};
+ghost use Rattle.idl_loader.specs.Holding.{Untold};
 
-use idl_program::{Devices, Loaded, Loader, PathLoader, Status, run_program};
-use idl_server::LanguageServer;
+use idl_loader::{Loaded, Loader, Status};
+use idl_program::{Devices, run_program};
 use idl_source::Name;
 use idl_source::devices::{BufferSink, SliceSource};
-use idl_tool::run_tool;
 use std::alloc::{AllocError, Global};
 use std::test::Fail;
 
@@ -61,17 +60,6 @@ impl<'a> Loader for TextFiles<'a> {
     }
 }
 
-impl<'a> PathLoader for TextFiles<'a> {
-    ghost told_of = { λ _ _. Untold };
-
-    fn load_path(&mut self, path: &[u8]) -> Loaded {
-        match Name::new(path) {
-            Some(name) => self.load(&name),
-            None => Loaded::Missing,
-        }
-    }
-}
-
 /// The bytes of a file, unless there was no memory for them.
 pub fn loaded(bytes: Result<Vec<u8>, AllocError>) -> Loaded {
     match bytes {
@@ -94,18 +82,14 @@ fn file_bytes(alloc: Global, lines: &str) -> Result<Vec<u8>, AllocError> {
     Ok(bytes)
 }
 
-/// What a program gives over files of a text: its status, what it wrote to standard output, and what to standard error, with ` / ` for a
+/// What the program gives over files of a text: its status, what it wrote to standard output, and what to standard error, with ` / ` for a
 /// newline.
 pub fn given(alloc: Global, command: &str, files: &str) -> Result<String, AllocError> {
-    let loader = TextFiles::new(alloc, files);
-    if let Some(words) = command.strip_prefix("idltool") {
-        return tool_told(ample(alloc), words, loader, "");
-    }
     let words = command.strip_prefix("idlc").unwrap_or(command);
-    told(ample(alloc), words, loader, "")
+    told(ample(alloc), words, TextFiles::new(alloc, files), "")
 }
 
-/// What `idlc` gives for these words, over the files of a loader and this input.
+/// The same for these words, over the files of a loader and this input.
 pub fn told<L: Loader + Drop>(
     room: OutputRoom,
     words: &str,
@@ -113,37 +97,14 @@ pub fn told<L: Loader + Drop>(
     input: &str,
 ) -> Result<String, AllocError> {
     let list = list_of(room.alloc, words)?;
-    let mut devices = devices_of(&room, loader, input)?;
-    let status = run_program(room.alloc, &list, &mut devices);
-    text_of(room.alloc, status, &devices.output, &devices.errors)
-}
-
-/// What `idltool` gives for these words, over files of a text and this input.
-pub fn tool_told(
-    room: OutputRoom,
-    words: &str,
-    loader: TextFiles<'_>,
-    input: &str,
-) -> Result<String, AllocError> {
-    let list = list_of(room.alloc, words)?;
-    let mut devices = devices_of(&room, loader, input)?;
-    let service = LanguageServer::new(room.alloc);
-    let status = run_tool(room.alloc, &list, &service, &mut devices);
-    text_of(room.alloc, status, &devices.output, &devices.errors)
-}
-
-// The files of a loader, this input, and sinks with room.
-fn devices_of<'i, L: Loader + Drop>(
-    room: &OutputRoom,
-    loader: L,
-    input: &'i str,
-) -> Result<Devices<L, SliceSource<'i>, BufferSink, BufferSink>, AllocError> {
-    Ok(Devices {
+    let mut devices = Devices {
         loader,
         source: SliceSource::new(input.as_bytes()),
         output: BufferSink::new(room.alloc, room.output)?,
         errors: BufferSink::new(room.alloc, room.errors)?,
-    })
+    };
+    let status = run_program(room.alloc, &list, &mut devices);
+    text_of(room.alloc, status, &devices.output, &devices.errors)
 }
 
 // The status, and what was written.
@@ -154,15 +115,25 @@ fn text_of(
     errors: &BufferSink,
 ) -> Result<String, AllocError> {
     let mut text = format!(in alloc; "{}", status.code())?;
-    if !output.as_bytes().is_empty() {
-        let lines = String::from_utf8_lossy(alloc, output.as_bytes())?;
-        write!(text, " out {}", lines.replace(alloc, "\n", " /")?)?;
-    }
-    if !errors.as_bytes().is_empty() {
-        let lines = String::from_utf8_lossy(alloc, errors.as_bytes())?;
-        write!(text, " err {}", lines.replace(alloc, "\n", " /")?)?;
-    }
+    push_lines(alloc, " out ", output.as_bytes(), &mut text)?;
+    push_lines(alloc, " err ", errors.as_bytes(), &mut text)?;
     Ok(text)
+}
+
+// The lines that were written, if any, behind this.
+fn push_lines(
+    alloc: Global,
+    front: &str,
+    lines: &[u8],
+    text: &mut String,
+) -> Result<(), AllocError> {
+    if lines.is_empty() {
+        return Ok(());
+    }
+    let lines = String::from_utf8_lossy(alloc, lines)?;
+    let lines = lines.replace(alloc, "\n", " /")?;
+    text.push_str(front)?;
+    text.push_str(lines.as_str())
 }
 
 // Words that stand in a text, parted by blanks.
@@ -176,15 +147,7 @@ fn list_of<'w>(alloc: Global, words: &'w str) -> Result<Vec<&'w str>, AllocError
     Ok(list)
 }
 
-/// What is found is what is wanted of a row.
-pub fn is_wanted(found: &str, want: &str, row: &str) -> Result<(), Fail> {
-    if found == want {
-        return Ok(());
-    }
-    Err(Fail::new(format_args!("{row}: {found}, not {want}")))
-}
-
-/// Each row of these tables has a program with its words, files, and what it gives, with ` => ` between.
+/// Each row of these tables has the program with its words, files, and what it gives, with ` => ` between.
 pub fn are_given(alloc: Global, tables: &[&str]) -> Result<(), Fail> {
     for table in tables {
         for row in table.split('\n') {
@@ -198,7 +161,10 @@ pub fn are_given(alloc: Global, tables: &[&str]) -> Result<(), Fail> {
 pub fn is_given(alloc: Global, row: &str) -> Result<(), Fail> {
     let (command, files, want) = parts_of(row);
     let found = given(alloc, command, files)?;
-    is_wanted(found.as_str(), want, row)
+    if found.as_str() == want {
+        return Ok(());
+    }
+    Err(Fail::new(format_args!("{found}, of {row}")))
 }
 
 /// The three parts of a row.
@@ -206,13 +172,4 @@ pub fn parts_of(row: &str) -> (&str, &str, &str) {
     let (words, rest) = row.split_once(" => ").unwrap_or((row, ""));
     let (files, want) = rest.split_once(" => ").unwrap_or((rest, ""));
     (words, files, want)
-}
-
-/// The same of a row in which each of these names, with blanks between, stands for `@`.
-pub fn are_given_so(alloc: Global, names: &str, row: &str) -> Result<(), Fail> {
-    for name in names.split(' ') {
-        let row = row.replace(alloc, "@", name)?;
-        is_given(alloc, row.as_str())?;
-    }
-    Ok(())
 }

@@ -1,6 +1,6 @@
 //! What `idltool diff` tells: what changes from one version of a file to another, and what of that breaks.
 
-use super::support::{are_given, given, is_wanted};
+use super::support::{are_given, is_given};
 use std::alloc::Global;
 use std::test::Fail;
 
@@ -76,7 +76,8 @@ fn is_told(alloc: Global, row: &str) -> Result<(), Fail> {
     let (front, rest) = text.split_once("[").unwrap_or((text, ""));
     let (edit, back) = rest.split_once("]").unwrap_or((rest, ""));
     let (old, new) = edit.split_once("->").unwrap_or((edit, ""));
-    let files = format!(in alloc; "a: {front}{old}{back} ¶ b: {front}{new}{back}")?;
-    let found = given(alloc, "idltool diff a b", files.as_str())?;
-    is_wanted(found.as_str(), want, row)
+    let row = format!(in alloc;
+        "idltool diff a b => a: {front}{old}{back} ¶ b: {front}{new}{back} => {want}"
+    )?;
+    is_given(alloc, row.as_str())
 }

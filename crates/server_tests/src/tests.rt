@@ -1,8 +1,56 @@
-//! What `idltool lsp` writes for messages of an editor, and how it ends.
+//! What the server writes for messages of an editor, and how it ends.
 
-use super::support::{TextFiles, ample, is_wanted, tool_told};
-use std::alloc::Global;
+ghost use Rattle.idl_loader.specs.Holding.{Untold};
+
+use idl_loader::{Loaded, PathLoader, Service};
+use idl_server::LanguageServer;
+use idl_source::Name;
+use idl_source::devices::{BufferSink, SliceSource};
+use std::alloc::{AllocError, Global};
 use std::test::Fail;
+
+// One file of one line, as `NAME: LINE`, or none.
+#[derive(Drop)]
+struct TextFile<'a> {
+    alloc: Global,
+    text: &'a str,
+}
+
+impl<'a> PathLoader for TextFile<'a> {
+    ghost told_of = { λ _ _. Untold };
+
+    fn load_path(&mut self, path: &[u8]) -> Loaded {
+        let (title, line) = self.text.split_once(": ").unwrap_or((self.text, ""));
+        match Name::new(path) {
+            Some(name) if name.as_bytes() == title.as_bytes() => match bytes_of(self.alloc, line) {
+                Ok(bytes) => Loaded::Bytes(bytes),
+                Err(_) => Loaded::NoMemory,
+            },
+            _ => Loaded::Missing,
+        }
+    }
+}
+
+// The bytes of a line, with a newline behind.
+fn bytes_of(alloc: Global, line: &str) -> Result<Vec<u8>, AllocError> {
+    let mut bytes = Vec::from_slice(alloc, line.as_bytes())?;
+    bytes.push(b'\n')?;
+    Ok(bytes)
+}
+
+// Over this file, the server has this status at the end of the input, and has written this.
+fn is_served(alloc: Global, text: &str, input: &str, code: u8, want: &str) -> Result<(), Fail> {
+    let mut loader = TextFile { alloc, text };
+    let mut source = SliceSource::new(input.as_bytes());
+    let mut output = BufferSink::new(alloc, 100_000)?;
+    let service = LanguageServer::new(alloc);
+    let status = service.serve(&mut loader, &mut source, &mut output)?;
+    if status.code() == code && output.as_bytes() == want.as_bytes() {
+        return Ok(());
+    }
+    let found = str::from_utf8(output.as_bytes()).unwrap_or("");
+    Err(Fail::new(format_args!("{status:?}: {found}, not {code}: {want}")))
+}
 
 // A status, files, messages, and behind a `=` what is written. A line that begins with blanks goes on with the one before it.
 static SCRIPTS: [&str; 3] = [
@@ -95,18 +143,31 @@ fn messages_are_answered(rt: HostRuntime) -> Result<(), Fail> {
 fn is_answered(alloc: Global, script: &str) -> Result<(), Fail> {
     let script = script.replace(alloc, "\n    ", "")?;
     let (head, lines) = script.split_once('\n').unwrap_or(("", ""));
-    let (status, files) = head.split_once(' ').unwrap_or((head, ""));
-    let mut input = String::new(alloc);
-    let mut want = format!(in alloc; "{status} out ")?;
+    let (code, file) = head.split_once(' ').unwrap_or((head, ""));
+    let (input, want) = parted(alloc, lines)?;
+    is_served(
+        alloc,
+        file,
+        input.as_str(),
+        code.parse().unwrap_or(2),
+        want.as_str(),
+    )
+}
+
+// The messages of lines, and those that are written, which have `=` before them.
+fn parted(alloc: Global, lines: &str) -> Result<(String, String), AllocError> {
+    let (mut input, mut want) = (String::new(alloc), String::new(alloc));
     for line in lines.split('\n') {
         match line.strip_prefix('=') {
-            Some(body) => write!(want, "Content-Length: {}\r /\r /{body}", body.len())?,
-            None => write!(input, "Content-Length: {}\r\n\r\n{line}", line.len())?,
+            Some(body) => push_message(body, &mut want)?,
+            None => push_message(line, &mut input)?,
         }
     }
-    let loader = TextFiles::new(alloc, files);
-    let found = tool_told(ample(alloc), "lsp", loader, input.as_str())?;
-    is_wanted(found.as_str(), want.as_str(), head)
+    Ok((input, want))
+}
+
+fn push_message(body: &str, messages: &mut String) -> Result<(), AllocError> {
+    write!(messages, "Content-Length: {}\r\n\r\n{body}", body.len())
 }
 
 // Inputs that no message, or only a part of one, stands at the end of.
@@ -122,9 +183,7 @@ static BROKEN: [&str; 6] = [
 #[test]
 fn inputs_that_break_off_end_it(rt: HostRuntime) -> Result<(), Fail> {
     for input in BROKEN {
-        let loader = TextFiles::new(rt.alloc(), "");
-        let got = tool_told(ample(rt.alloc()), "lsp", loader, input)?;
-        assert_eq!(rt; got.as_str(), "1", "{input}");
+        is_served(rt.alloc(), "", input, 1, "")?;
     }
     Ok(())
 }

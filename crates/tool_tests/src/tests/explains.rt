@@ -1,6 +1,6 @@
 //! What `idltool explain` answers, and words that the program doesn't take.
 
-use super::support::{OutputRoom, TextFiles, are_given, are_given_so, given, is_given, tool_told};
+use super::support::{are_given, are_given_so, given, is_given, told};
 use std::alloc::Global;
 use std::test::Fail;
 
@@ -46,7 +46,9 @@ fn wrong_words_are_told(rt: HostRuntime) -> Result<(), Fail> {
     for words in "--help, -h, explain -h, deps -h, check -h, json -h, diff -h".split(',') {
         tells_its_usage(rt.alloc(), words, "0 out ")?;
     }
-    is_given(rt.alloc(), "idltool --version =>  => 0 out idltool 0.1.0 /")
+    is_given(rt.alloc(), "idltool --version =>  => 0 out idltool 0.1.0 /")?;
+    // An editor is served by what is handed in, which ends the program.
+    is_given(rt.alloc(), "idltool lsp =>  => 1")
 }
 
 // What is given begins so, and tells how the program is used.
@@ -70,13 +72,8 @@ fn a_closed_output_is_told(rt: HostRuntime) -> Result<(), Fail> {
 }
 
 fn tells_a_closed_output(alloc: Global, words: &str) -> Result<(), Fail> {
-    let room = OutputRoom {
-        alloc,
-        output: 4,
-        errors: 100,
-    };
     let files = "a.idl: typedef long T; ¶ b.idl: typedef No T; ¶ c.idl";
-    let found = tool_told(room, words, TextFiles::new(alloc, files), "")?;
+    let found = told(alloc, words, files, 4)?;
     if found.starts_with("2 out ") && found.ends_with(" err idltool: write failed /") {
         return Ok(());
     }
