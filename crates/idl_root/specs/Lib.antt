@@ -1,6 +1,5 @@
 pub mod Added
 pub mod Judged
-pub mod Number
 pub mod Findings
 pub mod Printed
 pub mod Compile

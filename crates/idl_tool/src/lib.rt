@@ -16,5 +16,6 @@ mod program;
 mod report;
 mod request;
 
+pub use idl_driver;
 pub use laws::{findings_are_told_once, rules_tell_what_is_asked, sound_changes_break_nothing};
 pub use program::run_tool;

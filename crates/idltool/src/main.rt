@@ -4,8 +4,8 @@
 #![tactic(auto)]
 
 use idl_disk::{Disk, StandardInput, StandardOutput, texts, words};
-use idl_driver::{Devices, Status};
 use idl_server::LanguageServer;
+use idl_tool::idl_driver::{Devices, Status};
 use idl_tool::run_tool;
 use std::process::ExitCode;
 

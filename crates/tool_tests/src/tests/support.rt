@@ -2,10 +2,10 @@
 
 ghost use Rattle.idl_loader.specs.Holding.{Untold};
 
-use idl_driver::Devices;
 use idl_loader::{Loaded, Loader, PathLoader, Service, ServiceFault, Status};
 use idl_source::devices::{BufferSink, SliceSource};
 use idl_source::{Name, Sink, Source};
+use idl_tool::idl_driver::Devices;
 use idl_tool::run_tool;
 use std::alloc::{AllocError, Global};
 use std::test::Fail;

@@ -1,12 +1,8 @@
 use Rattle.std.proofs.Common.{◌∙◌, Option, subst, sym, true≢false}
 use Rattle.std.specs.Result.{OnOk}
 use Rattle.serde_json.specs.View.{view}
-use Rattle.serde_json.specs.declared.value.Value.{Null}
-use Rattle.idl_editor.specs.declared.messages.answer.ErrorCode.TheVariants.{NoJson}
 use Rattle.idl_editor.specs.documents.Documents.{Told}
-use Rattle.idl_editor.specs.messages.Said.{said_by}
 use Rattle.idl_server.specs.Server.{HasTaken, told_to}
-use Rattle.idl_server.proofs.PublishedLemmas.{error-published, one-published}
 use Rattle.idl_server.proofs.NoticeLemmas.{json-none, json-some, taken-same, told-json, told-nothing}
 use Rattle.idl_server.proofs.server.Server.step.Goals as goal
 
@@ -18,13 +14,9 @@ returns-in-Ok-clause-taken g c =
     subst (λ (told : Option Told). OnOk c.take_value.result (HasTaken told old c.take_value.new.self)) (sym (told-json old body json (json-some body json c.in-Ok.ensures.ok.0 c.in-Ok.ensures.ok.1)))
     c.take_value.ensures.taken
 
-pub returns-in-Err-clause-taken : goal.returns-in-Err-clause-taken
-returns-in-Err-clause-taken g c =
+pub returns-in_ok-refuse-in-Err-clause-taken : goal.returns-in_ok-refuse-in-Err-clause-taken
+returns-in_ok-refuse-in-Err-clause-taken g c =
     let old = c.args.self.now in
     let body = c.args.body.now in
     taken-same (told_to old body) old
     (told-nothing old body (json-none body (c.in-Err.ensures.err (λ memory. absurd (true≢false (sym (c.is_memory.ensures.1 memory) ∙ c.if-is_memory.false))))))
-
-pub returns-in-Err-clause-published : goal.returns-in-Err-clause-published
-returns-in-Err-clause-published g c =
-    one-published c.args.self.now.workspace (said_by c.args.out.now) (said_by c.refuse.new.out) _ c.in_ok-refuse.ensures (error-published c.args.self.now.workspace (view Null) NoJson)

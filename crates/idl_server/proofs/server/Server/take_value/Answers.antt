@@ -10,7 +10,7 @@ use Rattle.idl_server.proofs.NoticeLemmas.{none-running, params-given, told-noti
 use Rattle.idl_server.proofs.server.Server.take_value.Goals as goal
 
 pub returns-in-Request-clause-settled : goal.returns-in-Request-clause-settled
-returns-in-Request-clause-settled g c = c.in_ok-take_request.ensures.settled (g.L.PathLoader.told_of c.args.loader.now)
+returns-in-Request-clause-settled g c = c.in_ok-take_request-in-Request.ensures.settled (g.L.PathLoader.told_of c.args.loader.now)
 
 pub returns-in-Request-clause-taken : goal.returns-in-Request-clause-taken
 returns-in-Request-clause-taken g c =
@@ -19,11 +19,11 @@ returns-in-Request-clause-taken g c =
     let none : if_running old.phase (told_by_message old.workspace.folders json) ≡ None =
     ap (if_running old.phase) (told-request old.workspace.folders json (view c.in-Request.id.now) c.in-Request.ensures.0)
     ∙ none-running old.phase in
-    subst (λ (told : Option Told). HasTaken told old c.take_request.new.self) (sym none) c.in_ok-take_request.ensures.taken
+    subst (λ (told : Option Told). HasTaken told old c.take_request.new.self) (sym none) c.in_ok-take_request-in-Request.ensures.taken
 
 pub returns-in-Request-clause-published : goal.returns-in-Request-clause-published
 returns-in-Request-clause-published g c =
-    c.in_ok-take_request.ensures.published c.take_request.new.self.workspace
+    c.in_ok-take_request-in-Request.ensures.published c.take_request.new.self.workspace
 
 pub returns-in-Notice : goal.returns-in-Notice
 returns-in-Notice g c =
@@ -37,9 +37,9 @@ returns-in-Notice g c =
     ∙ ap (told_by_notice folders method)
     (sym (params-given c.in-Notice.params _ c.unwrap_or-in-Notice.result c.unwrap_or-in-Notice.ensures view-Null))) in
     record {
-      settled = λ is. c.in_ok-take_notice.ensures.settled is;
-      taken = subst (λ (t : Option Told). HasTaken t old c.take_notice.new.self) (sym told) c.in_ok-take_notice.ensures.taken;
-      published = c.in_ok-take_notice.ensures.published;
+      settled = λ is. c.in_ok-take_notice-in-Notice.ensures.settled is;
+      taken = subst (λ (t : Option Told). HasTaken t old c.take_notice.new.self) (sym told) c.in_ok-take_notice-in-Notice.ensures.taken;
+      published = c.in_ok-take_notice-in-Notice.ensures.published;
       stays = c.take_notice.ensures.stays;
     }
 
