@@ -7,4 +7,4 @@ mod StandingLemmas
 pub mod TypeLemmas
 pub mod UseLemmas
 pub mod Visits
-pub use Rattle.idl_syntax.proofs as IdlSyntax
+pub use Rattle.idl_parse.proofs as IdlParse

@@ -3,5 +3,5 @@ pub mod ids
 pub mod tables
 pub mod told
 pub mod walk
-pub use Rattle.idl_syntax.specs as idl_syntax
+pub use Rattle.idl_parse.specs as idl_parse
 pub use Rattle.idl_dump.specs as idl_dump

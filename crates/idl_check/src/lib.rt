@@ -17,7 +17,7 @@ mod tables;
 mod told;
 mod walk;
 
-pub use idl_syntax;
+pub use idl_parse;
 pub use walk::names::{NameRole, NamedSite, names_of};
 pub use walk::scratch::Scratch;
 pub use walk::steps::UnitWalk;

@@ -59,7 +59,7 @@ ghost use Rattle.idl_entity.specs.declared.kind.Stage.TheVariants.{Complete};
 ghost use Rattle.idl_parts.specs.Item.{Item, items, items_length};
 ghost use Rattle.idl_parts.specs.ExpressionParts.{expression_parts};
 ghost use Rattle.idl_parts.specs.UnitParts.{unit_parts};
-ghost use Rattle.idl_check.specs.idl_syntax.Parse.{StopsAt, pragma_faults};
+ghost use Rattle.idl_check.specs.idl_parse.Parse.{StopsAt, pragma_faults};
 ghost use Rattle.idl_tree.specs.Lexeme.{lexemes};
 ghost use Rattle.idl_tree.specs.Pragma.{pragma_of};
 ghost use Rattle.idl_tree.specs.Unit.{spell};

@@ -9,7 +9,7 @@ mod laws;
 mod unit_names;
 
 pub use idl_check;
-pub use idl_check::idl_syntax;
+pub use idl_check::idl_parse;
 pub use laws::{
     acceptance, bracketing, denoting, evaluating, fitting, identification, inheriting, least,
     more_turns, naming, numbering, questions, refusal, speaking, stopping, wording,

@@ -27,7 +27,7 @@ pub use idl_prep;
 pub use idl_root;
 pub use idl_root::{
     Compiled, DeclaredPlace, DetailedEntry, Details, Finding, Row, SitedToken, UsedName, idl_check,
-    idl_root_blocks, idl_scope, idl_syntax,
+    idl_parse, idl_root_blocks, idl_scope,
 };
 pub use idl_source::Span;
 pub use related::{related_in, related_over};

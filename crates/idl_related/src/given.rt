@@ -7,8 +7,8 @@ use idl_entity::Path;
 use idl_env::LentKey;
 use idl_fault::Code;
 use idl_map::Lent;
+use idl_parse::UnitTree;
 use idl_parts::{UnitPart, Use, sites};
-use idl_syntax::UnitTree;
 use idl_tree::{Pragma, Tree};
 use std::alloc::{AllocError, Global};
 

@@ -2,8 +2,8 @@
 
 use idl_base::Bytes;
 use idl_entity::Path;
+use idl_parse::{SyntaxFault, UnitTree, parse};
 use idl_parts::{UnitPart, sites};
-use idl_syntax::{SyntaxFault, UnitTree, parse};
 use idl_tree::{ScopedName, Tree};
 use idl_unit::UnitText;
 use std::alloc::{AllocError, Global};

@@ -29,7 +29,7 @@ pub use block_text::BlockText;
 pub use blocks::{resulting, standing, taking};
 pub use finding::{block_at, blocks_in, texts_in};
 pub use idl_check_laws;
-pub use idl_check_laws::{idl_check, idl_syntax};
+pub use idl_check_laws::{idl_check, idl_parse};
 pub use idl_unit;
 pub use logs::{logging, noting_on};
 pub use met::{containing, meeting, repeating};

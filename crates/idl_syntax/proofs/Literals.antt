@@ -5,8 +5,8 @@ use Rattle.idl_lex.specs.kinds.Number.{integer_value}
 use Rattle.idl_lex.specs.kinds.Literal.{literal_value}
 use Rattle.idl_lex.specs.declared.kinds.kind.TokenKind.{TokenKind}
 use Rattle.idl_lex.specs.declared.kinds.kind.TokenKind.TheVariants as kind
-use Rattle.idl_syntax.specs.declared.fault.SyntaxFault.{SyntaxFault}
-use Rattle.idl_syntax.specs.declared.fault.SyntaxFault.TheVariants as fault
+use Rattle.idl_syntax.specs.declared.fault.ReadingFault.{ReadingFault}
+use Rattle.idl_syntax.specs.declared.fault.ReadingFault.TheVariants as fault
 use Rattle.idl_syntax.specs.Gives.{Fails}
 use Rattle.idl_syntax.specs.Literal.{is_at_text, is_at_wide_text, is_text_kind, is_wide_text_kind, single_at, wide_text_at}
 use Rattle.idl_tree.specs.Lexeme.{Lexeme, Identifier, Integer, Character, WideCharacter, Text, WideText, one_character, lexeme_by, lexeme_of, lexemes, valued}
@@ -68,14 +68,12 @@ literal_wide_text [] h = absurd cc
 literal_wide_text (t ∷ rest) h = rw (is_wide_text (kind_of t) h) (wide_text_value (literal_value t) (lexemes rest))
 
 -- a reading that fails gives no literal
-pub text_fails : (why : SyntaxFault) (read : Result (Several (List ℕ) × List Lexeme) ℕ) → Fails why read → Fails why (as_text read)
+pub text_fails : (why : ReadingFault) (read : Result (Several (List ℕ) × List Lexeme) ℕ) → Fails why read → Fails why (as_text read)
 text_fails fault.Memory read h = tt
-text_fails (fault.Rule found) read h = h
 text_fails (fault.NoTree left) read h = ap as_text h
 
-pub wide_text_fails : (why : SyntaxFault) (read : Result (Several (List ℕ) × List Lexeme) ℕ) → Fails why read → Fails why (as_wide_text read)
+pub wide_text_fails : (why : ReadingFault) (read : Result (Several (List ℕ) × List Lexeme) ℕ) → Fails why read → Fails why (as_wide_text read)
 wide_text_fails fault.Memory read h = tt
-wide_text_fails (fault.Rule found) read h = h
 wide_text_fails (fault.NoTree left) read h = ap as_wide_text h
 
 valued_alone : {A : Type 0} (ts : List Lexeme) (make : A → Lexeme) (value : Option A) → ((a : A) → literal_at (make a ∷ ts) ≡ single_at (make a ∷ ts)) → literal_at (valued make value ∷ ts) ≡ single_at (valued make value ∷ ts)

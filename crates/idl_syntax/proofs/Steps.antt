@@ -1,16 +1,15 @@
 -- What is read after something was read.
 use Rattle.std.proofs.Common.{◌≡◌, ℕ, Bool, List, [], ◌∷◌, Result, Ok, Err, drop, length, slice_range, refl, ap, ◌∙◌}
 use Rattle.idl_syntax.specs.Gives.{Fails}
-use Rattle.idl_syntax.specs.declared.fault.SyntaxFault.{SyntaxFault}
-use Rattle.idl_syntax.specs.declared.fault.SyntaxFault.TheVariants as fault
+use Rattle.idl_syntax.specs.declared.fault.ReadingFault.{ReadingFault}
+use Rattle.idl_syntax.specs.declared.fault.ReadingFault.TheVariants as fault
 use Rattle.idl_syntax.proofs.Turns.{rest_is}
 use Rattle.idl_tree.specs.Lexeme.{Lexemes, lexemes}
 use Rattle.idl_tree.specs.reading.Reading.{Reader, ◌>>=◌}
 
 -- where reading fails, nothing is read after it
-step_fails : {A B : Type 0} (why : SyntaxFault) (read : Result A ℕ) (next : A → Result B ℕ) → Fails why read → Fails why (read >>= next)
+step_fails : {A B : Type 0} (why : ReadingFault) (read : Result A ℕ) (next : A → Result B ℕ) → Fails why read → Fails why (read >>= next)
 step_fails fault.Memory read next f = f
-step_fails (fault.Rule found) read next f = f
 step_fails (fault.NoTree left) read next f = ap (λ r. r >>= next) f
 
 abbrev with_name : {A N : Type 0} → A → N × Lexemes → Result ((A × N) × Lexemes) ℕ
@@ -29,7 +28,7 @@ named_read (Err left) x y rest h = cc
 
 -- an operation whose context can't be read
 pub context_fails : {P R C O : Type 0} (opening : Result Lexemes ℕ) (parameters : Reader P) (closing : Lexemes → Result Lexemes ℕ) (raises : Reader R) (context : Reader C) (operation : P → R → C → O)
-    (why : SyntaxFault) (ts ts1 ts2 ts3 : Lexemes) (p : P) (r : R) → opening ≡ Ok ts → parameters ts ≡ Ok (p, ts1) → closing ts1 ≡ Ok ts2 → raises ts2 ≡ Ok (r, ts3) → Fails why (context ts3)
+    (why : ReadingFault) (ts ts1 ts2 ts3 : Lexemes) (p : P) (r : R) → opening ≡ Ok ts → parameters ts ≡ Ok (p, ts1) → closing ts1 ≡ Ok ts2 → raises ts2 ≡ Ok (r, ts3) → Fails why (context ts3)
     → Fails why (opening >>= λ rest. parameters rest >>= λ ps. closing ps.1 >>= λ rest2. raises rest2 >>= λ rs. context rs.1 >>= made (operation ps.0 rs.0))
 context_fails opening parameters closing raises context operation why ts ts1 ts2 ts3 p r opened listed closed raised f =
     rw (opened, listed, closed, raised) (step_fails why (context ts3) (made (operation p r)) f)

@@ -2,8 +2,8 @@
 use Rattle.std.proofs.Common.{◌≡◌, ℕ, zero, suc, ◌<◌, ◌-◌, Bool, true, false, List, [], ◌∷◌, ◌++◌, length, drop, Option, Some, None, is_some, Result, Ok, Err, refl, sym, ap, subst, ◌∙◌, append_assoc, append-nil, arith, slice_range, length-drop}
 use Rattle.std.proofs.lemmas.List.{length-map, take_all}
 use Rattle.idl_lex.specs.declared.kinds.mark.Mark.{Mark}
-use Rattle.idl_syntax.specs.declared.fault.SyntaxFault.{SyntaxFault}
-use Rattle.idl_syntax.specs.declared.fault.SyntaxFault.TheVariants as fault
+use Rattle.idl_syntax.specs.declared.fault.ReadingFault.{ReadingFault}
+use Rattle.idl_syntax.specs.declared.fault.ReadingFault.TheVariants as fault
 use Rattle.idl_syntax.specs.Gives.{Fails}
 use Rattle.idl_tree.specs.Lexeme.{Lexeme, lexeme_of, lexemes}
 use Rattle.idl_tree.specs.reading.ReadExpression.{behind_with, step_with}
@@ -50,10 +50,9 @@ turns_stop {A} p item front ts total t h = stop t.fuel t.long t.so_far
         let one : many_at p item (suc k) ts ≡ Ok ([], ts) = rw h refl in
         sym so_far ∙ ap (with_front front) one ∙ ap (λ (xs : List A). Ok (xs, ts)) (append-nil front)
 
-pub turns_fail : {A : Type 0} (p : Option Lexeme → Bool) (item : Reader A) (front : List A) (ts : List Lexeme) (total : Result (List A × List Lexeme) ℕ) (e : SyntaxFault)
+pub turns_fail : {A : Type 0} (p : Option Lexeme → Bool) (item : Reader A) (front : List A) (ts : List Lexeme) (total : Result (List A × List Lexeme) ℕ) (e : ReadingFault)
     → Turns p item front ts total → p (first ts) ≡ true → Fails e (item ts) → Fails e total
 turns_fail p item front ts total fault.Memory t h f = tt
-turns_fail p item front ts total (fault.Rule found) t h f = f
 turns_fail p item front ts total (fault.NoTree l) t h f = fail t.fuel t.long t.so_far
   where
     fail : (k : ℕ) → length ts < k → with_front front (many_at p item k ts) ≡ total → total ≡ Err l
@@ -91,7 +90,7 @@ loop_behind {A} m item items items' rest after total x t h e shorter items-is =
     let less : length after < length (drop 1 rest) = subst (λ (ts : List (List ℕ)). length after < length ts) (rest_is rest) shorter in
     loop_step (is_mark m) (behind_with m item) items items' rest after total x t h (behind_mark m item rest h ∙ read) (shorter_rest rest after less) items-is
 
-pub loop_behind_fails : {A : Type 0} (m : Mark) (item : Reader A) (items : List A) (rest : List (List ℕ)) (total : Result (List A × List Lexeme) ℕ) (why : SyntaxFault)
+pub loop_behind_fails : {A : Type 0} (m : Mark) (item : Reader A) (items : List A) (rest : List (List ℕ)) (total : Result (List A × List Lexeme) ℕ) (why : ReadingFault)
     → Turns (is_mark m) (behind_with m item) items (lexemes rest) total → is_mark m (first (lexemes rest)) ≡ true → Fails why (item (lexemes (slice_range rest 1 (length rest)))) → Fails why total
 loop_behind_fails m item items rest total why t h f =
     let read : Fails why (item (lexemes (drop 1 rest))) = subst (λ (ts : List (List ℕ)). Fails why (item (lexemes ts))) (rest_is rest) f in
@@ -133,12 +132,11 @@ loop_operator operator operand items items' (token ∷ rest) after total o x not
     let less : length after < length (drop 1 (token ∷ rest)) = subst (λ (ts : List (List ℕ)). length after < length ts) (rest_is (token ∷ rest)) shorter in
     loop_step (λ t. is_some (operator t)) (step_with operator operand) items items' (token ∷ rest) after total (o, x) t test one (shorter_rest (token ∷ rest) after less) items-is
 
-step_fails : {O A : Type 0} (o : O) (why : SyntaxFault) (read : Result (A × List Lexeme) ℕ) → Fails why read → Fails why (read >>= with_operator o)
+step_fails : {O A : Type 0} (o : O) (why : ReadingFault) (read : Result (A × List Lexeme) ℕ) → Fails why read → Fails why (read >>= with_operator o)
 step_fails o fault.Memory read f = tt
-step_fails o (fault.Rule found) read f = f
 step_fails o (fault.NoTree left) read f = rw f refl
 
-pub loop_operator_fails : {O A : Type 0} (operator : Option Lexeme → Option O) (operand : Reader A) (items : List (O × A)) (rest : List (List ℕ)) (total : Result (List (O × A) × List Lexeme) ℕ) (o : O) (why : SyntaxFault)
+pub loop_operator_fails : {O A : Type 0} (operator : Option Lexeme → Option O) (operand : Reader A) (items : List (O × A)) (rest : List (List ℕ)) (total : Result (List (O × A) × List Lexeme) ℕ) (o : O) (why : ReadingFault)
     → operator None ≡ None → Turns (λ t. is_some (operator t)) (step_with operator operand) items (lexemes rest) total → operator (first (lexemes rest)) ≡ Some o
     → Fails why (operand (lexemes (slice_range rest 1 (length rest)))) → Fails why total
 loop_operator_fails operator operand items [] total o why nothing t h f = absurd cc

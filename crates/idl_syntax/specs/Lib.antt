@@ -4,4 +4,3 @@ pub mod Literal
 pub mod Steps
 pub mod Nested
 pub mod Behind
-pub mod Parse

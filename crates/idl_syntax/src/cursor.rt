@@ -8,7 +8,7 @@ ghost use Rattle.idl_tree.specs.reading.Tests.{by_word, identifier_at, identifie
 ghost use Rattle.idl_syntax.specs.Gives.{Advances, Passes, Reads};
 ghost use Rattle.idl_syntax.specs.Next.{closed_with, mark_of, named_with};
 
-use crate::fault::SyntaxFault;
+use crate::fault::ReadingFault;
 use idl_base::Bytes;
 use idl_lex::Token;
 use idl_lex::kinds::{Keyword, Mark, TokenKind};
@@ -63,19 +63,19 @@ pub fn is_at_word(tokens: &[Token], word: Keyword) -> bool
 }
 
 /// What stands behind this mark.
-pub fn behind(tokens: &[Token], mark: Mark) -> Result<&[Token], SyntaxFault>
+pub fn behind(tokens: &[Token], mark: Mark) -> Result<&[Token], ReadingFault>
     ensures reads { Passes (is_mark mark) tokens.now result }
     ensures shorter { IfOk result (λ x. length x.now < length tokens.now) }
 {
     if is_at(tokens, mark) {
         Ok(&tokens[1..])
     } else {
-        Err(SyntaxFault::NoTree(tokens.len()))
+        Err(ReadingFault::NoTree(tokens.len()))
     }
 }
 
 /// What was read, with an identifier behind it.
-pub fn named<T: Drop>(read: T, tokens: &[Token]) -> Result<((T, Bytes), &[Token]), SyntaxFault>
+pub fn named<T: Drop>(read: T, tokens: &[Token]) -> Result<((T, Bytes), &[Token]), ReadingFault>
     ensures reads { Reads (named_with read) tokens.now result }
     ensures shorter { Advances tokens.now result }
 {
@@ -84,7 +84,7 @@ pub fn named<T: Drop>(read: T, tokens: &[Token]) -> Result<((T, Bytes), &[Token]
 }
 
 /// What was read, with this mark behind it.
-pub fn closed<T: Drop>(read: T, tokens: &[Token], mark: Mark) -> Result<(T, &[Token]), SyntaxFault>
+pub fn closed<T: Drop>(read: T, tokens: &[Token], mark: Mark) -> Result<(T, &[Token]), ReadingFault>
     ensures reads { Reads (closed_with mark read) tokens.now result }
     ensures shorter { Advances tokens.now result }
 {
@@ -93,14 +93,14 @@ pub fn closed<T: Drop>(read: T, tokens: &[Token], mark: Mark) -> Result<(T, &[To
 }
 
 /// What stands behind this keyword.
-pub fn behind_word(tokens: &[Token], word: Keyword) -> Result<&[Token], SyntaxFault>
+pub fn behind_word(tokens: &[Token], word: Keyword) -> Result<&[Token], ReadingFault>
     ensures reads { Passes (is_word word) tokens.now result }
     ensures shorter { IfOk result (λ x. length x.now < length tokens.now) }
 {
     if is_at_word(tokens, word) {
         Ok(&tokens[1..])
     } else {
-        Err(SyntaxFault::NoTree(tokens.len()))
+        Err(ReadingFault::NoTree(tokens.len()))
     }
 }
 
@@ -109,7 +109,7 @@ pub fn by_word<T: Copy>(
     tokens: &[Token],
     word: Keyword,
     value: T,
-) -> Result<(T, &[Token]), SyntaxFault>
+) -> Result<(T, &[Token]), ReadingFault>
     ensures reads { Reads (by_word word value) tokens.now result }
     ensures shorter { Advances tokens.now result }
 {
@@ -140,12 +140,12 @@ fn shared_name(tokens: &[Token]) -> Result<Option<Bytes>, AllocError>
 }
 
 /// An identifier.
-pub fn identifier(tokens: &[Token]) -> Result<(Bytes, &[Token]), SyntaxFault>
+pub fn identifier(tokens: &[Token]) -> Result<(Bytes, &[Token]), ReadingFault>
     ensures reads { Reads identifier_at tokens.now result }
     ensures shorter { Advances tokens.now result }
 {
     match shared_name(tokens)? {
         Some(name) => Ok((name, &tokens[1..])),
-        None => Err(SyntaxFault::NoTree(tokens.len())),
+        None => Err(ReadingFault::NoTree(tokens.len())),
     }
 }

@@ -11,7 +11,7 @@ ghost use Rattle.idl_syntax.specs.Gives.{Advances, Reads, Remains};
 ghost use Rattle.idl_syntax.specs.Steps.{steps_with};
 
 use crate::cursor::{behind, closed, is_at, name};
-use crate::fault::SyntaxFault;
+use crate::fault::ReadingFault;
 use crate::literal::literal;
 use crate::name::scoped_name;
 use crate::operator::{product_operator, shift_operator, sum_operator, unary_operator};
@@ -32,12 +32,12 @@ pub fn expression(
     alloc: Global,
     depth: usize,
     tokens: &[Token],
-) -> Result<(Expression, &[Token]), SyntaxFault>
+) -> Result<(Expression, &[Token]), ReadingFault>
     ensures reads { Reads (expression_at depth) tokens.now result }
     ensures shorter { Advances tokens.now result }
 {
     if depth == 0 {
-        return Err(SyntaxFault::NoTree(tokens.len()));
+        return Err(ReadingFault::NoTree(tokens.len()));
     }
     alternatives(alloc, depth - 1, tokens)
 }
@@ -49,7 +49,7 @@ fn alternatives(
     alloc: Global,
     depth: usize,
     tokens: &[Token],
-) -> Result<(Expression, &[Token]), SyntaxFault>
+) -> Result<(Expression, &[Token]), ReadingFault>
     ensures reads { Reads (or_with (expression_at depth)) tokens.now result }
     ensures shorter { Advances tokens.now result }
 {
@@ -65,7 +65,7 @@ fn more_alternatives(
     alloc: Global,
     depth: usize,
     tokens: &[Token],
-) -> Result<(Seq<ExclusiveOr>, &[Token]), SyntaxFault>
+) -> Result<(Seq<ExclusiveOr>, &[Token]), ReadingFault>
     ensures reads { Reads (many_of (is_mark mark.Bar) (behind_with mark.Bar (exclusive_or_with
         (expression_at depth)))) tokens.now result }
     ensures within { Remains tokens.now result }
@@ -87,7 +87,7 @@ fn exclusive_or(
     alloc: Global,
     depth: usize,
     tokens: &[Token],
-) -> Result<(ExclusiveOr, &[Token]), SyntaxFault>
+) -> Result<(ExclusiveOr, &[Token]), ReadingFault>
     ensures reads { Reads (exclusive_or_with (expression_at depth)) tokens.now result }
     ensures shorter { Advances tokens.now result }
 {
@@ -103,7 +103,7 @@ fn more_ands(
     alloc: Global,
     depth: usize,
     tokens: &[Token],
-) -> Result<(Seq<And>, &[Token]), SyntaxFault>
+) -> Result<(Seq<And>, &[Token]), ReadingFault>
     ensures reads { Reads (many_of (is_mark mark.Caret) (behind_with mark.Caret (and_with
         (expression_at depth)))) tokens.now result }
     ensures within { Remains tokens.now result }
@@ -121,7 +121,7 @@ fn more_ands(
 /// Operands with `&` between them.
 #[cycle(expression)]
 #[tactic(auto, unfolding(idl_tree::specs::reading::ReadExpression::parted_with))]
-fn and(alloc: Global, depth: usize, tokens: &[Token]) -> Result<(And, &[Token]), SyntaxFault>
+fn and(alloc: Global, depth: usize, tokens: &[Token]) -> Result<(And, &[Token]), ReadingFault>
     ensures reads { Reads (and_with (expression_at depth)) tokens.now result }
     ensures shorter { Advances tokens.now result }
 {
@@ -137,7 +137,7 @@ fn more_shifts(
     alloc: Global,
     depth: usize,
     tokens: &[Token],
-) -> Result<(Seq<Shift>, &[Token]), SyntaxFault>
+) -> Result<(Seq<Shift>, &[Token]), ReadingFault>
     ensures reads { Reads (many_of (is_mark mark.Ampersand) (behind_with mark.Ampersand (shift_with
         (expression_at depth)))) tokens.now result }
     ensures within { Remains tokens.now result }
@@ -155,7 +155,7 @@ fn more_shifts(
 /// An operand, and shifts of it.
 #[cycle(expression)]
 #[tactic(auto, unfolding(idl_tree::specs::reading::ReadExpression::chain_with))]
-fn shift(alloc: Global, depth: usize, tokens: &[Token]) -> Result<(Shift, &[Token]), SyntaxFault>
+fn shift(alloc: Global, depth: usize, tokens: &[Token]) -> Result<(Shift, &[Token]), ReadingFault>
     ensures reads { Reads (shift_with (expression_at depth)) tokens.now result }
     ensures shorter { Advances tokens.now result }
 {
@@ -171,7 +171,7 @@ fn more_sums(
     alloc: Global,
     depth: usize,
     tokens: &[Token],
-) -> Result<(Seq<(ShiftOperator, Sum)>, &[Token]), SyntaxFault>
+) -> Result<(Seq<(ShiftOperator, Sum)>, &[Token]), ReadingFault>
     ensures reads { Reads (steps_with shift_operator_of (sum_with (expression_at depth))) tokens.now
         result }
     ensures within { Remains tokens.now result }
@@ -189,7 +189,7 @@ fn more_sums(
 /// An operand, and what is added or taken away.
 #[cycle(expression)]
 #[tactic(auto, unfolding(idl_tree::specs::reading::ReadExpression::chain_with))]
-fn sum(alloc: Global, depth: usize, tokens: &[Token]) -> Result<(Sum, &[Token]), SyntaxFault>
+fn sum(alloc: Global, depth: usize, tokens: &[Token]) -> Result<(Sum, &[Token]), ReadingFault>
     ensures reads { Reads (sum_with (expression_at depth)) tokens.now result }
     ensures shorter { Advances tokens.now result }
 {
@@ -205,7 +205,7 @@ fn more_products(
     alloc: Global,
     depth: usize,
     tokens: &[Token],
-) -> Result<(Seq<(SumOperator, Product)>, &[Token]), SyntaxFault>
+) -> Result<(Seq<(SumOperator, Product)>, &[Token]), ReadingFault>
     ensures reads { Reads (steps_with sum_operator_of (product_with (expression_at depth)))
         tokens.now result }
     ensures within { Remains tokens.now result }
@@ -227,7 +227,7 @@ fn product(
     alloc: Global,
     depth: usize,
     tokens: &[Token],
-) -> Result<(Product, &[Token]), SyntaxFault>
+) -> Result<(Product, &[Token]), ReadingFault>
     ensures reads { Reads (product_with (expression_at depth)) tokens.now result }
     ensures shorter { Advances tokens.now result }
 {
@@ -243,7 +243,7 @@ fn more_unaries(
     alloc: Global,
     depth: usize,
     tokens: &[Token],
-) -> Result<(Seq<(ProductOperator, Unary)>, &[Token]), SyntaxFault>
+) -> Result<(Seq<(ProductOperator, Unary)>, &[Token]), ReadingFault>
     ensures reads { Reads (steps_with product_operator_of (unary_with (primary_with (expression_at
         depth)))) tokens.now result }
     ensures within { Remains tokens.now result }
@@ -261,7 +261,7 @@ fn more_unaries(
 /// An operand, with at most one operator before it.
 #[cycle(expression)]
 #[tactic(auto, unfolding(idl_tree::specs::reading::ReadExpression::unary_with))]
-fn unary(alloc: Global, depth: usize, tokens: &[Token]) -> Result<(Unary, &[Token]), SyntaxFault>
+fn unary(alloc: Global, depth: usize, tokens: &[Token]) -> Result<(Unary, &[Token]), ReadingFault>
     ensures reads { Reads (unary_with (primary_with (expression_at depth))) tokens.now result }
     ensures shorter { Advances tokens.now result }
 {
@@ -282,7 +282,7 @@ fn primary(
     alloc: Global,
     depth: usize,
     tokens: &[Token],
-) -> Result<(Primary, &[Token]), SyntaxFault>
+) -> Result<(Primary, &[Token]), ReadingFault>
     ensures reads { Reads (primary_with (expression_at depth)) tokens.now result }
     ensures shorter { Advances tokens.now result }
 {
@@ -314,7 +314,7 @@ fn parentheses(
     alloc: Global,
     depth: usize,
     tokens: &[Token],
-) -> Result<(Primary, &[Token]), SyntaxFault>
+) -> Result<(Primary, &[Token]), ReadingFault>
     ensures reads { Reads (parentheses_with (expression_at depth)) tokens.now result }
     ensures shorter { Advances tokens.now result }
 {

@@ -1,36 +1,32 @@
-//! Why there is no tree.
+//! Why nothing was read.
 
 ghost use Rattle.std.specs.Prelude.{◌≡◌};
-ghost use Rattle.idl_syntax.specs.declared.fault.SyntaxFault.TheVariants as fault;
+ghost use Rattle.idl_syntax.specs.declared.fault.ReadingFault.TheVariants as fault;
 
-use idl_unit::Fault;
 use std::alloc::{AllocError, AllocFailed};
 
-/// Why there is no tree.
+/// Why nothing was read.
 #[derive(Clone, Copy)]
-pub enum SyntaxFault {
+pub enum ReadingFault {
     /// There is no more memory.
     Memory,
-    /// The rules of tokens find this (E01 to E09, E21, E24, E36), or those of pragmas (E25, E26): it
-    /// is the least fault, by the token and then by the code.
-    Rule(Fault),
-    /// No tree has this spelling (E20). So many tokens are left from the one on at which they stop
-    /// being the beginning of a tree.
+    /// No tree begins here. So many tokens are left from the one on at which they stop being the
+    /// beginning of one.
     NoTree(usize),
 }
 
-impl From<AllocError> for SyntaxFault {
+impl From<AllocError> for ReadingFault {
     ghost from_gives = { λ _ why. why ≡ fault.Memory };
 
-    fn from(_refused: AllocError) -> SyntaxFault {
-        SyntaxFault::Memory
+    fn from(_refused: AllocError) -> ReadingFault {
+        ReadingFault::Memory
     }
 }
 
-impl<T: Drop> From<AllocFailed<T>> for SyntaxFault {
+impl<T: Drop> From<AllocFailed<T>> for ReadingFault {
     ghost from_gives = { λ _ why. why ≡ fault.Memory };
 
-    fn from(_refused: AllocFailed<T>) -> SyntaxFault {
-        SyntaxFault::Memory
+    fn from(_refused: AllocFailed<T>) -> ReadingFault {
+        ReadingFault::Memory
     }
 }

@@ -1,13 +1,9 @@
-//! The parser of OMG IDL units: the tree of a unit, or its fault, with the place where the unit stops
-//! being the beginning of one.
+//! Readers of OMG IDL units: the tree that tokens begin with, or where they stop being the beginning of one.
 //!
 //! A reader takes the tokens that are left, and gives a tree with the tokens behind it. Lists are read
 //! in loops. What may stand in itself (parentheses, sequences, structs and unions) is read by functions
-//! that call one another, as deep as the unit nests: what nests more than 64 levels is refused before.
-//!
-//! `parse` calls itself for what nests, and is allowed 65 levels, so a definition's equations are the code's own. Its
-//! laws speak of readers with more levels than tokens; that both read alike, where no bracket is too deep, is the law
-//! `nesting`.
+//! that call one another, as deep as the unit nests, in so many levels at most as they are told. So a definition's
+//! equations are the code's own. The rules of tokens don't count here.
 //!
 //! Trees are handed back by value, and each copy has a place in the frame. So first operands, structs and unions are
 //! behind pointers as soon as they are read, and what holds much while nothing inside is read is never inlined. A level
@@ -21,11 +17,9 @@ mod fault;
 mod literal;
 mod name;
 mod operator;
-mod pragma;
+pub mod pragma;
 mod production;
-mod unit;
-mod unit_tree;
+pub mod unit;
 mod version;
 
-pub use fault::SyntaxFault;
-pub use unit_tree::{UnitTree, parse};
+pub use fault::ReadingFault;

@@ -11,7 +11,7 @@ ghost use Rattle.idl_tree.specs.reading.Tests.{pick};
 ghost use Rattle.idl_syntax.specs.Gives.{Advances, Reads, Remains};
 ghost use Rattle.idl_syntax.specs.Literal.{is_at_text, is_at_wide_text, single_at, wide_text_at};
 
-use crate::fault::SyntaxFault;
+use crate::fault::ReadingFault;
 use crate::production::Production;
 use idl_base::Seq;
 use idl_lex::Token;
@@ -20,7 +20,7 @@ use idl_tree::{Literal, Several};
 use std::alloc::{AllocError, Global};
 
 /// A literal.
-pub fn literal(alloc: Global, tokens: &[Token]) -> Result<(Literal, &[Token]), SyntaxFault>
+pub fn literal(alloc: Global, tokens: &[Token]) -> Result<(Literal, &[Token]), ReadingFault>
     ensures reads { Reads literal_at tokens.now result }
     ensures shorter { Advances tokens.now result }
 {
@@ -57,12 +57,12 @@ fn is_at_wide_text(tokens: &[Token]) -> bool
 
 /// One narrow string literal or more, side by side.
 #[tactic(auto, unfolding(idl_tree::specs::reading::ReadInterface::text_at, idl_tree::specs::reading::ReadConstruction::all_with))]
-pub fn text(alloc: Global, tokens: &[Token]) -> Result<(Several<Seq<u16>>, &[Token]), SyntaxFault>
+pub fn text(alloc: Global, tokens: &[Token]) -> Result<(Several<Seq<u16>>, &[Token]), ReadingFault>
     ensures reads { Reads text_at tokens.now result }
     ensures shorter { Advances tokens.now result }
 {
     let Some(first) = text_piece(alloc, tokens)? else {
-        return Err(SyntaxFault::NoTree(tokens.len()));
+        return Err(ReadingFault::NoTree(tokens.len()));
     };
     let (more, rest) = more_text(alloc, &tokens[1..])?;
     Ok((Several { first, rest: more }, rest))
@@ -80,13 +80,13 @@ impl Production for NarrowText {
         &self,
         alloc: Global,
         tokens: &'a [Token],
-    ) -> Result<(Several<Seq<u16>>, &'a [Token]), SyntaxFault> {
+    ) -> Result<(Several<Seq<u16>>, &'a [Token]), ReadingFault> {
         text(alloc, tokens)
     }
 }
 
 /// The narrow string literals that stand here.
-fn more_text(alloc: Global, tokens: &[Token]) -> Result<(Seq<Seq<u16>>, &[Token]), SyntaxFault>
+fn more_text(alloc: Global, tokens: &[Token]) -> Result<(Seq<Seq<u16>>, &[Token]), ReadingFault>
     ensures reads { Reads (many_of (λ t. is_some (text_of t)) (pick text_of)) tokens.now result }
     ensures within { Remains tokens.now result }
 {
@@ -115,19 +115,22 @@ fn text_piece(alloc: Global, tokens: &[Token]) -> Result<Option<Seq<u16>>, Alloc
 
 /// One wide string literal or more, side by side.
 #[tactic(auto, unfolding(idl_tree::specs::reading::ReadConstruction::all_with))]
-fn wide_text(alloc: Global, tokens: &[Token]) -> Result<(Several<Seq<u16>>, &[Token]), SyntaxFault>
+fn wide_text(alloc: Global, tokens: &[Token]) -> Result<(Several<Seq<u16>>, &[Token]), ReadingFault>
     ensures reads { Reads wide_text_at tokens.now result }
     ensures shorter { Advances tokens.now result }
 {
     let Some(first) = wide_text_piece(alloc, tokens)? else {
-        return Err(SyntaxFault::NoTree(tokens.len()));
+        return Err(ReadingFault::NoTree(tokens.len()));
     };
     let (more, rest) = more_wide_text(alloc, &tokens[1..])?;
     Ok((Several { first, rest: more }, rest))
 }
 
 /// The wide string literals that stand here.
-fn more_wide_text(alloc: Global, tokens: &[Token]) -> Result<(Seq<Seq<u16>>, &[Token]), SyntaxFault>
+fn more_wide_text(
+    alloc: Global,
+    tokens: &[Token],
+) -> Result<(Seq<Seq<u16>>, &[Token]), ReadingFault>
     ensures reads { Reads (many_of (λ t. is_some (wide_text_of t)) (pick wide_text_of)) tokens.now
         result }
     ensures within { Remains tokens.now result }
@@ -156,16 +159,16 @@ fn wide_text_piece(alloc: Global, tokens: &[Token]) -> Result<Option<Seq<u16>>, 
 }
 
 /// A literal that is one token.
-fn single_literal(alloc: Global, tokens: &[Token]) -> Result<(Literal, &[Token]), SyntaxFault>
+fn single_literal(alloc: Global, tokens: &[Token]) -> Result<(Literal, &[Token]), ReadingFault>
     ensures reads { Reads single_at tokens.now result }
     ensures shorter { Advances tokens.now result }
 {
     match tokens {
         [token, rest @ ..] => match value(alloc, token)? {
             Some(literal) => Ok((literal, rest)),
-            None => Err(SyntaxFault::NoTree(tokens.len())),
+            None => Err(ReadingFault::NoTree(tokens.len())),
         },
-        [] => Err(SyntaxFault::NoTree(0)),
+        [] => Err(ReadingFault::NoTree(0)),
     }
 }
 

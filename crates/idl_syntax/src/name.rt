@@ -7,7 +7,7 @@ ghost use Rattle.idl_tree.specs.reading.Tests.{identifier_at, is_mark};
 ghost use Rattle.idl_syntax.specs.Gives.{Advances, Reads, Remains};
 
 use crate::cursor::{behind, behind_word, closed, identifier, is_at, is_at_word};
-use crate::fault::SyntaxFault;
+use crate::fault::ReadingFault;
 use crate::production::{Production, Series, listed, many};
 use idl_base::Bytes;
 use idl_lex::Token;
@@ -17,7 +17,7 @@ use std::alloc::Global;
 
 /// A scoped name, with or without a leading `::`.
 #[tactic(auto, unfolding(idl_tree::specs::reading::ReadName::name_at, idl_tree::specs::reading::ReadName::parts_at))]
-pub fn scoped_name(alloc: Global, tokens: &[Token]) -> Result<(ScopedName, &[Token]), SyntaxFault>
+pub fn scoped_name(alloc: Global, tokens: &[Token]) -> Result<(ScopedName, &[Token]), ReadingFault>
     ensures reads { Reads name_at tokens.now result }
     ensures shorter { Advances tokens.now result }
 {
@@ -46,7 +46,7 @@ impl Production for NamePart {
         &self,
         _alloc: Global,
         tokens: &'a [Token],
-    ) -> Result<(Bytes, &'a [Token]), SyntaxFault> {
+    ) -> Result<(Bytes, &'a [Token]), ReadingFault> {
         let rest = behind(tokens, Mark::ColonColon)?;
         identifier(rest)
     }
@@ -72,7 +72,7 @@ impl Production for NameProduction {
         &self,
         alloc: Global,
         tokens: &'a [Token],
-    ) -> Result<(ScopedName, &'a [Token]), SyntaxFault> {
+    ) -> Result<(ScopedName, &'a [Token]), ReadingFault> {
         scoped_name(alloc, tokens)
     }
 }
@@ -89,7 +89,7 @@ impl Production for Identifier {
         &self,
         _alloc: Global,
         tokens: &'a [Token],
-    ) -> Result<(Bytes, &'a [Token]), SyntaxFault> {
+    ) -> Result<(Bytes, &'a [Token]), ReadingFault> {
         identifier(tokens)
     }
 }
@@ -99,7 +99,7 @@ impl Production for Identifier {
 fn scoped_name_list(
     alloc: Global,
     tokens: &[Token],
-) -> Result<(Several<ScopedName>, &[Token]), SyntaxFault>
+) -> Result<(Several<ScopedName>, &[Token]), ReadingFault>
     ensures reads { Reads list_at tokens.now result }
     ensures shorter { Advances tokens.now result }
 {
@@ -114,7 +114,7 @@ pub fn raises(
     alloc: Global,
     word: Keyword,
     tokens: &[Token],
-) -> Result<(Several<ScopedName>, &[Token]), SyntaxFault>
+) -> Result<(Several<ScopedName>, &[Token]), ReadingFault>
     ensures reads { Reads (raises_at word) tokens.now result }
     ensures shorter { Advances tokens.now result }
 {
@@ -128,7 +128,7 @@ pub fn raises_if(
     alloc: Global,
     word: Keyword,
     tokens: &[Token],
-) -> Result<(Option<Several<ScopedName>>, &[Token]), SyntaxFault>
+) -> Result<(Option<Several<ScopedName>>, &[Token]), ReadingFault>
     ensures reads { Reads (raises_if word) tokens.now result }
     ensures within { Remains tokens.now result }
 {

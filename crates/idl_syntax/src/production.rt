@@ -10,7 +10,7 @@ ghost use Rattle.idl_tree.specs.reading.Reading.{Reader, first, many_of};
 ghost use Rattle.idl_tree.specs.reading.Tests.{is_mark};
 
 use crate::cursor::is_at;
-use crate::fault::SyntaxFault;
+use crate::fault::ReadingFault;
 use idl_base::Seq;
 use idl_lex::Token;
 use idl_lex::kinds::Mark;
@@ -30,7 +30,7 @@ pub trait Production {
         &self,
         alloc: Global,
         tokens: &'a [Token],
-    ) -> Result<(Self::Tree, &'a [Token]), SyntaxFault>
+    ) -> Result<(Self::Tree, &'a [Token]), ReadingFault>
         ensures reads { Reads (reader self.now) tokens.now result }
         ensures shorter { Advances tokens.now result };
 }
@@ -50,7 +50,7 @@ pub fn many<'a, P: Series>(
     alloc: Global,
     production: &P,
     tokens: &'a [Token],
-) -> Result<(Seq<P::Tree>, &'a [Token]), SyntaxFault>
+) -> Result<(Seq<P::Tree>, &'a [Token]), ReadingFault>
     ensures reads { Reads (many_of (P.begins production.now) (P.reader production.now)) tokens.now
         result }
     ensures within { Remains tokens.now result }
@@ -71,7 +71,7 @@ pub fn all<'a, P: Series>(
     alloc: Global,
     production: &P,
     tokens: &'a [Token],
-) -> Result<(Several<P::Tree>, &'a [Token]), SyntaxFault>
+) -> Result<(Several<P::Tree>, &'a [Token]), ReadingFault>
     ensures reads { Reads (all_with (P.begins production.now) (P.reader production.now)) tokens.now
         result }
     ensures shorter { Advances tokens.now result }
@@ -86,7 +86,7 @@ pub fn more_listed<'a, P: Production>(
     alloc: Global,
     production: &P,
     tokens: &'a [Token],
-) -> Result<(Seq<P::Tree>, &'a [Token]), SyntaxFault>
+) -> Result<(Seq<P::Tree>, &'a [Token]), ReadingFault>
     ensures reads { Reads (many_of (is_mark Comma) (behind_with Comma (P.reader production.now)))
         tokens.now result }
     ensures within { Remains tokens.now result }
@@ -107,7 +107,7 @@ pub fn listed<'a, P: Production>(
     alloc: Global,
     production: &P,
     tokens: &'a [Token],
-) -> Result<(Several<P::Tree>, &'a [Token]), SyntaxFault>
+) -> Result<(Several<P::Tree>, &'a [Token]), ReadingFault>
     ensures reads { Reads (listed_with (P.reader production.now)) tokens.now result }
     ensures shorter { Advances tokens.now result }
 {

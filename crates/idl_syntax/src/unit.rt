@@ -22,7 +22,7 @@ use crate::declarations::declarator::Declared;
 use crate::declarations::interface::{closing, interface, module};
 use crate::declarations::operation::operation;
 use crate::expression::expression;
-use crate::fault::SyntaxFault;
+use crate::fault::ReadingFault;
 use crate::literal::text;
 use crate::name::scoped_name;
 use crate::production::listed;
@@ -34,7 +34,7 @@ use std::alloc::Global;
 
 /// A unit, with parts of less than so many levels.
 #[tactic(auto, unfolding(idl_tree::specs::reading::ReadUnit::unit_at, idl_tree::specs::reading::ReadUnit::unit_with))]
-pub fn unit(alloc: Global, depth: usize, tokens: &[Token]) -> Result<(Tree, &[Token]), SyntaxFault>
+pub fn unit(alloc: Global, depth: usize, tokens: &[Token]) -> Result<(Tree, &[Token]), ReadingFault>
     ensures reads { Reads (unit_at depth) tokens.now result }
     ensures shorter { Advances tokens.now result }
 {
@@ -54,7 +54,7 @@ fn ended_declaration(
     alloc: Global,
     depth: usize,
     tokens: &[Token],
-) -> Result<(Tree, &[Token]), SyntaxFault>
+) -> Result<(Tree, &[Token]), ReadingFault>
     ensures reads { Reads (ended_with (nested declaration_with depth)) tokens.now result }
     ensures shorter { Advances tokens.now result }
 {
@@ -71,7 +71,7 @@ fn declaration(
     alloc: Global,
     depth: usize,
     tokens: &[Token],
-) -> Result<(Tree, &[Token]), SyntaxFault>
+) -> Result<(Tree, &[Token]), ReadingFault>
     ensures reads { Reads (nested declaration_with depth) tokens.now result }
     ensures shorter { Advances tokens.now result }
 {
@@ -98,7 +98,7 @@ fn structure_declaration(
     alloc: Global,
     depth: usize,
     tokens: &[Token],
-) -> Result<(Tree, &[Token]), SyntaxFault>
+) -> Result<(Tree, &[Token]), ReadingFault>
     ensures reads { Reads (nested structure_declaration_with depth) tokens.now result }
     ensures shorter { Advances tokens.now result }
 {
@@ -119,7 +119,7 @@ fn union_declaration(
     alloc: Global,
     depth: usize,
     tokens: &[Token],
-) -> Result<(Tree, &[Token]), SyntaxFault>
+) -> Result<(Tree, &[Token]), ReadingFault>
     ensures reads { Reads (nested union_declaration_with depth) tokens.now result }
     ensures shorter { Advances tokens.now result }
 {
@@ -135,7 +135,10 @@ fn union_declaration(
 
 /// An enum.
 #[inline(never)]
-fn enumeration_declaration(alloc: Global, tokens: &[Token]) -> Result<(Tree, &[Token]), SyntaxFault>
+fn enumeration_declaration(
+    alloc: Global,
+    tokens: &[Token],
+) -> Result<(Tree, &[Token]), ReadingFault>
     ensures reads { Reads (made (λ e. tree.Construction (construction.Enumeration e)) enumeration_at)
         tokens.now result }
     ensures shorter { Advances tokens.now result }
@@ -151,7 +154,7 @@ fn operation_declaration(
     alloc: Global,
     depth: usize,
     tokens: &[Token],
-) -> Result<(Tree, &[Token]), SyntaxFault>
+) -> Result<(Tree, &[Token]), ReadingFault>
     ensures reads { Reads (made tree.Operation (operation_with (type_at depth))) tokens.now result }
     ensures shorter { Advances tokens.now result }
 {
@@ -162,7 +165,7 @@ fn operation_declaration(
 /// A typedef, without its `;`.
 #[tactic(auto, unfolding(idl_tree::specs::reading::ReadUnit::typedef_with))]
 #[inline(never)]
-fn typedef(alloc: Global, depth: usize, tokens: &[Token]) -> Result<(Tree, &[Token]), SyntaxFault>
+fn typedef(alloc: Global, depth: usize, tokens: &[Token]) -> Result<(Tree, &[Token]), ReadingFault>
     ensures reads { Reads (made tree.Typedef (nested typedef_with depth)) tokens.now result }
     ensures shorter { Advances tokens.now result }
 {
@@ -175,7 +178,7 @@ fn typedef(alloc: Global, depth: usize, tokens: &[Token]) -> Result<(Tree, &[Tok
 /// `native` and a name, without the `;`.
 #[tactic(auto, unfolding(idl_tree::specs::reading::ReadUnit::native_at))]
 #[inline(never)]
-fn native(tokens: &[Token]) -> Result<(Tree, &[Token]), SyntaxFault>
+fn native(tokens: &[Token]) -> Result<(Tree, &[Token]), ReadingFault>
     ensures reads { Reads (made tree.Native native_at) tokens.now result }
     ensures shorter { Advances tokens.now result }
 {
@@ -190,7 +193,7 @@ fn constant_type(
     alloc: Global,
     depth: usize,
     tokens: &[Token],
-) -> Result<(ConstantTypeTree, &[Token]), SyntaxFault>
+) -> Result<(ConstantTypeTree, &[Token]), ReadingFault>
     ensures reads { Reads (constant_type_with (expression_at depth)) tokens.now result }
     ensures shorter { Advances tokens.now result }
 {
@@ -213,7 +216,7 @@ fn constant_type(
 /// A constant, without its `;`.
 #[tactic(auto, unfolding(idl_tree::specs::reading::ReadUnit::constant_with))]
 #[inline(never)]
-fn constant(alloc: Global, depth: usize, tokens: &[Token]) -> Result<(Tree, &[Token]), SyntaxFault>
+fn constant(alloc: Global, depth: usize, tokens: &[Token]) -> Result<(Tree, &[Token]), ReadingFault>
     ensures reads { Reads (made tree.Constant (constant_with (expression_at depth))) tokens.now result }
     ensures shorter { Advances tokens.now result }
 {
@@ -228,7 +231,11 @@ fn constant(alloc: Global, depth: usize, tokens: &[Token]) -> Result<(Tree, &[To
 /// An exception, without its `;`.
 #[tactic(auto, unfolding(idl_tree::specs::reading::ReadUnit::exception_with))]
 #[inline(never)]
-fn exception(alloc: Global, depth: usize, tokens: &[Token]) -> Result<(Tree, &[Token]), SyntaxFault>
+fn exception(
+    alloc: Global,
+    depth: usize,
+    tokens: &[Token],
+) -> Result<(Tree, &[Token]), ReadingFault>
     ensures reads { Reads (made tree.Exception (nested exception_with depth)) tokens.now result }
     ensures shorter { Advances tokens.now result }
 {
@@ -241,7 +248,7 @@ fn exception(alloc: Global, depth: usize, tokens: &[Token]) -> Result<(Tree, &[T
 /// `typeid`, a name and its id, without the `;`.
 #[tactic(auto, unfolding(idl_tree::specs::reading::ReadUnit::typeid_at))]
 #[inline(never)]
-fn typeid(alloc: Global, tokens: &[Token]) -> Result<(Tree, &[Token]), SyntaxFault>
+fn typeid(alloc: Global, tokens: &[Token]) -> Result<(Tree, &[Token]), ReadingFault>
     ensures reads { Reads (made tree.Typeid typeid_at) tokens.now result }
     ensures shorter { Advances tokens.now result }
 {
@@ -253,7 +260,7 @@ fn typeid(alloc: Global, tokens: &[Token]) -> Result<(Tree, &[Token]), SyntaxFau
 
 /// Whether a `=` stands here, and what is behind it if one does.
 #[tactic(auto, unfolding(idl_tree::specs::reading::ReadUnit::equals_at))]
-fn equals(tokens: &[Token]) -> Result<(bool, &[Token]), SyntaxFault>
+fn equals(tokens: &[Token]) -> Result<(bool, &[Token]), ReadingFault>
     ensures reads { Reads equals_at tokens.now result }
     ensures within { Remains tokens.now result }
 {
@@ -267,7 +274,7 @@ fn equals(tokens: &[Token]) -> Result<(bool, &[Token]), SyntaxFault>
 /// `typeprefix`, a name and what the ids in it begin with, without the `;`.
 #[tactic(auto, unfolding(idl_tree::specs::reading::ReadUnit::typeprefix_at))]
 #[inline(never)]
-fn typeprefix(alloc: Global, tokens: &[Token]) -> Result<(Tree, &[Token]), SyntaxFault>
+fn typeprefix(alloc: Global, tokens: &[Token]) -> Result<(Tree, &[Token]), ReadingFault>
     ensures reads { Reads (made tree.Typeprefix typeprefix_at) tokens.now result }
     ensures shorter { Advances tokens.now result }
 {

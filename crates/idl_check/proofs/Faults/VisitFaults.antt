@@ -15,7 +15,7 @@ use Rattle.idl_env.specs.declared.keys.key.Key.{Key}
 use Rattle.idl_env.specs.declared.keys.key.Key.TheVariants.{Cursor}
 use Rattle.idl_parts.specs.Item.{Item, items}
 use Rattle.idl_parts.specs.UnitParts.{unit_parts}
-use Rattle.idl_syntax.specs.Parse.{pragma_faults}
+use Rattle.idl_parse.specs.Parse.{pragma_faults}
 use Rattle.idl_tree.specs.Pragma.{pragma_of}
 use Rattle.idl_tree.specs.declared.unit.Tree.{Tree}
 use Rattle.idl_unit.specs.TokenRules.{fault_at}

@@ -29,8 +29,8 @@ use Rattle.idl_tree.specs.reading.ReadUnit.{unit_at}
 use Rattle.idl_tree.specs.Unit.{spell}
 use Rattle.idl_tree.specs.declared.unit.Tree.{Tree}
 use Rattle.idl_tree.proofs.ReadAgain.UnitAgain.{unit_again}
-use Rattle.idl_syntax.proofs.Stops.{some-left, stops-at, stops-once}
-use Rattle.idl_syntax.specs.Parse.{StopsAt}
+use Rattle.idl_parse.proofs.Stops.{some-left, stops-at, stops-once}
+use Rattle.idl_parse.specs.Parse.{StopsAt}
 use Rattle.idl_tree.proofs.UnitWhole.{unit_fault, unit_found, unit_rest}
 use Rattle.idl_unit.specs.Faults.{least_fault, lesser_fault}
 use Rattle.idl_unit.specs.TokenRules.{fault_at, token_faults}

@@ -21,7 +21,7 @@ use Rattle.idl_env.specs.declared.answering.answer.Scope.{Scope}
 use Rattle.idl_env.specs.declared.keys.key.Key.TheVariants.{Cursor, Opened, Nameless}
 use Rattle.idl_parts.specs.Item.{items}
 use Rattle.idl_parts.specs.UnitParts.{unit_parts}
-use Rattle.idl_syntax.specs.Parse.{pragma_faults}
+use Rattle.idl_parse.specs.Parse.{pragma_faults}
 use Rattle.idl_tree.specs.Lexeme.{Lexeme, lexemes}
 use Rattle.idl_tree.specs.Pragma.{pragma_of}
 use Rattle.idl_tree.specs.reading.ReadUnit.{unit_at}

@@ -14,7 +14,7 @@ ghost use Rattle.idl_env.specs.declared.additions.addition.Step.TheVariants.{Pre
 ghost use Rattle.idl_entity.specs.declared.identity.Fixed.{Fixed as UnitFixed};
 ghost use Rattle.idl_entity.specs.declared.identity.Fixed.TheVariants.{Id};
 ghost use Rattle.idl_env.specs.Turns.{turns_for};
-ghost use Rattle.idl_syntax.specs.Parse.{IsTreeOf, pragma_faults};
+ghost use Rattle.idl_parse.specs.Parse.{IsTreeOf, pragma_faults};
 ghost use Rattle.idl_tree.specs.Pragma.{pragma_of};
 ghost use Rattle.idl_tree.specs.declared.pragma.Pragma.TheVariants as pragma;
 ghost use Rattle.idl_unit.specs.Faults.{least_fault};
@@ -29,7 +29,7 @@ use idl_entity::{Fixed, FixedIdentity, Path};
 use idl_env::{Addition, Env, Facts, OpenScopes, Step, Writes};
 use idl_fault::Code;
 use idl_memo::Journal;
-use idl_syntax::{SyntaxFault, UnitTree, parse};
+use idl_parse::{SyntaxFault, UnitTree, parse};
 use idl_tree::{Pragma, ScopedName, last_at};
 use idl_unit::idl_text::TokenRange;
 use idl_unit::{Fault, UnitText};

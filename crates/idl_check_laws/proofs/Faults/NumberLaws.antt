@@ -43,7 +43,7 @@ use Rattle.idl_unit.specs.declared.unit.UnitText.TheVariants as unit
 use Rattle.idl_check.proofs.Faults.FaultOrder.{all-at, least-in}
 use Rattle.idl_check.proofs.Visits.SiteLaws.{EndsInTokens, faults-till}
 use Rattle.idl_check.proofs.Visits.VerdictLaws.{least-tokens, tree-spelled, tree-stops}
-use Rattle.idl_check.proofs.IdlSyntax.Stops.{stops-within}
+use Rattle.idl_check.proofs.IdlParse.Stops.{stops-within}
 use Rattle.idl_check.proofs.Faults.VisitFaults.{visit_faults, visit_further_faults, visit_name_faults, visit_unit_faults}
 
 -- ---- a unit ends in a token

@@ -44,7 +44,7 @@ use Rattle.idl_parts.specs.Part.{Part as item}
 use Rattle.idl_parts.specs.UnitParts.{unit_parts}
 use Rattle.idl_parts.specs.declared.part.Declaration.{Declaration}
 use Rattle.idl_parts.specs.declared.part.Use.{Use}
-use Rattle.idl_check.specs.idl_syntax.Parse.{pragma_faults}
+use Rattle.idl_check.specs.idl_parse.Parse.{pragma_faults}
 use Rattle.idl_tree.specs.Pragma.{pragma_of}
 use Rattle.idl_tree.specs.declared.name.ScopedName.{ScopedName}
 use Rattle.idl_tree.specs.declared.pragma.Pragma.{Pragma}

@@ -39,7 +39,7 @@ use Rattle.idl_scope.specs.Known.{known}
 use Rattle.idl_scope.specs.Lookup.{Lookup, by_result, denoted}
 use Rattle.idl_scope.specs.declared.fault.NameFault.{NameFault}
 use Rattle.idl_scope.specs.declared.found.Found.{Found}
-use Rattle.idl_check_laws.specs.idl_syntax.Parse.{pragma_faults}
+use Rattle.idl_check_laws.specs.idl_parse.Parse.{pragma_faults}
 use Rattle.idl_tree.specs.Lexeme.{lexemes}
 use Rattle.idl_tree.specs.NameParts.{last_at}
 use Rattle.idl_tree.specs.Unit.{spell}

@@ -54,7 +54,7 @@ use Rattle.idl_scope.specs.Lookup.{Lookup, by_result, choose, decided, denoted, 
 use Rattle.idl_scope.specs.Meaning.{bases_of}
 use Rattle.idl_scope.specs.declared.fault.NameCode.TheVariants.{NoScope}
 use Rattle.idl_scope.specs.declared.fault.NameFault.TheVariants.{At}
-use Rattle.idl_check_laws.specs.idl_syntax.Parse.{pragma_faults}
+use Rattle.idl_check_laws.specs.idl_parse.Parse.{pragma_faults}
 use Rattle.idl_tree.specs.NameParts.{last_at}
 use Rattle.idl_tree.specs.Pragma.{pragma_of}
 use Rattle.idl_tree.specs.declared.name.ScopedName.{ScopedName}

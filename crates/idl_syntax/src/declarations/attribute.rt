@@ -9,7 +9,7 @@ ghost use Rattle.idl_syntax.specs.Gives.{Advances, Reads, Remains, made};
 
 use crate::cursor::{behind_word, identifier, is_at_word, keyword};
 use crate::declarations::data_type::data_type;
-use crate::fault::SyntaxFault;
+use crate::fault::ReadingFault;
 use crate::name::{Identifier, raises, raises_if};
 use crate::production::more_listed;
 use idl_base::Bytes;
@@ -28,7 +28,7 @@ pub fn readonly_attribute(
     alloc: Global,
     depth: usize,
     tokens: &[Token],
-) -> Result<(Tree, &[Token]), SyntaxFault>
+) -> Result<(Tree, &[Token]), ReadingFault>
     ensures reads { Reads (made tree.ReadonlyAttribute (readonly_attribute_with (type_at depth))) tokens.now
         result }
     ensures shorter { Advances tokens.now result }
@@ -45,7 +45,10 @@ pub fn readonly_attribute(
 
 /// Its name with what reading raises, or its names.
 #[tactic(auto, unfolding(idl_tree::specs::reading::ReadInterface::readonly_names_at))]
-fn readonly_names(alloc: Global, tokens: &[Token]) -> Result<(ReadonlyNames, &[Token]), SyntaxFault>
+fn readonly_names(
+    alloc: Global,
+    tokens: &[Token],
+) -> Result<(ReadonlyNames, &[Token]), ReadingFault>
     ensures reads { Reads readonly_names_at tokens.now result }
     ensures shorter { Advances tokens.now result }
 {
@@ -59,7 +62,7 @@ fn readonly_names_rest(
     alloc: Global,
     name: Bytes,
     tokens: &[Token],
-) -> Result<(ReadonlyNames, &[Token]), SyntaxFault>
+) -> Result<(ReadonlyNames, &[Token]), ReadingFault>
     ensures reads { Reads (readonly_rest name) tokens.now result }
     ensures within { Remains tokens.now result }
 {
@@ -83,7 +86,7 @@ pub fn attribute(
     alloc: Global,
     depth: usize,
     tokens: &[Token],
-) -> Result<(Tree, &[Token]), SyntaxFault>
+) -> Result<(Tree, &[Token]), ReadingFault>
     ensures reads { Reads (made tree.Attribute (attribute_with (type_at depth))) tokens.now result }
     ensures shorter { Advances tokens.now result }
 {
@@ -98,7 +101,7 @@ pub fn attribute(
 fn attribute_names(
     alloc: Global,
     tokens: &[Token],
-) -> Result<(AttributeNames, &[Token]), SyntaxFault>
+) -> Result<(AttributeNames, &[Token]), ReadingFault>
     ensures reads { Reads attribute_names_at tokens.now result }
     ensures shorter { Advances tokens.now result }
 {
@@ -111,7 +114,7 @@ fn attribute_names_rest(
     alloc: Global,
     name: Bytes,
     tokens: &[Token],
-) -> Result<(AttributeNames, &[Token]), SyntaxFault>
+) -> Result<(AttributeNames, &[Token]), ReadingFault>
     ensures reads { Reads (λ ts. attribute_by name (keyword_of (first ts)) ts) tokens.now result }
     ensures within { Remains tokens.now result }
 {
@@ -140,7 +143,7 @@ fn attribute_names_rest(
 
 /// What reading raises, with what writing does if that is said.
 #[tactic(auto, unfolding(idl_tree::specs::reading::ReadInterface::getraises_at))]
-fn getraises(alloc: Global, tokens: &[Token]) -> Result<(AttributeRaises, &[Token]), SyntaxFault>
+fn getraises(alloc: Global, tokens: &[Token]) -> Result<(AttributeRaises, &[Token]), ReadingFault>
     ensures reads { Reads getraises_at tokens.now result }
     ensures shorter { Advances tokens.now result }
 {

@@ -13,7 +13,7 @@ use crate::cursor::{behind, behind_word, closed, identifier, is_at, is_at_word, 
 use crate::declarations::data_type::{data_type, discrete_type};
 use crate::declarations::declarator::{Declared, declarator};
 use crate::expression::expression;
-use crate::fault::SyntaxFault;
+use crate::fault::ReadingFault;
 use crate::name::{Identifier, scoped_name};
 use crate::production::{Production, Series, all, listed};
 use idl_base::{Boxed, Bytes, Seq};
@@ -27,7 +27,7 @@ use std::alloc::Global;
 
 /// An enum.
 #[tactic(auto, unfolding(idl_tree::specs::reading::ReadConstruction::enumeration_at))]
-pub fn enumeration(alloc: Global, tokens: &[Token]) -> Result<(Enumeration, &[Token]), SyntaxFault>
+pub fn enumeration(alloc: Global, tokens: &[Token]) -> Result<(Enumeration, &[Token]), ReadingFault>
     ensures reads { Reads enumeration_at tokens.now result }
     ensures shorter { Advances tokens.now result }
 {
@@ -41,7 +41,7 @@ pub fn enumeration(alloc: Global, tokens: &[Token]) -> Result<(Enumeration, &[To
 /// The type of a union's discriminator.
 #[tactic(auto, unfolding(idl_tree::specs::reading::ReadConstruction::discriminator_at))]
 #[inline(never)]
-fn discriminator(alloc: Global, tokens: &[Token]) -> Result<(Discriminator, &[Token]), SyntaxFault>
+fn discriminator(alloc: Global, tokens: &[Token]) -> Result<(Discriminator, &[Token]), ReadingFault>
     ensures reads { Reads discriminator_at tokens.now result }
     ensures shorter { Advances tokens.now result }
 {
@@ -73,7 +73,7 @@ impl Production for LabelProduction {
         &self,
         alloc: Global,
         tokens: &'a [Token],
-    ) -> Result<(Label, &'a [Token]), SyntaxFault> {
+    ) -> Result<(Label, &'a [Token]), ReadingFault> {
         if is_at_word(tokens, Keyword::Case) {
             let rest = behind_word(tokens, Keyword::Case)?;
             let (value, rest) = expression(alloc, self.depth, rest)?;
@@ -111,12 +111,12 @@ pub fn construction(
     alloc: Global,
     depth: usize,
     tokens: &[Token],
-) -> Result<(Construction, &[Token]), SyntaxFault>
+) -> Result<(Construction, &[Token]), ReadingFault>
     ensures reads { Reads (construction_at depth) tokens.now result }
     ensures shorter { Advances tokens.now result }
 {
     if depth == 0 {
-        return Err(SyntaxFault::NoTree(tokens.len()));
+        return Err(ReadingFault::NoTree(tokens.len()));
     }
     construction_inside(alloc, depth - 1, tokens)
 }
@@ -128,7 +128,7 @@ fn construction_inside(
     alloc: Global,
     depth: usize,
     tokens: &[Token],
-) -> Result<(Construction, &[Token]), SyntaxFault>
+) -> Result<(Construction, &[Token]), ReadingFault>
     ensures reads { Reads (nested construction_with depth) tokens.now result }
     ensures shorter { Advances tokens.now result }
 {
@@ -156,7 +156,7 @@ pub fn member_type(
     alloc: Global,
     depth: usize,
     tokens: &[Token],
-) -> Result<(MemberType, &[Token]), SyntaxFault>
+) -> Result<(MemberType, &[Token]), ReadingFault>
     ensures reads { Reads (member_type_with (type_at depth) (construction_at depth))
         tokens.now result }
     ensures shorter { Advances tokens.now result }
@@ -174,7 +174,7 @@ pub fn member_type(
 /// Members of one type.
 #[cycle(construction)]
 #[tactic(auto, unfolding(idl_tree::specs::reading::ReadConstruction::member_with))]
-fn member(alloc: Global, depth: usize, tokens: &[Token]) -> Result<(Member, &[Token]), SyntaxFault>
+fn member(alloc: Global, depth: usize, tokens: &[Token]) -> Result<(Member, &[Token]), ReadingFault>
     ensures reads { Reads (nested member_with depth) tokens.now result }
     ensures shorter { Advances tokens.now result }
 {
@@ -190,7 +190,7 @@ pub fn members(
     alloc: Global,
     depth: usize,
     tokens: &[Token],
-) -> Result<(Seq<Member>, &[Token]), SyntaxFault>
+) -> Result<(Seq<Member>, &[Token]), ReadingFault>
     ensures reads { Reads (nested members_with depth) tokens.now result }
     ensures shorter { Advances tokens.now result }
 {
@@ -205,7 +205,7 @@ fn more_members(
     alloc: Global,
     depth: usize,
     tokens: &[Token],
-) -> Result<(Seq<Member>, &[Token]), SyntaxFault>
+) -> Result<(Seq<Member>, &[Token]), ReadingFault>
     ensures reads { Reads (many_of goes_on (nested member_with depth)) tokens.now result }
     ensures within { Remains tokens.now result }
 {
@@ -227,7 +227,7 @@ fn structure(
     alloc: Global,
     depth: usize,
     tokens: &[Token],
-) -> Result<(Boxed<Structure>, &[Token]), SyntaxFault>
+) -> Result<(Boxed<Structure>, &[Token]), ReadingFault>
     ensures reads { Reads (nested structure_with depth) tokens.now result }
     ensures shorter { Advances tokens.now result }
 {
@@ -238,7 +238,7 @@ fn structure(
 
 /// What a struct inherits from, if that is said.
 #[tactic(auto, unfolding(idl_tree::specs::reading::ReadConstruction::base_at))]
-fn base(alloc: Global, tokens: &[Token]) -> Result<(Option<ScopedName>, &[Token]), SyntaxFault>
+fn base(alloc: Global, tokens: &[Token]) -> Result<(Option<ScopedName>, &[Token]), ReadingFault>
     ensures reads { Reads base_at tokens.now result }
     ensures within { Remains tokens.now result }
 {
@@ -258,7 +258,7 @@ pub fn structure_rest(
     depth: usize,
     name: Bytes,
     tokens: &[Token],
-) -> Result<(Boxed<Structure>, &[Token]), SyntaxFault>
+) -> Result<(Boxed<Structure>, &[Token]), ReadingFault>
     ensures reads { Reads (nested structure_rest_with depth name) tokens.now result }
     ensures shorter { Advances tokens.now result }
 {
@@ -280,7 +280,7 @@ fn union_type(
     alloc: Global,
     depth: usize,
     tokens: &[Token],
-) -> Result<(Boxed<Union>, &[Token]), SyntaxFault>
+) -> Result<(Boxed<Union>, &[Token]), ReadingFault>
     ensures reads { Reads (nested union_with depth) tokens.now result }
     ensures shorter { Advances tokens.now result }
 {
@@ -297,7 +297,7 @@ pub fn union_rest(
     depth: usize,
     name: Bytes,
     tokens: &[Token],
-) -> Result<(Boxed<Union>, &[Token]), SyntaxFault>
+) -> Result<(Boxed<Union>, &[Token]), ReadingFault>
     ensures reads { Reads (nested union_rest_with depth name) tokens.now result }
     ensures shorter { Advances tokens.now result }
 {
@@ -317,7 +317,7 @@ fn union_cases(
     depth: usize,
     head: (Bytes, Discriminator),
     tokens: &[Token],
-) -> Result<(Boxed<Union>, &[Token]), SyntaxFault>
+) -> Result<(Boxed<Union>, &[Token]), ReadingFault>
     ensures reads { Reads (nested cases_with depth head.0 head.1) tokens.now result }
     ensures shorter { Advances tokens.now result }
 {
@@ -337,7 +337,7 @@ fn union_cases(
 /// A member of a union, with its labels.
 #[cycle(construction)]
 #[tactic(auto, unfolding(idl_tree::specs::reading::ReadConstruction::case_with))]
-fn case(alloc: Global, depth: usize, tokens: &[Token]) -> Result<(Case, &[Token]), SyntaxFault>
+fn case(alloc: Global, depth: usize, tokens: &[Token]) -> Result<(Case, &[Token]), ReadingFault>
     ensures reads { Reads (nested case_with depth) tokens.now result }
     ensures shorter { Advances tokens.now result }
 {
@@ -359,7 +359,7 @@ fn cases(
     alloc: Global,
     depth: usize,
     tokens: &[Token],
-) -> Result<(Seq<Case>, &[Token]), SyntaxFault>
+) -> Result<(Seq<Case>, &[Token]), ReadingFault>
     ensures reads { Reads (many_of goes_on (nested case_with depth)) tokens.now result }
     ensures within { Remains tokens.now result }
 {

@@ -10,7 +10,7 @@ ghost use Rattle.idl_syntax.specs.Gives.{Advances, Reads, Remains};
 
 use crate::cursor::{behind, behind_word, by_word, closed, is_at, is_at_word, keyword};
 use crate::expression::expression;
-use crate::fault::SyntaxFault;
+use crate::fault::ReadingFault;
 use crate::name::scoped_name;
 use idl_base::Boxed;
 use idl_lex::Token;
@@ -24,7 +24,7 @@ use std::alloc::Global;
 
 /// The size that is said behind `long`.
 #[tactic(auto, unfolding(idl_tree::specs::reading::ReadType::long_size_at))]
-fn long_size(tokens: &[Token]) -> Result<(IntegerSize, &[Token]), SyntaxFault>
+fn long_size(tokens: &[Token]) -> Result<(IntegerSize, &[Token]), ReadingFault>
     ensures reads { Reads long_size_at tokens.now result }
     ensures within { Remains tokens.now result }
 {
@@ -37,7 +37,7 @@ fn long_size(tokens: &[Token]) -> Result<(IntegerSize, &[Token]), SyntaxFault>
 
 /// The size of an integer type.
 #[tactic(auto, unfolding(idl_tree::specs::reading::ReadType::size_at))]
-fn integer_size(tokens: &[Token]) -> Result<(IntegerSize, &[Token]), SyntaxFault>
+fn integer_size(tokens: &[Token]) -> Result<(IntegerSize, &[Token]), ReadingFault>
     ensures reads { Reads size_at tokens.now result }
     ensures shorter { Advances tokens.now result }
 {
@@ -50,7 +50,7 @@ fn integer_size(tokens: &[Token]) -> Result<(IntegerSize, &[Token]), SyntaxFault
 }
 
 /// An integer type with `unsigned`.
-fn unsigned_type(tokens: &[Token]) -> Result<(DiscreteType, &[Token]), SyntaxFault>
+fn unsigned_type(tokens: &[Token]) -> Result<(DiscreteType, &[Token]), ReadingFault>
     ensures reads { Reads unsigned_at tokens.now result }
     ensures shorter { Advances tokens.now result }
 {
@@ -64,7 +64,7 @@ fn unsigned_type(tokens: &[Token]) -> Result<(DiscreteType, &[Token]), SyntaxFau
 }
 
 /// An integer type without `unsigned`.
-fn signed_type(tokens: &[Token]) -> Result<(DiscreteType, &[Token]), SyntaxFault>
+fn signed_type(tokens: &[Token]) -> Result<(DiscreteType, &[Token]), ReadingFault>
     ensures reads { Reads signed_at tokens.now result }
     ensures shorter { Advances tokens.now result }
 {
@@ -78,7 +78,7 @@ fn signed_type(tokens: &[Token]) -> Result<(DiscreteType, &[Token]), SyntaxFault
 
 /// A type of keywords alone that a discriminator or a constant may have.
 #[tactic(auto, unfolding(idl_tree::specs::reading::ReadType::discrete_at))]
-pub fn discrete_type(tokens: &[Token]) -> Result<(DiscreteType, &[Token]), SyntaxFault>
+pub fn discrete_type(tokens: &[Token]) -> Result<(DiscreteType, &[Token]), ReadingFault>
     ensures reads { Reads discrete_at tokens.now result }
     ensures shorter { Advances tokens.now result }
 {
@@ -97,13 +97,13 @@ pub fn discrete_type(tokens: &[Token]) -> Result<(DiscreteType, &[Token]), Synta
 }
 
 /// An integer type by the word that says its width.
-fn sized_integer(tokens: &[Token]) -> Result<(SizedInteger, &[Token]), SyntaxFault>
+fn sized_integer(tokens: &[Token]) -> Result<(SizedInteger, &[Token]), ReadingFault>
     ensures reads { Reads (pick sized_of) tokens.now result }
     ensures shorter { Advances tokens.now result }
 {
     match sized_word(tokens) {
         Some(sized) => Ok((sized, &tokens[1..])),
-        None => Err(SyntaxFault::NoTree(tokens.len())),
+        None => Err(ReadingFault::NoTree(tokens.len())),
     }
 }
 
@@ -126,7 +126,7 @@ fn sized_word(tokens: &[Token]) -> Option<SizedInteger>
 
 /// What `long` begins.
 #[tactic(auto, unfolding(idl_tree::specs::reading::ReadType::long_at))]
-fn long_type(tokens: &[Token]) -> Result<(BasicType, &[Token]), SyntaxFault>
+fn long_type(tokens: &[Token]) -> Result<(BasicType, &[Token]), ReadingFault>
     ensures reads { Reads long_at tokens.now result }
     ensures shorter { Advances tokens.now result }
 {
@@ -150,7 +150,7 @@ fn signed(size: IntegerSize) -> BasicType
 
 /// A type of keywords alone.
 #[tactic(auto, unfolding(idl_tree::specs::reading::ReadType::basic_at))]
-fn basic_type(tokens: &[Token]) -> Result<(BasicType, &[Token]), SyntaxFault>
+fn basic_type(tokens: &[Token]) -> Result<(BasicType, &[Token]), ReadingFault>
     ensures reads { Reads basic_at tokens.now result }
     ensures shorter { Advances tokens.now result }
 {
@@ -173,7 +173,7 @@ fn string_bound(
     alloc: Global,
     depth: usize,
     tokens: &[Token],
-) -> Result<(Option<Boxed<Expression>>, &[Token]), SyntaxFault>
+) -> Result<(Option<Boxed<Expression>>, &[Token]), ReadingFault>
     ensures reads { Reads (bound_with (expression_at depth)) tokens.now result }
     ensures within { Remains tokens.now result }
 {
@@ -192,12 +192,12 @@ pub fn string_type(
     alloc: Global,
     depth: usize,
     tokens: &[Token],
-) -> Result<(StringType, &[Token]), SyntaxFault>
+) -> Result<(StringType, &[Token]), ReadingFault>
     ensures reads { Reads (string_with (expression_at depth)) tokens.now result }
     ensures shorter { Advances tokens.now result }
 {
     let Some(is_wide) = string_word(tokens) else {
-        return Err(SyntaxFault::NoTree(tokens.len()));
+        return Err(ReadingFault::NoTree(tokens.len()));
     };
     let (bound, rest) = string_bound(alloc, depth, &tokens[1..])?;
     Ok((StringType { is_wide, bound }, rest))
@@ -220,7 +220,7 @@ fn plain_type(
     alloc: Global,
     depth: usize,
     tokens: &[Token],
-) -> Result<(PlainType, &[Token]), SyntaxFault>
+) -> Result<(PlainType, &[Token]), ReadingFault>
     ensures reads { Reads (plain_with (expression_at depth)) tokens.now result }
     ensures shorter { Advances tokens.now result }
 {
@@ -246,7 +246,7 @@ fn sequence_bound(
     alloc: Global,
     depth: usize,
     tokens: &[Token],
-) -> Result<(Option<Expression>, &[Token]), SyntaxFault>
+) -> Result<(Option<Expression>, &[Token]), ReadingFault>
     ensures reads { Reads (limit_with (expression_at depth)) tokens.now result }
     ensures within { Remains tokens.now result }
 {
@@ -265,12 +265,12 @@ pub fn data_type(
     alloc: Global,
     depth: usize,
     tokens: &[Token],
-) -> Result<(TypeTree, &[Token]), SyntaxFault>
+) -> Result<(TypeTree, &[Token]), ReadingFault>
     ensures reads { Reads (type_at depth) tokens.now result }
     ensures shorter { Advances tokens.now result }
 {
     if depth == 0 {
-        return Err(SyntaxFault::NoTree(tokens.len()));
+        return Err(ReadingFault::NoTree(tokens.len()));
     }
     if is_at_word(tokens, Keyword::Sequence) {
         return sequence(alloc, depth - 1, tokens);
@@ -286,7 +286,7 @@ fn sequence(
     alloc: Global,
     depth: usize,
     tokens: &[Token],
-) -> Result<(TypeTree, &[Token]), SyntaxFault>
+) -> Result<(TypeTree, &[Token]), ReadingFault>
     ensures reads { Reads (sequence_with (expression_at depth) (type_at depth)) tokens.now result }
     ensures shorter { Advances tokens.now result }
 {

@@ -8,7 +8,7 @@ ghost use Rattle.idl_syntax.specs.Gives.{Advances, Reads};
 
 use crate::cursor::{behind, closed, identifier, is_at};
 use crate::expression::expression;
-use crate::fault::SyntaxFault;
+use crate::fault::ReadingFault;
 use crate::production::{Production, Series, many};
 use idl_lex::Token;
 use idl_lex::kinds::Mark;
@@ -32,7 +32,7 @@ impl Production for ArrayLength {
         &self,
         alloc: Global,
         tokens: &'a [Token],
-    ) -> Result<(Expression, &'a [Token]), SyntaxFault> {
+    ) -> Result<(Expression, &'a [Token]), ReadingFault> {
         let rest = behind(tokens, Mark::OpenBracket)?;
         let (length, rest) = expression(alloc, self.depth, rest)?;
         closed(length, rest, Mark::CloseBracket)
@@ -54,7 +54,7 @@ pub fn declarator(
     alloc: Global,
     depth: usize,
     tokens: &[Token],
-) -> Result<(Declarator, &[Token]), SyntaxFault>
+) -> Result<(Declarator, &[Token]), ReadingFault>
     ensures reads { Reads (declarator_with (expression_at depth)) tokens.now result }
     ensures shorter { Advances tokens.now result }
 {
@@ -78,7 +78,7 @@ impl Production for Declared {
         &self,
         alloc: Global,
         tokens: &'a [Token],
-    ) -> Result<(Declarator, &'a [Token]), SyntaxFault> {
+    ) -> Result<(Declarator, &'a [Token]), ReadingFault> {
         declarator(alloc, self.depth, tokens)
     }
 }

@@ -4,7 +4,7 @@ ghost use Rattle.idl_tree.specs.reading.ReadUnit.{bases_at, closing_at, interfac
 ghost use Rattle.idl_syntax.specs.Gives.{Advances, Reads, Remains};
 
 use crate::cursor::{behind, behind_word, closed, identifier, is_at, is_at_word};
-use crate::fault::SyntaxFault;
+use crate::fault::ReadingFault;
 use crate::name::NameProduction;
 use crate::production::listed;
 use idl_base::Bytes;
@@ -16,7 +16,7 @@ use std::alloc::Global;
 
 /// The closing of a scope.
 #[tactic(auto, unfolding(idl_tree::specs::reading::ReadUnit::closing_at))]
-pub fn closing(tokens: &[Token]) -> Result<(Tree, &[Token]), SyntaxFault>
+pub fn closing(tokens: &[Token]) -> Result<(Tree, &[Token]), ReadingFault>
     ensures reads { Reads closing_at tokens.now result }
     ensures shorter { Advances tokens.now result }
 {
@@ -27,7 +27,7 @@ pub fn closing(tokens: &[Token]) -> Result<(Tree, &[Token]), SyntaxFault>
 
 /// The opening of a module.
 #[tactic(auto, unfolding(idl_tree::specs::reading::ReadUnit::module_at))]
-pub fn module(tokens: &[Token]) -> Result<(Tree, &[Token]), SyntaxFault>
+pub fn module(tokens: &[Token]) -> Result<(Tree, &[Token]), ReadingFault>
     ensures reads { Reads module_at tokens.now result }
     ensures shorter { Advances tokens.now result }
 {
@@ -38,7 +38,7 @@ pub fn module(tokens: &[Token]) -> Result<(Tree, &[Token]), SyntaxFault>
 
 /// The opening of an interface, or its declaration ahead.
 #[tactic(auto, unfolding(idl_tree::specs::reading::ReadUnit::interface_at))]
-pub fn interface(alloc: Global, tokens: &[Token]) -> Result<(Tree, &[Token]), SyntaxFault>
+pub fn interface(alloc: Global, tokens: &[Token]) -> Result<(Tree, &[Token]), ReadingFault>
     ensures reads { Reads interface_at tokens.now result }
     ensures shorter { Advances tokens.now result }
 {
@@ -56,7 +56,7 @@ fn interface_rest(
     is_local: bool,
     name: Bytes,
     tokens: &[Token],
-) -> Result<(Tree, &[Token]), SyntaxFault>
+) -> Result<(Tree, &[Token]), ReadingFault>
     ensures reads { Reads (interface_rest is_local name) tokens.now result }
     ensures shorter { Advances tokens.now result }
 {
@@ -78,7 +78,7 @@ fn interface_rest(
 fn bases(
     alloc: Global,
     tokens: &[Token],
-) -> Result<(Option<Several<ScopedName>>, &[Token]), SyntaxFault>
+) -> Result<(Option<Several<ScopedName>>, &[Token]), ReadingFault>
     ensures reads { Reads bases_at tokens.now result }
     ensures within { Remains tokens.now result }
 {

@@ -9,7 +9,7 @@ ghost use Rattle.idl_syntax.specs.Gives.{Advances, Reads, Remains};
 
 use crate::cursor::{behind, behind_word, closed, is_at, is_at_word, keyword, named};
 use crate::declarations::data_type::data_type;
-use crate::fault::SyntaxFault;
+use crate::fault::ReadingFault;
 use crate::literal::NarrowText;
 use crate::name::raises_if;
 use crate::production::{Production, listed};
@@ -48,9 +48,9 @@ impl Production for ParameterProduction {
         &self,
         alloc: Global,
         tokens: &'a [Token],
-    ) -> Result<(Parameter, &'a [Token]), SyntaxFault> {
+    ) -> Result<(Parameter, &'a [Token]), ReadingFault> {
         let Some(direction) = direction(tokens) else {
-            return Err(SyntaxFault::NoTree(tokens.len()));
+            return Err(ReadingFault::NoTree(tokens.len()));
         };
         let (kind, rest) = data_type(alloc, self.depth, &tokens[1..])?;
         let ((kind, name), rest) = named(kind, rest)?;
@@ -69,7 +69,7 @@ fn parameters(
     alloc: Global,
     depth: usize,
     tokens: &[Token],
-) -> Result<(Option<Several<Parameter>>, &[Token]), SyntaxFault>
+) -> Result<(Option<Several<Parameter>>, &[Token]), ReadingFault>
     ensures reads { Reads (parameters_with (type_at depth)) tokens.now result }
     ensures within { Remains tokens.now result }
 {
@@ -86,7 +86,7 @@ fn operation_result(
     alloc: Global,
     depth: usize,
     tokens: &[Token],
-) -> Result<(Option<TypeTree>, &[Token]), SyntaxFault>
+) -> Result<(Option<TypeTree>, &[Token]), ReadingFault>
     ensures reads { Reads (result_with (type_at depth)) tokens.now result }
     ensures shorter { Advances tokens.now result }
 {
@@ -104,7 +104,7 @@ fn operation_result(
 fn context(
     alloc: Global,
     tokens: &[Token],
-) -> Result<(Several<Several<Seq<u16>>>, &[Token]), SyntaxFault>
+) -> Result<(Several<Several<Seq<u16>>>, &[Token]), ReadingFault>
     ensures reads { Reads context_at tokens.now result }
     ensures shorter { Advances tokens.now result }
 {
@@ -119,7 +119,7 @@ fn context(
 fn context_if(
     alloc: Global,
     tokens: &[Token],
-) -> Result<(Option<Boxed<Several<Several<Seq<u16>>>>>, &[Token]), SyntaxFault>
+) -> Result<(Option<Boxed<Several<Several<Seq<u16>>>>>, &[Token]), ReadingFault>
     ensures reads { Reads context_if tokens.now result }
     ensures within { Remains tokens.now result }
 {
@@ -136,7 +136,7 @@ pub fn operation(
     alloc: Global,
     depth: usize,
     tokens: &[Token],
-) -> Result<(Operation, &[Token]), SyntaxFault>
+) -> Result<(Operation, &[Token]), ReadingFault>
     ensures reads { Reads (operation_with (type_at depth)) tokens.now result }
     ensures shorter { Advances tokens.now result }
 {
@@ -155,7 +155,7 @@ fn operation_rest(
     depth: usize,
     head: ((bool, Option<TypeTree>), Bytes),
     tokens: &[Token],
-) -> Result<(Operation, &[Token]), SyntaxFault>
+) -> Result<(Operation, &[Token]), ReadingFault>
     ensures reads { Reads (operation_rest_with (type_at depth) head.0.0 head.0.1 head.1)
         tokens.now result }
     ensures shorter { Advances tokens.now result }

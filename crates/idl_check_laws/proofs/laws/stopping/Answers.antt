@@ -1,5 +1,5 @@
 use Rattle.idl_check.proofs.Visits.VerdictLaws.{stopped-tree, tree-stops, verdict-tells}
-use Rattle.idl_check.proofs.IdlSyntax.Stops.{stops-once}
+use Rattle.idl_check.proofs.IdlParse.Stops.{stops-once}
 use Rattle.idl_check_laws.proofs.laws.stopping.Goals as goal
 
 pub returns-clause-place : goal.returns-clause-place

@@ -5,10 +5,10 @@
 use Rattle.std.specs.Prelude.{◌≡◌, ◌≢◌, ◌⊎◌, ◌+◌, ◌-◌, ℕ, Bool, List, [], ◌∷◌, ◌++◌, length, take, is_some, Option, None, Some, if◌then◌else◌}
 use Rattle.idl_fault.specs.declared.code.Code.TheVariants.{PragmaInside, MalformedPragma}
 use Rattle.idl_lex.specs.tokens.Tokens.{Token}
-use Rattle.idl_syntax.specs.declared.fault.SyntaxFault.{SyntaxFault}
-use Rattle.idl_syntax.specs.declared.fault.SyntaxFault.TheVariants as fault
-use Rattle.idl_syntax.specs.declared.unit_tree.UnitTree.{UnitTree}
-use Rattle.idl_syntax.specs.declared.unit_tree.UnitTree.TheVariants as tree
+use Rattle.idl_parse.specs.declared.fault.SyntaxFault.{SyntaxFault}
+use Rattle.idl_parse.specs.declared.fault.SyntaxFault.TheVariants as fault
+use Rattle.idl_parse.specs.declared.unit_tree.UnitTree.{UnitTree}
+use Rattle.idl_parse.specs.declared.unit_tree.UnitTree.TheVariants as tree
 use Rattle.idl_tree.specs.reading.Fault.{Begins}
 use Rattle.idl_tree.specs.Lexeme.{Lexemes, lexemes}
 use Rattle.idl_tree.specs.Pragma.{pragma_of}

@@ -1,8 +1,8 @@
 //! The tree of a unit, or its fault.
 
 ghost use Rattle.std.specs.Prelude.{◌≡◌, ◌+◌, None, Some, IfOk, IfErr, length};
+ghost use Rattle.idl_parse.specs.Parse.{IsFaultOf, IsTreeOf, pragma_faults, rule_faults};
 ghost use Rattle.idl_syntax.specs.Gives.{Advances, Reads};
-ghost use Rattle.idl_syntax.specs.Parse.{IsFaultOf, IsTreeOf, pragma_faults, rule_faults};
 ghost use Rattle.idl_tree.specs.Pragma.{pragma_of};
 ghost use Rattle.idl_tree.specs.reading.ReadUnit.{unit_at};
 ghost use Rattle.idl_unit.specs.Faults.{least_fault};
@@ -10,10 +10,11 @@ ghost use Rattle.idl_unit.specs.TokenRules.{token_faults};
 ghost use Rattle.idl_unit.specs.declared.unit.UnitText.TheVariants as unit;
 
 use crate::fault::SyntaxFault;
-use crate::pragma::pragma;
-use crate::unit::unit;
 use idl_fault::Code;
 use idl_lex::Token;
+use idl_syntax::ReadingFault;
+use idl_syntax::pragma::pragma;
+use idl_syntax::unit::unit;
 use idl_tree::{Pragma, Tree, nesting, reading};
 use idl_unit::idl_text::TokenRange;
 use idl_unit::{Fault, UnitText, token_fault};
@@ -69,15 +70,14 @@ fn tokens_tree(alloc: Global, tokens: &[Token]) -> Result<UnitTree, SyntaxFault>
     match nested_unit(alloc, tokens) {
         Ok((tree, [])) => Ok(UnitTree::Tokens(tree)),
         Ok((_tree, rest)) => Err(SyntaxFault::NoTree(rest.len())),
-        Err(SyntaxFault::Memory) => Err(SyntaxFault::Memory),
-        Err(SyntaxFault::Rule(fault)) => Err(SyntaxFault::Rule(fault)),
+        Err(ReadingFault::Memory) => Err(SyntaxFault::Memory),
         // Where all tokens are the beginning of a tree, it is told at the last.
-        Err(SyntaxFault::NoTree(left)) => Err(SyntaxFault::NoTree(left.max(1))),
+        Err(ReadingFault::NoTree(left)) => Err(SyntaxFault::NoTree(left.max(1))),
     }
 }
 
 /// What is read of a unit in which the rules of tokens find nothing: its brackets need no more levels than are allowed here.
-fn nested_unit(alloc: Global, tokens: &[Token]) -> Result<(Tree, &[Token]), SyntaxFault>
+fn nested_unit(alloc: Global, tokens: &[Token]) -> Result<(Tree, &[Token]), ReadingFault>
     requires { least_fault (token_faults tokens.now) ≡ None }
     ensures reads { Reads (unit_at (length tokens.now + 1)) tokens.now result }
     ensures shorter { Advances tokens.now result }

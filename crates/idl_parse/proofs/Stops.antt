@@ -4,7 +4,7 @@ use Rattle.std.proofs.Math.Seq.{take-add}
 use Rattle.std.proofs.lemmas.Bool.{cases_lt, cases_order}
 use Rattle.std.proofs.lemmas.List.{length-append, length-map, take-append-drop, take_all, take_at}
 use Rattle.std.specs.Prelude.{drop, max, take}
-use Rattle.idl_syntax.specs.Parse.{BeginsUpTo, StopsAt}
+use Rattle.idl_parse.specs.Parse.{BeginsUpTo, StopsAt}
 use Rattle.idl_tree.specs.reading.Fault.{Begins, IsFaultAt}
 use Rattle.idl_tree.specs.Lexeme.{Lexeme, Lexemes, lexeme_of, lexemes}
 use Rattle.idl_tree.specs.Unit.{spell}

@@ -1,8 +1,8 @@
 use Rattle.std.proofs.Common.{◌≡◌, None, rules}
-use Rattle.idl_syntax.proofs.Nesting.{levels_enough}
+use Rattle.idl_parse.proofs.Nesting.{levels_enough}
 use Rattle.idl_unit.specs.Faults.{least_fault}
 use Rattle.idl_unit.specs.TokenRules.{token_faults}
-use Rattle.idl_syntax.proofs.unit_tree.nested_unit.Goals as goal
+use Rattle.idl_parse.proofs.unit_tree.nested_unit.Goals as goal
 
 pub returns-clause-reads : goal.returns-clause-reads
 returns-clause-reads c =
