@@ -1,5 +1,5 @@
 -- What is told has no float in it, so that its text is known.
-use Rattle.std.proofs.Common.{◌≡◌, ◌∙◌, ◌+◌, ◌^◌, ◌∷◌, [], ◌||◌, ℕ, zero, suc, Bool, true, false, List, None, Option, Ordering, Less, Equal, Greater, Some, ap, codes, if◌then◌else◌, length, map, nat_cmp, nat_lt, refl, true≢false}
+use Rattle.std.proofs.Common.{◌≡◌, ◌∙◌, ◌+◌, ◌^◌, ◌∷◌, [], ◌||◌, ℕ, zero, suc, Bool, true, false, List, None, Option, Ordering, Less, Equal, Greater, Some, ap, codes, if◌then◌else◌, length, map, nat_cmp, nat_eq, nat_lt, refl, true≢false}
 use Rattle.std.specs.Cmp.Lexicographic.{slice_cmp}
 use Rattle.std.specs.Option.{unwrap_or}
 use Rattle.std.specs.Ordering.{match_ordering}
@@ -24,8 +24,8 @@ use Rattle.idl_repo.specs.declared.details.type_code_tree.TypeCodeTree.{TypeCode
 use Rattle.idl_repo.specs.declared.details.type_tree.ElementTree.{ElementTree}
 use Rattle.idl_repo.specs.declared.details.type_tree.ElementTree.TheVariants as tree
 use Rattle.idl_repo.specs.declared.details.type_tree.LayeredType.{LayeredType}
-use Rattle.idl_json.specs.Diagnostic.{IsDiagnosticJson, Located, Second, column_fields, second_json, severity, token_fields}
-use Rattle.idl_json.specs.Objects.{list_json, number_json, object_of}
+use Rattle.idl_json.specs.Diagnostic.{IsDiagnosticJson, Located, Second, column_fields, more_fields, second_fields, second_json, severity, token_fields}
+use Rattle.idl_json.specs.Objects.{list_json, number_json, object_of, with_fields}
 use Rattle.idl_json.specs.Rows.{json_of, parameter_json, value_json}
 use Rattle.idl_json.specs.Text.{text_json}
 use Rattle.idl_json.specs.TypeCodes.{case_json, member_json, type_code_json}
@@ -153,19 +153,31 @@ row-plain t = row-by t t.details
 -- ---- roots
 
 -- a second place
-second-by : (reason file token : List ℕ) (line : ℕ) (column : Option ℕ) → has_float (object_of (
+second-by : (reason file token : List ℕ) (line : ℕ) (column : Option ℕ) → members_have_float (with_fields no_members (
     (codes "reason", text_json reason) ∷ (codes "file", text_json file) ∷ (codes "line", number_json line) ∷ (codes "token", text_json token) ∷ column_fields column token)) ≡ false
 second-by reason file token line None = refl
 second-by reason file token line (Some before) = by (nat_lt (before + length token) (2 ^ 53))
   where
-    by : (fits : Bool) → has_float (object_of (
+    by : (fits : Bool) → members_have_float (with_fields no_members (
         (codes "reason", text_json reason) ∷ (codes "file", text_json file) ∷ (codes "line", number_json line) ∷ (codes "token", text_json token)
         ∷ (if fits then (codes "column", number_json (before + 1)) ∷ (codes "end", number_json (before + length token + 1)) ∷ [] else []))) ≡ false
     by true = refl
     by false = refl
 
+-- and how many more there are
+more-plain : (ms : Members) (more : ℕ) → members_have_float ms ≡ false → members_have_float (with_fields ms (more_fields more)) ≡ false
+more-plain ms more plain = by (nat_eq more 0)
+  where
+    by : (none : Bool) → members_have_float (with_fields ms (if none then [] else (codes "more", number_json more) ∷ [])) ≡ false
+    by true = plain
+    by false = put-plain (codes "more") (number_json more) ms refl plain
+
+second-plain : (s : Second) → has_float (second_json s) ≡ false
+second-plain s =
+    more-plain (with_fields no_members (second_fields s)) s.more (second-by s.reason s.place.file s.token s.place.line s.column)
+
 seconds-plain : (seconds : List Second) → items_have_float (items_of (map second_json seconds)) ≡ false
-seconds-plain seconds = list-plain second_json (λ s. second-by s.reason s.place.file s.token s.place.line s.column) seconds
+seconds-plain seconds = list-plain second_json second-plain seconds
 
 -- the object of what is found, by its parts
 found-by : (file text code kind : List ℕ) (line : ℕ) (seconds : List Second) (column : Option ℕ) (token : Option (List ℕ)) →

@@ -1,7 +1,7 @@
 -- What is found in a root, in JSON.
-use Rattle.std.specs.Prelude.{◌≡◌, ◌+◌, ◌^◌, ℕ, List, [], ◌∷◌, codes, length, map, nat_lt, Option, None, Some, if◌then◌else◌}
+use Rattle.std.specs.Prelude.{◌≡◌, ◌+◌, ◌^◌, ℕ, List, [], ◌∷◌, codes, length, map, nat_eq, nat_lt, Option, None, Some, if◌then◌else◌}
 use Rattle.std.specs.Option.{unwrap_or}
-use Rattle.serde_json.specs.Data.{Data}
+use Rattle.serde_json.specs.Data.{Data, no_members, object}
 use Rattle.idl_fault.specs.Code.{code_text, is_error}
 use Rattle.idl_fault.specs.declared.code.Code.{Code}
 use Rattle.idl_explain.specs.Explained.{said, topic_of}
@@ -9,18 +9,19 @@ use Rattle.idl_explain.specs.declared.explanation.Explanation.{Explanation}
 use Rattle.idl_explain.specs.declared.explanation.Topic.TheVariants as topic
 use Rattle.idl_explain.specs.declared.explanation.Words.{Words}
 use Rattle.idl_fault.specs.declared.place.Place.{Place}
-use Rattle.idl_json.specs.Objects.{Field, list_json, number_json, object_of}
+use Rattle.idl_json.specs.Objects.{Field, list_json, number_json, object_of, with_fields}
 use Rattle.idl_json.specs.Text.{text_json}
 use Rattle.idl_json.specs.declared.diagnostic.Diagnostic.{Diagnostic}
 use Rattle.idl_json.specs.declared.diagnostic.SecondPlace.{SecondPlace}
 
--- a second place of what is found, why it is told, in words, and how many bytes of its line are before
--- its token, if that is known
+-- a second place of what is found, why it is told, in words, how many bytes of its line are before its
+-- token, if that is known, and how many more were found than are told
 pub record Second : Type 0 where
   pub reason : List ℕ
   pub place : Place
   pub token : List ℕ
   pub column : Option ℕ
+  pub more : ℕ
 
 abbrev pub second_of : SecondPlace → Second
 second_of told = record {
@@ -28,6 +29,7 @@ second_of told = record {
   place = told.place.now;
   token = told.token.now;
   column = told.column;
+  more = told.more;
 }
 
 -- what is found, and how many bytes of its line are before its token, if that is known
@@ -69,13 +71,22 @@ abbrev pub token_fields : Option ℕ → Option (List ℕ) → List Field
 token_fields column None = []
 token_fields column (Some token) = (codes "token", text_json token) ∷ column_fields column token
 
-abbrev pub second_json : Second → Data
-second_json second = object_of (
+-- how many more were found than are told, if any were
+abbrev pub more_fields : ℕ → List Field
+more_fields more = if nat_eq more 0 then [] else (codes "more", number_json more) ∷ []
+
+-- why it is told, and where it is
+abbrev pub second_fields : Second → List Field
+second_fields second =
     (codes "reason", text_json second.reason)
     ∷ (codes "file", text_json second.place.file)
     ∷ (codes "line", number_json second.place.line)
     ∷ (codes "token", text_json second.token)
-    ∷ column_fields second.column second.token)
+    ∷ column_fields second.column second.token
+
+abbrev pub second_json : Second → Data
+second_json second =
+    object (with_fields (with_fields no_members (second_fields second)) (more_fields second.more))
 
 -- what is found, in these words
 abbrev pub diagnostic_json : Located → Words → Data

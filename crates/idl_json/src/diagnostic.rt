@@ -4,7 +4,7 @@ ghost use Rattle.std.specs.Prelude.{◌≡◌, IfOk, OnOk, [], map};
 ghost use Rattle.std.specs.Option.{unwrap_or};
 ghost use Rattle.serde_json.specs.View.{members_view, view};
 ghost use Rattle.idl_explain.specs.Explained.{said};
-ghost use Rattle.idl_json.specs.Diagnostic.{IsDiagnosticJson, column_fields, located, placed_fields, second_json, second_of, severity, token_fields};
+ghost use Rattle.idl_json.specs.Diagnostic.{IsDiagnosticJson, column_fields, located, more_fields, placed_fields, second_json, second_of, severity, token_fields};
 ghost use Rattle.idl_json.specs.Objects.{list_json, with_fields};
 
 use crate::objects::Object;
@@ -38,13 +38,15 @@ impl<'a> Drop for Diagnostic<'a> {
     }
 }
 
-/// A second place of what is found: why it is told, in words, and how many bytes of its line are before its token, if that is known.
+/// A second place of what is found: why it is told, in words, how many bytes of its line are before its token, if that is known, and how
+/// many more were found than are told.
 #[derive(Clone, Copy)]
 pub struct SecondPlace<'a> {
     pub reason: &'a [u8],
     pub place: &'a Place,
     pub token: &'a Bytes,
     pub column: Option<usize>,
+    pub more: usize,
 }
 
 /// What is found, with what its code says.
@@ -86,7 +88,19 @@ fn second_value(alloc: Global, second: SecondPlace<'_>) -> Result<Value, AllocEr
     object.put("line", Value::from(second.place.line))?;
     object.put_text("token", second.token.as_bytes())?;
     put_column(&mut object, second.token.as_bytes(), second.column)?;
+    put_more(&mut object, second.more)?;
     Ok(object.into_value())
+}
+
+// Puts in how many more were found than are told, if any were.
+fn put_more(object: &mut Object, more: usize) -> Result<(), AllocError>
+    ensures { OnOk result (members_view object.new.members.entries
+        ≡ with_fields (members_view object.old.members.entries) (more_fields more)) }
+{
+    if more == 0 {
+        return Ok(());
+    }
+    object.put("more", Value::from(more))
 }
 
 // What is said of a token, or of none.

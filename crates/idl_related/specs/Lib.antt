@@ -1,3 +1,4 @@
+pub mod Told
 pub mod Reasons
 pub mod Follows
 pub mod Related

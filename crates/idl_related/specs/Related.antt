@@ -1,5 +1,5 @@
 -- Second places of what is found in a root.
-use Rattle.std.specs.Prelude.{◌≡◌, ℕ, List, All, Contains, Some, length, slice_get}
+use Rattle.std.specs.Prelude.{◌≡◌, ◌≤◌, ℕ, List, All, Contains, Some, length, slice_get}
 use Rattle.idl_event.specs.declared.told.event.Event.{Event}
 use Rattle.idl_event.specs.declared.told.site.Site.{Site}
 use Rattle.idl_event.specs.Apart.{place_in}
@@ -7,6 +7,7 @@ use Rattle.idl_related.specs.declared.second.Related.{Related}
 use Rattle.idl_finding.specs.Findings.{site_of, tokens_of}
 use Rattle.idl_finding.specs.Number.{token_number}
 use Rattle.idl_finding.specs.declared.finding.Finding.{Finding}
+use Rattle.idl_related.specs.Told.{most_told}
 use Rattle.idl_unit.specs.Units.{units_of}
 use Rattle.idl_unit.specs.declared.unit.Unit.{Unit as RootUnit}
 use Rattle.idl_unit.specs.declared.unit.Unit.TheVariants.{Spelled}
@@ -29,7 +30,12 @@ pub record IsAtToken (events : List Event) (units : List RootUnit) (related : Re
 abbrev pub AreAtTokens : List Event → List Related → Type 0
 AreAtTokens events related = All (IsAtToken events (units_of events)) related
 
+-- those of a finding: a few
+pub record AreOfFinding (events : List Event) (related : List Related) : Type 0 where
+  pub few : length related ≤ most_told
+  pub tokens : AreAtTokens events related
+
 -- those of findings of that root, a list for each
 abbrev pub AreRelated : List Event → List Finding → List (List Related) → Type 0
 AreRelated events findings related =
-    (length related ≡ length findings) × All (AreAtTokens events) related
+    (length related ≡ length findings) × All (AreOfFinding events) related

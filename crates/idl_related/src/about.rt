@@ -1,5 +1,8 @@
 //! What is found in a unit: the second places of its fault, by the site at which it stands.
 
+ghost use Rattle.std.specs.Prelude.{◌≡◌, ◌≤◌, ◌+◌, ◌-◌, ◌++◌, ◌∷◌, [], IfOk, OnOk, length, min};
+ghost use Rattle.idl_related.specs.Told.{AreFew, TellsMore, most_told};
+
 use crate::denoting::{NameContext, entities_by, entity_at};
 use crate::known::KnownUnits;
 use crate::names::tree_of;
@@ -21,6 +24,9 @@ use std::alloc::{AllocError, Global};
 // The number of the token at which what a pragma speaks of begins.
 const OPERANDS: usize = 2;
 
+// Of what is found several times so many places are told.
+const MOST_TOLD: usize = 3;
+
 /// A unit with a fault, which is the next that isn't known.
 #[derive(Clone, Copy)]
 pub struct About<'a> {
@@ -32,7 +38,9 @@ pub struct About<'a> {
 
 impl<'a> About<'a> {
     /// The second places of its fault.
-    pub fn seconds(self, scratch: &mut Scratch) -> Result<Vec<Second>, AllocError> {
+    pub fn seconds(self, scratch: &mut Scratch) -> Result<Vec<Second>, AllocError>
+        ensures { IfOk result (λ seconds. AreFew seconds.items) }
+    {
         let Some(tree) = tree_of(self.alloc(), self.text)? else {
             return Ok(Vec::new(self.alloc()));
         };
@@ -55,7 +63,9 @@ impl<'a> About<'a> {
         scratch: &mut Scratch,
         scopes: &OpenScopes,
         tree: &Tree,
-    ) -> Result<Vec<Second>, AllocError> {
+    ) -> Result<Vec<Second>, AllocError>
+        ensures { IfOk result (λ seconds. AreFew seconds.items) }
+    {
         let sites = sites(self.alloc(), tree)?;
         let start = WalkStart {
             env: self.env,
@@ -70,7 +80,9 @@ impl<'a> About<'a> {
         self,
         scratch: &mut Scratch,
         start: WalkStart<'_, '_>,
-    ) -> Result<Vec<Second>, AllocError> {
+    ) -> Result<Vec<Second>, AllocError>
+        ensures { IfOk result (λ seconds. AreFew seconds.items) }
+    {
         let mut steps = UnitWalk::new(scratch, start.env, start.scopes);
         match steps_to(&mut steps, start.sites, self.fault.index)? {
             Some(site) => self.of_site(scratch, start, &steps, site),
@@ -85,7 +97,9 @@ impl<'a> About<'a> {
         start: WalkStart<'_, '_>,
         steps: &UnitWalk<'_>,
         site: UnitPart<'_>,
-    ) -> Result<Vec<Second>, AllocError> {
+    ) -> Result<Vec<Second>, AllocError>
+        ensures { IfOk result (λ seconds. AreFew seconds.items) }
+    {
         match (self.fault.code, site) {
             (Code::RepeatedLabel, _) => self.label_before(&mut UnitReplay::new(scratch, start)),
             (Code::DeclaredAfterUse, UnitPart::Declared(_way, name)) => {
@@ -101,7 +115,9 @@ impl<'a> About<'a> {
     }
 
     // Those of a declared name.
-    fn of_declared(self, steps: &UnitWalk<'_>, name: &Bytes) -> Result<Vec<Second>, AllocError> {
+    fn of_declared(self, steps: &UnitWalk<'_>, name: &Bytes) -> Result<Vec<Second>, AllocError>
+        ensures { IfOk result (λ seconds. AreFew seconds.items) }
+    {
         let Some(scope) = steps.cursor().innermost() else {
             return Ok(Vec::new(self.alloc()));
         };
@@ -128,7 +144,9 @@ impl<'a> About<'a> {
         view: View<'_>,
         scope: ScopeAt<'_>,
         name: &Bytes,
-    ) -> Result<Vec<Second>, AllocError> {
+    ) -> Result<Vec<Second>, AllocError>
+        ensures { IfOk result (λ seconds. AreFew seconds.items) }
+    {
         let folded = name.to_folded(self.alloc())?;
         let found = entities_by(view, scope, &folded)?;
         self.declared_all(found.as_slice())
@@ -140,7 +158,9 @@ impl<'a> About<'a> {
         view: View<'_>,
         scope: &Path,
         name: &Bytes,
-    ) -> Result<Vec<Second>, AllocError> {
+    ) -> Result<Vec<Second>, AllocError>
+        ensures { IfOk result (λ seconds. AreFew seconds.items) }
+    {
         let path = scope.child(self.alloc(), name)?;
         match entity_at(view, &path)? {
             Some(entity) => self.declared(entity.get().path()),
@@ -154,7 +174,9 @@ impl<'a> About<'a> {
         steps: &UnitWalk<'_>,
         way: Use,
         name: &ScopedName,
-    ) -> Result<Vec<Second>, AllocError> {
+    ) -> Result<Vec<Second>, AllocError>
+        ensures { IfOk result (λ seconds. AreFew seconds.items) }
+    {
         let standing = NameContext {
             about: self,
             place: Standpoint {
@@ -166,12 +188,14 @@ impl<'a> About<'a> {
             (Code::DeclaredAgain, Use::AsBase(_)) => {
                 standing.operations_that_meet(steps.found(), name)
             }
-            _ => standing.seconds(name),
+            _ => standing.seconds(steps.at(), name),
         }
     }
 
     // Those of a pragma.
-    fn of_pragma(self, scopes: &OpenScopes, pragma: &Pragma) -> Result<Vec<Second>, AllocError> {
+    fn of_pragma(self, scopes: &OpenScopes, pragma: &Pragma) -> Result<Vec<Second>, AllocError>
+        ensures { IfOk result (λ seconds. AreFew seconds.items) }
+    {
         let own = Facts::new(self.alloc());
         let standing = NameContext {
             about: self,
@@ -181,30 +205,40 @@ impl<'a> About<'a> {
             },
         };
         match pragma {
-            Pragma::Id(name, _text) => standing.seconds(name),
-            Pragma::Version(name, _major, _minor) => standing.seconds(name),
+            Pragma::Id(name, _text) => standing.seconds(OPERANDS, name),
+            Pragma::Version(name, _major, _minor) => standing.seconds(OPERANDS, name),
             Pragma::Prefix(_text) => Ok(Vec::new(self.alloc())),
         }
     }
 
     /// The declaration of what stands at a path.
-    pub fn declared(self, path: &Path) -> Result<Vec<Second>, AllocError> {
+    pub fn declared(self, path: &Path) -> Result<Vec<Second>, AllocError>
+        ensures { IfOk result (λ seconds. length seconds.items ≤ 1) }
+    {
         let mut seconds = Vec::new(self.alloc());
         self.push_declared(&mut seconds, path)?;
         Ok(seconds)
     }
 
-    /// Those of these entities.
-    pub fn declared_all(self, entities: &[&Shared<Entity>]) -> Result<Vec<Second>, AllocError> {
+    /// Those of the first of these entities, and behind the last one how many more there are.
+    pub fn declared_all(self, entities: &[&Shared<Entity>]) -> Result<Vec<Second>, AllocError>
+        ensures few { IfOk result (λ seconds. AreFew seconds.items) }
+        ensures more { IfOk result (λ seconds.
+            TellsMore (length entities.now - most_told) seconds.items) }
+    {
+        let (told, more) = entities.split_at(told_count(entities.len()));
         let mut seconds = Vec::new(self.alloc());
-        for entity in entities {
+        'told: for entity in told {
             self.push_declared(&mut seconds, entity.get().path())?;
         }
+        count_more(&mut seconds, more.len());
         Ok(seconds)
     }
 
     /// Puts in the declaration of what stands at a path, where it is known.
-    pub fn push_declared(self, seconds: &mut Vec<Second>, path: &Path) -> Result<(), AllocError> {
+    pub fn push_declared(self, seconds: &mut Vec<Second>, path: &Path) -> Result<(), AllocError>
+        ensures { OnOk result (length seconds.new.items ≤ length seconds.old.items + 1) }
+    {
         let found = self.known.declared_spot(self.env, path, self.fault.index)?;
         match found {
             Some(spot) => push(seconds, Reason::Declared, spot),
@@ -218,7 +252,9 @@ impl<'a> About<'a> {
         reason: Reason,
         unit: usize,
         token: Option<usize>,
-    ) -> Result<Vec<Second>, AllocError> {
+    ) -> Result<Vec<Second>, AllocError>
+        ensures { IfOk result (λ seconds. AreFew seconds.items) }
+    {
         let mut seconds = Vec::new(self.alloc());
         if let Some(token) = token {
             push(&mut seconds, reason, TokenPosition { unit, token })?;
@@ -227,7 +263,9 @@ impl<'a> About<'a> {
     }
 
     /// A token of the unit itself, if there is one.
-    pub fn here(self, reason: Reason, token: Option<usize>) -> Result<Vec<Second>, AllocError> {
+    pub fn here(self, reason: Reason, token: Option<usize>) -> Result<Vec<Second>, AllocError>
+        ensures { IfOk result (λ seconds. AreFew seconds.items) }
+    {
         self.at(reason, self.known.number(), token)
     }
 }
@@ -237,9 +275,33 @@ pub fn push(
     seconds: &mut Vec<Second>,
     reason: Reason,
     spot: TokenPosition,
-) -> Result<(), AllocError> {
-    seconds.push(Second { reason, spot })?;
+) -> Result<(), AllocError>
+    ensures { OnOk result (seconds.new.items
+        ≡ seconds.old.items ++ record { reason = reason; spot = spot; more = 0 } ∷ []) }
+{
+    seconds.push(Second {
+        reason,
+        spot,
+        more: 0,
+    })?;
     Ok(())
+}
+
+/// How many of so many that are found are told.
+pub fn told_count(found: usize) -> usize
+    ensures { result ≡ min found most_told }
+{
+    found.min(MOST_TOLD)
+}
+
+// Behind the last of these places so many more were found, of which none is told.
+fn count_more(seconds: &mut Vec<Second>, more: usize)
+    ensures more { TellsMore more seconds.new.items }
+    ensures count { length seconds.new.items ≡ length seconds.old.items }
+{
+    if let Some(last) = seconds.last_mut() {
+        last.more = more;
+    }
 }
 
 // The site with the token that has this number, up to which the walk goes.

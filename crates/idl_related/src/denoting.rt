@@ -1,6 +1,10 @@
 //! The second places of a used name.
 
+ghost use Rattle.std.specs.Prelude.{IfOk};
+ghost use Rattle.idl_related.specs.Told.{AreFew};
+
 use crate::about::About;
+use crate::names::part_number;
 use crate::second::{Reason, Second, TokenPosition};
 use idl_base::{Bytes, Seq, Shared};
 use idl_entity::{Entity, Kind, Path};
@@ -35,16 +39,30 @@ impl Drop for Searched {
 }
 
 impl<'a> NameContext<'a> {
-    /// Those of a name, by what it denotes or why it denotes nothing.
-    pub fn seconds(self, name: &ScopedName) -> Result<Vec<Second>, AllocError> {
-        match self.resolved(name)? {
-            Ok(found) => self.of_found(found.entity.get().path()),
-            Err((NameCode::Ambiguous | NameCode::OtherSpelling, part)) => {
+    /// Those of a name that begins at this token, by what it denotes or why it denotes nothing. What is found tells at which part it
+    /// denotes nothing, so that bases aren't walked for that once more.
+    pub fn seconds(self, at: usize, name: &ScopedName) -> Result<Vec<Second>, AllocError>
+        ensures { IfOk result (λ seconds. AreFew seconds.items) }
+    {
+        let part = part_number(at, name, self.about.fault.index);
+        match self.about.fault.code {
+            Code::AmbiguousName | Code::OtherCase => {
                 let found = self.found_at(name, part)?;
                 self.about.declared_all(found.as_slice())
             }
+            Code::NameNotFound => self.of_unknown(name, part),
+            _ => self.of_denoted(name),
+        }
+    }
+
+    // Those of a name that denotes something, or whose part is no scope.
+    fn of_denoted(self, name: &ScopedName) -> Result<Vec<Second>, AllocError>
+        ensures { IfOk result (λ seconds. AreFew seconds.items) }
+    {
+        match self.resolved(name)? {
+            Ok(found) => self.of_found(found.entity.get().path()),
             Err((NameCode::NoScope, part)) => self.of_part(name, part),
-            Err((NameCode::Undeclared, part)) => self.of_unknown(name, part),
+            Err(_) => Ok(Vec::new(self.about.alloc())),
         }
     }
 
@@ -61,7 +79,9 @@ impl<'a> NameContext<'a> {
     }
 
     // Those of a name that denotes what stands at a path.
-    fn of_found(self, path: &Path) -> Result<Vec<Second>, AllocError> {
+    fn of_found(self, path: &Path) -> Result<Vec<Second>, AllocError>
+        ensures { IfOk result (λ seconds. AreFew seconds.items) }
+    {
         match self.about.fault.code {
             Code::RepeatedId | Code::RepeatedVersion | Code::RepeatedTypeprefix => {
                 self.about.given(path)
@@ -71,7 +91,9 @@ impl<'a> NameContext<'a> {
     }
 
     // The declaration of what the part of a name with this number denotes.
-    fn of_part(self, name: &ScopedName, part: usize) -> Result<Vec<Second>, AllocError> {
+    fn of_part(self, name: &ScopedName, part: usize) -> Result<Vec<Second>, AllocError>
+        ensures { IfOk result (λ seconds. AreFew seconds.items) }
+    {
         match self.entity_of(name, part)? {
             Some(entity) => self.about.declared(entity.get().path()),
             None => Ok(Vec::new(self.about.alloc())),
@@ -164,7 +186,9 @@ impl<'a> NameContext<'a> {
     }
 
     // Those of a name of which the part with this number isn't declared: where it would have been, or names that are near.
-    fn of_unknown(self, name: &ScopedName, part: usize) -> Result<Vec<Second>, AllocError> {
+    fn of_unknown(self, name: &ScopedName, part: usize) -> Result<Vec<Second>, AllocError>
+        ensures { IfOk result (λ seconds. AreFew seconds.items) }
+    {
         let Some(spelled) = part_of(name, part) else {
             return Ok(Vec::new(self.about.alloc()));
         };
@@ -195,7 +219,9 @@ impl<'a> NameContext<'a> {
         self,
         bases: &[Path],
         name: &ScopedName,
-    ) -> Result<Vec<Second>, AllocError> {
+    ) -> Result<Vec<Second>, AllocError>
+        ensures { IfOk result (λ seconds. AreFew seconds.items) }
+    {
         match self.resolved(name)? {
             Ok(found) => self.first_that_meet(bases, found.entity.get()),
             Err(_) => Ok(Vec::new(self.about.alloc())),
@@ -203,7 +229,9 @@ impl<'a> NameContext<'a> {
     }
 
     // The same, where the base is this one.
-    fn first_that_meet(self, bases: &[Path], base: &Entity) -> Result<Vec<Second>, AllocError> {
+    fn first_that_meet(self, bases: &[Path], base: &Entity) -> Result<Vec<Second>, AllocError>
+        ensures { IfOk result (λ seconds. AreFew seconds.items) }
+    {
         let before = self.operations_of(bases)?;
         let paths = operations_in(self.about.alloc(), base)?;
         self.declared_twice(&before, paths.as_slice())
@@ -214,7 +242,9 @@ impl<'a> NameContext<'a> {
         self,
         before: &Table<Bytes, Path>,
         paths: &[Path],
-    ) -> Result<Vec<Second>, AllocError> {
+    ) -> Result<Vec<Second>, AllocError>
+        ensures { IfOk result (λ seconds. AreFew seconds.items) }
+    {
         let alloc = self.about.alloc();
         for path in paths {
             match before.get(&path.folded(alloc)?) {
@@ -226,7 +256,9 @@ impl<'a> NameContext<'a> {
     }
 
     // The declarations of what stands at two paths.
-    fn declared_both(self, one: &Path, other: &Path) -> Result<Vec<Second>, AllocError> {
+    fn declared_both(self, one: &Path, other: &Path) -> Result<Vec<Second>, AllocError>
+        ensures { IfOk result (λ seconds. AreFew seconds.items) }
+    {
         let mut seconds = self.about.declared(one)?;
         self.about.push_declared(&mut seconds, other)?;
         Ok(seconds)

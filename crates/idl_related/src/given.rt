@@ -1,5 +1,8 @@
 //! Where an id, a version or a typeprefix was given.
 
+ghost use Rattle.std.specs.Prelude.{IfOk};
+ghost use Rattle.idl_related.specs.Told.{AreFew};
+
 use crate::about::About;
 use crate::names::{last_at, length_of, tree_of};
 use crate::second::{Reason, Second};
@@ -17,7 +20,9 @@ const OPERANDS: usize = 2;
 
 impl<'a> About<'a> {
     /// The unit by which what is found again was given to what stands at a path: the name there.
-    pub fn given(self, path: &Path) -> Result<Vec<Second>, AllocError> {
+    pub fn given(self, path: &Path) -> Result<Vec<Second>, AllocError>
+        ensures { IfOk result (λ seconds. AreFew seconds.items) }
+    {
         match self.giving_unit(path)? {
             Some(unit) => self.at(Reason::Given, unit, self.giving_token(unit)?),
             None => Ok(Vec::new(self.alloc())),

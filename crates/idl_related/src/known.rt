@@ -1,6 +1,7 @@
 //! What is known of a root up to one of its units.
 
-ghost use Rattle.std.specs.Prelude.{◌≡◌, IfOk};
+ghost use Rattle.std.specs.Prelude.{◌≡◌, IfOk, nat_lt};
+ghost use Rattle.idl_related.specs.Told.{most_unknown};
 
 use crate::names::{NameDeclaration, declared_names};
 use crate::second::TokenPosition;
@@ -294,7 +295,9 @@ impl<'a> KnownUnits<'a> {
     }
 
     /// Whether near names are looked for, of one name more that isn't declared.
-    pub fn asks_near(&self) -> bool {
+    pub fn asks_near(&self) -> bool
+        ensures { result ≡ nat_lt self.now.unknown most_unknown }
+    {
         self.unknown < MOST_UNKNOWN
     }
 

@@ -1,5 +1,8 @@
 //! The names that a unit declares, by its tree alone.
 
+ghost use Rattle.std.specs.Prelude.{◌≡◌, ℕ};
+ghost use Rattle.idl_tree.specs.NameParts.{part_at};
+
 use idl_base::Bytes;
 use idl_entity::Path;
 use idl_parse::{SyntaxFault, UnitTree, parse};
@@ -150,6 +153,14 @@ pub fn length_of(site: &UnitPart<'_>) -> usize {
 pub fn part_at(at: usize, name: &ScopedName, part: usize) -> usize {
     at.saturating_add(usize::from(name.is_global))
         .saturating_add(part.saturating_mul(2))
+}
+
+/// Which part of a name the token with this number is, where the name begins at that one.
+pub fn part_number(at: usize, name: &ScopedName, index: usize) -> usize
+    ensures { (part : ℕ) → index ≡ part_at at name.now part → result ≡ part }
+{
+    let first = at.saturating_add(usize::from(name.is_global));
+    index.saturating_sub(first) / 2
 }
 
 /// That of the last part.

@@ -1,16 +1,20 @@
 //! Names that are near to one that isn't declared.
 
-use crate::about::push;
+ghost use Rattle.std.specs.Prelude.{◌≡◌, IfOk};
+ghost use Rattle.idl_related.specs.Told.{AreFew, is_compared, most_edits};
+
+use crate::about::{push, told_count};
 use crate::denoting::{NameContext, Searched, entity_at};
 use crate::known::letters_of;
 use crate::second::{Reason, Second};
 use idl_base::Bytes;
 use idl_entity::Path;
+use idl_env::BaseQueue;
 use std::alloc::{AllocError, Global};
 use strsim::generic_levenshtein;
 
-// So many are told.
-const MOST: usize = 3;
+// Names of so many bytes at most are compared.
+const LONGEST_COMPARED: usize = 64;
 
 // The names so far that are nearest to one: how far they are, and their numbers among the declared ones.
 struct Nearest<'n> {
@@ -33,35 +37,30 @@ impl<'n> Drop for Nearest<'n> {
 
 impl<'a> NameContext<'a> {
     /// Where up to three names are declared that are nearest to this one, of those in these scopes and their bases.
-    pub fn near(self, name: &Bytes, scopes: &[Searched]) -> Result<Vec<Second>, AllocError> {
+    pub fn near(self, name: &Bytes, scopes: &[Searched]) -> Result<Vec<Second>, AllocError>
+        ensures { IfOk result (λ seconds. AreFew seconds.items) }
+    {
         let alloc = self.about.alloc();
-        if !self.about.known.asks_near() {
+        if !self.about.known.asks_near() || !is_compared(name.as_bytes()) {
             return Ok(Vec::new(alloc));
         }
-        let scopes = self.with_bases(scopes)?;
-        let mut nearest = Nearest {
-            name: name.as_bytes(),
-            letters: letters_of(name.as_bytes()),
-            distance: 1 + name.len() / 4,
-            numbers: Vec::new(alloc),
-        };
-        for scope in scopes.as_slice() {
-            self.add_names(&mut nearest, scope)?;
-        }
+        let scopes = scopes_searched(alloc, scopes)?;
+        let mut nearest = Nearest::new(alloc, name.as_bytes());
+        self.add_all(&mut nearest, scopes)?;
         self.told(nearest.numbers.as_slice())
     }
 
-    // The paths of these scopes, and of the bases that they reach.
-    fn with_bases(self, scopes: &[Searched]) -> Result<Vec<Path>, AllocError> {
-        let mut paths = paths_of(self.about.alloc(), scopes)?;
+    // Puts in the nearest names that are declared in these scopes, and in the bases that they reach, each once.
+    fn add_all(self, nearest: &mut Nearest<'_>, mut scopes: BaseQueue) -> Result<(), AllocError> {
         for turn in 0..usize::MAX {
-            let Some(path) = paths.get(turn) else {
-                return Ok(paths);
+            let Some(scope) = scopes.get(turn) else {
+                break;
             };
-            let more = self.bases_of(path)?;
-            add_paths(&mut paths, more)?;
+            self.add_names(nearest, scope)?;
+            let more = self.bases_of(scope)?;
+            scopes.join(more)?;
         }
-        Ok(paths)
+        Ok(())
     }
 
     // The bases of what stands at a path.
@@ -101,10 +100,12 @@ impl<'a> NameContext<'a> {
     }
 
     // Where the first of the names with these numbers are declared.
-    fn told(self, numbers: &[usize]) -> Result<Vec<Second>, AllocError> {
+    fn told(self, numbers: &[usize]) -> Result<Vec<Second>, AllocError>
+        ensures { IfOk result (λ seconds. AreFew seconds.items) }
+    {
         let about = self.about;
         let mut seconds = Vec::new(about.alloc());
-        for number in numbers.iter().take(MOST) {
+        'told: for number in &numbers[..told_count(numbers.len())] {
             let Some(path) = about.known.path(*number) else {
                 continue;
             };
@@ -120,6 +121,16 @@ impl<'a> NameContext<'a> {
 }
 
 impl<'n> Nearest<'n> {
+    // None so far.
+    fn new(alloc: Global, name: &'n [u8]) -> Nearest<'n> {
+        Nearest {
+            name,
+            letters: letters_of(name),
+            distance: most_edits(name),
+            numbers: Vec::new(alloc),
+        }
+    }
+
     // Whether a name with these letters may be as near as those so far: each edit takes one at most, and puts in one.
     fn may_have(&self, letters: u64) -> bool {
         let taken = (self.letters & !letters).count_ones() as usize;
@@ -129,7 +140,7 @@ impl<'n> Nearest<'n> {
 
     // Puts in the name with a number, if none so far is nearer.
     fn add(&mut self, alloc: Global, number: usize, name: &[u8]) -> Result<(), AllocError> {
-        if self.name.len().abs_diff(name.len()) > self.distance {
+        if !is_compared(name) || self.name.len().abs_diff(name.len()) > self.distance {
             return Ok(());
         }
         let distance = generic_levenshtein(alloc, self.name, name)?;
@@ -145,21 +156,27 @@ impl<'n> Nearest<'n> {
     }
 }
 
-// The paths of these scopes.
-fn paths_of(alloc: Global, scopes: &[Searched]) -> Result<Vec<Path>, AllocError> {
+// Whether a name is compared with others.
+fn is_compared(name: &[u8]) -> bool
+    ensures { result ≡ is_compared name.now }
+{
+    name.len() <= LONGEST_COMPARED
+}
+
+// How many edits away a name is at most that is near to this one.
+fn most_edits(name: &[u8]) -> usize
+    ensures { result ≡ most_edits name.now }
+{
+    1 + name.len() / 4
+}
+
+// The paths of these scopes, each once.
+fn scopes_searched(alloc: Global, scopes: &[Searched]) -> Result<BaseQueue, AllocError> {
     let mut paths = Vec::new(alloc);
     for scope in scopes {
         paths.push(scope.path.clone()?)?;
     }
-    Ok(paths)
-}
-
-// Puts in the paths that aren't there.
-fn add_paths(paths: &mut Vec<Path>, more: &[Path]) -> Result<(), AllocError> {
-    for path in more {
-        if !paths.contains(path) {
-            paths.push(path.clone()?)?;
-        }
-    }
-    Ok(())
+    let mut queue = BaseQueue::new(alloc);
+    queue.join(paths.as_slice())?;
+    Ok(queue)
 }

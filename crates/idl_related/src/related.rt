@@ -1,10 +1,11 @@
 //! The second places of all that is found in a root.
 
-ghost use Rattle.std.specs.Prelude.{◌≡◌, IfOk, IfSome, List, OnOk, slice_get};
+ghost use Rattle.std.specs.Prelude.{◌≡◌, ◌≤◌, ◌+◌, IfOk, IfSome, List, OnOk, length, slice_get};
 ghost use Rattle.idl_event.specs.declared.told.event.Event.{Event};
 ghost use Rattle.std.specs.Option.{option_copied};
-ghost use Rattle.idl_related.specs.Related.{AreAtTokens, AreRelated, IsAtToken};
+ghost use Rattle.idl_related.specs.Related.{AreAtTokens, AreOfFinding, AreRelated, IsAtToken};
 ghost use Rattle.idl_related.specs.Judged.{AreTold, IsOfRoot};
+ghost use Rattle.idl_related.specs.Told.{AreFew};
 ghost use Rattle.idl_finding.specs.Findings.{site_of, tokens_of};
 ghost use Rattle.idl_unit.specs.Units.{units_of};
 
@@ -246,7 +247,8 @@ impl<'a> JudgedUnits<'a> {
 
     // Tells what is found of this code at an event, with these second places.
     fn tell_at(&mut self, event: usize, code: Code, seconds: &[Second]) -> Result<(), AllocError>
-        requires { IsOfRoot self.old }
+        requires root { IsOfRoot self.old }
+        requires few { AreFew seconds.now }
         ensures root { OnOk result (IsOfRoot self.new) }
         ensures expansion { OnOk result (self.new.expansion.now ≡ self.old.expansion.now) }
     {
@@ -269,8 +271,9 @@ impl<'a> JudgedUnits<'a> {
 
     // These places, looked up.
     fn related(&self, seconds: &[Second]) -> Result<Seq<Related>, AllocError>
-        requires { IsOfRoot self.now }
-        ensures { IfOk result (AreAtTokens self.now.expansion.now) }
+        requires root { IsOfRoot self.now }
+        requires few { AreFew seconds.now }
+        ensures { IfOk result (AreOfFinding self.now.expansion.now) }
     {
         let mut related = Vec::new(self.known.alloc);
         'seconds: for second in seconds {
@@ -283,7 +286,8 @@ impl<'a> JudgedUnits<'a> {
     fn push(&self, related: &mut Vec<Related>, second: &Second) -> Result<(), AllocError>
         requires root { IsOfRoot self.now }
         requires related { AreAtTokens self.now.expansion.now related.old.items }
-        ensures { OnOk result (AreAtTokens self.now.expansion.now related.new.items) }
+        ensures tokens { OnOk result (AreAtTokens self.now.expansion.now related.new.items) }
+        ensures count { OnOk result (length related.new.items ≤ length related.old.items + 1) }
     {
         match self.place(second)? {
             Some(place) => {
@@ -315,6 +319,7 @@ impl<'a> JudgedUnits<'a> {
             place: site.place()?,
             number: token_number(self.expansion, site.event),
             text: Bytes::from_slice(self.known.alloc, spelled)?,
+            more: second.more,
         }))
     }
 
@@ -418,7 +423,7 @@ fn matched(
 // What is told last, which goes; of a code that has no second places nothing.
 fn next_of(alloc: Global, code: Code, told: &mut Vec<RelatedPlaces>) -> Seq<Related>
     ensures next { (events : List Event) → AreTold events told.old.items
-        → AreAtTokens events result }
+        → AreOfFinding events result }
     ensures left { (events : List Event) → AreTold events told.old.items
         → AreTold events told.new.items }
 {

@@ -1,5 +1,8 @@
 //! What stands in a unit before its fault, or in one before: a use, a naming, a label.
 
+ghost use Rattle.std.specs.Prelude.{IfOk};
+ghost use Rattle.idl_related.specs.Told.{AreFew};
+
 use crate::about::About;
 use crate::denoting::NameContext;
 use crate::names::{last_at, length_of, part_at, tree_of};
@@ -47,7 +50,9 @@ impl<'a> About<'a> {
         steps: &UnitWalk<'_>,
         name: &Bytes,
         again: &mut UnitReplay<'_, '_>,
-    ) -> Result<Vec<Second>, AllocError> {
+    ) -> Result<Vec<Second>, AllocError>
+        ensures { IfOk result (λ seconds. AreFew seconds.items) }
+    {
         let alloc = self.alloc();
         let Some(scope) = steps.cursor().innermost() else {
             return Ok(Vec::new(alloc));
@@ -67,7 +72,9 @@ impl<'a> About<'a> {
     }
 
     // The first use in a unit of the name with which a path ends.
-    fn use_in(self, unit: usize, path: &Path) -> Result<Vec<Second>, AllocError> {
+    fn use_in(self, unit: usize, path: &Path) -> Result<Vec<Second>, AllocError>
+        ensures { IfOk result (λ seconds. AreFew seconds.items) }
+    {
         match self.known.text(unit) {
             Some(text) => self.at(Reason::Used, unit, using_token(self.alloc(), text, path)?),
             None => Ok(Vec::new(self.alloc())),
@@ -80,7 +87,9 @@ impl<'a> About<'a> {
         steps: &UnitWalk<'_>,
         name: &ScopedName,
         again: &mut UnitReplay<'_, '_>,
-    ) -> Result<Vec<Second>, AllocError> {
+    ) -> Result<Vec<Second>, AllocError>
+        ensures { IfOk result (λ seconds. AreFew seconds.items) }
+    {
         let standing = NameContext {
             about: self,
             place: Standpoint {
@@ -95,7 +104,9 @@ impl<'a> About<'a> {
     }
 
     /// The first label of the same union that is the one at the fault.
-    pub fn label_before(self, again: &mut UnitReplay<'_, '_>) -> Result<Vec<Second>, AllocError> {
+    pub fn label_before(self, again: &mut UnitReplay<'_, '_>) -> Result<Vec<Second>, AllocError>
+        ensures { IfOk result (λ seconds. AreFew seconds.items) }
+    {
         self.here(
             Reason::Labelled,
             again.first_label(self.alloc(), self.fault.index)?,

@@ -51,6 +51,8 @@ pub struct Related {
     pub number: Option<usize>,
     /// How it is spelled.
     pub text: Bytes,
+    /// How many more were found than are told, behind the last of several.
+    pub more: usize,
 }
 
 impl Drop for Related {
@@ -60,6 +62,7 @@ impl Drop for Related {
             place: _place,
             number: _number,
             text: _text,
+            more: _more,
         } = self;
     }
 }
@@ -96,4 +99,6 @@ pub struct TokenPosition {
 pub struct Second {
     pub reason: Reason,
     pub spot: TokenPosition,
+    /// How many more were found than are told, behind the last of several.
+    pub more: usize,
 }

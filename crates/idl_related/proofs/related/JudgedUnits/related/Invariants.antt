@@ -1,6 +1,10 @@
+use Rattle.std.proofs.Common.{◌≤◌, length}
 use Rattle.idl_related.specs.Related.{AreAtTokens}
 use Rattle.idl_related.proofs.related.JudgedUnits.related.Given as goal
 
--- those of the places before
+-- those of the places before, at most one for each
 abbrev pub invariant-seconds : goal.invariant-seconds
-invariant-seconds l = AreAtTokens l.self.expansion.now l.related.items
+invariant-seconds l = record {
+  tokens : AreAtTokens l.self.expansion.now l.related.items;
+  count : length l.related.items ≤ l.second-index;
+}

@@ -2,7 +2,7 @@ use Rattle.std.proofs.Common.{◌∙◌, ◌∷◌, ◌++◌, [], List, ap, subs
 use Rattle.std.proofs.lemmas.List.Elements.{All-push}
 use Rattle.idl_event.specs.declared.told.event.Event.{Event}
 use Rattle.idl_related.specs.Judged.{AreTold}
-use Rattle.idl_related.specs.Related.{AreAtTokens}
+use Rattle.idl_related.specs.Related.{AreOfFinding}
 use Rattle.idl_related.specs.declared.related.RelatedPlaces.{RelatedPlaces}
 use Rattle.idl_unit.specs.Units.{units_of}
 use Rattle.idl_related.proofs.related.JudgedUnits.tell_at.Goals as goal
@@ -13,9 +13,9 @@ returns-clause-root c =
     let one : RelatedPlaces = record { event = c.args.event; related = c.in_ok-related.related } in
     let items = c.in_ok-push.ensures.items ∙ ap (λ (told : List RelatedPlaces). told ++ one ∷ []) c.count.ensures.told in
     record {
-      units = c.count.ensures.units ∙ c.requires.units ∙ ap units_of (sym c.count.ensures.expansion);
+      units = c.count.ensures.units ∙ c.requires.root.units ∙ ap units_of (sym c.count.ensures.expansion);
       told =
           subst (λ (out : List Event). AreTold out c.push.new.self.items) (sym c.count.ensures.expansion)
           (subst (AreTold events) (sym items)
-          (All-push (λ (t : RelatedPlaces). AreAtTokens events t.related) c.args.self.now.told.items one c.requires.told c.in_ok-related.ensures));
+          (All-push (λ (t : RelatedPlaces). AreOfFinding events t.related) c.args.self.now.told.items one c.requires.root.told c.in_ok-related.ensures));
     }
