@@ -10,7 +10,7 @@ mod ranges;
 mod shown;
 mod symbols;
 
-pub use diagnostics::{diagnostic_value, message_of, second_value};
+pub use diagnostics::{SecondWords, diagnostic_value, message_of, second_value};
 pub use found::{MOST_TOLD, RootFinding, put_all};
 pub use hover::hover_value;
 pub use published::found_params;

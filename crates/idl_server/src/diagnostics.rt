@@ -9,7 +9,7 @@ use crate::places::{LocatedToken, line_range, lines_of, range_of};
 use crate::workspace::Workspace;
 use idl_base::Seq;
 use idl_editor::documents::uri_for;
-use idl_editor::told::{diagnostic_value, message_of, second_value};
+use idl_editor::told::{SecondWords, diagnostic_value, message_of, second_value};
 use idl_editor::{Encoding, Range};
 use idl_project::{Finding, Session, related_in};
 use idl_related::Related;
@@ -92,8 +92,12 @@ impl Workspace {
                 text: second.text.as_bytes(),
             };
             let range = range_of(&self.session, self.encoding, token);
-            let reason = second.reason.words();
-            list.push(second_value(alloc, &uri, range, reason, token.text)?)?;
+            let words = SecondWords {
+                reason: second.reason.words(),
+                token: token.text,
+                more: second.more,
+            };
+            list.push(second_value(alloc, &uri, range, words)?)?;
         }
         Ok(Value::Array(list))
     }

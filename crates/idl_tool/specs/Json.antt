@@ -40,6 +40,7 @@ second_at files second = record {
   place = second.place;
   token = second.text;
   column = column_at files second.place second.number second.text;
+  more = second.more;
 }
 
 -- what is found, with the column of its token, and with second places

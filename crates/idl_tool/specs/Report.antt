@@ -95,8 +95,13 @@ abbrev pub report : Option (List ℕ) → Option ℕ → Finding → Words → L
 report line column finding words =
     heading finding column words ++ excerpt_of line column (token_in finding)
 
+-- `, and N more`, where so many more were found than are told
+abbrev pub more_text : ℕ → List ℕ
+more_text more =
+    if nat_eq more 0 then [] else codes ", and " ++ decimal more ++ codes " more"
+
 -- the line of a second place: `  near: TOKEN, FILE:LINE:COLUMN`
 abbrev pub second_line : Related → Option ℕ → List ℕ
 second_line second column =
     codes "  " ++ reason_words second.reason ++ codes ": " ++ shown_token second.text
-    ++ codes ", " ++ ended (place_text second.place column)
+    ++ codes ", " ++ place_text second.place column ++ ended (more_text second.more)

@@ -239,5 +239,6 @@ fn second_of<'s>(sources: &Sources, second: &'s Related) -> SecondPlace<'s>
         place: &second.place,
         token: &second.text,
         column: sources.column(&second.place, second.number, second.text.as_bytes()),
+        more: second.more,
     }
 }

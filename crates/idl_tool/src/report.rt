@@ -2,7 +2,7 @@
 
 ghost use Rattle.std.specs.Prelude.{◌≡◌, ◌++◌, ◌<◌, IfOk, OnOk, map};
 ghost use Rattle.std.specs.Option.{option_copied};
-ghost use Rattle.idl_tool.specs.Report.{beginning, column_text, excerpt, gap_below, heading, hex_digit, line_byte, mark_below, place_text, report, saying, second_line, severity, shown_byte, shown_line, shown_token, token_in};
+ghost use Rattle.idl_tool.specs.Report.{beginning, column_text, excerpt, gap_below, heading, hex_digit, line_byte, mark_below, more_text, place_text, report, saying, second_line, severity, shown_byte, shown_line, shown_token, token_in};
 
 use idl_driver::idl_project::Finding;
 use idl_explain::Words;
@@ -70,7 +70,7 @@ fn push_saying(finding: &Finding, words: Words, out: &mut Vec<u8>) -> Result<(),
     out.extend_from_slice(b"]\n")
 }
 
-/// Writes the line of a second place: `  near: TOKEN, FILE:LINE:COLUMN`.
+/// Writes the line of a second place: `  near: TOKEN, FILE:LINE:COLUMN`, and how many more were found than are told.
 pub fn push_second(
     second: &Related,
     column: Option<usize>,
@@ -86,7 +86,21 @@ pub fn push_second(
     out.extend_from_slice(&token)?;
     out.extend_from_slice(b", ")?;
     push_place(&second.place, column, out)?;
+    push_more(second.more, out)?;
     out.extend_from_slice(b"\n")
+}
+
+// Writes `, and N more`, where so many more were found than are told.
+fn push_more(more: usize, out: &mut Vec<u8>) -> Result<(), AllocError>
+    ensures { OnOk result (out.new.items ≡ out.old.items ++ more_text more) }
+{
+    if more == 0 {
+        return Ok(());
+    }
+    let mut number = Buffer::new();
+    out.extend_from_slice(b", and ")?;
+    out.extend_from_slice(number.format(more).as_bytes())?;
+    out.extend_from_slice(b" more")
 }
 
 // What a row shows behind its code.

@@ -53,7 +53,7 @@ fn is_served(alloc: Global, text: &str, input: &str, code: u8, want: &str) -> Re
 }
 
 // A status, files, messages, and behind a `=` what is written. A line that begins with blanks goes on with the one before it.
-static SCRIPTS: [&str; 3] = [
+static SCRIPTS: [&str; 4] = [
     // A document is opened beside a header of the disk, in units of UTF-16, mended, and asked about.
     r##"0 /p/b.idl: typedef long Money;
 {"id":1,"method":"textDocument/hover"}
@@ -130,6 +130,24 @@ static SCRIPTS: [&str; 3] = [
 {"id":2,"method":"shutdown"}
 ={"id":2,"jsonrpc":"2.0","result":null}
 {"method":"exit"}"##,
+    // Of several second places three are told, and how many more there are.
+    r##"1
+{"id":1,"method":"initialize","params":{"rootUri":"file:///p"}}
+={"id":1,"jsonrpc":"2.0","result":{"capabilities":{"definitionProvider":true,"documentSymbolProvider":true,"hoverProvider":true,
+    "positionEncoding":"utf-16","textDocumentSync":{"change":2,"openClose":true,"save":true}},
+    "serverInfo":{"name":"idltool","version":"0.1.0"}}}
+{"method":"textDocument/didOpen","params":{"textDocument":{"uri":"file:///p/a.idl",
+    "text":"interface A { typedef long T; };\ninterface B { typedef long T; };\ninterface C { typedef long T; };\n
+    interface D { typedef long T; };\ninterface E : A, B, C, D { attribute T x; };\n"}}}
+={"jsonrpc":"2.0","method":"textDocument/publishDiagnostics","params":{"diagnostics":[{"code":"E31",
+    "message":"`T` means different things in different bases",
+    "range":{"end":{"character":38,"line":4},"start":{"character":37,"line":4}},"relatedInformation":[
+    {"location":{"range":{"end":{"character":28,"line":0},"start":{"character":27,"line":0}},
+    "uri":"file:///p/a.idl"},"message":"declared: T"},
+    {"location":{"range":{"end":{"character":28,"line":1},"start":{"character":27,"line":1}},
+    "uri":"file:///p/a.idl"},"message":"declared: T"},
+    {"location":{"range":{"end":{"character":28,"line":2},"start":{"character":27,"line":2}},
+    "uri":"file:///p/a.idl"},"message":"declared: T, and 1 more"}],"severity":1,"source":"idltool"}],"uri":"file:///p/a.idl"}}"##,
 ];
 
 #[test]

@@ -10,20 +10,28 @@ use crate::told::shown::shown_value;
 use idl_explain::{Topic, explanation_of};
 use idl_fault::Code;
 use idl_finding::Finding;
+use itoa::Buffer;
 use serde_json::{Value, json};
 use std::alloc::{AllocError, Global};
 
-/// A second place, as it is told: why it is, and its token.
+/// A second place, as it is told: why it is, its token, and how many more were found than are told.
+#[derive(Clone, Copy)]
+pub struct SecondWords<'a> {
+    pub reason: &'a [u8],
+    pub token: &'a [u8],
+    pub more: usize,
+}
+
+/// A second place, as it is told.
 pub fn second_value(
     alloc: Global,
     uri: &String,
     range: Range,
-    reason: &[u8],
-    token: &[u8],
+    words: SecondWords<'_>,
 ) -> Result<Value, AllocError> {
     json!(in alloc; {
         "location": location_value(alloc, uri, range)?,
-        "message": second_message(alloc, reason, token)?,
+        "message": second_message(alloc, words)?,
     })
 }
 
@@ -70,12 +78,24 @@ fn token_of(finding: &Finding) -> &[u8]
     }
 }
 
-// Why a second place is told, and its token.
-fn second_message(alloc: Global, reason: &[u8], token: &[u8]) -> Result<Value, AllocError> {
-    let mut text = Vec::from_slice(alloc, reason)?;
+// Why a second place is told, its token, and how many more there are.
+fn second_message(alloc: Global, words: SecondWords<'_>) -> Result<Value, AllocError> {
+    let mut text = Vec::from_slice(alloc, words.reason)?;
     text.extend_from_slice(b": ")?;
-    text.extend_from_slice(token)?;
+    text.extend_from_slice(words.token)?;
+    push_more(words.more, &mut text)?;
     shown_value(alloc, &text)
+}
+
+// Puts in how many more were found than are told, if any were.
+fn push_more(more: usize, text: &mut Vec<u8>) -> Result<(), AllocError> {
+    if more == 0 {
+        return Ok(());
+    }
+    let mut number = Buffer::new();
+    text.extend_from_slice(b", and ")?;
+    text.extend_from_slice(number.format(more).as_bytes())?;
+    text.extend_from_slice(b" more")
 }
 
 // The number of an error, or of a warning.

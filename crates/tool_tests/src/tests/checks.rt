@@ -3,7 +3,7 @@
 use super::support::are_given;
 use std::test::Fail;
 
-static ROWS: [&str; 6] = [
+static ROWS: [&str; 7] = [
     // The line, and marks below the token; of a sound file nothing is told.
     "idltool check shop.idl => shop.idl: #include \"money.idl\" | interface Shop { |     Money price(); |     Mony total(); \
      | }; ¶ money.idl: typedef long Money; => 1 out shop.idl:4:5: error: `Mony` isn't declared here or in a scope around \
@@ -29,6 +29,12 @@ static ROWS: [&str; 6] = [
      around [E30] /\ttypedef\tNo X; //  . /\t       \t^^ /\nidltool check a.idl => a.idl: /* \u{1b} */ typedef long ä; => 1 \
      out a.idl:1:22: error: `\\xc3` begins no token of IDL [E01] //* \\x1b */ typedef long \\xc3\\xa4; /                        \
      ^^^^ /",
+    // Of several second places three are told, and how many more there are.
+    "idltool check a.idl => a.idl: interface A { typedef long T; }; | interface B { typedef long T; }; | interface C \
+     { typedef long T; }; | interface D { typedef long T; }; | interface E : A, B, C, D { attribute T x; }; => 1 out \
+     a.idl:5:38: error: `T` means different things in different bases [E31] /interface E : A, B, C, D { attribute T \
+     x; }; /                                     ^ /  declared: T, a.idl:1:28 /  declared: T, a.idl:2:28 /  \
+     declared: T, a.idl:3:28, and 1 more /",
 ];
 
 #[test]
