@@ -8,7 +8,7 @@ mod disk;
 mod reading;
 mod standard;
 
-pub use arguments::{texts, words};
+pub use arguments::{exit_code_of, texts, words};
 pub use disk::Disk;
 pub use reading::read_file;
 pub use standard::{StandardInput, StandardOutput};

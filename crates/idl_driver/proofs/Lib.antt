@@ -1,5 +1,6 @@
 mod LoadingLemmas
 mod OptionLemmas
 mod ParsedLemmas
+pub mod ToldLemmas
 mod ValueLemmas
 mod WordLemmas

@@ -1,8 +1,10 @@
 -- What a program tells of a failure.
-use Rattle.std.specs.Prelude.{ℕ, List, ◌++◌, codes, decimal}
+use Rattle.std.specs.Prelude.{◌≡◌, ℕ, List, ◌++◌, Option, codes, decimal}
 use Rattle.idl_loader.specs.Lines.{whole_line}
 use Rattle.idl_source.specs.Refusal.{number_of}
+use Rattle.idl_source.specs.devices.Device.{append}
 use Rattle.idl_source.specs.declared.refusal.Refusal.{Refusal}
+use Rattle.idl_driver.specs.Written.{WritesSome}
 use Rattle.idl_driver.specs.declared.failure.FailureSubject.{FailureSubject}
 use Rattle.idl_driver.specs.declared.failure.FailureSubject.TheVariants.{Word, File}
 use Rattle.idl_driver.specs.declared.failure.ProgramFailure.{ProgramFailure}
@@ -34,3 +36,13 @@ message_of program (failure.CannotRead name) = named_line program name (codes "c
 message_of program failure.NoMemory = line_of program (codes "no memory")
 message_of program failure.ReadFailed = line_of program (codes "read failed")
 message_of program failure.WriteFailed = line_of program (codes "write failed")
+
+-- what went out until a failure: nothing, unless it is that a write failed
+abbrev pub IsShownUntil : ProgramFailure → Option (List ℕ) → Option (List ℕ) → Type 0
+IsShownUntil failure.WriteFailed before after = WritesSome before after
+IsShownUntil other before after = after ≡ before
+
+-- a program of this name failed, and its last line, of that, went out
+abbrev pub IsFailureTold : List ℕ → Option (List ℕ) → Option (List ℕ) → Type 0
+IsFailureTold program before after = (failure : ProgramFailure) × (shown : Option (List ℕ))
+    × IsShownUntil failure before shown × (after ≡ append shown (message_of program failure))

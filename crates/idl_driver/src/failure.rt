@@ -1,6 +1,6 @@
 //! What a program tells where it fails.
 
-ghost use Rattle.std.specs.Prelude.{◌≡◌, ◌<◌, ◌-◌, ◌^◌, OnOk};
+ghost use Rattle.std.specs.Prelude.{◌≡◌, ◌<◌, ◌+◌, ◌-◌, ◌^◌, OnErr, OnOk};
 ghost use Rattle.idl_source.specs.devices.Device.{append};
 ghost use Rattle.idl_driver.specs.Messages.{line_of, message_of, name_of, named_line, refused_message};
 
@@ -66,8 +66,9 @@ impl<'a> ProgramFailure<'a> {
     #[inline(never)]
     pub fn tell<K: Sink>(&self, program: &[u8], errors: &mut K) -> Result<(), WriteFailed>
         requires counts { K.failures errors.old < 2 ^ 64 - 1 }
-        ensures { OnOk result
+        ensures told { OnOk result
             (K.written errors.new ≡ append (K.written errors.old) (message_of program.now self.now)) }
+        ensures err { OnErr result (K.failures errors.new ≡ K.failures errors.old + 1) }
     {
         match self {
             ProgramFailure::BadArguments => tell_line(program, b"bad arguments", errors),
@@ -92,8 +93,9 @@ pub fn tell_of<K: Sink>(
     errors: &mut K,
 ) -> Result<(), WriteFailed>
     requires counts { K.failures errors.old < 2 ^ 64 - 1 }
-    ensures { OnOk result (K.written errors.new
+    ensures told { OnOk result (K.written errors.new
         ≡ append (K.written errors.old) (named_line program.now name.now told.now)) }
+    ensures err { OnErr result (K.failures errors.new ≡ K.failures errors.old + 1) }
 {
     write_all(errors, program)?;
     write_all(errors, b": ")?;
@@ -103,8 +105,9 @@ pub fn tell_of<K: Sink>(
 // Writes a line of who tells, and what is told.
 fn tell_line<K: Sink>(who: &[u8], told: &[u8], errors: &mut K) -> Result<(), WriteFailed>
     requires counts { K.failures errors.old < 2 ^ 64 - 1 }
-    ensures { OnOk result
+    ensures told { OnOk result
         (K.written errors.new ≡ append (K.written errors.old) (line_of who.now told.now)) }
+    ensures err { OnErr result (K.failures errors.new ≡ K.failures errors.old + 1) }
 {
     write_all(errors, who)?;
     write_all(errors, b": ")?;
@@ -119,8 +122,9 @@ fn tell_refusal<K: Sink>(
     errors: &mut K,
 ) -> Result<(), WriteFailed>
     requires counts { K.failures errors.old < 2 ^ 64 - 1 }
-    ensures { OnOk result (K.written errors.new
+    ensures told { OnOk result (K.written errors.new
         ≡ append (K.written errors.old) (refused_message program.now word.now refusal)) }
+    ensures err { OnErr result (K.failures errors.new ≡ K.failures errors.old + 1) }
 {
     let mut number = Buffer::new();
     write_all(errors, program)?;
@@ -177,6 +181,10 @@ impl<'a> From<AllocError> for ProgramFailure<'a> {
 }
 
 impl<'a> From<WriteFailed> for ProgramFailure<'a> {
+    ghost use Rattle.idl_driver.specs.declared.failure.ProgramFailure.TheVariants as failure;
+
+    ghost from_gives = { λ _ failed. failed ≡ failure.WriteFailed };
+
     fn from(_failed: WriteFailed) -> ProgramFailure<'a> {
         ProgramFailure::WriteFailed
     }

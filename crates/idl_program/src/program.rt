@@ -1,9 +1,11 @@
 //! The program over its words and devices.
 
-ghost use Rattle.std.specs.Prelude.{◌≡◌, ◌≢◌, ◌≤◌, ◌<◌, ◌+◌, ◌-◌, ◌^◌, IfOk, OnOk, map};
+ghost use Rattle.std.specs.Prelude.{◌≡◌, ◌≢◌, ◌⊎◌, ◌≤◌, ◌<◌, ◌+◌, ◌-◌, ◌^◌, IfErr, IfOk, OnErr, OnOk, codes, map};
 ghost use Rattle.std.specs.List.{flat_map};
 ghost use Rattle.idl_loader.specs.Lines.{whole_line};
 ghost use Rattle.idl_source.specs.devices.Device.{append};
+ghost use Rattle.idl_driver.specs.Messages.{IsFailureTold, IsShownUntil};
+ghost use Rattle.idl_driver.specs.Written.{WritesSome};
 ghost use Rattle.idl_program.specs.Compiled.{IsCompiled};
 ghost use Rattle.idl_program.specs.Rows.{AreShown, output_of};
 ghost use Rattle.idl_program.specs.Served.{IsDone};
@@ -41,6 +43,10 @@ pub fn run_program<L: Loader, S: Source, O: Sink, E: Sink>(
         ((S.failures devices.new.source ≡ S.failures devices.old.source)
         × (O.failures devices.new.output ≡ O.failures devices.old.output)
         × (E.failures devices.new.errors ≡ E.failures devices.old.errors)) }
+    // Where it fails its last line tells that, if errors can be written.
+    ensures failed { result ≡ Status.Failed →
+        IsFailureTold (codes "idlc") (E.written devices.old.errors) (E.written devices.new.errors)
+        ⊎ (E.failures devices.old.errors < E.failures devices.new.errors) }
 {
     match perform(alloc, words, devices) {
         Ok(status) => status,
@@ -72,6 +78,9 @@ fn perform<'a, L: Loader, S: Source, O: Sink, E: Sink>(
         × (O.failures devices.new.output ≡ O.failures devices.old.output)
         × (E.failures devices.new.errors ≡ E.failures devices.old.errors)) }
     ensures most { E.failures devices.new.errors ≤ E.failures devices.old.errors + 1 }
+    ensures least { E.failures devices.old.errors ≤ E.failures devices.new.errors }
+    ensures until { IfErr result (λ failure. IsShownUntil failure
+        (E.written devices.old.errors) (E.written devices.new.errors)) }
 {
     let request = request_of(alloc, words)?;
     fulfil(alloc, &request, devices)
@@ -97,6 +106,9 @@ fn fulfil<'a, L: Loader, S: Source, O: Sink, E: Sink>(
         × (O.failures devices.new.output ≡ O.failures devices.old.output)
         × (E.failures devices.new.errors ≡ E.failures devices.old.errors)) }
     ensures most { E.failures devices.new.errors ≤ E.failures devices.old.errors + 1 }
+    ensures least { E.failures devices.old.errors ≤ E.failures devices.new.errors }
+    ensures until { IfErr result (λ failure. IsShownUntil failure
+        (E.written devices.old.errors) (E.written devices.new.errors)) }
 {
     match request {
         CompilerRequest::Show(text) => {
@@ -132,6 +144,9 @@ fn compile<'a, L: Loader, S: Source, O: Sink, E: Sink>(
         × (O.failures devices.new.output ≡ O.failures devices.old.output)
         × (E.failures devices.new.errors ≡ E.failures devices.old.errors)) }
     ensures most { E.failures devices.new.errors ≤ E.failures devices.old.errors + 1 }
+    ensures least { E.failures devices.old.errors ≤ E.failures devices.new.errors }
+    ensures until { IfErr result (λ failure. IsShownUntil failure
+        (E.written devices.old.errors) (E.written devices.new.errors)) }
 {
     let compilation = compile_files(alloc, options, &mut devices.loader)?;
     let status = show_all(&compilation.compiled, options, devices)?;
@@ -159,6 +174,9 @@ fn show_all<L: Loader, S: Source, O: Sink, E: Sink>(
         × (O.failures devices.new.output ≡ O.failures devices.old.output)
         × (E.failures devices.new.errors ≡ E.failures devices.old.errors)) }
     ensures most { E.failures devices.new.errors ≤ E.failures devices.old.errors + 1 }
+    ensures least { E.failures devices.old.errors ≤ E.failures devices.new.errors }
+    ensures until { OnErr result
+        (WritesSome (E.written devices.old.errors) (E.written devices.new.errors)) }
 {
     let mut is_faulty = false;
     'roots: for root in compiled {

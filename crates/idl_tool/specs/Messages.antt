@@ -5,6 +5,7 @@ use Rattle.idl_explain.specs.Explained.{headline, topic_of}
 use Rattle.idl_explain.specs.declared.explanation.Explanation.{Explanation}
 use Rattle.idl_explain.specs.declared.explanation.Topic.TheVariants as topic
 use Rattle.idl_driver.specs.Messages.{message_of, name_of, named_line}
+use Rattle.idl_driver.specs.Written.{WritesSome}
 use Rattle.idl_driver.specs.declared.failure.ProgramFailure.{ProgramFailure}
 use Rattle.idl_driver.specs.declared.failure.ProgramFailure.TheVariants as program
 use Rattle.idl_source.specs.declared.refusal.Refusal.{Refusal}
@@ -48,3 +49,8 @@ IsProgramTold failure before after =
 abbrev pub IsRefusalTold : List ℕ → Refusal → Option (List ℕ) → Option (List ℕ) → Type 0
 IsRefusalTold name refusal before after =
     (text : List ℕ) × IsRefusedMessage name refusal text × (after ≡ append before text)
+
+-- the program failed, and its last text, of that, went out
+abbrev pub IsFailureTold : Option (List ℕ) → Option (List ℕ) → Type 0
+IsFailureTold before after = (failure : ToolFailure) × (shown : Option (List ℕ))
+    × WritesSome before shown × IsTold failure shown after

@@ -40,6 +40,7 @@ pub fn check<'a, L: Loader, S, O: Sink, E: Sink>(
         status) }
     ensures well { OnOk result (O.failures devices.new.output ≡ O.failures devices.old.output) }
     ensures same { E.failures devices.new.errors ≡ E.failures devices.old.errors }
+    ensures kept { E.written devices.new.errors ≡ E.written devices.old.errors }
 {
     let all = compile_files(alloc, options, &mut devices.loader)?;
     let text = report_text(&all)?;

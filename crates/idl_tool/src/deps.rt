@@ -1,8 +1,9 @@
 //! Rules of make from the files that roots ask for.
 
-ghost use Rattle.std.specs.Prelude.{◌≡◌, ◌++◌, ◌∷◌, ◌≤◌, ◌<◌, ◌+◌, ◌-◌, ◌^◌, [], All, IfOk, IsTrue, OnOk, codes, filter, flat_map, if◌then◌else◌, map};
+ghost use Rattle.std.specs.Prelude.{◌≡◌, ◌++◌, ◌∷◌, ◌≤◌, ◌<◌, ◌+◌, ◌-◌, ◌^◌, [], All, IfOk, IsTrue, OnErr, OnOk, codes, filter, flat_map, if◌then◌else◌, map};
 ghost use Rattle.idl_source.specs.devices.Device.{append};
 ghost use Rattle.idl_driver.specs.Rows.{are_faulty, lines_with};
+ghost use Rattle.idl_driver.specs.Written.{WritesSome};
 ghost use Rattle.idl_loader.specs.declared.status.Status.TheVariants.{Faulty, Sound};
 ghost use Rattle.idl_tool.specs.Deps.{IsServed, empty_rule, is_other, need_of, rules_in, stem, target_of};
 ghost use Rattle.idl_tool.specs.make_rules.Make.{IsMakeRule, is_make_name, need_text, rules_text, target_text};
@@ -35,6 +36,9 @@ pub fn write_deps<'a, L: Loader, S, O: Sink, E: Sink>(
         ((O.failures devices.new.output ≡ O.failures devices.old.output)
         × (E.failures devices.new.errors ≡ E.failures devices.old.errors)) }
     ensures most { E.failures devices.new.errors ≤ E.failures devices.old.errors + 1 }
+    ensures least { E.failures devices.old.errors ≤ E.failures devices.new.errors }
+    ensures until { OnErr result
+        (WritesSome (E.written devices.old.errors) (E.written devices.new.errors)) }
 {
     let all = compile_files(alloc, &deps.options, &mut devices.loader)?;
     let rules = rules_of(&all.sources, all.roots.as_slice(), deps)?;
@@ -192,6 +196,8 @@ pub(crate) fn tell_errors<K: Sink>(
         status ≡ (if are_faulty compiled.now then Faulty else Sound)) }
     ensures well { OnOk result (K.failures errors.new ≡ K.failures errors.old) }
     ensures most { K.failures errors.new ≤ K.failures errors.old + 1 }
+    ensures least { K.failures errors.old ≤ K.failures errors.new }
+    ensures until { OnErr result (WritesSome (K.written errors.old) (K.written errors.new)) }
 {
     let mut is_faulty = false;
     'roots: for root in compiled {

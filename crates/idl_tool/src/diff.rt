@@ -1,12 +1,13 @@
 //! What changes from one version of a file to another.
 
-ghost use Rattle.std.specs.Prelude.{◌≡◌, ◌≤◌, ◌<◌, ◌+◌, ◌-◌, ◌^◌, IfOk, OnOk, flat_map, if◌then◌else◌, map};
+ghost use Rattle.std.specs.Prelude.{◌≡◌, ◌≤◌, ◌<◌, ◌+◌, ◌-◌, ◌^◌, IfOk, OnErr, OnOk, flat_map, if◌then◌else◌, map};
 ghost use Rattle.idl_source.specs.devices.Device.{append};
 ghost use Rattle.idl_inputs.specs.Bank.{bank_of};
 ghost use Rattle.idl_driver.specs.idl_project.Details.{details_over};
 ghost use Rattle.idl_loader.specs.declared.status.Status.TheVariants.{Faulty, Sound};
 ghost use Rattle.idl_driver.specs.Compilations.{HasCompiled};
 ghost use Rattle.idl_driver.specs.Rows.{are_faulty};
+ghost use Rattle.idl_driver.specs.Written.{WritesSome};
 ghost use Rattle.idl_tool.specs.Compared.{IsCompared, are_breaking, change_lines, changes_between, ending_of, has_error, is_breaking, seen, shown_between, trees_in};
 
 use crate::check::status_of;
@@ -41,6 +42,9 @@ pub fn write_diff<'a, L: Loader, S, O: Sink, E: Sink>(
         ((O.failures devices.new.output ≡ O.failures devices.old.output)
         × (E.failures devices.new.errors ≡ E.failures devices.old.errors)) }
     ensures most { E.failures devices.new.errors ≤ E.failures devices.old.errors + 1 }
+    ensures least { E.failures devices.old.errors ≤ E.failures devices.new.errors }
+    ensures until { OnErr result
+        (WritesSome (E.written devices.old.errors) (E.written devices.new.errors)) }
 {
     let old = compile_files(alloc, &diff.old, &mut devices.loader)?;
     let new = compile_files(alloc, &diff.new, &mut devices.loader)?;

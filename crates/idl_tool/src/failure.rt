@@ -1,6 +1,6 @@
 //! How the program fails, and what it tells of that.
 
-ghost use Rattle.std.specs.Prelude.{◌≡◌, ◌<◌, ◌-◌, ◌^◌, [], OnOk};
+ghost use Rattle.std.specs.Prelude.{◌≡◌, ◌<◌, ◌+◌, ◌-◌, ◌^◌, [], OnErr, OnOk};
 ghost use Rattle.idl_source.specs.devices.Device.{append};
 ghost use Rattle.idl_explain.specs.Explained.{said};
 ghost use Rattle.idl_tool.specs.Messages.{IsProgramTold, IsRefusalTold, IsTold};
@@ -31,7 +31,8 @@ impl<'a> ToolFailure<'a> {
     #[inline(never)]
     pub fn tell<K: Sink>(&self, errors: &mut K) -> Result<(), WriteFailed>
         requires counts { K.failures errors.old < 2 ^ 64 - 1 }
-        ensures { OnOk result (IsTold self.now (K.written errors.old) (K.written errors.new)) }
+        ensures told { OnOk result (IsTold self.now (K.written errors.old) (K.written errors.new)) }
+        ensures err { OnErr result (K.failures errors.new ≡ K.failures errors.old + 1) }
     {
         match self {
             ToolFailure::Words(text) => write_all(errors, text.as_bytes()),
@@ -54,8 +55,9 @@ impl<'a> ToolFailure<'a> {
 // Writes what either program may tell: of a refusal with what it says.
 fn tell_program<K: Sink>(failure: &ProgramFailure<'_>, errors: &mut K) -> Result<(), WriteFailed>
     requires counts { K.failures errors.old < 2 ^ 64 - 1 }
-    ensures { OnOk result
+    ensures told { OnOk result
         (IsProgramTold failure.now (K.written errors.old) (K.written errors.new)) }
+    ensures err { OnErr result (K.failures errors.new ≡ K.failures errors.old + 1) }
 {
     match failure {
         ProgramFailure::Refused(subject, refusal) => {
@@ -68,8 +70,9 @@ fn tell_program<K: Sink>(failure: &ProgramFailure<'_>, errors: &mut K) -> Result
 // Writes the line about a word or a file that is refused, with what the refusal says.
 fn tell_refusal<K: Sink>(name: &[u8], refusal: Refusal, errors: &mut K) -> Result<(), WriteFailed>
     requires counts { K.failures errors.old < 2 ^ 64 - 1 }
-    ensures { OnOk result
+    ensures told { OnOk result
         (IsRefusalTold name.now refusal (K.written errors.old) (K.written errors.new)) }
+    ensures err { OnErr result (K.failures errors.new ≡ K.failures errors.old + 1) }
 {
     let mut number = Buffer::new();
     write_all(errors, b"idltool: ")?;
@@ -87,6 +90,7 @@ fn tell_words<K: Sink>(words: Words, errors: &mut K) -> Result<(), WriteFailed>
     ensures told { OnOk result
         (K.written errors.new ≡ append (K.written errors.old) (said words [])) }
     ensures ok { OnOk result (K.failures errors.new ≡ K.failures errors.old) }
+    ensures err { OnErr result (K.failures errors.new ≡ K.failures errors.old + 1) }
 {
     match words {
         Words::Whole(words) => write_all(errors, words.as_bytes()),

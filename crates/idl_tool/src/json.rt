@@ -38,6 +38,7 @@ pub fn write_json<'a, L: Loader, S, O: Sink, E: Sink>(
         status) }
     ensures well { OnOk result (O.failures devices.new.output ≡ O.failures devices.old.output) }
     ensures same { E.failures devices.new.errors ≡ E.failures devices.old.errors }
+    ensures kept { E.written devices.new.errors ≡ E.written devices.old.errors }
 {
     let all = compile_files(alloc, options, &mut devices.loader)?;
     let text = lines_of(&all.sources, all.roots.as_slice(), &all.compiled)?;

@@ -1,7 +1,9 @@
 //! The program over its words and devices.
 
-ghost use Rattle.std.specs.Prelude.{◌≡◌, ◌≢◌, ◌≤◌, ◌<◌, ◌+◌, ◌-◌, ◌^◌, IfOk, OnOk, map};
+ghost use Rattle.std.specs.Prelude.{◌≡◌, ◌≢◌, ◌⊎◌, ◌≤◌, ◌<◌, ◌+◌, ◌-◌, ◌^◌, IfOk, OnErr, OnOk, map};
 ghost use Rattle.idl_loader.specs.declared.status.Status.TheVariants as status;
+ghost use Rattle.idl_driver.specs.Written.{WritesSome};
+ghost use Rattle.idl_tool.specs.Messages.{IsFailureTold};
 ghost use Rattle.idl_tool.specs.Served.{IsDone};
 ghost use Rattle.idl_tool.specs.Words.{IsRequestOf};
 ghost use Rattle.idl_tool.specs.declared.request.ToolRequest.{ToolRequest};
@@ -42,6 +44,15 @@ pub fn run_tool<L: Loader + PathLoader, S: Source, O: Sink, E: Sink, V: Service>
     ensures well { result ≢ status.Failed →
         ((O.failures devices.new.output ≡ O.failures devices.old.output)
         × (E.failures devices.new.errors ≡ E.failures devices.old.errors)) }
+    // Where it fails its last line tells that, if errors can be written, or what was asked for ends so.
+    ensures failed { result ≡ status.Failed →
+        ((request : ToolRequest) × IsRequestOf (map (λ w. w.now) words.now) request
+        × IsDone (L.told devices.old.loader)
+        (record { errors = E.written devices.old.errors; output = O.written devices.old.output })
+        (record { errors = E.written devices.new.errors; output = O.written devices.new.output })
+        result request)
+        ⊎ (IsFailureTold (E.written devices.old.errors) (E.written devices.new.errors)
+        ⊎ (E.failures devices.old.errors < E.failures devices.new.errors)) }
 {
     match perform(alloc, words, service, devices) {
         Ok(status) => status,
@@ -73,6 +84,9 @@ fn perform<'a, L: Loader + PathLoader, S: Source, O: Sink, E: Sink, V: Service>(
         ((O.failures devices.new.output ≡ O.failures devices.old.output)
         × (E.failures devices.new.errors ≡ E.failures devices.old.errors)) }
     ensures most { E.failures devices.new.errors ≤ E.failures devices.old.errors + 1 }
+    ensures least { E.failures devices.old.errors ≤ E.failures devices.new.errors }
+    ensures until { OnErr result
+        (WritesSome (E.written devices.old.errors) (E.written devices.new.errors)) }
 {
     let request = request_of(alloc, words)?;
     fulfil(alloc, &request, service, devices)
@@ -97,6 +111,9 @@ fn fulfil<'a, L: Loader + PathLoader, S: Source, O: Sink, E: Sink, V: Service>(
         ((O.failures devices.new.output ≡ O.failures devices.old.output)
         × (E.failures devices.new.errors ≡ E.failures devices.old.errors)) }
     ensures most { E.failures devices.new.errors ≤ E.failures devices.old.errors + 1 }
+    ensures least { E.failures devices.old.errors ≤ E.failures devices.new.errors }
+    ensures until { OnErr result
+        (WritesSome (E.written devices.old.errors) (E.written devices.new.errors)) }
 {
     match request {
         ToolRequest::Show(text) => {

@@ -4,31 +4,24 @@
 //! standard output.
 #![tactic(auto)]
 
-use idl_disk::{Disk, StandardInput, StandardOutput, texts, words};
+use idl_disk::{Disk, StandardInput, StandardOutput, exit_code_of, texts, words};
 use idl_program::{Devices, Status, run_program};
+use std::io;
 use std::process::ExitCode;
 
 fn main(rt: HostRuntime) -> ExitCode {
-    match words(&rt) {
-        Ok(words) => ExitCode::from(run(&rt, &words).code()),
-        Err(_) => {
-            // Where standard error can't be written either, the status tells.
-            let _ = rt.eprintln("idlc: bad arguments");
-            ExitCode::from(2)
-        }
-    }
+    exit_code_of(&rt, "idlc", run(&rt))
 }
 
 // Does what the words behind the program's name ask for.
-fn run(rt: &HostRuntime, words: &[String]) -> Status {
-    let Ok(texts) = texts(rt.alloc(), words) else {
-        return Status::Failed;
-    };
+fn run(rt: &HostRuntime) -> io::Result<Status> {
+    let words = words(rt)?;
+    let texts = texts(rt.alloc(), &words)?;
     let mut devices = Devices {
         loader: Disk::new(rt),
         source: StandardInput::new(rt.reader()),
         output: StandardOutput::new(std::io::writer(rt)),
         errors: StandardOutput::new(rt.stderr()),
     };
-    run_program(rt.alloc(), &texts, &mut devices)
+    Ok(run_program(rt.alloc(), &texts, &mut devices))
 }

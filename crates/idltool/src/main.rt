@@ -3,28 +3,21 @@
 //! `idltool check FILE..` tells what is found, `idltool explain E35` explains a code, and `idltool deps FILE..` writes rules of make.
 #![tactic(auto)]
 
-use idl_disk::{Disk, StandardInput, StandardOutput, texts, words};
+use idl_disk::{Disk, StandardInput, StandardOutput, exit_code_of, texts, words};
 use idl_server::LanguageServer;
 use idl_tool::idl_driver::{Devices, Status};
 use idl_tool::run_tool;
+use std::io;
 use std::process::ExitCode;
 
 fn main(rt: HostRuntime) -> ExitCode {
-    match words(&rt) {
-        Ok(words) => ExitCode::from(run(&rt, &words).code()),
-        Err(_) => {
-            // Where standard error can't be written either, the status tells.
-            let _ = rt.eprintln("idltool: bad arguments");
-            ExitCode::from(2)
-        }
-    }
+    exit_code_of(&rt, "idltool", run(&rt))
 }
 
 // Does what the words behind the program's name ask for.
-fn run(rt: &HostRuntime, words: &[String]) -> Status {
-    let Ok(texts) = texts(rt.alloc(), words) else {
-        return Status::Failed;
-    };
+fn run(rt: &HostRuntime) -> io::Result<Status> {
+    let words = words(rt)?;
+    let texts = texts(rt.alloc(), &words)?;
     let mut devices = Devices {
         loader: Disk::new(rt),
         source: StandardInput::new(rt.reader()),
@@ -32,5 +25,5 @@ fn run(rt: &HostRuntime, words: &[String]) -> Status {
         errors: StandardOutput::new(rt.stderr()),
     };
     let service = LanguageServer::new(rt.alloc());
-    run_tool(rt.alloc(), &texts, &service, &mut devices)
+    Ok(run_tool(rt.alloc(), &texts, &service, &mut devices))
 }

@@ -2,6 +2,7 @@ use Rattle.std.proofs.Common.{[], refl, subst, sym}
 use Rattle.idl_inputs.specs.Project.{no_project}
 use Rattle.idl_session.specs.idl_project.Work.{no_work}
 use Rattle.idl_driver.specs.Written.{Written}
+use Rattle.idl_driver.proofs.ToldLemmas.{until-none}
 use Rattle.idl_program.specs.Served.{AreAnswered, IsDone}
 use Rattle.idl_loader.specs.declared.status.Status.TheVariants.{Sound}
 use Rattle.idl_program.specs.declared.request.CompilerRequest.{CompilerRequest}
@@ -20,3 +21,9 @@ returns-in_ok-run-in-Serve-clause-done g c =
       sound = refl;
     } in
     subst (λ (r : CompilerRequest). IsDone told input before after Sound r) (sym c.in-Serve.is) are
+
+pub returns-in_err-write_all-in-Show-clause-until : goal.returns-in_err-write_all-in-Show-clause-until
+returns-in_err-write_all-in-Show-clause-until g c = until-none c.from_residual.result (g.E.Sink.written c.args.devices.now.errors)
+
+pub returns-in_err-run-in-Serve-clause-until : goal.returns-in_err-run-in-Serve-clause-until
+returns-in_err-run-in-Serve-clause-until g c = until-none c.from_residual-in_err-run-in-Serve.result (g.E.Sink.written c.args.devices.now.errors)

@@ -1,6 +1,7 @@
 use Rattle.std.proofs.Common.{◌≡◌, ◌||◌, drop}
 use Rattle.idl_source.specs.devices.Device.{append}
 use Rattle.idl_driver.specs.Rows.{are_faulty, lines_with}
+use Rattle.idl_driver.specs.Written.{WritesSome}
 use Rattle.idl_program.specs.Rows.{output_of}
 use Rattle.idl_program.proofs.program.show_all.Given as goal
 
@@ -14,4 +15,5 @@ invariant-roots g l = record {
   source_count : g.S.Source.failures l.devices.source ≡ g.S.Source.failures l.fn.devices.source;
   error_count : g.E.Sink.failures l.devices.errors ≡ g.E.Sink.failures l.fn.devices.errors;
   output_count : g.O.Sink.failures l.devices.output ≡ g.O.Sink.failures l.fn.devices.output;
+  until : WritesSome (g.E.Sink.written l.fn.devices.errors) (g.E.Sink.written l.devices.errors);
 }

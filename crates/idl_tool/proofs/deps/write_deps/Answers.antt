@@ -2,6 +2,8 @@ use Rattle.std.proofs.Common.{◌∙◌, ℕ, All, List, ap, flat_map, if◌then
 use Rattle.idl_source.specs.devices.Device.{append}
 use Rattle.idl_driver.specs.Rows.{are_faulty, lines_with}
 use Rattle.idl_loader.specs.declared.status.Status.TheVariants.{Faulty, Sound}
+use Rattle.idl_loader.proofs.ReplyLemmas.{on_err}
+use Rattle.idl_driver.proofs.ToldLemmas.{writes-none}
 use Rattle.idl_tool.specs.make_rules.Make.{IsMakeRule, rules_text}
 use Rattle.idl_tool.specs.Deps.{rules_in}
 use Rattle.idl_tool.proofs.DepsLemmas.{ending-of, told-of}
@@ -30,3 +32,15 @@ returns-clause-served g c =
         ending = c.in_ok-status.ensures.status ∙ ap (λ b. if b then Faulty else Sound) (ap are_faulty c.deref.ensures.value ∙ ending-of inputs roots compiled is.compiled);
       };
     }
+
+pub returns-in_err-all-clause-until : goal.returns-in_err-all-clause-until
+returns-in_err-all-clause-until g c = on_err c.from_residual.result (writes-none (g.E.Sink.written c.args.devices.now.errors))
+
+pub returns-in_err-rules-clause-until : goal.returns-in_err-rules-clause-until
+returns-in_err-rules-clause-until g c = on_err c.from_residual-in_err-rules.result (writes-none (g.E.Sink.written c.args.devices.now.errors))
+
+pub returns-in_err-status-clause-until : goal.returns-in_err-status-clause-until
+returns-in_err-status-clause-until g c = on_err c.from_residual-in_err-status.result c.in_err-status.ensures.until
+
+pub returns-in_err-write_all-clause-until : goal.returns-in_err-write_all-clause-until
+returns-in_err-write_all-clause-until g c = on_err c.from_residual-in_err-write_all.result (_, c.in_ok-status.ensures.told)

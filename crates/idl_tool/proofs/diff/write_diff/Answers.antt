@@ -3,6 +3,9 @@ use Rattle.idl_source.specs.devices.Device.{append}
 use Rattle.idl_loader.specs.Holding.{Holding}
 use Rattle.idl_driver.specs.Compiled.{errors_in, lines_of}
 use Rattle.idl_driver.specs.Rows.{lines_with}
+use Rattle.idl_driver.specs.Written.{WritesSome}
+use Rattle.idl_loader.proofs.ReplyLemmas.{on_err}
+use Rattle.idl_driver.proofs.ToldLemmas.{writes-more, writes-none}
 use Rattle.idl_tool.specs.Compared.{IsVersion, seen}
 use Rattle.idl_tool.proofs.DepsLemmas.{told-of}
 use Rattle.idl_tool.proofs.DiffLemmas.{version-of}
@@ -37,3 +40,25 @@ returns-clause-compared g c =
         ending = c.in_ok-status.ensures.status;
       };
     }
+
+pub returns-in_err-old-clause-until : goal.returns-in_err-old-clause-until
+returns-in_err-old-clause-until g c = on_err c.from_residual.result (writes-none (g.E.Sink.written c.args.devices.now.errors))
+
+pub returns-in_err-new-clause-until : goal.returns-in_err-new-clause-until
+returns-in_err-new-clause-until g c = on_err c.from_residual-in_err-new.result (writes-none (g.E.Sink.written c.args.devices.now.errors))
+
+pub returns-in_err-tell_errors-clause-until : goal.returns-in_err-tell_errors-clause-until
+returns-in_err-tell_errors-clause-until g c = on_err c.from_residual-in_err-tell_errors.result c.in_err-tell_errors.ensures.until
+
+pub returns-in_err-tell_errors-2-clause-until : goal.returns-in_err-tell_errors-2-clause-until
+returns-in_err-tell_errors-2-clause-until g c =
+    let w = g.E.Sink.written in
+    let first : WritesSome (w c.args.devices.now.errors) (w c.tell_errors.new.errors) = (_, c.in_ok-tell_errors.ensures.told) in
+    on_err c.from_residual-in_err-tell_errors-2.result (writes-more _ _ _ first c.in_err-tell_errors-2.ensures.until)
+
+pub returns-in_err-status-clause-until : goal.returns-in_err-status-clause-until
+returns-in_err-status-clause-until g c =
+    let w = g.E.Sink.written in
+    let first : WritesSome (w c.args.devices.now.errors) (w c.tell_errors.new.errors) = (_, c.in_ok-tell_errors.ensures.told) in
+    let second : WritesSome (w c.tell_errors.new.errors) (w c.tell_errors-2.new.errors) = (_, c.in_ok-tell_errors-2.ensures.told) in
+    on_err c.from_residual-in_err-status.result (writes-more _ _ _ first second)

@@ -7,14 +7,14 @@ use Rattle.idl_tool.specs.Messages.{IsProgramTold, IsRefusalTold}
 use Rattle.idl_tool.proofs.FailureLemmas.{plain}
 use Rattle.idl_tool.proofs.failure.tell_program.Goals as goal
 
-pub returns-in-Refused : goal.returns-in-Refused
-returns-in-Refused g c =
+pub returns-in-Refused-clause-told : goal.returns-in-Refused-clause-told
+returns-in-Refused-clause-told g c =
     let before = g.K.Sink.written c.args.errors.now in
     let after = g.K.Sink.written c.tell_refusal.new.errors in
     subst (λ (f : ProgramFailure). OnOk c.tell_refusal.result (IsProgramTold f before after)) (sym c.in-Refused.is)
-    (subst (λ (name : List ℕ). OnOk c.tell_refusal.result (IsRefusalTold name c.in-Refused.refusal before after)) c.as_bytes.ensures c.tell_refusal.ensures)
+    (subst (λ (name : List ℕ). OnOk c.tell_refusal.result (IsRefusalTold name c.in-Refused.refusal before after)) c.as_bytes.ensures c.tell_refusal.ensures.told)
 
-pub returns-in_default : goal.returns-in_default
-returns-in_default g c =
+pub returns-in_default-clause-told : goal.returns-in_default-clause-told
+returns-in_default-clause-told g c =
     let failure = c.args.failure.now in
-    on_ok_weaker c.tell.result (λ out. (message_of (codes "idltool") failure, plain failure c.in_default.not-Refused, out)) c.tell.ensures
+    on_ok_weaker c.tell.result (λ out. (message_of (codes "idltool") failure, plain failure c.in_default.not-Refused, out)) c.tell.ensures.told

@@ -6,8 +6,8 @@ use Rattle.idl_source.specs.devices.Device.{append}
 use Rattle.idl_tool.proofs.FailureLemmas.{refusal-told}
 use Rattle.idl_tool.proofs.failure.tell_refusal.Goals as goal
 
-pub returns : goal.returns
-returns g c =
+pub returns-clause-told : goal.returns-clause-told
+returns-clause-told g c =
     let w = g.K.Sink.written in
     let name = c.args.name.now in
     let e = c.explanation_of.result.now in
