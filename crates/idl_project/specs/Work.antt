@@ -1,5 +1,5 @@
 -- What an edit costs.
-use Rattle.std.specs.Prelude.{ℕ, Bool, ◌&&◌, List, Option, filter, not}
+use Rattle.std.specs.Prelude.{◌≡◌, ℕ, Bool, true, false, ◌&&◌, List, Option, filter, not}
 use Rattle.std.specs.List.{list_any}
 use Rattle.std.specs.Option.{option_eq}
 use Rattle.std.specs.Str.{bytes_eq}
@@ -11,7 +11,7 @@ use Rattle.idl_prep.specs.Root.{expansion}
 use Rattle.idl_root.specs.Results.{fresh_declarations, fresh_entries}
 use Rattle.idl_inputs.specs.Bank.{bank_of}
 use Rattle.idl_project.specs.Compared.{PlaceMet, compared_in, met_between}
-use Rattle.idl_inputs.specs.Project.{Project}
+use Rattle.idl_inputs.specs.Project.{Project, is_root}
 use Rattle.idl_project.specs.Tasks.{alike_root, answer_eq, declarations_among, entries_among}
 use Rattle.idl_project.specs.declared.work.Work.{Work}
 
@@ -57,6 +57,12 @@ touched_between old before new roots =
 abbrev pub touched_of : Project → Project → List (List ℕ)
 touched_of old new =
     touched_between (bank_of old.inputs) old.roots (bank_of new.inputs) new.roots
+
+-- a root before an edit and after it that this doesn't expand anew
+pub record IsPassedOver (old new : Project) (root : List ℕ) : Type 0 where
+  pub before : is_root old root ≡ true
+  pub after : is_root new root ≡ true
+  pub untouched : list_any (bytes_eq root) (touched_of old new) ≡ false
 
 -- what is met at such an edit
 abbrev pub met_of : Project → Project → List PlaceMet

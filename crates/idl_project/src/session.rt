@@ -380,8 +380,8 @@ impl Session {
         self.work
     }
 
-    /// The roots that the last accepted edit expanded anew, which its work counts, in their order: every other root answers each query
-    /// as before. It takes no memory.
+    /// The roots that the last accepted edit expanded anew, which its work counts, in their order. What of every other root is as before
+    /// [`untouched_roots_stay`](crate::untouched_roots_stay) tells. It takes no memory.
     pub fn touched(&self) -> &[Name]
         ensures { result.now ≡ self.now.touched }
     {

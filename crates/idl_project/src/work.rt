@@ -1,15 +1,18 @@
 //! What an edit cost.
 
-ghost use Rattle.std.specs.Prelude.{◌≡◌, ◌≤◌, ℕ, List, false, length, true};
-ghost use Rattle.std.specs.List.{IsDistinct, list_any};
+ghost use Rattle.std.specs.Prelude.{◌≡◌, ◌≤◌, ◌↔◌, ℕ, Contains, List, Option, length};
+ghost use Rattle.std.specs.FinMap as finite;
+ghost use Rattle.std.specs.List.{IsDistinct};
 ghost use Rattle.std.specs.Str.{bytes_eq};
 ghost use Rattle.idl_memo.specs.Meter.{compared_after};
 ghost use Rattle.idl_inputs.specs.Asked.{asked_of};
+ghost use Rattle.idl_inputs.specs.Project.{Project};
 ghost use Rattle.idl_project.specs.Compared.{compared_in, most_compared_in};
-ghost use Rattle.idl_project.specs.Details.{details_of};
-ghost use Rattle.idl_inputs.specs.Project.{Project, is_root};
+ghost use Rattle.idl_project.specs.Details.{details_of, expansion_of};
+ghost use Rattle.idl_project.specs.Related.{AreRelatedIn};
 ghost use Rattle.idl_project.specs.UpToDate.{compiled_of};
-ghost use Rattle.idl_project.specs.Work.{met_of, no_work, touched_of, work_of};
+ghost use Rattle.idl_project.specs.Work.{IsPassedOver, met_of, no_work, touched_of, work_of};
+ghost use Rattle.idl_related.specs.declared.second.Related.{Related};
 
 use idl_inputs::SessionBank;
 use idl_memo::{Meter, freshness, reliance, sharing};
@@ -76,20 +79,26 @@ pub fn compared_is_bounded()
     comparing();
 }
 
-/// A root of before and after an edit that the edit doesn't expand anew compiles to what it did, has the same details, and asks for the
-/// same files; and as many are expanded anew as the work counts.
+/// A root of before and after an edit that the edit doesn't expand anew compiles to what it did, has the same details, expands to the same,
+/// and asks for the same files. Each of these is as it was. What may be told as second places of what is found
+/// in the root is what it was. And as many roots are expanded anew as the work counts.
 ///
 /// This does nothing: it carries the laws.
 pub fn untouched_roots_stay()
-    ensures compiled { (old new : Project) (root : List ℕ) → is_root old root ≡ true
-        → is_root new root ≡ true → list_any (bytes_eq root) (touched_of old new) ≡ false
+    ensures compiled { (old new : Project) (root : List ℕ) → IsPassedOver old new root
         → compiled_of new root ≡ compiled_of old root }
-    ensures details { (old new : Project) (root : List ℕ) → is_root old root ≡ true
-        → is_root new root ≡ true → list_any (bytes_eq root) (touched_of old new) ≡ false
+    ensures details { (old new : Project) (root : List ℕ) → IsPassedOver old new root
         → details_of new root ≡ details_of old root }
-    ensures asked { (old new : Project) (root : List ℕ) → is_root old root ≡ true
-        → is_root new root ≡ true → list_any (bytes_eq root) (touched_of old new) ≡ false
+    ensures expansion { (old new : Project) (root : List ℕ) → IsPassedOver old new root
+        → expansion_of new root ≡ expansion_of old root }
+    ensures asked { (old new : Project) (root : List ℕ) → IsPassedOver old new root
         → asked_of new root ≡ asked_of old root }
+    ensures files { (old new : Project) (root name : List ℕ) → IsPassedOver old new root
+        → Contains (asked_of old root) name
+        → finite.get new.inputs.files name ≡ finite.get old.inputs.files name }
+    ensures related { (old new : Project) (root : List ℕ) (related : Option (List (List Related)))
+        → IsPassedOver old new root
+        → AreRelatedIn new root related ↔ AreRelatedIn old root related }
     ensures count { (old new : Project) → IsDistinct bytes_eq new.roots
         → length (touched_of old new) ≡ (work_of old new).expanded }
 {
