@@ -1,5 +1,5 @@
 -- What went out until a failure.
-use Rattle.std.proofs.Common.{◌≡◌, ◌∙◌, ◌++◌, ◌⊎◌, inl, inr, [], ℕ, List, Option, Result, Ok, Err, IfErr, ap, refl, subst, sym, take}
+use Rattle.std.proofs.Common.{◌≡◌, ◌∙◌, ◌++◌, ◌+◌, ◌<◌, ◌≤◌, ◌⊎◌, inl, inr, arith, [], ℕ, List, Option, Result, Ok, Err, IfErr, ap, refl, subst, sym, take}
 use Rattle.std.specs.Result.{OnErr, OnOk}
 use Rattle.idl_source.specs.devices.Device.{append, WritesPart}
 use Rattle.idl_source.proofs.DeviceLemmas.{append-append}
@@ -45,6 +45,10 @@ pub until-write : {T : Type 0} (r : Result T ProgramFailure) (before after : Opt
     → IfErr r (λ failed. IsShownUntil failed before after)
 until-write (Ok value) before after is some = tt
 until-write (Err failed) before after is some = subst (λ (f : ProgramFailure). IsShownUntil f before after) (sym is) some
+
+-- a failure more
+pub grown : (old mid new : ℕ) → old ≤ mid → new ≡ mid + 1 → old < new
+grown old mid new least more = omega (arith, least, more)
 
 -- it went well or not
 pub either-way : {T E P Q : Type 0} (r : Result T E) → OnOk r P → OnErr r Q → P ⊎ Q
