@@ -1,7 +1,7 @@
 //! What no session of the gate's run shows: an input that ends inside a command, what reaches a limit with many lines and goes past it, and
 //! sources of many lines that are made to exhaust a compiler.
 
-use super::support::{answers, have_replies};
+use super::sessions::{answers, have_replies};
 use idl_session::Session;
 use idl_session::Stop::{ReadFailed, WriteFailed};
 use std::test::Fail;

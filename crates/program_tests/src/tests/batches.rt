@@ -1,7 +1,7 @@
 //! Edits of files that are done as one: each root is compiled once for all of them, a file that is again as it was is no work, and an
 //! edit that is refused takes back those before it.
 
-use super::support::answers;
+use super::sessions::answers;
 use idl_session::{FileEdit, Session, Span};
 use idl_source::cut;
 use std::alloc::{AllocError, Global};
