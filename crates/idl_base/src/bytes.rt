@@ -91,17 +91,7 @@ impl Bytes {
         }
     }
 
-    /// These bytes with each capital letter made small.
-    pub fn folded(alloc: Global, bytes: &[u8]) -> Result<Bytes, AllocError>
-        ensures { IfOk result (λ folded. folded ≡ str_to_ascii_lowercase bytes.now) }
-    {
-        match Short::new(bytes) {
-            Some(short) => Ok(Bytes::few(short.folded())),
-            None => Bytes::folded_apart(alloc, bytes),
-        }
-    }
-
-    /// The same with each capital letter made small: few bytes are copied whole.
+    /// These bytes with each capital letter made small: few bytes are copied whole.
     #[inline(always)]
     pub fn to_folded(&self, alloc: Global) -> Result<Bytes, AllocError>
         ensures { IfOk result (λ folded. folded ≡ str_to_ascii_lowercase self.now) }

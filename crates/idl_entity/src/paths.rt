@@ -8,7 +8,7 @@ pub(crate) mod own_name;
 pub(crate) mod path;
 
 pub use digest::{identified, introduced, opened, typeprefixed, under};
-pub use name::{folded_name, shared_name};
+pub use name::shared_name;
 pub use named_path::NamedPath;
 pub use names::Names;
 pub use own_name::OwnName;

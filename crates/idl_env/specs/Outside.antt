@@ -1,6 +1,6 @@
 -- Answers that are the same outside some keys, and which keys the facts of a unit look at.
 use Rattle.std.specs.Prelude.{◌≡◌, List, [], ◌∷◌, Option, Some, None, ◌++◌, Contains, drop, flat_map, map, if◌then◌else◌}
-use Rattle.idl_env.specs.Facts.{UnitFacts, World, entity_key, key_of, scopes_in, entity_in, count_in, nameless, path_around, stops_of, with_additions}
+use Rattle.idl_env.specs.Facts.{UnitFacts, World, entity_key, scopes_in, entity_in, count_in, nameless, path_around, stops_of, with_additions}
 use Rattle.idl_entity.specs.Kind.{kind_eq}
 use Rattle.idl_env.specs.declared.additions.addition.Step.{Step}
 use Rattle.idl_env.specs.declared.additions.addition.Step.TheVariants.{Stays, Opens, OpensNameless, Closes, Prefixes, Enters, Leaves}
@@ -62,14 +62,3 @@ looked_at_by w f =
 -- none of these keys is one of those
 abbrev pub AreApart : List Key → List Key → Type 0
 AreApart keys others = (key : Key) → Contains keys key → Contains others key → ⊥
-
--- the keys at which a change of the open scopes may leave another answer, once each scope that it
--- opens is closed again; the open scopes and the prefix are as before then
-abbrev pub left_open : Step → List Key
-left_open (Opens path kind) = Opened path ∷ entity_key path ∷ []
-left_open (OpensNameless kind) = Nameless ∷ []
-left_open other = []
-
--- and those at which the facts of a unit may
-abbrev pub left_by : UnitFacts → List Key
-left_by f = map key_of f.additions ++ left_open f.step

@@ -1,5 +1,5 @@
 -- How many classes a list adds to a known one: laws of a test of likeness that is an equivalence.
-use Rattle.std.proofs.Common.{◌≡◌, ℕ, ◌+◌, ◌≤◌, ◌⊎◌, inl, inr, ⊎_elim, Bool, true, false, ◌||◌, IsTrue, List, [], ◌∷◌, ◌++◌, append_assoc, append-nil, length, sum_by, refl, sym, ap, ◌∙◌, arith, if◌then◌else◌}
+use Rattle.std.proofs.Common.{◌≡◌, ℕ, ◌+◌, ◌≤◌, ◌⊎◌, inl, inr, ⊎_elim, Bool, true, false, ◌||◌, IsTrue, List, [], ◌∷◌, ◌++◌, append_assoc, append-nil, sum_by, refl, sym, ap, ◌∙◌, arith, if◌then◌else◌}
 use Rattle.std.proofs.lemmas.List.Elements.{All-nil, All-cons, All-head, All-tail, All-weaker}
 use Rattle.std.proofs.lemmas.List.Folds.{list_any-append}
 use Rattle.std.proofs.lemmas.List.Sums.{sum_by-cons}
@@ -58,18 +58,6 @@ module _ {P : Type 0} (alike : P → P → Bool) where
   pub new-split : (old a b : List P) → new_among alike old (a ++ b) ≡ new_among alike old a + new_among alike (old ++ a) b
   new-split = sum-split new_if
 
-  at_most : (b : Bool) → (if b then 0 else 1) ≤ 1
-  at_most true = omega arith
-  at_most false = omega arith
-
-  -- no more are new than there are
-  pub new-most : (old new : List P) → new_among alike old new ≤ length new
-  new-most old [] = omega arith
-  new-most old (x ∷ new) =
-      let here = at_most (list_any (alike x) old) in
-      let later = new-most (old ++ x ∷ []) new in
-      omega (arith, here, later)
-
   -- the same classes stay so with more
   AreSame-more : (a b more : List P) → AreSame a b → AreSame (a ++ more) (b ++ more)
   AreSame-more a b more h = λ x. list_any-append (alike x) a more ∙ ap (λ t. t || list_any (alike x) more) (h x) ∙ sym (list_any-append (alike x) b more)
@@ -80,15 +68,6 @@ module _ {P : Type 0} (alike : P → P → Bool) where
   sum-same count a b (x ∷ new) h =
       let later = sum-same count (a ++ x ∷ []) (b ++ x ∷ []) new (AreSame-more a b (x ∷ []) h) in
       λ i. count (h x i) x + later i
-
-  pub new-same : (a b new : List P) → AreSame a b → new_among alike a new ≡ new_among alike b new
-  new-same = sum-same new_if
-
-  -- those behind and those in front still have those that are alike
-  pub HaveAlike-left : (these front those : List P) → HaveAlike alike these those → HaveAlike alike these (front ++ those)
-  HaveAlike-left these front those h =
-      All-weaker (λ p. IsTrue (list_any (alike p) those)) (λ p. IsTrue (list_any (alike p) (front ++ those)))
-      (λ p found. list_any-append (alike p) front those ∙ ap (λ b. list_any (alike p) front || b) found ∙ or-true (list_any (alike p) front)) these h
 
   pub HaveAlike-right : (these those rest : List P) → HaveAlike alike these those → HaveAlike alike these (those ++ rest)
   HaveAlike-right these those rest h =
@@ -197,9 +176,6 @@ module _ {P : Type 0} (alike : P → P → Bool) where
       -- what is known counts by its classes
       pub sum-known : (count : Bool → P → ℕ) (a b new : List P) → HaveAlike alike a b → HaveAlike alike b a → sum_among alike count a new ≡ sum_among alike count b new
       sum-known count a b new there back = sum-same count a b new (AreSame-alike a b there back)
-
-      pub new-known : (a b new : List P) → HaveAlike alike a b → HaveAlike alike b a → new_among alike a new ≡ new_among alike b new
-      new-known = sum-known new_if
 
       -- what has known ones that are alike adds no class
       AreSame-stay : (old stay : List P) → HaveAlike alike stay old → AreSame (old ++ stay) old

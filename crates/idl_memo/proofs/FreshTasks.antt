@@ -10,7 +10,7 @@ use Rattle.idl_base.specs.Exact.{both}
 use Rattle.idl_memo.specs.Classes.{new_among, new_ones}
 use Rattle.idl_memo.specs.Query.{Query, asked, run, Agree, HoldsIn}
 use Rattle.idl_memo.specs.Fresh.{Place, places_over, is_alike, log_at, keys_at, fresh_at, fresh_among, shared_at, shared_among, most_shared_at, AreAmong, stale_among, asked_at, compared_among, asked_among}
-use Rattle.idl_memo.proofs.ClassLaws.{one_test, each_new, not_before, new-split, new-none, new-known, new-aside, new-turned, new-classes, new-distinct, new-fewer, new-most, HaveAlike-itself, most-new, sum-aside, sum-known, sum-split, sum-turned}
+use Rattle.idl_memo.proofs.ClassLaws.{one_test, each_new, not_before, new-split, new-none, new-aside, new-turned, new-classes, new-distinct, HaveAlike-itself, most-new, sum-aside, sum-known, sum-split, sum-turned}
 use Rattle.idl_memo.proofs.QueryLaws.{IsLogOf-run, Agree-from_log, run-agree}
 
 -- an option is equal to itself where what it holds is
@@ -106,10 +106,6 @@ module _ {K V X T O : Type 0} (text_eq : T → T → Bool) (text_itself : (x : T
     unfolding fresh_among
     fresh-split = new-split alike
 
-    pub fresh-known : (a b new : List (Place K V T)) → Among a b → Among b a → fresh a new ≡ fresh b new
-    unfolding fresh_among
-    fresh-known = new-known alike alike-turn alike-chain
-
     pub fresh-aside : (old front stay rest : List (Place K V T)) → Among stay old → fresh old (front ++ (stay ++ rest)) ≡ fresh old (front ++ rest)
     unfolding fresh_among
     fresh-aside = new-aside alike alike-turn alike-chain
@@ -125,14 +121,6 @@ module _ {K V X T O : Type 0} (text_eq : T → T → Bool) (text_itself : (x : T
     pub fresh-gone : (old stay : List (Place K V T)) → Among stay old → fresh old stay ≡ 0
     unfolding fresh_among
     fresh-gone = new-none alike
-
-    pub fresh-fewer_classes : (old a b : List (Place K V T)) → Among a (old ++ b) → fresh old a ≤ fresh old b
-    unfolding fresh_among
-    fresh-fewer_classes = new-fewer alike alike-turn alike-chain
-
-    pub fresh-most : (old new : List (Place K V T)) → fresh old new ≤ length new
-    unfolding fresh_among
-    fresh-most = new-most alike
 
     abbrev keys_if : Bool → Place K V T → ℕ
     keys_if known here = if known then keys_at text_eq answer_eq query key_eq here else 0

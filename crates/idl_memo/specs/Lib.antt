@@ -10,6 +10,5 @@ pub mod Parts
 pub mod Passes
 pub mod Progress
 pub mod Query
-pub mod Renewal
 pub mod Runs
 pub mod Steps

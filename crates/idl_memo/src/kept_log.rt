@@ -1,10 +1,9 @@
 //! What a kept task asked of its bank.
 
-ghost use Rattle.std.specs.Prelude.{◌≡◌, ◌↔◌, ◌++◌, All, IfOk, IsFalse, IsTrue, OnOk, Option, flat_map, length, map, slice_get};
+ghost use Rattle.std.specs.Prelude.{◌≡◌, ◌++◌, All, IfOk, IsFalse, OnOk, Option, flat_map, length, map, slice_get};
 ghost use Rattle.std.specs.Option.{option_copied, option_map, option_to_list};
-ghost use Rattle.idl_memo.specs.Cause.{IsCause};
 ghost use Rattle.idl_memo.specs.Dated.{dated_on, entries_before};
-ghost use Rattle.idl_memo.specs.Query.{HoldsIn, is_logged};
+ghost use Rattle.idl_memo.specs.Query.{is_logged};
 ghost use Rattle.idl_memo.specs.Parts.{part_entries};
 ghost use Rattle.idl_memo.specs.Runs.{first_other, other_at};
 
@@ -211,17 +210,6 @@ impl<B: Bank> KeptLog<B> {
                 log.copy_into(room)?;
                 Ok(room)
             }
-        }
-    }
-
-    // Whether a log that holds in a bank holds too in one that differs from it in nothing but this cause: the key tells.
-    pub(crate) fn outlasts(&self, cause: Option<&B::Key>) -> bool
-        ensures { (old new : B.Key → Option B.Answer) → IsCause old new (option_copied cause.entry)
-            → HoldsIn old self.now → (IsTrue result ↔ HoldsIn new self.now) }
-    {
-        match cause {
-            Some(key) => !self.contains(key),
-            None => true,
         }
     }
 }

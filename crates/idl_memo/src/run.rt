@@ -77,13 +77,6 @@ impl<B: Bank> Run<B> {
         }
     }
 
-    /// How many entries it has.
-    pub(crate) fn len(&self) -> usize
-        ensures { result ≡ length self.now }
-    {
-        self.len
-    }
-
     /// The first of its answers that isn't the bank's, with the bank's.
     pub(crate) fn first_other<'a>(
         &'a self,

@@ -5,7 +5,7 @@
 //! are met.
 //!
 //! In `verdicts/`: a verdict asks what is looked at behind its facts (`asking`), so `idl_block::facts` speaks of its
-//! units (`enough`), and a kept log that holds gives the same (`alike`, `taken`). Of `proofs/VerdictLaws/` read
+//! units (`enough`), and places that agree on what a block asked give the same (`alike`). Of `proofs/VerdictLaws/` read
 //! `Orders` (of questions) first, `Visits` (what a unit adds), `Stacks` (open scopes) and `Stops` (scopes that may stop
 //! a use).
 #![tactic(auto)]

@@ -5,5 +5,5 @@
 mod standing;
 mod units;
 
-pub use standing::{Verdicts, alike, enough, nested, taken, walked};
+pub use standing::{Verdicts, alike, enough, nested, walked};
 pub use units::{asking, telling};

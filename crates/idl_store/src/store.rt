@@ -108,13 +108,6 @@ where
         }
     }
 
-    /// How many lists there are.
-    pub fn len(&self) -> usize
-        ensures { result ≡ length self.now.lists }
-    {
-        self.lists.len()
-    }
-
     /// How many results a list has. One that isn't there has none.
     pub fn results(&self, list: usize) -> usize
         ensures { result ≡ length (list_at self.now.lists list) }

@@ -203,13 +203,6 @@ impl Path {
         }
     }
 
-    /// The part that it ends in, unless it is that of the global scope.
-    pub(crate) fn innermost(&self) -> &Option<Rc<PathPart>>
-        ensures { path_of result.now ≡ self.now }
-    {
-        &self.innermost
-    }
-
     /// The path to the innermost of its names that is spelled so, if one is.
     pub(crate) fn ending_in(&self, name: &Bytes) -> Result<Option<NamedPath>, AllocError>
         ensures { IfOk result (λ named. IfSome named (λ path. name_of path ≡ name.now)) }

@@ -4,13 +4,10 @@
 ghost use Rattle.std.specs.Prelude.{◌≡◌, ◌++◌, ◌∷◌, [], IfSome, IsTrue, None, OnOk, drop, map};
 ghost use Rattle.idl_env.specs.Differing.{differing, unlike};
 ghost use Rattle.idl_env.specs.Facts.{key_of, operations_among};
-ghost use Rattle.idl_env.specs.Outside.{left_by, left_open};
 ghost use Rattle.idl_env.specs.keys.Key.{key_digest};
 
-use crate::additions::addition::Step;
 use crate::additions::digested_addition::DigestedAddition;
 use crate::additions::facts::Facts;
-use crate::keys::key::Key;
 use idl_entity::Path;
 use idl_map::Digest;
 use std::alloc::AllocError;
@@ -29,15 +26,6 @@ impl Facts {
             digests.push(addition.digest())?;
         }
         Ok(())
-    }
-
-    /// Puts the digests of the keys last at which they may leave another answer, once each scope that they open is closed again.
-    pub fn left_into(&self, digests: &mut Vec<u64>) -> Result<(), AllocError>
-        ensures { OnOk result
-            (digests.new.items ≡ digests.old.items ++ map key_digest (left_by self.now)) }
-    {
-        self.digests_into(digests)?;
-        put_left_open(digests, self.step())
     }
 
     /// Puts the digests of the keys at which they add otherwise than others, or these than they, behind those that are there.
@@ -131,24 +119,5 @@ impl Facts {
         ensures { IsTrue result → self.now.step ≡ other.now.step }
     {
         self.step().is(other.step())
-    }
-}
-
-// Puts the digests of the keys last at which a step may leave another answer, once the scope that it opens is closed again.
-fn put_left_open(digests: &mut Vec<u64>, step: &Step) -> Result<(), AllocError>
-    ensures { OnOk result
-        (digests.new.items ≡ digests.old.items ++ map key_digest (left_open step.now)) }
-{
-    match step {
-        Step::Opens(path, _kind) => {
-            digests.push(Key::Opened(path.clone()?).digest())?;
-            digests.push(path.entity_digest())?;
-            Ok(())
-        }
-        Step::OpensNameless(_kind) => {
-            digests.push(Key::Nameless.digest())?;
-            Ok(())
-        }
-        _ => Ok(()),
     }
 }

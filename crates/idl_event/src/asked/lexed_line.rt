@@ -43,13 +43,6 @@ impl LexedLine {
         Ok(LexedLine { file, tokens })
     }
 
-    /// The file of this line alone.
-    pub fn file(&self) -> &File
-        ensures { result.now ≡ self.now }
-    {
-        &self.file
-    }
-
     /// Its tokens in order.
     pub fn tokens(&self) -> &TokenRange
         ensures { result.now ≡ tokens_in (tokens_of self.now) }

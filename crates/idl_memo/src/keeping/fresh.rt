@@ -1,6 +1,6 @@
 //! The laws of fresh tasks.
 
-ghost use Rattle.std.specs.Prelude.{◌≡◌, ◌↔◌, ◌+◌, ◌≤◌, ◌++◌, ◌∷◌, [], List, Option, All, Contains, length, sum_by, true};
+ghost use Rattle.std.specs.Prelude.{◌≡◌, ◌↔◌, ◌+◌, ◌≤◌, ◌++◌, ◌∷◌, [], List, Option, All, Contains, sum_by, true};
 ghost use Rattle.std.specs.List.{IsDistinct};
 ghost use Rattle.std.specs.Option.{option_eq};
 ghost use Rattle.idl_memo.specs.Fresh.{AreAmong, Place, asked_among, compared_among, fresh_among, fresh_at, is_alike, keys_at, log_at, most_shared_at, places_over, shared_among, shared_at, stale_among};
@@ -11,8 +11,8 @@ use crate::task::Task;
 /// How many places are fresh against others.
 ///
 /// Alike are places of one text and one log, so that "alike" is an equality: the count is that of the classes that the new
-/// places have and the known ones have not. It is a sum over parts; it depends on the classes of the known places, and on
-/// those of the new ones; and places that are known may be left out.
+/// places have and the known ones have not. It is a sum over parts, in any order; places that have one another's classes, or
+/// known ones, count as many; and places that are known may be left out.
 pub fn freshness<B: Bank, T: Task<B>>()
     ensures class { (here task : Place B.Key (Option B.Answer) T.Text)
         → (is_alike T.Text.eq (option_eq B.Answer.eq) T.query here task ≡ true
@@ -28,22 +28,11 @@ pub fn freshness<B: Bank, T: Task<B>>()
         → fresh_among T.Text.eq (option_eq B.Answer.eq) T.query old (a ++ b)
         ≡ fresh_among T.Text.eq (option_eq B.Answer.eq) T.query old a
         + fresh_among T.Text.eq (option_eq B.Answer.eq) T.query (old ++ a) b }
-    ensures known { (a b new : List (Place B.Key (Option B.Answer) T.Text))
-        → AreAmong T.Text.eq (option_eq B.Answer.eq) T.query a b
-        → AreAmong T.Text.eq (option_eq B.Answer.eq) T.query b a
-        → fresh_among T.Text.eq (option_eq B.Answer.eq) T.query a new
-        ≡ fresh_among T.Text.eq (option_eq B.Answer.eq) T.query b new }
     ensures classes { (old a b : List (Place B.Key (Option B.Answer) T.Text))
         → AreAmong T.Text.eq (option_eq B.Answer.eq) T.query a (old ++ b)
         → AreAmong T.Text.eq (option_eq B.Answer.eq) T.query b (old ++ a)
         → fresh_among T.Text.eq (option_eq B.Answer.eq) T.query old a
         ≡ fresh_among T.Text.eq (option_eq B.Answer.eq) T.query old b }
-    ensures fewer { (old a b : List (Place B.Key (Option B.Answer) T.Text))
-        → AreAmong T.Text.eq (option_eq B.Answer.eq) T.query a (old ++ b)
-        → fresh_among T.Text.eq (option_eq B.Answer.eq) T.query old a
-        ≤ fresh_among T.Text.eq (option_eq B.Answer.eq) T.query old b }
-    ensures most { (old new : List (Place B.Key (Option B.Answer) T.Text))
-        → fresh_among T.Text.eq (option_eq B.Answer.eq) T.query old new ≤ length new }
     ensures aside { (old front stay rest : List (Place B.Key (Option B.Answer) T.Text))
         → AreAmong T.Text.eq (option_eq B.Answer.eq) T.query stay old
         → fresh_among T.Text.eq (option_eq B.Answer.eq) T.query old (front ++ (stay ++ rest))
@@ -51,9 +40,6 @@ pub fn freshness<B: Bank, T: Task<B>>()
     ensures turned { (old a b : List (Place B.Key (Option B.Answer) T.Text))
         → fresh_among T.Text.eq (option_eq B.Answer.eq) T.query old (a ++ b)
         ≡ fresh_among T.Text.eq (option_eq B.Answer.eq) T.query old (b ++ a) }
-    ensures gone { (old stay : List (Place B.Key (Option B.Answer) T.Text))
-        → AreAmong T.Text.eq (option_eq B.Answer.eq) T.query stay old
-        → fresh_among T.Text.eq (option_eq B.Answer.eq) T.query old stay ≡ 0 }
     ensures there { (these those : List (Place B.Key (Option B.Answer) T.Text))
         → All (Contains those) these
         → AreAmong T.Text.eq (option_eq B.Answer.eq) T.query these those }

@@ -1,7 +1,7 @@
 //! The laws of blocks of verdicts.
 
-ghost use Rattle.std.specs.Prelude.{◌≡◌, ◌≢◌, ◌≤◌, ◌<◌, ◌^◌, ◌∷◌, ◌++◌, [], List, Option};
-ghost use Rattle.idl_block.specs.Blocks.{Part, block, walk};
+ghost use Rattle.std.specs.Prelude.{◌≡◌, ◌≢◌, ◌≤◌, ◌<◌, ◌^◌, ◌∷◌, ◌++◌, [], List};
+ghost use Rattle.idl_block.specs.Blocks.{Part, walk};
 ghost use Rattle.idl_block.specs.Behind.{laid};
 ghost use Rattle.idl_block.specs.Questions.{AreNested, outer_asked};
 ghost use Rattle.idl_root_blocks.specs.verdicts.Standing.{AreStanding, IsBlock, block_end, unit_asks, unit_writes};
@@ -11,13 +11,10 @@ ghost use Rattle.idl_env.specs.Turns.{most_turns, turns_for};
 ghost use Rattle.idl_env.specs.declared.additions.addition.Step.{Step};
 ghost use Rattle.idl_env.specs.declared.additions.addition.Step.TheVariants.{Enters};
 ghost use Rattle.idl_env.specs.declared.keys.key.Key.TheVariants.{Cursor, Nameless};
-ghost use Rattle.idl_env.specs.declared.answering.answer.Answer.{Answer};
-ghost use Rattle.idl_env.specs.declared.keys.key.Key.{Key};
-ghost use Rattle.idl_env.specs.keys.Key.{key_eq};
 ghost use Rattle.idl_block.specs.facts.Answered.{answered};
 ghost use Rattle.idl_block.specs.facts.Known.{AskEnough};
 ghost use Rattle.idl_block.specs.facts.Written.{boundary, ways_of};
-ghost use Rattle.idl_memo.specs.Query.{Agree, HoldsIn, outcome, run};
+ghost use Rattle.idl_memo.specs.Query.{Agree, outcome};
 ghost use Rattle.idl_unit.specs.declared.unit.UnitText.{UnitText};
 
 use idl_block::facts::{FactUnits, agreeing};
@@ -80,20 +77,6 @@ pub fn alike()
 {
     enough();
     agreeing::<Verdicts>();
-}
-
-/// So it is where the log of a block holds that was kept anywhere: its units come to the verdicts of the block there, and add the same.
-pub fn taken()
-    ensures { (before : List UnitFacts) (bank : Key → Option Answer)
-        (parts : List (Part UnitText Step))
-        → let ways = ways_of unit_asks unit_writes in
-        let entered = boundary Enters ∷ [] in
-        let end = block_end bank parts in
-        IsBlock parts → HoldsIn (answers before) (run key_eq (block ways parts entered) bank []).1
-        → AreStanding before end.1
-        → walk ways answers parts (before ++ entered) ≡ (end.0, before ++ end.1) }
-{
-    enough();
 }
 
 /// What a block in a block writes lies over what the one around it has written by then, and that lies over what stands before it.

@@ -1,6 +1,6 @@
 use Rattle.std.specs.Option.{option_eq}
 use Rattle.idl_base.specs.Exact.{same_option}
-use Rattle.idl_memo.proofs.FreshTasks.{option_eq-itself, is_alike-class, fresh-none, fresh-one, fresh-split, fresh-known, fresh-classes, fresh-fewer_classes, fresh-most, fresh-aside, fresh-turned, fresh-gone, Among-there}
+use Rattle.idl_memo.proofs.FreshTasks.{option_eq-itself, is_alike-class, fresh-none, fresh-one, fresh-split, fresh-classes, fresh-aside, fresh-turned, Among-there}
 use Rattle.idl_memo.proofs.keeping.fresh.freshness.Goals as goal
 
 pub returns-clause-class : goal.returns-clause-class
@@ -31,31 +31,10 @@ returns-clause-split g c =
     (option_eq eq) (option_eq-itself eq g.met.B.Answer.Eq.laws.refl) (same_option eq g.met.B.Answer.Datum.same) g.T.Task.query
     g.B.Key.PartialEq.eq g.met.B.Key.Eq.laws.refl g.met.B.Key.Datum.same
 
-pub returns-clause-known : goal.returns-clause-known
-returns-clause-known g c =
-    let eq = g.B.Answer.PartialEq.eq in
-    fresh-known g.T.Text.PartialEq.eq g.met.T.Text.Eq.laws.refl g.met.T.Text.Eq.laws.symm g.met.T.Text.Datum.same
-    (option_eq eq) (option_eq-itself eq g.met.B.Answer.Eq.laws.refl) (same_option eq g.met.B.Answer.Datum.same) g.T.Task.query
-    g.B.Key.PartialEq.eq g.met.B.Key.Eq.laws.refl g.met.B.Key.Datum.same
-
 pub returns-clause-classes : goal.returns-clause-classes
 returns-clause-classes g c =
     let eq = g.B.Answer.PartialEq.eq in
     fresh-classes g.T.Text.PartialEq.eq g.met.T.Text.Eq.laws.refl g.met.T.Text.Eq.laws.symm g.met.T.Text.Datum.same
-    (option_eq eq) (option_eq-itself eq g.met.B.Answer.Eq.laws.refl) (same_option eq g.met.B.Answer.Datum.same) g.T.Task.query
-    g.B.Key.PartialEq.eq g.met.B.Key.Eq.laws.refl g.met.B.Key.Datum.same
-
-pub returns-clause-fewer : goal.returns-clause-fewer
-returns-clause-fewer g c =
-    let eq = g.B.Answer.PartialEq.eq in
-    fresh-fewer_classes g.T.Text.PartialEq.eq g.met.T.Text.Eq.laws.refl g.met.T.Text.Eq.laws.symm g.met.T.Text.Datum.same
-    (option_eq eq) (option_eq-itself eq g.met.B.Answer.Eq.laws.refl) (same_option eq g.met.B.Answer.Datum.same) g.T.Task.query
-    g.B.Key.PartialEq.eq g.met.B.Key.Eq.laws.refl g.met.B.Key.Datum.same
-
-pub returns-clause-most : goal.returns-clause-most
-returns-clause-most g c =
-    let eq = g.B.Answer.PartialEq.eq in
-    fresh-most g.T.Text.PartialEq.eq g.met.T.Text.Eq.laws.refl g.met.T.Text.Eq.laws.symm g.met.T.Text.Datum.same
     (option_eq eq) (option_eq-itself eq g.met.B.Answer.Eq.laws.refl) (same_option eq g.met.B.Answer.Datum.same) g.T.Task.query
     g.B.Key.PartialEq.eq g.met.B.Key.Eq.laws.refl g.met.B.Key.Datum.same
 
@@ -70,13 +49,6 @@ pub returns-clause-turned : goal.returns-clause-turned
 returns-clause-turned g c =
     let eq = g.B.Answer.PartialEq.eq in
     fresh-turned g.T.Text.PartialEq.eq g.met.T.Text.Eq.laws.refl g.met.T.Text.Eq.laws.symm g.met.T.Text.Datum.same
-    (option_eq eq) (option_eq-itself eq g.met.B.Answer.Eq.laws.refl) (same_option eq g.met.B.Answer.Datum.same) g.T.Task.query
-    g.B.Key.PartialEq.eq g.met.B.Key.Eq.laws.refl g.met.B.Key.Datum.same
-
-pub returns-clause-gone : goal.returns-clause-gone
-returns-clause-gone g c =
-    let eq = g.B.Answer.PartialEq.eq in
-    fresh-gone g.T.Text.PartialEq.eq g.met.T.Text.Eq.laws.refl g.met.T.Text.Eq.laws.symm g.met.T.Text.Datum.same
     (option_eq eq) (option_eq-itself eq g.met.B.Answer.Eq.laws.refl) (same_option eq g.met.B.Answer.Datum.same) g.T.Task.query
     g.B.Key.PartialEq.eq g.met.B.Key.Eq.laws.refl g.met.B.Key.Datum.same
 
