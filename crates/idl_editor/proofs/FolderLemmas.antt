@@ -4,17 +4,18 @@ use Rattle.std.specs.Prelude.{All, IfSome, MatchOption, is_none, option_and_then
 use Rattle.std.specs.List.{list_all}
 use Rattle.std.specs.Option.{option_map, option_or, unwrap_or}
 use Rattle.std.proofs.lemmas.Bool.{cases_lt, cond-true, cond-false}
+use Rattle.std.proofs.lemmas.Bool.Decides.{nat_tests}
 use Rattle.std.proofs.lemmas.List.{drop_more, take-append-le, take-append-drop}
 use Rattle.std.proofs.lemmas.List.Elements.{All-tail}
 use Rattle.std.proofs.Math.Seq.{take-append_seam}
 use Rattle.idl_source.specs.names.Path.{is_rooted}
 use Rattle.percent_encoding.specs.AsciiSet.{contains, should_percent_encode}
-use Rattle.percent_encoding.specs.Percent.{percent_decode, percent_encode_byte}
+use Rattle.percent_encoding.specs.Percent.{percent_decode, percent_encode, percent_encode_byte}
 use Rattle.percent_encoding.proofs.PercentLemmas.{percent_encode-nil, percent_encode_escaped, percent_encode_kept, round_trip}
 use Rattle.idl_editor.specs.uris.Uri.{behind}
-use Rattle.idl_editor.specs.uris.Folders.{AreApart, FolderNamed, are_apart, escaped, name_among, name_behind, name_in, name_of, path_among, path_for, path_in}
+use Rattle.idl_editor.specs.uris.Folders.{AreApart, FolderNamed, are_apart, escaped, name_among, name_behind, name_in, name_of, path_among, path_for, path_in, stands_in_names}
 use Rattle.idl_editor.specs.declared.uris.folders.TheConstants.{ESCAPED_IN_NAMES}
-use Rattle.idl_editor.proofs.UriLemmas.{behind-front, behind-some, rooted-kept}
+use Rattle.idl_editor.proofs.UriLemmas.{all-escaped, behind-front, behind-some, rooted-kept}
 
 names-keep : should_percent_encode ESCAPED_IN_NAMES 47 ≡ false
 unfolding should_percent_encode
@@ -104,14 +105,28 @@ inside-path f path name (Some more) is e =
 inside : (f : FolderNamed) (path name : List ℕ) → name_in f path ≡ Some name → Inside f path name
 inside f path name e = inside-path f path name (behind f.path path) refl e
 
--- what is escaped begins with `/` only where it did before
-escaped-plain : (path : List ℕ) → is_rooted path ≡ false → is_rooted (escaped path) ≡ false
-escaped-plain [] plain = ap is_rooted (percent_encode-nil ESCAPED_IN_NAMES)
-escaped-plain (b ∷ path) plain = by_test (should_percent_encode ESCAPED_IN_NAMES b) refl
+past-names : (b : ℕ) → 128 ≤ b → stands_in_names b ≡ false
+past-names b large = grind (arith, nat_tests)
+
+-- the set of names
+pub name_escaped : (path : List ℕ) → percent_encode ESCAPED_IN_NAMES path ≡ escaped path
+name_escaped path = all-escaped ESCAPED_IN_NAMES stands_in_names refl past-names path
+
+-- what is escaped reads back
+escaped-reads : (path : List ℕ) → All (λ b. b < 256) path → percent_decode (escaped path) ≡ path
+escaped-reads path bytes = ap percent_decode (sym (name_escaped path)) ∙ round_trip ESCAPED_IN_NAMES path names-escape bytes
+
+-- it begins with `/` only where it did before
+encoded-plain : (path : List ℕ) → is_rooted path ≡ false → is_rooted (percent_encode ESCAPED_IN_NAMES path) ≡ false
+encoded-plain [] plain = ap is_rooted (percent_encode-nil ESCAPED_IN_NAMES)
+encoded-plain (b ∷ path) plain = by_test (should_percent_encode ESCAPED_IN_NAMES b) refl
   where
-    by_test : (t : Bool) → should_percent_encode ESCAPED_IN_NAMES b ≡ t → is_rooted (escaped (b ∷ path)) ≡ false
-    by_test true is = ap is_rooted (percent_encode_escaped ESCAPED_IN_NAMES b path is) ∙ byte-plain b (escaped path)
+    by_test : (t : Bool) → should_percent_encode ESCAPED_IN_NAMES b ≡ t → is_rooted (percent_encode ESCAPED_IN_NAMES (b ∷ path)) ≡ false
+    by_test true is = ap is_rooted (percent_encode_escaped ESCAPED_IN_NAMES b path is) ∙ byte-plain b (percent_encode ESCAPED_IN_NAMES path)
     by_test false is = ap is_rooted (percent_encode_kept ESCAPED_IN_NAMES b path is) ∙ plain
+
+escaped-plain : (path : List ℕ) → is_rooted path ≡ false → is_rooted (escaped path) ≡ false
+escaped-plain path plain = ap is_rooted (sym (name_escaped path)) ∙ encoded-plain path plain
 
 joined-plain : (front rest : List ℕ) → is_rooted front ≡ false → is_rooted rest ≡ false → is_rooted (front ++ rest) ≡ false
 joined-plain [] rest p q = q
@@ -127,7 +142,7 @@ back f path name bytes in_ =
     let small = rest-bytes f.path in_.0 (subst (All (λ b. b < 256)) in_.1 bytes) in
     ap (path_in f) in_.3
     ∙ ap (option_map (λ rest. f.path ++ 47 ∷ percent_decode rest)) (behind-front f.front (escaped in_.0))
-    ∙ ap (λ rest. Some (f.path ++ 47 ∷ rest)) (round_trip ESCAPED_IN_NAMES in_.0 names-escape small)
+    ∙ ap (λ rest. Some (f.path ++ 47 ∷ rest)) (escaped-reads in_.0 small)
     ∙ ap Some (sym in_.1)
 
 -- ---- a file in the first folder that it is in
@@ -168,7 +183,7 @@ pub lead-back : (folders : List FolderNamed) (path : List ℕ) → AreApart fold
 lead-back folders path apart bytes rooted = by_name (name_among folders path) refl
   where
     by_name : (o : Option (List ℕ)) → name_among folders path ≡ o → path_for folders (unwrap_or o (escaped path)) ≡ Some path
-    by_name None is = cond-true _ _ _ (rooted-kept ESCAPED_IN_NAMES path names-keep rooted) ∙ ap Some (round_trip ESCAPED_IN_NAMES path names-escape bytes)
+    by_name None is = cond-true _ _ _ (ap is_rooted (sym (name_escaped path)) ∙ rooted-kept ESCAPED_IN_NAMES path names-keep rooted) ∙ ap Some (escaped-reads path bytes)
     by_name (Some name) is =
         let led = leads folders path name apart bytes is in
         cond-false _ _ _ led.4 ∙ led.5

@@ -69,6 +69,7 @@ module _ {P : Type 0} (alike : P → P → Bool) where
       let later = sum-same count (a ++ x ∷ []) (b ++ x ∷ []) new (AreSame-more a b (x ∷ []) h) in
       λ i. count (h x i) x + later i
 
+  -- with more behind those, they still have those that are alike
   pub HaveAlike-right : (these those rest : List P) → HaveAlike alike these those → HaveAlike alike these (those ++ rest)
   HaveAlike-right these those rest h =
       All-weaker (λ p. IsTrue (list_any (alike p) those)) (λ p. IsTrue (list_any (alike p) (those ++ rest)))

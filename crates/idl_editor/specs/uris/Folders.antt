@@ -1,21 +1,24 @@
 -- Folders of a workspace, and the names of the files in them.
-use Rattle.std.specs.Prelude.{◌≡◌, ℕ, Bool, true, not, ◌&&◌, List, [], ◌∷◌, ◌++◌, ◌<◌, is_none, length, take, slice_index_or, Option, None, Some, option_and_then, if◌then◌else◌}
+use Rattle.std.specs.Prelude.{◌≡◌, ℕ, Bool, true, not, ◌&&◌, List, [], ◌∷◌, ◌++◌, ◌<◌, is_none, length, nat_eq, take, slice_index_or, Option, None, Some, option_and_then, if◌then◌else◌}
 use Rattle.std.specs.List.{list_all}
 use Rattle.std.specs.Option.{option_map, option_or, unwrap_or}
-use Rattle.idl_source.specs.names.Name.{is_name}
+use Rattle.idl_source.specs.names.Name.{is_name, is_visible}
 use Rattle.idl_source.specs.names.Path.{is_rooted}
-use Rattle.percent_encoding.specs.Percent.{percent_decode, percent_encode}
-use Rattle.idl_editor.specs.uris.Uri.{behind}
-use Rattle.idl_editor.specs.declared.uris.folders.TheConstants.{ESCAPED_IN_NAMES}
+use Rattle.percent_encoding.specs.Percent.{percent_decode}
+use Rattle.idl_editor.specs.uris.Uri.{behind, escaped_but}
 
 -- a folder's path, and what the names of its files begin with
 pub record FolderNamed : Type 0 where
   pub path : List ℕ
   pub front : List ℕ
 
+-- a byte stands in a name as it is: one that names have, and no `%`
+abbrev pub stands_in_names : ℕ → Bool
+stands_in_names b = is_visible b && not (nat_eq b 37)
+
 -- a path as names have it
 abbrev pub escaped : List ℕ → List ℕ
-escaped path = percent_encode ESCAPED_IN_NAMES path
+escaped path = escaped_but stands_in_names path
 
 -- the name of a file in a folder: what the names of its files begin with, and its path there
 abbrev pub name_behind : FolderNamed → Option (List ℕ) → Option (List ℕ)

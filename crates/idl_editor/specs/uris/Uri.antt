@@ -1,9 +1,10 @@
 -- URIs of files (after RFC 8089).
-use Rattle.std.specs.Prelude.{ℕ, List, ◌++◌, codes, length, take, drop, Option, None, Some, if◌then◌else◌}
+use Rattle.std.specs.Prelude.{ℕ, Bool, ◌||◌, List, [], ◌∷◌, ◌++◌, codes, length, take, drop, flat_map, nat_eq, Option, None, Some, if◌then◌else◌}
+use Rattle.std.specs.Char.{is_ascii_alphanumeric}
+use Rattle.std.specs.List.{list_any}
 use Rattle.std.specs.Str.{bytes_eq}
 use Rattle.idl_source.specs.names.Path.{is_rooted}
-use Rattle.percent_encoding.specs.Percent.{percent_decode, percent_encode}
-use Rattle.idl_editor.specs.declared.uris.uri.TheConstants.{ESCAPED_IN_URIS}
+use Rattle.percent_encoding.specs.Percent.{percent_decode, percent_encode_byte}
 
 -- the bytes behind a front, if they begin with it
 abbrev pub behind : List ℕ → List ℕ → Option (List ℕ)
@@ -19,6 +20,15 @@ path_behind (Some escaped) = if is_rooted escaped then Some (percent_decode esca
 abbrev pub path_of : List ℕ → Option (List ℕ)
 path_of uri = path_behind (behind (codes "file://") uri)
 
+-- bytes of which these stand as they are, and each other one as `%` and its two hexadecimal digits
+abbrev pub escaped_but : (ℕ → Bool) → List ℕ → List ℕ
+escaped_but stands bytes =
+    flat_map (λ b. if stands b then b ∷ [] else percent_encode_byte b) bytes
+
+-- a byte stands in a URI as it is: a letter, a digit, one of `-._~` (RFC 3986, 2.3) or a slash
+abbrev pub stands_in_uris : ℕ → Bool
+stands_in_uris b = is_ascii_alphanumeric b || list_any (nat_eq b) (codes "-._~/")
+
 -- the URI of a path
 abbrev pub uri_of : List ℕ → List ℕ
-uri_of path = codes "file://" ++ percent_encode ESCAPED_IN_URIS path
+uri_of path = codes "file://" ++ escaped_but stands_in_uris path

@@ -168,6 +168,7 @@ impl Folder {
 }
 
 // Puts in a path as names have it.
+#[tactic(auto, using(crate::proofs::FolderLemmas::name_escaped))]
 fn push_escaped(path: &[u8], name: &mut Vec<u8>) -> Result<(), AllocError>
     ensures { OnOk result (name.new.items ≡ name.old.items ++ escaped path.now) }
 {

@@ -34,6 +34,7 @@ pub fn path_of(alloc: Global, uri: &[u8]) -> Result<Option<Vec<u8>>, AllocError>
 }
 
 /// The URI of the file at a path.
+#[tactic(auto, using(crate::proofs::UriLemmas::uri_escaped))]
 pub fn uri_of(alloc: Global, path: &[u8]) -> Result<String, AllocError>
     ensures { IfOk result (λ uri. string_bytes uri ≡ uri_of path.now) }
 {
