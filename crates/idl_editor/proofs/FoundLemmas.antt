@@ -1,13 +1,10 @@
 -- Findings in the order of lines, of which the first ones are told.
-use Rattle.std.proofs.Common.{◌≡◌, ◌∙◌, ◌+◌, ◌≤◌, ◌&&◌, ◌||◌, ℕ, zero, suc, Bool, true, false, cond, not, List, [], ◌∷◌, ◌++◌, ap, arith, ◌<◌, get_or, length, refl, sym, take}
+use Rattle.std.proofs.Common.{◌≡◌, ◌∙◌, ◌+◌, ◌≤◌, ◌&&◌, ◌||◌, ℕ, zero, suc, Bool, true, false, cond, not, List, [], ◌∷◌, ap, arith, refl, sym, take}
 use Rattle.std.proofs.lemmas.Bool.{eqb-true, false≢true, le-ltb, ltb-false, ltb-true, true≢false}
-use Rattle.std.proofs.lemmas.Grind.{fold-append}
-use Rattle.std.proofs.lemmas.List.{take_more}
-use Rattle.std.proofs.lemmas.List.Elements.{filter-append}
-use Rattle.std.specs.List.{filter, fold, insert, list_any, position_or_len}
+use Rattle.std.specs.List.{fold, insert, list_any, position_or_len}
 use Rattle.std.specs.Prelude.{if◌then◌else◌, ⊤}
 use Rattle.idl_finding.specs.declared.finding.Finding.{Finding}
-use Rattle.idl_editor.specs.told.Found.{findings_in, is_in, is_later, is_same, most_told, put_in_order, told_if, told_with, with_one}
+use Rattle.idl_editor.specs.told.Found.{findings_in, is_later, is_same, most_told, put_in_order, told_with, with_one}
 use Rattle.idl_editor.specs.declared.told.found.RootFinding.{RootFinding}
 
 -- ---- the order of lines
@@ -140,22 +137,7 @@ findings-take (suc n) (first ∷ found) = ap (λ gs. first.finding.now ∷ gs) (
 
 -- ---- one finding more
 
-if-in : (b : Bool) (told : List Finding) (x : Finding) → told_if b told x ≡ fold told_with told (cond b (x ∷ []) [])
-if-in true told x = refl
-if-in false told x = refl
-
-pub findings-next : (name : List ℕ) (findings : List Finding) (i : ℕ) (x : Finding) (old before after : List Finding) → i < length findings → x ≡ get_or findings i x
-    → before ≡ fold told_with old (filter (is_in name) (take i findings)) → after ≡ told_if (is_in name x) before x
-    → after ≡ fold told_with old (filter (is_in name) (take (i + 1) findings))
-findings-next name findings i x old before after within is so now =
-    let p = is_in name in
-    let more : take (i + 1) findings ≡ take i findings ++ x ∷ [] = take_more findings i x within ∙ ap (λ y. take i findings ++ y ∷ []) (sym is) in
-    now ∙ if-in (p x) before x ∙ ap (λ told. fold told_with told (cond (p x) (x ∷ []) [])) so
-    ∙ sym (fold-append told_with old (filter p (take i findings)) (cond (p x) (x ∷ []) []))
-    ∙ ap (λ fs. fold told_with old fs) (sym (filter-append p (take i findings) (x ∷ [])))
-    ∙ ap (λ fs. fold told_with old (filter p fs)) (sym more)
-
--- and one that is put in, of which the first ones stay
+-- one that is put in, of which the first ones stay
 pub put-told : (found inserted after : List RootFinding) (one : RootFinding) (place : ℕ) → list_any (is_same one.finding.now) (findings_in found) ≡ false
     → place ≡ position_or_len (is_later one.finding.now.place.line) (findings_in found) → inserted ≡ insert found place one → after ≡ take most_told inserted
     → findings_in after ≡ told_with (findings_in found) one.finding.now

@@ -10,10 +10,10 @@ use Rattle.httparse.specs.declared.Status.TheVariants.{Complete, Partial}
 use Rattle.httparse.specs.declared.spans.HeaderSpan.{HeaderSpan}
 use Rattle.httparse.specs.Outcome.{IfComplete, OnPartial}
 use Rattle.httparse.specs.Grammar.{print_section, HasNoSection}
-use Rattle.httparse.specs.Spans.{header_bytes, name_and_value, IsSectionOf, IsSectionWithin, SectionOverflows}
+use Rattle.httparse.specs.Spans.{header_bytes, name_and_value, IsSectionOf, IsSectionWithin}
 use Rattle.httparse.proofs.GrammarLemmas.{section_unique}
 use Rattle.idl_editor.specs.frames.Message.{announced, IsHead, longest_body, longest_head}
-use Rattle.idl_editor.specs.frames.Heads.{HasNoHead, NeverHasHead, Tells, begun_by, head_by}
+use Rattle.idl_editor.specs.frames.Heads.{HasNoHead, Tells, begun_by, head_by}
 use Rattle.idl_editor.specs.declared.frames.head.Head.TheVariants.{Whole, Begun, OverLimit, Missing}
 
 -- what the fields announce that were found
@@ -96,12 +96,6 @@ tells-partial bytes none = by_len (ltb (length bytes) longest_head) refl
         let enough = ltb-false (length bytes) longest_head t in
         let fits : length head ≤ length bytes = omega (arith, enough, h.2.short) in
         no-head bytes none head (drop (length head) bytes) n (head-within bytes more head rest e fits) h
-
--- and too many fields make none
-pub tells-error : (bytes : List ℕ) → SectionOverflows 16 bytes → NeverHasHead bytes
-tells-error bytes over more head rest n e h =
-    let many = over more h.0 h.1 rest (h.2.are_fields, e ∙ ap (λ t. t ++ rest) h.2.text) in
-    omega (arith, many, h.2.few)
 
 -- the same of what the parser answered
 pub tells-found : (bytes : List ℕ) (headers : List HeaderSpan) (r : Result (Status (ℕ × ℕ)) Error) (len count : ℕ) → r ≡ Ok (Complete (len, count)) → length headers ≡ 16

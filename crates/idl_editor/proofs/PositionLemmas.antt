@@ -1,5 +1,5 @@
 -- Where lines begin.
-use Rattle.std.proofs.Common.{◌≡◌, ◌∙◌, ◌+◌, ◌-◌, ◌<◌, ◌≤◌, ℕ, zero, suc, ◌==◌, ◌&&◌, Bool, true, false, cond, List, [], ◌∷◌, length, drop, get_or, refl, sym, ap, arith, length-drop, zero-add}
+use Rattle.std.proofs.Common.{◌≡◌, ◌∙◌, ◌+◌, ◌-◌, ◌<◌, ◌≤◌, ℕ, zero, suc, true, false, List, [], length, drop, get_or, refl, sym, ap, arith, length-drop, zero-add}
 use Rattle.std.proofs.lemmas.List.{drop-drop, nil_from_length}
 use Rattle.std.proofs.lemmas.List.Sums.{position_or_len_is}
 use Rattle.idl_editor.specs.Positions.{end_size, is_break, line_size, line_start, whole_size}
@@ -27,15 +27,6 @@ start-more line text = refl
 pub whole-parts : (text : List ℕ) → whole_size text ≡ line_size text + end_size (drop (line_size text) text)
 unfolding whole_size
 whole-parts text = refl
-
-pub end-within : (bytes : List ℕ) → end_size bytes ≤ length bytes
-end-within [] = omega arith
-end-within (b ∷ []) = omega arith
-end-within (b ∷ c ∷ bytes) = within (b == 13 && c == 10)
-  where
-    within : (t : Bool) → cond t 2 1 ≤ length (b ∷ c ∷ bytes)
-    within true = omega arith
-    within false = omega arith
 
 -- past the text each line begins at its end
 pub start-past : (line start : ℕ) (text : List ℕ) → length text ≤ start → line_start line (drop start text) ≡ 0

@@ -29,11 +29,6 @@ pub head-stays : (held more : List ℕ) (len n : ℕ) → IsHeadAt held len n �
 head-stays held more len n at =
     (omega (arith, at.0, length-append held more), subst (λ h. IsHead h n) (sym (take-append-le len held more at.0)) at.1)
 
--- nothing was read and nothing is to come
-pub over-none : (rest : Option (List ℕ)) (held : List ℕ) → held ≡ [] → IsOver rest → IsOver (prepend held rest)
-over-none None held none over = tt
-over-none (Some bytes) held none over = ap (λ t. t ++ bytes) none ∙ over
-
 -- something was read that is no message, and nothing is to come
 pub ends-within : (rest : Option (List ℕ)) (held : List ℕ) → held ≢ [] → HasNoMessage held → IsOver rest → EndsWithin (prepend held rest)
 ends-within None held some none over = tt

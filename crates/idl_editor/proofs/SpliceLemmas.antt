@@ -1,11 +1,9 @@
 -- A change of a text is a splice of the lines that it touches.
 use Rattle.std.proofs.Common.{◌≡◌, ◌∙◌, ◌+◌, ◌-◌, ◌<◌, ◌≤◌, ◌⊎◌, ℕ, List, [], ◌∷◌, ◌++◌, length, take, drop, slice_range, sym, ap, subst, inl, inr, arith, append_assoc, length-append, length-drop}
-use Rattle.std.proofs.lemmas.Bool.{eqb-true}
 use Rattle.std.proofs.lemmas.Bool.Decides.{nat_tests}
-use Rattle.std.proofs.lemmas.List.{append-nil, drop-append-le, drop-take, take-append-drop, take_more, length-take-le, nil_from_length}
+use Rattle.std.proofs.lemmas.List.{append-nil, drop-append-le, drop-take, take-append-drop, length-take-le, nil_from_length}
 use Rattle.std.proofs.lemmas.List.Folds.{drop_split}
 use Rattle.std.proofs.Math.Seq.{take-add, take-append_seam, drop-append-add, drop-append_seam}
-use Rattle.memchr.specs.Find.{Passes, is_byte}
 use Rattle.idl_base.specs.declared.texts.ByteRange.{ByteRange}
 use Rattle.idl_source.specs.texts.Cut.{cut_lines}
 use Rattle.idl_editor.specs.Changes.{replaced}
@@ -13,11 +11,7 @@ use Rattle.idl_editor.specs.Splices.{EndsLine, IsSplice, IsWholeAround}
 use Rattle.idl_editor.specs.declared.splice.LineSplice.{LineSplice}
 use Rattle.idl_editor.proofs.CutLemmas.{cut-ended}
 
--- bytes up to a newline end a line
-pub ends-behind : (bytes : List ℕ) (n : ℕ) → n < length bytes → Passes (is_byte 10) bytes n → EndsLine (take (n + 1) bytes)
-ends-behind bytes n within passes = inr (take n bytes, take_more bytes n 0 within ∙ ap (λ b. take n bytes ++ b ∷ []) (eqb-true _ _ passes))
-
--- and so do the last of them
+-- where bytes end a line, so do the last of them
 part-ends : (text : List ℕ) (from to : ℕ) → from < to → to ≤ length text → EndsLine (take to text) → (front : List ℕ) × (slice_range text from to ≡ front ++ 10 ∷ [])
 part-ends text from to some within (inl none) = absurd (omega (arith, ap length none, length-take-le to text within))
 part-ends text from to some within (inr ends) =

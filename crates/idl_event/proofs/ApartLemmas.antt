@@ -70,9 +70,6 @@ emitted-push [] (t ∷ tokens) site token long = absurd (omega (arith, long))
 emitted-push (s ∷ sites) [] site token long = absurd (omega (arith, long))
 emitted-push (s ∷ sites) (t ∷ tokens) site token long = ap (λ l. event.Emitted (place_in s) t ∷ l) (emitted-push sites tokens site token (omega (arith, long)))
 
-pub stand_apart-none : StandApart [] [] []
-stand_apart-none = record { all = record { are_sites = refl; are_tokens = refl; are_others = refl }; later = λ more. refl }
-
 -- a token put last
 pub woven-token : (sites : List Site) (tokens : List Token) (others : List Numbered) (n : ℕ) (place : Place) (token : Token) → StandApart sites tokens others
     → n ≡ length sites + length others

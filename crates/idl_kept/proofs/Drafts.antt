@@ -4,7 +4,7 @@ use Rattle.std.proofs.lemmas.Bool.{cases_eq, cases_lt, ltb-true}
 use Rattle.std.proofs.lemmas.List.{get_or-set_other, get_or-set_same, get_or_append_left, get_or_at, get_or_past, length-append, length-drop, length-map, length-set, length-take, map-append}
 use Rattle.std.specs.List.{remove}
 use Rattle.idl_kept.proofs.Roots.{units-come}
-use Rattle.idl_kept.specs.Drafts.{begun_texts, committed_texts, no_texts, removed_texts}
+use Rattle.idl_kept.specs.Drafts.{begun_texts, committed_texts, removed_texts}
 use Rattle.idl_kept.specs.Texts.{AreBeside, AreKept, AreWhole, BlockResult, DeclarationResult, RootTexts, Texts, root_texts, with_units, without_drafts}
 use Rattle.idl_store.specs.Stored.{Stored, begun, grown, last_draft, last_of, list_at, placed, removed, with_results}
 
@@ -22,19 +22,6 @@ pub same-whole : (root : RootTexts) (units : List DeclarationResult) (blocks : L
     → AreWhole root → AreWhole (record { units = units; blocks = blocks; begins = begins })
 same-whole root units blocks begins same_units same_blocks same_begins are =
     subst AreWhole (λ i. record { units = sym same_units i; blocks = sym same_blocks i; begins = sym same_begins i }) are
-
--- ---- nothing
-
-pub nothing-kept : AreKept no_texts
-nothing-kept = record {
-  units = record { lists = refl; drafts = refl };
-  numbers = record { lists = refl; drafts = refl };
-  roots = λ is_draft list. by is_draft list;
-}
-  where
-    by : (is_draft : Bool) (list : ℕ) → AreWhole (root_texts no_texts is_draft list)
-    by true list = nothing-whole
-    by false list = nothing-whole
 
 -- ---- drafts that are begun
 

@@ -5,8 +5,7 @@ use Rattle.std.proofs.lemmas.List.{length-append, map_more}
 use Rattle.std.proofs.lemmas.List.Elements.{All-same}
 use Rattle.std.proofs.lemmas.Option.{same_Some, slice_get-get_or}
 use Rattle.std.specs.Prelude.{All}
-use Rattle.idl_env.specs.Facts.{UnitFacts, answers}
-use Rattle.idl_env.specs.keys.Key.{key_eq}
+use Rattle.idl_env.specs.Facts.{UnitFacts}
 use Rattle.idl_kept.proofs.Begins.{begins-within, count-unit_results, moved-begins, moved-first}
 use Rattle.idl_kept.proofs.Drafts.{at-last, last-more, last_texts, more-kept, other-same, with_more}
 use Rattle.idl_kept.proofs.Lists.{get-part, get-stays, part-next}
@@ -14,10 +13,9 @@ use Rattle.idl_kept.proofs.Roots.{block-comes, part-stays}
 use Rattle.idl_kept.proofs.Taking.{begins_long, begins_part, block-taken, inner-whole, more_begins, more_blocks, more_units, same-pieces, taken-begins, taken-blocks, units-whole}
 use Rattle.idl_kept.specs.Parts.{HasPart, inner_from}
 use Rattle.idl_kept.specs.Texts.{AreKept, AreWhole, BlockResult, DeclarationResult, IsLast, IsPlaced, IsTaken, IsWhole, RootTexts, Texts, begins_in, inner_results, moved, root_texts, unit_results, with_blocks, with_units, with_whole}
-use Rattle.idl_memo.specs.Kept.{IsSound}
 use Rattle.idl_root_blocks.specs.Blocks.{Pieces, cut, text_in}
 use Rattle.idl_root_blocks.specs.Finding.{blocks_in, texts_in}
-use Rattle.idl_root_blocks.specs.Places.{block_asks, block_at, block_result}
+use Rattle.idl_root_blocks.specs.Places.{block_at, block_result}
 use Rattle.idl_kept.specs.declared.parts.Part.{Part}
 use Rattle.idl_store.proofs.Reading.{grown-nothing}
 use Rattle.idl_store.proofs.StoredLaws.{grown-twice}
@@ -26,10 +24,6 @@ use Rattle.idl_store.specs.Stored.{Stored, grown, last_draft, last_of, list_at, 
 use Rattle.idl_store.specs.declared.numbers.Spot.{Spot}
 
 -- ---- a block that is left
-
--- what is kept of it came of its task
-pub sound : (before : List UnitFacts) (inside : Pieces) (kept : BlockResult) → kept ≡ block_result (block_at before inside) → IsSound key_eq block_asks kept
-sound before inside kept is = subst (IsSound key_eq block_asks) (sym is) (answers before, refl)
 
 module _ (texts : Texts) (are : AreKept texts) (kept : BlockResult) (begin : ℕ) (before : List UnitFacts) (inside : Pieces) (placed : IsPlaced before inside) (last : IsLast texts begin before inside)
     (result : kept ≡ block_result (block_at before inside)) where

@@ -1,6 +1,6 @@
 -- Lines of the joined text, and the numbers of their bytes' lines.
 use Rattle.std.proofs.Common.{◌≡◌, ◌∙◌, ◌<◌, ◌≤◌, ◌+◌, ◌-◌, ◌++◌, ℕ, zero, suc, Bool, true, false, if◌then◌else◌, List, [], ◌∷◌, append_assoc, drop, get_or, length, replicate, take, length-append, length-drop, refl, sym, ap, arith}
-use Rattle.std.proofs.lemmas.List.{drop_more, drop_all, drop-drop, length-replicate}
+use Rattle.std.proofs.lemmas.List.{drop_more, drop_all, length-replicate}
 use Rattle.idl_source.specs.texts.Line.{newline}
 use Rattle.idl_lex.specs.bytes.Text.{Placed, bytes_of, numbered, is_continued, front, joined}
 use Rattle.idl_lex.specs.tokens.Logical.{placed, line_at, joined_count, continued}
@@ -118,29 +118,9 @@ unfolding joined
 Begins-joined number bytes [] = record { last_number = number; text = Begins-last (is_continued bytes) number bytes refl }
 Begins-joined number bytes (next ∷ lines) = Begins-more (is_continued bytes) number bytes next lines refl (Begins-joined (number + 1) next lines)
 
--- the text from a line on, as far as it is joined, and from the next one on
-pub record BeginsAt (lines : List (List ℕ)) (i end : ℕ) : Type 0 where
-  pub last_number : ℕ
-  pub text : joined (i + 1) (drop i lines) ≡ continued (i + 1) (take (end - i) (drop i lines)) ++ record { byte = newline; line = last_number } ∷ joined (end + 1) (drop end lines)
-
 pub Begins-some : (number : ℕ) (lines : List (List ℕ)) → 0 < length lines → Begins number lines
 Begins-some number [] some = absurd (omega arith)
 Begins-some number (bytes ∷ lines) some = Begins-joined number bytes lines
-
-pub BeginsAt-joined : (lines : List (List ℕ)) (i end : ℕ) → i < length lines → end ≡ i + joined_count (drop i lines) → BeginsAt lines i end
-BeginsAt-joined lines i end lt is =
-    let begins = Begins-some (i + 1) (drop i lines) (omega (arith, length-drop i lines)) in
-    let count = joined_count (drop i lines) in
-    let size : count ≡ end - i = omega (arith, is) in
-    let number : i + 1 + count ≡ end + 1 = omega (arith, is) in
-    let past : drop count (drop i lines) ≡ drop end lines = drop-drop count i lines ∙ ap (λ k. drop k lines) (sym is) in
-    record {
-      last_number = begins.last_number;
-      text = begins.text
-          ∙ ap (λ n. continued (i + 1) (take count (drop i lines)) ++ record { byte = newline; line = begins.last_number } ∷ joined n (drop count (drop i lines))) number
-          ∙ ap (λ ls. continued (i + 1) (take count (drop i lines)) ++ record { byte = newline; line = begins.last_number } ∷ joined (end + 1) ls) past
-          ∙ ap (λ n. continued (i + 1) (take n (drop i lines)) ++ record { byte = newline; line = begins.last_number } ∷ joined (end + 1) (drop end lines)) size;
-    }
 
 pub joined-nil : (number : ℕ) → joined number [] ≡ []
 unfolding joined

@@ -172,11 +172,6 @@ module _ {K : Type 0} where
   slice_get-front (x ∷ ks) k q zero h = h
   slice_get-front (x ∷ ks) k q (suc i) h = slice_get-front ks k q i h
 
-  -- the last item
-  pub slice_get-last : (ks : List K) (k : K) → slice_get (ks ++ k ∷ []) (length ks) ≡ Some k
-  slice_get-last [] k = refl
-  slice_get-last (x ∷ ks) k = slice_get-last ks k
-
   -- an item is one before the last, or the last
   pub slice_get-push : (ks : List K) (k q : K) (i : ℕ) → slice_get (ks ++ k ∷ []) i ≡ Some q → (slice_get ks i ≡ Some q) ⊎ ((i ≡ length ks) × (k ≡ q))
   slice_get-push [] k q zero h = inr (refl, same_Some k q h)

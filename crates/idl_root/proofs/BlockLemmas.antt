@@ -6,7 +6,6 @@ use Rattle.std.proofs.lemmas.List.{length-append, map-append, take-append-drop}
 use Rattle.std.proofs.lemmas.List.Elements.{All-contains_itself, All-head, All-tail, All-weaker, Contains-append_left, Contains-append_right}
 use Rattle.std.proofs.lemmas.List.Folds.{flat_map-map}
 use Rattle.idl_root_blocks.specs.verdicts.Standing.{unit_asks}
-use Rattle.idl_root_blocks.specs.idl_check_laws.Closing.{AreTold}
 use Rattle.idl_env.specs.Facts.{UnitFacts}
 use Rattle.idl_env.specs.SameKey.{same_key}
 use Rattle.idl_env.specs.keys.Digested.{key_equiv}
@@ -163,10 +162,3 @@ keys-inside (other ∷ blocks) block keys more = refl
 pub keys-by : (blocks : List OpenBlock) (by : OpenBlock → OpenBlock) (keys more : ℕ) → keys_behind (map by blocks) keys more ≡ keys_behind blocks keys more
 keys-by [] by keys more = refl
 keys-by (block ∷ blocks) by keys more = refl
-
--- ---- no facts
-
--- they are told
-pub told-none : AreTold []
-told-none [] f back is = cc
-told-none (g ∷ front) f back is = cc

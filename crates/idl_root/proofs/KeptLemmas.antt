@@ -1,97 +1,27 @@
 -- What is kept of units, one after another: results at the end of the last draft, and counts.
 use Rattle.std.proofs.Common.{◌≡◌, ◌⊎◌, ℕ, ◌+◌, List, [], ◌∷◌, ◌++◌, map, refl, ap, sym, subst, ◌∙◌, append_assoc, inl, inr}
-use Rattle.std.proofs.lemmas.List.{map-append}
 use Rattle.idl_env.specs.Facts.{UnitFacts, answers}
 use Rattle.idl_memo.specs.Kept.{NoneAlikeAt, SomeAlikeAt}
 use Rattle.idl_store.specs.Stored.{Stored, grown, results_in}
 use Rattle.idl_memo.specs.declared.meter.Meter.{Meter}
 use Rattle.idl_memo.specs.declared.task.TaskKind.TheVariants.{Print}
-use Rattle.idl_root.proofs.StoredLemmas.{grown-grown, grown-none, grown-results}
+use Rattle.idl_root.proofs.StoredLemmas.{grown-grown, grown-results}
 use Rattle.idl_root.specs.Compared.{IsMetAt}
-use Rattle.idl_root.specs.Followed.{IsJudgedAt}
-use Rattle.idl_root.specs.Judged.{added}
-use Rattle.idl_root.specs.Places.{EntryPlace, declaration_at, declarations_after, entries_over}
-use Rattle.idl_root_blocks.specs.Places.{DeclarationPlace, declaration_result}
+use Rattle.idl_root.specs.Places.{EntryPlace, entries_over}
 use Rattle.idl_root.specs.Printed.{Listed}
-use Rattle.idl_root.specs.Results.{ChecksOnly, DeclarationResult, EntryResult, HasDraft, IsDeclarationPass, IsEntryPass, PrintsOnly, entry_result, mark_at, marks_of}
+use Rattle.idl_root.specs.Results.{ChecksOnly, EntryResult, HasDraft, IsEntryPass, PrintsOnly, entry_result, mark_at, marks_of}
 use Rattle.idl_root.specs.declared.kept.marks.Mark.{Mark}
 use Rattle.idl_unit.specs.declared.unit.Unit.{Unit as RootUnit}
-use Rattle.idl_unit.specs.declared.unit.Unit.TheVariants.{Spelled, Entered, Left, End}
 
 -- ---- units
-
--- no units have no declarations
-pub none-after : (facts : List UnitFacts) → declarations_after facts [] ≡ []
-unfolding declarations_after
-none-after facts = refl
-
--- the results of one unit, and of those behind it
-pub kept-more : (kept next : Stored DeclarationResult) (facts after : List UnitFacts) (u : RootUnit) (units : List RootUnit) → after ≡ facts ++ added facts u
-    → next ≡ grown kept (map declaration_result (declaration_at facts u))
-    → grown next (map declaration_result (declarations_after after units)) ≡ grown kept (map declaration_result (declarations_after facts (u ∷ units)))
-unfolding declarations_after
-kept-more kept next facts after u units is grows =
-    let own = declaration_at facts u in
-    let behind = declarations_after after units in
-    ap (λ k. grown k (map declaration_result behind)) grows
-    ∙ grown-grown kept (map declaration_result own) (map declaration_result behind)
-    ∙ ap (λ l. grown kept l) (sym (map-append declaration_result own behind))
-    ∙ ap (λ fs. grown kept (map declaration_result (own ++ declarations_after fs units))) is
 
 -- the marks of one, and of those behind it
 pub marks-more : (marks next : List Mark) (u : RootUnit) (units : List RootUnit) → next ≡ marks ++ mark_at u → next ++ marks_of units ≡ marks ++ marks_of (u ∷ units)
 marks-more marks next u units is = ap (λ l. l ++ marks_of units) is ∙ append_assoc marks (mark_at u) (marks_of units)
 
--- no other count rises
-checks-same : (old new : Meter) → new ≡ old → ChecksOnly old new
-checks-same old new h = subst (λ (n : Meter). n ≡ record old { checked = n.checked; compared = n.compared }) (sym h) refl
-
-pub checks-judged : (places : List DeclarationPlace) (results : List DeclarationResult) (old new : Meter) → IsJudgedAt places results old new → ChecksOnly old new
-checks-judged [] results old new h = checks-same old new h
-checks-judged (p ∷ places) results old new (inl (some, h)) = subst (λ (n : Meter). n ≡ record old { checked = n.checked; compared = n.compared }) (sym h) refl
-checks-judged (p ∷ places) results old new (inr (none, h)) = subst (λ (n : Meter). n ≡ record old { checked = n.checked; compared = n.compared }) (sym h) refl
-
+-- no other count rises with one more than with those behind it
 pub checks-more : (old between new : Meter) → ChecksOnly old between → ChecksOnly between new → ChecksOnly old new
 checks-more old between new a b = b ∙ ap (λ (m : Meter). record m { checked = new.checked; compared = new.compared }) a
-
-module _ (none : (old : List DeclarationResult) (count : ℕ) → IsDeclarationPass [] old old count count)
-    (one : (here : DeclarationPlace) (old new : List DeclarationResult) (before after : ℕ) → new ≡ old ++ declaration_result here ∷ []
-    → (SomeAlikeAt here old × (after ≡ before)) ⊎ (NoneAlikeAt here old × (after ≡ before + 1)) → IsDeclarationPass (here ∷ []) old new before after)
-    (both : (first second : List DeclarationPlace) (old between new : List DeclarationResult) (before at after : ℕ) → IsDeclarationPass first old between before at
-    → IsDeclarationPass second between new at after → IsDeclarationPass (first ++ second) old new before after)
-    (kept next : Stored DeclarationResult) (has : HasDraft kept) (old new : Meter)
-  where
-    pass-none : next ≡ grown kept [] → new ≡ old → IsDeclarationPass [] (results_in kept) (results_in next) old.checked new.checked
-    pass-none grows h =
-        subst (λ (s : Stored DeclarationResult). IsDeclarationPass [] (results_in kept) (results_in s) old.checked new.checked) (sym (grows ∙ grown-none kept))
-        (subst (λ (m : Meter). IsDeclarationPass [] (results_in kept) (results_in kept) old.checked m.checked) (sym h) (none (results_in kept) old.checked))
-
-    -- one unit is a pass over its declaration, if it is one
-    judged-pass : (facts : List UnitFacts) (u : RootUnit) → next ≡ grown kept (map declaration_result (declaration_at facts u))
-        → IsJudgedAt (declaration_at facts u) (results_in kept) old new
-        → IsDeclarationPass (declaration_at facts u) (results_in kept) (results_in next) old.checked new.checked
-    judged-pass facts (Spelled text sites) grows h =
-        let here : DeclarationPlace = (text, answers facts) in
-        let results : results_in next ≡ results_in kept ++ declaration_result here ∷ [] =
-        ap (λ (s : Stored DeclarationResult). results_in s) grows ∙ grown-results kept (declaration_result here ∷ []) has in
-        one here (results_in kept) (results_in next) old.checked new.checked results (elim h [
-          | inl some ↦ inl (some.0, ap (λ (m : Meter). m.checked) some.1)
-          | inr fresh ↦ inr (fresh.0, ap (λ (m : Meter). m.checked) fresh.1)
-        ])
-    judged-pass facts (Entered file inside) grows h = pass-none grows h
-    judged-pass facts (Left file inside) grows h = pass-none grows h
-    judged-pass facts End grows h = pass-none grows h
-
-    -- and with those behind it over theirs
-    pub judged-more : (facts after : List UnitFacts) (u : RootUnit) (units : List RootUnit) → after ≡ facts ++ added facts u
-        → next ≡ grown kept (map declaration_result (declaration_at facts u)) → IsJudgedAt (declaration_at facts u) (results_in kept) old new
-        → (end : List DeclarationResult) (total : ℕ) → IsDeclarationPass (declarations_after after units) (results_in next) end new.checked total
-        → IsDeclarationPass (declarations_after facts (u ∷ units)) (results_in kept) end old.checked total
-    unfolding declarations_after
-    judged-more facts after u units is grows h end total rest =
-        both (declaration_at facts u) (declarations_after (facts ++ added facts u) units) (results_in kept) (results_in next) end old.checked new.checked total
-        (judged-pass facts u grows h)
-        (subst (λ fs. IsDeclarationPass (declarations_after fs units) (results_in next) end new.checked total) is rest)
 
 -- ---- names
 

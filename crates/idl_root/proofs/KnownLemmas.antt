@@ -1,5 +1,5 @@
 -- Units of which the results are known, one after another.
-use Rattle.std.proofs.Common.{◌≡◌, ◌∙◌, arith, ℕ, suc, Bool, List, [], ◌∷◌, ◌++◌, append_assoc, flat_map, refl, sym, ap}
+use Rattle.std.proofs.Common.{◌≡◌, ◌∙◌, arith, ℕ, suc, List, [], ◌∷◌, ◌++◌, append_assoc, flat_map, refl, sym, ap}
 use Rattle.std.proofs.lemmas.List.Sums.{sum_by-cons}
 use Rattle.idl_env.specs.Facts.{UnitFacts}
 use Rattle.idl_event.specs.declared.told.site.Site.{Site}
@@ -17,7 +17,7 @@ use Rattle.idl_root.specs.declared.kept.marks.Mark.{Mark}
 use Rattle.idl_root.specs.declared.kept.marks.Mark.TheVariants.{Judged as JudgedMark, Entered as EnteredMark, Left as LeftMark}
 use Rattle.idl_root_blocks.specs.Finding.{one_text, texts_in}
 use Rattle.idl_root_blocks.specs.Units.{text_of}
-use Rattle.idl_root_blocks.specs.declared.text.BlockPart.TheVariants.{Text, Enters, Leaves}
+use Rattle.idl_root_blocks.specs.declared.text.BlockPart.TheVariants.{Text}
 use Rattle.idl_unit.specs.declared.unit.Unit.{Unit as RootUnit}
 use Rattle.idl_unit.specs.declared.unit.Unit.TheVariants.{Spelled, Entered, Left, End}
 use Rattle.idl_unit.specs.declared.unit.UnitText.{UnitText}
@@ -59,34 +59,3 @@ module _ (known behind : Known) (result : DeclarationResult) (first : (count : �
   judged-spelled o =
       units-more o (record { text = text; sites = sites; verdict = result.out }) (judged_beside units (known_results behind (texts_in (text_of units))))
       ∙ ap (λ (rs : List DeclarationResult). with_units o (judged_beside (Spelled text sites ∷ units) rs)) (sym known-spelled)
-
--- ---- a file boundary
-
-module _ (known : Known) (units : List RootUnit) where
-  texts-entered : (inside : Bool) → texts_in (Enters inside ∷ text_of units) ≡ texts_in (text_of units)
-  texts-entered inside = let more = sum_by-cons one_text (Enters inside) (text_of units) in omega (arith, more)
-
-  texts-left : (inside : Bool) → texts_in (Leaves inside ∷ text_of units) ≡ texts_in (text_of units)
-  texts-left inside = let more = sum_by-cons one_text (Leaves inside) (text_of units) in omega (arith, more)
-
-  pub added-entered : (facts : List UnitFacts) (inside : Bool)
-      → (facts ++ added_by (EnteredMark inside ∷ []) []) ++ added_by (marks_of units) (known_results known (texts_in (text_of units)))
-      ≡ facts ++ added_by (EnteredMark inside ∷ marks_of units) (known_results known (texts_in (Enters inside ∷ text_of units)))
-  added-entered facts inside =
-      append_assoc facts (added_by (EnteredMark inside ∷ []) []) (added_by (marks_of units) (known_results known (texts_in (text_of units))))
-      ∙ ap (λ n. facts ++ added_by (EnteredMark inside ∷ marks_of units) (known_results known n)) (sym (texts-entered inside))
-
-  pub added-left : (facts : List UnitFacts) (inside : Bool)
-      → (facts ++ added_by (LeftMark inside ∷ []) []) ++ added_by (marks_of units) (known_results known (texts_in (text_of units)))
-      ≡ facts ++ added_by (LeftMark inside ∷ marks_of units) (known_results known (texts_in (Leaves inside ∷ text_of units)))
-  added-left facts inside =
-      append_assoc facts (added_by (LeftMark inside ∷ []) []) (added_by (marks_of units) (known_results known (texts_in (text_of units))))
-      ∙ ap (λ n. facts ++ added_by (LeftMark inside ∷ marks_of units) (known_results known n)) (sym (texts-left inside))
-
-  pub judged-entered : (o : Outcome) (inside : Bool) → with_units o (judged_beside units (known_results known (texts_in (text_of units))))
-      ≡ with_units o (judged_beside units (known_results known (texts_in (Enters inside ∷ text_of units))))
-  judged-entered o inside = ap (λ n. with_units o (judged_beside units (known_results known n))) (sym (texts-entered inside))
-
-  pub judged-left : (o : Outcome) (inside : Bool) → with_units o (judged_beside units (known_results known (texts_in (text_of units))))
-      ≡ with_units o (judged_beside units (known_results known (texts_in (Leaves inside ∷ text_of units))))
-  judged-left o inside = ap (λ n. with_units o (judged_beside units (known_results known n))) (sym (texts-left inside))

@@ -90,9 +90,6 @@ until-more events units ends i n e there next unit end is =
     ∙ ap (λ l. there ++ declared_until events l (e ∷ es)) (sym (drop-at1 units i n unit))
     ∙ ap (λ l. there ++ declared_until events (drop i units) l) (sym (drop-at1 ends i e end))
 
-pub until-end : (events : List Event) (ends : List NamedUnit) (there : List PlacedName) → there ++ declared_until events [] ends ≡ there
-until-end events ends there = append-nil there
-
 -- what comes of the items from one of these on
 pub items-more : {A B : Type 0} (f : A → List B) (items : List A) (i : ℕ) (x : A) (there next : List B)
     → slice_get items i ≡ Some x → next ≡ there ++ f x → next ++ flat_map f (drop (i + 1) items) ≡ there ++ flat_map f (drop i items)

@@ -104,19 +104,6 @@ marks-joined pieces others = ap marks_in (text-joined pieces others) ∙ map-app
 
 -- ---- what is compared
 
-pub known-joined : (known : Known) (pieces others : Pieces) (facts : List UnitFacts)
-    → with_pieces known facts (joined pieces others) ≡ with_pieces (with_pieces known facts pieces) (facts_over facts (text_in pieces)) others
-known-joined known Nothing others facts = ap (λ (k : Known). with_pieces k facts others) (sym (pieces-none known facts))
-known-joined known (Loose part pieces) others facts =
-    let over : List UnitFacts = facts_over facts (part ∷ []) in
-    pieces-loose known facts part (joined pieces others)
-    ∙ known-joined (with_part known facts part) pieces others over
-    ∙ (λ i. with_pieces (sym (pieces-loose known facts part pieces) i) (sym (facts-first part (text_in pieces) facts) i) others)
-known-joined known (Block inside pieces) others facts =
-    pieces-block known facts inside (joined pieces others)
-    ∙ known-joined (with_block known facts inside) pieces others (facts_behind facts inside)
-    ∙ (λ i. with_pieces (sym (pieces-block known facts inside pieces) i) (sym (facts-inside inside pieces facts) i) others)
-
 pub compared-none : (known : Known) (facts : List UnitFacts) → compared (met_over known facts Nothing) ≡ 0
 unfolding met_over
 compared-none known facts = refl

@@ -42,16 +42,6 @@ pub units-only : {T E : Type 0} (result : Result T E) (old new : Texts) (more : 
 units-only (Ok t) old new more ok err = subst (λ n. UnitsOnly old n) (sym ok) refl
 units-only (Err e) old new more ok err = subst (λ n. UnitsOnly old n) (sym err) refl
 
--- and so the declarations grow, or stay
-pub units-grown : {T E : Type 0} (result : Result T E) (old new : Texts) (more : List DeclarationResult) → OnOk result (new ≡ with_units old more) → OnOk result (new.declarations ≡ grown old.declarations more)
-units-grown (Ok t) old new more ok = ap (λ (x : Texts). x.declarations) ok
-units-grown (Err e) old new more ok = tt
-
-pub units-lists : {T E : Type 0} (result : Result T E) (old new : Texts) (more : List DeclarationResult) → OnOk result (new ≡ with_units old more) → OnErr result (new ≡ old)
-    → new.declarations.lists ≡ old.declarations.lists
-units-lists (Ok t) old new more ok err = ap (λ (x : Texts). x.declarations.lists) ok
-units-lists (Err e) old new more ok err = ap (λ (x : Texts). x.declarations.lists) err
-
 -- of what is found
 pub found-weaker : {R E : Type 0} (result : Result (Option R) E) (P Q : R → Type 0) → ((r : R) → P r → Q r) → IfOk result (λ found. IfSome found P) → IfOk result (λ found. IfSome found Q)
 found-weaker (Ok None) P Q more is = tt
@@ -130,8 +120,3 @@ module _ {K V T O : Type 0} (kind : TaskKind) (place : Place K V T) (here : Kept
       | inl some ↦ absurd (other (ap (λ (m : Meter). count_of kind m) some.1))
       | inr fresh ↦ inr (fresh.0, fresh.1)
     ]
-
--- the lists stay as they are
-pub lists-kept : {X T E : Type 0} (result : Result T E) (old new : Stored X) (more : List X) → OnOk result (new ≡ grown old more) → OnErr result (new ≡ old) → new.lists ≡ old.lists
-lists-kept (Ok t) old new more ok err = λ i. (ok i).lists
-lists-kept (Err e) old new more ok err = λ i. (err i).lists

@@ -217,9 +217,3 @@ pub record AreInStep (lists : List (List DeclarationResult)) (earlier : Course)
 abbrev pub IsKeeping : List (List DeclarationResult) → Keeping → List UnitFacts → Type 0
 IsKeeping lists keeping facts =
     AreInStep lists keeping.earlier keeping.following keeping.blocks facts
-
--- a declaration is obtained at the place, if there is one
-abbrev pub IsJudgedAt : List DeclarationPlace → List DeclarationResult → Meter → Meter → Type 0
-IsJudgedAt [] results old new = new ≡ old
-IsJudgedAt (place ∷ places) results old new =
-    IsMetAt place (declaration_result place) Check results old new

@@ -33,14 +33,6 @@ module _ (b : HeldBlock) where
     all-more [] = append-nil (noted_in new) ∙ noted ∙ ap (λ es. es ++ more) (sym (append-nil (noted_in b)))
     all-more (x ∷ around) = ap (λ es. noted_in x ++ es) (all-more around) ∙ sym (append_assoc (noted_in x) (flat_map noted_in (around ++ b ∷ [])) more)
 
-  -- a block that has noted the same is seen as it is
-  pub seen-same : (new : HeldBlock) → new.text ≡ b.text → new.start ≡ b.start → noted_in new ≡ noted_in b → (around : List HeldBlock)
-      → seen_blocks (around ++ new ∷ []) ≡ seen_blocks (around ++ b ∷ [])
-  seen-same new text start noted [] = λ i. record { text = text i; start = start i; log = entries_before (start i) (noted i ++ []) } ∷ []
-  seen-same new text start noted (x ∷ around) =
-      let all : flat_map noted_in (around ++ new ∷ []) ≡ flat_map noted_in (around ++ b ∷ []) = all-more new [] (noted ∙ sym (append-nil (noted_in b))) around ∙ append-nil (flat_map noted_in (around ++ b ∷ [])) in
-      λ i. seen x (noted_in x ++ all i) ∷ seen-same new text start noted around i
-
   -- an entry more in it is one in each of them
   pub seen-dated : (new : HeldBlock) (e : Dated Key Answer) → new.text ≡ b.text → new.start ≡ b.start → noted_in new ≡ noted_in b ++ e ∷ [] → (around : List HeldBlock)
       → seen_blocks (around ++ new ∷ []) ≡ map (with_dated e) (seen_blocks (around ++ b ∷ []))

@@ -1,6 +1,5 @@
 -- Ranges of lines, and of tokens.
-use Rattle.std.proofs.Common.{◌≡◌, ◌≤◌, ◌∙◌, ℕ, zero, suc, ◌+◌, All, List, [], ◌∷◌, ap, arith, length, min, pred, refl, sym, take, ⊎_elim}
-use Rattle.std.proofs.lemmas.Bool.{cases_lt}
+use Rattle.std.proofs.Common.{◌≡◌, ◌≤◌, ◌∙◌, ℕ, zero, suc, ◌+◌, All, List, [], ◌∷◌, ap, arith, length, pred, refl, sym, take}
 use Rattle.std.proofs.lemmas.List.{take_all}
 use Rattle.std.specs.List.{slice_get, sum_by}
 use Rattle.std.specs.Option.{unwrap_or}
@@ -9,7 +8,7 @@ use Rattle.idl_inputs.specs.WithinLimits.{IsAllowedFile}
 use Rattle.idl_editor.specs.declared.change.Range.{Range}
 use Rattle.idl_editor.specs.declared.column.Encoding.{Encoding}
 use Rattle.idl_editor.specs.declared.position.Position.{Position}
-use Rattle.idl_editor.specs.Places.{line_range, position_behind, position_in, range_between, returns}
+use Rattle.idl_editor.specs.Places.{line_range, position_behind, position_in, returns}
 
 -- a line of a file, and one that isn't there
 abbrev line_at : List (List ℕ) → ℕ → List ℕ
@@ -29,16 +28,6 @@ position-past : (encoding : Encoding) (lines : List (List ℕ)) (number n m : �
 position-past encoding lines zero n m a b = refl
 position-past encoding lines (suc at) n m a b = ap (λ bytes. position_behind encoding (at + sum_by returns (take at lines)) bytes) (take-past (line_at lines at) n m a b)
 
--- so a column may be cut where no line goes on
-pub position-cut : (encoding : Encoding) (lines : List (List ℕ)) (number n most : ℕ) → IsAllowedFile lines → longest_line ≤ most → position_in encoding lines number (min n most) ≡ position_in encoding lines number n
-position-cut encoding lines number n most allowed le =
-    let short = short-line lines (pred number) allowed.long in
-    ⊎_elim
-    (λ over. let is : min n most ≡ most = omega (arith, over) in
-    position-past encoding lines number (min n most) n (omega (arith, short, is, le)) (omega (arith, short, le, over)))
-    (λ within. let is : min n most ≡ n = omega (arith, within) in ap (λ m. position_in encoding lines number m) is)
-    (cases_lt most n)
-
 -- ranges by their ends
 range-of_ends : (range : Range) (start end : Position) → range.start ≡ start → range.end ≡ end → range ≡ record { start = start; end = end }
 range-of_ends range start end a b = ap (λ s. made s range.end) a ∙ ap (λ e. made start e) b
@@ -52,9 +41,3 @@ line-range encoding lines number past range allowed le start end =
     let short = short-line lines (pred number) allowed.long in
     range-of_ends range (position_in encoding lines number 0) (position_in encoding lines number (length (line_at lines (pred number)))) start
     (end ∙ position-past encoding lines number past (length (line_at lines (pred number))) (omega (arith, short, le)) (omega arith))
-
-pub token-range : (encoding : Encoding) (lines : List (List ℕ)) (number column end past most : ℕ) (range : Range) → IsAllowedFile lines → longest_line ≤ most → past ≡ min end most
-    → range.start ≡ position_in encoding lines number column → range.end ≡ position_in encoding lines number past → range ≡ range_between encoding lines number column end
-token-range encoding lines number column end past most range allowed le is start stop =
-    range-of_ends range (position_in encoding lines number column) (position_in encoding lines number end) start
-    (stop ∙ ap (λ n. position_in encoding lines number n) is ∙ position-cut encoding lines number end most allowed le)

@@ -1,6 +1,6 @@
 -- Roots, one after another, and names that are gathered.
 use Rattle.std.proofs.Common.{◌≡◌, ◌⊎◌, ◌∙◌, ◌+◌, ◌<◌, ◌≤◌, ℕ, All, Bool, ◌||◌, true, false, cond, List, [], ◌∷◌, ◌++◌, None, Some, arith, get_or, if◌then◌else◌, inl, inr, length, refl, slice_get, sym, ap, subst, take}
-use Rattle.std.proofs.lemmas.List.{take_all, take_more}
+use Rattle.std.proofs.lemmas.List.{take_more}
 use Rattle.std.proofs.lemmas.List.Elements.{All-cons, All-nil, All-push}
 use Rattle.std.proofs.lemmas.Option.{get_or_from_slice_get, slice_get_cases}
 use Rattle.std.specs.Cmp.Lexicographic.{nat_list_eq_equiv}
@@ -34,16 +34,6 @@ roots-more roots at root names is made = by (slice_get_cases roots at).1
     by (inr w) =
         let both : Some root ≡ None = sym is ∙ w.1 in
         absurd (cc)
-
--- all roots
-pub roots-all : (roots : List (List ℕ)) (at : ℕ) (names : List (List ℕ)) → slice_get roots at ≡ None → names ≡ take at roots → names ≡ roots
-roots-all roots at names none made = by (slice_get_cases roots at).1
-  where
-    by : Found roots at → names ≡ roots
-    by (inl w) =
-        let both : Some w.0 ≡ None = sym w.2 ∙ none in
-        absurd (cc)
-    by (inr w) = made ∙ take_all at roots w.0
 
 or-right : (a b : Bool) → b ≡ true → (a || b) ≡ true
 or-right true b h = refl

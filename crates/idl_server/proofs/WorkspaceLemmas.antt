@@ -160,16 +160,6 @@ open-kept old new kept = record {
   roots = adds-none old.session.project new.session.project (λ i. (kept.session i).project.roots);
 }
 
-pub beside-same : (name : List ℕ) (w : Workspace) → StaysBeside name w w
-beside-same name w = record {
-  set = set-same w;
-  documents = λ other apart. refl;
-  files = λ other apart. refl;
-  tried = λ other apart. refl;
-  unread = λ other apart. refl;
-  roots = λ other root. root;
-}
-
 pub beside-both : (name : List ℕ) (a b c : Workspace) → StaysBeside name a b → StaysBeside name b c → StaysBeside name a c
 beside-both name a b c first second = record {
   set = set-both a b c first.set second.set;
@@ -422,9 +412,6 @@ kept-stays old mid new kept stays = record {
   tried = stays.tried ∙ kept.tried;
   unread = stays.unread ∙ kept.unread;
 }
-
-pub kept-filed : (old new : Workspace) → IsKept old new → StaysFiled old new
-kept-filed old new kept = stays-kept old old new (session-same old old.session refl) kept
 
 -- edits that are refused, of which one is passed over
 pub put-passed : (told : List ℕ → Holding) (old : Workspace) (s : State) (mid new : Workspace) → s ≡ old.session → StaysCompiled (record old { session = s }) mid

@@ -45,10 +45,6 @@ pub led_by_all-one : (last : List ℕ) (path : Path) → All (λ b. eqb b 47 ≡
 unfolding led_by_all
 led_by_all-one last path none = ap (λ (l : List (List ℕ)). led_by_all l path) (slice_split_none (λ b. eqb b 47) last none)
 
-pub slashed-append : (a b : List (List ℕ)) → slashed (a ++ b) ≡ slashed a ++ slashed b
-slashed-append [] b = refl
-slashed-append (s ∷ a) b = ap (λ (l : List ℕ). 47 ∷ (s ++ l)) (slashed-append a b) ∙ ap (λ (l : List ℕ). 47 ∷ l) (sym (append_assoc s (slashed a) (slashed b)))
-
 -- the text only grows
 pub led_by-longer : (segment : List ℕ) (path : Path) → length (slashed path.down) ≤ length (slashed (led_by segment path).down)
 led_by-longer segment path =

@@ -6,15 +6,14 @@ use Rattle.std.specs.List.{cons_option, filter_map, remove}
 use Rattle.std.specs.Option.{option_map}
 use Rattle.std.specs.declared.rc.Rc.{Rc}
 use Rattle.std.proofs.lemmas.Bool.{cases_eq}
-use Rattle.std.proofs.lemmas.Grind.{flat_map-append}
-use Rattle.std.proofs.lemmas.List.{append-nil, drop-map, get_or-map, length-map, map-append, take-map}
+use Rattle.std.proofs.lemmas.List.{drop-map, get_or-map, length-map, map-append, take-map}
 use Rattle.std.proofs.lemmas.List.Elements.{All-cons, All-contains, All-contains_itself, All-nil, All-same, All-weaker}
 use Rattle.slab.specs.Slab.{Slab, get}
 use Rattle.idl_store.specs.Buckets.{AddsOne}
 use Rattle.idl_memo.specs.Kept.{Kept, IsSound}
 use Rattle.idl_store.specs.Numbers.{AreFewer, AreMore, AreUsed, IsIndexOf, IsSoundAt, IsPut, IsStored, joined, kept_at, lists_of, valued_at, result_of, shown, times, uses_of, valued, with_bucket}
 use Rattle.idl_memo.specs.Query.{Query}
-use Rattle.idl_store.specs.Stored.{Stored, begun, grown, results_in, results_of_drafts, with_results}
+use Rattle.idl_store.specs.Stored.{Stored, grown, results_in, results_of_drafts, with_results}
 use Rattle.idl_store.specs.declared.numbers.Used.{Used}
 use Rattle.idl_store.proofs.Shown.{results_in-shown, shown-same}
 use Rattle.idl_store.proofs.Times.{times-append, times-remove, times-with_results, times_first}
@@ -104,18 +103,6 @@ module _ {K V T O X : Type 0} {eq : K → K → Bool} {query : T → Query K V X
           let is : r.0.value ≡ x = cc in
           subst P is (All-contains (λ e. P e.0.0) index (k, n) all ((stored.indexed n k).1 at))
 
-  -- a draft more without results
-  pub stored-begun : (at : ℕ) → IsStored eq query bucket used index (begun numbers at)
-  stored-begun at = record {
-    counted = λ n. stored.counted n ∙ ap (λ xs. times n (joined numbers.lists ++ xs)) (sym more);
-    needed = stored.needed;
-    indexed = stored.indexed;
-    sound = stored.sound;
-  }
-    where
-      more : results_of_drafts (numbers.drafts ++ (at, []) ∷ []) ≡ results_of_drafts numbers.drafts
-      more = flat_map-append (λ d. d.1) numbers.drafts ((at, []) ∷ []) ∙ append-nil (results_of_drafts numbers.drafts)
-
   module _ (new : Slab (Used (Rc (Kept K V T O) Global))) where
     -- more numbers of results that are kept
     pub stored-again : (ns : List ℕ) → AreMore used new (results_of_drafts numbers.drafts) (results_of_drafts (with_results numbers.drafts ns)) → IsStored eq query bucket new index (grown numbers ns)
@@ -188,9 +175,6 @@ module _ {K V T O X : Type 0} {eq : K → K → Bool} {query : T → Query K V X
 
           here : valued_at new n ≡ Some (r.value, bucket r.value)
           here = ap (λ o. option_map valued (option_map with_bucket o)) put.changed
-
-          uses_at : Option (Used (Rc (Kept K V T O) Global)) → ℕ
-          uses_at o = elim o [ None ↦ 0 | Some u ↦ u.uses ]
 
           all_times : (m : ℕ) → times m (results_in (grown numbers (n ∷ []))) ≡ times m (results_in numbers) + times m (n ∷ [])
           all_times m = omega (arith, times-append m (joined numbers.lists) (results_of_drafts numbers.drafts), times-append m (joined numbers.lists) (results_of_drafts (with_results numbers.drafts (n ∷ []))), times-with_results m numbers.drafts (n ∷ []) some)

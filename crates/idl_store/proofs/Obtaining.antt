@@ -17,7 +17,7 @@ use Rattle.idl_store.specs.Spots.{result_on}
 use Rattle.idl_store.specs.declared.numbers.Spot.{Spot}
 use Rattle.idl_store.proofs.Shown.{shown-grown, shown-same}
 use Rattle.idl_store.proofs.Spotted.{result-on_number}
-use Rattle.idl_store.proofs.Changing.{all-in, found-in, found-result, shown-still, stored-again, stored-kept, stored-put}
+use Rattle.idl_store.proofs.Changing.{all-in, found-in, found-result, shown-still, stored-kept, stored-put}
 
 -- a clause on what is obtained, from its fact
 pub on_ok : {X Y P : Type 0} (r : Result X Y) → P → OnOk r P
@@ -52,9 +52,6 @@ module _ {K V T O X : Type 0} {eq : K → K → Bool} {query : T → Query K V X
     again-some P (Some spot) h = tt
 
     module _ (new : Slab (Used (Rc (Kept K V T O) Global))) (more : AreMore used new (results_of_drafts numbers.drafts) (results_of_drafts (with_results numbers.drafts (number ∷ [])))) where
-      pub again-stored : IsStored eq query bucket new index (grown numbers (number ∷ []))
-      again-stored = stored-again stored new (number ∷ []) more
-
       pub again-shown : shown (result_of new) (grown numbers (number ∷ [])) ≡ grown (shown (result_of used) numbers) (k ∷ [])
       again-shown =
           shown-same (result_of used) (result_of new) (grown numbers (number ∷ [])) (λ n there. ap (option_map (λ (r : Rc (Kept K V T O) Global × ℕ). r.0.value)) (more.kept n))

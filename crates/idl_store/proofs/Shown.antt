@@ -5,7 +5,7 @@ use Rattle.std.proofs.lemmas.List.Elements.{filter_map-append}
 use Rattle.std.specs.List.{cons_option, filter_map, flat_map, fold, slice_get}
 use Rattle.std.specs.Prelude.{IsSome, is_some}
 use Rattle.idl_store.specs.Numbers.{joined, shown, times}
-use Rattle.idl_store.specs.Stored.{Stored, begun, committed, grown, item_at, list_at, placed, removed, results_in, results_of_drafts, with_results}
+use Rattle.idl_store.specs.Stored.{Stored, committed, grown, item_at, list_at, placed, removed, results_in, results_of_drafts, with_results}
 use Rattle.idl_store.proofs.Times.{times-append, times-drop, times_first}
 
 module _ {X : Type 0} (of : ℕ → Option X) where
@@ -23,9 +23,6 @@ module _ {X : Type 0} (of : ℕ → Option X) where
 
   pub shown-grown : (s : Stored ℕ) (n : ℕ) (x : X) → of n ≡ Some x → shown of (grown s (n ∷ [])) ≡ grown (shown of s) (x ∷ [])
   shown-grown s n x h = shown-grown_all s (n ∷ []) ∙ ap (λ o. grown (shown of s) (cons_option o [])) h
-
-  pub shown-begun : (s : Stored ℕ) (at : ℕ) → shown of (begun s at) ≡ begun (shown of s) at
-  shown-begun s at = ap (λ ds. record { lists = map (filter_map of) s.lists; drafts = ds }) (map-append draft_shown s.drafts ((at, []) ∷ []))
 
   placed_by : (lists : List (List ℕ)) (d : ℕ × List ℕ) (b : Bool) → map (filter_map of) (cond b (set lists d.0 d.1) (lists ++ d.1 ∷ [])) ≡ cond b (set (map (filter_map of) lists) d.0 (filter_map of d.1)) (map (filter_map of) lists ++ filter_map of d.1 ∷ [])
   placed_by lists d true = map-set (filter_map of) lists d.0 d.1

@@ -1,5 +1,5 @@
 -- Results under numbers: one that is used less, goes or comes.
-use Rattle.std.proofs.Common.{◌≡◌, ◌≢◌, ◌⊎◌, ◌↔◌, ℕ, ◌+◌, ◌<◌, ◌≤◌, true, false, List, [], ◌∷◌, ◌++◌, Option, Some, None, cond, refl, sym, ap, ◌∙◌, subst, arith, inl, inr, nat_eq, length, add-zero, drop, get_or, take}
+use Rattle.std.proofs.Common.{◌≡◌, ◌≢◌, ◌⊎◌, ◌↔◌, ℕ, ◌+◌, ◌<◌, ◌≤◌, true, false, List, [], ◌∷◌, ◌++◌, Option, Some, None, cond, refl, sym, ap, ◌∙◌, subst, arith, inl, inr, nat_eq, length, drop, get_or, take}
 use Rattle.std.specs.Prelude.{All, Contains, IsSome, is_some}
 use Rattle.std.specs.Global.{Global}
 use Rattle.std.specs.Option.{option_map}
@@ -33,61 +33,6 @@ times_one n = by (eqb_tells n n)
     by : ((nat_eq n n ≡ true) × (n ≡ n)) ⊎ ((nat_eq n n ≡ false) × (n ≢ n)) → times n (n ∷ []) ≡ 1
     by (inl h) = ap (λ b. cond b 1 0 + 0) h.0
     by (inr h) = absurd (h.1 refl)
-
-module _ {R : Type 0} (old new : Slab (Used R)) (number : ℕ) (u : Used R) (here : get old number ≡ Some u) (others : (n : ℕ) → n ≢ number → get new n ≡ get old n) where
-  abbrev uses_at : Option (Used R) → ℕ
-  uses_at o = elim o [ None ↦ 0 | Some u ↦ u.uses ]
-
-  -- a use less
-  module _ (m : ℕ) (left : get new number ≡ Some (record { result = u.result; uses = m; bucket = u.bucket })) where
-    kept_left : (n : ℕ) → kept_at new n ≡ kept_at old n
-    kept_left n = by (cases_eq n number)
-      where
-        by : (n ≡ number) ⊎ (n ≢ number) → kept_at new n ≡ kept_at old n
-        by (inl e) = rw e (ap (option_map with_bucket) left ∙ sym (ap (option_map with_bucket) here))
-        by (inr e) = ap (option_map with_bucket) (others n e)
-
-    pub fewer_left : m + 1 ≡ u.uses → AreFewer old new (number ∷ [])
-    fewer_left less = record { uses = λ n. by n (cases_eq n number); kept = λ n some. kept_left n }
-      where
-        by : (n : ℕ) → (n ≡ number) ⊎ (n ≢ number) → uses_of new n + times n (number ∷ []) ≡ uses_of old n
-        by n (inl e) = rw e (omega (arith, ap uses_at left, ap uses_at here, times_one number, less))
-        by n (inr e) = omega (arith, ap uses_at (others n e), times_other n number e)
-
-    pub used_left : 0 < m → AreUsed old → AreUsed new
-    used_left some used n there = by (cases_eq n number)
-      where
-        by : (n ≡ number) ⊎ (n ≢ number) → 0 < uses_of new n
-        by (inl e) = rw e (omega (arith, ap uses_at left, some))
-        by (inr e) =
-            let was : IsSome (get old n) = subst IsSome (others n e) there in
-            omega (arith, ap uses_at (others n e), used n was)
-
-  -- the last use
-  module _ (gone : get new number ≡ None) where
-    pub fewer_gone : u.uses ≡ 1 → AreFewer old new (number ∷ [])
-    fewer_gone one = record { uses = λ n. by n (cases_eq n number); kept = λ n some. kept_by n some (cases_eq n number) }
-      where
-        by : (n : ℕ) → (n ≡ number) ⊎ (n ≢ number) → uses_of new n + times n (number ∷ []) ≡ uses_of old n
-        by n (inl e) = rw e (omega (arith, ap uses_at gone, ap uses_at here, times_one number, one))
-        by n (inr e) = omega (arith, ap uses_at (others n e), times_other n number e)
-
-        kept_by : (n : ℕ) → 0 < uses_of new n → (n ≡ number) ⊎ (n ≢ number) → kept_at new n ≡ kept_at old n
-        kept_by n some (inl e) =
-            let none : uses_of new n ≡ 0 = rw e (ap uses_at gone) in
-            absurd (omega (arith, none, some))
-        kept_by n some (inr e) = ap (option_map with_bucket) (others n e)
-
-    pub used_gone : AreUsed old → AreUsed new
-    used_gone used n there = by (cases_eq n number)
-      where
-        by : (n ≡ number) ⊎ (n ≢ number) → 0 < uses_of new n
-        by (inl e) =
-            let none : get new n ≡ None = rw e gone in
-            absurd (cc)
-        by (inr e) =
-            let was : IsSome (get old n) = subst IsSome (others n e) there in
-            omega (arith, ap uses_at (others n e), used n was)
 
 -- a number is that of one result
 pub indexed-alone : {K V T O : Type 0} (used : Slab (Used (Rc (Kept K V T O) Global))) (index : List ((Kept K V T O × ℕ) × ℕ)) (number : ℕ) → IsIndexOf used index → (e f : (Kept K V T O × ℕ) × ℕ) → Contains index e → Contains index f → e.1 ≡ number → f.1 ≡ number → e ≡ f
@@ -177,11 +122,7 @@ module _ {K V T O : Type 0} (old new : Slab (Used (Rc (Kept K V T O) Global))) w
 -- ---- uses given up one after another
 
 module _ {R : Type 0} where
-  -- none
-  pub fewer-none : (used : Slab (Used R)) → AreFewer used used []
-  fewer-none used = record { uses = λ n. add-zero (uses_of used n); kept = λ n some. refl }
-
-  -- and more
+  -- some, and then others
   pub fewer-then : (old mid new : Slab (Used R)) (first second : List ℕ) → AreFewer old mid first → AreFewer mid new second → AreFewer old new (first ++ second)
   fewer-then old mid new first second before after = record {
     uses = λ n. omega (arith, before.uses n, after.uses n, times-append n first second);
@@ -232,11 +173,7 @@ more-written {R} old number u uses before after here more parts = record { uses 
 -- ---- uses that come one after another
 
 module _ {R : Type 0} where
-  -- none
-  pub more-none : (used : Slab (Used R)) → AreMore used used [] []
-  more-none used = record { uses = λ n. refl; kept = λ n. refl }
-
-  -- and more
+  -- some, and then others
   pub more-then : (old mid new : Slab (Used R)) (first second : List ℕ) → AreMore old mid [] first → AreMore mid new [] second → AreMore old new [] (first ++ second)
   more-then old mid new first second before after = record {
     uses = λ n. omega (arith, before.uses n, after.uses n, times-append n first second);
@@ -249,15 +186,6 @@ module _ {R : Type 0} where
     uses = λ n. omega (arith, more.uses n, parts n);
     kept = more.kept;
   }
-
-  -- what was kept is kept
-  pub still-kept : (old new : Slab (Used R)) (before after : List ℕ) (n : ℕ) → AreMore old new before after → IsSome (get old n) → IsSome (get new n)
-  still-kept old new before after n more there = by (get old n) (get new n) (more.kept n) there
-    where
-      by : (o p : Option (Used R)) → option_map with_bucket p ≡ option_map with_bucket o → IsSome o → IsSome p
-      by None p same some = absurd (cc)
-      by (Some u) None same some = absurd (cc)
-      by (Some u) (Some v) same some = refl
 
 -- the results of drafts, and of the next one
 pub drafted-more : (ds : List (ℕ × List ℕ)) (i : ℕ) (d : ℕ × List ℕ) → i < length ds → d ≡ get_or ds i d → results_of_drafts (take (i + 1) ds) ≡ results_of_drafts (take i ds) ++ d.1

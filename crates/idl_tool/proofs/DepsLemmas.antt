@@ -1,6 +1,5 @@
 -- Rules of roots, one after another.
-use Rattle.std.proofs.Common.{◌≡◌, ◌∙◌, ◌+◌, ◌-◌, ◌<◌, ◌++◌, ◌∷◌, [], ℕ, ◌||◌, All, Bool, IsTrue, List, MatchOption, None, Option, Some, ap, ap₂, codes, drop, filter, flat_map, get_or, length, map, refl, sym, take, unwrap_or, if◌then◌else◌, true, false}
-use Rattle.std.specs.Str.{bytes_eq}
+use Rattle.std.proofs.Common.{◌≡◌, ◌∙◌, ◌+◌, ◌-◌, ◌<◌, ◌++◌, ◌∷◌, [], ℕ, ◌||◌, All, Bool, IsTrue, List, ap, ap₂, filter, flat_map, get_or, length, map, refl, sym, take, if◌then◌else◌, true, false}
 use Rattle.std.proofs.lemmas.List.{append-nil, take_more}
 use Rattle.std.proofs.lemmas.List.Concat.{flat_map-append}
 use Rattle.std.proofs.lemmas.List.Elements.{All-cons, All-filter, All-head, All-nil, All-tail}
@@ -16,7 +15,7 @@ use Rattle.idl_inputs.specs.Project.{Inputs}
 use Rattle.idl_driver.specs.idl_project.declared.compile.CompiledRoot.{CompiledRoot}
 use Rattle.idl_driver.specs.Compiled.{errors_in, is_faulty, lines_of}
 use Rattle.idl_driver.specs.Rows.{are_faulty, lines_with}
-use Rattle.idl_tool.specs.Deps.{empty_rule, is_other, is_there, need_of, needs_in, needs_of, rules_for, rules_in, stem, target_of}
+use Rattle.idl_tool.specs.Deps.{empty_rule, is_other, is_there, need_of, needs_in, needs_of, rules_for, rules_in, target_of}
 use Rattle.idl_tool.specs.declared.request.Deps.{Deps}
 
 pub rules_text-append : (xs ys : List Rule) → rules_text (xs ++ ys) ≡ rules_text xs ++ rules_text ys
@@ -39,13 +38,6 @@ pub ending-of : (inputs : Inputs) (roots : List (List ℕ)) (compiled : List Com
     → are_faulty compiled ≡ is_faulty inputs roots
 ending-of inputs roots compiled rows =
     ap are_faulty rows ∙ sym (list_any-map (λ (r : CompiledRoot). r.rows.is_faulty) (compiled_root inputs) roots)
-
--- a name without its end, by what a test of it found
-pub stem-of : (name : List ℕ) (found : Option (List ℕ))
-    → MatchOption found (bytes_eq (drop (length name - 4) name) (codes ".idl") ≡ false) (λ x. (bytes_eq (drop (length name - 4) name) (codes ".idl") ≡ true) × (x ≡ take (length name - 4) name))
-    → unwrap_or found name ≡ stem name
-stem-of name None is = sym (ap (λ b. if b then take (length name - 4) name else name) is)
-stem-of name (Some x) is = is.1 ∙ sym (ap (λ b. if b then take (length name - 4) name else name) is.0)
 
 -- make can read the rules of a root where it can read the target and what the root asks for
 abbrev Readable : List ℕ → Type 0

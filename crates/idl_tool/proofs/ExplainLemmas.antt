@@ -18,9 +18,6 @@ topics_in-append (e ∷ es) fs = ap (λ ts. topic_of e.told ∷ ts) (topics_in-a
 lines_of-append : (es fs : List Explanation) → lines_of (es ++ fs) ≡ lines_of es ++ lines_of fs
 lines_of-append es fs = flat_map-append (λ (e : Explanation). headline e (codes "TOKEN")) es fs
 
-pub listed-none : (text : List ℕ) → AreListed [] text text
-listed-none text = ([], refl, sym (append-nil text))
-
 -- lines of some topics, and then of others
 pub listed-both : (ts us : List Topic) (before mid after : List ℕ) → AreListed ts before mid → AreListed us mid after → AreListed (ts ++ us) before after
 listed-both ts us before mid after first second =

@@ -1,6 +1,6 @@
 -- Where a unit of tokens ends, token by token.
 use Rattle.std.proofs.Common.{◌≡◌, ◌≢◌, ◌∙◌, ℕ, zero, suc, ◌+◌, ◌-◌, ◌<◌, ◌≤◌, Bool, true, false, cond, not, ◌&&◌, ◌||◌, List, [], ◌∷◌, ◌++◌, length, take, drop, get_or, ◌⊎◌, inl, inr, refl, sym, ap, arith, append_assoc, take-append-drop}
-use Rattle.std.proofs.lemmas.List.{drop_all, drop_more, take_all, take_more}
+use Rattle.std.proofs.lemmas.List.{drop_more, take_more}
 use Rattle.std.proofs.lemmas.Bool.{ne_eqb, eq-eqb}
 use Rattle.std.specs.Prelude.{count_by, fold}
 use Rattle.idl_lex.specs.tokens.Tokens.{Token}
@@ -147,16 +147,6 @@ before : (tokens : List Token) (i : ℕ) (t : Token) → IsAt tokens i t → IsP
     → token_units tokens ≡ take i tokens ∷ token_units (drop i tokens)
 before tokens i t at cut some end = cut ∙ pending-end ends (take i tokens) (drop i tokens) some (ap (ends (take i tokens)) at.next ∙ end)
 
--- it goes to the end of the tokens
-pub to_end : (tokens : List Token) (i : ℕ) → i ≡ length tokens → 0 < length tokens → IsPending tokens i
-    → token_units tokens ≡ take i tokens ∷ token_units (drop i tokens)
-to_end [] i is lt cut = absurd (omega arith)
-to_end (t ∷ tokens) i is lt cut =
-    let all : take i (t ∷ tokens) ≡ t ∷ tokens = take_all i (t ∷ tokens) (omega arith) in
-    let none : drop i (t ∷ tokens) ≡ [] = drop_all i (t ∷ tokens) (omega arith) in
-    cut ∙ pending-end ends (take i (t ∷ tokens)) (drop i (t ∷ tokens)) (λ e. cc (sym all ∙ e))
-    (ap (ends (take i (t ∷ tokens))) none ∙ ends-end (take i (t ∷ tokens)))
-
 whole-rule : (tokens : List Token) (i : ℕ) (t : Token) (rule : Rule) → rule_of tokens ≡ rule → IsAt tokens i t → rule_of (take i tokens ++ t ∷ drop (i + 1) tokens) ≡ rule
 whole-rule tokens i t rule is at = ap rule_of at.whole ∙ is
 
@@ -197,17 +187,6 @@ heading-through tokens i t is at h none end =
     ∙ ap (λ b. is_empty rest || begins closes rest || b || ends_in is_semicolon unit) (ends_in-more opens (take i tokens) t)
     ∙ ap (λ b. is_empty rest || begins closes rest || opens (role t) || b) (ends_in-more is_semicolon (take i tokens) t)
     ∙ or-three (is_empty rest) (begins closes rest) (opens (role t)) (is_semicolon (role t)) (or-two (opens (role t)) (is_semicolon (role t)) end))
-
--- `}`
-pub heading-before : (tokens : List Token) (i : ℕ) (t : Token) → rule_of tokens ≡ Heading → IsAt tokens i t → IsHeadingTo tokens i → closes (role t) ≡ true
-    → (token_units tokens ≡ take i tokens ∷ token_units (drop i tokens)) × (0 < i)
-heading-before tokens i t is at h close =
-    let l = later tokens i t Heading is (λ e. cc) at close in (
-      before tokens i t at h.cut l.1
-          (ends-rule Heading (take i tokens) (t ∷ drop (i + 1) tokens) (whole-rule tokens i t Heading is at)
-          ∙ ap (λ b. b || ends_in opens (take i tokens) || ends_in is_semicolon (take i tokens)) close),
-      l.0,
-    )
 
 -- another token
 pub heading-step : (tokens : List Token) (i : ℕ) (t : Token) → rule_of tokens ≡ Heading → IsAt tokens i t → IsHeadingTo tokens i → closes (role t) ≡ false

@@ -2,7 +2,7 @@
 use Rattle.std.proofs.Common.{◌≡◌, ◌∙◌, ℕ, ◌+◌, ◌<◌, ◌≤◌, Bool, true, false, cond, List, [], ◌∷◌, ◌++◌, length, map, drop, Option, None, Some, refl, sym, ap, arith}
 use Rattle.std.specs.Prelude.{count_by, fold, nat_eq, nat_lt, ⊤}
 use Rattle.std.proofs.lemmas.Bool.{or_from, and_left, and_right, le-ltb, ne_eqb, cond-false}
-use Rattle.std.proofs.lemmas.List.Sums.{sum_by-cons, count_by-le-length}
+use Rattle.std.proofs.lemmas.List.Sums.{sum_by-cons}
 use Rattle.idl_fault.specs.Code.{number_of}
 use Rattle.idl_fault.specs.declared.code.Code.{Code}
 use Rattle.idl_fault.specs.declared.code.Code.TheVariants.{MixedWidths, LeftOut, NestedTooDeep, LikeKeyword}
@@ -134,10 +134,6 @@ pub record IsWalked (unit : List Token) (index : ℕ) (state : TokenContext) : T
   pub second : first (drop 1 before) ≡ state.second
   pub opened : count_by nests before ≡ state.opened
   pub closed : count_by unnests before ≡ state.closed
-
-pub opened-le : (unit : List Token) (index : ℕ) (state : TokenContext) → IsWalked unit index state → (state.opened ≤ index) × (state.closed ≤ index)
-opened-le unit index state w =
-    (omega (arith, count_by-le-length nests w.before, w.opened, w.count), omega (arith, count_by-le-length unnests w.before, w.closed, w.count))
 
 count-cons : (p : TokenKind → Bool) (kind : TokenKind) (kinds : List TokenKind) → count_by p (kind ∷ kinds) ≡ cond (p kind) 1 0 + count_by p kinds
 count-cons p kind kinds = sum_by-cons (λ k. cond (p k) 1 0) kind kinds

@@ -1,6 +1,5 @@
 -- A walk from the left comes to the first fault, and to the value.
-use Rattle.std.proofs.Common.{◌≡◌, ◌∙◌, ℕ, ◌+◌, ◌<◌, ◌≤◌, suc, List, [], ◌∷◌, Option, None, Some, Result, Ok, Err, length, drop, get_or, add-one, zero, pos, negsuc, true, false, if◌then◌else◌, refl, sym, ap, arith}
-use Rattle.std.proofs.Math.Seq.{drop-cons}
+use Rattle.std.proofs.Common.{◌≡◌, ◌∙◌, ℕ, ◌≤◌, suc, [], ◌∷◌, Option, None, Some, Result, Ok, Err, length, zero, pos, negsuc, true, false, if◌then◌else◌, refl, ap, arith}
 use Rattle.idl_tree.specs.Expression.{spell_literal}
 use Rattle.idl_tree.specs.declared.expression.Expression.{Expression}
 use Rattle.idl_tree.specs.declared.expression.UnaryOperator.{UnaryOperator}
@@ -17,9 +16,6 @@ use Rattle.idl_value.specs.declared.constant_type.ConstantType.TheVariants as ta
 use Rattle.idl_value.specs.declared.value.Value.{Value}
 use Rattle.idl_value.specs.declared.value.Value.TheVariants as value
 use Rattle.idl_value.specs.declared.walk.Passed.{Passed}
-
-from_here : {X : Type 0} (xs : List X) (i : ℕ) (x : X) → i < length xs → x ≡ get_or xs i x → drop i xs ≡ x ∷ drop (i + 1) xs
-from_here xs i x h e = rw add-one (drop-cons xs i x h ∙ ap (λ y. y ∷ drop (suc i) xs) (sym e))
 
 -- what is told, and the place
 abbrev pub first_read : Read → Walked

@@ -235,9 +235,6 @@ module _ (bank : Key → Option Answer) where
       abbrev scope_of_body : ℕ → Scope
       scope_of_body body = record { path = new_path; kind = kind; body = body }
 
-      asked_path : (path : List (List ℕ)) → Option Answer → Option Answer → Asking (Option Answer)
-      asked_path path count cursor = cond (path_eq path (nameless_path count cursor)) (Done (Some (Count 1))) (a.answers (Opened path))
-
       new_by : (path : List (List ℕ)) (b : Bool)
           → outcome (cond b (Done (Some (Count 1))) (a.answers (Opened path))) bank ≡ cond b (Some (Count 1)) (w.answers (Opened path))
       new_by path true = refl
@@ -314,9 +311,6 @@ module _ (bank : Key → Option Answer) where
     pub completed-some : (e : Entity) (answer : Option Answer) → entity_in answer ≡ Some e → outcome (completed a answer) bank ≡ Some (Known (closed w e))
     completed-some e answer is = by (entity_in answer) is
       where
-        complete : Entity → List (List (List ℕ)) → Option Answer
-        complete e found = Some (Known (record (closed w e) { operations = found ++ innermost a.inside }))
-
         by : (o : Option Entity) → o ≡ Some e
             → outcome (elim o as (λ _. Asking (Option Answer)) [ None ↦ Done answer | Some f ↦ mapped (λ found. Some (Known (record f { stage = (closed w f).stage; operations = found ++ innermost a.inside }))) (inheriting a f.bases) ]) bank
             ≡ Some (Known (closed w e))

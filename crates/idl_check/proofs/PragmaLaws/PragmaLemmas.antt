@@ -7,12 +7,11 @@ use Rattle.idl_check.specs.walk.Held.{named_at, named_by, said_of, spoken}
 use Rattle.idl_tree.specs.NameParts.{last_at}
 use Rattle.idl_check.specs.tables.Rules.{has_id, is_fixed, is_given, is_id}
 use Rattle.idl_check.specs.ids.About.{Said, about, about_entity, refused_for, repeated, said_at, unnamed_faults, with_faults}
-use Rattle.idl_check.specs.ids.Pragmas.{said, said_by, text_faults}
+use Rattle.idl_check.specs.ids.Pragmas.{said, text_faults}
 use Rattle.idl_check.specs.walk.Verdict.{faulty, pragma_verdict}
 use Rattle.idl_check.specs.declared.ids.about.Named.{Named}
 use Rattle.idl_check.specs.declared.walk.verdict.Verdict.{Verdict}
 use Rattle.idl_fault.specs.declared.code.Code.TheVariants.{BadIdText, NoRepositoryId, RepeatedId, RepeatedVersion}
-use Rattle.idl_lex.specs.tokens.Tokens.{Token}
 use Rattle.idl_memo.specs.Query.{Done, and_then}
 use Rattle.idl_memo.proofs.QueryLaws.{run-and_then_at}
 use Rattle.idl_scope.specs.Known.{known}
@@ -158,12 +157,3 @@ id-spoken bank turns scopes name text log s after h =
     let more : Said → Said = with_faults (text_faults (last_at 2 name + 1) text) in
     spoken-by bank turns scopes (pragma.Id name text) log (more s) after
     (sym (run-and_then_at key_eq (about 2 turns scopes name (Id text)) (λ s. Done (more s)) bank log s after h))
-
--- ---- the steps of a pragma's verdict
-
-abbrev judged_by : ℕ → List Token → List Scope → Option Fault → Option Pragma → Lookup Verdict
-judged_by turns tokens scopes o p =
-    elim o [
-      | Some fault ↦ Done (faulty fault Stays)
-      | None ↦ and_then (said_by turns scopes p) (λ s. Done (pragma_verdict s))
-    ]

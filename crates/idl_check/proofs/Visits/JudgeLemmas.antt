@@ -7,10 +7,9 @@ use Rattle.idl_check.proofs.Faults.LeastFault.{least-none}
 use Rattle.idl_memo.specs.Query.{Ask, Done, Tell, and_then}
 use Rattle.idl_memo.proofs.QueryLaws.{run-and_then_at}
 use Rattle.idl_check.proofs.Visits.VisitLemmas.{runs_over}
-use Rattle.idl_check.specs.walk.Placing.{faulty_step, opening_faults, step_of}
-use Rattle.idl_check.specs.walk.Verdict.{asking, by_names, by_tree, faulty, first_faults, judged, refused, sound, token_verdict, tree_of}
+use Rattle.idl_check.specs.walk.Placing.{opening_faults, step_of}
+use Rattle.idl_check.specs.walk.Verdict.{asking, by_names, by_tree, first_faults, judged, refused, sound, token_verdict, tree_of}
 use Rattle.idl_check.specs.walk.Walk.{Walk, walk}
-use Rattle.idl_check.specs.declared.walk.verdict.Verdict.{Verdict}
 use Rattle.idl_fault.specs.declared.code.Code.TheVariants.{NoTree}
 use Rattle.idl_lex.specs.tokens.Tokens.{Token}
 use Rattle.idl_env.specs.Facts.{path_around, UnitFacts}
@@ -19,8 +18,6 @@ use Rattle.idl_scope.specs.Lookup.{Lookup, under}
 use Rattle.idl_env.specs.declared.answering.answer.Answer.{Answer}
 use Rattle.idl_env.specs.declared.answering.answer.Scope.{Scope}
 use Rattle.idl_env.specs.declared.keys.key.Key.{Key}
-use Rattle.idl_env.specs.declared.keys.key.Key.TheVariants.{Nameless}
-use Rattle.idl_entity.specs.declared.kind.Kind.{Kind}
 use Rattle.idl_parts.specs.Item.{items, items_length}
 use Rattle.idl_parts.specs.UnitParts.{unit_parts}
 use Rattle.idl_parts.proofs.UnitSpelling.{counted, unit_spells}
@@ -42,15 +39,6 @@ pub under-none : {A : Type 0} (q : Lookup A) → under [] q ≡ q
 under-none (Done a) = refl
 under-none (Ask k next) = λ i. Ask k (λ v. under-none (next v) i)
 under-none (Tell x q) = ap (Tell x) (under-none q)
-
-module _ (bank : Key → Option Answer) (tokens : List Token) where
-  -- a faulty unit, by what it would open
-  abbrev refused_by : Fault → Option Kind → Lookup Verdict
-  refused_by fault o =
-      elim o [
-        | None ↦ Done (faulty fault (faulty_step tokens))
-        | Some kind ↦ Ask Nameless (λ count. Done (faulty fault (faulty_step tokens)))
-      ]
 
 -- the least of faults, with one more
 fold-more : (f g : Fault) (faults : List Fault) → fold lesser_fault f (faults ++ g ∷ []) ≡ lesser_fault (fold lesser_fault f faults) g

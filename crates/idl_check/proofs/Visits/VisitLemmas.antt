@@ -1,6 +1,6 @@
 -- Runs of a walk and of its sites.
 use Rattle.std.proofs.Common.{◌≡◌, ◌∙◌, ℕ, true, false, cond, List, [], ◌∷◌, Option, None, Some, Result, Ok, Err, refl, sym, ap, ◌+◌, ◌≤◌, arith}
-use Rattle.std.specs.Prelude.{Bool, OnOk, slice_get}
+use Rattle.std.specs.Prelude.{Bool, slice_get}
 use Rattle.idl_memo.specs.Query.{Done, and_then, run}
 use Rattle.idl_memo.proofs.QueryLaws.{run-and_then, run-and_then_at}
 use Rattle.idl_check.specs.walk.Held.{cut_noted, head_noted, used_noted, visited, spoken_noted}
@@ -40,11 +40,6 @@ turns-here facts own turns h = omega (arith, h)
 pub first-at : {A : Type 0} (xs : List A) → first xs ≡ slice_get xs 0
 first-at [] = refl
 first-at (x ∷ xs) = refl
-
--- what always holds, holds on success
-pub OnOk-always : {T E P : Type 0} (r : Result T E) → P → OnOk r P
-OnOk-always (Ok x) p = p
-OnOk-always (Err e) p = tt
 
 -- a name that is cut, by whether it begins with `::`, and by the parts behind its first
 abbrev pub cut_by : ℕ → Use → ScopedName → Walk → Bool → List (List ℕ) → Lookup Visit

@@ -1,10 +1,7 @@
 -- What comes of a site whole, and of the walk's visit of it.
-use Rattle.std.proofs.Common.{◌≡◌, ◌∙◌, ℕ, ◌≤◌, Bool, true, false, cond, List, [], ◌∷◌, ◌++◌, map, Option, None, Some, refl, sym, ap, arith}
-use Rattle.std.proofs.lemmas.List.Elements.{All-append, All-cons, All-nil, All-weaker}
-use Rattle.std.specs.Prelude.{All}
-use Rattle.idl_check.specs.walk.AllFaults.{evaluation_faults, first_token, placed_at, site_faults, whole_visit}
+use Rattle.std.proofs.Common.{◌≡◌, ◌∙◌, ℕ, Bool, true, false, cond, List, [], ◌∷◌, ◌++◌, Option, None, Some, refl, sym, ap}
+use Rattle.idl_check.specs.walk.AllFaults.{evaluation_faults, first_token, site_faults, whole_visit}
 use Rattle.idl_check.specs.tables.Declaring.{entity_of, standing}
-use Rattle.idl_check.specs.walk.Judging.{spoken_from, spoken_till}
 use Rattle.idl_check.specs.walk.Sections.{is_single}
 use Rattle.idl_check.specs.walk.Walk.{Visit, Walk, begin_of, declared_visit, evaluation_at, is_repeated, value_visit, visit, turns_at}
 use Rattle.idl_fault.specs.declared.code.Code.TheVariants.{RepeatedLabel}
@@ -24,7 +21,7 @@ use Rattle.idl_unit.specs.TokenRules.{fault_at, first}
 use Rattle.idl_unit.specs.declared.fault.Fault.{Fault}
 use Rattle.idl_value.specs.Evaluation.{Evaluation, Faulty, Valued, first_of}
 use Rattle.idl_value.specs.declared.outcome.Outcome.TheVariants as comes
-use Rattle.idl_check.proofs.Visits.SiteLaws.{IsFrom, IsPlaced, Within, begin_before, declared_by, end_visit, spoken-begin, union_visit, any-begins, visit-placed, visited}
+use Rattle.idl_check.proofs.Visits.SiteLaws.{declared_by, end_visit, union_visit, any-begins, visited}
 use Rattle.idl_check.proofs.Faults.VisitFaults.{visit_faults}
 use Rattle.idl_check.proofs.Visits.WalkLaws.{none-append}
 
@@ -62,64 +59,6 @@ module _ (turns : ℕ) (answers : Key → Option Answer) where
   unfolding visit
   single-same (item.ValueEnds way e) w single = cc
   single-same other w single = refl
-
--- ---- none stands before the expression in which a walk is
-
--- what comes of a site after this walk
-record IsBehind (w : Walk) (v : Visit) : Type 0 where
-  begins : begin_of w ≤ begin_of v.after
-  from : All (IsFrom (begin_of w)) v.faults
-
-placed-behind : (site : Item) (w : Walk) (v : Visit) → IsPlaced site w v → IsBehind w v
-placed-behind site w v p = record {
-  begins = p.begins;
-  from = All-weaker (Within (spoken_from site w) (spoken_till site w)) (IsFrom (begin_of w)) (λ f h. omega (arith, h.0, spoken-begin site w)) v.faults p.within;
-}
-
-first-behind : (o : Option ℕ) (at : ℕ) → begin_before o at ≤ elim o [ None ↦ at | Some b ↦ b ]
-first-behind None at = omega arith
-first-behind (Some b) at = omega arith
-
-repeated-from : (w : Walk) (b : Bool) → All (IsFrom (begin_of w)) (cond b (fault_at (first_token w) RepeatedLabel ∷ []) [])
-repeated-from w true = All-cons (IsFrom (begin_of w)) (fault_at (first_token w) RepeatedLabel) [] (first-behind w.values.begin w.at) (All-nil (IsFrom (begin_of w)))
-repeated-from w false = All-nil (IsFrom (begin_of w))
-
-evaluation-from : (w : Walk) (way : Purpose) (x : Evaluation) → All (IsFrom (begin_of w)) (evaluation_faults w way x)
-evaluation-from w way (Valued v) = repeated-from w (is_repeated w way v)
-evaluation-from w way (Faulty []) = All-nil (IsFrom (begin_of w))
-evaluation-from w way (Faulty (f ∷ fs)) =
-    let le = first-behind w.values.begin w.at in
-    All-cons (IsFrom (begin_of w)) (placed_at (first_token w) f) (map (placed_at (first_token w)) fs) (omega (arith, le)) (evaluation-from w way (Faulty fs))
-
-module _ (turns : ℕ) (answers : Key → Option Answer) where
-  by-visit : (site : Item) (w : Walk) → IsBehind w (visited turns answers site w)
-  by-visit site w = placed-behind site w (visited turns answers site w) (visit-placed turns answers site w)
-
-  whole-behind : (site : Item) (w : Walk) → IsBehind w (whole_visit turns answers site w)
-  whole-behind (item.Plain n) w = by-visit (item.Plain n) w
-  whole-behind (item.Declares way name) w = by-visit (item.Declares way name) w
-  whole-behind (item.Uses way name) w = by-visit (item.Uses way name) w
-  whole-behind (item.Says purpose text) w = by-visit (item.Says purpose text) w
-  whole-behind item.ValueBegins w = by-visit item.ValueBegins w
-  whole-behind (item.ValueEnds way e) w =
-      record { begins = (by-visit (item.ValueEnds way e) w).begins; from = evaluation-from w way (evaluation_at w way e) }
-  whole-behind (item.ScopeBegins way name) w = by-visit (item.ScopeBegins way name) w
-  whole-behind item.ScopeEnds w = by-visit item.ScopeEnds w
-  whole-behind (item.TypeEnds shape) w = by-visit (item.TypeEnds shape) w
-  whole-behind item.ArrayEnds w = by-visit item.ArrayEnds w
-  whole-behind (item.Enumerates names) w = by-visit (item.Enumerates names) w
-  whole-behind (item.Identifies text) w = by-visit (item.Identifies text) w
-  whole-behind (item.Switches discrete) w = by-visit (item.Switches discrete) w
-  whole-behind item.Default w = by-visit item.Default w
-  whole-behind item.GivesBack w = by-visit item.GivesBack w
-
-  pub whole-from : (sites : List Item) (w : Walk) → All (IsFrom (begin_of w)) (site_faults turns answers sites w)
-  whole-from [] w = All-nil (IsFrom (begin_of w))
-  whole-from (site ∷ sites) w =
-      let v = whole_visit turns answers site w in
-      let p = whole-behind site w in
-      All-append (IsFrom (begin_of w)) v.faults (site_faults turns answers sites v.after) p.from
-      (All-weaker (IsFrom (begin_of v.after)) (IsFrom (begin_of w)) (λ f h. omega (arith, h, p.begins)) (site_faults turns answers sites v.after) (whole-from sites v.after))
 
 -- ---- without fault it is the same whole
 

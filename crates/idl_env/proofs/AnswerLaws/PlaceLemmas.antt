@@ -1,5 +1,5 @@
 -- The items of a list by their places.
-use Rattle.std.proofs.Common.{◌≡◌, ℕ, zero, suc, ◌+◌, ◌-◌, ◌<◌, List, [], ◌∷◌, Some, None, length, take, drop, get_or, map, refl, sym, ap, ◌∙◌, arith, add-one, length-drop}
+use Rattle.std.proofs.Common.{◌≡◌, ℕ, zero, suc, ◌+◌, ◌-◌, ◌<◌, List, [], ◌∷◌, Some, None, length, take, drop, get_or, refl, sym, ap, ◌∙◌, arith, add-one, length-drop}
 use Rattle.std.specs.Prelude.{slice_get}
 use Rattle.std.proofs.Math.Seq.{drop-cons}
 use Rattle.std.proofs.lemmas.List.{take_all}
@@ -32,7 +32,3 @@ module _ {A : Type 0} where
   -- all behind the first
   pub behind_first : (xs : List A) → take (length xs - 1) (drop 1 xs) ≡ drop 1 xs
   behind_first xs = take_all (length xs - 1) (drop 1 xs) (simp length-drop (omega arith))
-
--- what is at a place of a list that a function made
-pub slice_get-map : {A B : Type 0} (f : A → B) (xs : List A) (i : ℕ) (y : B) → slice_get (map f xs) i ≡ Some y → drop i (map f xs) ≡ y ∷ drop (suc i) (map f xs)
-slice_get-map f xs i y h = drop-at (map f xs) i y h

@@ -123,9 +123,3 @@ closes_at-some w (x ∷ []) s outer h stamps = cc
 closes_at-some w (x ∷ t ∷ more) s outer h stamps =
     let same : (x, t ∷ more) ≡ (s, outer) = same_Some (x, t ∷ more) (s, outer) h in
     λ i. stamped (λ k. key_eq k PrefixKey || (key_eq k Cursor || is_added (closing w (same i).0) k)) stamps
-
--- and where none does, at none
-pub closes_at-none : (w : World) (scopes : List Scope) → closable scopes ≡ None → (stamps : Stamps) → stamped (closes_at w scopes) stamps ≡ stamps
-closes_at-none w [] h stamps = refl
-closes_at-none w (x ∷ []) h stamps = refl
-closes_at-none w (x ∷ t ∷ more) h stamps = cc

@@ -3,19 +3,14 @@ use Rattle.std.proofs.Common.{◌≡◌, ◌∙◌, ◌++◌, ℕ, ◌+◌, ◌<
 use Rattle.std.proofs.lemmas.Bool.{false≢true, eqb-true}
 use Rattle.idl_lex.proofs.TokensLemmas.{EndsAt, piece_of, piece_of-cons, tokens_after-piece_of}
 use Rattle.idl_lex.proofs.KindLaws.WordLemmas.{further-plain, unpaired}
-use Rattle.idl_lex.specs.bytes.Context.{beginning_after, context_after, is_include}
-use Rattle.idl_lex.specs.kinds.Kind.{kind_of, kind_of_mark, unmarked_kind}
+use Rattle.idl_lex.specs.bytes.Context.{context_after, is_include}
 use Rattle.idl_lex.specs.tokens.Lexer.{ended, is_open}
 use Rattle.idl_lex.specs.tokens.Logical.{line_at}
-use Rattle.idl_lex.specs.kinds.Marks.{is_lone_mark, marks, mark_kind}
+use Rattle.idl_lex.specs.kinds.Marks.{is_lone_mark}
 use Rattle.idl_lex.specs.bytes.Scan.{start_of, taken, further}
 use Rattle.idl_lex.specs.bytes.Text.{Placed, bytes_of}
 use Rattle.idl_lex.specs.tokens.Tokens.{token_if, token_of, tokens_after}
-use Rattle.idl_lex.specs.kinds.Word.{is_word}
-use Rattle.idl_lex.specs.declared.bytes.context.Beginning.TheVariants.{Nothing, Hash, Other}
 use Rattle.idl_lex.specs.declared.bytes.context.Context.{Context}
-use Rattle.idl_lex.specs.declared.kinds.kind.Defect.TheVariants.{UnknownByte}
-use Rattle.idl_lex.specs.declared.kinds.kind.TokenKind.TheVariants.{Bad}
 
 -- the lone marks
 record Lone (P : ℕ → Type 0) : Type 0 where
@@ -44,35 +39,6 @@ one_of P lone b h =
     (either P b 123 _ (nat_eq b 123) refl lone.open_brace
     (either P b 44 (nat_eq b 59) (nat_eq b 44) refl lone.comma
     (λ e. subst P (sym (eqb-true b 59 e)) lone.semicolon))))))) h
-
--- it is no word
-pub is_word-lone : (b : ℕ) → is_lone_mark b ≡ true → is_word (b ∷ []) ≡ false
-is_word-lone b h = one_of (λ b. is_word (b ∷ []) ≡ false)
-    (record { semicolon = refl; comma = refl; open_brace = refl; close_brace = refl; open_parenthesis = refl; close_parenthesis = refl; open_bracket = refl; close_bracket = refl }) b h
-
--- what it counts as
-pub kind_of-lone : (b : ℕ) → is_lone_mark b ≡ true → kind_of (b ∷ []) ≡ kind_of_mark (mark_kind (b ∷ [])) b []
-unfolding kind_of marks
-kind_of-lone b h = one_of (λ b. kind_of (b ∷ []) ≡ kind_of_mark (mark_kind (b ∷ [])) b [])
-    (record { semicolon = refl; comma = refl; open_brace = refl; close_brace = refl; open_parenthesis = refl; close_parenthesis = refl; open_bracket = refl; close_bracket = refl }) b h
-
-pub unmarked_kind-lone : (b : ℕ) → is_lone_mark b ≡ true → unmarked_kind b [] ≡ Bad UnknownByte
-unmarked_kind-lone b h = one_of (λ b. unmarked_kind b [] ≡ Bad UnknownByte)
-    (record { semicolon = refl; comma = refl; open_brace = refl; close_brace = refl; open_parenthesis = refl; close_parenthesis = refl; open_bracket = refl; close_bracket = refl }) b h
-
--- how a line begins with it
-pub beginning_after-nothing : (b : ℕ) → is_lone_mark b ≡ true → Other ≡ beginning_after Nothing (b ∷ [])
-beginning_after-nothing b h = one_of (λ b. Other ≡ beginning_after Nothing (b ∷ []))
-    (record { semicolon = refl; comma = refl; open_brace = refl; close_brace = refl; open_parenthesis = refl; close_parenthesis = refl; open_bracket = refl; close_bracket = refl }) b h
-
-pub beginning_after-hash : (b : ℕ) → is_lone_mark b ≡ true → Other ≡ beginning_after Hash (b ∷ [])
-beginning_after-hash b h = one_of (λ b. Other ≡ beginning_after Hash (b ∷ []))
-    (record { semicolon = refl; comma = refl; open_brace = refl; close_brace = refl; open_parenthesis = refl; close_parenthesis = refl; open_bracket = refl; close_bracket = refl }) b h
-
--- what stands before a place behind it
-pub context_after-lone : (c : Context) (b : ℕ) → is_lone_mark b ≡ true → record { beginning = beginning_after c.beginning (b ∷ []); follows_word = false } ≡ context_after c (b ∷ [])
-context_after-lone c b h = one_of (λ b. ◌≡◌ {A = Context} (record { beginning = beginning_after c.beginning (b ∷ []); follows_word = false }) (context_after c (b ∷ [])))
-    (record { semicolon = refl; comma = refl; open_brace = refl; close_brace = refl; open_parenthesis = refl; close_parenthesis = refl; open_bracket = refl; close_bracket = refl }) b h
 
 -- the longest piece that begins with it
 lone-taken : (bs : List ℕ) → Lone (λ b. taken (start_of b) bs ≡ 0)

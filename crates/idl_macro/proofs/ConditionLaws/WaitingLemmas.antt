@@ -42,11 +42,6 @@ pub meaning-prefix : (es : List Waiting) (s : Sign) (v : Value) (c : Chain) (t :
 unfolding meaning
 meaning-prefix es s v c t = refl
 
-pub IsComplete-other : (e : Waiting) (es : List Waiting) → ((s : Sign) → e ≢ Prefix s) → IsComplete (e ∷ es)
-IsComplete-other (Infix a o) es ne = tt {0}
-IsComplete-other (Prefix s) es ne = absurd (ne s refl)
-IsComplete-other Parenthesis es ne = tt {0}
-
 pub IsComplete-above : (es : List Waiting) (r : ℕ) → IsAbove es r → IsComplete es
 IsComplete-above [] r above = above
 IsComplete-above (Infix a o ∷ es) r above = tt {0}

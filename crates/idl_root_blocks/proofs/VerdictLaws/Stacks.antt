@@ -205,9 +205,6 @@ module _ (w : World) (settled_there : IsSettled w) (kept : AreKept w) where
     blank = record { names = λ n m scope least small. kept.blank.names n m scope (omega (arith, least)) small; scopes = among };
   }
     where
-      c : ℕ
-      c = count_in (w.answers Nameless)
-
       path : Place
       path = nameless (count_in (w.answers Nameless)) ∷ path_around (scopes_in (w.answers Cursor))
 

@@ -49,11 +49,6 @@ module _ (own : List Addition) (bank : Key → Option Answer) where
   walk_end zero n at queue found log h = refl
   walk_end (suc turns) n at queue found log h = ap (λ o. runs (elim o [ None ↦ Done found | Some b ↦ and_then (entered n b) (λ r. walk turns n (at + 1) (joined queue r.1) (found ++ option_to_list r.0)) ]) log) h
 
-  -- and one out of turns
-  pub walk_out : (n : List ℕ) (at : ℕ) (queue : List (List (List ℕ))) (found : List Entity) (log : List (Key × Option Answer)) → runs (walk 0 n at queue found) log ≡ (found, log)
-  unfolding walk
-  walk_out n at queue found log = refl
-
   -- one more base
   pub walk_on : (turns : ℕ) (n : List ℕ) (at : ℕ) (queue : List (List (List ℕ))) (found : List Entity) (log : List (Key × Option Answer)) (b : List (List ℕ)) (r : Option Entity × List (List (List ℕ))) (after : List (Key × Option Answer))
       → slice_get queue at ≡ Some b → (r, after) ≡ runs (entered n b) log

@@ -92,10 +92,6 @@ member_is_no_label (Some (Word word.Case)) h = absurd cc
 member_is_no_label (Some (Word word.Default)) h = absurd cc
 member_is_no_label _ h = refl
 
-label_goes_on : (t : Option Lexeme) → begins_label t ≡ true → goes_on t ≡ true
-label_goes_on (Some (Punctuation mark.CloseBrace)) h = absurd cc
-label_goes_on _ h = refl
-
 -- ---- the claims by which the induction goes
 
 pub record IsConstructionAgain (c : Construction) : Type 0 where

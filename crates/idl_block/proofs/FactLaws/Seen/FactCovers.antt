@@ -96,12 +96,6 @@ pub declared-adds : (answers : Key → Option Answer) (k : Key) (e : Entity) (ad
 declared-adds answers k e [] found = cc
 declared-adds answers k e (x ∷ additions) found = by (declared-adds answers k e additions) (key_eq k (key_of x)) (is_stopped answers x) refl refl found
   where
-    rest : List Addition
-    rest = unstopped answers additions
-
-    stopped-declares : is_stopped answers (Declares e) ≡ false
-    stopped-declares = refl
-
     by : (addition_at additions k ≡ Some (Declares e) → is_some (addition_at (unstopped answers additions) k) ≡ true)
         → (b t : Bool) → key_eq k (key_of x) ≡ b → is_stopped answers x ≡ t → cond b (Some x) (addition_at additions k) ≡ Some (Declares e)
         → is_some (addition_at (cond (not (is_stopped answers x)) (x ∷ unstopped answers additions) (unstopped answers additions)) k) ≡ true
