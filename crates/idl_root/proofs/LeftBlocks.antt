@@ -1,6 +1,6 @@
 -- A block that is entered, judged and left.
 use Rattle.std.proofs.Common.{◌≡◌, ◌≤◌, ◌∙◌, Bool, false, ℕ, List, [], ◌∷◌, ◌++◌, length, subst, sym, ap}
-use Rattle.idl_root_blocks.specs.verdicts.Standing.{IsBlock}
+use Rattle.idl_root_blocks.specs.verdicts.Standing.{IsBlockFront}
 use Rattle.idl_env.specs.Facts.{UnitFacts, answers}
 use Rattle.idl_memo.specs.Meter.{most_compared}
 use Rattle.idl_kept.specs.Texts.{BlockResult, IsLast, Texts, with_blocks, with_whole}
@@ -17,7 +17,7 @@ use Rattle.idl_root_blocks.specs.declared.text.BlockPart.{BlockPart as Part}
 use Rattle.idl_root_blocks.specs.declared.text.BlockPart.TheVariants.{Enters, Leaves}
 use Rattle.idl_store.specs.Stored.{last_draft}
 
-module _ (facts : List UnitFacts) (text : List Part) (whole : IsOfBlock text) (parts : (text : List Part) → IsOfBlock text → IsBlock (parts_of text))
+module _ (facts : List UnitFacts) (text : List Part) (whole : IsOfBlock text) (parts : (text : List Part) → IsOfBlock text → IsBlockFront (parts_of text))
     (kept between : Texts) (old first inside later : Keeping) (has : HasDrafts kept)
     (walks : WalksOnly old first)
     (enters : inside.blocks.blocks ≡ first.blocks.blocks ++ record { text = text; start = length (with_entering facts); log = [] } ∷ [])
@@ -53,7 +53,7 @@ module _ (facts : List UnitFacts) (text : List Part) (whole : IsOfBlock text) (p
     pub innermost : later.blocks.blocks ≡ left ++ block ∷ []
     innermost = others.2
 
-    module _ (stands : Stands facts text) (law : (before : List UnitFacts) (text : List Part) (old new : OpenBlock) → IsBlock (parts_of text) → Stands before text
+    module _ (stands : Stands facts text) (law : (before : List UnitFacts) (text : List Part) (old new : OpenBlock) → IsBlockFront (parts_of text) → Stands before text
         → old ≡ record { text = text; start = length (with_entering before); log = [] } → GoesOn (with_entering before) text old new → kept_of new ≡ block_result (text, answers before)) where
       kept-are : kept_of block ≡ block_result (text, answers facts)
       kept-are = law facts text entered block (parts text whole) stands (λ i. entered) others.4

@@ -2,7 +2,7 @@
 use Rattle.std.proofs.Common.{◌≡◌, ◌∙◌, ◌+◌, arith, false, suc, Bool, List, [], ◌∷◌, ◌++◌, append-nil, append_assoc, length, map, refl, subst, sym, ap}
 use Rattle.std.proofs.lemmas.List.{length-append, map-append, map-id}
 use Rattle.std.proofs.lemmas.Simd.{map-map}
-use Rattle.idl_root_blocks.specs.verdicts.Standing.{IsBlock}
+use Rattle.idl_root_blocks.specs.verdicts.Standing.{IsBlockFront}
 use Rattle.idl_root_blocks.proofs.IdlCheckLaws.ToldLaws.{MoreTurns}
 use Rattle.idl_env.specs.Facts.{UnitFacts, answers}
 use Rattle.idl_env.specs.declared.additions.addition.Step.TheVariants.{Enters as EntersFile}
@@ -35,9 +35,9 @@ module _ (enough : Enough) (walked : Walked) (more : MoreTurns) where
     text_is = second.text_is ∙ first.text_is;
     noted = λ before passed whole standing is.
         let same : (passed ++ a) ++ b ≡ passed ++ (a ++ b) = append_assoc passed a b in
-        let all : IsBlock (parts_of ((passed ++ a) ++ b)) = subst (λ (t : List Part). IsBlock (parts_of t)) (sym same) whole in
+        let all : IsBlockFront (parts_of ((passed ++ a) ++ b)) = subst (λ (t : List Part). IsBlockFront (parts_of t)) (sym same) whole in
         let stands : Stands before ((passed ++ a) ++ b) = subst (Stands before) (sym same) standing in
-        let front : IsBlock (parts_of (passed ++ a)) = front-block enough walked more before ((passed ++ a) ++ b) all stands (passed ++ a) b refl in
+        let front : IsBlockFront (parts_of (passed ++ a)) = front-block enough walked more before ((passed ++ a) ++ b) all stands (passed ++ a) b refl in
         let there : Stands before (passed ++ a) = front-stands enough walked more before ((passed ++ a) ++ b) all stands (passed ++ a) b refl in
         let one : IsOpen before (passed ++ a) (facts_over facts a) between = first.noted before passed front there is in
         let two : IsOpen before ((passed ++ a) ++ b) (facts_over (facts_over facts a) b) new = second.noted before (passed ++ a) all stands one in
@@ -62,7 +62,7 @@ module _ (enough : Enough) (walked : Walked) (more : MoreTurns) where
 
   module _ (facts : List UnitFacts) (text : List Part) (old : List OpenBlock) where
     -- nothing
-    pub all-same : ((before : List UnitFacts) (passed : List Part) → IsBlock (parts_of passed) → Stands before passed → outer_log before (passed ++ text) ≡ outer_log before passed)
+    pub all-same : ((before : List UnitFacts) (passed : List Part) → IsBlockFront (parts_of passed) → Stands before passed → outer_log before (passed ++ text) ≡ outer_log before passed)
         → AllGoOn facts text old old
     all-same law = record {
       by = λ block. block;
@@ -70,7 +70,7 @@ module _ (enough : Enough) (walked : Walked) (more : MoreTurns) where
       each = λ block. record {
         text_is = refl;
         noted = λ before passed whole standing is.
-            let front : IsBlock (parts_of passed) = front-block enough walked more before (passed ++ text) whole standing passed text refl in
+            let front : IsBlockFront (parts_of passed) = front-block enough walked more before (passed ++ text) whole standing passed text refl in
             let there : Stands before passed = front-stands enough walked more before (passed ++ text) whole standing passed text refl in
             record { start = is.start; now = now-more facts text before passed is.now; log = is.log ∙ sym (law before passed front there) };
       };
@@ -78,7 +78,7 @@ module _ (enough : Enough) (walked : Walked) (more : MoreTurns) where
 
     -- or these entries
     pub all-asked : (entries : Log)
-        → ((before : List UnitFacts) (passed : List Part) → IsBlock (parts_of passed) → Stands before passed → facts ≡ facts_over (with_entering before) passed
+        → ((before : List UnitFacts) (passed : List Part) → IsBlockFront (parts_of passed) → Stands before passed → facts ≡ facts_over (with_entering before) passed
         → outer_log before (passed ++ text) ≡ noted_over facts (suc (length before)) (outer_log before passed) entries)
         → AllGoOn facts text old (map (with_asked facts entries) old)
     all-asked entries law = record {
@@ -87,7 +87,7 @@ module _ (enough : Enough) (walked : Walked) (more : MoreTurns) where
       each = λ block. record {
         text_is = refl;
         noted = λ before passed whole standing is.
-            let front : IsBlock (parts_of passed) = front-block enough walked more before (passed ++ text) whole standing passed text refl in
+            let front : IsBlockFront (parts_of passed) = front-block enough walked more before (passed ++ text) whole standing passed text refl in
             let there : Stands before passed = front-stands enough walked more before (passed ++ text) whole standing passed text refl in
             record {
               start = is.start;
@@ -98,7 +98,7 @@ module _ (enough : Enough) (walked : Walked) (more : MoreTurns) where
     }
 
   -- a file boundary
-  pub all-boundary : ((before : List UnitFacts) (front : List Part) (b : Bool) → IsBlock (parts_of front) → Stands before front
+  pub all-boundary : ((before : List UnitFacts) (front : List Part) (b : Bool) → IsBlockFront (parts_of front) → Stands before front
       → (outer_log before (front ++ Enters b ∷ []) ≡ outer_log before front) × (outer_log before (front ++ Leaves b ∷ []) ≡ outer_log before front))
       → (facts : List UnitFacts) (b : Bool) (old : List OpenBlock) → AllGoOn facts (Enters b ∷ []) old old × AllGoOn facts (Leaves b ∷ []) old old
   all-boundary law facts b old = (
@@ -107,7 +107,7 @@ module _ (enough : Enough) (walked : Walked) (more : MoreTurns) where
   )
 
   -- a unit
-  pub all-unit : ((before : List UnitFacts) (front : List Part) (text : UnitText) → IsBlock (parts_of front) → Stands before front
+  pub all-unit : ((before : List UnitFacts) (front : List Part) (text : UnitText) → IsBlockFront (parts_of front) → Stands before front
       → outer_log before (front ++ Text text ∷ [])
       ≡ noted_over (facts_over (with_entering before) front) (suc (length before)) (outer_log before front) (declaration_result (text, answers (facts_over (with_entering before) front))).log)
       → (facts : List UnitFacts) (text : UnitText) (old : List OpenBlock)
@@ -119,7 +119,7 @@ module _ (enough : Enough) (walked : Walked) (more : MoreTurns) where
       (sym is) (law before passed text whole standing))
 
   -- a block
-  pub all-block : ((before : List UnitFacts) (front inside : List Part) → IsBlock (parts_of front) → Stands before front
+  pub all-block : ((before : List UnitFacts) (front inside : List Part) → IsBlockFront (parts_of front) → Stands before front
       → IsOfBlock inside → Stands (facts_over (with_entering before) front) inside
       → outer_log before (front ++ Enters false ∷ (inside ++ Leaves false ∷ []))
       ≡ noted_over (facts_over (with_entering before) front) (suc (length before)) (outer_log before front) (block_result (inside, answers (facts_over (with_entering before) front))).log)
@@ -146,8 +146,8 @@ all-others facts text others block new on = (
 )
 
 -- it is what is kept of it, where it is left
-pub left-block : ((before : List UnitFacts) (text : List Part) → IsBlock (parts_of text) → Stands before text → (block_result (text, answers before)).log ≡ outer_log before text)
-    → (before : List UnitFacts) (text : List Part) (old own : OpenBlock) → IsBlock (parts_of text) → Stands before text
+pub left-block : ((before : List UnitFacts) (text : List Part) → IsBlockFront (parts_of text) → Stands before text → (block_result (text, answers before)).log ≡ outer_log before text)
+    → (before : List UnitFacts) (text : List Part) (old own : OpenBlock) → IsBlockFront (parts_of text) → Stands before text
     → old ≡ record { text = text; start = length (with_entering before); log = [] }
     → GoesOn (with_entering before) text old own → kept_of own ≡ block_result (text, answers before)
 left-block law before text old own whole standing entered on =

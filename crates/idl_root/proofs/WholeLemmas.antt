@@ -2,7 +2,7 @@
 use Rattle.std.proofs.Common.{◌≡◌, ◌≤◌, ◌<◌, ◌^◌, ◌∙◌, true, ℕ, List, [], ◌∷◌, ◌++◌, append-nil, append_assoc, length, map, subst, sym, ap}
 use Rattle.std.proofs.lemmas.List.{append_cancel_left}
 use Rattle.std.specs.Option.{option_eq}
-use Rattle.idl_root_blocks.specs.verdicts.Standing.{AreStanding, IsBlock, block_end}
+use Rattle.idl_root_blocks.specs.verdicts.Standing.{AreStanding, IsBlockFront, block_end}
 use Rattle.idl_root_blocks.specs.idl_check_laws.Closing.{AreTold}
 use Rattle.idl_env.specs.Facts.{UnitFacts, answers, count_in}
 use Rattle.idl_env.specs.SameAnswer.{answer_eq}
@@ -49,9 +49,9 @@ pub block-holds : (text : List Part) (facts : List UnitFacts) → HoldsIn (answe
 block-holds text facts = (IsLogOf-run key_eq key_equiv.refl same_key (block_asks text) (answers facts)).answers
 
 module _
-    (here : (before : List UnitFacts) (text : List Part) → IsBlock (parts_of text) → AreTold before
+    (here : (before : List UnitFacts) (text : List Part) → IsBlockFront (parts_of text) → AreTold before
     → turns_for (facts_over (with_entering before) text) ≤ most_turns → count_in (answers (facts_over (with_entering before) text) Nameless) < 2 ^ 64 → Stands before text)
-    (parts : (text : List Part) → IsOfBlock text → IsBlock (parts_of text))
+    (parts : (text : List Part) → IsOfBlock text → IsBlockFront (parts_of text))
     (alone : (before : List UnitFacts) (text : List Part) → IsOfBlock text → AreStanding before (block_end (answers before) (parts_of text)).1
     → ComesTo before text (block_end (answers before) (parts_of text)))
     (alike : (before other : List UnitFacts) (text there : List Part) → IsOfBlock text → AreStanding before (block_end (answers before) (parts_of text)).1

@@ -1,7 +1,7 @@
 -- What the judging of a root comes to behind pieces of its units, where their results are kept and
 -- blocks are open.
 use Rattle.std.specs.Prelude.{◌≡◌, ◌≤◌, ℕ, List, [], ◌∷◌, ◌++◌, length, map}
-use Rattle.idl_root_blocks.specs.verdicts.Standing.{IsBlock}
+use Rattle.idl_root_blocks.specs.verdicts.Standing.{IsBlockFront}
 use Rattle.idl_env.specs.Facts.{UnitFacts}
 use Rattle.idl_kept.specs.Texts.{IsLast, IsPlaced, Texts, begins_in, unit_results, with_blocks, with_units, with_whole}
 use Rattle.idl_memo.specs.Meter.{compared_after, most_compared}
@@ -30,7 +30,7 @@ pub record GoesOn (facts : List UnitFacts) (text : List BlockPart) (old new : Op
     : Type 0 where
   pub text_is : new.text ≡ old.text
   pub noted : (before : List UnitFacts) (passed : List BlockPart)
-      → IsBlock (parts_of (passed ++ text)) → Stands before (passed ++ text)
+      → IsBlockFront (parts_of (passed ++ text)) → Stands before (passed ++ text)
       → IsOpen before passed facts old
       → IsOpen before (passed ++ text) (facts_over facts text) new
 

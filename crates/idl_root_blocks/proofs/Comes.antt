@@ -1,7 +1,7 @@
 -- A block's text closes and leaves nothing that was there before it.
 use Rattle.std.proofs.Common.{◌≡◌, ℕ, zero, suc, Option, None, Some, List, [], ◌∷◌, refl}
 use Rattle.idl_block.specs.Blocks.{Text as UnitPart}
-use Rattle.idl_root_blocks.specs.verdicts.Standing.{AreInside, IsBlock, part_step}
+use Rattle.idl_root_blocks.specs.verdicts.Standing.{AreInside, IsBlockFront, part_step}
 use Rattle.idl_block.specs.facts.Beneath.{Depth, deepened}
 use Rattle.idl_root_blocks.proofs.Cuts.{at, no-none}
 use Rattle.idl_root_blocks.specs.Blocks.{IsOfBlock, depth_behind, parts_of}
@@ -22,5 +22,5 @@ inside (Text unit ∷ text) scopes files end h =
     by None is later = absurd (no-none end (rw is at h))
     by (Some next) is later = rw is (later next (rw is at h))
 
-pub of-block : (text : List BlockPart) → IsOfBlock text → IsBlock (parts_of text)
+pub of-block : (text : List BlockPart) → IsOfBlock text → IsBlockFront (parts_of text)
 of-block text b = inside text 0 0 (at b.scopes 0) b.behind

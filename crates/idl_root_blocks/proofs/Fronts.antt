@@ -7,7 +7,7 @@ use Rattle.idl_block.specs.Blocks.{Part as UnitPart, walk}
 use Rattle.idl_check_laws.specs.idl_check.declared.walk.verdict.Verdict.{Verdict}
 use Rattle.idl_root_blocks.proofs.VerdictLaws.Stands.{AreHeld, first-held}
 use Rattle.idl_root_blocks.proofs.VerdictLaws.Told.{files-told, text-told}
-use Rattle.idl_root_blocks.specs.verdicts.Standing.{AreInside, AreStanding, IsBlock, block_end, part_step, unit_asks, unit_writes}
+use Rattle.idl_root_blocks.specs.verdicts.Standing.{AreInside, AreStanding, IsBlockFront, block_end, part_step, unit_asks, unit_writes}
 use Rattle.idl_check_laws.proofs.ToldLaws.{MoreTurns, turns-grow}
 use Rattle.idl_check_laws.specs.Closing.{AreTold}
 use Rattle.idl_env.specs.Facts.{UnitFacts, answers, count_in, scopes_in}
@@ -34,11 +34,11 @@ abbrev pub Parts : Type 0
 Parts = List (UnitPart UnitText Step)
 
 abbrev pub Enough : Type 0
-Enough = (before : List UnitFacts) (parts : Parts) → IsBlock parts → AreStanding before (block_end (answers before) parts).1
+Enough = (before : List UnitFacts) (parts : Parts) → IsBlockFront parts → AreStanding before (block_end (answers before) parts).1
     → AskEnough unit_asks unit_writes (answers before) parts (boundary EntersFile ∷ [])
 
 abbrev pub Walked : Type 0
-Walked = (before : List UnitFacts) (parts : Parts) → IsBlock parts → AreTold before → scopes_in (answers before Cursor) ≢ []
+Walked = (before : List UnitFacts) (parts : Parts) → IsBlockFront parts → AreTold before → scopes_in (answers before Cursor) ≢ []
     → turns_for (walk unit_ways answers parts (before ++ boundary EntersFile ∷ [])).1 ≤ most_turns
     → count_in (answers (walk unit_ways answers parts (before ++ boundary EntersFile ∷ [])).1 Nameless) < 2 ^ 64
     → AreStanding before (block_end (answers before) parts).1
@@ -58,8 +58,8 @@ front-inside (part ∷ a) b d h = (h.0, by (deepened d (part_step part)) h.1 (λ
     by (Some next) h later = later next h
 
 -- the front of a block's text may stand in one
-pub block-front : (front behind : List Part) → IsBlock (parts_of (front ++ behind)) → IsBlock (parts_of front)
-block-front front behind whole = front-inside (parts_of front) (parts_of behind) level (subst IsBlock (parts-append front behind) whole)
+pub block-front : (front behind : List Part) → IsBlockFront (parts_of (front ++ behind)) → IsBlockFront (parts_of front)
+block-front front behind whole = front-inside (parts_of front) (parts_of behind) level (subst IsBlockFront (parts-append front behind) whole)
 
 pub facts-grow : (text : List Part) (facts : List UnitFacts) → (rest : List UnitFacts) × (facts_over facts text ≡ facts ++ rest)
 facts-grow text facts = walk-grows unit_ways answers (parts_of text) facts
@@ -94,20 +94,20 @@ ended before text = (block_end (answers before) (parts_of text)).1
 
 module _ (enough : Enough) where
   -- what its units come to where it stands
-  pub comes : (before : List UnitFacts) (text : List Part) → IsBlock (parts_of text) → AreStanding before (ended before text) → ComesTo before text (block_end (answers before) (parts_of text))
+  pub comes : (before : List UnitFacts) (text : List Part) → IsBlockFront (parts_of text) → AreStanding before (ended before text) → ComesTo before text (block_end (answers before) (parts_of text))
   comes before text whole standing =
       walk-block unit_ways answers before (parts_of text) (boundary EntersFile ∷ []) (over-block unit_asks unit_writes before (parts_of text) (enough before (parts_of text) whole standing))
 
-  pub facts-come : (before : List UnitFacts) (text : List Part) → IsBlock (parts_of text) → AreStanding before (ended before text) → facts_over (with_entering before) text ≡ before ++ ended before text
+  pub facts-come : (before : List UnitFacts) (text : List Part) → IsBlockFront (parts_of text) → AreStanding before (ended before text) → facts_over (with_entering before) text ≡ before ++ ended before text
   facts-come before text whole standing = ap (λ (e : List Verdict × List UnitFacts). e.1) (comes before text whole standing)
 
-  module _ (walked : Walked) (more : MoreTurns) (before : List UnitFacts) (text : List Part) (whole : IsBlock (parts_of text)) (standing : AreStanding before (ended before text)) where
+  module _ (walked : Walked) (more : MoreTurns) (before : List UnitFacts) (text : List Part) (whole : IsBlockFront (parts_of text)) (standing : AreStanding before (ended before text)) where
     held : AreHeld (facts_over (with_entering before) text)
     held = subst AreHeld (sym (facts-come before text whole standing)) (record { turns = standing.turns; count = standing.count })
 
     module _ (front behind : List Part) (is : text ≡ front ++ behind) where
-      pub front-block : IsBlock (parts_of front)
-      front-block = block-front front behind (subst (λ (t : List Part). IsBlock (parts_of t)) is whole)
+      pub front-block : IsBlockFront (parts_of front)
+      front-block = block-front front behind (subst (λ (t : List Part). IsBlockFront (parts_of t)) is whole)
 
       front-held : AreHeld (facts_over (with_entering before) front)
       front-held =

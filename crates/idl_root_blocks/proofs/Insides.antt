@@ -8,7 +8,7 @@ use Rattle.idl_block.proofs.OuterLaws.{All-left, All-right}
 use Rattle.idl_block.specs.Behind.{laid}
 use Rattle.idl_block.specs.Blocks.{block}
 use Rattle.idl_block.specs.Questions.{AreKnown, AreNested}
-use Rattle.idl_root_blocks.specs.verdicts.Standing.{AreStanding, IsBlock, block_end, unit_asks, unit_writes}
+use Rattle.idl_root_blocks.specs.verdicts.Standing.{AreStanding, IsBlockFront, block_end, unit_asks, unit_writes}
 use Rattle.idl_check_laws.proofs.ToldLaws.{MoreTurns}
 use Rattle.idl_env.specs.Facts.{UnitFacts, answers}
 use Rattle.idl_env.specs.declared.additions.addition.Step.TheVariants.{Enters as EntersFile}
@@ -31,8 +31,8 @@ use Rattle.idl_root_blocks.specs.declared.text.BlockPart.{BlockPart as Part}
 use Rattle.idl_root_blocks.specs.declared.text.BlockPart.TheVariants.{Enters, Leaves}
 
 abbrev pub NestedIn : Type 0
-NestedIn = (before : List UnitFacts) (front parts : Parts) → IsBlock front → AreStanding before (block_end (answers before) front).1
-    → IsBlock parts → AreStanding (before ++ (block_end (answers before) front).1) (block_end (answers (before ++ (block_end (answers before) front).1)) parts).1
+NestedIn = (before : List UnitFacts) (front parts : Parts) → IsBlockFront front → AreStanding before (block_end (answers before) front).1
+    → IsBlockFront parts → AreStanding (before ++ (block_end (answers before) front).1) (block_end (answers (before ++ (block_end (answers before) front).1)) parts).1
     → AreNested unit_ways (block_end (answers before) front).1 (answers before) parts (boundary EntersFile ∷ [])
     × (laid answered (block_end (answers before) front).1 (answers before) ≡ answers (before ++ (block_end (answers before) front).1))
 
@@ -70,7 +70,7 @@ module _ (text front behind : List Part) where
 -- ---- two places
 
 module _ (enough : Enough) (walked : Walked) (more : MoreTurns) (nested : NestedIn)
-    (before other : List UnitFacts) (text : List Part) (whole : IsBlock (parts_of text)) (standing : AreStanding before (ended before text)) (there : AreStanding other (ended other text))
+    (before other : List UnitFacts) (text : List Part) (whole : IsBlockFront (parts_of text)) (standing : AreStanding before (ended before text)) (there : AreStanding other (ended other text))
     (agree : Agree (asked (block_query text) (answers before)) (answers before) (answers other)) where
   abbrev IsSame : Key → Type 0
   IsSame k = answers other k ≡ answers before k

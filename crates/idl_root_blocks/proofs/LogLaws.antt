@@ -10,7 +10,7 @@ use Rattle.idl_block.proofs.NestingLaws.{log-nested, noted-passing}
 use Rattle.idl_block.proofs.OuterLaws.{log-outer}
 use Rattle.idl_block.specs.Behind.{laid}
 use Rattle.idl_block.specs.Questions.{AreKnown, outer_asked}
-use Rattle.idl_root_blocks.specs.verdicts.Standing.{AreStanding, IsBlock, unit_asks, unit_writes}
+use Rattle.idl_root_blocks.specs.verdicts.Standing.{AreStanding, IsBlockFront, unit_asks, unit_writes}
 use Rattle.idl_env.specs.Facts.{UnitFacts, answers}
 use Rattle.idl_env.specs.SameKey.{same_key}
 use Rattle.idl_env.specs.Written.{last_written}
@@ -52,13 +52,13 @@ numbered n m true both = by (nat_lt n (suc m)) refl
 
 module _ (enough : Enough) where
   -- a block that is left has the log of its outer keys
-  pub left-log : (before : List UnitFacts) (text : List Part) → IsBlock (parts_of text) → AreStanding before (ended before text) → (block_result (text, answers before)).log ≡ outer_log before text
+  pub left-log : (before : List UnitFacts) (text : List Part) → IsBlockFront (parts_of text) → AreStanding before (ended before text) → (block_result (text, answers before)).log ≡ outer_log before text
   left-log before text whole standing =
       let known = known-block unit_asks unit_writes (answers before) (parts_of text) (enough before (parts_of text) whole standing) in
       ap (noted_all key_eq (answers before) []) (asks-block text (answers before))
       ∙ log-outer unit_ways (answers before) key_eq key_equiv.refl same_key (parts_of text) (boundary EntersFile ∷ []) [] known
 
-  module _ (before : List UnitFacts) (front : List Part) (whole : IsBlock (parts_of front)) (standing : AreStanding before (ended before front)) where
+  module _ (before : List UnitFacts) (front : List Part) (whole : IsBlockFront (parts_of front)) (standing : AreStanding before (ended before front)) where
     abbrev outer : List UnitFacts
     outer = ended before front
 

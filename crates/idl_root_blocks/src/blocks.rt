@@ -3,7 +3,7 @@
 ghost use Rattle.std.specs.Prelude.{◌≡◌, ◌↔◌, ◌≤◌, ◌<◌, ◌^◌, ◌∷◌, ◌++◌, [], List, false, map, true};
 ghost use Rattle.std.specs.Option.{option_eq};
 ghost use Rattle.idl_block.specs.Questions.{outer_asked};
-ghost use Rattle.idl_root_blocks.specs.verdicts.Standing.{AreStanding, IsBlock, block_end};
+ghost use Rattle.idl_root_blocks.specs.verdicts.Standing.{AreStanding, IsBlockFront, block_end};
 ghost use Rattle.idl_check_laws.specs.Closing.{AreTold};
 ghost use Rattle.idl_env.specs.Facts.{UnitFacts, answers, count_in};
 ghost use Rattle.idl_env.specs.SameAnswer.{answer_eq};
@@ -32,7 +32,7 @@ use idl_env::Answer;
 /// What the units of a block come to where it stands is what it comes to as a task of its own; so where two places agree on the
 /// keys that it asks outside, its units come to the same at both; and so they do where a block is alike.
 pub fn taking()
-    ensures parts { (text : List Part) → IsOfBlock text → IsBlock (parts_of text) }
+    ensures parts { (text : List Part) → IsOfBlock text → IsBlockFront (parts_of text) }
     ensures here { (before : List UnitFacts) (text : List Part)
         → let end = block_end (answers before) (parts_of text) in
         IsOfBlock text → AreStanding before end.1 → ComesTo before text end }
@@ -68,10 +68,10 @@ pub fn taking()
 /// memory holds; and where a block stands, so do the blocks inside.
 pub fn standing()
     ensures front { (front behind : List Part)
-        → IsOfBlock (front ++ behind) → IsBlock (parts_of front) }
+        → IsOfBlock (front ++ behind) → IsBlockFront (parts_of front) }
     ensures here { (before : List UnitFacts) (text : List Part)
         → let facts = facts_over (with_entering before) text in
-        IsBlock (parts_of text) → AreTold before
+        IsBlockFront (parts_of text) → AreTold before
         → turns_for facts ≤ most_turns → count_in (answers facts Nameless) < 2 ^ 64
         → Stands before text }
     ensures inside { (before : List UnitFacts) (front inside behind : List Part)

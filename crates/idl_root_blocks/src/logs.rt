@@ -1,7 +1,7 @@
 //! The laws of the log of a block.
 
 ghost use Rattle.std.specs.Prelude.{◌≡◌, ◌++◌, ◌∷◌, [], Bool, List, false, length, suc};
-ghost use Rattle.idl_root_blocks.specs.verdicts.Standing.{IsBlock};
+ghost use Rattle.idl_root_blocks.specs.verdicts.Standing.{IsBlockFront};
 ghost use Rattle.idl_env.specs.Facts.{UnitFacts, answers};
 ghost use Rattle.idl_root_blocks.specs.Asking.{AreNoted, Opened};
 ghost use Rattle.idl_root_blocks.specs.Blocks.{IsOfBlock, parts_of};
@@ -20,23 +20,23 @@ pub fn logging()
         → let over = facts_over (with_entering before) front in
         let log = outer_log before front in
         let entries = (declaration_result (text, answers over)).log in
-        IsBlock (parts_of front) → Stands before front
+        IsBlockFront (parts_of front) → Stands before front
         → outer_log before (front ++ Text text ∷ [])
         ≡ noted_over over (suc (length before)) log entries }
     ensures block { (before : List UnitFacts) (front inside : List Part)
         → let over = facts_over (with_entering before) front in
         let log = outer_log before front in
         let entries = (block_result (inside, answers over)).log in
-        IsBlock (parts_of front) → Stands before front
+        IsBlockFront (parts_of front) → Stands before front
         → IsOfBlock inside → Stands over inside
         → outer_log before (front ++ Enters false ∷ (inside ++ Leaves false ∷ []))
         ≡ noted_over over (suc (length before)) log entries }
     ensures boundaries { (before : List UnitFacts) (front : List Part) (b : Bool)
-        → IsBlock (parts_of front) → Stands before front
+        → IsBlockFront (parts_of front) → Stands before front
         → (outer_log before (front ++ Enters b ∷ []) ≡ outer_log before front)
         × (outer_log before (front ++ Leaves b ∷ []) ≡ outer_log before front) }
     ensures left { (before : List UnitFacts) (text : List Part)
-        → IsBlock (parts_of text) → Stands before text
+        → IsBlockFront (parts_of text) → Stands before text
         → (block_result (text, answers before)).log ≡ outer_log before text }
 {
     enough();

@@ -1,7 +1,7 @@
 //! The law of what open blocks note.
 
 ghost use Rattle.std.specs.Prelude.{◌≡◌, ◌∷◌, ◌++◌, [], Bool, List, false, length, map};
-ghost use Rattle.idl_root_blocks.specs.verdicts.Standing.{IsBlock};
+ghost use Rattle.idl_root_blocks.specs.verdicts.Standing.{IsBlockFront};
 ghost use Rattle.idl_env.specs.Facts.{UnitFacts, answers};
 ghost use Rattle.idl_root.specs.Passed.{AllGoOn, GoesOn};
 ghost use Rattle.idl_root_blocks.specs.Asking.{OpenBlock, kept_of, with_asked};
@@ -35,7 +35,7 @@ pub(crate) fn noting()
         → AllGoOn (facts_over facts first) then between new
         → AllGoOn facts (first ++ then) old new }
     ensures left { (before : List UnitFacts) (text : List Part) (old new : OpenBlock)
-        → IsBlock (parts_of text) → Stands before text
+        → IsBlockFront (parts_of text) → Stands before text
         → old ≡ record { text = text; start = length (with_entering before); log = [] }
         → GoesOn (with_entering before) text old new
         → kept_of new ≡ block_result (text, answers before) }

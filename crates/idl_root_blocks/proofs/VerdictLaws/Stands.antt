@@ -23,7 +23,7 @@ use Rattle.idl_block.proofs.FactLaws.WalkLaws.{IsSound, after-more, first-sound,
 use Rattle.idl_memo.specs.Query.{asked, outcome}
 use Rattle.idl_unit.specs.declared.unit.UnitText.{UnitText}
 use Rattle.idl_root_blocks.specs.verdicts.Owned.{AreOwned}
-use Rattle.idl_root_blocks.specs.verdicts.Standing.{AreInside, AreStanding, IsBlock, IsOfFiles, block_end, part_step, unit_asks, unit_writes}
+use Rattle.idl_root_blocks.specs.verdicts.Standing.{AreInside, AreStanding, IsBlockFront, IsOfFiles, block_end, part_step, unit_asks, unit_writes}
 use Rattle.idl_check_laws.specs.Closing.{AreTold}
 use Rattle.idl_block.proofs.BlockLaws.{outcome-unit, walk-block}
 use Rattle.idl_block.proofs.JoinedLaws.{walk-grows}
@@ -242,14 +242,14 @@ module _ (before : List UnitFacts) (names : (facts : List UnitFacts) → AreTold
           ((asks part place files, told.0), rest next (sound-more bank written f sound told.0) told.1 inside)
 
   -- a block asks enough where what it writes stands
-  pub stands-enough : (parts : List (Part UnitText Step)) → IsBlock parts → AreStanding before (block_end bank parts).1 → AskEnough unit_asks unit_writes bank parts (boundary Enters ∷ [])
+  pub stands-enough : (parts : List (Part UnitText Step)) → IsBlockFront parts → AreStanding before (block_end bank parts).1 → AskEnough unit_asks unit_writes bank parts (boundary Enters ∷ [])
   stands-enough parts inside standing =
       let held : AreHeld (before ++ (block_end bank parts).1) = record { turns = standing.turns; count = standing.count } in
       stands-from (record { scopes = 0; files = 0 }) parts (boundary Enters ∷ []) (first-sound bank) (start-in bank standing.some) (files-told before Enters tt standing.told) inside
       (are-places (block_end bank parts).1 held parts (boundary Enters ∷ []) refl)
 
   -- what it writes stands where its units add no more than memory holds
-  pub stands-walked : (parts : List (Part UnitText Step)) → IsBlock parts → AreTold before → scopes_in (bank Cursor) ≢ [] → AreHeld (walked parts (before ++ boundary Enters ∷ []))
+  pub stands-walked : (parts : List (Part UnitText Step)) → IsBlockFront parts → AreTold before → scopes_in (bank Cursor) ≢ [] → AreHeld (walked parts (before ++ boundary Enters ∷ []))
       → AreStanding before (block_end bank parts).1
   stands-walked parts inside told some held =
       let entered : List UnitFacts = boundary Enters ∷ [] in

@@ -47,9 +47,9 @@ AreInside d (part ∷ parts) =
     IsOfFiles part
     × elim (deepened d (part_step part)) [ None ↦ ⊥ | Some next ↦ AreInside next parts ]
 
--- such parts are a block
-abbrev pub IsBlock : List (Part UnitText Step) → Type 0
-IsBlock parts = AreInside (record { scopes = 0; files = 0 }) parts
+-- such parts may stand at the front of a block, behind the boundary at which its file is entered
+abbrev pub IsBlockFront : List (Part UnitText Step) → Type 0
+IsBlockFront parts = AreInside (record { scopes = 0; files = 0 }) parts
 
 -- what a block comes to over a bank
 abbrev pub block_end : (Key → Option Answer) → List (Part UnitText Step)

@@ -4,7 +4,7 @@ ghost use Rattle.std.specs.Prelude.{◌≡◌, ◌≢◌, ◌≤◌, ◌<◌, �
 ghost use Rattle.idl_block.specs.Blocks.{Part, walk};
 ghost use Rattle.idl_block.specs.Behind.{laid};
 ghost use Rattle.idl_block.specs.Questions.{AreNested, outer_asked};
-ghost use Rattle.idl_root_blocks.specs.verdicts.Standing.{AreStanding, IsBlock, block_end, unit_asks, unit_writes};
+ghost use Rattle.idl_root_blocks.specs.verdicts.Standing.{AreStanding, IsBlockFront, block_end, unit_asks, unit_writes};
 ghost use Rattle.idl_check_laws.specs.Closing.{AreTold};
 ghost use Rattle.idl_env.specs.Facts.{UnitFacts, answers, count_in, scopes_in};
 ghost use Rattle.idl_env.specs.Turns.{most_turns, turns_for};
@@ -40,7 +40,7 @@ impl FactUnits for Verdicts {
 /// The units of a block ask enough where what it writes stands behind facts that are told.
 pub fn enough()
     ensures { (before : List UnitFacts) (parts : List (Part UnitText Step))
-        → IsBlock parts → AreStanding before (block_end (answers before) parts).1
+        → IsBlockFront parts → AreStanding before (block_end (answers before) parts).1
         → AskEnough unit_asks unit_writes (answers before) parts (boundary Enters ∷ []) }
 {
     naming();
@@ -54,7 +54,7 @@ pub fn walked()
     ensures { (before : List UnitFacts) (parts : List (Part UnitText Step))
         → let ways = ways_of unit_asks unit_writes in
         let facts = (walk ways answers parts (before ++ boundary Enters ∷ [])).1 in
-        IsBlock parts → AreTold before → scopes_in (answers before Cursor) ≢ []
+        IsBlockFront parts → AreTold before → scopes_in (answers before Cursor) ≢ []
         → turns_for facts ≤ most_turns → count_in (answers facts Nameless) < 2 ^ 64
         → AreStanding before (block_end (answers before) parts).1 }
 {
@@ -70,7 +70,7 @@ pub fn alike()
         → let ways = ways_of unit_asks unit_writes in
         let entered = boundary Enters ∷ [] in
         let end = block_end (answers before) parts in
-        IsBlock parts → AreStanding before end.1 → AreStanding other end.1
+        IsBlockFront parts → AreStanding before end.1 → AreStanding other end.1
         → Agree (outer_asked ways parts entered (answers before)) (answers before) (answers other)
         → (walk ways answers parts (before ++ entered) ≡ (end.0, before ++ end.1))
         × (walk ways answers parts (other ++ entered) ≡ (end.0, other ++ end.1)) }
@@ -85,8 +85,8 @@ pub fn nested()
         → let ways = ways_of unit_asks unit_writes in
         let entered = boundary Enters ∷ [] in
         let outer = (block_end (answers before) front).1 in
-        IsBlock front → AreStanding before outer
-        → IsBlock parts
+        IsBlockFront front → AreStanding before outer
+        → IsBlockFront parts
         → AreStanding (before ++ outer) (block_end (answers (before ++ outer)) parts).1
         → AreNested ways outer (answers before) parts entered
         × (laid answered outer (answers before) ≡ answers (before ++ outer)) }
