@@ -3,7 +3,7 @@
 //!
 //! Nothing here knows how a file is read, what a directive does, or what a unit is.
 //!
-//! `Expansion` is tokens (`Runs`, shared with blocks), where they stand (`Sites`) and the other events; each event has
+//! `Expansion` is tokens (`Runs`, shared with chunks), where they stand (`Sites`) and the other events; each event has
 //! a number. `Progress` is how far one has come: once an item is past a limit one E19 stands in its place, and nothing
 //! changes any more.
 #![tactic(auto)]

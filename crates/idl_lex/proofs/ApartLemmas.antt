@@ -3,7 +3,7 @@ use Rattle.std.proofs.Common.{◌≡◌, ◌∙◌, ◌<◌, ◌++◌, ◌∷◌
 use Rattle.std.proofs.lemmas.List.{get_or-map}
 use Rattle.idl_lex.specs.tokens.Apart.{place_of, placed, placed_at}
 use Rattle.idl_lex.specs.tokens.Tokens.{Token, tokens_in}
-use Rattle.idl_lex.specs.declared.tokens.block_tokens.TokenPlace.{TokenPlace}
+use Rattle.idl_lex.specs.declared.tokens.chunk_tokens.TokenPlace.{TokenPlace}
 use Rattle.idl_lex.specs.declared.tokens.token.PlacedToken.{PlacedToken}
 
 pub length-placed : (tokens : List Token) (places : List TokenPlace) → length places ≡ length tokens → length (placed tokens places) ≡ length tokens

@@ -11,7 +11,7 @@ mod tokens;
 pub use bytes::text_left::{TextByte, TextLeft};
 pub use idl_source;
 pub use kinds::word::is_word;
-pub use tokens::block_tokens::{BlockTokens, TokenBuffer, TokenPlace};
+pub use tokens::chunk_tokens::{ChunkTokens, TokenBuffer, TokenPlace};
 pub use tokens::lexer::{Before, Opening, push_line};
 pub use tokens::logical::{Logical, joined_count};
 pub use tokens::token::{PlacedToken, Token};

@@ -17,7 +17,7 @@ use Rattle.idl_lex.specs.declared.bytes.context.Context.{Context}
 use Rattle.idl_lex.specs.declared.bytes.text_left.TextByte.{TextByte}
 use Rattle.idl_lex.specs.declared.tokens.token.PlacedToken.{PlacedToken}
 use Rattle.idl_text.specs.Starts.{Start, cut_after, starts_in, starts_of}
-use Rattle.idl_text.proofs.BlockLemmas.{tokens_of-joined}
+use Rattle.idl_text.proofs.ChunkLemmas.{tokens_of-joined}
 use Rattle.idl_text.proofs.StartLemmas.{starts_in-behind, starts_in-next, starts_in-nil}
 
 pub cut_after-drop : (c : Context) (n : ℕ) (text : List TextByte) → cut_after c n text ≡ cut_after c 0 (drop n text)

@@ -1,6 +1,6 @@
 pub mod BeginningLemmas
-pub mod BlockLemmas
-pub mod BlockStarts
+pub mod ChunkLemmas
+pub mod ChunkStarts
 pub mod ColumnLaws
 pub mod CutLemmas
 pub mod GroupTextLemmas

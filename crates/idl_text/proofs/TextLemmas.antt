@@ -6,10 +6,10 @@ use Rattle.std.proofs.lemmas.List.Elements.{All-append, All-cons, All-nil}
 use Rattle.std.proofs.lemmas.List.Sums.{prefix_len-le-length}
 use Rattle.std.specs.List.{All, flat_map}
 use Rattle.std.specs.Str.{bytes_eq}
-use Rattle.idl_text.specs.Block.{tokens_in_blocks}
+use Rattle.idl_text.specs.Chunk.{tokens_in_chunks}
 use Rattle.idl_text.specs.Moved.{moved_token, moved_tokens}
 use Rattle.idl_lex.specs.tokens.Tokens.{BeginsLine, Token, followers_on_line, is_text, lines_after, lines_of, tokens_in}
-use Rattle.idl_text.specs.declared.tokens.block.PlacedBlock.{PlacedBlock}
+use Rattle.idl_text.specs.declared.tokens.chunk.PlacedChunk.{PlacedChunk}
 use Rattle.idl_lex.specs.declared.tokens.token.PlacedToken.{PlacedToken}
 use Rattle.idl_text.proofs.WalkLemmas.{IsHere, begins-append, begins-behind, followers-front, followers-own}
 
@@ -138,14 +138,14 @@ pub record IsTextFirst (left text rest : List PlacedToken) : Type 0 where
   pub lines : lines_of left ≡ lines_of text ++ lines_of rest
   pub all : left ≡ text ++ rest
 
-pub IsTextFirst-here : (blocks : List PlacedBlock) (block place before : ℕ) (b : PlacedBlock) (count : ℕ) (left here text rest : List PlacedToken) → IsHere blocks block place before b
-    → here ≡ moved_tokens b.lines_before (drop place b.block.value.tokens) → count ≤ length here → (count ≡ 0) ⊎ BeginsLine (drop count here)
-    → drop before (tokens_in_blocks blocks) ≡ left → text ≡ take count here → rest ≡ drop (before + count) (tokens_in_blocks blocks) → IsTextFirst left text rest
-IsTextFirst-here blocks block place before b count left here text rest at same within begins e front back =
-    let later = tokens_in_blocks (drop (block + 1) blocks) in
+pub IsTextFirst-here : (chunks : List PlacedChunk) (chunk place before : ℕ) (b : PlacedChunk) (count : ℕ) (left here text rest : List PlacedToken) → IsHere chunks chunk place before b
+    → here ≡ moved_tokens b.lines_before (drop place b.chunk.value.tokens) → count ≤ length here → (count ≡ 0) ⊎ BeginsLine (drop count here)
+    → drop before (tokens_in_chunks chunks) ≡ left → text ≡ take count here → rest ≡ drop (before + count) (tokens_in_chunks chunks) → IsTextFirst left text rest
+IsTextFirst-here chunks chunk place before b count left here text rest at same within begins e front back =
+    let later = tokens_in_chunks (drop (chunk + 1) chunks) in
     let parts : left ≡ here ++ later = sym e ∙ at.all ∙ ap (λ ts. ts ++ later) (sym same) in
     let text_is : take count left ≡ text = ap (take count) parts ∙ take-append-le count here later within ∙ sym front in
-    let rest_is : drop count left ≡ rest = ap (drop count) (sym e) ∙ drop-drop count before (tokens_in_blocks blocks) ∙ sym back in
+    let rest_is : drop count left ≡ rest = ap (drop count) (sym e) ∙ drop-drop count before (tokens_in_chunks chunks) ∙ sym back in
     let all : left ≡ text ++ rest = sym (take-append-drop count left) ∙ (λ i. text_is i ++ rest_is i) in
     let rest_parts : drop count here ++ later ≡ rest = sym (drop-append-le count here later within) ∙ ap (drop count) (sym parts) ∙ rest_is in
     let starts : (count ≡ 0) ⊎ BeginsLine rest =
@@ -156,8 +156,8 @@ IsTextFirst-here blocks block place before b count left here text rest at same w
     }
 
 -- no more tokens are passed than there are
-pub IsTextFirst-end : (blocks : List PlacedBlock) (block place before : ℕ) (b : PlacedBlock) (count : ℕ) (here : List PlacedToken) → IsHere blocks block place before b
-    → here ≡ moved_tokens b.lines_before (drop place b.block.value.tokens) → count ≤ length here → before + count ≤ length (tokens_in_blocks blocks)
-IsTextFirst-end blocks block place before b count here at same within =
-    let tokens = drop place b.block.value.tokens in
-    omega (arith, at.end, at.within, within, ap length same, length-map tokens (moved_token b.lines_before), length-drop place b.block.value.tokens)
+pub IsTextFirst-end : (chunks : List PlacedChunk) (chunk place before : ℕ) (b : PlacedChunk) (count : ℕ) (here : List PlacedToken) → IsHere chunks chunk place before b
+    → here ≡ moved_tokens b.lines_before (drop place b.chunk.value.tokens) → count ≤ length here → before + count ≤ length (tokens_in_chunks chunks)
+IsTextFirst-end chunks chunk place before b count here at same within =
+    let tokens = drop place b.chunk.value.tokens in
+    omega (arith, at.end, at.within, within, ap length same, length-map tokens (moved_token b.lines_before), length-drop place b.chunk.value.tokens)

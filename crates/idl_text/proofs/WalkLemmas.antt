@@ -10,17 +10,17 @@ use Rattle.std.specs.List.{All, AllWithin, drop-map, prefix_len, slice_get, slic
 use Rattle.std.specs.Option.{option_map}
 use Rattle.std.specs.List.Sorted.{IsNonDecreasingBy}
 use Rattle.idl_source.specs.texts.Line.{newline}
-use Rattle.idl_text.proofs.BlockLemmas.{AreBlocks-at, tokens_in-all, tokens_in-more}
+use Rattle.idl_text.proofs.ChunkLemmas.{AreChunks-at, tokens_in-all, tokens_in-more}
 use Rattle.idl_base.proofs.PartLemmas.{length-part, part-map}
 use Rattle.idl_lex.proofs.TokensLemmas.{after_gap, after_token, lines_of-first}
-use Rattle.idl_text.specs.Block.{AreBlocks, AreBlocksOf, AreOfSomeFile, IsPlace, tokens_in_blocks, tokens_there}
+use Rattle.idl_text.specs.Chunk.{AreChunks, AreChunksOf, AreOfSomeFile, IsPlace, tokens_in_chunks, tokens_there}
 use Rattle.idl_lex.specs.bytes.Context.{context_after, is_gap, is_newline, is_nothing, line_start}
 use Rattle.idl_text.specs.Moved.{moved_token, moved_tokens}
 use Rattle.idl_lex.specs.bytes.Text.{Placed, bytes_of, front, is_continued, joined, numbered}
 use Rattle.idl_lex.specs.tokens.Tokens.{BeginsLine, followers_on_line, lines_of, piece_rest, spelled, token_if, token_of, tokens_after, tokens_of}
 use Rattle.idl_lex.specs.tokens.Apart.{place_of, placed_at}
-use Rattle.idl_text.specs.declared.tokens.block.PlacedBlock.{PlacedBlock}
-use Rattle.idl_lex.specs.declared.tokens.block_tokens.TokenPlace.{TokenPlace}
+use Rattle.idl_text.specs.declared.tokens.chunk.PlacedChunk.{PlacedChunk}
+use Rattle.idl_lex.specs.declared.tokens.chunk_tokens.TokenPlace.{TokenPlace}
 use Rattle.idl_lex.specs.declared.bytes.context.Context.{Context}
 use Rattle.idl_lex.specs.declared.tokens.token.PlacedToken.{PlacedToken}
 
@@ -113,21 +113,21 @@ tokens_of-begins : (lines : List (List ℕ)) → BeginsLine (tokens_of lines)
 unfolding tokens_of
 tokens_of-begins lines = tokens_after-begins line_start 0 (joined 1 lines) refl
 
-pub AreBlocks-begins : (lines : List (List ℕ)) (lines_before tokens_before : ℕ) (blocks : List PlacedBlock) → AreBlocks lines lines_before tokens_before blocks → BeginsLine (tokens_in_blocks blocks)
-AreBlocks-begins lines lb tb [] are = tt
-AreBlocks-begins lines lb tb (b ∷ blocks) are =
-    let block = b.block.value in
-    begins-append (tokens_there b) (tokens_in_blocks blocks)
-    (begins-moved b.lines_before block.tokens (subst BeginsLine (sym are.2.own) (tokens_of-begins (take block.lines lines))))
-    (AreBlocks-begins (drop block.lines lines) (lb + block.lines) (tb + length block.tokens) blocks are.3)
+pub AreChunks-begins : (lines : List (List ℕ)) (lines_before tokens_before : ℕ) (chunks : List PlacedChunk) → AreChunks lines lines_before tokens_before chunks → BeginsLine (tokens_in_chunks chunks)
+AreChunks-begins lines lb tb [] are = tt
+AreChunks-begins lines lb tb (b ∷ chunks) are =
+    let chunk = b.chunk.value in
+    begins-append (tokens_there b) (tokens_in_chunks chunks)
+    (begins-moved b.lines_before chunk.tokens (subst BeginsLine (sym are.2.own) (tokens_of-begins (take chunk.lines lines))))
+    (AreChunks-begins (drop chunk.lines lines) (lb + chunk.lines) (tb + length chunk.tokens) chunks are.3)
 
--- and so do those behind a block
-AreBlocks-behind : (lines : List (List ℕ)) (lines_before tokens_before : ℕ) (blocks : List PlacedBlock) (k : ℕ) → AreBlocks lines lines_before tokens_before blocks → BeginsLine (tokens_in_blocks (drop k blocks))
-AreBlocks-behind lines lb tb blocks zero are = AreBlocks-begins lines lb tb blocks are
-AreBlocks-behind lines lb tb [] (suc k) are = tt
-AreBlocks-behind lines lb tb (b ∷ blocks) (suc k) are =
-    let block = b.block.value in
-    AreBlocks-behind (drop block.lines lines) (lb + block.lines) (tb + length block.tokens) blocks k are.3
+-- and so do those behind a chunk
+AreChunks-behind : (lines : List (List ℕ)) (lines_before tokens_before : ℕ) (chunks : List PlacedChunk) (k : ℕ) → AreChunks lines lines_before tokens_before chunks → BeginsLine (tokens_in_chunks (drop k chunks))
+AreChunks-behind lines lb tb chunks zero are = AreChunks-begins lines lb tb chunks are
+AreChunks-behind lines lb tb [] (suc k) are = tt
+AreChunks-behind lines lb tb (b ∷ chunks) (suc k) are =
+    let chunk = b.chunk.value in
+    AreChunks-behind (drop chunk.lines lines) (lb + chunk.lines) (tb + length chunk.tokens) chunks k are.3
 
 -- ---- the tokens behind a first one on its line
 
@@ -140,7 +140,7 @@ pub followers-places : (tokens : List PlacedToken) → prefix_len (λ (p : Token
 followers-places [] = refl
 followers-places (t ∷ tokens) = ap (λ n. cond (not t.starts_line) (1 + n) 0) (followers-places tokens)
 
--- those among the tokens of a block from one number up to another
+-- those among the tokens of a chunk from one number up to another
 pub followers-range : (down : ℕ) (all : List PlacedToken) (places : List TokenPlace) (from to : ℕ) → places ≡ map place_of all
     → prefix_len (λ (p : TokenPlace). not p.starts_line) (slice_range places from to) ≡ followers_on_line (moved_tokens down (slice_range all from to))
 followers-range down all places from to e =
@@ -208,109 +208,109 @@ followers-front (t ∷ front) behind begins = ap (λ n. cond (not t.starts_line)
 
 -- ---- the tokens from a place on
 
--- no more tokens are in the first blocks than in all
-pub tokens_in-first : (blocks : List PlacedBlock) (k : ℕ) → length (tokens_in_blocks (take k blocks)) ≤ length (tokens_in_blocks blocks)
-tokens_in-first blocks k =
-    let parts : tokens_in_blocks blocks ≡ tokens_in_blocks (take k blocks) ++ tokens_in_blocks (drop k blocks) =
-    ap tokens_in_blocks (sym (take-append-drop k blocks)) ∙ flat_map-append tokens_there (take k blocks) (drop k blocks) in
-    omega (arith, ap length parts, length-append (tokens_in_blocks (take k blocks)) (tokens_in_blocks (drop k blocks)))
+-- no more tokens are in the first chunks than in all
+pub tokens_in-first : (chunks : List PlacedChunk) (k : ℕ) → length (tokens_in_chunks (take k chunks)) ≤ length (tokens_in_chunks chunks)
+tokens_in-first chunks k =
+    let parts : tokens_in_chunks chunks ≡ tokens_in_chunks (take k chunks) ++ tokens_in_chunks (drop k chunks) =
+    ap tokens_in_chunks (sym (take-append-drop k chunks)) ∙ flat_map-append tokens_there (take k chunks) (drop k chunks) in
+    omega (arith, ap length parts, length-append (tokens_in_chunks (take k chunks)) (tokens_in_chunks (drop k chunks)))
 
--- the place of a token is in a block that there is
-pub IsPlace-some : (blocks : List PlacedBlock) (block place before : ℕ) → IsPlace blocks block place before → before < length (tokens_in_blocks blocks) → block < length blocks
-IsPlace-some blocks block place before is some = by (leb (length blocks) block) refl
+-- the place of a token is in a chunk that there is
+pub IsPlace-some : (chunks : List PlacedChunk) (chunk place before : ℕ) → IsPlace chunks chunk place before → before < length (tokens_in_chunks chunks) → chunk < length chunks
+IsPlace-some chunks chunk place before is some = by (leb (length chunks) chunk) refl
   where
-    by : (b : Bool) → leb (length blocks) block ≡ b → block < length blocks
-    by true past = absurd (omega (arith, some, is.is, ap length (tokens_in-all blocks block (leb-true (length blocks) block past))))
-    by false less = leb-false (length blocks) block less
+    by : (b : Bool) → leb (length chunks) chunk ≡ b → chunk < length chunks
+    by true past = absurd (omega (arith, some, is.is, ap length (tokens_in-all chunks chunk (leb-true (length chunks) chunk past))))
+    by false less = leb-false (length chunks) chunk less
 
--- where there is no such block no token is left
-pub IsPlace-none : (blocks : List PlacedBlock) (block place before : ℕ) → IsPlace blocks block place before → length blocks ≤ block → before ≡ length (tokens_in_blocks blocks)
-IsPlace-none blocks block place before is past = by is.within
+-- where there is no such chunk no token is left
+pub IsPlace-none : (chunks : List PlacedChunk) (chunk place before : ℕ) → IsPlace chunks chunk place before → length chunks ≤ chunk → before ≡ length (tokens_in_chunks chunks)
+IsPlace-none chunks chunk place before is past = by is.within
   where
-    by : (before < length (tokens_in_blocks (take (block + 1) blocks))) ⊎ ((length blocks ≤ block) × (before ≡ length (tokens_in_blocks blocks))) → before ≡ length (tokens_in_blocks blocks)
-    by (inl less) = absurd (omega (arith, less, is.is, ap length (tokens_in-all blocks block past), tokens_in-first blocks (block + 1)))
+    by : (before < length (tokens_in_chunks (take (chunk + 1) chunks))) ⊎ ((length chunks ≤ chunk) × (before ≡ length (tokens_in_chunks chunks))) → before ≡ length (tokens_in_chunks chunks)
+    by (inl less) = absurd (omega (arith, less, is.is, ap length (tokens_in-all chunks chunk past), tokens_in-first chunks (chunk + 1)))
     by (inr none) = none.1
 
 -- and where no token is left there is none
-pub IsPlace-past : (blocks : List PlacedBlock) (block place before : ℕ) → IsPlace blocks block place before → length (tokens_in_blocks blocks) ≤ before → length blocks ≤ block
-IsPlace-past blocks block place before is past = by is.within
+pub IsPlace-past : (chunks : List PlacedChunk) (chunk place before : ℕ) → IsPlace chunks chunk place before → length (tokens_in_chunks chunks) ≤ before → length chunks ≤ chunk
+IsPlace-past chunks chunk place before is past = by is.within
   where
-    by : (before < length (tokens_in_blocks (take (block + 1) blocks))) ⊎ ((length blocks ≤ block) × (before ≡ length (tokens_in_blocks blocks))) → length blocks ≤ block
-    by (inl less) = absurd (omega (arith, less, past, tokens_in-first blocks (block + 1)))
+    by : (before < length (tokens_in_chunks (take (chunk + 1) chunks))) ⊎ ((length chunks ≤ chunk) × (before ≡ length (tokens_in_chunks chunks))) → length chunks ≤ chunk
+    by (inl less) = absurd (omega (arith, less, past, tokens_in-first chunks (chunk + 1)))
     by (inr none) = none.0
 
--- A place in a block: the tokens from it on, those of the block and those behind it.
-pub record IsHere (blocks : List PlacedBlock) (block place before : ℕ) (b : PlacedBlock) : Type 0 where
+-- A place in a chunk: the tokens from it on, those of the chunk and those behind it.
+pub record IsHere (chunks : List PlacedChunk) (chunk place before : ℕ) (b : PlacedChunk) : Type 0 where
   pub lines_before : b.lines_before ≤ 200000
-  pub numbers : All (λ (t : PlacedToken). t.line ≤ 200000) b.block.value.tokens
-  pub within : place < length b.block.value.tokens
-  pub all : drop before (tokens_in_blocks blocks) ≡ moved_tokens b.lines_before (drop place b.block.value.tokens) ++ tokens_in_blocks (drop (block + 1) blocks)
-  pub begins : BeginsLine (tokens_in_blocks (drop (block + 1) blocks))
-  pub end : before + (length b.block.value.tokens - place) ≤ length (tokens_in_blocks blocks)
-  pub countable : length (tokens_in_blocks blocks) < 2 ^ 64
+  pub numbers : All (λ (t : PlacedToken). t.line ≤ 200000) b.chunk.value.tokens
+  pub within : place < length b.chunk.value.tokens
+  pub all : drop before (tokens_in_chunks chunks) ≡ moved_tokens b.lines_before (drop place b.chunk.value.tokens) ++ tokens_in_chunks (drop (chunk + 1) chunks)
+  pub begins : BeginsLine (tokens_in_chunks (drop (chunk + 1) chunks))
+  pub end : before + (length b.chunk.value.tokens - place) ≤ length (tokens_in_chunks chunks)
+  pub countable : length (tokens_in_chunks chunks) < 2 ^ 64
 
-IsHere-place : (lines : List (List ℕ)) (blocks : List PlacedBlock) (block place before : ℕ) (b : PlacedBlock) → AreBlocksOf lines blocks → IsPlace blocks block place before
-    → block < length blocks → IsHere blocks block place before (get_or blocks block b)
-IsHere-place lines blocks block place before b are is some =
-    let here = get_or blocks block b in
-    let tokens = here.block.value.tokens in
-    let front = tokens_in_blocks (take block blocks) in
-    let later = tokens_in_blocks (drop (block + 1) blocks) in
-    let at = AreBlocks-at lines 0 0 blocks block b are.each some in
-    let more = tokens_in-more blocks block b some in
+IsHere-place : (lines : List (List ℕ)) (chunks : List PlacedChunk) (chunk place before : ℕ) (b : PlacedChunk) → AreChunksOf lines chunks → IsPlace chunks chunk place before
+    → chunk < length chunks → IsHere chunks chunk place before (get_or chunks chunk b)
+IsHere-place lines chunks chunk place before b are is some =
+    let here = get_or chunks chunk b in
+    let tokens = here.chunk.value.tokens in
+    let front = tokens_in_chunks (take chunk chunks) in
+    let later = tokens_in_chunks (drop (chunk + 1) chunks) in
+    let at = AreChunks-at lines 0 0 chunks chunk b are.each some in
+    let more = tokens_in-more chunks chunk b some in
     let within : place < length tokens = by is.within more in
-    let parts : tokens_in_blocks blocks ≡ front ++ (tokens_there here ++ later) =
-    ap tokens_in_blocks (sym (take-append-drop block blocks))
-    ∙ flat_map-append tokens_there (take block blocks) (drop block blocks)
-    ∙ ap (λ bs. front ++ tokens_in_blocks bs) (drop_more blocks block b some) in
+    let parts : tokens_in_chunks chunks ≡ front ++ (tokens_there here ++ later) =
+    ap tokens_in_chunks (sym (take-append-drop chunk chunks))
+    ∙ flat_map-append tokens_there (take chunk chunks) (drop chunk chunks)
+    ∙ ap (λ bs. front ++ tokens_in_chunks bs) (drop_more chunks chunk b some) in
     let size : length (tokens_there here) ≡ length tokens = length-map tokens (moved_token here.lines_before) in
     record {
-      lines_before = omega (arith, at.is, at.block.some, at.block.within, length-drop at.behind lines, are.few);
-      numbers = subst (All (TokenWithin 200000)) (sym at.block.own)
-          (tokens_of-within 200000 (take here.block.value.lines (drop at.behind lines)) (omega (arith, length-take-le here.block.value.lines (drop at.behind lines) at.block.within, at.block.within, length-drop at.behind lines, are.few)));
+      lines_before = omega (arith, at.is, at.chunk.some, at.chunk.within, length-drop at.behind lines, are.few);
+      numbers = subst (All (TokenWithin 200000)) (sym at.chunk.own)
+          (tokens_of-within 200000 (take here.chunk.value.lines (drop at.behind lines)) (omega (arith, length-take-le here.chunk.value.lines (drop at.behind lines) at.chunk.within, at.chunk.within, length-drop at.behind lines, are.few)));
       within = within;
       all = ap (drop before) parts ∙ ap (λ n. drop n (front ++ (tokens_there here ++ later))) is.is
           ∙ sym (drop-drop place (length front) (front ++ (tokens_there here ++ later)))
           ∙ ap (drop place) (drop-append_seam front (tokens_there here ++ later))
           ∙ drop-append-le place (tokens_there here) later (omega (arith, within, size))
           ∙ ap (λ ts. ts ++ later) (drop-map (moved_token here.lines_before) place tokens);
-      begins = AreBlocks-behind lines 0 0 blocks (block + 1) are.each;
-      end = omega (arith, is.is, within, more, tokens_in-first blocks (block + 1));
+      begins = AreChunks-behind lines 0 0 chunks (chunk + 1) are.each;
+      end = omega (arith, is.is, within, more, tokens_in-first chunks (chunk + 1));
       countable = are.countable;
     }
   where
-    by : (before < length (tokens_in_blocks (take (block + 1) blocks))) ⊎ ((length blocks ≤ block) × (before ≡ length (tokens_in_blocks blocks)))
-        → length (tokens_in_blocks (take (block + 1) blocks)) ≡ length (tokens_in_blocks (take block blocks)) + length (get_or blocks block b).block.value.tokens
-        → place < length (get_or blocks block b).block.value.tokens
+    by : (before < length (tokens_in_chunks (take (chunk + 1) chunks))) ⊎ ((length chunks ≤ chunk) × (before ≡ length (tokens_in_chunks chunks)))
+        → length (tokens_in_chunks (take (chunk + 1) chunks)) ≡ length (tokens_in_chunks (take chunk chunks)) + length (get_or chunks chunk b).chunk.value.tokens
+        → place < length (get_or chunks chunk b).chunk.value.tokens
     by (inl less) more = omega (arith, less, is.is, more)
     by (inr none) more = absurd (omega (arith, some, none.0))
 
--- where a token is left, its place is one in a block
-pub IsHere-some : (blocks : List PlacedBlock) (block place before : ℕ) (b : PlacedBlock) (left : List PlacedToken) → AreOfSomeFile blocks → IsPlace blocks block place before
-    → drop before (tokens_in_blocks blocks) ≡ left → 0 < length left → IsHere blocks block place before (get_or blocks block b)
-IsHere-some blocks block place before b left file is e some =
-    IsHere-place file.0 blocks block place before b file.1 is
-    (IsPlace-some blocks block place before is (omega (arith, some, ap length e, length-drop before (tokens_in_blocks blocks))))
+-- where a token is left, its place is one in a chunk
+pub IsHere-some : (chunks : List PlacedChunk) (chunk place before : ℕ) (b : PlacedChunk) (left : List PlacedToken) → AreOfSomeFile chunks → IsPlace chunks chunk place before
+    → drop before (tokens_in_chunks chunks) ≡ left → 0 < length left → IsHere chunks chunk place before (get_or chunks chunk b)
+IsHere-some chunks chunk place before b left file is e some =
+    IsHere-place file.0 chunks chunk place before b file.1 is
+    (IsPlace-some chunks chunk place before is (omega (arith, some, ap length e, length-drop before (tokens_in_chunks chunks))))
 
 -- ---- the first line
 
--- The first line from a place on, which is within the place's block.
-pub record IsFirstLine (blocks : List PlacedBlock) (before place : ℕ) (b : PlacedBlock) (count : ℕ) : Type 0 where
-  pub within : count ≤ length (drop place b.block.value.tokens)
-  pub first : count ≡ 1 + followers_on_line (drop 1 (drop before (tokens_in_blocks blocks)))
-  pub line : take count (drop before (tokens_in_blocks blocks)) ≡ take count (moved_tokens b.lines_before (drop place b.block.value.tokens))
-  pub end : before + count ≤ length (tokens_in_blocks blocks)
+-- The first line from a place on, which is within the place's chunk.
+pub record IsFirstLine (chunks : List PlacedChunk) (before place : ℕ) (b : PlacedChunk) (count : ℕ) : Type 0 where
+  pub within : count ≤ length (drop place b.chunk.value.tokens)
+  pub first : count ≡ 1 + followers_on_line (drop 1 (drop before (tokens_in_chunks chunks)))
+  pub line : take count (drop before (tokens_in_chunks chunks)) ≡ take count (moved_tokens b.lines_before (drop place b.chunk.value.tokens))
+  pub end : before + count ≤ length (tokens_in_chunks chunks)
 
-pub IsFirstLine-here : (blocks : List PlacedBlock) (block place before : ℕ) (b : PlacedBlock) (here : List PlacedToken) (count : ℕ) → IsHere blocks block place before b
-    → here ≡ moved_tokens b.lines_before (drop place b.block.value.tokens) → count ≡ 1 + followers_on_line (drop 1 here) → IsFirstLine blocks before place b count
-IsFirstLine-here blocks block place before b here count at same is =
-    let tokens = drop place b.block.value.tokens in
+pub IsFirstLine-here : (chunks : List PlacedChunk) (chunk place before : ℕ) (b : PlacedChunk) (here : List PlacedToken) (count : ℕ) → IsHere chunks chunk place before b
+    → here ≡ moved_tokens b.lines_before (drop place b.chunk.value.tokens) → count ≡ 1 + followers_on_line (drop 1 here) → IsFirstLine chunks before place b count
+IsFirstLine-here chunks chunk place before b here count at same is =
+    let tokens = drop place b.chunk.value.tokens in
     let left = moved_tokens b.lines_before tokens in
-    let later = tokens_in_blocks (drop (block + 1) blocks) in
+    let later = tokens_in_chunks (drop (chunk + 1) chunks) in
     let size : length left ≡ length tokens = length-map tokens (moved_token b.lines_before) in
-    let some : 0 < length tokens = omega (arith, at.within, length-drop place b.block.value.tokens) in
+    let some : 0 < length tokens = omega (arith, at.within, length-drop place b.chunk.value.tokens) in
     let one : drop 1 (left ++ later) ≡ drop 1 left ++ later = drop-append-le 1 left later (omega (arith, some, size)) in
-    let alike : followers_on_line (drop 1 (drop before (tokens_in_blocks blocks))) ≡ followers_on_line (drop 1 left) =
+    let alike : followers_on_line (drop 1 (drop before (tokens_in_chunks chunks))) ≡ followers_on_line (drop 1 left) =
     ap (λ ts. followers_on_line (drop 1 ts)) at.all ∙ ap followers_on_line one ∙ followers-front (drop 1 left) later at.begins in
     let is_here : count ≡ 1 + followers_on_line (drop 1 left) = is ∙ ap (λ ts. 1 + followers_on_line (drop 1 ts)) same in
     let within : count ≤ length tokens = omega (arith, is_here, some, size, prefix_len-le-length (λ (t : PlacedToken). not t.starts_line) (drop 1 left), length-drop 1 left) in
@@ -318,7 +318,7 @@ IsFirstLine-here blocks block place before b here count at same is =
       within = within;
       first = omega (arith, is_here, alike);
       line = ap (take count) at.all ∙ take-append-le count left later (omega (arith, within, size));
-      end = omega (arith, within, at.end, at.within, length-drop place b.block.value.tokens);
+      end = omega (arith, within, at.end, at.within, length-drop place b.chunk.value.tokens);
     }
 
 -- tokens are those of their first line and those behind it
@@ -326,59 +326,59 @@ pub record IsParted (left line rest : List PlacedToken) : Type 0 where
   pub lines : lines_of left ≡ line ∷ lines_of rest
   pub all : left ≡ line ++ rest
 
-pub IsParted-first : (blocks : List PlacedBlock) (before place : ℕ) (b : PlacedBlock) (count : ℕ) (left here line rest : List PlacedToken) → IsFirstLine blocks before place b count
-    → drop before (tokens_in_blocks blocks) ≡ left → 0 < length left → here ≡ moved_tokens b.lines_before (drop place b.block.value.tokens)
-    → line ≡ take count here → rest ≡ drop (before + count) (tokens_in_blocks blocks) → IsParted left line rest
-IsParted-first blocks before place b count left here line rest first e some same front back =
+pub IsParted-first : (chunks : List PlacedChunk) (before place : ℕ) (b : PlacedChunk) (count : ℕ) (left here line rest : List PlacedToken) → IsFirstLine chunks before place b count
+    → drop before (tokens_in_chunks chunks) ≡ left → 0 < length left → here ≡ moved_tokens b.lines_before (drop place b.chunk.value.tokens)
+    → line ≡ take count here → rest ≡ drop (before + count) (tokens_in_chunks chunks) → IsParted left line rest
+IsParted-first chunks before place b count left here line rest first e some same front back =
     let line_is : take count left ≡ line = ap (take count) (sym e) ∙ first.line ∙ ap (take count) (sym same) ∙ sym front in
-    let rest_is : drop count left ≡ rest = ap (drop count) (sym e) ∙ drop-drop count before (tokens_in_blocks blocks) ∙ sym back in
+    let rest_is : drop count left ≡ rest = ap (drop count) (sym e) ∙ drop-drop count before (tokens_in_chunks chunks) ∙ sym back in
     record {
       lines = lines_of-first left count some (first.first ∙ ap (λ ts. 1 + followers_on_line (drop 1 ts)) e) ∙ (λ i. line_is i ∷ lines_of (rest_is i));
       all = sym (take-append-drop count left) ∙ (λ i. line_is i ++ rest_is i);
     }
 
--- ---- the block of a token
+-- ---- the chunk of a token
 
--- further blocks have no fewer lines before them
-AreBlocks-rises : (lines : List (List ℕ)) (lines_before tokens_before : ℕ) (blocks : List PlacedBlock) (i j : ℕ) (d : PlacedBlock) → AreBlocks lines lines_before tokens_before blocks → i ≤ j → j < length blocks
-    → (get_or blocks i d).lines_before ≤ (get_or blocks j d).lines_before
-AreBlocks-rises lines lb tb [] i j d are le lt = absurd (omega (arith, lt))
-AreBlocks-rises lines lb tb (b ∷ blocks) zero j d are le lt =
-    let at = AreBlocks-at lines lb tb (b ∷ blocks) j d are lt in
+-- further chunks have no fewer lines before them
+AreChunks-rises : (lines : List (List ℕ)) (lines_before tokens_before : ℕ) (chunks : List PlacedChunk) (i j : ℕ) (d : PlacedChunk) → AreChunks lines lines_before tokens_before chunks → i ≤ j → j < length chunks
+    → (get_or chunks i d).lines_before ≤ (get_or chunks j d).lines_before
+AreChunks-rises lines lb tb [] i j d are le lt = absurd (omega (arith, lt))
+AreChunks-rises lines lb tb (b ∷ chunks) zero j d are le lt =
+    let at = AreChunks-at lines lb tb (b ∷ chunks) j d are lt in
     omega (arith, at.is, are.0)
-AreBlocks-rises lines lb tb (b ∷ blocks) (suc i) zero d are le lt = absurd (omega (arith, le))
-AreBlocks-rises lines lb tb (b ∷ blocks) (suc i) (suc j) d are le lt =
-    let block = b.block.value in
-    AreBlocks-rises (drop block.lines lines) (lb + block.lines) (tb + length block.tokens) blocks i j d are.3 (omega (arith, le)) (omega (arith, lt))
+AreChunks-rises lines lb tb (b ∷ chunks) (suc i) zero d are le lt = absurd (omega (arith, le))
+AreChunks-rises lines lb tb (b ∷ chunks) (suc i) (suc j) d are le lt =
+    let chunk = b.chunk.value in
+    AreChunks-rises (drop chunk.lines lines) (lb + chunk.lines) (tb + length chunk.tokens) chunks i j d are.3 (omega (arith, le)) (omega (arith, lt))
 
--- further blocks have no fewer tokens before them
-pub tokens_before-rises : (lines : List (List ℕ)) (blocks : List PlacedBlock) → AreBlocksOf lines blocks → IsNonDecreasingBy (λ (b : PlacedBlock). b.tokens_before) blocks
-tokens_before-rises lines blocks are = λ i j d le lt.
-    let first = AreBlocks-at lines 0 0 blocks i d are.each (omega (arith, le, lt)) in
-    let second = AreBlocks-at lines 0 0 blocks j d are.each lt in
-    omega (arith, first.tokens, second.tokens, tokens_in-first (take j blocks) i, ap (λ bs. length (tokens_in_blocks bs)) (take-take i j blocks le))
+-- further chunks have no fewer tokens before them
+pub tokens_before-rises : (lines : List (List ℕ)) (chunks : List PlacedChunk) → AreChunksOf lines chunks → IsNonDecreasingBy (λ (b : PlacedChunk). b.tokens_before) chunks
+tokens_before-rises lines chunks are = λ i j d le lt.
+    let first = AreChunks-at lines 0 0 chunks i d are.each (omega (arith, le, lt)) in
+    let second = AreChunks-at lines 0 0 chunks j d are.each lt in
+    omega (arith, first.tokens, second.tokens, tokens_in-first (take j chunks) i, ap (λ bs. length (tokens_in_chunks bs)) (take-take i j chunks le))
 
 -- and no fewer lines
-pub lines_before-rises : (lines : List (List ℕ)) (blocks : List PlacedBlock) → AreBlocksOf lines blocks → IsNonDecreasingBy (λ (b : PlacedBlock). b.lines_before) blocks
-lines_before-rises lines blocks are = λ i j d le lt. AreBlocks-rises lines 0 0 blocks i j d are.each le lt
+pub lines_before-rises : (lines : List (List ℕ)) (chunks : List PlacedChunk) → AreChunksOf lines chunks → IsNonDecreasingBy (λ (b : PlacedChunk). b.lines_before) chunks
+lines_before-rises lines chunks are = λ i j d le lt. AreChunks-rises lines 0 0 chunks i j d are.each le lt
 
--- The place of a token: its block is the last of those that have so few tokens before them.
-pub record IsNear (blocks : List PlacedBlock) (before block : ℕ) (b : PlacedBlock) : Type 0 where
+-- The place of a token: its chunk is the last of those that have so few tokens before them.
+pub record IsNear (chunks : List PlacedChunk) (before chunk : ℕ) (b : PlacedChunk) : Type 0 where
   pub few : b.tokens_before ≤ before
-  pub is : b.tokens_before ≡ length (tokens_in_blocks (take block blocks))
+  pub is : b.tokens_before ≡ length (tokens_in_chunks (take chunk chunks))
 
-pub IsNear-point : (lines : List (List ℕ)) (blocks : List PlacedBlock) (before count block : ℕ) (b : PlacedBlock) → AreBlocksOf lines blocks
-    → AllWithin (λ (x : PlacedBlock). leb x.tokens_before before ≡ true) blocks 0 count → block ≡ count - 1 → block < length blocks → b ≡ get_or blocks block b → IsNear blocks before block b
-IsNear-point lines blocks before count block b are few is lt same =
-    let at = AreBlocks-at lines 0 0 blocks block b are.each lt in
-    let tokens = ap (λ (x : PlacedBlock). x.tokens_before) same in
-    record { few = omega (arith, tokens, by block few is lt); is = omega (arith, tokens, at.tokens) }
+pub IsNear-point : (lines : List (List ℕ)) (chunks : List PlacedChunk) (before count chunk : ℕ) (b : PlacedChunk) → AreChunksOf lines chunks
+    → AllWithin (λ (x : PlacedChunk). leb x.tokens_before before ≡ true) chunks 0 count → chunk ≡ count - 1 → chunk < length chunks → b ≡ get_or chunks chunk b → IsNear chunks before chunk b
+IsNear-point lines chunks before count chunk b are few is lt same =
+    let at = AreChunks-at lines 0 0 chunks chunk b are.each lt in
+    let tokens = ap (λ (x : PlacedChunk). x.tokens_before) same in
+    record { few = omega (arith, tokens, by chunk few is lt); is = omega (arith, tokens, at.tokens) }
   where
-    by : (k : ℕ) → AllWithin (λ (x : PlacedBlock). leb x.tokens_before before ≡ true) blocks 0 count → k ≡ count - 1 → k < length blocks → (get_or blocks k b).tokens_before ≤ before
-    by zero few is lt = omega (arith, (AreBlocks-at lines 0 0 blocks 0 b are.each lt).tokens)
-    by (suc k) few is lt = leb-true (get_or blocks (suc k) b).tokens_before before (few (suc k) b (omega arith) (omega (arith, is)))
+    by : (k : ℕ) → AllWithin (λ (x : PlacedChunk). leb x.tokens_before before ≡ true) chunks 0 count → k ≡ count - 1 → k < length chunks → (get_or chunks k b).tokens_before ≤ before
+    by zero few is lt = omega (arith, (AreChunks-at lines 0 0 chunks 0 b are.each lt).tokens)
+    by (suc k) few is lt = leb-true (get_or chunks (suc k) b).tokens_before before (few (suc k) b (omega arith) (omega (arith, is)))
 
--- no block has no token
-pub no_tokens : (blocks : List PlacedBlock) → length blocks ≡ 0 → length (tokens_in_blocks blocks) ≡ 0
+-- no chunk has no token
+pub no_tokens : (chunks : List PlacedChunk) → length chunks ≡ 0 → length (tokens_in_chunks chunks) ≡ 0
 no_tokens [] none = refl
-no_tokens (b ∷ blocks) none = absurd (omega (arith, none))
+no_tokens (b ∷ chunks) none = absurd (omega (arith, none))

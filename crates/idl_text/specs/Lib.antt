@@ -1,4 +1,4 @@
-pub mod Block
+pub mod Chunk
 pub mod Cut
 pub mod Jump
 pub mod Line

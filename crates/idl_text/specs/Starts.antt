@@ -1,5 +1,5 @@
 -- Where the tokens of a file begin, and the column of one that is asked for.
--- A column is found when it is asked for, in a block of some 64 lines, of which only white space
+-- A column is found when it is asked for, in a chunk of some 64 lines, of which only white space
 -- and comments have to be told apart from tokens. So a call doesn't grow with the file, and takes
 -- no memory.
 use Rattle.std.specs.Prelude.{ℕ, zero, suc, List, [], ◌∷◌, ◌++◌, drop, filter, length, map, nat_eq, slice_get, take, Option, None, Some, if◌then◌else◌}

@@ -1,9 +1,9 @@
-//! A file as those who walk over it see it: its tokens by blocks, its lines by their directives, the tree that these are, and
+//! A file as those who walk over it see it: its tokens by chunks, its lines by their directives, the tree that these are, and
 //! how far each branch goes, so that a branch that isn't taken is jumped over.
 //!
 //! Nothing here knows what is told of a file, or which branches are taken.
 //!
-//! `lex` makes a file's blocks, which end where the next line begins in nothing. `Matching` makes the table of branches
+//! `lex` makes a file's chunks, which end where the next line begins in nothing. `Matching` makes the table of branches
 //! once, over the directives with the open branches on a stack. `LinesLeft::jump` looks a branch up by how many tokens
 //! are before it.
 #![tactic(auto)]

@@ -1,7 +1,7 @@
 //! The tokens of a file.
 
-pub(crate) mod block;
-pub(crate) mod blocks;
+pub(crate) mod chunk;
+pub(crate) mod chunks;
 pub(crate) mod column;
 pub(crate) mod file_tokens;
 pub(crate) mod lexed;

@@ -1,7 +1,7 @@
 -- Tokens apart from their places.
 use Rattle.std.specs.Prelude.{List, [], ◌∷◌}
 use Rattle.idl_lex.specs.tokens.Tokens.{Token}
-use Rattle.idl_lex.specs.declared.tokens.block_tokens.TokenPlace.{TokenPlace}
+use Rattle.idl_lex.specs.declared.tokens.chunk_tokens.TokenPlace.{TokenPlace}
 use Rattle.idl_lex.specs.declared.tokens.token.PlacedToken.{PlacedToken}
 
 -- a token at its place

@@ -15,7 +15,7 @@ use crate::bytes::context::{Context, ends_block, is_gap};
 use crate::bytes::state::{Inside, closing_end, further, taken, word_len};
 use crate::kinds::kind::kind_of_word;
 use crate::kinds::mark_table::is_lone_mark;
-use crate::tokens::block_tokens::TokenBuffer;
+use crate::tokens::chunk_tokens::TokenBuffer;
 use crate::tokens::logical::Logical;
 use crate::tokens::token::PlacedToken;
 use std::alloc::AllocError;

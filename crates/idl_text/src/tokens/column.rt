@@ -16,7 +16,7 @@ use idl_source::Line;
 /// How many bytes of its line are before a token of a file: before the one that has this number on the line, from 0 on, if it is
 /// spelled so, or else before the only one there that is. What goes over joined lines has no column.
 ///
-/// It takes no memory, and goes over the block of the line alone.
+/// It takes no memory, and goes over the chunk of the line alone.
 pub fn column_in(lexed: &Lexed, line: u32, number: Option<usize>, text: &[u8]) -> Option<usize>
     ensures { result ≡ column_in lexed.now line number text.now }
 {

@@ -4,17 +4,17 @@ ghost use Rattle.std.specs.Prelude.{◌≡◌, ◌≤◌, ◌<◌, ◌+◌, ◌+
 ghost use Rattle.std.specs.List.{All, prefix_len};
 ghost use Rattle.idl_text.specs.Moved.{moved_tokens};
 ghost use Rattle.idl_lex.specs.tokens.Tokens.{BeginsLine, followers_on_line, is_text, lines_of, tokens_in};
-ghost use Rattle.idl_lex.specs.declared.tokens.block_tokens.TokenPlace as place;
+ghost use Rattle.idl_lex.specs.declared.tokens.chunk_tokens.TokenPlace as place;
 ghost use Rattle.idl_lex.specs.declared.tokens.token.PlacedToken as spec;
 
-use crate::tokens::block::Block;
+use crate::tokens::chunk::Chunk;
 use crate::tokens::token_range::TokenRange;
-use idl_lex::{BlockTokens, Token, TokenPlace};
+use idl_lex::{ChunkTokens, Token, TokenPlace};
 use std::alloc::AllocError;
 use std::marker::Model;
 use std::rc::Rc;
 
-/// A token of a block, where it stands in a file.
+/// A token of a chunk, where it stands in a file.
 #[derive(Drop)]
 pub struct FileToken<'a> {
     token: &'a Token,
@@ -65,10 +65,10 @@ impl<'a> FileToken<'a> {
     }
 }
 
-/// Tokens of a block from one place up to another, where they stand in a file. To every contract they are their list.
+/// Tokens of a chunk from one place up to another, where they stand in a file. To every contract they are their list.
 #[derive(Drop)]
 pub struct FileTokens<'a> {
-    tokens: &'a BlockTokens,
+    tokens: &'a ChunkTokens,
     lines_before: u32,
     from: usize,
     to: usize,
@@ -92,15 +92,15 @@ impl<'a> Model for FileTokens<'a> {
 }
 
 impl<'a> FileTokens<'a> {
-    /// The tokens of a block from a place on, where so many lines of the file are before the block.
-    pub(crate) fn new(block: &'a Rc<Block>, lines_before: u32, from: usize) -> FileTokens<'a>
-        requires within { from ≤ length block.now.value.tokens }
+    /// The tokens of a chunk from a place on, where so many lines of the file are before the chunk.
+    pub(crate) fn new(chunk: &'a Rc<Chunk>, lines_before: u32, from: usize) -> FileTokens<'a>
+        requires within { from ≤ length chunk.now.value.tokens }
         requires lines { lines_before ≤ 200000 }
         requires numbers { All (λ (t : spec.PlacedToken). t.line ≤ 200000)
-            block.now.value.tokens }
-        ensures { result ≡ moved_tokens lines_before (drop from block.now.value.tokens) }
+            chunk.now.value.tokens }
+        ensures { result ≡ moved_tokens lines_before (drop from chunk.now.value.tokens) }
     {
-        let tokens = &block.tokens;
+        let tokens = &chunk.tokens;
         FileTokens {
             tokens,
             lines_before,
@@ -220,7 +220,7 @@ impl<'a> FileTokens<'a> {
         (first, rest)
     }
 
-    /// The tokens, shared with their block from now on. Numbers from the first 2^32 on are as want of memory.
+    /// The tokens, shared with their chunk from now on. Numbers from the first 2^32 on are as want of memory.
     pub fn shared(&self) -> Result<TokenRange, AllocError>
         ensures { IfOk result (λ range. range ≡ tokens_in self.now) }
     {

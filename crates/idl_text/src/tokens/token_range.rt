@@ -9,7 +9,7 @@ ghost use Rattle.std.specs.Str.{bytes_eq};
 ghost use Rattle.std.proofs.Common.{ap};
 ghost use Rattle.idl_lex.specs.tokens.Tokens.{tokens_in, tokens_of};
 
-use crate::tokens::block::{Ends, cut_block};
+use crate::tokens::chunk::{Ends, cut_chunk};
 use idl_base::Datum;
 use idl_lex::Token;
 use idl_source::Line;
@@ -53,8 +53,8 @@ impl TokenRange {
             lines: lines.len(),
             old: None,
         };
-        let block = cut_block(alloc, lines, ends)?;
-        let tokens = block.tokens.tokens().clone()?;
+        let chunk = cut_chunk(alloc, lines, ends)?;
+        let tokens = chunk.tokens.tokens().clone()?;
         let to = tokens.len();
         TokenRange::new(tokens, 0, to)
     }

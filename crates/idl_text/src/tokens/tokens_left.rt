@@ -1,60 +1,60 @@
 //! A walk over the tokens of a file, line by line.
 
 ghost use Rattle.std.specs.Prelude.{◌≡◌, ◌≤◌, ◌<◌, ◌++◌, ◌∷◌, [], ◌↔◌, ◌+◌, IsTrue, drop, length, take, true};
-ghost use Rattle.idl_text.specs.Block.{AreOfSomeFile, tokens_in_blocks};
+ghost use Rattle.idl_text.specs.Chunk.{AreOfSomeFile, tokens_in_chunks};
 ghost use Rattle.std.specs.List.{All};
 ghost use Rattle.idl_lex.specs.tokens.Tokens.{is_text, lines_of};
 
-use crate::tokens::block::PlacedBlock;
+use crate::tokens::chunk::PlacedChunk;
 use crate::tokens::file_tokens::FileTokens;
 use std::marker::Model;
 
 /// The tokens of a file that are left, from a place on. To every contract they are their list.
 #[derive(Drop)]
 pub struct TokensLeft<'a> {
-    blocks: &'a [PlacedBlock],
-    // The first of them: its block, its place in that, and how many tokens of the file are before it. Where none is left,
-    // there is no such block.
-    block: usize,
+    chunks: &'a [PlacedChunk],
+    // The first of them: its chunk, its place in that, and how many tokens of the file are before it. Where none is left,
+    // there is no such chunk.
+    chunk: usize,
     place: usize,
     before: usize,
 }
 
 impl<'a> Model for TokensLeft<'a> {
     ghost use Rattle.std.specs.Prelude.{List, drop};
-    ghost use Rattle.idl_text.specs.Block.{AreOfSomeFile, IsPlace, tokens_in_blocks};
+    ghost use Rattle.idl_text.specs.Chunk.{AreOfSomeFile, IsPlace, tokens_in_chunks};
     ghost use Rattle.idl_lex.specs.declared.tokens.token.PlacedToken.{PlacedToken};
 
     ghost Value = { List PlacedToken };
 
-    ghost view = { λ left. drop left.before (tokens_in_blocks left.blocks.now) };
+    ghost view = { λ left. drop left.before (tokens_in_chunks left.chunks.now) };
 
-    ghost invariant = { λ left. AreOfSomeFile left.blocks.now
-        × IsPlace left.blocks.now left.block left.place left.before };
+    ghost invariant = { λ left. AreOfSomeFile left.chunks.now
+        × IsPlace left.chunks.now left.chunk left.place left.before };
 }
 
 impl<'a> TokensLeft<'a> {
-    /// The tokens from a place of a block on, or of those behind it where it has fewer.
+    /// The tokens from a place of a chunk on, or of those behind it where it has fewer.
     pub(crate) fn new(
-        blocks: &'a [PlacedBlock],
+        chunks: &'a [PlacedChunk],
         near: usize,
         from: usize,
         before: usize,
     ) -> TokensLeft<'a>
-        requires blocks { AreOfSomeFile blocks.now }
-        requires place { before ≡ length (tokens_in_blocks (take near blocks.now)) + from }
-        requires within { before ≤ length (tokens_in_blocks blocks.now) }
-        ensures { result ≡ drop before (tokens_in_blocks blocks.now) }
+        requires chunks { AreOfSomeFile chunks.now }
+        requires place { before ≡ length (tokens_in_chunks (take near chunks.now)) + from }
+        requires within { before ≤ length (tokens_in_chunks chunks.now) }
+        ensures { result ≡ drop before (tokens_in_chunks chunks.now) }
     {
-        let mut block = near;
+        let mut chunk = near;
         let mut place = from;
-        'on: while block < blocks.len() && blocks[block].block.tokens.len() <= place {
-            place -= blocks[block].block.tokens.len();
-            block += 1;
+        'on: while chunk < chunks.len() && chunks[chunk].chunk.tokens.len() <= place {
+            place -= chunks[chunk].chunk.tokens.len();
+            chunk += 1;
         }
         TokensLeft {
-            blocks,
-            block,
+            chunks,
+            chunk,
             place,
             before,
         }
@@ -64,7 +64,7 @@ impl<'a> TokensLeft<'a> {
     pub fn is_empty(&self) -> bool
         ensures { IsTrue result ↔ (self.now ≡ []) }
     {
-        self.blocks.len() <= self.block
+        self.chunks.len() <= self.chunk
     }
 
     /// The tokens of the first line, and those after it.
@@ -74,13 +74,13 @@ impl<'a> TokensLeft<'a> {
         ensures all { self.now ≡ result.0 ++ result.1 }
         ensures some { 0 < length result.0 }
     {
-        let placed = &self.blocks[self.block];
-        let here = FileTokens::new(&placed.block, placed.lines_before as u32, self.place);
+        let placed = &self.chunks[self.chunk];
+        let here = FileTokens::new(&placed.chunk, placed.lines_before as u32, self.place);
         let count = here.first_line_len();
         let (line, _rest) = here.split_at(count);
         let rest = TokensLeft::new(
-            self.blocks,
-            self.block,
+            self.chunks,
+            self.chunk,
             self.place + count,
             self.before + count,
         );
@@ -95,13 +95,13 @@ impl<'a> TokensLeft<'a> {
         ensures all { self.now ≡ result.0 ++ result.1 }
         ensures text { All (λ line. is_text line ≡ true) (lines_of result.0) }
     {
-        let placed = &self.blocks[self.block];
-        let here = FileTokens::new(&placed.block, placed.lines_before as u32, self.place);
+        let placed = &self.chunks[self.chunk];
+        let here = FileTokens::new(&placed.chunk, placed.lines_before as u32, self.place);
         let count = here.text_len();
         let (text, _rest) = here.split_at(count);
         let rest = TokensLeft::new(
-            self.blocks,
-            self.block,
+            self.chunks,
+            self.chunk,
             self.place + count,
             self.before + count,
         );

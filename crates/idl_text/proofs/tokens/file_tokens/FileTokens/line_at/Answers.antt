@@ -4,7 +4,7 @@ use Rattle.std.proofs.lemmas.List.Elements.{All-get_or}
 use Rattle.std.specs.List.{slice_get, slice_range}
 use Rattle.idl_lex.specs.tokens.Apart.{place_of, placed_at}
 use Rattle.idl_text.specs.Moved.{moved_token}
-use Rattle.idl_lex.specs.declared.tokens.block_tokens.TokenPlace.{TokenPlace}
+use Rattle.idl_lex.specs.declared.tokens.chunk_tokens.TokenPlace.{TokenPlace}
 use Rattle.idl_lex.specs.declared.tokens.token.PlacedToken.{PlacedToken}
 use Rattle.idl_base.proofs.PartLemmas.{length-part}
 use Rattle.idl_text.proofs.WalkLemmas.{line-read}

@@ -1,7 +1,7 @@
 use Rattle.std.proofs.Common.{◌∙◌, ap, drop}
 use Rattle.std.specs.List.{slice_range}
 use Rattle.idl_text.specs.Moved.{moved_tokens}
-use Rattle.idl_text.specs.declared.tokens.block.Block.{Block}
+use Rattle.idl_text.specs.declared.tokens.chunk.Chunk.{Chunk}
 use Rattle.idl_base.proofs.PartLemmas.{part-rest}
 use Rattle.idl_text.proofs.tokens.file_tokens.FileTokens.new.Goals as goal
 
@@ -12,4 +12,4 @@ returns c =
     let down = c.args.lines_before in
     ap (λ n. moved_tokens down (slice_range tokens from n)) c.len.ensures
     ∙ ap (moved_tokens down) (part-rest tokens from)
-    ∙ ap (λ (b : Block). moved_tokens down (drop from b.tokens)) c.deref.ensures
+    ∙ ap (λ (b : Chunk). moved_tokens down (drop from b.tokens)) c.deref.ensures

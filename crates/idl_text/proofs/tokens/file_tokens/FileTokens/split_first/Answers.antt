@@ -5,7 +5,7 @@ use Rattle.std.specs.List.{slice_range}
 use Rattle.idl_lex.specs.tokens.Apart.{place_of, placed_at}
 use Rattle.idl_text.specs.Moved.{moved_token, moved_tokens}
 use Rattle.idl_lex.specs.tokens.Tokens.{tokens_in}
-use Rattle.idl_lex.specs.declared.tokens.block_tokens.TokenPlace.{TokenPlace}
+use Rattle.idl_lex.specs.declared.tokens.chunk_tokens.TokenPlace.{TokenPlace}
 use Rattle.idl_lex.specs.declared.tokens.token.PlacedToken.{PlacedToken}
 use Rattle.idl_lex.proofs.ApartLemmas.{placed_at-read}
 use Rattle.idl_base.proofs.PartLemmas.{part-first}

@@ -4,7 +4,7 @@ use Rattle.std.specs.List.{prefix_len}
 use Rattle.std.specs.Str.{bytes_eq}
 use Rattle.std.specs.Prelude.{not}
 use Rattle.idl_lex.specs.tokens.Tokens.{followers_on_line, tokens_in}
-use Rattle.idl_lex.specs.declared.tokens.block_tokens.TokenPlace.{TokenPlace}
+use Rattle.idl_lex.specs.declared.tokens.chunk_tokens.TokenPlace.{TokenPlace}
 use Rattle.idl_lex.specs.declared.tokens.token.PlacedToken.{PlacedToken}
 use Rattle.idl_text.proofs.TextLemmas.{IsMoreText-next, IsText-none, is_text-read}
 use Rattle.idl_text.proofs.WalkLemmas.{followers-from}
