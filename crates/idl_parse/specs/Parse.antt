@@ -2,40 +2,25 @@
 -- The reader tells the place at which a unit stops being a beginning, since whether tokens are one
 -- can't be computed as it is said. That it is the place in the words of beginnings is the law
 -- `stopping`.
-use Rattle.std.specs.Prelude.{◌≡◌, ◌≢◌, ◌⊎◌, ◌+◌, ◌-◌, ℕ, Bool, List, [], ◌∷◌, ◌++◌, length, take, is_some, Option, None, Some, if◌then◌else◌}
+use Rattle.std.specs.Prelude.{◌≡◌, ◌≢◌, ◌⊎◌, ◌+◌, ◌-◌, ℕ, Bool, List, [], ◌∷◌, ◌++◌, length, take, is_some, None, Some, if◌then◌else◌}
 use Rattle.idl_fault.specs.declared.code.Code.TheVariants.{PragmaInside, MalformedPragma}
 use Rattle.idl_lex.specs.tokens.Tokens.{Token}
 use Rattle.idl_parse.specs.declared.fault.SyntaxFault.{SyntaxFault}
 use Rattle.idl_parse.specs.declared.fault.SyntaxFault.TheVariants as fault
-use Rattle.idl_parse.specs.declared.unit_tree.UnitTree.{UnitTree}
-use Rattle.idl_parse.specs.declared.unit_tree.UnitTree.TheVariants as tree
 use Rattle.idl_tree.specs.reading.Fault.{Begins}
 use Rattle.idl_tree.specs.Lexeme.{Lexemes, lexemes}
 use Rattle.idl_tree.specs.Pragma.{pragma_of}
 use Rattle.idl_tree.specs.Unit.{spell}
 use Rattle.idl_tree.specs.declared.unit.Tree.{Tree}
+use Rattle.idl_unit.specs.Faults.{least_fault}
 use Rattle.idl_unit.specs.TokenRules.{fault_at, token_faults}
 use Rattle.idl_unit.specs.declared.fault.Fault.{Fault}
-use Rattle.idl_unit.specs.declared.unit.UnitText.{UnitText}
-use Rattle.idl_unit.specs.declared.unit.UnitText.TheVariants as unit
 
 -- the faults of a pragma that stands inside a unit of tokens or outside, at the word `pragma`
 abbrev pub pragma_faults : List Token → Bool → List Fault
 pragma_faults tokens inside =
     (if inside then fault_at 0 PragmaInside ∷ [] else [])
     ++ (if is_some (pragma_of tokens) then [] else fault_at 0 MalformedPragma ∷ [])
-
--- what the rules of tokens find in a unit; in a pragma none of them counts but its form and where it
--- stands
-abbrev pub rule_faults : UnitText → List Fault
-rule_faults (unit.Tokens tokens) = token_faults tokens
-rule_faults (unit.Pragma tokens inside) = pragma_faults tokens inside
-
--- a unit is the spelling of its tree
-abbrev pub IsTreeOf : UnitText → UnitTree → Type 0
-IsTreeOf (unit.Tokens tokens) (tree.Tokens t) = lexemes tokens ≡ spell t
-IsTreeOf (unit.Pragma tokens inside) (tree.Pragma p) = pragma_of tokens ≡ Some p
-IsTreeOf text other = ⊥
 
 -- the tokens before the one with this number are the beginning of a tree, and through it they are
 -- none
@@ -49,10 +34,10 @@ StopsAt tokens n =
     ((tree : Tree) → lexemes tokens ≢ spell tree)
     × (BeginsUpTo (lexemes tokens) n ⊎ (Begins spell (lexemes tokens) × (n ≡ length tokens - 1)))
 
--- why a unit, in which the rules found this, has no tree; want of memory says nothing
-abbrev pub IsFaultOf : UnitText → Option Fault → SyntaxFault → Type 0
-IsFaultOf text found fault.Memory = Unit {0}
-IsFaultOf text found (fault.Rule f) = found ≡ Some f
-IsFaultOf (unit.Tokens tokens) found (fault.NoTree left) =
-    (found ≡ None) × StopsAt tokens (length tokens - left)
-IsFaultOf text found other = ⊥
+-- why tokens have no tree: the least of what the rules find, or else where they stop being the
+-- beginning of one; want of memory says nothing
+abbrev pub IsFaultOf : List Token → SyntaxFault → Type 0
+IsFaultOf tokens fault.Memory = Unit {0}
+IsFaultOf tokens (fault.Rule f) = least_fault (token_faults tokens) ≡ Some f
+IsFaultOf tokens (fault.NoTree left) =
+    (least_fault (token_faults tokens) ≡ None) × StopsAt tokens (length tokens - left)

@@ -1,5 +1,5 @@
 //! The parser of OMG IDL units: the tree of a unit, or its fault, with the place where the unit stops
-//! being the beginning of one.
+//! being the beginning of one; and what a pragma says.
 //!
 //! The rules of tokens come first, so what nests more than 64 levels is refused. Of the rest the readers of `idl_syntax`
 //! make trees, and are allowed 65 levels. The laws of reading speak of readers with more levels than tokens; that both
@@ -7,7 +7,7 @@
 #![tactic(auto)]
 
 mod fault;
-mod unit_tree;
+mod parse;
 
 pub use fault::SyntaxFault;
-pub use unit_tree::{UnitTree, parse};
+pub use parse::{parse_pragma, parse_tokens};

@@ -5,7 +5,7 @@ ghost use Rattle.idl_related.specs.Told.{AreFew, TellsMore, most_told};
 
 use crate::denoting::{NameContext, entities_by, entity_at};
 use crate::known::KnownUnits;
-use crate::names::tree_of;
+use crate::names::{pragma_of, tree_of};
 use crate::repeated::{UnitReplay, WalkStart};
 use crate::second::{Reason, Second, TokenPosition};
 use idl_base::{Bytes, Shared};
@@ -14,7 +14,6 @@ use idl_entity::{Entity, Path};
 use idl_env::{DigestedKey, Env, Facts, OpenScopes, scopes_in};
 use idl_fault::Code;
 use idl_memo::Bank;
-use idl_parse::UnitTree;
 use idl_parts::{UnitPart, Use, sites};
 use idl_scope::{ScopeAt, Standpoint, View};
 use idl_tree::{Pragma, ScopedName, Tree};
@@ -41,14 +40,14 @@ impl<'a> About<'a> {
     pub fn seconds(self, scratch: &mut Scratch) -> Result<Vec<Second>, AllocError>
         ensures { IfOk result (λ seconds. AreFew seconds.items) }
     {
-        let Some(tree) = tree_of(self.alloc(), self.text)? else {
-            return Ok(Vec::new(self.alloc()));
-        };
         let none = OpenScopes::none();
         let scopes = scopes_in(self.env.answer(&DigestedKey::cursor()), &none);
-        match &tree {
-            UnitTree::Tokens(tree) => self.of_tokens(scratch, scopes, tree),
-            UnitTree::Pragma(pragma) => self.of_pragma(scopes, pragma),
+        if let Some(tree) = tree_of(self.alloc(), self.text)? {
+            return self.of_tokens(scratch, scopes, &tree);
+        }
+        match pragma_of(self.alloc(), self.text)? {
+            Some(pragma) => self.of_pragma(scopes, &pragma),
+            None => Ok(Vec::new(self.alloc())),
         }
     }
 

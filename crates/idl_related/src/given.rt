@@ -4,13 +4,12 @@ ghost use Rattle.std.specs.Prelude.{IfOk};
 ghost use Rattle.idl_related.specs.Told.{AreFew};
 
 use crate::about::About;
-use crate::names::{last_at, length_of, tree_of};
+use crate::names::{last_at, length_of, pragma_of, tree_of};
 use crate::second::{Reason, Second};
 use idl_entity::Path;
 use idl_env::LentKey;
 use idl_fault::Code;
 use idl_map::Lent;
-use idl_parse::UnitTree;
 use idl_parts::{UnitPart, Use, sites};
 use idl_tree::{Pragma, Tree};
 use std::alloc::{AllocError, Global};
@@ -45,12 +44,12 @@ impl<'a> About<'a> {
         let Some(text) = self.known.text(unit) else {
             return Ok(None);
         };
-        let Some(tree) = tree_of(self.alloc(), text)? else {
-            return Ok(None);
-        };
-        match &tree {
-            UnitTree::Tokens(tree) => given_in(self.alloc(), tree),
-            UnitTree::Pragma(pragma) => Ok(given_by(pragma)),
+        if let Some(tree) = tree_of(self.alloc(), text)? {
+            return given_in(self.alloc(), &tree);
+        }
+        match pragma_of(self.alloc(), text)? {
+            Some(pragma) => Ok(given_by(&pragma)),
+            None => Ok(None),
         }
     }
 }

@@ -5,9 +5,9 @@ ghost use Rattle.idl_tree.specs.NameParts.{part_at};
 
 use idl_base::Bytes;
 use idl_entity::Path;
-use idl_parse::{SyntaxFault, UnitTree, parse};
+use idl_parse::{SyntaxFault, parse_pragma, parse_tokens};
 use idl_parts::{UnitPart, sites};
-use idl_tree::{ScopedName, Tree};
+use idl_tree::{Pragma, ScopedName, Tree};
 use idl_unit::UnitText;
 use std::alloc::{AllocError, Global};
 
@@ -32,22 +32,30 @@ pub fn declared_names(
     text: &UnitText,
     around: &Path,
 ) -> Result<Vec<NameDeclaration>, AllocError> {
-    let Some(tree) = tree_of(alloc, text)? else {
-        return Ok(Vec::new(alloc));
-    };
-    match &tree {
-        UnitTree::Tokens(tree) => names_in(alloc, tree, around),
-        UnitTree::Pragma(_) => Ok(Vec::new(alloc)),
+    match tree_of(alloc, text)? {
+        Some(tree) => names_in(alloc, &tree, around),
+        None => Ok(Vec::new(alloc)),
     }
 }
 
-/// The tree of a unit, if it has one.
-pub fn tree_of(alloc: Global, text: &UnitText) -> Result<Option<UnitTree>, AllocError> {
-    match parse(alloc, text) {
+/// The tree of a unit of tokens, if it has one.
+pub fn tree_of(alloc: Global, text: &UnitText) -> Result<Option<Tree>, AllocError> {
+    let UnitText::Tokens(tokens) = text else {
+        return Ok(None);
+    };
+    match parse_tokens(alloc, tokens.as_slice()) {
         Ok(tree) => Ok(Some(tree)),
         Err(SyntaxFault::Memory) => Err(AllocError),
         Err(SyntaxFault::Rule(_) | SyntaxFault::NoTree(_)) => Ok(None),
     }
+}
+
+/// What a unit says that is a pragma, if there is nothing wrong with its form and place.
+pub fn pragma_of(alloc: Global, text: &UnitText) -> Result<Option<Pragma>, AllocError> {
+    let UnitText::Pragma(tokens, inside) = text else {
+        return Ok(None);
+    };
+    Ok(parse_pragma(alloc, tokens.as_slice(), *inside)?.ok())
 }
 
 // Those of a unit with this tree.

@@ -12,7 +12,6 @@ use idl_check::{Scratch, UnitWalk};
 use idl_entity::Path;
 use idl_env::{Env, LentKey, OpenScopes};
 use idl_map::Lent;
-use idl_parse::UnitTree;
 use idl_parts::{Purpose, UnitPart, sites};
 use idl_scope::Standpoint;
 use idl_tree::{ScopedName, Tree};
@@ -116,12 +115,9 @@ impl<'a> About<'a> {
 
 // The token of a unit with which the first use begins whose first part has the name with which a path ends, in any case.
 fn using_token(alloc: Global, text: &UnitText, path: &Path) -> Result<Option<usize>, AllocError> {
-    let Some(tree) = tree_of(alloc, text)? else {
-        return Ok(None);
-    };
-    match &tree {
-        UnitTree::Tokens(tree) => used_in(alloc, tree, path),
-        UnitTree::Pragma(_) => Ok(None),
+    match tree_of(alloc, text)? {
+        Some(tree) => used_in(alloc, &tree, path),
+        None => Ok(None),
     }
 }
 

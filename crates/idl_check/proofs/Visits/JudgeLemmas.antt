@@ -1,14 +1,15 @@
 -- The three steps of a verdict, run.
-use Rattle.std.proofs.Common.{◌≡◌, ℕ, List, [], ◌∷◌, ◌++◌, Option, None, Some, Ok, Err, refl, sym, ap, ◌∙◌, arith, ◌≤◌}
+use Rattle.std.proofs.Common.{◌≡◌, ℕ, List, [], ◌∷◌, ◌++◌, Option, None, Some, Result, Ok, Err, refl, sym, ap, ◌∙◌, append-nil, arith, ◌≤◌}
 use Rattle.std.proofs.lemmas.Option.{same_Some}
 use Rattle.std.proofs.lemmas.List.{length-map}
 use Rattle.std.specs.Prelude.{fold, length}
 use Rattle.idl_check.proofs.Faults.LeastFault.{least-none}
 use Rattle.idl_memo.specs.Query.{Ask, Done, Tell, and_then}
 use Rattle.idl_memo.proofs.QueryLaws.{run-and_then_at}
+use Rattle.idl_check.proofs.Visits.VerdictLaws.{spelled-tree, stopped-tree, tree-spelled}
 use Rattle.idl_check.proofs.Visits.VisitLemmas.{runs_over}
 use Rattle.idl_check.specs.walk.Placing.{opening_faults, step_of}
-use Rattle.idl_check.specs.walk.Verdict.{asking, by_names, by_tree, first_faults, judged, refused, sound, token_verdict, tree_of}
+use Rattle.idl_check.specs.walk.Verdict.{asking, first_faults, judged, refused, sound, tree_by, tree_of, unit_tree}
 use Rattle.idl_check.specs.walk.Walk.{Walk, walk}
 use Rattle.idl_fault.specs.declared.code.Code.TheVariants.{NoTree}
 use Rattle.idl_lex.specs.tokens.Tokens.{Token}
@@ -21,6 +22,7 @@ use Rattle.idl_env.specs.declared.keys.key.Key.{Key}
 use Rattle.idl_parts.specs.Item.{items, items_length}
 use Rattle.idl_parts.specs.UnitParts.{unit_parts}
 use Rattle.idl_parts.proofs.UnitSpelling.{counted, unit_spells}
+use Rattle.idl_parse.specs.Parse.{StopsAt}
 use Rattle.idl_tree.specs.Lexeme.{lexeme_of, lexemes}
 use Rattle.idl_tree.specs.Unit.{spell}
 use Rattle.idl_tree.specs.declared.unit.Tree.{Tree}
@@ -62,22 +64,29 @@ sites-length tokens tree h =
     let all = ap length h in
     omega (arith, parts, spelled, all, length-map tokens lexeme_of)
 
--- the steps
-pub first_step : (turns : ℕ) (tokens : List Token) (scopes : List Scope) (fault : Fault) → least_fault (first_faults tokens scopes) ≡ Some fault
-    → token_verdict turns tokens scopes ≡ refused tokens fault
-first_step turns tokens scopes fault h = ap (λ o. elim o [ Some fault ↦ refused tokens fault | None ↦ by_tree turns tokens scopes ]) h
+-- ---- the first two steps
 
-pub second_step : (turns : ℕ) (tokens : List Token) (scopes : List Scope) (place : ℕ) → least_fault (first_faults tokens scopes) ≡ None
-    → tree_of tokens ≡ Err place → token_verdict turns tokens scopes ≡ refused tokens (fault_at place NoTree)
-second_step turns tokens scopes place h none =
-    ap (λ o. elim o [ Some fault ↦ refused tokens fault | None ↦ by_tree turns tokens scopes ]) h
-    ∙ ap (λ r. elim r [ Err at ↦ refused tokens (fault_at at NoTree) | Ok tree ↦ by_names turns tokens scopes tree ]) none
+module _ (tokens : List Token) (scopes : List Scope) where
+  pub tree-ruled : (fault : Fault) → least_fault (first_faults tokens scopes) ≡ Some fault → unit_tree tokens scopes ≡ Err fault
+  tree-ruled fault h = ap (λ o. tree_by o (tree_of tokens)) h
 
-pub third_step : (turns : ℕ) (tokens : List Token) (scopes : List Scope) (tree : Tree) → least_fault (first_faults tokens scopes) ≡ None
-    → tree_of tokens ≡ Ok tree → token_verdict turns tokens scopes ≡ by_names turns tokens scopes tree
-third_step turns tokens scopes tree h some =
-    ap (λ o. elim o [ Some fault ↦ refused tokens fault | None ↦ by_tree turns tokens scopes ]) h
-    ∙ ap (λ r. elim r [ Err at ↦ refused tokens (fault_at at NoTree) | Ok tree ↦ by_names turns tokens scopes tree ]) some
+  pub tree-found : (fault : Fault) → [] ≡ opening_faults tokens scopes → least_fault (token_faults tokens) ≡ Some fault → unit_tree tokens scopes ≡ Err fault
+  tree-found fault opening h = tree-ruled fault (ap (λ more. least_fault (token_faults tokens ++ more)) (sym opening) ∙ ap least_fault (append-nil (token_faults tokens)) ∙ h)
+
+  pub tree-stopped : (place : ℕ) → least_fault (first_faults tokens scopes) ≡ None → StopsAt tokens place → unit_tree tokens scopes ≡ Err (fault_at place NoTree)
+  tree-stopped place h stops = ap (λ o. tree_by o (tree_of tokens)) h ∙ ap (tree_by None) (stopped-tree tokens place stops)
+
+  pub tree-read : (tree : Tree) → least_fault (first_faults tokens scopes) ≡ None → lexemes tokens ≡ spell tree → unit_tree tokens scopes ≡ Ok tree
+  tree-read tree h spelled = ap (λ o. tree_by o (tree_of tokens)) h ∙ ap (tree_by None) (spelled-tree tokens tree spelled)
+
+  -- the tree is the one that they spell
+  spelled-by : (tree : Tree) (o : Option Fault) (r : Result Tree ℕ) → tree_of tokens ≡ r → tree_by o r ≡ Ok tree → lexemes tokens ≡ spell tree
+  spelled-by tree (Some fault) r is h = absurd cc
+  spelled-by tree None (Err place) is h = absurd cc
+  spelled-by tree None (Ok t) is h = let same : t ≡ tree = cc in tree-spelled tokens tree (is ∙ ap Ok same)
+
+  pub unit_tree-spelled : (tree : Tree) → unit_tree tokens scopes ≡ Ok tree → lexemes tokens ≡ spell tree
+  unit_tree-spelled tree h = spelled-by tree (least_fault (first_faults tokens scopes)) (tree_of tokens) refl h
 
 module _ (bank : Key → Option Answer) (turns : ℕ) (tokens : List Token) (scopes : List Scope) (tree : Tree) where
   -- a walk that comes to this, from here on

@@ -5,8 +5,7 @@ use Rattle.std.specs.Option.{option_copied}
 use Rattle.std.specs.Slice.{IsItemAt}
 use Rattle.idl_check.specs.walk.Held.{visited}
 use Rattle.idl_check.specs.walk.Names.{names_at, site_names, token_names, tree_names}
-use Rattle.idl_check.specs.walk.Placing.{opening_faults}
-use Rattle.idl_check.specs.walk.Verdict.{first_faults, tree_of}
+use Rattle.idl_check.specs.walk.Verdict.{unit_tree}
 use Rattle.idl_check.specs.walk.Walk.{Walk, is_over}
 use Rattle.idl_check.specs.declared.walk.names.NamedSite.{NamedSite}
 use Rattle.idl_env.specs.declared.answering.answer.Answer.{Answer}
@@ -16,8 +15,6 @@ use Rattle.idl_lex.specs.tokens.Tokens.{Token}
 use Rattle.idl_memo.specs.Query.{outcome}
 use Rattle.idl_parts.specs.Item.{Item}
 use Rattle.idl_tree.specs.declared.unit.Tree.{Tree}
-use Rattle.idl_unit.specs.Faults.{least_fault}
-use Rattle.idl_unit.specs.TokenRules.{token_faults}
 use Rattle.idl_unit.specs.declared.fault.Fault.{Fault}
 
 -- what `get` lends
@@ -46,33 +43,13 @@ module _ (turns : ℕ) (bank : Key → Option Answer) where
       ∙ ap (λ b. cond b [] (names_at site w (outcome (visited turns site w) bank) ++ site_names turns bank sites (outcome (visited turns site w) bank))) (sym h)
 
   module _ (tokens : List Token) (scopes : List Scope) where
-    -- by the tree, and by the least fault of the first step
-    abbrev by_tree : Result Tree ℕ → List NamedSite
-    by_tree r = elim r [ Err place ↦ [] | Ok tree ↦ tree_names turns bank scopes tree ]
+    abbrev by_tree : Result Tree Fault → List NamedSite
+    by_tree r = elim r [ Err fault ↦ [] | Ok tree ↦ tree_names turns bank scopes tree ]
 
-    abbrev by_fault : Option Fault → List NamedSite
-    by_fault o = elim o [ Some fault ↦ [] | None ↦ by_tree (tree_of tokens) ]
+    -- a unit that the first two steps refuse has none
+    pub names-refused : (fault : Fault) → unit_tree tokens scopes ≡ Err fault → token_names turns bank tokens scopes ≡ []
+    names-refused fault h = ap by_tree h
 
-    -- a unit that is refused in the first step has none
-    pub names-refused : (fault : Fault) → least_fault (first_faults tokens scopes) ≡ Some fault → token_names turns bank tokens scopes ≡ []
-    names-refused fault h = ap by_fault h
-
-    pub names-ruled : (fault : Fault) → least_fault (token_faults tokens) ≡ Some fault → token_names turns bank tokens scopes ≡ []
-    names-ruled fault h = by_faults (token_faults tokens) h
-      where
-        by_faults : (faults : List Fault) → least_fault faults ≡ Some fault → by_fault (least_fault (faults ++ opening_faults tokens scopes)) ≡ []
-        by_faults [] h = cc
-        by_faults (f ∷ faults) h = refl
-
-    -- and one that has no tree has none
-    pub names-treeless : (place : ℕ) → tree_of tokens ≡ Err place → token_names turns bank tokens scopes ≡ []
-    names-treeless place none = by_either (least_fault (first_faults tokens scopes))
-      where
-        by_either : (o : Option Fault) → by_fault o ≡ []
-        by_either (Some fault) = refl
-        by_either None = ap by_tree none
-
-    -- those of a unit with a tree that no step before refuses
-    pub names-treed : (tree : Tree) → least_fault (first_faults tokens scopes) ≡ None → tree_of tokens ≡ Ok tree
-        → token_names turns bank tokens scopes ≡ tree_names turns bank scopes tree
-    names-treed tree h some = ap by_fault h ∙ ap by_tree some
+    -- those of one with a tree
+    pub names-treed : (tree : Tree) → unit_tree tokens scopes ≡ Ok tree → token_names turns bank tokens scopes ≡ tree_names turns bank scopes tree
+    names-treed tree h = ap by_tree h

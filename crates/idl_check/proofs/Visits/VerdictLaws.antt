@@ -6,7 +6,7 @@ use Rattle.idl_check.specs.walk.AllFaults.{or_else}
 use Rattle.idl_check.specs.walk.Placing.{faulty_step, opened_kind, opening_faults, place_faults, step_of}
 use Rattle.idl_check.specs.tables.Rules.{is_misplaced}
 use Rattle.idl_check.specs.walk.Judging.{IsSound, refused_keys}
-use Rattle.idl_check.specs.walk.Verdict.{asking, by_names, by_tree, faulty, first_faults, judged, placed_walk, refused, sound, tree_of, verdict, whole}
+use Rattle.idl_check.specs.walk.Verdict.{asking, by_names, by_tree, faulty, first_faults, judged, placed_walk, refused, sound, tree_by, tree_of, verdict, whole}
 use Rattle.idl_check.specs.walk.Walk.{Walk, first_walk, noted, walk}
 use Rattle.idl_check.specs.declared.walk.verdict.Verdict.{Verdict}
 use Rattle.idl_fault.specs.declared.code.Code.TheVariants.{NoTree, MisplacedUnit}
@@ -191,14 +191,14 @@ module _ (turns : ℕ) (answers : Key → Option Answer) (tokens : List Token) w
     -- by its tree
     tree-comes : (r : Result Tree ℕ) → tree_of tokens ≡ r
         → Comes (elim r [ Err place ↦ fault_at place NoTree ∷ [] | Ok tree ↦ visit_name_faults turns answers scopes tree ]) scopes
-        (outcome (elim r [ Err place ↦ refused tokens (fault_at place NoTree) | Ok tree ↦ by_names turns tokens scopes tree ]) answers)
+        (outcome (by_tree turns tokens scopes (tree_by None r)) answers)
     tree-comes (Err place) h = inl (fault_at place NoTree, refused-is (fault_at place NoTree), refl)
     tree-comes (Ok tree) h = named-comes tree (tree-spelled tokens tree h)
 
   -- by the faults of the first step
   first-comes : (scopes : List Scope) (fs : List Fault) → first_faults tokens scopes ≡ fs
       → Comes (or_else turns answers fs (visit_further_faults turns answers tokens scopes)) scopes
-      (outcome (elim (least_fault fs) [ Some fault ↦ refused tokens fault | None ↦ by_tree turns tokens scopes ]) answers)
+      (outcome (by_tree turns tokens scopes (tree_by (least_fault fs) (tree_of tokens))) answers)
   first-comes scopes [] h =
       let none = none-append (token_faults tokens) (opening_faults tokens scopes) h in
       tree-comes scopes none.0 none.1 (tree_of tokens) refl
@@ -239,12 +239,12 @@ module _ (turns : ℕ) (answers : Key → Option Answer) (tokens : List Token) w
   -- ---- what a unit asks that the first two steps refuse
 
   tree-asks : (scopes : List Scope) (r : Result Tree ℕ) → tree_of tokens ≡ r → ((tree : Tree) → lexemes tokens ≢ spell tree)
-      → asked (elim r [ Err place ↦ refused tokens (fault_at place NoTree) | Ok tree ↦ by_names turns tokens scopes tree ]) answers ≡ refused_keys tokens
+      → asked (by_tree turns tokens scopes (tree_by None r)) answers ≡ refused_keys tokens
   tree-asks scopes (Err place) is none = refused-asks (fault_at place NoTree)
   tree-asks scopes (Ok tree) is none = absurd (none tree (tree-spelled tokens tree is))
 
   first-asks : (scopes : List Scope) (fs : List Fault) → (fs ≡ [] → (tree : Tree) → lexemes tokens ≢ spell tree)
-      → asked (elim (least_fault fs) [ Some fault ↦ refused tokens fault | None ↦ by_tree turns tokens scopes ]) answers ≡ refused_keys tokens
+      → asked (by_tree turns tokens scopes (tree_by (least_fault fs) (tree_of tokens))) answers ≡ refused_keys tokens
   first-asks scopes [] h = tree-asks scopes (tree_of tokens) refl (h refl)
   first-asks scopes (f ∷ fs) h = refused-asks (fold lesser_fault f fs)
 
@@ -255,12 +255,12 @@ module _ (turns : ℕ) (answers : Key → Option Answer) (tokens : List Token) w
   -- ---- what is told of one that stops
 
   stop-tells : (scopes : List Scope) (place : ℕ) (r : Result Tree ℕ) → r ≡ Err place
-      → outcome (elim r [ Err at ↦ refused tokens (fault_at at NoTree) | Ok tree ↦ by_names turns tokens scopes tree ]) answers ≡ faulty (fault_at place NoTree) (faulty_step tokens)
+      → outcome (by_tree turns tokens scopes (tree_by None r)) answers ≡ faulty (fault_at place NoTree) (faulty_step tokens)
   stop-tells scopes place (Err at) h = let same : at ≡ place = cc in refused-is (fault_at at NoTree) ∙ ap (λ n. faulty (fault_at n NoTree) (faulty_step tokens)) same
   stop-tells scopes place (Ok tree) h = cc
 
   first-tells : (scopes : List Scope) (place : ℕ) (fs : List Fault) → fs ≡ [] → tree_of tokens ≡ Err place
-      → outcome (elim (least_fault fs) [ Some fault ↦ refused tokens fault | None ↦ by_tree turns tokens scopes ]) answers ≡ faulty (fault_at place NoTree) (faulty_step tokens)
+      → outcome (by_tree turns tokens scopes (tree_by (least_fault fs) (tree_of tokens))) answers ≡ faulty (fault_at place NoTree) (faulty_step tokens)
   first-tells scopes place [] none h = stop-tells scopes place (tree_of tokens) h
   first-tells scopes place (f ∷ fs) none h = cc
 

@@ -12,7 +12,8 @@ use Rattle.idl_env.specs.declared.answering.answer.Answer.{Answer}
 use Rattle.idl_env.specs.declared.keys.key.Key.TheVariants.{Typeprefix}
 use Rattle.idl_entity.specs.Kind.{is_scope}
 use Rattle.idl_entity.specs.declared.entity.Entity.{Entity}
-use Rattle.idl_entity.specs.declared.identity.Fixed.TheVariants.{Id}
+use Rattle.idl_entity.specs.declared.identity.Fixed.{Fixed}
+use Rattle.idl_entity.specs.declared.identity.Fixed.TheVariants.{Id, Version}
 use Rattle.idl_fault.specs.declared.code.Code.TheVariants.{NoScope, RepeatedTypeprefix}
 use Rattle.idl_memo.specs.Query.{Ask, Done, and_then}
 use Rattle.idl_parts.specs.declared.part.TextPurpose.{TextPurpose}
@@ -62,6 +63,15 @@ unless is_bad s = if is_bad then record s { additions = [] } else s
 abbrev pub remark : TextPurpose → ℕ → List ℕ → Entity → Lookup Said
 remark purpose at t e =
     and_then (said_by_text purpose at t e) (λ s. Done (unless (is_bad_text purpose t) s))
+
+-- of an id the same: whether what is fixed of it may not be that, and what is then said of an entity
+abbrev pub is_bad_id : Fixed → Bool
+is_bad_id (Id t) = is_no_id t
+is_bad_id (Version major minor) = false
+
+abbrev pub identified : ℕ → Fixed → Entity → Lookup Said
+identified at change e =
+    and_then (about_entity at change e) (λ s. Done (unless (is_bad_id change) s))
 
 -- a remark on what has a name that ends at this token
 abbrev pub remarked : ℕ → Remark → Said

@@ -1,29 +1,31 @@
 -- How a walk is kept, and one site of it; and what a pragma says.
-use Rattle.std.specs.Prelude.{ℕ, ◌+◌, ◌≤◌, List, [], ◌∷◌, Option, None, Some, Result, Ok, Err}
+use Rattle.std.specs.Prelude.{ℕ, ◌+◌, ◌≤◌, List, [], ◌∷◌, Result, Ok, Err}
 use Rattle.idl_check.specs.tables.Declaring.{Written}
-use Rattle.idl_check.specs.ids.About.{Said, refused_for, said_at}
+use Rattle.idl_check.specs.ids.About.{Said, about, refused_for}
 use Rattle.idl_check.specs.ids.Pragmas.{said}
+use Rattle.idl_check.specs.ids.Remarks.{is_bad_id, remarked, unless}
 use Rattle.idl_check.specs.Apart.{boxed_or}
 use Rattle.idl_check.specs.told.Values.{Values, nothing_kept}
 use Rattle.idl_check.specs.walk.Walk.{turns_at, Walk, cut_name, head_of, head_visit, looked_at, noted_in, spoken_of, used}
 use Rattle.idl_check.specs.declared.tables.declaring.Written.{Written as LastWritten}
 use Rattle.idl_check.specs.walk.Verdict.{pragma_verdict}
-use Rattle.idl_check.specs.declared.ids.about.Named.{Named}
+use Rattle.idl_check.specs.declared.ids.remark.IdStatement.{IdStatement}
+use Rattle.idl_check.specs.declared.ids.remark.IdStatement.TheVariants as statement
+use Rattle.idl_check.specs.declared.ids.remark.Remark.{Remark}
 use Rattle.idl_check.specs.declared.told.values.Values.{Values as ToldValues}
 use Rattle.idl_check.specs.declared.walk.verdict.Verdict.{Verdict}
 use Rattle.idl_check.specs.declared.walk.walker.Walker.{Walker}
 use Rattle.idl_memo.specs.Query.{Done, and_then}
-use Rattle.std.specs.Option.{option_map}
-use Rattle.idl_scope.specs.Known.{known}
 use Rattle.idl_scope.specs.Lookup.{Lookup, denoted, under}
 use Rattle.idl_env.specs.declared.answering.answer.Scope.{Scope}
 use Rattle.idl_entity.specs.declared.identity.Fixed.{Fixed}
-use Rattle.idl_entity.specs.declared.identity.Identity.{Identity}
+use Rattle.idl_entity.specs.declared.identity.Fixed.TheVariants as fixed
 use Rattle.idl_parts.specs.Item.{Item, items_length}
 use Rattle.idl_parts.specs.declared.part.TextPurpose.{TextPurpose}
 use Rattle.idl_parts.specs.declared.part.Use.{Use}
 use Rattle.idl_tree.specs.declared.name.ScopedName.{ScopedName}
 use Rattle.idl_tree.specs.declared.pragma.Pragma.{Pragma}
+use Rattle.idl_tree.specs.declared.pragma.Pragma.TheVariants as pragma
 use Rattle.idl_unit.specs.declared.fault.Fault.{Fault}
 
 abbrev pub held_values : ToldValues → Values
@@ -91,15 +93,22 @@ HasRoomFor w sites = w.at + items_length sites ≤ 18446744073709551615
 abbrev pub spoken : ℕ → List Scope → Pragma → Lookup Verdict
 spoken turns scopes p = and_then (said turns scopes p) (λ s. Done (pragma_verdict s))
 
--- what identifies what is declared at a path, with the path
-abbrev pub named_at : List (List ℕ) → Option Identity → Option Named
-named_at path d = option_map (λ d. record { path = path; identity = d }) d
+-- what is fixed of an id by what is said of it
+abbrev pub fixed_by : IdStatement → Fixed
+fixed_by (statement.Text characters) = fixed.Id characters.now
+fixed_by (statement.Version major minor) = fixed.Version major minor
 
-abbrev pub named_by : List (List ℕ) → Lookup (Option Named)
-named_by path = and_then (known path) (λ d. Done (named_at path d))
+-- the pragma by which this is fixed of the id of what a name denotes
+abbrev pub pragma_by : ScopedName → Fixed → Pragma
+pragma_by name (fixed.Id text) = pragma.Id name text
+pragma_by name (fixed.Version major minor) = pragma.Version name major minor
 
--- this said of what a name denotes that ends at this token, or the name's fault
-abbrev pub said_of : ℕ → Fixed → Result (Option Named) Fault → Said
-said_of at change (Ok None) = refused_for []
-said_of at change (Ok (Some n)) = said_at at change n.path n.identity
-said_of at change (Err fault) = refused_for (fault ∷ [])
+-- what it says; it adds nothing where its text may be no id
+abbrev pub identified_by : ℕ → List Scope → ScopedName → Fixed → Lookup Said
+identified_by turns scopes name change =
+    and_then (about 2 turns scopes name change) (λ s. Done (unless (is_bad_id change) s))
+
+-- a remark on what a name denotes that ends at this token, or the name's fault
+abbrev pub said_of : ℕ → Result Remark Fault → Said
+said_of at (Ok r) = remarked at r
+said_of at (Err fault) = refused_for (fault ∷ [])

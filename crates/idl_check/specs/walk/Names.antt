@@ -1,8 +1,8 @@
 -- The names of a unit, in the order of its tokens, and the path of what each of them denotes.
-use Rattle.std.specs.Prelude.{ℕ, List, [], ◌∷◌, ◌++◌, Option, None, Some, Ok, Err, flat_map, if◌then◌else◌, length, map, option_to_list, slice_get}
+use Rattle.std.specs.Prelude.{ℕ, List, [], ◌∷◌, ◌++◌, Option, Ok, Err, flat_map, if◌then◌else◌, length, map, option_to_list, slice_get}
 use Rattle.std.specs.Option.{option_map}
 use Rattle.idl_check.specs.walk.Held.{visited}
-use Rattle.idl_check.specs.walk.Verdict.{first_faults, placed_walk, tree_of}
+use Rattle.idl_check.specs.walk.Verdict.{placed_walk, unit_tree}
 use Rattle.idl_check.specs.walk.Walk.{Walk, is_over}
 use Rattle.idl_check.specs.declared.walk.names.NamedSite.{NamedSite}
 use Rattle.idl_check.specs.declared.walk.names.NameRole.{NameRole}
@@ -19,7 +19,6 @@ use Rattle.idl_parts.specs.Part.{Part as item}
 use Rattle.idl_parts.specs.UnitParts.{unit_parts}
 use Rattle.idl_tree.specs.NameParts.{last_at}
 use Rattle.idl_tree.specs.declared.unit.Tree.{Tree}
-use Rattle.idl_unit.specs.Faults.{least_fault}
 use Rattle.idl_unit.specs.declared.unit.UnitText.{UnitText}
 use Rattle.idl_unit.specs.declared.unit.UnitText.TheVariants as unit
 
@@ -68,13 +67,8 @@ tree_names turns answers scopes tree =
 -- those of a unit of tokens: it has none where it is refused before its names are looked at
 abbrev pub token_names : ℕ → (Key → Option Answer) → List Token → List Scope → List NamedSite
 token_names turns answers tokens scopes =
-    elim (least_fault (first_faults tokens scopes)) [
-      | Some fault ↦ []
-      | None ↦ elim (tree_of tokens) [
-        | Err place ↦ []
-        | Ok tree ↦ tree_names turns answers scopes tree
-      ]
-    ]
+    elim (unit_tree tokens scopes)
+    [ Err fault ↦ [] | Ok tree ↦ tree_names turns answers scopes tree ]
 
 -- those of a unit; a pragma has none
 abbrev pub unit_names : ℕ → (Key → Option Answer) → UnitText → List NamedSite

@@ -1,6 +1,6 @@
 -- The verdict of a unit: its fault, what it adds, and its row in the dump. A fault is found in
 -- three steps: the rules of tokens, the tree, and the rules over tree and names.
-use Rattle.std.specs.Prelude.{ℕ, Bool, suc, ◌-◌, List, [], ◌∷◌, ◌++◌, length, max, false, None, Some, Result, Ok, Err}
+use Rattle.std.specs.Prelude.{ℕ, Bool, suc, ◌-◌, List, [], ◌∷◌, ◌++◌, length, max, false, Option, None, Some, Result, Ok, Err}
 use Rattle.idl_check.specs.told.Bodies.{raising}
 use Rattle.idl_check.specs.tables.Declaring.{finished, with_finished}
 use Rattle.idl_check.specs.walk.Placing.{faulty_step, opened_kind, opening_faults, place_faults, step_of}
@@ -106,25 +106,28 @@ whole count (Err left) = Err (count - max left 1)
 abbrev pub tree_of : List Token → Result Tree ℕ
 tree_of tokens = whole (length tokens) (unit_at (suc (length tokens)) (lexemes tokens))
 
--- the second step, and then the third
-abbrev pub by_tree : ℕ → List Token → List Scope → Lookup Verdict
-by_tree turns tokens scopes =
-    elim (tree_of tokens) [
-      | Err place ↦ refused tokens (fault_at place NoTree)
-      | Ok tree ↦ by_names turns tokens scopes tree
-    ]
-
 -- the faults of the first step
 abbrev pub first_faults : List Token → List Scope → List Fault
 first_faults tokens scopes = token_faults tokens ++ opening_faults tokens scopes
 
+-- the first two steps: the tree of a unit of tokens in these scopes, or the fault for which it has
+-- none, by that of the first step and by what reading gives
+abbrev pub tree_by : Option Fault → Result Tree ℕ → Result Tree Fault
+tree_by (Some fault) r = Err fault
+tree_by None (Err place) = Err (fault_at place NoTree)
+tree_by None (Ok tree) = Ok tree
+
+abbrev pub unit_tree : List Token → List Scope → Result Tree Fault
+unit_tree tokens scopes = tree_by (least_fault (first_faults tokens scopes)) (tree_of tokens)
+
+-- and then the third
+abbrev pub by_tree : ℕ → List Token → List Scope → Result Tree Fault → Lookup Verdict
+by_tree turns tokens scopes (Err fault) = refused tokens fault
+by_tree turns tokens scopes (Ok tree) = by_names turns tokens scopes tree
+
 -- a unit of tokens in these scopes
 abbrev pub token_verdict : ℕ → List Token → List Scope → Lookup Verdict
-token_verdict turns tokens scopes =
-    elim (least_fault (first_faults tokens scopes)) [
-      | Some fault ↦ refused tokens fault
-      | None ↦ by_tree turns tokens scopes
-    ]
+token_verdict turns tokens scopes = by_tree turns tokens scopes (unit_tree tokens scopes)
 
 -- a pragma that says this
 abbrev pub pragma_verdict : Said → Verdict

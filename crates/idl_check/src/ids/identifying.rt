@@ -17,6 +17,9 @@ use idl_memo::Journal;
 use idl_scope::View;
 use std::alloc::{AllocError, Global};
 
+// What an id has in it.
+const COLON: u16 = 58;
+
 /// What a declared name that has an id is told of ids.
 pub struct Ids {
     /// The prefix in force.
@@ -177,8 +180,22 @@ pub fn id_text(alloc: Global, text: &[u16]) -> Result<Option<Bytes>, AllocError>
     ensures { IfOk result (λ spelled.
         spelled ≡ (if is_id text.now then Some text.now else None)) }
 {
-    match visible(alloc, text)? {
-        Some(spelled) if spelled.as_bytes().contains(&b':') => Ok(Some(spelled)),
-        _ => Ok(None),
+    if !is_id(text) {
+        return Ok(None);
     }
+    visible(alloc, text)
+}
+
+/// Whether a text has visible characters alone.
+pub fn is_visible(text: &[u16]) -> bool
+    ensures { result ≡ is_visible text.now }
+{
+    text.iter().all(|c| 33 <= *c && *c <= 126)
+}
+
+/// Whether a text may be an id.
+pub fn is_id(text: &[u16]) -> bool
+    ensures { result ≡ is_id text.now }
+{
+    is_visible(text) && text.contains(&COLON)
 }

@@ -1,25 +1,28 @@
-//! What `typeid` and `typeprefix` say of what their name denotes, by the text that stands behind it.
+//! What is said of what a name denotes: by `typeid` and `typeprefix`, by the text that stands behind the name; and by pragmas of
+//! an id or a version.
 
-ghost use Rattle.std.specs.Prelude.{◌≡◌, ℕ, IfOk, None, Some, if◌then◌else◌};
+ghost use Rattle.std.specs.Prelude.{◌≡◌, ℕ, IfOk, None, OnOk, Some, fold, if◌then◌else◌, option_to_list};
 ghost use Rattle.idl_check.specs.ids.About.{said_at};
 ghost use Rattle.idl_check.specs.ids.Identifying.{changed};
-ghost use Rattle.idl_check.specs.ids.Remarks.{is_bad_text, purpose_of, remark, remarked, unless};
-ghost use Rattle.idl_check.specs.tables.Rules.{is_id, is_no_id, is_no_prefix, is_prefixed, is_visible};
+ghost use Rattle.idl_check.specs.ids.Remarks.{identified, is_bad_id, is_bad_text, purpose_of, remark, remarked, unless};
+ghost use Rattle.idl_check.specs.tables.Rules.{is_id, is_no_id, is_prefixed, is_visible};
+ghost use Rattle.idl_check.specs.walk.Held.{fixed_by};
 ghost use Rattle.std.specs.Option.{option_copied};
-ghost use Rattle.idl_env.specs.Facts.{answers};
+ghost use Rattle.idl_env.specs.Facts.{answers, with_addition};
 ghost use Rattle.idl_env.specs.declared.additions.addition.Addition.TheVariants.{Identifies, TypePrefixes};
 ghost use Rattle.idl_env.specs.keys.Key.{key_eq};
-ghost use Rattle.idl_entity.specs.declared.identity.Fixed.TheVariants.{Id as FixedId};
+ghost use Rattle.idl_entity.specs.declared.identity.Fixed.TheVariants.{Id as FixedId, Version as FixedVersion};
 ghost use Rattle.idl_memo.specs.Query.{run};
 ghost use Rattle.idl_parts.specs.declared.part.TextPurpose.TheVariants.{Id, Prefix};
 ghost use Rattle.idl_scope.specs.Lookup.{under};
 
-use crate::ids::about::{Named, PragmaSubject};
-use crate::ids::identifying::{changed, has_id, id_text, is_given, visible};
+use crate::ids::identifying::{
+    changed, has_id, id_text, is_fixed, is_given, is_id, is_visible, visible,
+};
 use crate::tables::codes::first_code;
 use idl_base::{Bytes, Shared};
-use idl_entity::{Entity, Fixed, Path};
-use idl_env::{Addition, Env};
+use idl_entity::{Entity, Fixed, Identity, Path};
+use idl_env::{Addition, Env, Facts};
 use idl_fault::Code;
 use idl_memo::Journal;
 use idl_parts::{TextPurpose, Use};
@@ -31,6 +34,20 @@ use std::alloc::{AllocError, Global};
 pub struct Remark {
     pub code: Option<Code>,
     pub adds: Option<Addition>,
+}
+
+/// Puts in what is added, if anything is.
+pub fn add_any(own: &mut Facts, adds: Option<Addition>) -> Result<(), AllocError>
+    ensures { OnOk result
+        (own.new
+        ≡ record own.old {
+          additions = fold with_addition own.old.additions (option_to_list adds);
+        }) }
+{
+    match adds {
+        Some(addition) => own.add(addition),
+        None => Ok(()),
+    }
 }
 
 /// What the text behind a name is for that is used so, if something is said by it.
@@ -55,94 +72,162 @@ impl<'a> PragmaText<'a> {
     /// What is said by it of an entity that has the name.
     pub fn remark(
         self,
-        subject: PragmaSubject<'_>,
+        view: View<'_>,
         log: &mut Journal<Env>,
         entity: &Entity,
     ) -> Result<Remark, AllocError>
         ensures { IfOk result (λ r. (at : ℕ) →
             (remarked at r, log.new)
             ≡ run key_eq
-            (under subject.entry.own.now.additions
+            (under view.entry.own.now.additions
             (remark self.entry.purpose at self.entry.characters.now entity.now))
-            (answers subject.entry.env.now) log.old) }
+            (answers view.entry.env.now) log.old) }
     {
         match self.purpose {
             TextPurpose::Context => Ok(Remark {
                 code: None,
                 adds: None,
             }),
-            TextPurpose::Id => identified(subject, log, entity, self.characters),
-            TextPurpose::Prefix => prefixed(subject, log, entity, self.characters),
+            TextPurpose::Id => IdStatement::Text(self.characters).remark(view, log, entity),
+            TextPurpose::Prefix => prefixed(view, log, entity, self.characters),
         }
     }
 }
 
-// What is said of an entity where a text is its id: what the pragma of an id says.
-fn identified(
-    subject: PragmaSubject<'_>,
-    log: &mut Journal<Env>,
-    entity: &Entity,
-    text: &[u16],
-) -> Result<Remark, AllocError>
-    ensures { IfOk result (λ r. (at : ℕ) →
-        (remarked at r, log.new)
-        ≡ run key_eq
-        (under subject.entry.own.now.additions (remark Id at text.now entity.now))
-        (answers subject.entry.env.now) log.old) }
-{
-    if !has_id(entity.kind()) {
-        return Ok(Remark {
-            code: Some(Code::NoRepositoryId),
-            adds: None,
-        });
+/// What is said of an id: that it is a text, or of which version it is.
+#[derive(Clone, Copy)]
+pub enum IdStatement<'a> {
+    Text(&'a [u16]),
+    Version(u16, u16),
+}
+
+impl<'a> IdStatement<'a> {
+    /// Whether its text may be no id.
+    pub fn is_bad(self) -> bool
+        ensures { result ≡ is_bad_id (fixed_by self.entry) }
+    {
+        match self {
+            IdStatement::Text(text) => !is_id(text),
+            IdStatement::Version(_major, _minor) => false,
+        }
     }
-    let found = subject.identified(log, entity.path())?;
-    match found {
-        Some(named) => given(subject.env.alloc(), &named, text),
-        None => Ok(Remark {
-            code: None,
-            adds: None,
-        }),
+
+    /// What is said by it of an entity, as by `typeid` and by the pragmas.
+    pub fn remark(
+        self,
+        view: View<'_>,
+        log: &mut Journal<Env>,
+        entity: &Entity,
+    ) -> Result<Remark, AllocError>
+        ensures { IfOk result (λ r. (at : ℕ) →
+            (remarked at r, log.new)
+            ≡ run key_eq
+            (under view.entry.own.now.additions (identified at (fixed_by self.entry) entity.now))
+            (answers view.entry.env.now) log.old) }
+    {
+        if !has_id(entity.kind()) {
+            return Ok(Remark {
+                code: Some(Code::NoRepositoryId),
+                adds: None,
+            });
+        }
+        let path = entity.path();
+        let found = view.known(log, path)?;
+        match found {
+            Some(identity) => self.of_identity(view.env.alloc(), path, &identity),
+            None => Ok(Remark {
+                code: None,
+                adds: None,
+            }),
+        }
+    }
+
+    // What is said by it of what is declared at a path, and identified so.
+    fn of_identity(
+        self,
+        alloc: Global,
+        path: &Path,
+        before: &Identity,
+    ) -> Result<Remark, AllocError>
+        ensures { IfOk result (λ r. (at : ℕ) →
+            remarked at r
+            ≡ unless (is_bad_id (fixed_by self.entry))
+            (said_at at (fixed_by self.entry) path.now before.now)) }
+    {
+        match self {
+            IdStatement::Text(text) => given(alloc, path, before, text),
+            IdStatement::Version(major, minor) => versioned(alloc, path, before, (major, minor)),
+        }
     }
 }
 
-// What is said of what a name denotes where a text is its id.
-fn given(alloc: Global, named: &Named, text: &[u16]) -> Result<Remark, AllocError>
+// What is said of what is declared at a path, and identified so, where a text is its id.
+fn given(alloc: Global, path: &Path, before: &Identity, text: &[u16]) -> Result<Remark, AllocError>
     ensures { IfOk result (λ r. (at : ℕ) →
         remarked at r
-        ≡ unless (is_no_id text.now)
-        (said_at at (FixedId text.now) named.now.path named.now.identity)) }
+        ≡ unless (is_no_id text.now) (said_at at (FixedId text.now) path.now before.now)) }
 {
-    let is_again = is_given(alloc, text, &named.path, &named.identity)?;
-    let adds = identifying(alloc, named, text)?;
+    let is_again = is_given(alloc, text, path, before)?;
+    let adds = identifying(alloc, path, before, text)?;
     Ok(Remark {
         code: first_code(&[(is_again, Code::RepeatedId)]),
         adds,
     })
 }
 
-// What identifies what a name denotes, where a text may be its id.
-fn identifying(alloc: Global, named: &Named, text: &[u16]) -> Result<Option<Addition>, AllocError>
+// What identifies it, where a text may be its id.
+fn identifying(
+    alloc: Global,
+    path: &Path,
+    before: &Identity,
+    text: &[u16],
+) -> Result<Option<Addition>, AllocError>
     ensures { IfOk result (λ adds.
         adds
         ≡ (if is_id text.now
-        then Some (Identifies named.now.path (changed (FixedId text.now) named.now.identity))
+        then Some (Identifies path.now (changed (FixedId text.now) before.now))
         else None)) }
 {
     let spelled = id_text(alloc, text)?;
     match spelled {
         Some(id) => {
-            let identity = changed(alloc, &named.identity, Fixed::Id(id))?;
-            let path = named.path.clone()?;
-            Ok(Some(Addition::Identifies(path, identity)))
+            let addition = fixing(alloc, path, before, Fixed::Id(id))?;
+            Ok(Some(addition))
         }
         None => Ok(None),
     }
 }
 
+// What is said of it where this is its version.
+fn versioned(
+    alloc: Global,
+    path: &Path,
+    before: &Identity,
+    version: (u16, u16),
+) -> Result<Remark, AllocError>
+    ensures { IfOk result (λ r. (at : ℕ) →
+        remarked at r ≡ said_at at (FixedVersion version.0 version.1) path.now before.now) }
+{
+    let addition = fixing(alloc, path, before, Fixed::Version(version.0, version.1))?;
+    Ok(Remark {
+        code: first_code(&[(is_fixed(before), Code::RepeatedVersion)]),
+        adds: Some(addition),
+    })
+}
+
+// What fixes this of the id of what is declared at a path, and identified so.
+fn fixing(alloc: Global, path: &Path, before: &Identity, by: Fixed) -> Result<Addition, AllocError>
+    ensures { IfOk result (λ addition.
+        addition ≡ Identifies path.now (changed by before.now)) }
+{
+    let identity = changed(alloc, before, by)?;
+    let path = path.clone()?;
+    Ok(Addition::Identifies(path, identity))
+}
+
 // What is said of an entity where a text is its typeprefix.
 fn prefixed(
-    subject: PragmaSubject<'_>,
+    view: View<'_>,
     log: &mut Journal<Env>,
     entity: &Entity,
     text: &[u16],
@@ -150,8 +235,8 @@ fn prefixed(
     ensures { IfOk result (λ r. (at : ℕ) →
         (remarked at r, log.new)
         ≡ run key_eq
-        (under subject.entry.own.now.additions (remark Prefix at text.now entity.now))
-        (answers subject.entry.env.now) log.old) }
+        (under view.entry.own.now.additions (remark Prefix at text.now entity.now))
+        (answers view.entry.env.now) log.old) }
 {
     if !entity.kind().is_scope() {
         return Ok(Remark {
@@ -159,14 +244,10 @@ fn prefixed(
             adds: None,
         });
     }
-    let view = View {
-        env: subject.env,
-        own: subject.own,
-    };
     let path = entity.path();
     let before = view.typeprefix(log, path)?;
     let is_again = is_prefixed(before);
-    let adds = prefixing(subject.env.alloc(), path, text)?;
+    let adds = prefixing(view.env.alloc(), path, text)?;
     Ok(Remark {
         code: first_code(&[(is_again, Code::RepeatedTypeprefix)]),
         adds,
@@ -200,32 +281,12 @@ fn prefixing(alloc: Global, path: &Path, text: &[u16]) -> Result<Option<Addition
 }
 
 /// Whether a text may not be what it is for.
-pub fn is_bad_text(alloc: Global, purpose: TextPurpose, text: &[u16]) -> Result<bool, AllocError>
-    ensures { IfOk result (λ b. b ≡ is_bad_text purpose text.now) }
+pub fn is_bad_text(purpose: TextPurpose, text: &[u16]) -> bool
+    ensures { result ≡ is_bad_text purpose text.now }
 {
     match purpose {
-        TextPurpose::Context => Ok(false),
-        TextPurpose::Id => is_no_id(alloc, text),
-        TextPurpose::Prefix => is_no_prefix(alloc, text),
-    }
-}
-
-fn is_no_id(alloc: Global, text: &[u16]) -> Result<bool, AllocError>
-    ensures { IfOk result (λ b. b ≡ is_no_id text.now) }
-{
-    let spelled = id_text(alloc, text)?;
-    match spelled {
-        Some(_id) => Ok(false),
-        None => Ok(true),
-    }
-}
-
-fn is_no_prefix(alloc: Global, text: &[u16]) -> Result<bool, AllocError>
-    ensures { IfOk result (λ b. b ≡ is_no_prefix text.now) }
-{
-    let spelled = visible(alloc, text)?;
-    match spelled {
-        Some(_prefix) => Ok(false),
-        None => Ok(true),
+        TextPurpose::Context => false,
+        TextPurpose::Id => !is_id(text),
+        TextPurpose::Prefix => !is_visible(text),
     }
 }

@@ -1,9 +1,9 @@
 //! The verdict of a unit of tokens.
 
-ghost use Rattle.std.specs.Prelude.{◌≡◌, ◌≤◌, ◌++◌, ◌-◌, ℕ, IfOk, List, None, OnOk, Some, length, map};
+ghost use Rattle.std.specs.Prelude.{◌≡◌, ◌≤◌, ◌++◌, ◌∷◌, ◌-◌, [], ℕ, IfOk, OnOk, Some, length, map};
 ghost use Rattle.idl_check.specs.walk.Held.{HasRoomFor, held};
-ghost use Rattle.idl_check.specs.walk.Placing.{opening_faults, step_of};
-ghost use Rattle.idl_check.specs.walk.Verdict.{asking, by_names, judged, refused, row_depth, sound, token_verdict};
+ghost use Rattle.idl_check.specs.walk.Placing.{step_of};
+ghost use Rattle.idl_check.specs.walk.Verdict.{asking, by_names, judged, refused, row_depth, sound, token_verdict, unit_tree};
 ghost use Rattle.idl_check.specs.walk.Walk.{walk};
 ghost use Rattle.idl_memo.specs.Query.{and_then, run};
 ghost use Rattle.idl_env.specs.Facts.{answers, path_around};
@@ -11,14 +11,11 @@ ghost use Rattle.idl_env.specs.keys.Key.{key_eq};
 ghost use Rattle.idl_env.specs.Turns.{turns_for};
 ghost use Rattle.idl_parts.specs.Item.{item_at, items, items_length};
 ghost use Rattle.idl_parts.specs.UnitParts.{unit_parts};
-ghost use Rattle.idl_parse.specs.Parse.{IsTreeOf, StopsAt};
 ghost use Rattle.idl_tree.specs.Lexeme.{lexemes};
 ghost use Rattle.idl_tree.specs.Unit.{spell};
 ghost use Rattle.idl_check.specs.declared.walk.verdict.Verdict.{Verdict as UnitVerdict};
 ghost use Rattle.idl_unit.specs.Faults.{least_fault};
 ghost use Rattle.idl_unit.specs.TokenRules.{fault_at, token_faults};
-ghost use Rattle.idl_unit.specs.declared.fault.Fault.{Fault as UnitFault};
-ghost use Rattle.idl_unit.specs.declared.unit.UnitText.TheVariants as unit;
 ghost use Rattle.idl_fault.specs.declared.code.Code.TheVariants.{NoTree};
 
 use crate::tables::codes::lesser;
@@ -33,10 +30,10 @@ use idl_env::{DigestedKey, Env, Facts, OpenScopes, Step};
 use idl_fault::Code;
 use idl_lex::Token;
 use idl_memo::Journal;
-use idl_parse::{SyntaxFault, UnitTree, parse};
+use idl_parse::{SyntaxFault, parse_tokens};
 use idl_parts::{UnitPart, sites};
 use idl_tree::Tree;
-use idl_unit::{Fault, UnitText};
+use idl_unit::{Fault, token_fault};
 use std::alloc::AllocError;
 
 /// A unit of tokens, in the scopes that are open around it.
@@ -56,75 +53,36 @@ struct ParsedUnit<'t> {
 }
 
 impl<'a> Judge<'a> {
-    /// The verdict of the unit, whose text this is.
+    /// The verdict of the unit.
     pub fn verdict(
         self,
         scratch: &mut Scratch,
         log: &mut Journal<Env>,
-        text: &UnitText,
     ) -> Result<Verdict, AllocError>
-        requires { text.now ≡ unit.Tokens self.tokens.now }
         ensures { IfOk result (λ v. (turns : ℕ) → turns_for self.entry.env.now ≤ turns →
             (v, log.new)
             ≡ run key_eq (token_verdict turns self.entry.tokens.now self.entry.scopes.now)
             (answers self.entry.env.now) log.old) }
     {
-        match parse(self.env.alloc(), text) {
-            Ok(tree) => self.with_tree(scratch, log, &tree),
-            Err(SyntaxFault::Rule(fault)) => self.refused(log, self.with_opening(fault)),
-            Err(SyntaxFault::NoTree(left)) => self.without_tree(log, left),
-            Err(SyntaxFault::Memory) => Err(AllocError),
+        match self.tree()? {
+            Ok(tree) => self.by_names(scratch, log, &tree),
+            Err(fault) => self.refused(log, fault),
         }
     }
 
-    // The least fault of the first step, where this is that of the tokens.
-    fn with_opening(self, fault: Fault) -> Fault
-        ensures { (faults : List UnitFault) → least_fault faults ≡ Some fault
-            → least_fault (faults ++ opening_faults self.entry.tokens.now self.entry.scopes.now)
-            ≡ Some result }
-    {
-        match opening_fault(self.tokens, self.scopes) {
-            Some(other) => lesser(fault, other),
-            None => fault,
-        }
-    }
-
-    // The verdict of a unit that no rule of tokens refuses, but that has no tree: from the token at which that shows so many are
-    // left.
-    fn without_tree(self, log: &mut Journal<Env>, left: usize) -> Result<Verdict, AllocError>
-        requires rules { least_fault (token_faults self.tokens.now) ≡ None }
-        requires stops { StopsAt self.tokens.now (length self.tokens.now - left) }
-        ensures { IfOk result (λ v. (turns : ℕ) → turns_for self.entry.env.now ≤ turns →
-            (v, log.new)
-            ≡ run key_eq (token_verdict turns self.entry.tokens.now self.entry.scopes.now)
-            (answers self.entry.env.now) log.old) }
-    {
-        match opening_fault(self.tokens, self.scopes) {
-            Some(fault) => self.refused(log, fault),
-            None => self.refused(log, no_tree(self.tokens, left)),
-        }
-    }
-
-    // The verdict of a unit that has a tree, and that no rule of tokens refuses.
-    fn with_tree(
-        self,
-        scratch: &mut Scratch,
-        log: &mut Journal<Env>,
-        tree: &UnitTree,
-    ) -> Result<Verdict, AllocError>
-        requires rules { least_fault (token_faults self.tokens.now) ≡ None }
-        requires tree { IsTreeOf (unit.Tokens self.tokens.now) tree.now }
-        ensures { IfOk result (λ v. (turns : ℕ) → turns_for self.entry.env.now ≤ turns →
-            (v, log.new)
-            ≡ run key_eq (token_verdict turns self.entry.tokens.now self.entry.scopes.now)
-            (answers self.entry.env.now) log.old) }
+    /// The tree of the unit, or the fault for which it has none.
+    pub fn tree(self) -> Result<Result<Tree, Fault>, AllocError>
+        ensures { IfOk result (λ tree.
+            tree ≡ unit_tree self.entry.tokens.now self.entry.scopes.now) }
     {
         if let Some(fault) = opening_fault(self.tokens, self.scopes) {
-            return self.refused(log, fault);
+            return Ok(Err(first_fault(self.tokens, fault)));
         }
-        match tree {
-            UnitTree::Tokens(tree) => self.by_names(scratch, log, tree),
-            UnitTree::Pragma(_pragma) => Err(AllocError),
+        match parse_tokens(self.env.alloc(), self.tokens) {
+            Ok(tree) => Ok(Ok(tree)),
+            Err(SyntaxFault::Rule(fault)) => Ok(Err(fault)),
+            Err(SyntaxFault::NoTree(left)) => Ok(Err(no_tree(self.tokens, left))),
+            Err(SyntaxFault::Memory) => Err(AllocError),
         }
     }
 
@@ -281,6 +239,16 @@ fn row_depth(tree: &Tree, scopes: &OpenScopes) -> usize
     match tree {
         Tree::Closing => depth(scopes).saturating_sub(1),
         _ => depth(scopes),
+    }
+}
+
+// The least fault of the first step, where an opening has this one.
+fn first_fault(tokens: &[Token], opening: Fault) -> Fault
+    ensures { least_fault (token_faults tokens.now ++ opening ∷ []) ≡ Some result }
+{
+    match token_fault(tokens) {
+        Some(fault) => lesser(fault, opening),
+        None => opening,
     }
 }
 

@@ -1,6 +1,6 @@
 //! The names of a unit, and what each of them denotes.
 
-ghost use Rattle.std.specs.Prelude.{◌≡◌, ◌≤◌, ◌+◌, ◌++◌, ◌∷◌, [], ℕ, IfOk, None, OnOk, Some, map};
+ghost use Rattle.std.specs.Prelude.{◌≡◌, ◌≤◌, ◌+◌, ◌++◌, ◌∷◌, [], ℕ, IfOk, OnOk, Some, map};
 ghost use Rattle.std.specs.Option.{option_copied, option_map};
 ghost use Rattle.idl_check.specs.walk.Held.{HasRoomFor, held, visited};
 ghost use Rattle.idl_check.specs.walk.Names.{named, names_at, site_names, token_names, tree_names, unit_names};
@@ -9,22 +9,17 @@ ghost use Rattle.idl_memo.specs.Query.{outcome};
 ghost use Rattle.idl_env.specs.Facts.{answers};
 ghost use Rattle.idl_env.specs.Turns.{most_turns, turns_for};
 ghost use Rattle.idl_parts.specs.Item.{item_at, item_length};
-ghost use Rattle.idl_parse.specs.Parse.{IsTreeOf};
 ghost use Rattle.idl_tree.specs.Lexeme.{lexemes};
 ghost use Rattle.idl_tree.specs.Unit.{spell};
-ghost use Rattle.idl_unit.specs.Faults.{least_fault};
-ghost use Rattle.idl_unit.specs.TokenRules.{token_faults};
-ghost use Rattle.idl_unit.specs.declared.unit.UnitText.TheVariants as unit;
 
 use crate::walk::judge::Judge;
-use crate::walk::placing::{opening_fault, place_fault};
+use crate::walk::placing::place_fault;
 use crate::walk::scratch::Scratch;
 use crate::walk::walker::Walker;
 use idl_base::Shared;
 use idl_entity::{Entity, Path};
 use idl_env::{DigestedKey, Env, OpenScopes, scopes_in};
 use idl_memo::{Bank, Journal};
-use idl_parse::{SyntaxFault, UnitTree, parse};
 use idl_parts::{UnitPart, sites};
 use idl_tree::{Tree, last_at};
 use idl_unit::UnitText;
@@ -77,48 +72,23 @@ fn names_in(scratch: &mut Scratch, env: &Env, text: &UnitText) -> Result<Vec<Nam
                 tokens: run.as_slice(),
                 scopes,
             };
-            judge.names(scratch, text)
+            judge.names(scratch)
         }
         UnitText::Pragma(_tokens, _inside) => Ok(Vec::new(env.alloc())),
     }
 }
 
 impl<'a> Judge<'a> {
-    // The names of the unit, whose text this is.
-    fn names(self, scratch: &mut Scratch, text: &UnitText) -> Result<Vec<NamedSite>, AllocError>
-        requires { text.now ≡ unit.Tokens self.tokens.now }
+    // The names of the unit.
+    fn names(self, scratch: &mut Scratch) -> Result<Vec<NamedSite>, AllocError>
         ensures { IfOk result (λ names. (turns : ℕ) → turns_for self.entry.env.now ≤ turns →
             names.items
             ≡ token_names turns (answers self.entry.env.now) self.entry.tokens.now
             self.entry.scopes.now) }
     {
-        match parse(self.env.alloc(), text) {
-            Ok(tree) => self.names_of_tree(scratch, &tree),
-            Err(SyntaxFault::Rule(_fault)) => Ok(Vec::new(self.env.alloc())),
-            Err(SyntaxFault::NoTree(_left)) => Ok(Vec::new(self.env.alloc())),
-            Err(SyntaxFault::Memory) => Err(AllocError),
-        }
-    }
-
-    // The names of a unit that has a tree, and that no rule of tokens refuses.
-    fn names_of_tree(
-        self,
-        scratch: &mut Scratch,
-        tree: &UnitTree,
-    ) -> Result<Vec<NamedSite>, AllocError>
-        requires rules { least_fault (token_faults self.tokens.now) ≡ None }
-        requires tree { IsTreeOf (unit.Tokens self.tokens.now) tree.now }
-        ensures { IfOk result (λ names. (turns : ℕ) → turns_for self.entry.env.now ≤ turns →
-            names.items
-            ≡ token_names turns (answers self.entry.env.now) self.entry.tokens.now
-            self.entry.scopes.now) }
-    {
-        if let Some(_fault) = opening_fault(self.tokens, self.scopes) {
-            return Ok(Vec::new(self.env.alloc()));
-        }
-        match tree {
-            UnitTree::Tokens(tree) => self.names_of_sites(scratch, tree),
-            UnitTree::Pragma(_pragma) => Err(AllocError),
+        match self.tree()? {
+            Ok(tree) => self.names_of_sites(scratch, &tree),
+            Err(_fault) => Ok(Vec::new(self.env.alloc())),
         }
     }
 

@@ -1,6 +1,6 @@
 //! The walk over names of what something is said by a text, and over that text.
 
-ghost use Rattle.std.specs.Prelude.{◌≡◌, ◌≤◌, ◌+◌, ◌∷◌, ◌++◌, [], ℕ, IfOk, OnOk, fold, option_to_list};
+ghost use Rattle.std.specs.Prelude.{◌≡◌, ◌≤◌, ◌+◌, ◌∷◌, ◌++◌, [], ℕ, IfOk, OnOk, fold};
 ghost use Rattle.idl_check.specs.ids.Remarks.{is_bad_text, remarked};
 ghost use Rattle.idl_check.specs.told.Bodies.{with_text};
 ghost use Rattle.idl_check.specs.walk.Held.{HasRoomFor, held, spoken_noted};
@@ -15,12 +15,11 @@ ghost use Rattle.idl_parts.specs.Part.{Part as item};
 ghost use Rattle.idl_tree.specs.NameParts.{last_at};
 ghost use Rattle.idl_value.specs.Evaluation.{joined};
 
-use crate::ids::about::PragmaSubject;
-use crate::ids::remark::{PragmaText, Remark, is_bad_text};
+use crate::ids::remark::{PragmaText, Remark, add_any, is_bad_text};
 use crate::walk::walker::Walker;
 use idl_base::Seq;
 use idl_entity::Path;
-use idl_env::{Addition, Env, Facts};
+use idl_env::Env;
 use idl_fault::Code;
 use idl_memo::Journal;
 use idl_parts::TextPurpose;
@@ -64,7 +63,7 @@ impl<'a> Walker<'a> {
             Ok(found) => {
                 let entity = found.entity.get();
                 let text = self.text_for(purpose);
-                let remark = text.remark(self.subject(), log, entity)?;
+                let remark = text.remark(self.view(), log, entity)?;
                 self.take_remark(name, entity.path(), remark)
             }
             Err(NameFault::Memory) => Err(AllocError),
@@ -83,19 +82,6 @@ impl<'a> Walker<'a> {
         PragmaText {
             purpose,
             characters: self.text.as_slice(),
-        }
-    }
-
-    // Where the name stands.
-    fn subject(&self) -> PragmaSubject<'_>
-        ensures env { result.env.now ≡ self.now.env.now }
-        ensures own { result.own.now ≡ self.now.own }
-    {
-        PragmaSubject {
-            env: self.env,
-            own: &self.own,
-            scopes: self.cursor.scopes(),
-            first: self.at,
         }
     }
 
@@ -155,20 +141,6 @@ impl<'a> Walker<'a> {
     }
 }
 
-// Puts in what is added, if anything is.
-fn add_any(own: &mut Facts, adds: Option<Addition>) -> Result<(), AllocError>
-    ensures { OnOk result
-        (own.new
-        ≡ record own.old {
-          additions = fold with_addition own.old.additions (option_to_list adds);
-        }) }
-{
-    match adds {
-        Some(addition) => own.add(addition),
-        None => Ok(()),
-    }
-}
-
 // Whether string literals may not be, joined, what they are for.
 fn is_bad(alloc: Global, purpose: TextPurpose, text: &Several<Seq<u16>>) -> Result<bool, AllocError>
     ensures { IfOk result (λ b. b ≡ is_bad_text purpose (joined text.now)) }
@@ -177,7 +149,7 @@ fn is_bad(alloc: Global, purpose: TextPurpose, text: &Several<Seq<u16>>) -> Resu
         TextPurpose::Context => Ok(false),
         TextPurpose::Id | TextPurpose::Prefix => {
             let joined = joined(alloc, text)?;
-            is_bad_text(alloc, purpose, joined.as_slice())
+            Ok(is_bad_text(purpose, joined.as_slice()))
         }
     }
 }

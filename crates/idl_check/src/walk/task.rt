@@ -122,7 +122,7 @@ fn judged(
                 tokens: run.as_slice(),
                 scopes,
             };
-            judge.verdict(scratch, log, text)
+            judge.verdict(scratch, log)
         }
         UnitText::Pragma(tokens, inside) => {
             let speaker = Speaker {
@@ -131,7 +131,7 @@ fn judged(
                 inside: *inside,
                 scopes,
             };
-            speaker.verdict(log, text)
+            speaker.verdict(log)
         }
     }
 }

@@ -14,11 +14,10 @@ use Rattle.idl_entity.specs.declared.identity.Fixed.{Fixed}
 use Rattle.idl_entity.specs.declared.identity.Fixed.TheVariants.{Id, Version}
 use Rattle.idl_tree.specs.NameParts.{last_at}
 use Rattle.idl_check.specs.told.Types.{behind_typedefs, is_looked_through, looked_through}
-use Rattle.idl_check.specs.walk.Verdict.{by_names, by_tree, faulty, first_faults, judged, placed_walk, pragma_judged, pragma_verdict, refused, token_verdict, tree_of, verdict}
+use Rattle.idl_check.specs.walk.Verdict.{by_names, by_tree, faulty, judged, placed_walk, pragma_judged, pragma_verdict, unit_tree, verdict}
 use Rattle.idl_check.specs.walk.Walk.{Visit, Walk, cut_name, declared_visit, head_of, head_visit, is_known, is_over, looked_at, noted_in, passed, quiet, turns_at, unfound_visit, used, used_visit, visit, walk, spoken_of}
 use Rattle.idl_check.specs.declared.tables.standing.Standing.{Standing}
 use Rattle.idl_check.specs.declared.walk.verdict.Verdict.{Verdict}
-use Rattle.idl_fault.specs.declared.code.Code.TheVariants.{NoTree}
 use Rattle.idl_lex.specs.kinds.Keywords.{folded}
 use Rattle.idl_lex.specs.tokens.Tokens.{Token}
 use Rattle.idl_scope.proofs.LookupLaws.LookupLaws.{denoted-more, reached-more, seen-declared}
@@ -51,7 +50,7 @@ use Rattle.idl_tree.specs.declared.pragma.Pragma.{Pragma}
 use Rattle.idl_tree.specs.declared.pragma.Pragma.TheVariants as pragma
 use Rattle.idl_tree.specs.declared.unit.Tree.{Tree}
 use Rattle.idl_unit.specs.Faults.{least_fault}
-use Rattle.idl_unit.specs.TokenRules.{fault_at, first}
+use Rattle.idl_unit.specs.TokenRules.{first}
 use Rattle.idl_unit.specs.declared.fault.Fault.{Fault}
 use Rattle.idl_unit.specs.declared.unit.UnitText.{UnitText}
 use Rattle.idl_unit.specs.declared.unit.UnitText.TheVariants as unit
@@ -225,25 +224,9 @@ module _ (facts : List UnitFacts) (turns : ℕ) (enough : turns_for facts ≤ tu
       and_then-same (walk (turns + extra) (items (unit_parts tree)) (placed_walk scopes tree)) (walk turns (items (unit_parts tree)) (placed_walk scopes tree))
       (λ w. judged tokens scopes tree w) (λ w. judged tokens scopes tree w) (walk-same (items (unit_parts tree)) (placed_walk scopes tree)) (λ w log. refl)
 
-  by_tree-same : (tokens : List Token) (scopes : List Scope) → Same (by_tree (turns + extra) tokens scopes) (by_tree turns tokens scopes)
-  by_tree-same tokens scopes log = by_spelling (tree_of tokens)
-    where
-      read : ℕ → Result Tree ℕ → Lookup Verdict
-      read t r = elim r as (λ _. Lookup Verdict) [ Err place ↦ refused tokens (fault_at place NoTree) | Ok tree ↦ by_names t tokens scopes tree ]
-
-      by_spelling : (r : Result Tree ℕ) → run key_eq (read (turns + extra) r) (answers facts) log ≡ run key_eq (read turns r) (answers facts) log
-      by_spelling (Err place) = refl
-      by_spelling (Ok tree) = by_names-same tokens scopes tree log
-
-  token_verdict-same : (tokens : List Token) (scopes : List Scope) → Same (token_verdict (turns + extra) tokens scopes) (token_verdict turns tokens scopes)
-  token_verdict-same tokens scopes log = by_fault (least_fault (first_faults tokens scopes))
-    where
-      checked : ℕ → Option Fault → Lookup Verdict
-      checked t o = elim o as (λ _. Lookup Verdict) [ Some fault ↦ refused tokens fault | None ↦ by_tree t tokens scopes ]
-
-      by_fault : (o : Option Fault) → run key_eq (checked (turns + extra) o) (answers facts) log ≡ run key_eq (checked turns o) (answers facts) log
-      by_fault (Some fault) = refl
-      by_fault None = by_tree-same tokens scopes log
+  by_tree-same : (tokens : List Token) (scopes : List Scope) (r : Result Tree Fault) → Same (by_tree (turns + extra) tokens scopes r) (by_tree turns tokens scopes r)
+  by_tree-same tokens scopes (Err fault) = λ log. refl
+  by_tree-same tokens scopes (Ok tree) = by_names-same tokens scopes tree
 
   about-same : (scopes : List Scope) (name : ScopedName) (change : Fixed) → Same (about 2 (turns + extra) scopes name change) (about 2 turns scopes name change)
   about-same scopes name change =
@@ -277,5 +260,7 @@ module _ (facts : List UnitFacts) (turns : ℕ) (enough : turns_for facts ≤ tu
 
   pub verdict-same : (text : UnitText) → Same (verdict (turns + extra) text) (verdict turns text)
   unfolding verdict
-  verdict-same (unit.Tokens tokens) log = token_verdict-same tokens (scopes_in (answers facts Cursor)) (noted key_eq (answers facts) log Cursor)
+  verdict-same (unit.Tokens tokens) log =
+      let scopes = scopes_in (answers facts Cursor) in
+      by_tree-same tokens scopes (unit_tree tokens scopes) (noted key_eq (answers facts) log Cursor)
   verdict-same (unit.Pragma tokens inside) log = pragma_judged-same tokens inside (scopes_in (answers facts Cursor)) (noted key_eq (answers facts) log Cursor)

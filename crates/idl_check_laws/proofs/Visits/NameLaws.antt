@@ -7,10 +7,10 @@ use Rattle.idl_check.proofs.Faults.CutLaws.{cut}
 use Rattle.idl_check.proofs.Faults.VisitFaults.{visit_faults}
 use Rattle.idl_check.proofs.PartLemmas.{IsUpTo}
 use Rattle.idl_check.proofs.Visits.ApartLaws.{with_fault}
-use Rattle.idl_check.proofs.Visits.JudgeLemmas.{sites-length}
+use Rattle.idl_check.proofs.Visits.JudgeLemmas.{sites-length, tree-read, unit_tree-spelled}
 use Rattle.idl_check.proofs.Visits.NamesLemmas.{names-end, names-on, names-treed}
 use Rattle.idl_check.proofs.Visits.SiteLaws.{any-placed, denoted-up, end_visit, plain-placed, spoken_by, used_by, visit-placed, visited}
-use Rattle.idl_check.proofs.Visits.VerdictLaws.{sound-is, spelled-tree, tree-spelled}
+use Rattle.idl_check.proofs.Visits.VerdictLaws.{sound-is, spelled-tree}
 use Rattle.idl_check.proofs.Visits.WalkLaws.{looked-whole, none-append, not-over}
 use Rattle.idl_check.proofs.Visits.WholeLaws.{whole-none}
 use Rattle.idl_check.specs.ids.Remarks.{purpose_of, remark}
@@ -19,7 +19,7 @@ use Rattle.idl_check.specs.told.Types.{looked_through}
 use Rattle.idl_check.specs.walk.Held.{visited as kept}
 use Rattle.idl_check.specs.walk.Judging.{IsSound, walked}
 use Rattle.idl_check.specs.walk.Names.{declared_as, declared_paths, named, names_at, site_names, token_names, tree_names, unit_names, used_as, used_paths}
-use Rattle.idl_check.specs.walk.Verdict.{first_faults, placed_walk, tree_of, verdict}
+use Rattle.idl_check.specs.walk.Verdict.{placed_walk, unit_tree, verdict}
 use Rattle.idl_check.specs.walk.Walk.{Visit, Walk, cut_name, first_walk, head_of, head_visit, is_known, is_over, looked_at, noted, noted_in, outcome_at, plain_name, spoken_of, spoken_visit, turns_at, used, used_visit, value_visit, visit}
 use Rattle.idl_check.specs.declared.walk.names.NamedSite.{NamedSite}
 use Rattle.idl_check.specs.declared.walk.names.NameRole.{NameRole}
@@ -236,7 +236,7 @@ module _ (turns : ℕ) (answers : Key → Option Answer) where
   pub sound-sites : (tokens : List Token) (scopes : List Scope) (verdict : Verdict) (s : IsSound turns answers scopes tokens verdict)
       → token_names turns answers tokens scopes ≡ site_names turns answers (items (unit_parts s.tree)) (first_walk scopes)
   sound-sites tokens scopes verdict s =
-      names-treed turns answers tokens scopes s.tree (λ i. least_fault (s.rules i ++ s.opening i)) (spelled-tree tokens s.tree s.spelled)
+      names-treed turns answers tokens scopes s.tree (tree-read tokens scopes s.tree (λ i. least_fault (s.rules i ++ s.opening i)) s.spelled)
       ∙ ap (λ b. site_names turns answers (items (unit_parts s.tree)) (record (first_walk scopes) { fault = least_fault (faults_by 0 ((b, MisplacedUnit) ∷ [])) })) s.placed
 
   -- what is found by the walk is what the unit uses
@@ -252,15 +252,13 @@ module _ (turns : ℕ) (answers : Key → Option Answer) where
 
   -- each name stands at a token of the unit
   pub unit-before : (tokens : List Token) → All (λ n. n.index < length tokens) (unit_names turns answers (unit.Tokens tokens))
-  unit-before tokens = by_fault (least_fault (first_faults tokens (scopes_in (answers Cursor))))
+  unit-before tokens = by_tree (unit_tree tokens (scopes_in (answers Cursor))) refl
     where
-      by_tree : (r : Result Tree ℕ) → tree_of tokens ≡ r → All (Before (length tokens)) (elim r as (λ _. List NamedSite) [ Err place ↦ [] | Ok tree ↦ tree_names turns answers (scopes_in (answers Cursor)) tree ])
-      by_tree (Err place) is = All-nil (Before (length tokens))
+      by_tree : (r : Result Tree Fault) → unit_tree tokens (scopes_in (answers Cursor)) ≡ r
+          → All (Before (length tokens)) (elim r as (λ _. List NamedSite) [ Err fault ↦ [] | Ok tree ↦ tree_names turns answers (scopes_in (answers Cursor)) tree ])
+      by_tree (Err fault) is = All-nil (Before (length tokens))
       by_tree (Ok tree) is =
           let sites = items (unit_parts tree) in
-          All-weaker (Before (0 + items_length sites)) (Before (length tokens)) (λ n lt. omega (arith, lt, sites-length tokens tree (tree-spelled tokens tree is)))
+          let spelled = unit_tree-spelled tokens (scopes_in (answers Cursor)) tree is in
+          All-weaker (Before (0 + items_length sites)) (Before (length tokens)) (λ n lt. omega (arith, lt, sites-length tokens tree spelled))
           (tree_names turns answers (scopes_in (answers Cursor)) tree) (names-before turns answers sites (placed_walk (scopes_in (answers Cursor)) tree))
-
-      by_fault : (o : Option Fault) → All (Before (length tokens)) (elim o as (λ _. List NamedSite) [ Some fault ↦ [] | None ↦ elim (tree_of tokens) as (λ _. List NamedSite) [ Err place ↦ [] | Ok tree ↦ tree_names turns answers (scopes_in (answers Cursor)) tree ] ])
-      by_fault (Some fault) = All-nil (Before (length tokens))
-      by_fault None = by_tree (tree_of tokens) refl

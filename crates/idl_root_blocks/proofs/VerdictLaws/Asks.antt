@@ -9,7 +9,7 @@ use Rattle.idl_check_laws.specs.idl_check.tables.Declaring.{entity_of, finished,
 use Rattle.idl_check_laws.specs.idl_check.tables.Rules.{has_id}
 use Rattle.idl_check_laws.specs.idl_check.told.Bodies.{raising, signature_of}
 use Rattle.idl_check_laws.specs.idl_check.walk.Placing.{faulty_step, opened_kind, step_of}
-use Rattle.idl_check_laws.specs.idl_check.walk.Verdict.{asking, by_names, by_tree, faulty, first_faults, judged, placed_walk, pragma_judged, pragma_verdict, refused, sound, token_verdict, tree_of, verdict}
+use Rattle.idl_check_laws.specs.idl_check.walk.Verdict.{asking, by_names, by_tree, faulty, judged, placed_walk, pragma_judged, pragma_verdict, refused, sound, token_verdict, unit_tree, verdict}
 use Rattle.idl_check_laws.specs.idl_check.walk.Walk.{Visit, Walk, declared_visit, is_over, looked_at, noted_in, passed, quiet, turns_at, visit, walk}
 use Rattle.idl_check_laws.specs.idl_check.declared.tables.standing.Standing.{Standing}
 use Rattle.idl_check_laws.specs.idl_check.declared.walk.verdict.Verdict.{Verdict}
@@ -37,7 +37,7 @@ use Rattle.idl_env.specs.keys.Digested.{key_equiv}
 use Rattle.idl_env.specs.keys.Key.{key_eq}
 use Rattle.idl_block.proofs.FactLaws.Seen.Sees.{Sees, sees-first, sees-second}
 use Rattle.idl_block.specs.facts.Known.{HasAsked, HasAskedStep, NoneInside}
-use Rattle.idl_fault.specs.declared.code.Code.TheVariants.{NoRepositoryId, NoTree}
+use Rattle.idl_fault.specs.declared.code.Code.TheVariants.{NoRepositoryId}
 use Rattle.idl_lex.specs.kinds.Keywords.{folded}
 use Rattle.idl_lex.specs.tokens.Tokens.{Token}
 use Rattle.idl_memo.proofs.QueryLaws.{outcome-and_then}
@@ -320,21 +320,12 @@ module _ (bank : Key → Option Answer) (owned : AreOwned bank) (some : scopes_i
         (judged-fine tokens t (outcome query bank) (walk-goes bank owned keys [] turns (items (unit_parts t)) (placed_walk scopes t) (first-knows t) first_sees) (tree-begun t first_sees)
         (sees-second bank keys query next (outcome query bank) refl sees))
 
-    tree-fine : (tokens : List Token) → Sees bank keys (by_tree turns tokens scopes) → Fine (outcome (by_tree turns tokens scopes) bank)
-    tree-fine tokens sees = by (tree_of tokens) sees
-      where
-        by : (r : Result Tree ℕ) → Sees bank keys (elim r as (λ _. Lookup Verdict) [ Err place ↦ refused tokens (fault_at place NoTree) | Ok t ↦ by_names turns tokens scopes t ])
-            → Fine (outcome (elim r as (λ _. Lookup Verdict) [ Err place ↦ refused tokens (fault_at place NoTree) | Ok t ↦ by_names turns tokens scopes t ]) bank)
-        by (Err place) sees = refused-fine tokens (fault_at place NoTree) sees
-        by (Ok t) sees = names-fine tokens t sees
+    tree-fine : (tokens : List Token) (r : Result Tree Fault) → Sees bank keys (by_tree turns tokens scopes r) → Fine (outcome (by_tree turns tokens scopes r) bank)
+    tree-fine tokens (Err fault) sees = refused-fine tokens fault sees
+    tree-fine tokens (Ok t) sees = names-fine tokens t sees
 
     tokens-fine : (tokens : List Token) → Sees bank keys (token_verdict turns tokens scopes) → Fine (outcome (token_verdict turns tokens scopes) bank)
-    tokens-fine tokens sees = by (least_fault (first_faults tokens scopes)) sees
-      where
-        by : (o : Option Fault) → Sees bank keys (elim o as (λ _. Lookup Verdict) [ Some fault ↦ refused tokens fault | None ↦ by_tree turns tokens scopes ])
-            → Fine (outcome (elim o as (λ _. Lookup Verdict) [ Some fault ↦ refused tokens fault | None ↦ by_tree turns tokens scopes ]) bank)
-        by (Some fault) sees = refused-fine tokens fault sees
-        by None sees = tree-fine tokens sees
+    tokens-fine tokens sees = tree-fine tokens (unit_tree tokens scopes) sees
 
     -- ---- a pragma
 

@@ -11,7 +11,7 @@ use Rattle.idl_check_laws.specs.idl_check.tables.Declaring.{entity_of, inherited
 use Rattle.idl_check_laws.specs.idl_check.tables.Rules.{has_id, may_be_ahead}
 use Rattle.idl_check_laws.specs.idl_check.told.Types.{aliased, behind_typedefs, is_looked_through, looked_through, path_in}
 use Rattle.idl_check_laws.specs.idl_check.walk.Placing.{faulty_step, opened_kind, step_of}
-use Rattle.idl_check_laws.specs.idl_check.walk.Verdict.{asking, by_names, by_tree, faulty, first_faults, judged, placed_walk, pragma_judged, pragma_verdict, refused, sound, token_verdict, tree_of, verdict}
+use Rattle.idl_check_laws.specs.idl_check.walk.Verdict.{asking, by_names, by_tree, faulty, judged, placed_walk, pragma_judged, pragma_verdict, refused, sound, token_verdict, unit_tree, verdict}
 use Rattle.idl_check_laws.specs.idl_check.walk.Walk.{Visit, Walk, cut_name, declared_visit, head_of, head_visit, is_known, is_over, looked_at, noted_in, passed, past_name, quiet, spoken_of, spoken_visit, turns_at, unfound_visit, unspoken_visit, used, used_visit, visit, walk}
 use Rattle.idl_check_laws.specs.idl_check.declared.ids.identifying.Ids.{Ids}
 use Rattle.idl_check_laws.specs.idl_check.declared.tables.standing.Standing.{Standing}
@@ -36,7 +36,6 @@ use Rattle.idl_root_blocks.proofs.VerdictLaws.Cursors.{IsCursor, cursor-first, l
 use Rattle.idl_check_laws.proofs.Nests.LevelSites.{Around, AreFit, around_after}
 use Rattle.idl_check_laws.proofs.Nests.UnitNesting.{unit-whole}
 use Rattle.idl_block.specs.facts.Known.{AreBehind, IsBehind, NoneInside}
-use Rattle.idl_fault.specs.declared.code.Code.TheVariants.{NoTree}
 use Rattle.idl_fault.specs.declared.code.Code.TheVariants as code
 use Rattle.idl_lex.specs.kinds.Keywords.{folded}
 use Rattle.idl_lex.specs.tokens.Tokens.{Token}
@@ -362,19 +361,12 @@ module _ (scopes : List Scope) where
     names-ordered : (tree : Tree) → IsOrdered (by_names turns tokens scopes tree)
     names-ordered tree = then-ordered (walk turns (items (unit_parts tree)) (placed_walk scopes tree)) _ (unit-ordered some deepest turns tree) (λ w. judged-ordered tokens scopes tree w)
 
-    tree-ordered : IsOrdered (by_tree turns tokens scopes)
-    tree-ordered = by (tree_of tokens)
-      where
-        by : (r : Result Tree ℕ) → IsOrdered (elim r as (λ _. Lookup Verdict) [ Err place ↦ refused tokens (fault_at place NoTree) | Ok tree ↦ by_names turns tokens scopes tree ])
-        by (Err place) = refused-ordered tokens (fault_at place NoTree)
-        by (Ok tree) = names-ordered tree
+    tree-ordered : (r : Result Tree Fault) → IsOrdered (by_tree turns tokens scopes r)
+    tree-ordered (Err fault) = refused-ordered tokens fault
+    tree-ordered (Ok tree) = names-ordered tree
 
     tokens-ordered : IsOrdered (token_verdict turns tokens scopes)
-    tokens-ordered = by (least_fault (first_faults tokens scopes))
-      where
-        by : (o : Option Fault) → IsOrdered (elim o as (λ _. Lookup Verdict) [ Some fault ↦ refused tokens fault | None ↦ by_tree turns tokens scopes ])
-        by (Some fault) = refused-ordered tokens fault
-        by None = tree-ordered
+    tokens-ordered = tree-ordered (unit_tree tokens scopes)
 
   name-ordered : (turns : ℕ) (scopes : List Scope) (name : ScopedName) (change : Fixed) → IsOrdered (about 2 turns scopes name change)
   name-ordered turns scopes name change =

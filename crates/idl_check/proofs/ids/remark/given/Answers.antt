@@ -17,8 +17,8 @@ use Rattle.idl_check.proofs.ids.remark.given.Goals as goal
 pub returns : goal.returns
 returns c = λ at.
     let text = c.args.text.now in
-    let path = c.args.named.now.path in
-    let d = c.args.named.now.identity in
+    let path = c.args.path.now in
+    let d = c.args.before.now in
     let again = c.in_ok-is_again.is_again in
     let adds = option_to_list c.in_ok-adds.adds in
     let said : List Fault → List Addition → Said = λ faults more. record { faults = faults; additions = more; step = Stays } in

@@ -21,8 +21,8 @@ use Rattle.idl_check.proofs.ids.remark.prefixed.Goals as goal
 
 pub returns-then-not-is_scope : goal.returns-then-not-is_scope
 returns-then-not-is_scope c = λ at.
-    let own = c.args.subject.own.now.additions in
-    let bank = answers c.args.subject.env.now in
+    let own = c.args.view.own.now.additions in
+    let bank = answers c.args.view.env.now in
     let e = c.args.entity.now in
     let text = c.args.text.now in
     let log = c.args.log.now in
@@ -32,8 +32,8 @@ returns-then-not-is_scope c = λ at.
 
 pub returns : goal.returns
 returns c = λ at.
-    let own = c.args.subject.own.now.additions in
-    let bank = answers c.args.subject.env.now in
+    let own = c.args.view.own.now.additions in
+    let bank = answers c.args.view.env.now in
     let e = c.args.entity.now in
     let text = c.args.text.now in
     let log = c.args.log.now in

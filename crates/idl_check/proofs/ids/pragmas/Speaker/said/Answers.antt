@@ -2,14 +2,14 @@ use Rattle.std.proofs.Common.{Some, length, ap, ◌∙◌, arith}
 use Rattle.idl_check.proofs.PragmaLaws.PragmaTokens.{pragma-length}
 use Rattle.idl_check.proofs.ids.pragmas.Speaker.said.Goals as goal
 
-pub id-requires : goal.id-requires
-id-requires c =
+pub about-requires : goal.about-requires
+about-requires c =
     let count = pragma-length c.args.self.tokens.now _ (c.requires ∙ ap Some c.in-Id.is) in
     let same = ap length c.as_slice-tokens.ensures in
     omega (arith, count, same)
 
-pub version-requires : goal.version-requires
-version-requires c =
+pub about-requires-in-Version : goal.about-requires-in-Version
+about-requires-in-Version c =
     let count = pragma-length c.args.self.tokens.now _ (c.requires ∙ ap Some c.in-Version.is) in
     let same = ap length c.as_slice-tokens.ensures in
     omega (arith, count, same)

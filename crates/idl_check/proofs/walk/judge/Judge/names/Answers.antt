@@ -1,29 +1,26 @@
-use Rattle.std.proofs.Common.{◌-◌, length, sym, ◌∙◌}
-use Rattle.idl_check.proofs.Visits.NamesLemmas.{names-ruled, names-treeless}
-use Rattle.idl_check.proofs.Visits.VerdictLaws.{stopped-tree}
+use Rattle.std.proofs.Common.{sym, ◌∙◌}
+use Rattle.std.proofs.lemmas.Result.{IfOk-weaker}
+use Rattle.idl_check.proofs.Visits.JudgeLemmas.{unit_tree-spelled}
+use Rattle.idl_check.proofs.Visits.NamesLemmas.{names-refused, names-treed}
 use Rattle.idl_env.specs.Facts.{answers}
 use Rattle.idl_check.proofs.walk.judge.Judge.names.Goals as goal
 
-pub names_of_tree-requires : goal.names_of_tree-requires
-names_of_tree-requires c = record {
-  rules = rw c.requires at c.in-Ok.ensures.rules;
-  tree = rw c.requires at c.in-Ok.ensures.tree;
-}
+pub names_of_sites-requires : goal.names_of_sites-requires
+names_of_sites-requires c =
+    unit_tree-spelled c.args.self.tokens.now c.args.self.scopes.now c.in-Ok.tree (sym c.in_ok-tree.ensures ∙ c.in-Ok.is)
 
-pub returns-in-Err-Rule : goal.returns-in-Err-Rule
-returns-in-Err-Rule c = λ turns more.
+pub returns-in-Ok : goal.returns-in-Ok
+returns-in-Ok c =
     let bank = answers c.args.self.env.now in
     let tokens = c.args.self.tokens.now in
     let scopes = c.args.self.scopes.now in
-    let rule = rw c.in-Err-Rule.field-0-is at c.in-Err-Rule.ensures.fault in
-    c.new.ensures.items ∙ sym (names-ruled turns bank tokens scopes c.in-Err-Rule._fault (rw c.requires at rule))
+    let is = sym c.in_ok-tree.ensures ∙ c.in-Ok.is in
+    IfOk-weaker c.names_of_sites.result _ _
+    (λ names given turns more. given turns more ∙ sym (names-treed turns bank tokens scopes c.in-Ok.tree is))
+    c.names_of_sites.ensures
 
-pub returns-in-Err-NoTree : goal.returns-in-Err-NoTree
-returns-in-Err-NoTree c = λ turns more.
+pub returns-in-Err : goal.returns-in-Err
+returns-in-Err c = λ turns more.
     let bank = answers c.args.self.env.now in
-    let tokens = c.args.self.tokens.now in
-    let scopes = c.args.self.scopes.now in
-    let stop = rw c.in-Err-NoTree.field-0-is at c.in-Err-NoTree.ensures.fault in
-    let stops = rw c.requires at stop in
-    let place = length tokens - c.in-Err-NoTree._left in
-    c.new-in-Err-NoTree.ensures.items ∙ sym (names-treeless turns bank tokens scopes place (stopped-tree tokens place stops.1))
+    let is = sym c.in_ok-tree.ensures ∙ c.in-Err.is in
+    c.new.ensures.items ∙ sym (names-refused turns bank c.args.self.tokens.now c.args.self.scopes.now c.in-Err._fault is)

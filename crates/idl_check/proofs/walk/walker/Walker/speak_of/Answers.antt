@@ -37,7 +37,7 @@ returns-in_ok-remark-in-Ok-clause-run c = on_ok_weaker c.take_remark.result (λ 
     let s = remarked at c.in_ok-remark-in-Ok.remark in
     let gives = c.in-Ok.ensures.asked (turns_at turns w) (turns-here c.args.self.now.env.now w.own turns more) ∙ ap (λ cursor. runs_over bank (under w.own (denoted (turns_at turns w) cursor name)) log) c.scopes.ensures.value in
     let said = c.in_ok-remark-in-Ok.ensures at
-    ∙ (λ i. runs_over (answers (c.subject.ensures.env i)) (under (c.subject.ensures.own i).additions (remark (c.text_for-text.ensures.purpose i) at (c.text_for-text.ensures.text i) (c.get-entity.ensures i))) middle) in
+    ∙ (λ i. runs_over (answers (c.view.ensures.env i)) (under (c.view.ensures.own i).additions (remark (c.text_for-text.ensures.purpose i) at (c.text_for-text.ensures.text i) (c.get-entity.ensures i))) middle) in
     let path = c.path.ensures ∙ ap (λ (e : Entity). e.path) c.get-entity.ensures in
     (λ i. (visit i, after))
     ∙ (λ i. (
