@@ -3,6 +3,7 @@ pub mod AheadLaws
 pub mod FirstLaws
 pub mod FurtherLaws
 pub mod KnownLaws
+pub mod MeaningLaws
 pub mod MoreTurns
 pub mod NameLaws
 pub mod RowLaws

@@ -1,6 +1,6 @@
 //! The laws of verdicts, of which `idl_check` gives the definition.
 //!
-//! They hold over any answers, and for any number of turns. Nothing here runs.
+//! They hold over any answers, and for any number of turns; `meaning` alone over the facts of an environment. Nothing here runs.
 //!
 //! They stand apart since three fifths of the lemmas prove these alone, and none of the code stands on them.
 #![tactic(auto)]
@@ -14,4 +14,4 @@ pub use laws::{
     acceptance, bracketing, denoting, evaluating, fitting, identification, inheriting, least,
     more_turns, naming, numbering, questions, refusal, speaking, stopping, wording,
 };
-pub use unit_names::{ahead, names};
+pub use unit_names::{ahead, meaning, names};

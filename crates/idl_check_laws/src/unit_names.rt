@@ -1,10 +1,10 @@
 //! The laws of the names of units.
 //!
-//! The function does nothing: it carries its laws as clauses.
+//! Each function does nothing: it carries its laws as clauses. `meaning` alone looks at the facts that a program holds.
 
-ghost use Rattle.std.specs.Prelude.{◌≡◌, ◌<◌, ◌-◌, ℕ, Bool, List, [], ◌∷◌, All, Contains, None, Option, length};
+ghost use Rattle.std.specs.Prelude.{◌≡◌, ◌<◌, ◌-◌, ◌++◌, ℕ, Bool, List, [], ◌∷◌, All, Contains, None, Ok, Option, Some, length, slice_get};
 ghost use Rattle.std.specs.Option.{IsSome};
-ghost use Rattle.idl_check.specs.walk.Judging.{walked};
+ghost use Rattle.idl_check.specs.walk.Judging.{used_names, walked};
 ghost use Rattle.idl_check.specs.walk.Names.{declared_paths, unit_names, used_paths};
 ghost use Rattle.idl_check.specs.walk.Verdict.{verdict};
 ghost use Rattle.idl_check.specs.walk.Walk.{first_walk};
@@ -12,20 +12,27 @@ ghost use Rattle.idl_check.specs.declared.walk.names.NameRole.TheVariants.{Decla
 ghost use Rattle.idl_entity.specs.declared.entity.Entity.{Entity};
 ghost use Rattle.idl_entity.specs.declared.identity.Prefix.{Prefix};
 ghost use Rattle.idl_entity.specs.declared.kind.Stage.TheVariants.{Ahead};
-ghost use Rattle.idl_env.specs.Facts.{entity_in, entity_key, over, scopes_in};
+ghost use Rattle.idl_env.specs.Facts.{answers, entity_in, entity_key, over, scopes_in};
+ghost use Rattle.idl_env.specs.Turns.{most_turns};
 ghost use Rattle.idl_env.specs.declared.additions.addition.Addition.TheVariants.{Appears, Declares};
 ghost use Rattle.idl_env.specs.declared.answering.answer.Answer.{Answer};
 ghost use Rattle.idl_env.specs.declared.keys.key.Key.{Key};
 ghost use Rattle.idl_env.specs.declared.keys.key.Key.TheVariants.{Cursor};
 ghost use Rattle.idl_lex.specs.tokens.Tokens.{Token};
 ghost use Rattle.idl_memo.specs.Query.{outcome};
-ghost use Rattle.idl_parts.specs.Item.{items};
+ghost use Rattle.idl_parts.specs.Item.{Item, items};
+ghost use Rattle.idl_parts.specs.Part.{Part as item};
 ghost use Rattle.idl_parts.specs.UnitParts.{unit_parts};
+ghost use Rattle.idl_parts.specs.declared.part.Use.{Use};
+ghost use Rattle.idl_scope.specs.Meaning.{Denotes, seen};
 ghost use Rattle.idl_tree.specs.Lexeme.{lexemes};
 ghost use Rattle.idl_tree.specs.Unit.{spell};
+ghost use Rattle.idl_tree.specs.declared.name.ScopedName.{ScopedName};
 ghost use Rattle.idl_tree.specs.declared.unit.Tree.{Tree};
 ghost use Rattle.idl_unit.specs.declared.unit.UnitText.{UnitText};
 ghost use Rattle.idl_unit.specs.declared.unit.UnitText.TheVariants as unit;
+
+use idl_env::Env;
 
 /// Each name of a unit stands at a token of it. Where the unit has no fault, what its used names
 /// denote is what its walk finds, which is what its row shows. What appears by a unit, as a name does
@@ -46,6 +53,24 @@ pub fn names()
         → Contains (outcome (verdict turns text) answers).writes.additions (Appears path prefix)
         → Contains (declared_paths (unit_names turns answers text)) path }
 {}
+
+/// Where a unit has no fault over the facts of an environment, each name that it uses denotes what the scoping rules say, over these
+/// facts and what the unit's earlier tokens add, in the scopes around the name. The unit's names tell the path of what that is, at the
+/// name's place among those that the unit uses. It does nothing.
+pub fn meaning(env: &Env)
+    ensures { (tokens : List Token) (tree : Tree) (front : List Item) (way : Use)
+        (name : ScopedName) (back : List Item)
+        → (outcome (verdict most_turns (unit.Tokens tokens)) (answers env.now)).fault ≡ None
+        → lexemes tokens ≡ spell tree
+        → items (unit_parts tree) ≡ front ++ item.Uses way name ∷ back
+        → let w = walked most_turns (answers env.now) front
+        (first_walk (scopes_in (answers env.now Cursor))) in
+        let names = unit_names most_turns (answers env.now) (unit.Tokens tokens) in
+        (e : Entity) × Denotes (seen w.own env.now) w.cursor name (Ok e)
+        × (slice_get (used_paths names) (length (used_names front)) ≡ Some e.path) }
+{
+    env.bounds_turns();
+}
 
 /// What a unit without fault declares is known behind it. What appears by a unit wasn't declared before it. What a unit adds that
 /// is declared ahead and no further wasn't declared before either: the unit has one name, which is that, at the token before the

@@ -124,13 +124,13 @@ module _ (turns : ℕ) (answers : Key → Option Answer) where
       }
 
   -- over sites one after another
-  faults-follow : (xs ys : List Item) (w : Walk) → visit_faults turns answers (xs ++ ys) w ≡ visit_faults turns answers xs w ++ visit_faults turns answers ys (walked turns answers xs w)
+  pub faults-follow : (xs ys : List Item) (w : Walk) → visit_faults turns answers (xs ++ ys) w ≡ visit_faults turns answers xs w ++ visit_faults turns answers ys (walked turns answers xs w)
   faults-follow [] ys w = refl
   faults-follow (x ∷ xs) ys w =
       let v = visited turns answers x w in
       ap (λ fs. v.faults ++ fs) (faults-follow xs ys v.after) ∙ sym (append_assoc v.faults (visit_faults turns answers xs v.after) (visit_faults turns answers ys (walked turns answers xs v.after)))
 
-  walked-on : (xs ys : List Item) (w : Walk) → walked turns answers ys (walked turns answers xs w) ≡ walked turns answers (xs ++ ys) w
+  pub walked-on : (xs ys : List Item) (w : Walk) → walked turns answers ys (walked turns answers xs w) ≡ walked turns answers (xs ++ ys) w
   walked-on [] ys w = refl
   walked-on (x ∷ xs) ys w = walked-on xs ys (visited turns answers x w).after
 
