@@ -276,12 +276,7 @@ module _ {X Y : Type 0} (g : ℕ → X → Y) where
         let is : Some b.0 ≡ None = sym b.1 ∙ h in
         absurd (cc)
 
-    -- what holds of each item of this bucket holds of all with its number
-    pub all-with_number : (P : Y → Type 0) (v : Vec X Global) → get nat_eq m d ≡ Some v → All (λ x. P (g d x)) v.items → All (λ y. number y ≡ d → P y) (items_in m.entries)
-    all-with_number P v h all =
-        All-weaker (Contains (items_in m.entries)) (λ y. number y ≡ d → P y) (λ y c at. (let b = in_bucket v h y c at in subst P (sym b.2) (All-contains (λ x. P (g d x)) v.items b.0 all b.1))) (items_in m.entries) (All-contains_itself (items_in m.entries))
-
-    -- and anything where there is no such bucket
+    -- anything holds of all with the number of a bucket that isn't there
     pub none-with_number : (P : Y → Type 0) → get nat_eq m d ≡ None → All (λ y. number y ≡ d → P y) (items_in m.entries)
     none-with_number P h =
         All-weaker (Contains (items_in m.entries)) (λ y. number y ≡ d → P y) (λ y c at. absurd (in_none h y c at)) (items_in m.entries) (All-contains_itself (items_in m.entries))

@@ -4,14 +4,13 @@ use Rattle.std.specs.Prelude.{All, Contains, IsSome}
 use Rattle.std.specs.Global.{Global}
 use Rattle.std.specs.List.{cons_option, filter_map, remove}
 use Rattle.std.specs.Option.{option_map}
-use Rattle.std.specs.declared.rc.Rc.{Rc}
 use Rattle.std.proofs.lemmas.Bool.{cases_eq}
 use Rattle.std.proofs.lemmas.List.{drop-map, get_or-map, length-map, map-append, take-map}
 use Rattle.std.proofs.lemmas.List.Elements.{All-cons, All-contains, All-contains_itself, All-nil, All-same, All-weaker}
 use Rattle.slab.specs.Slab.{Slab, get}
 use Rattle.idl_store.specs.Buckets.{AddsOne}
 use Rattle.idl_memo.specs.Kept.{Kept, IsSound}
-use Rattle.idl_store.specs.Numbers.{AreFewer, AreMore, AreUsed, IsIndexOf, IsSoundAt, IsPut, IsStored, joined, kept_at, lists_of, valued_at, result_of, shown, times, uses_of, valued, with_bucket}
+use Rattle.idl_store.specs.Numbers.{AreFewer, AreMore, AreUsed, IsIndexOf, IsSoundAt, IsPut, IsStored, joined, kept_at, lists_of, result_of, shown, times, uses_of, with_bucket}
 use Rattle.idl_memo.specs.Query.{Query}
 use Rattle.idl_store.specs.Stored.{Stored, grown, results_in, results_of_drafts, with_results}
 use Rattle.idl_store.specs.declared.numbers.Used.{Used}
@@ -50,7 +49,7 @@ module _ {X : Type 0} (of : ℕ → Option X) where
       by (inl e) later = rw (sym (ap of e) ∙ h) (first (filter_map of ns))
       by (inr e) later = behind (of m) (filter_map of ns) (later (omega (arith, there, times_other n m e, times-append n (m ∷ []) ns)))
 
-module _ {K V T O X : Type 0} {eq : K → K → Bool} {query : T → Query K V X O} {bucket : Kept K V T O → ℕ} {used : Slab (Used (Rc (Kept K V T O) Global))} {index : List ((Kept K V T O × ℕ) × ℕ)} {numbers : Stored ℕ} (stored : IsStored eq query bucket used index numbers) where
+module _ {K V T O X : Type 0} {eq : K → K → Bool} {query : T → Query K V X O} {bucket : Kept K V T O → ℕ} {used : Slab (Used (Kept K V T O))} {index : List ((Kept K V T O × ℕ) × ℕ)} {numbers : Stored ℕ} (stored : IsStored eq query bucket used index numbers) where
   -- a number of the lists and drafts is taken
   pub taken : (n : ℕ) → 0 < times n (results_in numbers) → IsSome (get used n)
   taken n there = some_used (get used n) (omega (arith, there, stored.counted n))
@@ -59,26 +58,22 @@ module _ {K V T O X : Type 0} {eq : K → K → Bool} {query : T → Query K V X
   pub stands-for : (n : ℕ) → 0 < times n (results_in numbers) → IsSome (result_of used n)
   stands-for n there = by (get used n) (taken n there)
     where
-      by : (o : Option (Used (Rc (Kept K V T O) Global))) → IsSome o → IsSome (option_map (λ (r : Rc (Kept K V T O) Global × ℕ). r.0.value) (option_map with_bucket o))
+      by : (o : Option (Used (Kept K V T O))) → IsSome o → IsSome (option_map (λ (r : Kept K V T O × ℕ). r.0) (option_map with_bucket o))
       by None some = absurd (cc)
       by (Some u) some = refl
 
   -- what stands for a number that has a place
-  placed-result : (n : ℕ) (k : Kept K V T O × ℕ) → valued_at used n ≡ Some k → result_of used n ≡ Some k.0
-  placed-result n k h = by (kept_at used n) h
-    where
-      by : (o : Option (Rc (Kept K V T O) Global × ℕ)) → option_map valued o ≡ Some k → option_map (λ (r : Rc (Kept K V T O) Global × ℕ). r.0.value) o ≡ Some k.0
-      by None h = absurd (cc)
-      by (Some r) h = ap (option_map (λ (k : Kept K V T O × ℕ). k.0)) h
+  placed-result : (n : ℕ) (k : Kept K V T O × ℕ) → kept_at used n ≡ Some k → result_of used n ≡ Some k.0
+  placed-result n k h = ap (option_map (λ (r : Kept K V T O × ℕ). r.0)) h
 
   -- a result that is found is among them
   pub found-in : (e : (Kept K V T O × ℕ) × ℕ) → Contains index e → Contains (results_in (shown (result_of used) numbers)) e.0.0
   found-in e c =
-      let at : valued_at used e.1 ≡ Some e.0 = (stored.indexed e.1 e.0).0 c in
+      let at : kept_at used e.1 ≡ Some e.0 = (stored.indexed e.1 e.0).0 c in
       let there : 0 < times e.1 (results_in numbers) = omega (arith, stored.counted e.1, stored.needed e.1 (is_taken (get used e.1) at)) in
       subst (λ xs. Contains xs e.0.0) (sym (results_in-shown (result_of used) numbers)) (shown-contains (result_of used) (results_in numbers) e.1 e.0.0 there (placed-result e.1 e.0 at))
     where
-      is_taken : {k : Kept K V T O × ℕ} (o : Option (Used (Rc (Kept K V T O) Global))) → option_map valued (option_map with_bucket o) ≡ Some k → IsSome o
+      is_taken : {k : Kept K V T O × ℕ} (o : Option (Used (Kept K V T O))) → option_map with_bucket o ≡ Some k → IsSome o
       is_taken None h = absurd (cc)
       is_taken (Some u) h = refl
 
@@ -92,18 +87,16 @@ module _ {K V T O X : Type 0} {eq : K → K → Bool} {query : T → Query K V X
       All-same P (results_in (shown (result_of used) numbers)) (filter_map (result_of used) (results_in numbers)) (results_in-shown (result_of used) numbers)
       (shown-all (result_of used) P (results_in numbers) (λ n x there at. by n x (kept_at used n) refl at))
     where
-      by : (n : ℕ) (x : Kept K V T O) (o : Option (Rc (Kept K V T O) Global × ℕ)) → kept_at used n ≡ o → option_map (λ (r : Rc (Kept K V T O) Global × ℕ). r.0.value) (kept_at used n) ≡ Some x → P x
+      by : (n : ℕ) (x : Kept K V T O) (o : Option (Kept K V T O × ℕ)) → kept_at used n ≡ o → option_map (λ (r : Kept K V T O × ℕ). r.0) (kept_at used n) ≡ Some x → P x
       by n x None e h =
-          let none : option_map (λ (r : Rc (Kept K V T O) Global × ℕ). r.0.value) (kept_at used n) ≡ None = ap (option_map (λ (r : Rc (Kept K V T O) Global × ℕ). r.0.value)) e in
+          let none : option_map (λ (r : Kept K V T O × ℕ). r.0) (kept_at used n) ≡ None = ap (option_map (λ (r : Kept K V T O × ℕ). r.0)) e in
           absurd (cc)
       by n x (Some r) e h =
-          let k : Kept K V T O × ℕ = (r.0.value, r.1) in
-          let at : valued_at used n ≡ Some k = ap (option_map valued) e in
-          let same : Some r.0.value ≡ Some x = sym (ap (option_map (λ (r : Rc (Kept K V T O) Global × ℕ). r.0.value)) e) ∙ h in
-          let is : r.0.value ≡ x = cc in
-          subst P is (All-contains (λ e. P e.0.0) index (k, n) all ((stored.indexed n k).1 at))
+          let same : Some r.0 ≡ Some x = sym (ap (option_map (λ (r : Kept K V T O × ℕ). r.0)) e) ∙ h in
+          let is : r.0 ≡ x = cc in
+          subst P is (All-contains (λ e. P e.0.0) index (r, n) all ((stored.indexed n r).1 e))
 
-  module _ (new : Slab (Used (Rc (Kept K V T O) Global))) where
+  module _ (new : Slab (Used (Kept K V T O))) where
     -- more numbers of results that are kept
     pub stored-again : (ns : List ℕ) → AreMore used new (results_of_drafts numbers.drafts) (results_of_drafts (with_results numbers.drafts ns)) → IsStored eq query bucket new index (grown numbers ns)
     stored-again ns more = record {
@@ -117,7 +110,7 @@ module _ {K V T O X : Type 0} {eq : K → K → Bool} {query : T → Query K V X
         grows m [] = omega arith
         grows m (d ∷ ds) = omega (arith, times-with_results m (d ∷ ds) ns (omega arith))
 
-        taken_by : (m : ℕ) (o p : Option (Used (Rc (Kept K V T O) Global))) → option_map with_bucket o ≡ option_map with_bucket p → IsSome o → IsSome p
+        taken_by : (m : ℕ) (o p : Option (Used (Kept K V T O))) → option_map with_bucket o ≡ option_map with_bucket p → IsSome o → IsSome p
         taken_by m None p same some = absurd (cc)
         taken_by m (Some u) None same some = absurd (cc)
         taken_by m (Some u) (Some v) same some = refl
@@ -133,7 +126,7 @@ module _ {K V T O X : Type 0} {eq : K → K → Bool} {query : T → Query K V X
         subst (λ (ds : List (ℕ × List ℕ)). IsStored eq query bucket new index (record { lists = numbers.lists; drafts = ds })) (sym is)
         (stored-again ns (subst (λ (ds : List (ℕ × List ℕ)). AreMore used new (results_of_drafts numbers.drafts) (results_of_drafts ds)) is more))
     stored-used (Err z) ns drafts is more err =
-        subst (λ (u : Slab (Used (Rc (Kept K V T O) Global))). IsStored eq query bucket u index (record { lists = numbers.lists; drafts = drafts })) (sym err.0)
+        subst (λ (u : Slab (Used (Kept K V T O))). IsStored eq query bucket u index (record { lists = numbers.lists; drafts = drafts })) (sym err.0)
         (subst (λ (ds : List (ℕ × List ℕ)). IsStored eq query bucket used index (record { lists = numbers.lists; drafts = ds })) (sym err.1) stored)
 
     -- what is kept is what it was
@@ -158,23 +151,23 @@ module _ {K V T O X : Type 0} {eq : K → K → Bool} {query : T → Query K V X
           (subst (λ (es : List ((Kept K V T O × ℕ) × ℕ)). IsStored eq query bucket new es numbers) (sym same_index) stored-still)
 
       pub shown-still : shown (result_of new) numbers ≡ shown (result_of used) numbers
-      shown-still = shown-same (result_of used) (result_of new) numbers (λ n there. ap (λ o. option_map (λ (r : Rc (Kept K V T O) Global × ℕ). r.0.value) (option_map with_bucket o)) (same n))
+      shown-still = shown-same (result_of used) (result_of new) numbers (λ n there. ap (λ o. option_map (λ (r : Kept K V T O × ℕ). r.0) (option_map with_bucket o)) (same n))
 
     module _ (after : List ((Kept K V T O × ℕ) × ℕ)) where
       -- a new result under a number that was free
-      pub stored-put : (r : Rc (Kept K V T O) Global) (n : ℕ) → 0 < length numbers.drafts → IsPut used new r (bucket r.value) n → AddsOne index after ((r.value, bucket r.value), n) → IsSound eq query r.value → IsStored eq query bucket new after (grown numbers (n ∷ []))
+      pub stored-put : (r : Kept K V T O) (n : ℕ) → 0 < length numbers.drafts → IsPut used new r (bucket r) n → AddsOne index after ((r, bucket r), n) → IsSound eq query r → IsStored eq query bucket new after (grown numbers (n ∷ []))
       stored-put r n some put adds sound = record {
         counted = λ m. counted_by m (cases_eq m n);
         needed = λ m there. needed_by m there (cases_eq m n);
-        indexed = indexed-put used new index after n (r.value, bucket r.value) put.others free here adds stored.indexed;
+        indexed = indexed-put used new index after n (r, bucket r) put.others free here adds stored.indexed;
         sound = All-weaker (Contains after) (λ e. IsSoundAt eq query bucket e.0) (λ e c. placed_by e ((adds.has e).0 c)) after (All-contains_itself after);
       }
         where
-          free : valued_at used n ≡ None
-          free = ap (λ o. option_map valued (option_map with_bucket o)) put.free
+          free : kept_at used n ≡ None
+          free = ap (option_map with_bucket) put.free
 
-          here : valued_at new n ≡ Some (r.value, bucket r.value)
-          here = ap (λ o. option_map valued (option_map with_bucket o)) put.changed
+          here : kept_at new n ≡ Some (r, bucket r)
+          here = ap (option_map with_bucket) put.changed
 
           all_times : (m : ℕ) → times m (results_in (grown numbers (n ∷ []))) ≡ times m (results_in numbers) + times m (n ∷ [])
           all_times m = omega (arith, times-append m (joined numbers.lists) (results_of_drafts numbers.drafts), times-append m (joined numbers.lists) (results_of_drafts (with_results numbers.drafts (n ∷ []))), times-with_results m numbers.drafts (n ∷ []) some)
@@ -196,7 +189,7 @@ module _ {K V T O X : Type 0} {eq : K → K → Bool} {query : T → Query K V X
               let was : uses_of new m ≡ uses_of used m = ap (λ o. elim o [ None ↦ 0 | Some u ↦ u.uses ]) (put.others m e) in
               omega (arith, was, stored.needed m (subst IsSome (put.others m e) there))
 
-          placed_by : (e : (Kept K V T O × ℕ) × ℕ) → (◌≡◌ {A = (Kept K V T O × ℕ) × ℕ} e ((r.value, bucket r.value), n)) ⊎ Contains index e → IsSoundAt eq query bucket e.0
+          placed_by : (e : (Kept K V T O × ℕ) × ℕ) → (◌≡◌ {A = (Kept K V T O × ℕ) × ℕ} e ((r, bucket r), n)) ⊎ Contains index e → IsSoundAt eq query bucket e.0
           placed_by e (inl h) = subst (λ (k : Kept K V T O × ℕ). IsSoundAt eq query bucket k) (sym (ap (λ x. x.0) h)) (record { sound = sound; at = refl })
           placed_by e (inr c) = All-contains (λ e. IsSoundAt eq query bucket e.0) index e stored.sound c
 
@@ -213,7 +206,7 @@ module _ {K V T O X : Type 0} {eq : K → K → Bool} {query : T → Query K V X
       pub shown-fewer : (rest : Stored ℕ) (gone : List ℕ) → ((n : ℕ) → times n (results_in numbers) ≡ times n (results_in rest) + times n gone) → AreFewer used new gone → shown (result_of new) rest ≡ shown (result_of used) rest
       shown-fewer rest gone parts fewer =
           shown-same (result_of used) (result_of new) rest
-          (λ n there. ap (option_map (λ (r : Rc (Kept K V T O) Global × ℕ). r.0.value)) (fewer.kept n (omega (arith, fewer.uses n, stored.counted n, parts n, there))))
+          (λ n there. ap (option_map (λ (r : Kept K V T O × ℕ). r.0)) (fewer.kept n (omega (arith, fewer.uses n, stored.counted n, parts n, there))))
 
 -- ---- lists and drafts that go
 

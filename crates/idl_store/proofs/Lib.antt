@@ -5,6 +5,7 @@ pub mod Exactness
 pub mod Finding
 pub mod Hinting
 pub mod Indexing
+pub mod Looking
 pub mod Obtaining
 pub mod Ordered
 pub mod Reading

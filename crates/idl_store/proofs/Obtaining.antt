@@ -25,7 +25,7 @@ on_ok (Ok x) p = p
 on_ok (Err y) p = tt
 
 module _ {K V T O X : Type 0} {eq : K → K → Bool} {query : T → Query K V X O} {bucket : Kept K V T O → ℕ}
-    {used : Slab (Used (Rc (Kept K V T O) Global))} {index : List ((Kept K V T O × ℕ) × ℕ)} {numbers : Stored ℕ} (stored : IsStored eq query bucket used index numbers) (k : Kept K V T O) where
+    {used : Slab (Used (Kept K V T O))} {index : List ((Kept K V T O × ℕ) × ℕ)} {numbers : Stored ℕ} (stored : IsStored eq query bucket used index numbers) (k : Kept K V T O) where
   -- ---- a result that is there
 
   module _ (number : ℕ) (found : Any (λ e. (e.0.0 ≡ k) × (e.1 ≡ number)) index) where
@@ -35,9 +35,9 @@ module _ {K V T O X : Type 0} {eq : K → K → Bool} {query : T → Query K V X
     pub again-taken : IsSome (get used number)
     again-taken = by (get used number) refl
       where
-        by : (o : Option (Used (Rc (Kept K V T O) Global))) → get used number ≡ o → IsSome (get used number)
+        by : (o : Option (Used (Kept K V T O))) → get used number ≡ o → IsSome (get used number)
         by None e =
-            let none : result_of used number ≡ None = ap (λ o. option_map (λ (r : Rc (Kept K V T O) Global × ℕ). r.0.value) (option_map with_bucket o)) e in
+            let none : result_of used number ≡ None = ap (λ o. option_map (λ (r : Kept K V T O × ℕ). r.0) (option_map with_bucket o)) e in
             let some = again-here in
             absurd (cc)
         by (Some u) e = rw e refl
@@ -51,10 +51,10 @@ module _ {K V T O X : Type 0} {eq : K → K → Bool} {query : T → Query K V X
     again-some P None h = absurd (omega (arith, h refl, stored.counted number, stored.needed number again-taken))
     again-some P (Some spot) h = tt
 
-    module _ (new : Slab (Used (Rc (Kept K V T O) Global))) (more : AreMore used new (results_of_drafts numbers.drafts) (results_of_drafts (with_results numbers.drafts (number ∷ [])))) where
+    module _ (new : Slab (Used (Kept K V T O))) (more : AreMore used new (results_of_drafts numbers.drafts) (results_of_drafts (with_results numbers.drafts (number ∷ [])))) where
       pub again-shown : shown (result_of new) (grown numbers (number ∷ [])) ≡ grown (shown (result_of used) numbers) (k ∷ [])
       again-shown =
-          shown-same (result_of used) (result_of new) (grown numbers (number ∷ [])) (λ n there. ap (option_map (λ (r : Rc (Kept K V T O) Global × ℕ). r.0.value)) (more.kept n))
+          shown-same (result_of used) (result_of new) (grown numbers (number ∷ [])) (λ n there. ap (option_map (λ (r : Kept K V T O × ℕ). r.0)) (more.kept n))
           ∙ shown-grown (result_of used) numbers number k again-here
 
     -- the same, whichever way the use ends
@@ -64,7 +64,7 @@ module _ {K V T O X : Type 0} {eq : K → K → Bool} {query : T → Query K V X
         cc
     again-result (Err z) h = tt
 
-    pub again-grown : {Y Z : Type 0} (r : Result Y Z) (new : Slab (Used (Rc (Kept K V T O) Global))) (drafts : List (ℕ × List ℕ)) (s : Stored (Kept K V T O)) → shown (result_of used) numbers ≡ s → OnOk r (drafts ≡ with_results numbers.drafts (number ∷ [])) → OnOk r (AreMore used new (results_of_drafts numbers.drafts) (results_of_drafts drafts)) → OnOk r (shown (result_of new) (record { lists = numbers.lists; drafts = drafts }) ≡ grown s (k ∷ []))
+    pub again-grown : {Y Z : Type 0} (r : Result Y Z) (new : Slab (Used (Kept K V T O))) (drafts : List (ℕ × List ℕ)) (s : Stored (Kept K V T O)) → shown (result_of used) numbers ≡ s → OnOk r (drafts ≡ with_results numbers.drafts (number ∷ [])) → OnOk r (AreMore used new (results_of_drafts numbers.drafts) (results_of_drafts drafts)) → OnOk r (shown (result_of new) (record { lists = numbers.lists; drafts = drafts }) ≡ grown s (k ∷ []))
     again-grown (Ok y) new drafts s view is more =
         ap (λ (ds : List (ℕ × List ℕ)). shown (result_of new) (record { lists = numbers.lists; drafts = ds })) is
         ∙ again-shown new (subst (λ (ds : List (ℕ × List ℕ)). AreMore used new (results_of_drafts numbers.drafts) (results_of_drafts ds)) is more)
@@ -73,14 +73,14 @@ module _ {K V T O X : Type 0} {eq : K → K → Bool} {query : T → Query K V X
 
   -- ---- one that comes
 
-  module _ (new : Slab (Used (Rc (Kept K V T O) Global))) (r : Rc (Kept K V T O) Global) (n : ℕ) (is : r.value ≡ k) (put : IsPut used new r (bucket r.value) n) where
+  module _ (new : Slab (Used (Kept K V T O))) (r : Kept K V T O) (n : ℕ) (is : r ≡ k) (put : IsPut used new r (bucket r) n) where
     pub put-shown : shown (result_of new) (grown numbers (n ∷ [])) ≡ grown (shown (result_of used) numbers) (k ∷ [])
     put-shown =
         shown-grown (result_of new) numbers n k put_here
-        ∙ ap (λ s. grown s (k ∷ [])) (shown-same (result_of used) (result_of new) numbers (λ m there. ap (λ o. option_map (λ (r : Rc (Kept K V T O) Global × ℕ). r.0.value) (option_map with_bucket o)) (put.others m (other m there))))
+        ∙ ap (λ s. grown s (k ∷ [])) (shown-same (result_of used) (result_of new) numbers (λ m there. ap (λ o. option_map (λ (r : Kept K V T O × ℕ). r.0) (option_map with_bucket o)) (put.others m (other m there))))
       where
         put_here : result_of new n ≡ Some k
-        put_here = ap (λ o. option_map (λ (r : Rc (Kept K V T O) Global × ℕ). r.0.value) (option_map with_bucket o)) put.changed ∙ ap Some is
+        put_here = ap (λ o. option_map (λ (r : Kept K V T O × ℕ). r.0) (option_map with_bucket o)) put.changed ∙ ap Some is
 
         unused : uses_of used n ≡ 0
         unused = ap (λ o. elim o [ None ↦ 0 | Some u ↦ u.uses ]) put.free
@@ -91,26 +91,26 @@ module _ {K V T O X : Type 0} {eq : K → K → Bool} {query : T → Query K V X
             omega (arith, there, at, stored.counted n, unused)
 
   -- it is stored, and in the last draft
-  module _ (new : Slab (Used (Rc (Kept K V T O) Global))) (after : List ((Kept K V T O × ℕ) × ℕ)) (r : Rc (Kept K V T O) Global) (b n : ℕ) (drafts : List (ℕ × List ℕ))
-      (is : r.value ≡ k) (at : b ≡ bucket k) (put : IsPut used new r b n) (drafts_are : drafts ≡ with_results numbers.drafts (n ∷ [])) where
-    b_is : b ≡ bucket r.value
+  module _ (new : Slab (Used (Kept K V T O))) (after : List ((Kept K V T O × ℕ) × ℕ)) (r : Kept K V T O) (b n : ℕ) (drafts : List (ℕ × List ℕ))
+      (is : r ≡ k) (at : b ≡ bucket k) (put : IsPut used new r b n) (drafts_are : drafts ≡ with_results numbers.drafts (n ∷ [])) where
+    b_is : b ≡ bucket r
     b_is = at ∙ ap bucket (sym is)
 
-    put_there : IsPut used new r (bucket r.value) n
+    put_there : IsPut used new r (bucket r) n
     put_there = subst (λ (m : ℕ). IsPut used new r m n) b_is put
 
-    pub comes-stored : IsSound eq query k → 0 < length numbers.drafts → AddsOne index after ((r.value, b), n) → IsStored eq query bucket new after (record { lists = numbers.lists; drafts = drafts })
+    pub comes-stored : IsSound eq query k → 0 < length numbers.drafts → AddsOne index after ((r, b), n) → IsStored eq query bucket new after (record { lists = numbers.lists; drafts = drafts })
     comes-stored sound some adds =
         subst (λ (ds : List (ℕ × List ℕ)). IsStored eq query bucket new after (record { lists = numbers.lists; drafts = ds })) (sym drafts_are)
-        (stored-put stored new after r n some put_there (subst (λ (m : ℕ). AddsOne index after ((r.value, m), n)) b_is adds) (subst (λ (k : Kept K V T O). IsSound eq query k) (sym is) sound))
+        (stored-put stored new after r n some put_there (subst (λ (m : ℕ). AddsOne index after ((r, m), n)) b_is adds) (subst (λ (k : Kept K V T O). IsSound eq query k) (sym is) sound))
 
     pub comes-shown : shown (result_of new) (record { lists = numbers.lists; drafts = drafts }) ≡ grown (shown (result_of used) numbers) (k ∷ [])
     comes-shown = ap (λ (ds : List (ℕ × List ℕ)). shown (result_of new) (record { lists = numbers.lists; drafts = ds })) drafts_are ∙ put-shown new r n is put_there
 
   -- whichever way that ends
-  module _ (new : Slab (Used (Rc (Kept K V T O) Global))) (after : List ((Kept K V T O × ℕ) × ℕ)) (r : Rc (Kept K V T O) Global) (b : ℕ) (drafts : List (ℕ × List ℕ)) (is : r.value ≡ k) (at : b ≡ bucket k) where
+  module _ (new : Slab (Used (Kept K V T O))) (after : List ((Kept K V T O × ℕ) × ℕ)) (r : Kept K V T O) (b : ℕ) (drafts : List (ℕ × List ℕ)) (is : r ≡ k) (at : b ≡ bucket k) where
     abbrev IsIn : Type 0
-    IsIn = (n : ℕ) × IsPut used new r b n × (drafts ≡ with_results numbers.drafts (n ∷ [])) × AddsOne index after ((r.value, b), n)
+    IsIn = (n : ℕ) × IsPut used new r b n × (drafts ≡ with_results numbers.drafts (n ∷ [])) × AddsOne index after ((r, b), n)
 
     abbrev IsAsBefore : Type 0
     IsAsBefore = ((n : ℕ) → get new n ≡ get used n) × (drafts ≡ numbers.drafts) × (after ≡ index)
@@ -129,13 +129,13 @@ module _ {K V T O X : Type 0} {eq : K → K → Bool} {query : T → Query K V X
 
 -- what each result came of
 pub sound-all : {K V T O X : Type 0} {eq : K → K → Bool} {query : T → Query K V X O} {bucket : Kept K V T O → ℕ}
-    {used : Slab (Used (Rc (Kept K V T O) Global))} {index : List ((Kept K V T O × ℕ) × ℕ)} {numbers : Stored ℕ} → IsStored eq query bucket used index numbers → All (λ e. IsSound eq query e.0.0) index
+    {used : Slab (Used (Kept K V T O))} {index : List ((Kept K V T O × ℕ) × ℕ)} {numbers : Stored ℕ} → IsStored eq query bucket used index numbers → All (λ e. IsSound eq query e.0.0) index
 sound-all {eq = eq} {query = query} {bucket = bucket} {index = index} stored = All-weaker (λ e. IsSoundAt eq query bucket e.0) (λ e. IsSound eq query e.0.0) (λ e p. p.sound) index stored.sound
 
 -- ---- at a place
 
 module _ {K V T O X : Type 0} {eq : K → K → Bool} (itself : (x : K) → eq x x ≡ true) (same : (x y : K) → eq x y ≡ true → x ≡ y) {query : T → Query K V X O} {bucket : Kept K V T O → ℕ}
-    {used : Slab (Used (Rc (Kept K V T O) Global))} {index : List ((Kept K V T O × ℕ) × ℕ)} {numbers : Stored ℕ} (stored : IsStored eq query bucket used index numbers) (text : T) (bank : K → V) where
+    {used : Slab (Used (Kept K V T O))} {index : List ((Kept K V T O × ℕ) × ℕ)} {numbers : Stored ℕ} (stored : IsStored eq query bucket used index numbers) (text : T) (bank : K → V) where
   abbrev here : Kept K V T O
   here = result_over eq query (text, bank)
 

@@ -6,7 +6,6 @@ use Rattle.std.specs.Option.{option_map, option_to_list, unwrap_or}
 use Rattle.std.proofs.lemmas.List.{append-nil}
 use Rattle.std.proofs.lemmas.Option.{slice_get-map, unwrap_or-slice_get}
 use Rattle.std.specs.Prelude.{IsSome}
-use Rattle.std.specs.declared.rc.Rc.{Rc}
 use Rattle.slab.specs.Slab.{Slab, get}
 use Rattle.idl_memo.specs.Kept.{Kept}
 use Rattle.idl_store.specs.Numbers.{AreMore, IsStored, drafts_of, joined, lists_of, result_of, shown, times, with_bucket}
@@ -19,8 +18,8 @@ use Rattle.idl_store.proofs.Changing.{stands-for, taken}
 use Rattle.idl_store.proofs.Times.{times-append, times_at}
 
 -- what stands under a number
-pub result-under : {K V T O : Type 0} (used : Slab (Used (Rc (Kept K V T O) Global))) (n : ℕ) (u : Used (Rc (Kept K V T O) Global)) → get used n ≡ Some u → result_of used n ≡ Some u.result.value
-result-under {K} {V} {T} {O} used n u h = ap (λ o. option_map (λ (r : Rc (Kept K V T O) Global × ℕ). r.0.value) (option_map with_bucket o)) h
+pub result-under : {R : Type 0} (used : Slab (Used R)) (n : ℕ) (u : Used R) → get used n ≡ Some u → result_of used n ≡ Some u.result
+result-under {R} used n u h = ap (λ o. option_map (λ (r : R × ℕ). r.0) (option_map with_bucket o)) h
 
 -- the numbers of a list of vectors
 pub list_at-vector : (lists : List (Vec ℕ Global)) (list : ℕ) (found : Option (Vec ℕ Global)) → slice_get lists list ≡ found → list_at (lists_of lists) list ≡ unwrap_or (option_map (λ (l : Vec ℕ Global). l.items) found) []
@@ -43,7 +42,7 @@ with_results-none (d ∷ e ∷ ds) = ap (λ ds. d ∷ ds) (with_results-none (e 
 pub grown-nothing : {X : Type 0} (s : Stored X) → grown s [] ≡ s
 grown-nothing s = ap (λ ds. record { lists = s.lists; drafts = ds }) (with_results-none s.drafts)
 
-module _ {K V T O X : Type 0} {eq : K → K → Bool} {query : T → Query K V X O} {bucket : Kept K V T O → ℕ} {used : Slab (Used (Rc (Kept K V T O) Global))} {index : List ((Kept K V T O × ℕ) × ℕ)} {numbers : Stored ℕ} (stored : IsStored eq query bucket used index numbers) where
+module _ {K V T O X : Type 0} {eq : K → K → Bool} {query : T → Query K V X O} {bucket : Kept K V T O → ℕ} {used : Slab (Used (Kept K V T O))} {index : List ((Kept K V T O × ℕ) × ℕ)} {numbers : Stored ℕ} (stored : IsStored eq query bucket used index numbers) where
   in_all : (n : ℕ) → 0 < times n (joined numbers.lists) → 0 < times n (results_in numbers)
   in_all n there = omega (arith, there, times-append n (joined numbers.lists) (results_of_drafts numbers.drafts))
 
@@ -70,8 +69,8 @@ module _ {K V T O X : Type 0} {eq : K → K → Bool} {query : T → Query K V X
   result-at_none list place h = result-read list place ∙ ap (λ o. elim o [ None ↦ None | Some n ↦ result_of used n ]) h
 
   -- it is in the last draft too, where its uses are more
-  pub shown-again : (list place n : ℕ) (x : Kept K V T O) (new : Slab (Used (Rc (Kept K V T O) Global))) → item_at numbers.lists list place ≡ Some n → result_of used n ≡ Some x → AreMore used new (results_of_drafts numbers.drafts) (results_of_drafts (with_results numbers.drafts (n ∷ []))) → shown (result_of new) (grown numbers (n ∷ [])) ≡ grown (shown (result_of used) numbers) (option_to_list (result_at (shown (result_of used) numbers) list place))
+  pub shown-again : (list place n : ℕ) (x : Kept K V T O) (new : Slab (Used (Kept K V T O))) → item_at numbers.lists list place ≡ Some n → result_of used n ≡ Some x → AreMore used new (results_of_drafts numbers.drafts) (results_of_drafts (with_results numbers.drafts (n ∷ []))) → shown (result_of new) (grown numbers (n ∷ [])) ≡ grown (shown (result_of used) numbers) (option_to_list (result_at (shown (result_of used) numbers) list place))
   shown-again list place n x new h is more =
-      shown-same (result_of used) (result_of new) (grown numbers (n ∷ [])) (λ m there. ap (option_map (λ (r : Rc (Kept K V T O) Global × ℕ). r.0.value)) (more.kept m))
+      shown-same (result_of used) (result_of new) (grown numbers (n ∷ [])) (λ m there. ap (option_map (λ (r : Kept K V T O × ℕ). r.0)) (more.kept m))
       ∙ shown-grown (result_of used) numbers n x is
       ∙ ap (λ o. grown (shown (result_of used) numbers) (option_to_list o)) (sym (result-at_number list place n h ∙ is))

@@ -1,11 +1,10 @@
 -- A kept result is alike at a place just where nothing in its order tells it from the result there.
-use Rattle.std.proofs.Common.{◌≡◌, Bool, true, List, [], ◌∷◌, refl, sym, ap, ◌∙◌, map}
+use Rattle.std.proofs.Common.{◌≡◌, Bool, true, List, [], ◌∷◌, refl, sym, ap, ◌∙◌}
 use Rattle.std.specs.Cmp.{IsTotalOrder}
 use Rattle.std.specs.Ordering.{ordering_then}
 use Rattle.std.specs.declared.cmp.Ordering.{Ordering}
 use Rattle.std.specs.declared.cmp.Ordering.TheVariants.{Less, Equal, Greater}
-use Rattle.std.proofs.lemmas.Cmp.{on_total, then_total, tied_itself}
-use Rattle.std.specs.Cmp.Lexicographic.{lists_total}
+use Rattle.std.proofs.lemmas.Cmp.{tied_itself}
 use Rattle.std.proofs.lemmas.List.{append-nil}
 use Rattle.std.proofs.lemmas.List.Elements.{All-cons, All-nil}
 use Rattle.idl_memo.specs.Kept.{Kept, IsAlike, IsSound, result_over}
@@ -28,10 +27,6 @@ holds-equal answer_cmp exact (e ∷ log) bank h =
     All-cons (λ e. e.1 ≡ bank e.0) e log (exact e.1 (bank e.0) both.0) (holds-equal answer_cmp exact log bank both.1)
 
 module _ {K V T O : Type 0} (text_cmp : T → T → Ordering) (answer_cmp : V → V → Ordering) (texts : IsTotalOrder text_cmp) (answers : IsTotalOrder answer_cmp) where
-  -- the order of results is one
-  pub results_total : IsTotalOrder (results_cmp {K = K} {V = V} {T = T} {O = O} text_cmp answer_cmp)
-  results_total = then_total (on_total (λ (k : Kept K V T O). k.text) texts) (on_total (λ (k : Kept K V T O). map (λ e. e.1) k.log) (lists_total answers))
-
   -- one that is alike stands where the place does
   pub equal-alike : (kept : Kept K V T O) (text : T) (bank : K → V) → IsAlike text bank kept → place_cmp text_cmp answer_cmp kept text bank ≡ Equal
   equal-alike kept text bank alike =

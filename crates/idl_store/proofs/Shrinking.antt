@@ -1,11 +1,8 @@
 -- A slab with the same values under their numbers, and an index with the same results.
 use Rattle.std.proofs.Common.{◌≡◌, ◌↔◌, ℕ, List, [], Option, None, Some, ap, arith, subst}
 use Rattle.std.specs.Prelude.{Contains, IsSome}
-use Rattle.std.specs.Global.{Global}
 use Rattle.std.specs.Option.{option_map}
-use Rattle.std.specs.declared.rc.Rc.{Rc}
 use Rattle.slab.specs.Slab.{Slab, SameValues}
-use Rattle.idl_memo.specs.Kept.{Kept}
 use Rattle.idl_store.specs.Numbers.{AreFewer, AreUsed, IsIndexOf, kept_at, uses_of, with_bucket}
 use Rattle.idl_store.specs.declared.numbers.Used.{Used}
 use Rattle.idl_store.proofs.Using.{indexed-same}
@@ -24,10 +21,10 @@ module _ {R : Type 0} (old new : Slab (Used R)) (same : SameValues old new) wher
   pub used-same : AreUsed old → AreUsed new
   used-same used n there = omega (arith, uses-same n, used n (subst IsSome (same n) there))
 
-module _ {K V T O : Type 0} (old new : Slab (Used (Rc (Kept K V T O) Global))) (same : SameValues old new) where
+module _ {R : Type 0} (old new : Slab (Used R)) (same : SameValues old new) where
   -- what was found is found
-  pub indexed-shrunk : (before after : List ((Kept K V T O × ℕ) × ℕ))
-      → ((e : (Kept K V T O × ℕ) × ℕ) → Contains after e ↔ Contains before e) → IsIndexOf old before → IsIndexOf new after
+  pub indexed-shrunk : (before after : List ((R × ℕ) × ℕ))
+      → ((e : (R × ℕ) × ℕ) → Contains after e ↔ Contains before e) → IsIndexOf old before → IsIndexOf new after
   indexed-shrunk before after there indexed n kept =
       let is = indexed-same old new before (kept-same old new same) indexed n kept in
       let among = there (kept, n) in

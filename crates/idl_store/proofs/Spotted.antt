@@ -1,10 +1,8 @@
 -- What stands at the spots of a store.
 use Rattle.std.proofs.Common.{◌≡◌, ℕ, suc, ◌+◌, ◌-◌, ◌<◌, ◌≤◌, Bool, true, false, List, [], ◌∷◌, ◌++◌, Option, Some, None, ap, arith, drop, get_or, length, map, nat_eq, refl, slice_get, subst, sym, take, ◌∙◌, Result, Ok, Err, OnOk}
-use Rattle.std.specs.Global.{Global}
 use Rattle.std.specs.List.{filter_map, position}
 use Rattle.std.specs.Option.{option_map}
 use Rattle.std.specs.Prelude.{All, IsSome}
-use Rattle.std.specs.declared.rc.Rc.{Rc}
 use Rattle.std.proofs.lemmas.Bool.{eqb-true}
 use Rattle.std.proofs.lemmas.List.{length-map}
 use Rattle.std.proofs.lemmas.List.Quantifiers.{position-Some}
@@ -74,7 +72,7 @@ module _ {X : Type 0} (of : ℕ → Option X) where
   among-shown s false = refl
   among-shown s true = drafts-shown s.drafts
 
-module _ {K V T O X : Type 0} {eq : K → K → Bool} {query : T → Query K V X O} {bucket : Kept K V T O → ℕ} {used : Slab (Used (Rc (Kept K V T O) Global))} {index : List ((Kept K V T O × ℕ) × ℕ)} {numbers : Stored ℕ} (stored : IsStored eq query bucket used index numbers) (spot : Spot) where
+module _ {K V T O X : Type 0} {eq : K → K → Bool} {query : T → Query K V X O} {bucket : Kept K V T O → ℕ} {used : Slab (Used (Kept K V T O))} {index : List ((Kept K V T O × ℕ) × ℕ)} {numbers : Stored ℕ} (stored : IsStored eq query bucket used index numbers) (spot : Spot) where
   lists_stand : (n : ℕ) → 0 < times n (joined (lists_among numbers spot.is_draft)) → IsSome (result_of used n)
   lists_stand n there = stands-for stored n (omega (arith, there, among_all numbers n spot.is_draft))
 
@@ -119,14 +117,14 @@ module _ {K V T O X : Type 0} {eq : K → K → Bool} {query : T → Query K V X
         ∙ shown-part (result_of used) (list_at lists spot.list) spot.place count (λ n there. lists_stand n (omega (arith, there, times_list n lists spot.list)))
 
     -- they are in the last draft too, where their uses are more
-    pub shown-taken : (new : Slab (Used (Rc (Kept K V T O) Global))) → AreMore used new (results_of_drafts numbers.drafts) (results_of_drafts (with_results numbers.drafts (results_from numbers spot count))) → shown (result_of new) (grown numbers (results_from numbers spot count)) ≡ grown (shown (result_of used) numbers) (results_from (shown (result_of used) numbers) spot count)
+    pub shown-taken : (new : Slab (Used (Kept K V T O))) → AreMore used new (results_of_drafts numbers.drafts) (results_of_drafts (with_results numbers.drafts (results_from numbers spot count))) → shown (result_of new) (grown numbers (results_from numbers spot count)) ≡ grown (shown (result_of used) numbers) (results_from (shown (result_of used) numbers) spot count)
     shown-taken new more =
-        shown-same (result_of used) (result_of new) (grown numbers (results_from numbers spot count)) (λ m there. ap (option_map (λ (r : Rc (Kept K V T O) Global × ℕ). r.0.value)) (more.kept m))
+        shown-same (result_of used) (result_of new) (grown numbers (results_from numbers spot count)) (λ m there. ap (option_map (λ (r : Kept K V T O × ℕ). r.0)) (more.kept m))
         ∙ shown-grown_all (result_of used) numbers (results_from numbers spot count)
         ∙ ap (grown (shown (result_of used) numbers)) (sym results-from)
 
     -- whichever way that ends
-    pub part-taken : {Y Z : Type 0} (r : Result Y Z) (new : Slab (Used (Rc (Kept K V T O) Global))) (drafts : List (ℕ × List ℕ)) (ns : List ℕ) (s : Stored (Kept K V T O)) → shown (result_of used) numbers ≡ s → ns ≡ results_from numbers spot count → OnOk r (drafts ≡ with_results numbers.drafts ns) → OnOk r (AreMore used new (results_of_drafts numbers.drafts) (results_of_drafts drafts)) → OnOk r (shown (result_of new) (record { lists = numbers.lists; drafts = drafts }) ≡ grown s (results_from s spot count))
+    pub part-taken : {Y Z : Type 0} (r : Result Y Z) (new : Slab (Used (Kept K V T O))) (drafts : List (ℕ × List ℕ)) (ns : List ℕ) (s : Stored (Kept K V T O)) → shown (result_of used) numbers ≡ s → ns ≡ results_from numbers spot count → OnOk r (drafts ≡ with_results numbers.drafts ns) → OnOk r (AreMore used new (results_of_drafts numbers.drafts) (results_of_drafts drafts)) → OnOk r (shown (result_of new) (record { lists = numbers.lists; drafts = drafts }) ≡ grown s (results_from s spot count))
     part-taken (Ok y) new drafts ns s view same is more =
         let whole : drafts ≡ with_results numbers.drafts (results_from numbers spot count) = is ∙ ap (with_results numbers.drafts) same in
         ap (λ (ds : List (ℕ × List ℕ)). shown (result_of new) (record { lists = numbers.lists; drafts = ds })) whole
@@ -135,7 +133,7 @@ module _ {K V T O X : Type 0} {eq : K → K → Bool} {query : T → Query K V X
     part-taken (Err z) new drafts ns s view same is more = tt
 
 -- the last draft has as many results as numbers
-pub last-read : {K V T O X : Type 0} {eq : K → K → Bool} {query : T → Query K V X O} {bucket : Kept K V T O → ℕ} {used : Slab (Used (Rc (Kept K V T O) Global))} {index : List ((Kept K V T O × ℕ) × ℕ)} {numbers : Stored ℕ} (stored : IsStored eq query bucket used index numbers) (n : ℕ)
+pub last-read : {K V T O X : Type 0} {eq : K → K → Bool} {query : T → Query K V X O} {bucket : Kept K V T O → ℕ} {used : Slab (Used (Kept K V T O))} {index : List ((Kept K V T O × ℕ) × ℕ)} {numbers : Stored ℕ} (stored : IsStored eq query bucket used index numbers) (n : ℕ)
     → n ≡ length numbers.drafts → length (list_at (map (λ d. d.1) numbers.drafts) (n - 1)) ≡ length (last_draft (shown (result_of used) numbers))
 last-read {used} {numbers} stored n is =
     let results = (shown (result_of used) numbers).drafts in

@@ -1,9 +1,7 @@
 -- Results under numbers: one that is used less, goes or comes.
 use Rattle.std.proofs.Common.{◌≡◌, ◌≢◌, ◌⊎◌, ◌↔◌, ℕ, ◌+◌, ◌<◌, ◌≤◌, true, false, List, [], ◌∷◌, ◌++◌, Option, Some, None, cond, refl, sym, ap, ◌∙◌, subst, arith, inl, inr, nat_eq, length, drop, get_or, take}
 use Rattle.std.specs.Prelude.{All, Contains, IsSome, is_some}
-use Rattle.std.specs.Global.{Global}
 use Rattle.std.specs.Option.{option_map}
-use Rattle.std.specs.declared.rc.Rc.{Rc}
 use Rattle.std.proofs.lemmas.Bool.{cases_eq}
 use Rattle.std.proofs.lemmas.Bool.Decides.{eqb_tells}
 use Rattle.std.proofs.lemmas.List.Elements.{All-contains, All-contains_itself, All-weaker}
@@ -13,8 +11,7 @@ use Rattle.idl_store.specs.Stored.{results_of_drafts}
 use Rattle.slab.specs.Slab.{Slab, Updates, get, with_value}
 use Rattle.slab.proofs.SlabLemmas.{Updates-with_value}
 use Rattle.idl_store.specs.Buckets.{AddsOne}
-use Rattle.idl_memo.specs.Kept.{Kept}
-use Rattle.idl_store.specs.Numbers.{AreFewer, AreMore, AreUsed, IsIndexOf, kept_at, valued_at, times, uses_of, valued, with_bucket}
+use Rattle.idl_store.specs.Numbers.{AreFewer, AreMore, AreUsed, IsIndexOf, kept_at, times, uses_of, with_bucket}
 use Rattle.idl_store.specs.declared.numbers.Used.{Used}
 use Rattle.idl_store.proofs.Times.{times-append}
 
@@ -35,87 +32,87 @@ times_one n = by (eqb_tells n n)
     by (inr h) = absurd (h.1 refl)
 
 -- a number is that of one result
-pub indexed-alone : {K V T O : Type 0} (used : Slab (Used (Rc (Kept K V T O) Global))) (index : List ((Kept K V T O × ℕ) × ℕ)) (number : ℕ) → IsIndexOf used index → (e f : (Kept K V T O × ℕ) × ℕ) → Contains index e → Contains index f → e.1 ≡ number → f.1 ≡ number → e ≡ f
+pub indexed-alone : {R : Type 0} (used : Slab (Used R)) (index : List ((R × ℕ) × ℕ)) (number : ℕ) → IsIndexOf used index → (e f : (R × ℕ) × ℕ) → Contains index e → Contains index f → e.1 ≡ number → f.1 ≡ number → e ≡ f
 indexed-alone used index number indexed e f c d is is' =
     let one : e.1 ≡ f.1 = is ∙ sym is' in
-    let both : Some e.0 ≡ Some f.0 = sym ((indexed e.1 e.0).0 c) ∙ ap (valued_at used) one ∙ (indexed f.1 f.0).0 d in
+    let both : Some e.0 ≡ Some f.0 = sym ((indexed e.1 e.0).0 c) ∙ ap (kept_at used) one ∙ (indexed f.1 f.0).0 d in
     let same : e.0 ≡ f.0 = cc in
     (λ i. (same i, one i))
 
-module _ {K V T O : Type 0} (old new : Slab (Used (Rc (Kept K V T O) Global))) where
+module _ {R : Type 0} (old new : Slab (Used R)) where
   -- what is kept is found still
-  pub indexed-same : (index : List ((Kept K V T O × ℕ) × ℕ)) → ((n : ℕ) → kept_at new n ≡ kept_at old n) → IsIndexOf old index → IsIndexOf new index
+  pub indexed-same : (index : List ((R × ℕ) × ℕ)) → ((n : ℕ) → kept_at new n ≡ kept_at old n) → IsIndexOf old index → IsIndexOf new index
   indexed-same index same indexed n kept =
-      subst (λ o. Contains index (kept, n) ↔ (option_map valued o ≡ Some kept)) (sym (same n)) (indexed n kept)
+      subst (λ o. Contains index (kept, n) ↔ (o ≡ Some kept)) (sym (same n)) (indexed n kept)
 
-  module _ (before after : List ((Kept K V T O × ℕ) × ℕ)) (number : ℕ) (k : Kept K V T O × ℕ) (others : (n : ℕ) → n ≢ number → get new n ≡ get old n) where
-    placed_other : (n : ℕ) → n ≢ number → valued_at new n ≡ valued_at old n
-    placed_other n e = ap (λ o. option_map valued (option_map with_bucket o)) (others n e)
+  module _ (before after : List ((R × ℕ) × ℕ)) (number : ℕ) (k : R × ℕ) (others : (n : ℕ) → n ≢ number → get new n ≡ get old n) where
+    placed_other : (n : ℕ) → n ≢ number → kept_at new n ≡ kept_at old n
+    placed_other n e = ap (option_map with_bucket) (others n e)
 
     -- one that goes is found no more
-    pub indexed-gone : valued_at old number ≡ Some k → get new number ≡ None → AddsOne after before (k, number) → ¬ Contains after (k, number) → IsIndexOf old before → IsIndexOf new after
+    pub indexed-gone : kept_at old number ≡ Some k → get new number ≡ None → AddsOne after before (k, number) → ¬ Contains after (k, number) → IsIndexOf old before → IsIndexOf new after
     indexed-gone here gone adds out indexed n kept = (to (cases_eq n number), from (cases_eq n number))
       where
-        none : valued_at new number ≡ None
-        none = ap (λ o. option_map valued (option_map with_bucket o)) gone
+        none : kept_at new number ≡ None
+        none = ap (option_map with_bucket) gone
 
-        to : (n ≡ number) ⊎ (n ≢ number) → Contains after (kept, n) → valued_at new n ≡ Some kept
+        to : (n ≡ number) ⊎ (n ≢ number) → Contains after (kept, n) → kept_at new n ≡ Some kept
         to (inl e) c =
-            let was : valued_at old n ≡ Some kept = (indexed n kept).0 ((adds.has (kept, n)).1 (inr c)) in
-            let at : valued_at old n ≡ Some k = rw e here in
+            let was : kept_at old n ≡ Some kept = (indexed n kept).0 ((adds.has (kept, n)).1 (inr c)) in
+            let at : kept_at old n ≡ Some k = rw e here in
             let same : kept ≡ k = cc in
-            absurd (out (subst (λ (x : (Kept K V T O × ℕ) × ℕ). Contains after x) (λ i. (same i, e i)) c))
+            absurd (out (subst (λ (x : (R × ℕ) × ℕ). Contains after x) (λ i. (same i, e i)) c))
         to (inr e) c = placed_other n e ∙ (indexed n kept).0 ((adds.has (kept, n)).1 (inr c))
 
-        from : (n ≡ number) ⊎ (n ≢ number) → valued_at new n ≡ Some kept → Contains after (kept, n)
+        from : (n ≡ number) ⊎ (n ≢ number) → kept_at new n ≡ Some kept → Contains after (kept, n)
         from (inl e) h =
-            let nothing : valued_at new n ≡ None = rw e none in
+            let nothing : kept_at new n ≡ None = rw e none in
             absurd (cc)
         from (inr e) h = left ((adds.has (kept, n)).0 ((indexed n kept).1 (sym (placed_other n e) ∙ h)))
           where
-            left : (◌≡◌ {A = (Kept K V T O × ℕ) × ℕ} (kept, n) (k, number)) ⊎ Contains after (kept, n) → Contains after (kept, n)
+            left : (◌≡◌ {A = (R × ℕ) × ℕ} (kept, n) (k, number)) ⊎ Contains after (kept, n) → Contains after (kept, n)
             left (inl same) = absurd (e (ap (λ x. x.1) same))
             left (inr c) = c
 
     -- one that comes is found
-    pub indexed-put : valued_at old number ≡ None → valued_at new number ≡ Some k → AddsOne before after (k, number) → IsIndexOf old before → IsIndexOf new after
+    pub indexed-put : kept_at old number ≡ None → kept_at new number ≡ Some k → AddsOne before after (k, number) → IsIndexOf old before → IsIndexOf new after
     indexed-put free here adds indexed n kept = (to (cases_eq n number), from (cases_eq n number))
       where
-        to : (n ≡ number) ⊎ (n ≢ number) → Contains after (kept, n) → valued_at new n ≡ Some kept
+        to : (n ≡ number) ⊎ (n ≢ number) → Contains after (kept, n) → kept_at new n ≡ Some kept
         to o c = by o ((adds.has (kept, n)).0 c)
           where
-            by : (n ≡ number) ⊎ (n ≢ number) → (◌≡◌ {A = (Kept K V T O × ℕ) × ℕ} (kept, n) (k, number)) ⊎ Contains before (kept, n) → valued_at new n ≡ Some kept
-            by o (inl same) = ap (valued_at new) (ap (λ x. x.1) same) ∙ here ∙ ap (λ x. Some x.0) (sym same)
+            by : (n ≡ number) ⊎ (n ≢ number) → (◌≡◌ {A = (R × ℕ) × ℕ} (kept, n) (k, number)) ⊎ Contains before (kept, n) → kept_at new n ≡ Some kept
+            by o (inl same) = ap (kept_at new) (ap (λ x. x.1) same) ∙ here ∙ ap (λ x. Some x.0) (sym same)
             by (inl e) (inr c) =
-                let was : valued_at old n ≡ Some kept = (indexed n kept).0 c in
-                let nothing : valued_at old n ≡ None = rw e free in
+                let was : kept_at old n ≡ Some kept = (indexed n kept).0 c in
+                let nothing : kept_at old n ≡ None = rw e free in
                 absurd (cc)
             by (inr e) (inr c) = placed_other n e ∙ (indexed n kept).0 c
 
-        from : (n ≡ number) ⊎ (n ≢ number) → valued_at new n ≡ Some kept → Contains after (kept, n)
+        from : (n ≡ number) ⊎ (n ≢ number) → kept_at new n ≡ Some kept → Contains after (kept, n)
         from (inl e) h =
-            let at : valued_at new n ≡ Some k = rw e here in
+            let at : kept_at new n ≡ Some k = rw e here in
             let same : k ≡ kept = cc in
-            subst (λ (x : (Kept K V T O × ℕ) × ℕ). Contains after x) (λ i. (same i, sym e i)) ((adds.has (k, number)).1 (inl refl))
+            subst (λ (x : (R × ℕ) × ℕ). Contains after x) (λ i. (same i, sym e i)) ((adds.has (k, number)).1 (inl refl))
         from (inr e) h = (adds.has (kept, n)).1 (inr ((indexed n kept).1 (sym (placed_other n e) ∙ h)))
 
   -- the same by what was kept
-  pub indexed-removed : (before after : List ((Kept K V T O × ℕ) × ℕ)) (number : ℕ) (last : Used (Rc (Kept K V T O) Global)) → get old number ≡ Some last → Updates old new number None → ((kept : Kept K V T O) → Contains before ((kept, last.bucket), number) → AddsOne after before ((kept, last.bucket), number)) → ((kept : Kept K V T O) → ¬ Contains after ((kept, last.bucket), number)) → IsIndexOf old before → IsIndexOf new after
+  pub indexed-removed : (before after : List ((R × ℕ) × ℕ)) (number : ℕ) (last : Used R) → get old number ≡ Some last → Updates old new number None → ((kept : R) → Contains before ((kept, last.bucket), number) → AddsOne after before ((kept, last.bucket), number)) → ((kept : R) → ¬ Contains after ((kept, last.bucket), number)) → IsIndexOf old before → IsIndexOf new after
   indexed-removed before after number last was updates adds out indexed =
-      let k : Kept K V T O × ℕ = (last.result.value, last.bucket) in
-      let here : valued_at old number ≡ Some k = ap (λ o. option_map valued (option_map with_bucket o)) was in
+      let k : R × ℕ = (last.result, last.bucket) in
+      let here : kept_at old number ≡ Some k = ap (option_map with_bucket) was in
       indexed-gone before after number k updates.others here updates.changed (adds k.0 ((indexed number k).1 here)) (out k.0) indexed
 
   -- what holds of all that was found holds of what is found after some went
-  pub all-fewer : (P : Kept K V T O × ℕ → Type 0) (before after : List ((Kept K V T O × ℕ) × ℕ)) (gone : List ℕ) → AreFewer old new gone → AreUsed new → IsIndexOf old before → IsIndexOf new after → All (λ e. P e.0) before → All (λ e. P e.0) after
+  pub all-fewer : (P : R × ℕ → Type 0) (before after : List ((R × ℕ) × ℕ)) (gone : List ℕ) → AreFewer old new gone → AreUsed new → IsIndexOf old before → IsIndexOf new after → All (λ e. P e.0) before → All (λ e. P e.0) after
   all-fewer P before after gone fewer used indexed indexed' all =
       All-weaker (Contains after) (λ e. P e.0) (λ e c.
-      let now : valued_at new e.1 ≡ Some e.0 = (indexed' e.1 e.0).0 c in
+      let now : kept_at new e.1 ≡ Some e.0 = (indexed' e.1 e.0).0 c in
       let taken : IsSome (get new e.1) = is_taken (get new e.1) now in
-      let same : valued_at new e.1 ≡ valued_at old e.1 = ap (option_map valued) (fewer.kept e.1 (used e.1 taken)) in
+      let same : kept_at new e.1 ≡ kept_at old e.1 = fewer.kept e.1 (used e.1 taken) in
       All-contains (λ e. P e.0) before e all ((indexed e.1 e.0).1 (sym same ∙ now))) after (All-contains_itself after)
     where
-      is_taken : {k : Kept K V T O × ℕ} (o : Option (Used (Rc (Kept K V T O) Global))) → option_map valued (option_map with_bucket o) ≡ Some k → IsSome o
+      is_taken : {k : R × ℕ} (o : Option (Used R)) → option_map with_bucket o ≡ Some k → IsSome o
       is_taken None h = absurd (cc)
       is_taken (Some u) h = refl
 

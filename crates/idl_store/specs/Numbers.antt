@@ -3,7 +3,6 @@ use Rattle.std.specs.Prelude.{◌≡◌, ◌≢◌, ◌↔◌, ℕ, ◌+◌, ◌
 use Rattle.std.specs.Global.{Global}
 use Rattle.std.specs.List.{flat_map}
 use Rattle.std.specs.Option.{option_map}
-use Rattle.std.specs.declared.rc.Rc.{Rc}
 use Rattle.slab.specs.Slab.{Slab, get}
 use Rattle.idl_memo.specs.Kept.{Kept, IsSound}
 use Rattle.idl_memo.specs.Query.{Query}
@@ -73,26 +72,16 @@ module _ {R : Type 0} where
     pub uses : (n : ℕ) → uses_of new n + times n numbers ≡ uses_of old n
     pub kept : (n : ℕ) → 0 < uses_of new n → kept_at new n ≡ kept_at old n
 
-module _ {K V T O : Type 0} where
-  -- a result that is shared, by its value
-  abbrev pub valued : Rc (Kept K V T O) Global × ℕ → Kept K V T O × ℕ
-  valued r = (r.0.value, r.1)
-
   -- the result under a number
-  abbrev pub result_of : Slab (Used (Rc (Kept K V T O) Global)) → ℕ → Option (Kept K V T O)
-  result_of used n = option_map (λ (r : Rc (Kept K V T O) Global × ℕ). r.0.value) (kept_at used n)
-
-  -- the result with the number of its bucket
-  abbrev pub valued_at : Slab (Used (Rc (Kept K V T O) Global)) → ℕ → Option (Kept K V T O × ℕ)
-  valued_at used n = option_map valued (kept_at used n)
+  abbrev pub result_of : Slab (Used R) → ℕ → Option R
+  result_of used n = option_map (λ (r : R × ℕ). r.0) (kept_at used n)
 
   -- the index has each result that is kept, in its bucket, with its number, and no other
-  abbrev pub IsIndexOf : Slab (Used (Rc (Kept K V T O) Global)) → List ((Kept K V T O × ℕ) × ℕ)
-      → Type 0
+  abbrev pub IsIndexOf : Slab (Used R) → List ((R × ℕ) × ℕ) → Type 0
   IsIndexOf used index =
-      (n : ℕ) (kept : Kept K V T O × ℕ)
-      → Contains index (kept, n) ↔ (valued_at used n ≡ Some kept)
+      (n : ℕ) (kept : R × ℕ) → Contains index (kept, n) ↔ (kept_at used n ≡ Some kept)
 
+module _ {K V T O : Type 0} where
   -- it is what a task gave, and in the bucket of its text and hint
   pub record IsSoundAt {X : Type 0} (eq : K → K → Bool) (query : T → Query K V X O)
       (bucket : Kept K V T O → ℕ) (kept : Kept K V T O × ℕ) : Type 0 where
@@ -103,7 +92,7 @@ module _ {K V T O : Type 0} where
       (bucket : Kept K V T O → ℕ) where
     -- the results of the lists and drafts are kept, each once, are counted and found, and came of
     -- their tasks
-    pub record IsStored (used : Slab (Used (Rc (Kept K V T O) Global)))
+    pub record IsStored (used : Slab (Used (Kept K V T O)))
         (index : List ((Kept K V T O × ℕ) × ℕ)) (numbers : Stored ℕ) : Type 0 where
       pub counted : (n : ℕ) → uses_of used n ≡ times n (results_in numbers)
       pub needed : AreUsed used

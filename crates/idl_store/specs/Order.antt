@@ -1,9 +1,11 @@
 -- The order of kept results: by their texts, and then by their answers.
 use Rattle.std.specs.Prelude.{List, [], ◌∷◌, map}
-use Rattle.std.specs.Cmp.Lexicographic.{slice_cmp}
+use Rattle.std.specs.Cmp.{IsTotalOrder}
+use Rattle.std.specs.Cmp.Lexicographic.{lists_total, slice_cmp}
 use Rattle.std.specs.Ordering.{ordering_then}
 use Rattle.std.specs.declared.cmp.Ordering.{Ordering}
 use Rattle.std.specs.declared.cmp.Ordering.TheVariants.{Equal}
+use Rattle.std.proofs.lemmas.Cmp.{on_total, then_total}
 use Rattle.idl_memo.specs.Kept.{Kept}
 
 module _ {K V : Type 0} (answer_cmp : V → V → Ordering) where
@@ -28,3 +30,11 @@ module _ {K V T O : Type 0} (text_cmp : T → T → Ordering) (answer_cmp : V �
   abbrev pub place_cmp : Kept K V T O → T → (K → V) → Ordering
   place_cmp kept text bank =
       ordering_then (text_cmp kept.text text) (bank_cmp answer_cmp kept.log bank)
+
+-- the order of kept results is one, where those of texts and answers are
+pub results_total : {K V T O : Type 0} {text_cmp : T → T → Ordering} {answer_cmp : V → V → Ordering}
+    → IsTotalOrder text_cmp → IsTotalOrder answer_cmp
+    → IsTotalOrder (results_cmp {K = K} {V = V} {T = T} {O = O} text_cmp answer_cmp)
+results_total {K} {V} {T} {O} texts answers =
+    then_total (on_total (λ (k : Kept K V T O). k.text) texts)
+    (on_total (λ (k : Kept K V T O). map (λ e. e.1) k.log) (lists_total answers))

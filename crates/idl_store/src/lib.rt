@@ -6,8 +6,10 @@
 mod index;
 mod laws;
 mod lists;
+mod look_up;
 mod numbers;
 mod order;
+mod ranked;
 mod store;
 mod uses;
 

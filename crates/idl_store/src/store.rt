@@ -8,19 +8,24 @@
 //! one is. `put` looks its result up by its own log. A spot is searched for in the drafts, the last one first, and then
 //! in the lists.
 
-ghost use Rattle.std.specs.Prelude.{◌≡◌, ◌<◌, ◌∷◌, [], IfNone, IfOk, IfSome, IsTrue, OnErr, OnOk, Option, Some, length, slice_get};
+ghost use Rattle.std.specs.Prelude.{◌≡◌, ◌<◌, ◌∷◌, [], IfNone, IfOk, IfSome, IsSome, IsTrue, OnErr, OnOk, Option, Some, length, slice_get, vec_len};
 ghost use Rattle.std.specs.Option.{option_copied, option_map, option_to_list};
 ghost use Rattle.idl_memo.specs.Kept.{IsSound, NoneAlikeAt, result_over};
 ghost use Rattle.idl_memo.specs.Meter.{count_of, most_compared};
+ghost use Rattle.slab.specs.Slab.{get};
+ghost use Rattle.idl_store.specs.Numbers.{AreMore, drafts_of, result_of};
 ghost use Rattle.idl_store.specs.Obtained.{IsObtained};
 ghost use Rattle.idl_store.specs.Spots.{result_on, results_from};
-ghost use Rattle.idl_store.specs.Stored.{begun, committed, discarded, grown, last_draft, list_at, nothing_stored, removed, result_at, results_in};
+ghost use Rattle.idl_store.specs.Stored.{begun, committed, discarded, grown, last_draft, list_at, nothing_stored, removed, result_at, results_in, results_of_drafts, with_results};
 
 use crate::index::{Index, bucket_of};
+use crate::look_up::{find_at, find_result};
 use crate::numbers::{
     Draft, Spot, Used, exchange, number_at, number_on, numbers_from, shrink_lists, spot_of,
 };
+use crate::ranked::Held;
 use crate::uses::{put, release, release_drafts, shrink_slab, use_again, use_all_again};
+use idl_base::Datum;
 use idl_memo::{Bank, Kept, LentBank, Log, Meter, PlainBank, Runnable, Runs, Task, keep};
 use slab::Slab;
 use std::alloc::{AllocError, Global};
@@ -39,8 +44,8 @@ where
     B::Answer: Ord,
     T::Text: Ord,
 {
-    used: Slab<Used<Rc<Kept<B, T::Text, T::Out>>>>,
-    index: Index<B, T::Text, T::Out>,
+    used: Slab<Used<Held<B, T::Text, T::Out>>>,
+    index: Index<Held<B, T::Text, T::Out>>,
     lists: Vec<Vec<usize>>,
     drafts: Vec<Draft>,
     // What a task asks while it runs.
@@ -123,7 +128,7 @@ where
         ensures { option_copied result ≡ result_at self.now list place }
     {
         match number_at(&self.lists, list, place) {
-            Some(number) => Some(&self.used[number].result),
+            Some(number) => Some(self.used[number].result.shared()),
             None => None,
         }
     }
@@ -133,7 +138,7 @@ where
         ensures { option_map (λ r. r.now.value) result ≡ result_on self.now spot }
     {
         match number_on(&self.lists, &self.drafts, spot) {
-            Some(number) => Some(&self.used[number].result),
+            Some(number) => Some(self.used[number].result.shared()),
             None => None,
         }
     }
@@ -190,7 +195,7 @@ where
         ensures err { OnErr result (self.new ≡ self.old) }
     {
         match number_at(&self.lists, list, place) {
-            Some(number) => Ok(Some(use_again(&mut self.used, &mut self.drafts, number)?)),
+            Some(number) => Ok(Some(share_again(&mut self.used, &mut self.drafts, number)?)),
             None => Ok(None),
         }
     }
@@ -273,7 +278,7 @@ where
             (NoneAlikeAt (T.text_of task.now, B.at bank.now) (results_in self.now)) }
     {
         let bucket = bucket_of(task.text(), task.hint(bank));
-        match self.index.find(bucket, task.text(), bank) {
+        match find_at(&self.index, bucket, task.text(), bank) {
             Ok(number) => spot_of(&self.lists, &self.drafts, number),
             Err(_gap) => None,
         }
@@ -306,8 +311,8 @@ where
         ensures err { OnErr result (self.new ≡ self.old) }
     {
         let bucket = bucket_of(task.text(), task.hint(bank));
-        let gap = match self.index.find(bucket, task.text(), bank) {
-            Ok(number) => return use_again(&mut self.used, &mut self.drafts, number),
+        let gap = match find_at(&self.index, bucket, task.text(), bank) {
+            Ok(number) => return share_again(&mut self.used, &mut self.drafts, number),
             Err(gap) => gap,
         };
         let alloc = *self.lists.allocator();
@@ -318,7 +323,7 @@ where
         if self.drafts.is_empty() {
             return Ok(kept);
         }
-        let again = kept.clone()?;
+        let again = hold(&kept)?;
         put(
             &mut self.used,
             &mut self.index,
@@ -346,7 +351,7 @@ where
         ensures err { OnErr result (self.new ≡ self.old) }
     {
         let bucket = bucket_of(kept.text(), hint);
-        match self.index.find_result(bucket, &kept) {
+        match find_result(&self.index, bucket, &kept) {
             Ok(number) => {
                 use_again(&mut self.used, &mut self.drafts, number)?;
                 Ok(())
@@ -355,10 +360,43 @@ where
                 if self.drafts.is_empty() {
                     return Ok(());
                 }
-                put(&mut self.used, &mut self.index, &mut self.drafts, kept, gap)
+                let held = Held::of(kept);
+                put(&mut self.used, &mut self.index, &mut self.drafts, held, gap)
             }
         }
     }
+}
+
+// The result of this number goes into the last draft too, as it is shared; where there is no draft, it goes nowhere.
+//
+// Want of memory leaves all as it was.
+fn share_again<B: Bank, X: Datum + Ord, O: Drop>(
+    used: &mut Slab<Used<Held<B, X, O>>>,
+    drafts: &mut Vec<Draft>,
+    number: usize,
+) -> Result<Rc<Kept<B, X, O>>, AllocError>
+where
+    B::Answer: Ord,
+    requires { IsSome (get used.old number) }
+    ensures kept { IfOk result (λ kept. result_of used.old number ≡ Some kept.value) }
+    ensures drafts { OnOk result (drafts_of drafts.new.items
+        ≡ with_results (drafts_of drafts.old.items) (number ∷ [])) }
+    ensures uses { OnOk result (AreMore used.old used.new
+        (results_of_drafts (drafts_of drafts.old.items))
+        (results_of_drafts (drafts_of drafts.new.items))) }
+    ensures err { OnErr result ((used.new ≡ used.old)
+        × (drafts_of drafts.new.items ≡ drafts_of drafts.old.items)) }
+    ensures count { vec_len drafts.new ≡ vec_len drafts.old }
+{
+    let held = use_again(used, drafts, number)?;
+    Ok(held.into_shared())
+}
+
+// What is shared, held once more.
+fn hold<B: Bank, X: Drop, O: Drop>(kept: &Rc<Kept<B, X, O>>) -> Result<Held<B, X, O>, AllocError>
+    ensures { IfOk result (λ held. held ≡ kept.now.value) }
+{
+    Ok(Held::of(kept.clone()?))
 }
 
 // What a run of the task gives over this bank. What it asks goes through a log in which it leaves nothing of use.

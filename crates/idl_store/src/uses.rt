@@ -1,33 +1,28 @@
 //! What a look-up finds and a run leaves goes into drafts, and what is used no more goes.
 
 ghost use Rattle.std.specs.Prelude.{◌≡◌, ◌<◌, ◌≤◌, ◌+◌, ◌^◌, ◌∷◌, [], ℕ, All, IfOk, IsSome, IsTrue, OnErr, OnOk, Some, length, vec_len};
-ghost use Rattle.std.specs.Option.{option_cmp};
 ghost use Rattle.slab.specs.Slab.{get, SameValues};
 ghost use Rattle.idl_store.specs.Buckets.{AddsOne};
 ghost use Rattle.idl_store.specs.Index.{IsGapAmong};
 ghost use Rattle.idl_store.specs.Numbers.{AreFewer, AreMore, AreUsed, IsIndexOf, IsPut, drafts_of, result_of, times, uses_of};
-ghost use Rattle.idl_store.specs.Order.{results_cmp};
 ghost use Rattle.idl_store.specs.Stored.{results_of_drafts, with_results};
 
 use crate::index::{Gap, Index};
 use crate::numbers::{Draft, Used, push_numbers};
-use idl_base::Datum;
-use idl_memo::{Bank, Kept};
+use crate::ranked::Ranked;
 use slab::Slab;
 use std::alloc::AllocError;
-use std::hash::Hash;
-use std::rc::Rc;
 
 // The result of this number goes into the last draft too; where there is none, it goes nowhere.
 //
 // Want of memory leaves all as it was.
-pub(crate) fn use_again<B: Bank, X: Datum, O: Drop>(
-    used: &mut Slab<Used<Rc<Kept<B, X, O>>>>,
+pub(crate) fn use_again<R: Ranked>(
+    used: &mut Slab<Used<R>>,
     drafts: &mut Vec<Draft>,
     number: usize,
-) -> Result<Rc<Kept<B, X, O>>, AllocError>
+) -> Result<R, AllocError>
     requires { IsSome (get used.old number) }
-    ensures kept { IfOk result (λ kept. result_of used.old number ≡ Some kept.value) }
+    ensures kept { IfOk result (λ kept. result_of used.old number ≡ Some kept) }
     ensures drafts { OnOk result (drafts_of drafts.new.items
         ≡ with_results (drafts_of drafts.old.items) (number ∷ [])) }
     ensures uses { OnOk result (AreMore used.old used.new
@@ -37,7 +32,7 @@ pub(crate) fn use_again<B: Bank, X: Datum, O: Drop>(
         × (drafts_of drafts.new.items ≡ drafts_of drafts.old.items)) }
     ensures count { vec_len drafts.new ≡ vec_len drafts.old }
 {
-    let kept = used[number].result.clone()?;
+    let kept = used[number].result.again()?;
     use_all_again(used, drafts, &[number])?;
     Ok(kept)
 }
@@ -99,21 +94,18 @@ fn count_uses<R>(used: &mut Slab<Used<R>>, numbers: &[usize])
 // A new result goes into the last draft, and into the gap that was found for it.
 //
 // Want of memory leaves all as it was.
-pub(crate) fn put<B: Bank, X: Datum + Hash + Ord, O: Drop>(
-    used: &mut Slab<Used<Rc<Kept<B, X, O>>>>,
-    index: &mut Index<B, X, O>,
+pub(crate) fn put<R: Ranked>(
+    used: &mut Slab<Used<R>>,
+    index: &mut Index<R>,
     drafts: &mut Vec<Draft>,
-    kept: Rc<Kept<B, X, O>>,
+    kept: R,
     gap: Gap,
 ) -> Result<(), AllocError>
-where
-    B::Answer: Ord,
     requires some { 0 < vec_len drafts.old }
-    requires gap { IsGapAmong (λ other.
-        results_cmp X.cmp (option_cmp B.Answer.cmp) other kept.value) index.old gap }
+    requires gap { IsGapAmong (λ other. R.rank other kept) index.old gap }
     ensures ok { OnOk result ((number : ℕ) × IsPut used.old used.new kept gap.bucket number
         × (drafts_of drafts.new.items ≡ with_results (drafts_of drafts.old.items) (number ∷ []))
-        × AddsOne index.old index.new ((kept.value, gap.bucket), number)) }
+        × AddsOne index.old index.new ((kept, gap.bucket), number)) }
     ensures err { OnErr result (((n : ℕ) → get used.new n ≡ get used.old n)
         × (drafts_of drafts.new.items ≡ drafts_of drafts.old.items)
         × (index.new ≡ index.old)) }
@@ -125,7 +117,7 @@ where
     draft.numbers.reserve(1)?;
     used.reserve(1)?;
     let number = used.vacant_key();
-    index.insert(gap, kept.clone()?, number, *draft.numbers.allocator())?;
+    index.insert(gap, kept.again()?, number, *draft.numbers.allocator())?;
     used.insert_reserved(Used {
         result: kept,
         uses: 1,
@@ -145,13 +137,11 @@ pub(crate) fn shrink_slab<R: Drop>(used: &mut Slab<R>)
 }
 
 // The uses of these drafts are given up, and they are left out. It takes no memory.
-pub(crate) fn release_drafts<B: Bank, X: Datum + Hash + Ord, O: Drop>(
-    used: &mut Slab<Used<Rc<Kept<B, X, O>>>>,
-    index: &mut Index<B, X, O>,
+pub(crate) fn release_drafts<R: Ranked>(
+    used: &mut Slab<Used<R>>,
+    index: &mut Index<R>,
     drafts: &mut Vec<Draft>,
 )
-where
-    B::Answer: Ord,
     requires uses { (n : ℕ)
         → times n (results_of_drafts (drafts_of drafts.old.items)) ≤ uses_of used.old n }
     requires used { AreUsed used.old }
@@ -168,13 +158,7 @@ where
 }
 
 // These uses are given up, and each result that has no other goes. It takes no memory.
-pub(crate) fn release<B: Bank, X: Datum + Hash + Ord, O: Drop>(
-    used: &mut Slab<Used<Rc<Kept<B, X, O>>>>,
-    index: &mut Index<B, X, O>,
-    numbers: &[usize],
-)
-where
-    B::Answer: Ord,
+pub(crate) fn release<R: Ranked>(used: &mut Slab<Used<R>>, index: &mut Index<R>, numbers: &[usize])
     requires uses { (n : ℕ) → times n numbers.now ≤ uses_of used.old n }
     requires used { AreUsed used.old }
     requires indexed { IsIndexOf used.old index.old }
@@ -188,13 +172,7 @@ where
 }
 
 // A use of the result of this number is given up. If it has no other, the result goes.
-fn release_one<B: Bank, X: Datum + Hash + Ord, O: Drop>(
-    used: &mut Slab<Used<Rc<Kept<B, X, O>>>>,
-    index: &mut Index<B, X, O>,
-    number: usize,
-)
-where
-    B::Answer: Ord,
+fn release_one<R: Ranked>(used: &mut Slab<Used<R>>, index: &mut Index<R>, number: usize)
     requires one { 0 < uses_of used.old number }
     requires used { AreUsed used.old }
     requires indexed { IsIndexOf used.old index.old }

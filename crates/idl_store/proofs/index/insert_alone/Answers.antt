@@ -1,7 +1,6 @@
 -- The item is the only one of its bucket.
 use Rattle.std.proofs.Common.{◌≡◌, ◌∷◌, ◌++◌, [], ap, nat_eq, subst, ◌∙◌}
 use Rattle.std.specs.HashMap.{PutsEntry}
-use Rattle.std.specs.Option.{option_cmp}
 use Rattle.idl_store.specs.Index.{numbered}
 use Rattle.idl_store.proofs.Bucketed.{adds-new_bucket}
 use Rattle.idl_store.proofs.Finding.{empty-within, order-new}
@@ -23,4 +22,4 @@ returns-clause-order g c =
     let w = c.push.new.self in
     let alone : w.items ≡ c.args.item ∷ [] = c.in_ok-push.ensures.items ∙ ap (λ items. items ++ c.args.item ∷ []) c.in_ok-results.ensures.items in
     let puts = subst (PutsEntry nat_eq m n c.args.bucket w) c.in_ok-insert.ensures.old c.in_ok-insert.ensures.entries in
-    order-new m c.args.bucket g.X.Ord.cmp (option_cmp g.B.Answer.Ord.cmp) n w c.args.item puts c.insert.ensures.unique alone c.requires.order
+    order-new m c.args.bucket g.R.Ranked.rank n w c.args.item puts c.insert.ensures.unique alone c.requires.order

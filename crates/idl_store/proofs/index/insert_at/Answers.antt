@@ -1,21 +1,19 @@
 -- The item goes into its gap, or into a bucket of its own.
 use Rattle.std.proofs.Common.{◌≡◌, ◌≢◌, All, OnOk, subst, sym}
-use Rattle.std.specs.Option.{option_cmp}
 use Rattle.idl_store.specs.Buckets.{AddsOne}
 use Rattle.idl_store.specs.Index.{numbered, numbered_cmp, numbered_in}
-use Rattle.idl_store.specs.Order.{results_cmp}
 use Rattle.idl_store.proofs.Bucketed.{adds-in_bucket, on_err-weaker, on_ok-weaker, same-in_bucket}
 use Rattle.idl_store.proofs.Finding.{apart-without, gap-within, order-set, order-within}
 use Rattle.idl_store.proofs.index.insert_at.Goals as goal
 
 pub insert_in-requires-clause-order : goal.insert_in-requires-clause-order
 insert_in-requires-clause-order g c =
-    order-within c.args.buckets.now c.args.gap.bucket c.in-Some-get_mut.results.now (sym c.in-Some-get_mut.ensures.value) (numbered_cmp g.X.Ord.cmp (option_cmp g.B.Answer.Ord.cmp)) c.requires.order.sorted
+    order-within c.args.buckets.now c.args.gap.bucket c.in-Some-get_mut.results.now (sym c.in-Some-get_mut.ensures.value) (numbered_cmp g.R.Ranked.rank) c.requires.order.sorted
 
 pub insert_in-requires-clause-gap : goal.insert_in-requires-clause-gap
 insert_in-requires-clause-gap g c =
     gap-within c.args.buckets.now c.args.gap.bucket c.in-Some-get_mut.results.now (sym c.in-Some-get_mut.ensures.value) c.requires.order.unique
-    (λ kept. results_cmp g.X.Ord.cmp (option_cmp g.B.Answer.Ord.cmp) kept c.args.item.result.value) c.args.gap.place c.in-Some.place c.in-Some.is c.requires.gap.within
+    (λ kept. g.R.Ranked.rank kept c.args.item.result) c.args.gap.place c.in-Some.place c.in-Some.is c.requires.gap.within
 
 pub returns-in-Some-get_mut-clause-ok : goal.returns-in-Some-get_mut-clause-ok
 returns-in-Some-get_mut-clause-ok g c =
@@ -39,7 +37,7 @@ pub returns-in-Some-get_mut-clause-order : goal.returns-in-Some-get_mut-clause-o
 returns-in-Some-get_mut-clause-order g c =
     let w = c.insert_in.new.bucket in
     let held = c.get_mut.follows.holds w in
-    order-set c.args.buckets.now c.args.gap.bucket c.in-Some-get_mut.results.now (sym c.in-Some-get_mut.ensures.value) g.X.Ord.cmp (option_cmp g.B.Answer.Ord.cmp) (c.get_mut.follows.lender w) w held.0 held.4 c.insert_in.ensures.order c.requires.order
+    order-set c.args.buckets.now c.args.gap.bucket c.in-Some-get_mut.results.now (sym c.in-Some-get_mut.ensures.value) g.R.Ranked.rank (c.get_mut.follows.lender w) w held.0 held.4 c.insert_in.ensures.order c.requires.order
 
 pub insert_alone-requires-2-clause-apart : goal.insert_alone-requires-2-clause-apart
 insert_alone-requires-2-clause-apart g c =

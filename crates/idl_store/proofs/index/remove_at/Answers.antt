@@ -3,7 +3,6 @@ use Rattle.std.proofs.Common.{◌≡◌, ap, arith, length, nat_eq, subst, sym, 
 use Rattle.std.specs.List.{Contains}
 use Rattle.std.specs.List.Sorted.{IsPermutation}
 use Rattle.std.specs.Map.{lookup, remove_entry}
-use Rattle.std.specs.Option.{option_cmp}
 use Rattle.std.proofs.lemmas.Bool.{eqb-true}
 use Rattle.idl_store.specs.Buckets.{AddsOne}
 use Rattle.idl_store.specs.Index.{numbered_cmp, numbered_in}
@@ -22,7 +21,7 @@ returns-in_default-clause-gone g c = λ kept among.
 
 pub remove_in-requires-clause-order : goal.remove_in-requires-clause-order
 remove_in-requires-clause-order g c =
-    order-within c.args.buckets.now c.args.bucket c.in-Some.results.now (sym c.in-Some.ensures.value) (numbered_cmp g.X.Ord.cmp (option_cmp g.B.Answer.Ord.cmp)) c.requires.order.sorted
+    order-within c.args.buckets.now c.args.bucket c.in-Some.results.now (sym c.in-Some.ensures.value) (numbered_cmp g.R.Ranked.rank) c.requires.order.sorted
 
 pub remove_in-requires-clause-alone : goal.remove_in-requires-clause-alone
 remove_in-requires-clause-alone g c =
@@ -47,7 +46,7 @@ returns-then-is_empty-clause-order g c =
     let w = c.remove_in.new.bucket in
     let n = c.remove.new.self in
     let perm = subst (λ es. IsPermutation (remove_entry (nat_eq c.args.bucket) es) n.entries) (c.get_mut.follows.holds w).0 c.remove.ensures.entries in
-    order-removed c.args.buckets.now c.args.bucket c.in-Some.results.now (sym c.in-Some.ensures.value) g.X.Ord.cmp (option_cmp g.B.Answer.Ord.cmp) n w perm c.remove.ensures.unique c.remove_in.ensures.order c.requires.order
+    order-removed c.args.buckets.now c.args.bucket c.in-Some.results.now (sym c.in-Some.ensures.value) g.R.Ranked.rank n w perm c.remove.ensures.unique c.remove_in.ensures.order c.requires.order
 
 pub returns-else-is_empty-clause-one : goal.returns-else-is_empty-clause-one
 returns-else-is_empty-clause-one g c = λ kept among.
@@ -67,4 +66,4 @@ pub returns-else-is_empty-clause-order : goal.returns-else-is_empty-clause-order
 returns-else-is_empty-clause-order g c =
     let w = c.remove_in.new.bucket in
     let held = c.get_mut.follows.holds w in
-    order-set c.args.buckets.now c.args.bucket c.in-Some.results.now (sym c.in-Some.ensures.value) g.X.Ord.cmp (option_cmp g.B.Answer.Ord.cmp) (c.get_mut.follows.lender w) w held.0 held.4 c.remove_in.ensures.order c.requires.order
+    order-set c.args.buckets.now c.args.bucket c.in-Some.results.now (sym c.in-Some.ensures.value) g.R.Ranked.rank (c.get_mut.follows.lender w) w held.0 held.4 c.remove_in.ensures.order c.requires.order

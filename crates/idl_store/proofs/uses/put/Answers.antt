@@ -14,9 +14,9 @@ pub returns-in_err-reserve-2-clause-err : goal.returns-in_err-reserve-2-clause-e
 returns-in_err-reserve-2-clause-err g c =
     on_err c.from_residual-in_err-reserve-2.result (λ n. ap (λ s. get s n) c.in_err-reserve-2.ensures.rest_kept, drafts-same c.args.drafts.now.items (vec_len c.args.drafts.now) c.args.drafts.now.ok.0 c.in-Some.draft.now (c.in-Some.ensures.variant.0 refl) c.in-Some.ensures.value c.reserve.new.self c.in_ok-reserve.ensures.items, refl)
 
-pub returns-in_err-clone-clause-err : goal.returns-in_err-clone-clause-err
-returns-in_err-clone-clause-err g c =
-    on_err c.from_residual-in_err-clone.result (λ n. ap (λ s. get s n) c.in_ok-reserve-2.ensures.rest_kept, drafts-same c.args.drafts.now.items (vec_len c.args.drafts.now) c.args.drafts.now.ok.0 c.in-Some.draft.now (c.in-Some.ensures.variant.0 refl) c.in-Some.ensures.value c.reserve.new.self c.in_ok-reserve.ensures.items, refl)
+pub returns-in_err-again-clause-err : goal.returns-in_err-again-clause-err
+returns-in_err-again-clause-err g c =
+    on_err c.from_residual-in_err-again.result (λ n. ap (λ s. get s n) c.in_ok-reserve-2.ensures.rest_kept, drafts-same c.args.drafts.now.items (vec_len c.args.drafts.now) c.args.drafts.now.ok.0 c.in-Some.draft.now (c.in-Some.ensures.variant.0 refl) c.in-Some.ensures.value c.reserve.new.self c.in_ok-reserve.ensures.items, refl)
 
 pub returns-in_err-insert-clause-err : goal.returns-in_err-insert-clause-err
 returns-in_err-insert-clause-err g c =
@@ -35,5 +35,5 @@ returns-clause-ok g c =
         others = λ n other. put.others n (λ h. other (h ∙ key)) ∙ same n;
       },
       drafts-more c.args.drafts.now.items (vec_len c.args.drafts.now) c.args.drafts.now.ok.0 c.in-Some.draft.now (c.in-Some.ensures.variant.0 refl) c.in-Some.ensures.value c.push_reserved.new.self (c.vacant_key-number.result ∷ []) items,
-      subst (λ k. AddsOne c.args.index.now c.insert.new.self ((k, c.args.gap.bucket), c.vacant_key-number.result)) c.in_ok-clone.ensures.cases c.in_ok-insert.ensures.ok,
+      subst (λ k. AddsOne c.args.index.now c.insert.new.self ((k, c.args.gap.bucket), c.vacant_key-number.result)) c.in_ok-again.ensures c.in_ok-insert.ensures.ok,
     )

@@ -1,9 +1,7 @@
 -- The buckets are the same ones, in whatever order.
-use Rattle.std.proofs.Common.{◌↔◌, ℕ, List, Option, subst}
+use Rattle.std.proofs.Common.{◌↔◌, ℕ, List, subst}
 use Rattle.std.specs.Prelude.{Contains}
-use Rattle.std.specs.Option.{option_cmp}
 use Rattle.std.proofs.lemmas.List.Sorted.{All-permutation, IsPermutation-sym}
-use Rattle.idl_memo.specs.Kept.{Kept}
 use Rattle.idl_store.specs.Index.{AreInOrder, numbered_at, numbered_cmp, numbered_in}
 use Rattle.idl_store.proofs.Bucketed.{permuted}
 use Rattle.idl_store.proofs.index.Index.shrink.Goals as goal
@@ -14,12 +12,12 @@ shrink_map-requires g c = c.self.invariant.unique
 pub invariant_of-self : goal.invariant_of-self
 invariant_of-self g c = record {
   unique = c.shrink_map.ensures.unique;
-  sorted = All-permutation (λ e. AreInOrder (numbered_cmp g.X.Ord.cmp (option_cmp g.B.Answer.Ord.cmp)) e.1.items) c.self.inside.buckets.entries c.shrink_map.new.map.entries c.shrink_map.ensures.same c.self.invariant.sorted;
+  sorted = All-permutation (λ e. AreInOrder (numbered_cmp g.R.Ranked.rank) e.1.items) c.self.inside.buckets.entries c.shrink_map.new.map.entries c.shrink_map.ensures.same c.self.invariant.sorted;
 }
 
 pub returns : goal.returns
 returns g c = λ e.
     let old = c.self.inside.buckets.entries in
     let new = c.shrink_map.new.map.entries in
-    subst (λ (index : List ((Kept g.row.B-Key.Denot (Option g.row.B-Answer.Denot) g.row.X.Denot g.row.O.Denot × ℕ) × ℕ)). Contains (numbered_in new) e ↔ Contains index e) c.self.view_is
+    subst (λ (index : List ((g.row.R.Denot × ℕ) × ℕ)). Contains (numbered_in new) e ↔ Contains index e) c.self.view_is
     (permuted numbered_at new old e (IsPermutation-sym old new c.shrink_map.ensures.same), permuted numbered_at old new e c.shrink_map.ensures.same)

@@ -14,7 +14,8 @@ index-requires g c =
 pub returns-in-Some : goal.returns-in-Some
 returns-in-Some g c =
     let found = c.in-Some.ensures ∙ (λ i. result_on (numbers_of (c.deref.ensures.value i) (c.deref-2.ensures.value i)) c.args.spot) in
-    sym (result-under c.self.inside.used c.in-Some.number c.index.result.now c.index.ensures)
+    ap Some c.shared.ensures
+    ∙ sym (result-under c.self.inside.used c.in-Some.number c.index.result.now c.index.ensures)
     ∙ sym (result-on_number c.self.invariant.0 c.args.spot (Some c.in-Some.number) found)
     ∙ ap (λ s. result_on s c.args.spot) c.self.view_is
 

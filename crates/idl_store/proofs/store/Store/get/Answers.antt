@@ -14,7 +14,7 @@ pub returns-in-Some : goal.returns-in-Some
 returns-in-Some g c =
     let at = sym (c.in-Some.ensures ∙ ap (λ ls. item_at (lists_of ls) c.args.list c.args.place) c.deref.ensures.value) in
     let there = result-at_number c.self.invariant.0 c.args.list c.args.place c.in-Some.number at in
-    ap Some c.deref-in-Some.ensures ∙ sym (result-under c.self.inside.used c.in-Some.number c.index.result.now c.index.ensures) ∙ sym there ∙ ap (λ s. result_at s c.args.list c.args.place) c.self.view_is
+    ap Some (c.deref-in-Some.ensures ∙ c.shared.ensures) ∙ sym (result-under c.self.inside.used c.in-Some.number c.index.result.now c.index.ensures) ∙ sym there ∙ ap (λ s. result_at s c.args.list c.args.place) c.self.view_is
 
 pub returns-in-None : goal.returns-in-None
 returns-in-None g c =

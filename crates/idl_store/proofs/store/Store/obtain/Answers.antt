@@ -16,8 +16,8 @@ use Rattle.idl_store.proofs.Hinting.{bucket-result, gap-found, none-found}
 use Rattle.idl_store.proofs.Obtaining.{again-grown, again-result, again-taken, alike-here, comes-shown, comes-stored, found-alike, on_ok, run-alike, run-sound}
 use Rattle.idl_store.proofs.store.Store.obtain.Goals as goal
 
-pub use_again-requires : goal.use_again-requires
-use_again-requires g c =
+pub share_again-requires : goal.share_again-requires
+share_again-requires g c =
     let itself = g.met.B.Key.Eq.laws.refl in
     let same = g.met.B.Key.Datum.same in
     let index = c.self.inside.index in
@@ -30,8 +30,8 @@ use_again-requires g c =
 pub invariant_of-self : goal.invariant_of-self
 invariant_of-self g c =
     let stored = c.self.invariant.0 in (
-      stored-used stored c.use_again.new.used c.use_again.result (c.in-Ok.number ∷ []) (drafts_of c.use_again.new.drafts.items) c.use_again.ensures.drafts c.use_again.ensures.uses c.use_again.ensures.err,
-      omega (arith, c.self.invariant.1, c.use_again.ensures.count),
+      stored-used stored c.share_again.new.used c.share_again.result (c.in-Ok.number ∷ []) (drafts_of c.share_again.new.drafts.items) c.share_again.ensures.drafts c.share_again.ensures.uses c.share_again.ensures.err,
+      omega (arith, c.self.invariant.1, c.share_again.ensures.count),
     )
 
 pub returns-in-Ok-clause-result : goal.returns-in-Ok-clause-result
@@ -43,7 +43,7 @@ returns-in-Ok-clause-result g c =
     let text = g.T.Task.text_of c.args.task.now in
     let bank = g.B.Bank.at c.args.bank.now in
     let found = subst (λ t. Any (λ e. IsAlike t bank e.0.0 × (e.1 ≡ c.in-Ok.number)) index) c.text-2.ensures c.in-Ok.ensures.found in
-    again-result stored (result_over g.B.Key.PartialEq.eq g.T.Task.query (text, bank)) c.in-Ok.number (alike-here itself same stored text bank c.in-Ok.number found) c.use_again.result c.use_again.ensures.kept
+    again-result stored (result_over g.B.Key.PartialEq.eq g.T.Task.query (text, bank)) c.in-Ok.number (alike-here itself same stored text bank c.in-Ok.number found) c.share_again.result c.share_again.ensures.kept
 
 pub returns-in-Ok-clause-ok : goal.returns-in-Ok-clause-ok
 returns-in-Ok-clause-ok g c =
@@ -54,7 +54,7 @@ returns-in-Ok-clause-ok g c =
     let text = g.T.Task.text_of c.args.task.now in
     let bank = g.B.Bank.at c.args.bank.now in
     let found = subst (λ t. Any (λ e. IsAlike t bank e.0.0 × (e.1 ≡ c.in-Ok.number)) index) c.text-2.ensures c.in-Ok.ensures.found in
-    again-grown stored (result_over g.B.Key.PartialEq.eq g.T.Task.query (text, bank)) c.in-Ok.number (alike-here itself same stored text bank c.in-Ok.number found) c.use_again.result c.use_again.new.used (drafts_of c.use_again.new.drafts.items) c.args.self.now c.self.view_is c.use_again.ensures.drafts c.use_again.ensures.uses
+    again-grown stored (result_over g.B.Key.PartialEq.eq g.T.Task.query (text, bank)) c.in-Ok.number (alike-here itself same stored text bank c.in-Ok.number found) c.share_again.result c.share_again.new.used (drafts_of c.share_again.new.drafts.items) c.args.self.now c.self.view_is c.share_again.ensures.drafts c.share_again.ensures.uses
 
 pub returns-in-Ok-clause-meter : goal.returns-in-Ok-clause-meter
 returns-in-Ok-clause-meter g c =
@@ -65,7 +65,7 @@ returns-in-Ok-clause-meter g c =
     let text = g.T.Task.text_of c.args.task.now in
     let bank = g.B.Bank.at c.args.bank.now in
     let found = subst (λ t. Any (λ e. IsAlike t bank e.0.0 × (e.1 ≡ c.in-Ok.number)) index) c.text-2.ensures c.in-Ok.ensures.found in
-    on_ok c.use_again.result (inl (subst (λ s. SomeAlikeAt (text, bank) (results_in s)) c.self.view_is (found-alike itself same stored text bank c.in-Ok.number found), refl))
+    on_ok c.share_again.result (inl (subst (λ s. SomeAlikeAt (text, bank) (results_in s)) c.self.view_is (found-alike itself same stored text bank c.in-Ok.number found), refl))
 
 pub returns-then-is_empty-clause-meter : goal.returns-then-is_empty-clause-meter
 returns-then-is_empty-clause-meter g c =
@@ -98,8 +98,8 @@ put-requires-clause-gap g c =
     let answers = options_total g.met.B.Answer.Ord.total in
     let text_exact = exact_by g.T.Text.Ord.cmp g.T.Text.PartialEq.eq g.met.T.Text.Ord.matches_eq g.met.T.Text.Datum.same in
     let answer_exact = exact_options g.B.Answer.Ord.cmp (exact_by g.B.Answer.Ord.cmp g.B.Answer.PartialEq.eq g.met.B.Answer.Ord.matches_eq g.met.B.Answer.Datum.same) in
-    let is = c.in_ok-again.ensures.cases ∙ c.in_ok-kept.ensures in
-    gap-found eq itself same query input hint text bank index stored.sound g.T.Text.Ord.cmp (option_cmp g.B.Answer.Ord.cmp) g.met.T.Text.Ord.total answers text_exact answer_exact c.text-2.result.now c.text-2.ensures c.in-Err.gap c.in_ok-again.again.value is (c.in-Err.ensures.gap query)
+    let is = c.in_ok-again.ensures ∙ c.in_ok-kept.ensures in
+    gap-found eq itself same query input hint text bank index stored.sound g.T.Text.Ord.cmp (option_cmp g.B.Answer.Ord.cmp) g.met.T.Text.Ord.total answers text_exact answer_exact c.text-2.result.now c.text-2.ensures c.in-Err.gap c.in_ok-again.again is (c.in-Err.ensures.gap query)
 
 pub invariant_of-self-in_err-put : goal.invariant_of-self-in_err-put
 invariant_of-self-in_err-put g c =
@@ -133,7 +133,7 @@ invariant_of-self-2 g c =
     let bank = g.B.Bank.at c.args.bank.now in
     let at = c.bucket_of-bucket.ensures ∙ (λ i. bucket_at input (c.text.ensures i) (c.hint.ensures i)) in
     let ok = c.in_ok-put.ensures.ok in
-    let is = c.in_ok-again.ensures.cases ∙ c.in_ok-kept.ensures in
+    let is = c.in_ok-again.ensures ∙ c.in_ok-kept.ensures in
     let here = c.in-Err.ensures.bucket ∙ at ∙ sym (bucket-result eq itself same query input hint text bank) in
     let there : 0 < length c.self.inside.drafts.items = omega (arith, c.self.inside.drafts.ok.0, some-unless _ (sym c.is_empty.ensures ∙ c.if-is_empty.false)) in
     let some : 0 < length numbers.drafts = omega (arith, there, length-drafts c.self.inside.drafts.items) in (
@@ -155,7 +155,7 @@ returns-clause-ok g c =
     let bank = g.B.Bank.at c.args.bank.now in
     let at = c.bucket_of-bucket.ensures ∙ (λ i. bucket_at input (c.text.ensures i) (c.hint.ensures i)) in
     let ok = c.in_ok-put.ensures.ok in
-    let is = c.in_ok-again.ensures.cases ∙ c.in_ok-kept.ensures in
+    let is = c.in_ok-again.ensures ∙ c.in_ok-kept.ensures in
     let here = c.in-Err.ensures.bucket ∙ at ∙ sym (bucket-result eq itself same query input hint text bank) in
     comes-shown stored (result_over eq query (text, bank)) c.put.new.used c.put.new.index c.in_ok-again.again c.in-Err.gap.bucket ok.0 (drafts_of c.put.new.drafts.items) is here ok.1 ok.2 ∙ ap (λ s. grown s (result_over eq query (text, bank) ∷ [])) c.self.view_is
 

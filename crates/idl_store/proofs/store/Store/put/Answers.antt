@@ -1,9 +1,12 @@
 -- The result is there already, or it comes.
-use Rattle.std.proofs.Common.{◌≡◌, ◌∷◌, ◌<◌, ◌∙◌, [], ℕ, List, ap, arith, length, refl, subst, sym}
+use Rattle.std.proofs.Common.{◌≡◌, ◌∷◌, ◌<◌, ◌∙◌, [], ℕ, List, ap, arith, length, subst, sym}
+use Rattle.std.specs.Option.{option_cmp}
 use Rattle.std.specs.Prelude.{Any}
 use Rattle.idl_memo.specs.Kept.{IsSound}
 use Rattle.idl_store.specs.Buckets.{bucket_at, bucket_of}
+use Rattle.idl_store.specs.Index.{IsGapAmong}
 use Rattle.idl_store.specs.Numbers.{AreMore, drafts_of, lists_of, numbers_of, result_of, shown}
+use Rattle.idl_store.specs.Order.{results_cmp}
 use Rattle.idl_store.specs.Stored.{grown, results_of_drafts}
 use Rattle.idl_store.proofs.Changing.{stored-used}
 use Rattle.idl_store.proofs.Drafting.{length-drafts, some-unless}
@@ -41,6 +44,10 @@ returns-in_ok-use_again-in-Ok-clause-ok g c =
     ∙ again-shown stored c.args.kept.value number found new more
     ∙ ap (λ s. grown s (c.args.kept.value ∷ [])) c.self.view_is
 
+pub put-requires-clause-gap : goal.put-requires-clause-gap
+put-requires-clause-gap g c =
+    subst (λ k. IsGapAmong (λ other. results_cmp g.T.Text.Ord.cmp (option_cmp g.B.Answer.Ord.cmp) other k) c.self.inside.index c.in-Err.gap) (c.deref-2.ensures ∙ sym c.of-held.ensures) c.in-Err.ensures.gap
+
 pub invariant_of-self-in-Err : goal.invariant_of-self-in-Err
 invariant_of-self-in-Err g c =
     let input = g.T.Text.Hash.hash_input in
@@ -50,7 +57,7 @@ invariant_of-self-in-Err g c =
     let at : c.in-Err.gap.bucket ≡ bucket_of input hint kept = c.in-Err.ensures.bucket ∙ c.bucket_of-bucket.ensures ∙ (λ i. bucket_at input (text i) (c.requires.hint i)) in
     let there : 0 < length c.self.inside.drafts.items = omega (arith, c.self.inside.drafts.ok.0, some-unless _ (sym c.is_empty.ensures ∙ c.if-is_empty.false)) in
     let some : 0 < length (drafts_of c.self.inside.drafts.items) = omega (arith, there, length-drafts c.self.inside.drafts.items) in (
-      put-stored c.self.invariant.0 kept c.put.new.used c.put.new.index c.args.kept c.in-Err.gap.bucket (drafts_of c.put.new.drafts.items) refl at c.put.result c.requires.sound some c.put.ensures.ok c.put.ensures.err,
+      put-stored c.self.invariant.0 kept c.put.new.used c.put.new.index c.of-held.result c.in-Err.gap.bucket (drafts_of c.put.new.drafts.items) c.of-held.ensures at c.put.result c.requires.sound some c.put.ensures.ok c.put.ensures.err,
       omega (arith, c.self.invariant.1, c.put.ensures.count),
     )
 
@@ -61,7 +68,7 @@ returns-else-is_empty-clause-ok g c =
     let kept = c.args.kept.value in
     let text = c.text.ensures ∙ ap (λ k. k.text) c.deref.ensures in
     let at : c.in-Err.gap.bucket ≡ bucket_of input hint kept = c.in-Err.ensures.bucket ∙ c.bucket_of-bucket.ensures ∙ (λ i. bucket_at input (text i) (c.requires.hint i)) in
-    put-grown c.self.invariant.0 kept c.put.new.used c.put.new.index c.args.kept c.in-Err.gap.bucket (drafts_of c.put.new.drafts.items) refl at c.put.result c.args.self.now c.self.view_is c.put.ensures.ok
+    put-grown c.self.invariant.0 kept c.put.new.used c.put.new.index c.of-held.result c.in-Err.gap.bucket (drafts_of c.put.new.drafts.items) c.of-held.ensures at c.put.result c.args.self.now c.self.view_is c.put.ensures.ok
 
 pub returns-else-is_empty-clause-err : goal.returns-else-is_empty-clause-err
 returns-else-is_empty-clause-err g c =
@@ -70,4 +77,4 @@ returns-else-is_empty-clause-err g c =
     let kept = c.args.kept.value in
     let text = c.text.ensures ∙ ap (λ k. k.text) c.deref.ensures in
     let at : c.in-Err.gap.bucket ≡ bucket_of input hint kept = c.in-Err.ensures.bucket ∙ c.bucket_of-bucket.ensures ∙ (λ i. bucket_at input (text i) (c.requires.hint i)) in
-    put-same c.self.invariant.0 kept c.put.new.used c.put.new.index c.args.kept c.in-Err.gap.bucket (drafts_of c.put.new.drafts.items) refl at c.put.result c.args.self.now c.self.view_is c.put.ensures.err
+    put-same c.self.invariant.0 kept c.put.new.used c.put.new.index c.of-held.result c.in-Err.gap.bucket (drafts_of c.put.new.drafts.items) c.of-held.ensures at c.put.result c.args.self.now c.self.view_is c.put.ensures.err
