@@ -1,5 +1,5 @@
 -- A store whose lists or drafts change.
-use Rattle.std.proofs.Common.{◌≡◌, ◌≢◌, ◌⊎◌, ℕ, suc, ◌+◌, ◌<◌, ◌≤◌, Bool, List, [], ◌∷◌, ◌++◌, Option, Some, None, refl, sym, ap, ◌∙◌, subst, arith, inl, inr, length, get_or, take, drop, Vec, Result, Ok, Err, OnErr, OnOk}
+use Rattle.std.proofs.Common.{◌≡◌, ◌≢◌, ◌⊎◌, ℕ, suc, ◌+◌, ◌<◌, ◌≤◌, List, [], ◌∷◌, ◌++◌, Option, Some, None, refl, sym, ap, ◌∙◌, subst, arith, inl, inr, length, get_or, take, drop, Vec, Result, Ok, Err, OnErr, OnOk}
 use Rattle.std.specs.Prelude.{All, Contains, IsSome}
 use Rattle.std.specs.Global.{Global}
 use Rattle.std.specs.List.{cons_option, filter_map, remove}
@@ -9,9 +9,7 @@ use Rattle.std.proofs.lemmas.List.{drop-map, get_or-map, length-map, map-append,
 use Rattle.std.proofs.lemmas.List.Elements.{All-cons, All-contains, All-contains_itself, All-nil, All-same, All-weaker}
 use Rattle.slab.specs.Slab.{Slab, get}
 use Rattle.idl_store.specs.Buckets.{AddsOne}
-use Rattle.idl_memo.specs.Kept.{Kept, IsSound}
 use Rattle.idl_store.specs.Numbers.{AreFewer, AreMore, AreUsed, IsIndexOf, IsSoundAt, IsPut, IsStored, joined, kept_at, lists_of, result_of, shown, times, uses_of, with_bucket}
-use Rattle.idl_memo.specs.Query.{Query}
 use Rattle.idl_store.specs.Stored.{Stored, grown, results_in, results_of_drafts, with_results}
 use Rattle.idl_store.specs.declared.numbers.Used.{Used}
 use Rattle.idl_store.proofs.Shown.{results_in-shown, shown-same}
@@ -49,7 +47,7 @@ module _ {X : Type 0} (of : ℕ → Option X) where
       by (inl e) later = rw (sym (ap of e) ∙ h) (first (filter_map of ns))
       by (inr e) later = behind (of m) (filter_map of ns) (later (omega (arith, there, times_other n m e, times-append n (m ∷ []) ns)))
 
-module _ {K V T O X : Type 0} {eq : K → K → Bool} {query : T → Query K V X O} {bucket : Kept K V T O → ℕ} {used : Slab (Used (Kept K V T O))} {index : List ((Kept K V T O × ℕ) × ℕ)} {numbers : Stored ℕ} (stored : IsStored eq query bucket used index numbers) where
+module _ {R : Type 0} {is_sound : R → Type 0} {bucket : R → ℕ} {used : Slab (Used R)} {index : List ((R × ℕ) × ℕ)} {numbers : Stored ℕ} (stored : IsStored is_sound bucket used index numbers) where
   -- a number of the lists and drafts is taken
   pub taken : (n : ℕ) → 0 < times n (results_in numbers) → IsSome (get used n)
   taken n there = some_used (get used n) (omega (arith, there, stored.counted n))
@@ -58,47 +56,47 @@ module _ {K V T O X : Type 0} {eq : K → K → Bool} {query : T → Query K V X
   pub stands-for : (n : ℕ) → 0 < times n (results_in numbers) → IsSome (result_of used n)
   stands-for n there = by (get used n) (taken n there)
     where
-      by : (o : Option (Used (Kept K V T O))) → IsSome o → IsSome (option_map (λ (r : Kept K V T O × ℕ). r.0) (option_map with_bucket o))
+      by : (o : Option (Used R)) → IsSome o → IsSome (option_map (λ (r : R × ℕ). r.0) (option_map with_bucket o))
       by None some = absurd (cc)
       by (Some u) some = refl
 
   -- what stands for a number that has a place
-  placed-result : (n : ℕ) (k : Kept K V T O × ℕ) → kept_at used n ≡ Some k → result_of used n ≡ Some k.0
-  placed-result n k h = ap (option_map (λ (r : Kept K V T O × ℕ). r.0)) h
+  placed-result : (n : ℕ) (k : R × ℕ) → kept_at used n ≡ Some k → result_of used n ≡ Some k.0
+  placed-result n k h = ap (option_map (λ (r : R × ℕ). r.0)) h
 
   -- a result that is found is among them
-  pub found-in : (e : (Kept K V T O × ℕ) × ℕ) → Contains index e → Contains (results_in (shown (result_of used) numbers)) e.0.0
+  pub found-in : (e : (R × ℕ) × ℕ) → Contains index e → Contains (results_in (shown (result_of used) numbers)) e.0.0
   found-in e c =
       let at : kept_at used e.1 ≡ Some e.0 = (stored.indexed e.1 e.0).0 c in
       let there : 0 < times e.1 (results_in numbers) = omega (arith, stored.counted e.1, stored.needed e.1 (is_taken (get used e.1) at)) in
       subst (λ xs. Contains xs e.0.0) (sym (results_in-shown (result_of used) numbers)) (shown-contains (result_of used) (results_in numbers) e.1 e.0.0 there (placed-result e.1 e.0 at))
     where
-      is_taken : {k : Kept K V T O × ℕ} (o : Option (Used (Kept K V T O))) → option_map with_bucket o ≡ Some k → IsSome o
+      is_taken : {k : R × ℕ} (o : Option (Used R)) → option_map with_bucket o ≡ Some k → IsSome o
       is_taken None h = absurd (cc)
       is_taken (Some u) h = refl
 
   -- what is found under a number stands for it
-  pub found-result : (e : (Kept K V T O × ℕ) × ℕ) → Contains index e → result_of used e.1 ≡ Some e.0.0
+  pub found-result : (e : (R × ℕ) × ℕ) → Contains index e → result_of used e.1 ≡ Some e.0.0
   found-result e c = placed-result e.1 e.0 ((stored.indexed e.1 e.0).0 c)
 
   -- what holds of all that the index has holds of all results
-  pub all-in : (P : Kept K V T O → Type 0) → All (λ e. P e.0.0) index → All P (results_in (shown (result_of used) numbers))
+  pub all-in : (P : R → Type 0) → All (λ e. P e.0.0) index → All P (results_in (shown (result_of used) numbers))
   all-in P all =
       All-same P (results_in (shown (result_of used) numbers)) (filter_map (result_of used) (results_in numbers)) (results_in-shown (result_of used) numbers)
       (shown-all (result_of used) P (results_in numbers) (λ n x there at. by n x (kept_at used n) refl at))
     where
-      by : (n : ℕ) (x : Kept K V T O) (o : Option (Kept K V T O × ℕ)) → kept_at used n ≡ o → option_map (λ (r : Kept K V T O × ℕ). r.0) (kept_at used n) ≡ Some x → P x
+      by : (n : ℕ) (x : R) (o : Option (R × ℕ)) → kept_at used n ≡ o → option_map (λ (r : R × ℕ). r.0) (kept_at used n) ≡ Some x → P x
       by n x None e h =
-          let none : option_map (λ (r : Kept K V T O × ℕ). r.0) (kept_at used n) ≡ None = ap (option_map (λ (r : Kept K V T O × ℕ). r.0)) e in
+          let none : option_map (λ (r : R × ℕ). r.0) (kept_at used n) ≡ None = ap (option_map (λ (r : R × ℕ). r.0)) e in
           absurd (cc)
       by n x (Some r) e h =
-          let same : Some r.0 ≡ Some x = sym (ap (option_map (λ (r : Kept K V T O × ℕ). r.0)) e) ∙ h in
+          let same : Some r.0 ≡ Some x = sym (ap (option_map (λ (r : R × ℕ). r.0)) e) ∙ h in
           let is : r.0 ≡ x = cc in
           subst P is (All-contains (λ e. P e.0.0) index (r, n) all ((stored.indexed n r).1 e))
 
-  module _ (new : Slab (Used (Kept K V T O))) where
+  module _ (new : Slab (Used R)) where
     -- more numbers of results that are kept
-    pub stored-again : (ns : List ℕ) → AreMore used new (results_of_drafts numbers.drafts) (results_of_drafts (with_results numbers.drafts ns)) → IsStored eq query bucket new index (grown numbers ns)
+    pub stored-again : (ns : List ℕ) → AreMore used new (results_of_drafts numbers.drafts) (results_of_drafts (with_results numbers.drafts ns)) → IsStored is_sound bucket new index (grown numbers ns)
     stored-again ns more = record {
       counted = λ m. omega (arith, more.uses m, stored.counted m, times-append m (joined numbers.lists) (results_of_drafts numbers.drafts), times-append m (joined numbers.lists) (results_of_drafts (with_results numbers.drafts ns)));
       needed = λ m some. needed_by m some;
@@ -110,7 +108,7 @@ module _ {K V T O X : Type 0} {eq : K → K → Bool} {query : T → Query K V X
         grows m [] = omega arith
         grows m (d ∷ ds) = omega (arith, times-with_results m (d ∷ ds) ns (omega arith))
 
-        taken_by : (m : ℕ) (o p : Option (Used (Kept K V T O))) → option_map with_bucket o ≡ option_map with_bucket p → IsSome o → IsSome p
+        taken_by : (m : ℕ) (o p : Option (Used R)) → option_map with_bucket o ≡ option_map with_bucket p → IsSome o → IsSome p
         taken_by m None p same some = absurd (cc)
         taken_by m (Some u) None same some = absurd (cc)
         taken_by m (Some u) (Some v) same some = refl
@@ -121,17 +119,17 @@ module _ {K V T O X : Type 0} {eq : K → K → Bool} {query : T → Query K V X
             omega (arith, more.uses m, stored.needed m was, grows m numbers.drafts)
 
     -- the same, whichever way the step ends
-    pub stored-used : {Y Z : Type 0} (r : Result Y Z) (ns : List ℕ) (drafts : List (ℕ × List ℕ)) → OnOk r (drafts ≡ with_results numbers.drafts ns) → OnOk r (AreMore used new (results_of_drafts numbers.drafts) (results_of_drafts drafts)) → OnErr r ((new ≡ used) × (drafts ≡ numbers.drafts)) → IsStored eq query bucket new index (record { lists = numbers.lists; drafts = drafts })
+    pub stored-used : {Y Z : Type 0} (r : Result Y Z) (ns : List ℕ) (drafts : List (ℕ × List ℕ)) → OnOk r (drafts ≡ with_results numbers.drafts ns) → OnOk r (AreMore used new (results_of_drafts numbers.drafts) (results_of_drafts drafts)) → OnErr r ((new ≡ used) × (drafts ≡ numbers.drafts)) → IsStored is_sound bucket new index (record { lists = numbers.lists; drafts = drafts })
     stored-used (Ok y) ns drafts is more err =
-        subst (λ (ds : List (ℕ × List ℕ)). IsStored eq query bucket new index (record { lists = numbers.lists; drafts = ds })) (sym is)
+        subst (λ (ds : List (ℕ × List ℕ)). IsStored is_sound bucket new index (record { lists = numbers.lists; drafts = ds })) (sym is)
         (stored-again ns (subst (λ (ds : List (ℕ × List ℕ)). AreMore used new (results_of_drafts numbers.drafts) (results_of_drafts ds)) is more))
     stored-used (Err z) ns drafts is more err =
-        subst (λ (u : Slab (Used (Kept K V T O))). IsStored eq query bucket u index (record { lists = numbers.lists; drafts = drafts })) (sym err.0)
-        (subst (λ (ds : List (ℕ × List ℕ)). IsStored eq query bucket used index (record { lists = numbers.lists; drafts = ds })) (sym err.1) stored)
+        subst (λ (u : Slab (Used R)). IsStored is_sound bucket u index (record { lists = numbers.lists; drafts = drafts })) (sym err.0)
+        (subst (λ (ds : List (ℕ × List ℕ)). IsStored is_sound bucket used index (record { lists = numbers.lists; drafts = ds })) (sym err.1) stored)
 
     -- what is kept is what it was
     module _ (same : (n : ℕ) → get new n ≡ get used n) where
-      pub stored-still : IsStored eq query bucket new index numbers
+      pub stored-still : IsStored is_sound bucket new index numbers
       stored-still = record {
         counted = λ n. ap (λ o. elim o [ None ↦ 0 | Some u ↦ u.uses ]) (same n) ∙ stored.counted n;
         needed = λ n some. needed_by n some;
@@ -145,22 +143,22 @@ module _ {K V T O X : Type 0} {eq : K → K → Bool} {query : T → Query K V X
               omega (arith, was, stored.needed n (subst IsSome (same n) some))
 
       -- whatever else is the same
-      pub stored-kept : (after : List ((Kept K V T O × ℕ) × ℕ)) (drafts : List (ℕ × List ℕ)) → drafts ≡ numbers.drafts → after ≡ index → IsStored eq query bucket new after (record { lists = numbers.lists; drafts = drafts })
+      pub stored-kept : (after : List ((R × ℕ) × ℕ)) (drafts : List (ℕ × List ℕ)) → drafts ≡ numbers.drafts → after ≡ index → IsStored is_sound bucket new after (record { lists = numbers.lists; drafts = drafts })
       stored-kept after drafts same_drafts same_index =
-          subst (λ (ds : List (ℕ × List ℕ)). IsStored eq query bucket new after (record { lists = numbers.lists; drafts = ds })) (sym same_drafts)
-          (subst (λ (es : List ((Kept K V T O × ℕ) × ℕ)). IsStored eq query bucket new es numbers) (sym same_index) stored-still)
+          subst (λ (ds : List (ℕ × List ℕ)). IsStored is_sound bucket new after (record { lists = numbers.lists; drafts = ds })) (sym same_drafts)
+          (subst (λ (es : List ((R × ℕ) × ℕ)). IsStored is_sound bucket new es numbers) (sym same_index) stored-still)
 
       pub shown-still : shown (result_of new) numbers ≡ shown (result_of used) numbers
-      shown-still = shown-same (result_of used) (result_of new) numbers (λ n there. ap (λ o. option_map (λ (r : Kept K V T O × ℕ). r.0) (option_map with_bucket o)) (same n))
+      shown-still = shown-same (result_of used) (result_of new) numbers (λ n there. ap (λ o. option_map (λ (r : R × ℕ). r.0) (option_map with_bucket o)) (same n))
 
-    module _ (after : List ((Kept K V T O × ℕ) × ℕ)) where
+    module _ (after : List ((R × ℕ) × ℕ)) where
       -- a new result under a number that was free
-      pub stored-put : (r : Kept K V T O) (n : ℕ) → 0 < length numbers.drafts → IsPut used new r (bucket r) n → AddsOne index after ((r, bucket r), n) → IsSound eq query r → IsStored eq query bucket new after (grown numbers (n ∷ []))
+      pub stored-put : (r : R) (n : ℕ) → 0 < length numbers.drafts → IsPut used new r (bucket r) n → AddsOne index after ((r, bucket r), n) → is_sound r → IsStored is_sound bucket new after (grown numbers (n ∷ []))
       stored-put r n some put adds sound = record {
         counted = λ m. counted_by m (cases_eq m n);
         needed = λ m there. needed_by m there (cases_eq m n);
         indexed = indexed-put used new index after n (r, bucket r) put.others free here adds stored.indexed;
-        sound = All-weaker (Contains after) (λ e. IsSoundAt eq query bucket e.0) (λ e c. placed_by e ((adds.has e).0 c)) after (All-contains_itself after);
+        sound = All-weaker (Contains after) (λ e. IsSoundAt is_sound bucket e.0) (λ e c. placed_by e ((adds.has e).0 c)) after (All-contains_itself after);
       }
         where
           free : kept_at used n ≡ None
@@ -189,24 +187,24 @@ module _ {K V T O X : Type 0} {eq : K → K → Bool} {query : T → Query K V X
               let was : uses_of new m ≡ uses_of used m = ap (λ o. elim o [ None ↦ 0 | Some u ↦ u.uses ]) (put.others m e) in
               omega (arith, was, stored.needed m (subst IsSome (put.others m e) there))
 
-          placed_by : (e : (Kept K V T O × ℕ) × ℕ) → (◌≡◌ {A = (Kept K V T O × ℕ) × ℕ} e ((r, bucket r), n)) ⊎ Contains index e → IsSoundAt eq query bucket e.0
-          placed_by e (inl h) = subst (λ (k : Kept K V T O × ℕ). IsSoundAt eq query bucket k) (sym (ap (λ x. x.0) h)) (record { sound = sound; at = refl })
-          placed_by e (inr c) = All-contains (λ e. IsSoundAt eq query bucket e.0) index e stored.sound c
+          placed_by : (e : (R × ℕ) × ℕ) → (◌≡◌ {A = (R × ℕ) × ℕ} e ((r, bucket r), n)) ⊎ Contains index e → IsSoundAt is_sound bucket e.0
+          placed_by e (inl h) = subst (λ (k : R × ℕ). IsSoundAt is_sound bucket k) (sym (ap (λ x. x.0) h)) (record { sound = sound; at = refl })
+          placed_by e (inr c) = All-contains (λ e. IsSoundAt is_sound bucket e.0) index e stored.sound c
 
       -- numbers less
-      pub stored-fewer : (rest : Stored ℕ) (gone : List ℕ) → ((n : ℕ) → times n (results_in numbers) ≡ times n (results_in rest) + times n gone) → AreFewer used new gone → AreUsed new → IsIndexOf new after → IsStored eq query bucket new after rest
+      pub stored-fewer : (rest : Stored ℕ) (gone : List ℕ) → ((n : ℕ) → times n (results_in numbers) ≡ times n (results_in rest) + times n gone) → AreFewer used new gone → AreUsed new → IsIndexOf new after → IsStored is_sound bucket new after rest
       stored-fewer rest gone parts fewer needed indexed = record {
         counted = λ n. omega (arith, fewer.uses n, stored.counted n, parts n);
         needed = needed;
         indexed = indexed;
-        sound = all-fewer used new (IsSoundAt eq query bucket) index after gone fewer needed stored.indexed indexed stored.sound;
+        sound = all-fewer used new (IsSoundAt is_sound bucket) index after gone fewer needed stored.indexed indexed stored.sound;
       }
 
       -- and what the others stand for is what it was
       pub shown-fewer : (rest : Stored ℕ) (gone : List ℕ) → ((n : ℕ) → times n (results_in numbers) ≡ times n (results_in rest) + times n gone) → AreFewer used new gone → shown (result_of new) rest ≡ shown (result_of used) rest
       shown-fewer rest gone parts fewer =
           shown-same (result_of used) (result_of new) rest
-          (λ n there. ap (option_map (λ (r : Kept K V T O × ℕ). r.0)) (fewer.kept n (omega (arith, fewer.uses n, stored.counted n, parts n, there))))
+          (λ n there. ap (option_map (λ (r : R × ℕ). r.0)) (fewer.kept n (omega (arith, fewer.uses n, stored.counted n, parts n, there))))
 
 -- ---- lists and drafts that go
 

@@ -1,30 +1,34 @@
 -- What a look-up finds among ranked results, and what it tells where it finds nothing.
-use Rattle.std.proofs.Common.{◌≡◌, ◌≢◌, ◌∙◌, ℕ, Bool, true, false, List, [], ◌∷◌, Option, Some, None, Result, Ok, Err, cond, filter, nat_eq, refl, subst, sym}
+use Rattle.std.proofs.Common.{◌≡◌, ◌≢◌, ◌∙◌, ℕ, Bool, true, false, List, [], ◌∷◌, Option, Some, None, Result, Ok, Err, cond, filter, nat_eq, refl, sym}
 use Rattle.std.specs.Cmp.{IsTotalOrder}
-use Rattle.std.specs.Prelude.{All, Any, Contains, IfErr, IfNone, IfOk, IfSome}
+use Rattle.std.specs.Prelude.{All, Contains, IfErr, IfNone, IfOk, IfSome}
 use Rattle.std.specs.declared.cmp.Ordering.{Ordering}
 use Rattle.std.specs.declared.cmp.Ordering.TheVariants.{Equal}
 use Rattle.std.proofs.lemmas.Bool.{eq-eqb}
-use Rattle.std.proofs.lemmas.List.Elements.{All-cons, All-contains, All-head, All-nil, All-tail, All-weaker}
-use Rattle.idl_memo.specs.Kept.{Kept, IsAlike, IsSound, result_over}
-use Rattle.idl_memo.specs.Query.{Query}
+use Rattle.std.proofs.lemmas.List.Elements.{All-cons, All-head, All-nil, All-tail, All-weaker}
+use Rattle.idl_memo.specs.Kept.{Kept, IsAlike, IsSound, NoneAlikeAt, SomeAlikeAt, result_over}
+use Rattle.idl_memo.specs.Query.{Query, first_asked}
+use Rattle.idl_memo.proofs.Placing.{result_over-alike}
+use Rattle.idl_store.specs.Buckets.{bucket_at, bucket_of}
 use Rattle.idl_store.specs.Index.{IsGap, IsGapAmong, those_of}
 use Rattle.idl_store.specs.Order.{place_cmp, results_cmp}
+use Rattle.idl_store.specs.Shelved.{IsSought}
 use Rattle.idl_store.specs.declared.index.Gap.{Gap}
+use Rattle.idl_store.proofs.Hinting.{bucket-alike}
 use Rattle.idl_store.proofs.Indexing.{gap-apart}
-use Rattle.idl_store.proofs.Searching.{alike-equal, equal-alike, equal-results, place-result}
+use Rattle.idl_store.proofs.Searching.{alike-equal, equal-alike, place-result}
 
 -- what holds of those that pass a test
 all-passed : {X : Type 0} (P : X → Type 0) (test : X → Bool) (xs : List X) → All P (filter test xs) → All (λ x. test x ≡ true → P x) xs
 all-passed P test [] all = All-nil (λ x. test x ≡ true → P x)
-all-passed {X} P test (x ∷ xs) all = by (test x) refl all
+all-passed {X} P test (x ∷ xs) all = by (test x) refl all (all-passed P test xs)
   where
-    by : (b : Bool) → test x ≡ b → All P (cond b (x ∷ filter test xs) (filter test xs)) → All (λ x. test x ≡ true → P x) (x ∷ xs)
-    by true at all = All-cons (λ x. test x ≡ true → P x) x xs (λ _. All-head P x (filter test xs) all) (all-passed P test xs (All-tail P x (filter test xs) all))
-    by false at all = All-cons (λ x. test x ≡ true → P x) x xs (λ is. (let no : true ≡ false = sym is ∙ at in cc)) (all-passed P test xs all)
+    by : (b : Bool) → test x ≡ b → All P (cond b (x ∷ filter test xs) (filter test xs)) → (All P (filter test xs) → All (λ x. test x ≡ true → P x) xs) → All (λ x. test x ≡ true → P x) (x ∷ xs)
+    by true at all rest = All-cons (λ x. test x ≡ true → P x) x xs (λ _. All-head P x (filter test xs) all) (rest (All-tail P x (filter test xs) all))
+    by false at all rest = All-cons (λ x. test x ≡ true → P x) x xs (λ is. (let no : true ≡ false = sym is ∙ at in cc)) (rest all)
 
 -- in a gap nothing of its bucket is as what was looked for
-gap-bare : {R : Type 0} (order : R → Ordering) (P : R → Type 0) → ((r : R) → P r → order r ≡ Equal) → (results : List ((R × ℕ) × ℕ)) (gap : Gap) → IsGapAmong order results gap → All (λ e. e.0.1 ≡ gap.bucket → ¬ P e.0.0) results
+pub gap-bare : {R : Type 0} (order : R → Ordering) (P : R → Type 0) → ((r : R) → P r → order r ≡ Equal) → (results : List ((R × ℕ) × ℕ)) (gap : Gap) → IsGapAmong order results gap → All (λ e. e.0.1 ≡ gap.bucket → ¬ P e.0.0) results
 gap-bare {R} order P equal results gap is = by gap.place is.within is.apart
   where
     by : (p : Option ℕ) → IfSome p (IsGap (λ e. order e.0.0) (those_of gap.bucket results)) → IfNone p (All (λ e. e.0.1 ≢ gap.bucket) results) → All (λ e. e.0.1 ≡ gap.bucket → ¬ P e.0.0) results
@@ -33,41 +37,43 @@ gap-bare {R} order P equal results gap is = by gap.place is.within is.apart
         All-weaker (λ e. nat_eq e.0.1 gap.bucket ≡ true → ¬ P e.0.0) (λ e. e.0.1 ≡ gap.bucket → ¬ P e.0.0) (λ e none same. none (eq-eqb e.0.1 gap.bucket same)) results
         (all-passed (λ e. ¬ P e.0.0) (λ e. nat_eq e.0.1 gap.bucket) results (gap-apart (λ e. order e.0.0) (λ e. P e.0.0) (λ e p. equal e.0.0 p) (those_of gap.bucket results) place within))
 
--- what is found, seen otherwise
-any-weaker : {X : Type 0} (P Q : X → Type 0) → ((x : X) → P x → Q x) → (xs : List X) → Any P xs → Any Q xs
-any-weaker P Q to xs found = (found.0, found.1, found.2, found.3, to found.1 found.4)
+-- clauses of a look-up that may be refused memory, from others
+pub found-weaker : {X Y Z : Type 0} {P Q : X → Type 0} (r : Result (Result X Y) Z) → IfOk r (λ found. IfOk found P) → ((x : X) → P x → Q x) → IfOk r (λ found. IfOk found Q)
+found-weaker (Ok (Ok x)) h to = to x h
+found-weaker (Ok (Err y)) h to = tt
+found-weaker (Err z) h to = tt
 
-module _ {K V T O : Type 0} (text_cmp : T → T → Ordering) (answer_cmp : V → V → Ordering) (texts : IsTotalOrder text_cmp) (answers : IsTotalOrder answer_cmp) where
-  -- where a gap was found, none of the bucket is alike
-  pub absent-alike : (text : T) (bank : K → V) (index : List ((Kept K V T O × ℕ) × ℕ)) (bucket : ℕ) (r : Result ℕ Gap) → IfErr r (IsGapAmong (λ kept. place_cmp text_cmp answer_cmp kept text bank) index) → IfErr r (λ gap. gap.bucket ≡ bucket)
-      → IfErr r (λ gap. All (λ e. e.0.1 ≡ bucket → ¬ IsAlike text bank e.0.0) index)
-  absent-alike text bank index bucket (Ok n) gap is = tt
-  absent-alike text bank index bucket (Err gap) there is =
-      subst (λ (b : ℕ). All (λ e. e.0.1 ≡ b → ¬ IsAlike text bank e.0.0) index) is
-      (gap-bare (λ kept. place_cmp text_cmp answer_cmp kept text bank) (IsAlike text bank) (λ kept alike. equal-alike text_cmp answer_cmp texts answers kept text bank alike) index gap there)
+pub missed-weaker : {X Y Z : Type 0} {P Q : Y → Type 0} (r : Result (Result X Y) Z) → IfOk r (λ found. IfErr found P) → ((y : Y) → P y → Q y) → IfOk r (λ found. IfErr found Q)
+missed-weaker (Ok (Ok x)) h to = tt
+missed-weaker (Ok (Err y)) h to = to y h
+missed-weaker (Err z) h to = tt
 
-  module _ (text_exact : (t u : T) → text_cmp t u ≡ Equal → t ≡ u) (answer_exact : (v w : V) → answer_cmp v w ≡ Equal → v ≡ w) where
-    -- one that was found is alike
-    pub found-alike : (text : T) (bank : K → V) (index : List ((Kept K V T O × ℕ) × ℕ)) (r : Result ℕ Gap) → IfOk r (λ number. Any (λ e. (place_cmp text_cmp answer_cmp e.0.0 text bank ≡ Equal) × (e.1 ≡ number)) index)
-        → IfOk r (λ number. Any (λ e. IsAlike text bank e.0.0 × (e.1 ≡ number)) index)
-    found-alike text bank index (Ok number) found =
-        any-weaker (λ e. (place_cmp text_cmp answer_cmp e.0.0 text bank ≡ Equal) × (e.1 ≡ number)) (λ e. IsAlike text bank e.0.0 × (e.1 ≡ number))
-        (λ e both. (alike-equal text_cmp answer_cmp texts answers text_exact answer_exact e.0.0 text bank both.0, both.1)) index found
-    found-alike text bank index (Err gap) found = tt
+pub none-weaker : {X P Q : Type 0} (o : Option X) → IfNone o P → (P → Q) → IfNone o Q
+none-weaker None h to = to h
+none-weaker (Some x) h to = tt
 
-    module _ {X : Type 0} (eq : K → K → Bool) (same : (k l : K) → eq k l ≡ true → k ≡ l) (query : T → Query K V X O) where
-      -- all stand to a place as they do to the result there
-      pub places-stand : (text : T) (bank : K → V) (index : List ((Kept K V T O × ℕ) × ℕ)) → All (λ e. IsSound eq query e.0.0) index
-          → All (λ e. place_cmp text_cmp answer_cmp e.0.0 text bank ≡ results_cmp text_cmp answer_cmp e.0.0 (result_over eq query (text, bank))) index
-      places-stand text bank index sound =
-          All-weaker (λ e. IsSound eq query e.0.0) (λ e. place_cmp text_cmp answer_cmp e.0.0 text bank ≡ results_cmp text_cmp answer_cmp e.0.0 (result_over eq query (text, bank)))
-          (λ e s. place-result text_cmp answer_cmp texts answers text_exact answer_exact eq same query e.0.0 text bank s) index sound
+module _ {K V T O X : Type 0} (text_cmp : T → T → Ordering) (answer_cmp : V → V → Ordering) (texts : IsTotalOrder text_cmp) (answers : IsTotalOrder answer_cmp)
+    (text_exact : (t u : T) → text_cmp t u ≡ Equal → t ≡ u) (answer_exact : (v w : V) → answer_cmp v w ≡ Equal → v ≡ w)
+    (eq : K → K → Bool) (itself : (k : K) → eq k k ≡ true) (same : (k l : K) → eq k l ≡ true → k ≡ l) (query : T → Query K V X O) (text : T) (bank : K → V) where
+  -- whatever came of the task stands to the place as to the result there
+  pub place-sought : IsSought (IsSound eq query) (results_cmp text_cmp answer_cmp) (λ kept. place_cmp text_cmp answer_cmp kept text bank) (result_over eq query (text, bank))
+  place-sought = λ other sound. place-result text_cmp answer_cmp texts answers text_exact answer_exact eq same query other text bank sound
 
-      -- one that was found for another is this one
-      pub found-same : ((k : K) → eq k k ≡ true) → (kept : Kept K V T O) (index : List ((Kept K V T O × ℕ) × ℕ)) → All (λ e. IsSound eq query e.0.0) index → IsSound eq query kept
-          → (r : Result ℕ Gap) → IfOk r (λ number. Any (λ e. (results_cmp text_cmp answer_cmp e.0.0 kept ≡ Equal) × (e.1 ≡ number)) index) → IfOk r (λ number. Any (λ e. (e.0.0 ≡ kept) × (e.1 ≡ number)) index)
-      found-same itself kept index sound there (Ok number) found =
-          let one = found.1 in
-          let among : Contains index one = (found.0, found.2, found.3) in
-          (found.0, one, found.2, found.3, (equal-results text_cmp answer_cmp texts answers text_exact answer_exact eq same query itself one.0.0 kept (All-contains (λ e. IsSound eq query e.0.0) index one sound among) there found.4.0, found.4.1))
-      found-same itself kept index sound there (Err gap) found = tt
+  module _ (kept : Kept K V T O) (found : place_cmp text_cmp answer_cmp kept text bank ≡ Equal) where
+    -- one that nothing tells from the place is alike
+    found-alike : IsAlike text bank kept
+    found-alike = alike-equal text_cmp answer_cmp texts answers text_exact answer_exact kept text bank found
+
+    -- and so the result there
+    pub found-here : IsSound eq query kept → kept ≡ result_over eq query (text, bank)
+    found-here sound = result_over-alike eq query itself same (text, bank) kept sound found-alike
+
+    pub found-among : (results : List (Kept K V T O)) → Contains results kept → SomeAlikeAt (text, bank) results
+    found-among results among = (among.0, kept, among.1, among.2, found-alike)
+
+  -- where none of the bucket is found, none is alike
+  pub none-among : (input : T → List (List ℕ)) (hint : T → Option (K × V) → ℕ) (b : ℕ) → b ≡ bucket_at input text (hint text (first_asked (query text) bank)) → (results : List (Kept K V T O))
+      → All (λ kept. IsSound eq query kept × (bucket_of input hint kept ≡ b → ¬ (place_cmp text_cmp answer_cmp kept text bank ≡ Equal))) results → NoneAlikeAt (text, bank) results
+  none-among input hint b at results none =
+      All-weaker (λ kept. IsSound eq query kept × (bucket_of input hint kept ≡ b → ¬ (place_cmp text_cmp answer_cmp kept text bank ≡ Equal))) (λ kept. ¬ IsAlike text bank kept)
+      (λ kept out alike. out.1 (bucket-alike eq itself same query input hint text bank kept out.0 alike ∙ sym at) (equal-alike text_cmp answer_cmp texts answers kept text bank alike)) results none

@@ -1,86 +1,124 @@
--- What a look-up finds or a run leaves, in a store.
-use Rattle.std.proofs.Common.{◌≡◌, ◌≢◌, ℕ, ◌<◌, Bool, true, List, [], ◌∷◌, Option, Some, None, refl, sym, ap, ◌∙◌, arith, length, subst, Result, Ok, Err, IfOk, OnErr, OnOk}
-use Rattle.std.specs.Global.{Global}
+-- What a look-up finds, and what comes, in a store.
+use Rattle.std.proofs.Common.{◌≡◌, ◌≢◌, ℕ, ◌<◌, List, [], ◌∷◌, Option, Some, None, refl, sym, ap, ◌∙◌, arith, length, nat_eq, subst, Result, Ok, Err, OnOk}
 use Rattle.std.specs.Option.{option_map}
 use Rattle.std.specs.Prelude.{All, Any, Contains, IfNone, IfSome, IsSome}
-use Rattle.std.specs.declared.rc.Rc.{Rc}
-use Rattle.std.proofs.lemmas.List.Elements.{All-contains, All-weaker}
+use Rattle.std.specs.declared.cmp.Ordering.{Ordering}
+use Rattle.std.specs.declared.cmp.Ordering.TheVariants.{Equal}
+use Rattle.std.proofs.lemmas.List.Elements.{All-contains, All-contains_itself, All-filter, All-weaker}
+use Rattle.std.proofs.lemmas.Option.{same_Some}
 use Rattle.slab.specs.Slab.{Slab, get}
 use Rattle.idl_store.specs.Buckets.{AddsOne}
-use Rattle.idl_memo.specs.Kept.{Kept, IsAlike, IsSound, NoneAlikeAt, SomeAlikeAt, result_over}
+use Rattle.idl_store.specs.Index.{IsGap, IsGapAmong, those_of}
 use Rattle.idl_store.specs.Numbers.{AreMore, IsSoundAt, IsPut, IsStored, result_of, shown, times, uses_of, with_bucket}
-use Rattle.idl_memo.specs.Query.{Query}
-use Rattle.idl_store.specs.Stored.{Stored, grown, results_in, results_of_drafts, with_results}
-use Rattle.idl_store.specs.declared.numbers.Used.{Used}
-use Rattle.idl_memo.proofs.Placing.{result_over-alike}
 use Rattle.idl_store.specs.Spots.{result_on}
+use Rattle.idl_store.specs.Stored.{Stored, grown, results_in, results_of_drafts, with_results}
+use Rattle.idl_store.specs.declared.index.Gap.{Gap}
 use Rattle.idl_store.specs.declared.numbers.Spot.{Spot}
+use Rattle.idl_store.specs.declared.numbers.Used.{Used}
+use Rattle.idl_store.proofs.Changing.{all-in, found-in, found-result, shown-still, stored-put}
+use Rattle.idl_store.proofs.Indexing.{gap-same}
+use Rattle.idl_store.proofs.Looking.{gap-bare}
 use Rattle.idl_store.proofs.Shown.{shown-grown, shown-same}
 use Rattle.idl_store.proofs.Spotted.{result-on_number}
-use Rattle.idl_store.proofs.Changing.{all-in, found-in, found-result, shown-still, stored-kept, stored-put}
 
 -- a clause on what is obtained, from its fact
 pub on_ok : {X Y P : Type 0} (r : Result X Y) → P → OnOk r P
 on_ok (Ok x) p = p
 on_ok (Err y) p = tt
 
-module _ {K V T O X : Type 0} {eq : K → K → Bool} {query : T → Query K V X O} {bucket : Kept K V T O → ℕ}
-    {used : Slab (Used (Kept K V T O))} {index : List ((Kept K V T O × ℕ) × ℕ)} {numbers : Stored ℕ} (stored : IsStored eq query bucket used index numbers) (k : Kept K V T O) where
+module _ {R : Type 0} {is_sound : R → Type 0} {bucket : R → ℕ} {used : Slab (Used R)} {index : List ((R × ℕ) × ℕ)} {numbers : Stored ℕ} (stored : IsStored is_sound bucket used index numbers) where
   -- ---- a result that is there
 
-  module _ (number : ℕ) (found : Any (λ e. (e.0.0 ≡ k) × (e.1 ≡ number)) index) where
-    pub again-here : result_of used number ≡ Some k
-    again-here = ap (result_of used) (sym found.4.1) ∙ found-result stored found.1 (found.0, found.2, found.3) ∙ ap Some found.4.0
+  module _ (P : R → Type 0) (number : ℕ) (found : Any (λ e. P e.0.0 × (e.1 ≡ number)) index) where
+    among : Contains index found.1
+    among = (found.0, found.2, found.3)
+
+    pub again-here : result_of used number ≡ Some found.1.0.0
+    again-here = ap (result_of used) (sym found.4.1) ∙ found-result stored found.1 among
 
     pub again-taken : IsSome (get used number)
     again-taken = by (get used number) refl
       where
-        by : (o : Option (Used (Kept K V T O))) → get used number ≡ o → IsSome (get used number)
+        by : (o : Option (Used R)) → get used number ≡ o → IsSome (get used number)
         by None e =
-            let none : result_of used number ≡ None = ap (λ o. option_map (λ (r : Kept K V T O × ℕ). r.0) (option_map with_bucket o)) e in
+            let none : result_of used number ≡ None = ap (λ o. option_map (λ (r : R × ℕ). r.0) (option_map with_bucket o)) e in
             let some = again-here in
             absurd (cc)
         by (Some u) e = rw e refl
 
+    -- what the number stands for is one of the results, and such a one
+    pub again-found : (one : R) → result_of used number ≡ Some one → (s : Stored R) → shown (result_of used) numbers ≡ s → Contains (results_in s) one × is_sound one × P one
+    again-found one h s view =
+        subst (λ (one : R). Contains (results_in s) one × is_sound one × P one) (same_Some found.1.0.0 one (sym again-here ∙ h))
+        (subst (λ (s : Stored R). Contains (results_in s) found.1.0.0) view (found-in stored found.1 among), placed.sound, found.4.0)
+      where
+        placed : IsSoundAt is_sound bucket found.1.0
+        placed = All-contains (λ e. IsSoundAt is_sound bucket e.0) index found.1 stored.sound among
+
     -- it stands at a spot
-    pub again-spot : (r : Option Spot) (s : Stored (Kept K V T O)) → shown (result_of used) numbers ≡ s → IfSome r (λ spot. result_on numbers spot ≡ Some number) → IfSome r (λ spot. result_on s spot ≡ Some k)
+    pub again-spot : (r : Option Spot) (s : Stored R) → shown (result_of used) numbers ≡ s → IfSome r (λ spot. result_on numbers spot ≡ Some number) → IfSome r (λ spot. (one : R) × (result_on s spot ≡ Some one) × is_sound one × P one)
     again-spot None s view h = tt
-    again-spot (Some spot) s view h = ap (λ s. result_on s spot) (sym view) ∙ result-on_number stored spot (Some number) (sym h) ∙ again-here
+    again-spot (Some spot) s view h =
+        let is = again-found found.1.0.0 again-here s view in
+        (found.1.0.0, ap (λ s. result_on s spot) (sym view) ∙ result-on_number stored spot (Some number) (sym h) ∙ again-here, is.1, is.2)
 
-    pub again-some : (P : Type 0) (r : Option Spot) → (r ≡ None → times number (results_in numbers) ≡ 0) → IfNone r P
-    again-some P None h = absurd (omega (arith, h refl, stored.counted number, stored.needed number again-taken))
-    again-some P (Some spot) h = tt
+    pub again-some : (Q : Type 0) (r : Option Spot) → (r ≡ None → times number (results_in numbers) ≡ 0) → IfNone r Q
+    again-some Q None h = absurd (omega (arith, h refl, stored.counted number, stored.needed number again-taken))
+    again-some Q (Some spot) h = tt
 
-    module _ (new : Slab (Used (Kept K V T O))) (more : AreMore used new (results_of_drafts numbers.drafts) (results_of_drafts (with_results numbers.drafts (number ∷ [])))) where
-      pub again-shown : shown (result_of new) (grown numbers (number ∷ [])) ≡ grown (shown (result_of used) numbers) (k ∷ [])
-      again-shown =
-          shown-same (result_of used) (result_of new) (grown numbers (number ∷ [])) (λ n there. ap (option_map (λ (r : Kept K V T O × ℕ). r.0)) (more.kept n))
-          ∙ shown-grown (result_of used) numbers number k again-here
+  -- it is in the last draft too, where its uses are more
+  pub again-grown : (number : ℕ) (one : R) → result_of used number ≡ Some one → (new : Slab (Used R)) (drafts : List (ℕ × List ℕ)) (s : Stored R) → shown (result_of used) numbers ≡ s
+      → drafts ≡ with_results numbers.drafts (number ∷ []) → AreMore used new (results_of_drafts numbers.drafts) (results_of_drafts drafts)
+      → shown (result_of new) (record { lists = numbers.lists; drafts = drafts }) ≡ grown s (one ∷ [])
+  again-grown number one h new drafts s view is more =
+      ap (λ (ds : List (ℕ × List ℕ)). shown (result_of new) (record { lists = numbers.lists; drafts = ds })) is
+      ∙ shown-same (result_of used) (result_of new) (grown numbers (number ∷ [])) (λ n there. ap (option_map (λ (r : R × ℕ). r.0)) (more.kept n))
+      ∙ shown-grown (result_of used) numbers number one h
+      ∙ ap (λ (s : Stored R). grown s (one ∷ [])) view
 
-    -- the same, whichever way the use ends
-    pub again-result : {Z : Type 0} (r : Result (Rc (Kept K V T O) Global) Z) → IfOk r (λ kept. result_of used number ≡ Some kept.value) → IfOk r (λ kept. kept.value ≡ k)
-    again-result (Ok kept) h =
-        let both : Some kept.value ≡ Some k = sym h ∙ again-here in
-        cc
-    again-result (Err z) h = tt
+  -- ---- none is there
 
-    pub again-grown : {Y Z : Type 0} (r : Result Y Z) (new : Slab (Used (Kept K V T O))) (drafts : List (ℕ × List ℕ)) (s : Stored (Kept K V T O)) → shown (result_of used) numbers ≡ s → OnOk r (drafts ≡ with_results numbers.drafts (number ∷ [])) → OnOk r (AreMore used new (results_of_drafts numbers.drafts) (results_of_drafts drafts)) → OnOk r (shown (result_of new) (record { lists = numbers.lists; drafts = drafts }) ≡ grown s (k ∷ []))
-    again-grown (Ok y) new drafts s view is more =
-        ap (λ (ds : List (ℕ × List ℕ)). shown (result_of new) (record { lists = numbers.lists; drafts = ds })) is
-        ∙ again-shown new (subst (λ (ds : List (ℕ × List ℕ)). AreMore used new (results_of_drafts numbers.drafts) (results_of_drafts ds)) is more)
-        ∙ ap (λ (s : Stored (Kept K V T O)). grown s (k ∷ [])) view
-    again-grown (Err z) new drafts s view is more = tt
+  -- where a gap of a bucket was found, no result of it is as what was looked for
+  pub none-there : (stand : R → Ordering) (gap : Gap) (b : ℕ) → gap.bucket ≡ b → IsGapAmong stand index gap → (s : Stored R) → shown (result_of used) numbers ≡ s
+      → All (λ other. is_sound other × (bucket other ≡ b → ¬ (stand other ≡ Equal))) (results_in s)
+  none-there stand gap b there is s view =
+      subst (λ (s : Stored R). All (λ other. is_sound other × (bucket other ≡ b → ¬ (stand other ≡ Equal))) (results_in s)) view
+      (all-in stored (λ other. is_sound other × (bucket other ≡ b → ¬ (stand other ≡ Equal)))
+      (All-weaker (Contains index) (λ e. is_sound e.0.0 × (bucket e.0.0 ≡ b → ¬ (stand e.0.0 ≡ Equal))) by index (All-contains_itself index)))
+    where
+      bare : All (λ e. e.0.1 ≡ gap.bucket → ¬ (stand e.0.0 ≡ Equal)) index
+      bare = gap-bare stand (λ r. stand r ≡ Equal) (λ r p. p) index gap is
+
+      by : (e : (R × ℕ) × ℕ) → Contains index e → is_sound e.0.0 × (bucket e.0.0 ≡ b → ¬ (stand e.0.0 ≡ Equal))
+      by e c =
+          let placed = All-contains (λ e. IsSoundAt is_sound bucket e.0) index e stored.sound c in
+          (placed.sound, λ here. All-contains (λ e. e.0.1 ≡ gap.bucket → ¬ (stand e.0.0 ≡ Equal)) index e bare c (placed.at ∙ here ∙ sym there))
+
+  module _ (stand order : R → Ordering) (same : (other : R) → is_sound other → stand other ≡ order other) where
+    -- all stand to it as they do to what it is
+    pub all-stand : All (λ e. stand e.0.0 ≡ order e.0.0) index
+    all-stand = All-weaker (λ e. IsSoundAt is_sound bucket e.0) (λ e. stand e.0.0 ≡ order e.0.0) (λ e placed. same e.0.0 placed.sound) index stored.sound
+
+    -- and so its gap is the gap of that
+    pub gap-stands : (gap : Gap) → IsGapAmong stand index gap → IsGapAmong order index gap
+    gap-stands gap is = record { within = by gap.place is.within; apart = is.apart }
+      where
+        by : (p : Option ℕ) → IfSome p (IsGap (λ e. stand e.0.0) (those_of gap.bucket index)) → IfSome p (IsGap (λ e. order e.0.0) (those_of gap.bucket index))
+        by None h = tt
+        by (Some place) h =
+            gap-same (λ e. stand e.0.0) (λ e. order e.0.0) (those_of gap.bucket index) place
+            (All-filter (λ e. nat_eq e.0.1 gap.bucket) (λ e. stand e.0.0 ≡ order e.0.0) index all-stand) h
 
   -- ---- one that comes
 
-  module _ (new : Slab (Used (Kept K V T O))) (r : Kept K V T O) (n : ℕ) (is : r ≡ k) (put : IsPut used new r (bucket r) n) where
-    pub put-shown : shown (result_of new) (grown numbers (n ∷ [])) ≡ grown (shown (result_of used) numbers) (k ∷ [])
+  module _ (new : Slab (Used R)) (r : R) (n : ℕ) (put : IsPut used new r (bucket r) n) where
+    put-shown : shown (result_of new) (grown numbers (n ∷ [])) ≡ grown (shown (result_of used) numbers) (r ∷ [])
     put-shown =
-        shown-grown (result_of new) numbers n k put_here
-        ∙ ap (λ s. grown s (k ∷ [])) (shown-same (result_of used) (result_of new) numbers (λ m there. ap (λ o. option_map (λ (r : Kept K V T O × ℕ). r.0) (option_map with_bucket o)) (put.others m (other m there))))
+        shown-grown (result_of new) numbers n r put_here
+        ∙ ap (λ s. grown s (r ∷ [])) (shown-same (result_of used) (result_of new) numbers (λ m there. ap (λ o. option_map (λ (r : R × ℕ). r.0) (option_map with_bucket o)) (put.others m (other m there))))
       where
-        put_here : result_of new n ≡ Some k
-        put_here = ap (λ o. option_map (λ (r : Kept K V T O × ℕ). r.0) (option_map with_bucket o)) put.changed ∙ ap Some is
+        put_here : result_of new n ≡ Some r
+        put_here = ap (λ o. option_map (λ (r : R × ℕ). r.0) (option_map with_bucket o)) put.changed
 
         unused : uses_of used n ≡ 0
         unused = ap (λ o. elim o [ None ↦ 0 | Some u ↦ u.uses ]) put.free
@@ -91,75 +129,23 @@ module _ {K V T O X : Type 0} {eq : K → K → Bool} {query : T → Query K V X
             omega (arith, there, at, stored.counted n, unused)
 
   -- it is stored, and in the last draft
-  module _ (new : Slab (Used (Kept K V T O))) (after : List ((Kept K V T O × ℕ) × ℕ)) (r : Kept K V T O) (b n : ℕ) (drafts : List (ℕ × List ℕ))
-      (is : r ≡ k) (at : b ≡ bucket k) (put : IsPut used new r b n) (drafts_are : drafts ≡ with_results numbers.drafts (n ∷ [])) where
-    b_is : b ≡ bucket r
-    b_is = at ∙ ap bucket (sym is)
-
-    put_there : IsPut used new r (bucket r) n
-    put_there = subst (λ (m : ℕ). IsPut used new r m n) b_is put
-
-    pub comes-stored : IsSound eq query k → 0 < length numbers.drafts → AddsOne index after ((r, b), n) → IsStored eq query bucket new after (record { lists = numbers.lists; drafts = drafts })
-    comes-stored sound some adds =
-        subst (λ (ds : List (ℕ × List ℕ)). IsStored eq query bucket new after (record { lists = numbers.lists; drafts = ds })) (sym drafts_are)
-        (stored-put stored new after r n some put_there (subst (λ (m : ℕ). AddsOne index after ((r, m), n)) b_is adds) (subst (λ (k : Kept K V T O). IsSound eq query k) (sym is) sound))
-
-    pub comes-shown : shown (result_of new) (record { lists = numbers.lists; drafts = drafts }) ≡ grown (shown (result_of used) numbers) (k ∷ [])
-    comes-shown = ap (λ (ds : List (ℕ × List ℕ)). shown (result_of new) (record { lists = numbers.lists; drafts = ds })) drafts_are ∙ put-shown new r n is put_there
-
-  -- whichever way that ends
-  module _ (new : Slab (Used (Kept K V T O))) (after : List ((Kept K V T O × ℕ) × ℕ)) (r : Kept K V T O) (b : ℕ) (drafts : List (ℕ × List ℕ)) (is : r ≡ k) (at : b ≡ bucket k) where
+  module _ (new : Slab (Used R)) (after : List ((R × ℕ) × ℕ)) (r : R) (b : ℕ) (drafts : List (ℕ × List ℕ)) (at : b ≡ bucket r) where
     abbrev IsIn : Type 0
     IsIn = (n : ℕ) × IsPut used new r b n × (drafts ≡ with_results numbers.drafts (n ∷ [])) × AddsOne index after ((r, b), n)
 
-    abbrev IsAsBefore : Type 0
-    IsAsBefore = ((n : ℕ) → get new n ≡ get used n) × (drafts ≡ numbers.drafts) × (after ≡ index)
+    put_there : (n : ℕ) → IsPut used new r b n → IsPut used new r (bucket r) n
+    put_there n put = subst (λ (m : ℕ). IsPut used new r m n) at put
 
-    pub put-stored : {Y Z : Type 0} (o : Result Y Z) → IsSound eq query k → 0 < length numbers.drafts → OnOk o IsIn → OnErr o IsAsBefore → IsStored eq query bucket new after (record { lists = numbers.lists; drafts = drafts })
-    put-stored (Ok y) sound some ok err = comes-stored new after r b ok.0 drafts is at ok.1 ok.2 sound some ok.3
-    put-stored (Err z) sound some ok err = stored-kept stored new err.0 after drafts err.1 err.2
+    pub comes-stored : is_sound r → 0 < length numbers.drafts → IsIn → IsStored is_sound bucket new after (record { lists = numbers.lists; drafts = drafts })
+    comes-stored sound some ok =
+        subst (λ (ds : List (ℕ × List ℕ)). IsStored is_sound bucket new after (record { lists = numbers.lists; drafts = ds })) (sym ok.2)
+        (stored-put stored new after r ok.0 some (put_there ok.0 ok.1) (subst (λ (m : ℕ). AddsOne index after ((r, m), ok.0)) at ok.3) sound)
 
-    pub put-grown : {Y Z : Type 0} (o : Result Y Z) (s : Stored (Kept K V T O)) → shown (result_of used) numbers ≡ s → OnOk o IsIn → OnOk o (shown (result_of new) (record { lists = numbers.lists; drafts = drafts }) ≡ grown s (k ∷ []))
-    put-grown (Ok y) s view ok = comes-shown new after r b ok.0 drafts is at ok.1 ok.2 ∙ ap (λ (s : Stored (Kept K V T O)). grown s (k ∷ [])) view
-    put-grown (Err z) s view ok = tt
+    pub comes-shown : (s : Stored R) → shown (result_of used) numbers ≡ s → IsIn → shown (result_of new) (record { lists = numbers.lists; drafts = drafts }) ≡ grown s (r ∷ [])
+    comes-shown s view ok =
+        ap (λ (ds : List (ℕ × List ℕ)). shown (result_of new) (record { lists = numbers.lists; drafts = ds })) ok.2
+        ∙ put-shown new r ok.0 (put_there ok.0 ok.1) ∙ ap (λ (s : Stored R). grown s (r ∷ [])) view
 
-    pub put-same : {Y Z : Type 0} (o : Result Y Z) (s : Stored (Kept K V T O)) → shown (result_of used) numbers ≡ s → OnErr o IsAsBefore → OnErr o (shown (result_of new) (record { lists = numbers.lists; drafts = drafts }) ≡ s)
-    put-same (Ok y) s view err = tt
-    put-same (Err z) s view err = ap (λ (ds : List (ℕ × List ℕ)). shown (result_of new) (record { lists = numbers.lists; drafts = ds })) err.1 ∙ shown-still stored new err.0 ∙ view
-
--- what each result came of
-pub sound-all : {K V T O X : Type 0} {eq : K → K → Bool} {query : T → Query K V X O} {bucket : Kept K V T O → ℕ}
-    {used : Slab (Used (Kept K V T O))} {index : List ((Kept K V T O × ℕ) × ℕ)} {numbers : Stored ℕ} → IsStored eq query bucket used index numbers → All (λ e. IsSound eq query e.0.0) index
-sound-all {eq = eq} {query = query} {bucket = bucket} {index = index} stored = All-weaker (λ e. IsSoundAt eq query bucket e.0) (λ e. IsSound eq query e.0.0) (λ e p. p.sound) index stored.sound
-
--- ---- at a place
-
-module _ {K V T O X : Type 0} {eq : K → K → Bool} (itself : (x : K) → eq x x ≡ true) (same : (x y : K) → eq x y ≡ true → x ≡ y) {query : T → Query K V X O} {bucket : Kept K V T O → ℕ}
-    {used : Slab (Used (Kept K V T O))} {index : List ((Kept K V T O × ℕ) × ℕ)} {numbers : Stored ℕ} (stored : IsStored eq query bucket used index numbers) (text : T) (bank : K → V) where
-  abbrev here : Kept K V T O
-  here = result_over eq query (text, bank)
-
-  -- one is alike
-  module _ (number : ℕ) (found : Any (λ e. IsAlike text bank e.0.0 × (e.1 ≡ number)) index) where
-    abbrev one : (Kept K V T O × ℕ) × ℕ
-    one = found.1
-
-    among : Contains index one
-    among = (found.0, found.2, found.3)
-
-    pub alike-here : Any (λ e. (e.0.0 ≡ here) × (e.1 ≡ number)) index
-    alike-here =
-        let placed = All-contains (λ e. IsSoundAt eq query bucket e.0) index one stored.sound among in
-        (found.0, one, found.2, found.3, (result_over-alike eq query itself same (text, bank) one.0.0 placed.sound found.4.0, found.4.1))
-
-    pub found-alike : SomeAlikeAt (text, bank) (results_in (shown (result_of used) numbers))
-    found-alike =
-        let c = found-in stored one among in
-        (c.0, one.0.0, c.1, c.2, found.4.0)
-
-  -- none is
-  pub run-alike : All (λ e. ¬ IsAlike text bank e.0.0) index → NoneAlikeAt (text, bank) (results_in (shown (result_of used) numbers))
-  run-alike none = all-in stored (λ k. ¬ IsAlike text bank k) none
-
-  pub run-sound : IsSound eq query here
-  run-sound = (bank, refl)
+  -- refused, all is as before
+  pub refused-shown : (new : Slab (Used R)) (drafts : List (ℕ × List ℕ)) (s : Stored R) → shown (result_of used) numbers ≡ s → ((n : ℕ) → get new n ≡ get used n) → drafts ≡ numbers.drafts → shown (result_of new) (record { lists = numbers.lists; drafts = drafts }) ≡ s
+  refused-shown new drafts s view same is = ap (λ (ds : List (ℕ × List ℕ)). shown (result_of new) (record { lists = numbers.lists; drafts = ds })) is ∙ shown-still stored new same ∙ view

@@ -1,5 +1,5 @@
 -- What stands at a place of a list of a store.
-use Rattle.std.proofs.Common.{◌≡◌, ℕ, ◌<◌, Bool, List, [], ◌∷◌, Option, Some, None, Vec, ap, arith, length, map, refl, sym, ◌∙◌}
+use Rattle.std.proofs.Common.{◌≡◌, ℕ, ◌<◌, List, [], ◌∷◌, Option, Some, None, Vec, ap, arith, length, map, refl, sym, ◌∙◌}
 use Rattle.std.specs.Global.{Global}
 use Rattle.std.specs.List.{slice_get}
 use Rattle.std.specs.Option.{option_map, option_to_list, unwrap_or}
@@ -7,9 +7,7 @@ use Rattle.std.proofs.lemmas.List.{append-nil}
 use Rattle.std.proofs.lemmas.Option.{slice_get-map, unwrap_or-slice_get}
 use Rattle.std.specs.Prelude.{IsSome}
 use Rattle.slab.specs.Slab.{Slab, get}
-use Rattle.idl_memo.specs.Kept.{Kept}
 use Rattle.idl_store.specs.Numbers.{AreMore, IsStored, drafts_of, joined, lists_of, result_of, shown, times, with_bucket}
-use Rattle.idl_memo.specs.Query.{Query}
 use Rattle.idl_store.specs.Stored.{Stored, grown, item_at, list_at, result_at, results_in, results_of_drafts, with_results}
 use Rattle.idl_store.specs.declared.numbers.Draft.{Draft}
 use Rattle.idl_store.specs.declared.numbers.Used.{Used}
@@ -42,7 +40,7 @@ with_results-none (d ∷ e ∷ ds) = ap (λ ds. d ∷ ds) (with_results-none (e 
 pub grown-nothing : {X : Type 0} (s : Stored X) → grown s [] ≡ s
 grown-nothing s = ap (λ ds. record { lists = s.lists; drafts = ds }) (with_results-none s.drafts)
 
-module _ {K V T O X : Type 0} {eq : K → K → Bool} {query : T → Query K V X O} {bucket : Kept K V T O → ℕ} {used : Slab (Used (Kept K V T O))} {index : List ((Kept K V T O × ℕ) × ℕ)} {numbers : Stored ℕ} (stored : IsStored eq query bucket used index numbers) where
+module _ {R : Type 0} {is_sound : R → Type 0} {bucket : R → ℕ} {used : Slab (Used R)} {index : List ((R × ℕ) × ℕ)} {numbers : Stored ℕ} (stored : IsStored is_sound bucket used index numbers) where
   in_all : (n : ℕ) → 0 < times n (joined numbers.lists) → 0 < times n (results_in numbers)
   in_all n there = omega (arith, there, times-append n (joined numbers.lists) (results_of_drafts numbers.drafts))
 
@@ -69,8 +67,8 @@ module _ {K V T O X : Type 0} {eq : K → K → Bool} {query : T → Query K V X
   result-at_none list place h = result-read list place ∙ ap (λ o. elim o [ None ↦ None | Some n ↦ result_of used n ]) h
 
   -- it is in the last draft too, where its uses are more
-  pub shown-again : (list place n : ℕ) (x : Kept K V T O) (new : Slab (Used (Kept K V T O))) → item_at numbers.lists list place ≡ Some n → result_of used n ≡ Some x → AreMore used new (results_of_drafts numbers.drafts) (results_of_drafts (with_results numbers.drafts (n ∷ []))) → shown (result_of new) (grown numbers (n ∷ [])) ≡ grown (shown (result_of used) numbers) (option_to_list (result_at (shown (result_of used) numbers) list place))
+  pub shown-again : (list place n : ℕ) (x : R) (new : Slab (Used R)) → item_at numbers.lists list place ≡ Some n → result_of used n ≡ Some x → AreMore used new (results_of_drafts numbers.drafts) (results_of_drafts (with_results numbers.drafts (n ∷ []))) → shown (result_of new) (grown numbers (n ∷ [])) ≡ grown (shown (result_of used) numbers) (option_to_list (result_at (shown (result_of used) numbers) list place))
   shown-again list place n x new h is more =
-      shown-same (result_of used) (result_of new) (grown numbers (n ∷ [])) (λ m there. ap (option_map (λ (r : Kept K V T O × ℕ). r.0)) (more.kept m))
+      shown-same (result_of used) (result_of new) (grown numbers (n ∷ [])) (λ m there. ap (option_map (λ (r : R × ℕ). r.0)) (more.kept m))
       ∙ shown-grown (result_of used) numbers n x is
       ∙ ap (λ o. grown (shown (result_of used) numbers) (option_to_list o)) (sym (result-at_number list place n h ∙ is))

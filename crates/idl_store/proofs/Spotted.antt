@@ -8,8 +8,6 @@ use Rattle.std.proofs.lemmas.List.{length-map}
 use Rattle.std.proofs.lemmas.List.Quantifiers.{position-Some}
 use Rattle.std.proofs.lemmas.Option.{slice_get_read}
 use Rattle.slab.specs.Slab.{Slab, get}
-use Rattle.idl_memo.specs.Kept.{Kept}
-use Rattle.idl_memo.specs.Query.{Query}
 use Rattle.idl_store.specs.Numbers.{AreMore, IsStored, joined, result_of, shown, times}
 use Rattle.idl_store.specs.Spots.{lists_among, result_on, results_from}
 use Rattle.idl_store.specs.Stored.{Stored, grown, item_at, last_draft, last_of, list_at, results_in, results_of_drafts, with_results}
@@ -72,7 +70,7 @@ module _ {X : Type 0} (of : ℕ → Option X) where
   among-shown s false = refl
   among-shown s true = drafts-shown s.drafts
 
-module _ {K V T O X : Type 0} {eq : K → K → Bool} {query : T → Query K V X O} {bucket : Kept K V T O → ℕ} {used : Slab (Used (Kept K V T O))} {index : List ((Kept K V T O × ℕ) × ℕ)} {numbers : Stored ℕ} (stored : IsStored eq query bucket used index numbers) (spot : Spot) where
+module _ {R : Type 0} {is_sound : R → Type 0} {bucket : R → ℕ} {used : Slab (Used R)} {index : List ((R × ℕ) × ℕ)} {numbers : Stored ℕ} (stored : IsStored is_sound bucket used index numbers) (spot : Spot) where
   lists_stand : (n : ℕ) → 0 < times n (joined (lists_among numbers spot.is_draft)) → IsSome (result_of used n)
   lists_stand n there = stands-for stored n (omega (arith, there, among_all numbers n spot.is_draft))
 
@@ -117,23 +115,23 @@ module _ {K V T O X : Type 0} {eq : K → K → Bool} {query : T → Query K V X
         ∙ shown-part (result_of used) (list_at lists spot.list) spot.place count (λ n there. lists_stand n (omega (arith, there, times_list n lists spot.list)))
 
     -- they are in the last draft too, where their uses are more
-    pub shown-taken : (new : Slab (Used (Kept K V T O))) → AreMore used new (results_of_drafts numbers.drafts) (results_of_drafts (with_results numbers.drafts (results_from numbers spot count))) → shown (result_of new) (grown numbers (results_from numbers spot count)) ≡ grown (shown (result_of used) numbers) (results_from (shown (result_of used) numbers) spot count)
+    pub shown-taken : (new : Slab (Used R)) → AreMore used new (results_of_drafts numbers.drafts) (results_of_drafts (with_results numbers.drafts (results_from numbers spot count))) → shown (result_of new) (grown numbers (results_from numbers spot count)) ≡ grown (shown (result_of used) numbers) (results_from (shown (result_of used) numbers) spot count)
     shown-taken new more =
-        shown-same (result_of used) (result_of new) (grown numbers (results_from numbers spot count)) (λ m there. ap (option_map (λ (r : Kept K V T O × ℕ). r.0)) (more.kept m))
+        shown-same (result_of used) (result_of new) (grown numbers (results_from numbers spot count)) (λ m there. ap (option_map (λ (r : R × ℕ). r.0)) (more.kept m))
         ∙ shown-grown_all (result_of used) numbers (results_from numbers spot count)
         ∙ ap (grown (shown (result_of used) numbers)) (sym results-from)
 
     -- whichever way that ends
-    pub part-taken : {Y Z : Type 0} (r : Result Y Z) (new : Slab (Used (Kept K V T O))) (drafts : List (ℕ × List ℕ)) (ns : List ℕ) (s : Stored (Kept K V T O)) → shown (result_of used) numbers ≡ s → ns ≡ results_from numbers spot count → OnOk r (drafts ≡ with_results numbers.drafts ns) → OnOk r (AreMore used new (results_of_drafts numbers.drafts) (results_of_drafts drafts)) → OnOk r (shown (result_of new) (record { lists = numbers.lists; drafts = drafts }) ≡ grown s (results_from s spot count))
+    pub part-taken : {Y Z : Type 0} (r : Result Y Z) (new : Slab (Used R)) (drafts : List (ℕ × List ℕ)) (ns : List ℕ) (s : Stored R) → shown (result_of used) numbers ≡ s → ns ≡ results_from numbers spot count → OnOk r (drafts ≡ with_results numbers.drafts ns) → OnOk r (AreMore used new (results_of_drafts numbers.drafts) (results_of_drafts drafts)) → OnOk r (shown (result_of new) (record { lists = numbers.lists; drafts = drafts }) ≡ grown s (results_from s spot count))
     part-taken (Ok y) new drafts ns s view same is more =
         let whole : drafts ≡ with_results numbers.drafts (results_from numbers spot count) = is ∙ ap (with_results numbers.drafts) same in
         ap (λ (ds : List (ℕ × List ℕ)). shown (result_of new) (record { lists = numbers.lists; drafts = ds })) whole
         ∙ shown-taken new (subst (λ (ds : List (ℕ × List ℕ)). AreMore used new (results_of_drafts numbers.drafts) (results_of_drafts ds)) whole more)
-        ∙ ap (λ (s : Stored (Kept K V T O)). grown s (results_from s spot count)) view
+        ∙ ap (λ (s : Stored R). grown s (results_from s spot count)) view
     part-taken (Err z) new drafts ns s view same is more = tt
 
 -- the last draft has as many results as numbers
-pub last-read : {K V T O X : Type 0} {eq : K → K → Bool} {query : T → Query K V X O} {bucket : Kept K V T O → ℕ} {used : Slab (Used (Kept K V T O))} {index : List ((Kept K V T O × ℕ) × ℕ)} {numbers : Stored ℕ} (stored : IsStored eq query bucket used index numbers) (n : ℕ)
+pub last-read : {R : Type 0} {is_sound : R → Type 0} {bucket : R → ℕ} {used : Slab (Used R)} {index : List ((R × ℕ) × ℕ)} {numbers : Stored ℕ} (stored : IsStored is_sound bucket used index numbers) (n : ℕ)
     → n ≡ length numbers.drafts → length (list_at (map (λ d. d.1) numbers.drafts) (n - 1)) ≡ length (last_draft (shown (result_of used) numbers))
 last-read {used} {numbers} stored n is =
     let results = (shown (result_of used) numbers).drafts in

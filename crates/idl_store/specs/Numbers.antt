@@ -1,11 +1,9 @@
 -- The numbers under which results are kept, and how often each is used.
-use Rattle.std.specs.Prelude.{◌≡◌, ◌≢◌, ◌↔◌, ℕ, ◌+◌, ◌<◌, Bool, List, [], ◌∷◌, Option, None, Some, IsSome, All, Contains, Vec, if◌then◌else◌, map, filter_map, nat_eq}
+use Rattle.std.specs.Prelude.{◌≡◌, ◌≢◌, ◌↔◌, ℕ, ◌+◌, ◌<◌, List, [], ◌∷◌, Option, None, Some, IsSome, All, Contains, Vec, if◌then◌else◌, map, filter_map, nat_eq}
 use Rattle.std.specs.Global.{Global}
 use Rattle.std.specs.List.{flat_map}
 use Rattle.std.specs.Option.{option_map}
 use Rattle.slab.specs.Slab.{Slab, get}
-use Rattle.idl_memo.specs.Kept.{Kept, IsSound}
-use Rattle.idl_memo.specs.Query.{Query}
 use Rattle.idl_store.specs.Stored.{Stored, results_in}
 use Rattle.idl_store.specs.declared.numbers.Draft.{Draft}
 use Rattle.idl_store.specs.declared.numbers.Used.{Used}
@@ -81,20 +79,17 @@ module _ {R : Type 0} where
   IsIndexOf used index =
       (n : ℕ) (kept : R × ℕ) → Contains index (kept, n) ↔ (kept_at used n ≡ Some kept)
 
-module _ {K V T O : Type 0} where
-  -- it is what a task gave, and in the bucket of its text and hint
-  pub record IsSoundAt {X : Type 0} (eq : K → K → Bool) (query : T → Query K V X O)
-      (bucket : Kept K V T O → ℕ) (kept : Kept K V T O × ℕ) : Type 0 where
-    pub sound : IsSound eq query kept.0
+  -- it came about as it should, and is in its bucket
+  pub record IsSoundAt (is_sound : R → Type 0) (bucket : R → ℕ) (kept : R × ℕ) : Type 0 where
+    pub sound : is_sound kept.0
     pub at : kept.1 ≡ bucket kept.0
 
-  module _ {X : Type 0} (eq : K → K → Bool) (query : T → Query K V X O)
-      (bucket : Kept K V T O → ℕ) where
-    -- the results of the lists and drafts are kept, each once, are counted and found, and came of
-    -- their tasks
-    pub record IsStored (used : Slab (Used (Kept K V T O)))
-        (index : List ((Kept K V T O × ℕ) × ℕ)) (numbers : Stored ℕ) : Type 0 where
+  module _ (is_sound : R → Type 0) (bucket : R → ℕ) where
+    -- the results of the lists and drafts are kept, each once, are counted and found, and came about
+    -- as they should
+    pub record IsStored (used : Slab (Used R)) (index : List ((R × ℕ) × ℕ)) (numbers : Stored ℕ)
+        : Type 0 where
       pub counted : (n : ℕ) → uses_of used n ≡ times n (results_in numbers)
       pub needed : AreUsed used
       pub indexed : IsIndexOf used index
-      pub sound : All (λ e. IsSoundAt eq query bucket e.0) index
+      pub sound : All (λ e. IsSoundAt is_sound bucket e.0) index

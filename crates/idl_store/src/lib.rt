@@ -10,6 +10,7 @@ mod look_up;
 mod numbers;
 mod order;
 mod ranked;
+mod shelf;
 mod store;
 mod uses;
 

@@ -1,55 +1,89 @@
-//! How a kept result is looked up: by a text and what it would be answered, or by itself.
+//! How a kept result is looked up, and taken: by a task and what it would be answered, or by itself.
 
-ghost use Rattle.std.specs.Prelude.{◌≡◌, All, Any, IfErr, IfOk, Option};
+ghost use Rattle.std.specs.Prelude.{◌≡◌, ◌∷◌, [], IfErr, IfNone, IfOk, IfSome, OnErr, OnOk, Some, slice_get};
 ghost use Rattle.std.specs.Option.{option_cmp};
-ghost use Rattle.idl_memo.specs.Kept.{IsAlike, IsSound};
-ghost use Rattle.idl_memo.specs.Query.{Query};
+ghost use Rattle.idl_memo.specs.Kept.{IsSound, NoneAlikeAt, SomeAlikeAt, result_over};
+ghost use Rattle.idl_store.specs.Buckets.{bucket_of};
 ghost use Rattle.idl_store.specs.Index.{IsGapAmong};
-ghost use Rattle.idl_store.specs.Order.{place_cmp, results_cmp};
+ghost use Rattle.idl_store.specs.Order.{results_cmp};
+ghost use Rattle.idl_store.specs.Spots.{result_on};
+ghost use Rattle.idl_store.specs.Stored.{grown, results_in};
 
-use crate::index::{Gap, Index};
+use crate::index::{Gap, bucket_of};
+use crate::numbers::Spot;
 use crate::ranked::{Held, Place};
-use idl_base::Datum;
-use idl_memo::{Kept, LentBank, PlainBank};
+use crate::shelf::Shelf;
+use idl_memo::{LentBank, PlainBank, Task};
+use std::alloc::AllocError;
 
-// The number of a result of this bucket that is alike at the place, or the gap where one would go. It takes no memory.
-pub(crate) fn find_at<B: LentBank, X: Datum + Ord, O: Drop>(
-    index: &Index<Held<B, X, O>>,
-    bucket: u64,
-    text: &X,
+// A spot at which a result stands that is alike to the task over this bank, or nothing where none is. It takes no memory.
+pub(crate) fn spot_of_alike<B: LentBank, T: Task<B>>(
+    shelf: &Shelf<Held<B, T>>,
+    task: &T,
     bank: &B,
-) -> Result<usize, Gap>
+) -> Option<Spot>
 where
     B::Answer: Ord,
-    ensures found { IfOk result (λ number.
-        Any (λ e. IsAlike text.now (B.at bank.now) e.0.0 × (e.1 ≡ number)) index.now) }
-    ensures absent { (query : X → Query B.Key (Option B.Answer) (Unit {0}) O)
-        → All (λ e. IsSound B.Key.eq query e.0.0) index.now
-        → IfErr result (λ gap.
-        All (λ e. e.0.1 ≡ bucket → ¬ IsAlike text.now (B.at bank.now) e.0.0) index.now) }
-    ensures gap { (query : X → Query B.Key (Option B.Answer) (Unit {0}) O)
-        → All (λ e. IsSound B.Key.eq query e.0.0) index.now
-        → IfErr result (IsGapAmong (λ kept.
-        place_cmp X.cmp (option_cmp B.Answer.cmp) kept text.now (B.at bank.now)) index.now) }
-    ensures bucket { IfErr result (λ gap. gap.bucket ≡ bucket) }
+    T::Text: Ord,
+    ensures found { IfSome result (λ spot. result_on shelf.now.stored spot
+        ≡ Some (result_over B.Key.eq T.query (T.text_of task.now, B.at bank.now))) }
+    ensures none { IfNone result
+        (NoneAlikeAt (T.text_of task.now, B.at bank.now) (results_in shelf.now.stored)) }
 {
-    index.find(bucket, &Place { text, bank })
+    let bucket = bucket_of(task.text(), task.hint(bank));
+    shelf.spot(bucket, &Place { task, bank })
 }
 
-// The number of a result of this bucket that is this one, or the gap where it would go. It takes no memory.
-pub(crate) fn find_result<B: PlainBank, X: Datum + Ord, O: Drop>(
-    index: &Index<Held<B, X, O>>,
-    bucket: u64,
-    kept: &Kept<B, X, O>,
-) -> Result<usize, Gap>
+// A result that is alike to the task over this bank goes into the last draft too. Where there is none, this is the gap where it
+// would go, and nothing goes anywhere.
+//
+// Want of memory leaves lists and drafts as they were.
+pub(crate) fn take_alike<B: LentBank, T: Task<B>>(
+    shelf: &mut Shelf<Held<B, T>>,
+    task: &T,
+    bank: &B,
+) -> Result<Result<Held<B, T>, Gap>, AllocError>
 where
     B::Answer: Ord,
-    ensures found { (query : X → Query B.Key (Option B.Answer) (Unit {0}) O)
-        → All (λ e. IsSound B.Key.eq query e.0.0) index.now → IsSound B.Key.eq query kept.now
-        → IfOk result (λ number. Any (λ e. (e.0.0 ≡ kept.now) × (e.1 ≡ number)) index.now) }
-    ensures gap { IfErr result (IsGapAmong (λ other.
-        results_cmp X.cmp (option_cmp B.Answer.cmp) other kept.now) index.now) }
-    ensures bucket { IfErr result (λ gap. gap.bucket ≡ bucket) }
+    T::Text: Ord,
+    ensures result { IfOk result (λ found. IfOk found (λ one.
+        one ≡ result_over B.Key.eq T.query (T.text_of task.now, B.at bank.now))) }
+    ensures ok { IfOk result (λ found. OnOk found (shelf.new.stored ≡ grown shelf.old.stored
+        (result_over B.Key.eq T.query (T.text_of task.now, B.at bank.now) ∷ []))) }
+    ensures some { IfOk result (λ found. OnOk found
+        (SomeAlikeAt (T.text_of task.now, B.at bank.now) (results_in shelf.old.stored))) }
+    ensures none { IfOk result (λ found. OnErr found
+        (NoneAlikeAt (T.text_of task.now, B.at bank.now) (results_in shelf.old.stored))) }
+    ensures gap { IfOk result (λ found. IfErr found (IsGapAmong (λ other.
+        results_cmp T.Text.cmp (option_cmp B.Answer.cmp) other
+        (result_over B.Key.eq T.query (T.text_of task.now, B.at bank.now))) shelf.new.index)) }
+    ensures bucket { IfOk result (λ found. IfErr found (λ gap. gap.bucket
+        ≡ bucket_of T.Text.hash_input T.hint_of
+        (result_over B.Key.eq T.query (T.text_of task.now, B.at bank.now)))) }
+    ensures same { IfOk result (λ found. OnErr found (shelf.new ≡ shelf.old)) }
+    ensures err { OnErr result (shelf.new.stored ≡ shelf.old.stored) }
 {
-    index.find(bucket, kept)
+    let bucket = bucket_of(task.text(), task.hint(bank));
+    shelf.take(bucket, &Place { task, bank })
+}
+
+// A result that a task gives, with the task's hint where it gives it, goes into the last draft. One that is there already is kept
+// once.
+//
+// Want of memory leaves lists and drafts as they were.
+pub(crate) fn put_once<B: PlainBank, T: Task<B>>(
+    shelf: &mut Shelf<Held<B, T>>,
+    held: Held<B, T>,
+    hint: u64,
+) -> Result<(), AllocError>
+where
+    B::Answer: Ord,
+    T::Text: Ord,
+    requires sound { IsSound B.Key.eq T.query held }
+    requires hint { hint ≡ T.hint_of held.text (slice_get held.log 0) }
+    ensures ok { OnOk result (shelf.new.stored ≡ grown shelf.old.stored (held ∷ [])) }
+    ensures err { OnErr result (shelf.new.stored ≡ shelf.old.stored) }
+{
+    let bucket = bucket_of(held.shared().text(), hint);
+    shelf.put_once(held, bucket)
 }

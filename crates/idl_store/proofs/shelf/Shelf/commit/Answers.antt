@@ -5,7 +5,7 @@ use Rattle.idl_store.specs.Stored.{Stored, committed, results_in, results_of_dra
 use Rattle.idl_store.proofs.Shown.{shown-committed}
 use Rattle.idl_store.proofs.Changing.{parts-exchanged, shown-fewer, stored-fewer}
 use Rattle.idl_store.proofs.Times.{times-append}
-use Rattle.idl_store.proofs.store.Store.place_drafts.Goals as goal
+use Rattle.idl_store.proofs.shelf.Shelf.commit.Goals as goal
 
 pub release_drafts-requires-clause-uses : goal.release_drafts-requires-clause-uses
 release_drafts-requires-clause-uses g c = λ n.
@@ -44,4 +44,4 @@ returns g c =
     (shown-fewer stored after.new.used after.new.index rest (results_of_drafts drafts') parts after.ensures.fewer
     ∙ ap (λ ls. shown of (record { lists = ls; drafts = [] })) c.exchange.ensures.lists
     ∙ shown-committed of numbers
-    ∙ ap committed c.self.view_is)
+    ∙ ap (λ s. committed s.stored) c.self.view_is)

@@ -4,7 +4,7 @@ use Rattle.idl_store.specs.Numbers.{drafts_of, joined, lists_of, times}
 use Rattle.idl_store.specs.Stored.{Stored, discarded, results_in, results_of_drafts}
 use Rattle.idl_store.proofs.Changing.{parts-drafts, shown-fewer, stored-fewer}
 use Rattle.idl_store.proofs.Times.{times-append}
-use Rattle.idl_store.proofs.store.Store.discard.Goals as goal
+use Rattle.idl_store.proofs.shelf.Shelf.discard.Goals as goal
 
 pub release_drafts-requires-clause-uses : goal.release_drafts-requires-clause-uses
 release_drafts-requires-clause-uses g c = λ n.
@@ -32,4 +32,4 @@ returns g c =
     let stored = c.self.invariant.0 in
     let after = c.release_drafts in
     let rest : Stored ℕ = record { lists = lists; drafts = [] } in
-    rw after.ensures.drafts (shown-fewer stored after.new.used after.new.index rest (results_of_drafts drafts) (λ n. parts-drafts n lists drafts) after.ensures.fewer ∙ ap discarded c.self.view_is)
+    rw after.ensures.drafts (shown-fewer stored after.new.used after.new.index rest (results_of_drafts drafts) (λ n. parts-drafts n lists drafts) after.ensures.fewer ∙ ap (λ s. discarded s.stored) c.self.view_is)

@@ -1,12 +1,11 @@
 -- The uses of the list that goes are given up.
 use Rattle.std.proofs.Common.{◌≡◌, ◌<◌, ◌+◌, ◌∙◌, ℕ, ap, arith, length, subst, sym}
 use Rattle.std.specs.List.{remove}
-use Rattle.idl_store.specs.Buckets.{bucket_of}
 use Rattle.idl_store.specs.Numbers.{AreFewer, IsStored, drafts_of, lists_of, result_of, shown, times}
 use Rattle.idl_store.specs.Stored.{Stored, removed, results_in}
 use Rattle.idl_store.proofs.Changing.{lists-removed, parts-taken, shown-fewer, stored-fewer}
 use Rattle.idl_store.proofs.Shown.{shown-removed}
-use Rattle.idl_store.proofs.store.Store.take_out.Goals as goal
+use Rattle.idl_store.proofs.shelf.Shelf.remove.Goals as goal
 
 pub release-requires-clause-uses : goal.release-requires-clause-uses
 release-requires-clause-uses g c = λ n.
@@ -17,9 +16,6 @@ release-requires-clause-uses g c = λ n.
 
 pub invariant_of-self : goal.invariant_of-self
 invariant_of-self g c =
-    let eq = g.B.Key.PartialEq.eq in
-    let query = g.T.Task.query in
-    let bucket = bucket_of g.T.Text.Hash.hash_input g.T.Task.hint_of in
     let lists = c.self.inside.lists.items in
     let drafts = drafts_of c.self.inside.drafts.items in
     let numbers : Stored ℕ = record { lists = lists_of lists; drafts = drafts } in
@@ -31,7 +27,7 @@ invariant_of-self g c =
     let fewer = subst (AreFewer c.self.inside.used new) c.deref.ensures.value c.release.ensures.fewer in
     let after = c.release.new.index in
     let left : lists_of c.remove-numbers.new.self.items ≡ remove (lists_of lists) c.args.list = ap lists_of c.remove-numbers.ensures.items ∙ lists-removed lists c.args.list in (
-      subst (λ ls. IsStored eq query bucket new after (record { lists = ls; drafts = drafts })) (sym left) (stored-fewer c.self.invariant.0 new after rest gone parts fewer c.release.ensures.used c.release.ensures.indexed),
+      subst (λ ls. IsStored g.R.Ranked.is_sound g.R.Ranked.bucket new after (record { lists = ls; drafts = drafts })) (sym left) (stored-fewer c.self.invariant.0 new after rest gone parts fewer c.release.ensures.used c.release.ensures.indexed),
       omega (arith, c.self.invariant.1, c.remove-numbers.ensures.len, c.remove-numbers.ensures.capacity),
     )
 
@@ -50,4 +46,4 @@ returns-then-list-len g c =
     ap (λ ls. shown (result_of new) (record { lists = ls; drafts = drafts })) left
     ∙ shown-fewer c.self.invariant.0 new c.release.new.index rest gone parts fewer
     ∙ shown-removed (result_of c.self.inside.used) numbers c.args.list
-    ∙ ap (λ s. removed s c.args.list) c.self.view_is
+    ∙ ap (λ s. removed s.stored c.args.list) c.self.view_is

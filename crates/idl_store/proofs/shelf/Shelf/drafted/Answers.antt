@@ -4,7 +4,7 @@ use Rattle.idl_store.specs.Stored.{last_draft}
 use Rattle.idl_store.proofs.Drafting.{length-drafts}
 use Rattle.idl_store.proofs.Reading.{list_at-draft}
 use Rattle.idl_store.proofs.Spotted.{last-read}
-use Rattle.idl_store.proofs.store.Store.drafted.Goals as goal
+use Rattle.idl_store.proofs.shelf.Shelf.drafted.Goals as goal
 
 pub returns-in-Some : goal.returns-in-Some
 returns-in-Some g c =
@@ -14,4 +14,4 @@ returns-in-Some g c =
     let read = ap length (list_at-draft drafts (length drafts - 1) (Some draft) there) in
     c.len.ensures ∙ draft.numbers.ok.0 ∙ sym read
     ∙ last-read c.self.invariant.0 (length drafts) (sym (length-drafts drafts))
-    ∙ ap (λ s. length (last_draft s)) c.self.view_is
+    ∙ ap (λ s. length (last_draft s.stored)) c.self.view_is
