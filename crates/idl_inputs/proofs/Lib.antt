@@ -2,6 +2,7 @@ pub mod AskedLemmas
 pub mod BankLemmas
 pub mod BatchLemmas
 pub mod CauseLemmas
+pub mod ColumnLemmas
 pub mod EditLemmas
 pub mod FileLemmas
 pub mod FormLemmas

@@ -122,14 +122,21 @@ impl SessionBank {
         }
     }
 
+    /// The file of this name, with its tokens.
+    pub fn lexed(&self, name: &FileName) -> Option<&LexedFile>
+        ensures { option_copied result ≡ finite.get self.now.files name.now }
+    {
+        match self.texts.get(name) {
+            Some(RootAnswer::File(file)) => Some(file),
+            Some(RootAnswer::Macro(_) | RootAnswer::Search(_)) | None => None,
+        }
+    }
+
     /// How many bytes of its line are before a token of a file, by its place, its number there and its spelling.
     pub fn column(&self, place: &Place, number: Option<usize>, text: &[u8]) -> Option<usize>
         ensures { result ≡ column_at self.now.files place.now number text.now }
     {
-        match self.texts.get(&place.file) {
-            Some(RootAnswer::File(file)) => file.column(place.line, number, text),
-            Some(RootAnswer::Macro(_) | RootAnswer::Search(_)) | None => None,
-        }
+        self.lexed(&place.file)?.column(place.line, number, text)
     }
 
     // Whether there are as many macros as there may be, and none with this word.
@@ -167,7 +174,7 @@ impl SessionBank {
         let Some(file) = files.get(name.as_bytes()) else {
             return Ok(None);
         };
-        let old = file_in(self.texts.get(name));
+        let old = self.lexed(name);
         let text = LexedFile::new(alloc, file.clone()?, old)?;
         Ok(Some(RootAnswer::File(text)))
     }
@@ -261,14 +268,6 @@ impl PlainBank for SessionBank {
 pub fn answers_come_from_inputs()
     ensures { (inputs : Inputs) → AnswersFrom inputs.files inputs.search (bank_of inputs) }
 {}
-
-// The file that an answer is, if it is one.
-fn file_in(answer: Option<&RootAnswer>) -> Option<&LexedFile> {
-    match answer? {
-        RootAnswer::File(text) => Some(text),
-        RootAnswer::Macro(_) | RootAnswer::Search(_) => None,
-    }
-}
 
 // Puts in these answers of files, and takes out files that have none.
 fn put_all(

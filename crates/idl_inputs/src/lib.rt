@@ -7,6 +7,7 @@
 
 mod bank;
 mod causes;
+mod columns;
 mod edited_files;
 pub mod expanding;
 mod file_edit;
@@ -19,6 +20,7 @@ mod search_list;
 
 pub use bank::{SessionBank, answers_come_from_inputs};
 pub use causes::causes_by;
+pub use columns::Columns;
 pub use edited_files::EditedFiles;
 pub use file_edit::FileEdit;
 pub use limits::{

@@ -2,12 +2,10 @@
 
 ghost use Rattle.std.specs.Prelude.{◌≡◌, IfOk, OnOk, is_some, map};
 ghost use Rattle.std.specs.FinMap as finite;
-ghost use Rattle.std.specs.Option.{option_copied};
 ghost use Rattle.idl_prep.specs.Root.{expanded};
 ghost use Rattle.idl_root.specs.Turns.{IsWithinTurns};
 ghost use Rattle.idl_inputs.specs.Asked.{asked_over};
 ghost use Rattle.idl_inputs.specs.Bank.{bank_of};
-ghost use Rattle.idl_inputs.specs.Columns.{column_at};
 ghost use Rattle.idl_project.specs.Compile.{compiled_root};
 ghost use Rattle.idl_project.specs.Details.{details_over};
 ghost use Rattle.idl_inputs.specs.Edits.{Define, Put, Search, Undef};
@@ -20,9 +18,8 @@ use crate::detailed::details_alone;
 use crate::word::spelled;
 use idl_base::Seq;
 use idl_event::{RootAnswer, RootKey};
-use idl_fault::Place;
 use idl_inputs::expanding::asked_alone;
-use idl_inputs::{EditedFiles, FileEdit, MacroBody, SessionBank, Stepless, directories};
+use idl_inputs::{Columns, EditedFiles, FileEdit, MacroBody, SessionBank, Stepless, directories};
 use idl_macro::is_macro_word;
 use idl_memo::{Bank, PlainBank};
 use idl_root::{Details, Memory};
@@ -153,21 +150,11 @@ impl Sources {
         self.bank.files().get(name.as_bytes()).is_some()
     }
 
-    /// The lines of the file of this name, or nothing where there is no such file. It takes no memory.
-    pub fn file(&self, name: &[u8]) -> Option<&[Line]>
-        ensures { option_copied result ≡ finite.get self.now.files name.now }
+    /// Where tokens begin that are found in files, as a session tells it. Each block of a file is gone through once.
+    pub fn columns(&self) -> Columns<'_>
+        ensures { result ≡ self.now.files }
     {
-        match self.bank.files().get(name) {
-            Some(file) => Some(file.lines()),
-            None => None,
-        }
-    }
-
-    /// Where a token begins that is found in a file, as a session tells it: how many bytes of its line are before it. It takes no memory.
-    pub fn column(&self, place: &Place, number: Option<usize>, text: &[u8]) -> Option<usize>
-        ensures { result ≡ column_at self.now.files place.now number text.now }
-    {
-        self.bank.column(place, number, text)
+        Columns::new(self.memory.alloc(), &self.bank)
     }
 
     /// Tells that the inputs are well-formed, whatever edits they come of, as those of a session are.

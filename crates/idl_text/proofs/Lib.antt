@@ -4,10 +4,12 @@ pub mod ChunkStarts
 pub mod ColumnLaws
 pub mod CutLemmas
 pub mod GroupTextLemmas
+pub mod LaidOutLemmas
 pub mod LeftLemmas
 pub mod MatchedLemmas
 pub mod MatchingLemmas
 pub mod MovedLemmas
+pub mod PutLemmas
 pub mod StartLemmas
 pub mod TextLemmas
 pub mod TreeLawLemmas

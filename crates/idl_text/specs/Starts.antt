@@ -1,8 +1,8 @@
 -- Where the tokens of a file begin, and the column of one that is asked for.
 -- A column is found when it is asked for, in a chunk of some 64 lines, of which only white space
 -- and comments have to be told apart from tokens. So a call doesn't grow with the file, and takes
--- no memory.
-use Rattle.std.specs.Prelude.{ℕ, zero, suc, List, [], ◌∷◌, ◌++◌, drop, filter, length, map, nat_eq, slice_get, take, Option, None, Some, if◌then◌else◌}
+-- no memory. Who asks for many goes over each chunk once, and holds what begins on its lines.
+use Rattle.std.specs.Prelude.{◌≡◌, ◌+◌, ◌<◌, ◌≤◌, ℕ, zero, suc, List, [], ◌∷◌, ◌++◌, drop, filter, get_or, length, map, nat_eq, slice_get, take, Option, None, Some, if◌then◌else◌}
 use Rattle.std.specs.List.{starts_with}
 use Rattle.std.specs.Str.{bytes_eq}
 use Rattle.idl_lex.specs.bytes.Columns.{behind_gaps, bytes_in, text_from}
@@ -12,6 +12,7 @@ use Rattle.idl_lex.specs.tokens.Tokens.{token_if, tokens_of}
 use Rattle.idl_lex.specs.declared.bytes.context.Context.{Context}
 use Rattle.idl_lex.specs.declared.bytes.text_left.TextByte.{TextByte}
 use Rattle.idl_lex.specs.declared.tokens.token.PlacedToken.{PlacedToken}
+use Rattle.idl_text.specs.declared.tokens.starts_left.ChunkStarts.{ChunkStarts}
 use Rattle.idl_text.specs.declared.tokens.starts_left.StartsLeft.{StartsLeft}
 
 -- a token, and how many bytes of its line are before it
@@ -84,6 +85,19 @@ abbrev pub column_with : List ℕ → List ℕ → Option ℕ → Option ℕ
 column_with text bytes None = None
 column_with text bytes (Some column) =
     if starts_with nat_eq (drop column bytes) text then Some column else None
+
+-- Lists of starts are those of lines of a file, each of one line, behind so many lines.
+abbrev pub AreLinesOf : List (List ℕ) → ℕ → List (List Start) → Type 0
+AreLinesOf lines before starts =
+    (index : ℕ) → index < length starts
+    → get_or starts index [] ≡ on_line (before + index + 1) (starts_of lines)
+
+-- Tokens of a chunk behind so many lines of a file, where they begin: on each of so many lines, they
+-- are those of the file.
+abbrev pub IsLaidOut : List (List ℕ) → ChunkStarts → Type 0
+IsLaidOut lines chunk =
+    (line : ℕ) → chunk.before < line → line ≤ chunk.before + chunk.count
+    → on_line line (starts_left chunk.starts) ≡ on_line line (starts_of lines)
 
 -- the bytes of the line with a number, from 1 on
 abbrev pub line_of : List (List ℕ) → ℕ → Option (List ℕ)

@@ -15,6 +15,7 @@ pub use groups::fault::{GroupFault, Misplaced};
 pub use groups::grouped::{GroupedTokens, LinesLeft};
 pub use groups::kind::{DirectiveKind, Plain, Test};
 pub use groups::tree::tree_of_lines;
+pub use tokens::chunk_columns::ChunkColumns;
 pub use tokens::column::{beginnings, column_in, columns};
 pub use tokens::file_tokens::{FileToken, FileTokens};
 pub use tokens::lexed::{Lexed, lex, longest_pieces};

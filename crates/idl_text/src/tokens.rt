@@ -1,6 +1,7 @@
 //! The tokens of a file.
 
 pub(crate) mod chunk;
+pub(crate) mod chunk_columns;
 pub(crate) mod chunks;
 pub(crate) mod column;
 pub(crate) mod file_tokens;

@@ -18,6 +18,7 @@ use idl_driver::idl_project::{CompiledRoot, Finding, Sources, related_over};
 use idl_driver::{Compilation, Devices, Options, compile_files};
 use idl_explain::{Topic, explanation_of};
 use idl_fault::Place;
+use idl_inputs::Columns;
 use idl_loader::{Loader, Status};
 use idl_related::{Related, follows};
 use idl_source::devices::write_all;
@@ -93,7 +94,8 @@ fn add_root(
     let related = related_over(sources, root, findings)?;
     let told = told_of(sources.allocator(), findings, related.as_slice())?;
     let told = in_order(sources.allocator(), &told)?;
-    add_reports(sources, &told, reports)
+    let mut columns = sources.columns();
+    add_reports(&mut columns, &told, reports)
 }
 
 // A finding with its second places.
@@ -147,69 +149,78 @@ fn in_order<'f>(
 
 // Puts in the reports of these findings that aren't there.
 fn add_reports(
-    sources: &Sources,
+    columns: &mut Columns<'_>,
     told: &[RelatedFinding<'_>],
     reports: &mut IndexMap<Bytes, Bytes>,
 ) -> Result<(), AllocError>
-    ensures { OnOk result (AreReported sources.now.files (map told_at told.entry.now)
+    ensures { OnOk result (AreReported columns.old (map told_at told.entry.now)
         reports.old.entries reports.new.entries) }
 {
     'findings: for one in told {
-        let report = report_of(sources, *one)?;
+        let report = report_of(columns, *one)?;
         if reports.contains_key(&report) {
             continue;
         }
-        let behind = behind_of(sources, one.related)?;
+        let behind = behind_of(columns, one.related)?;
         reports.insert(report, behind)?;
     }
     Ok(())
 }
 
 // The report of a finding.
-fn report_of(sources: &Sources, told: RelatedFinding<'_>) -> Result<Bytes, AllocError>
-    ensures { IfOk result (λ bytes. (explanation : Explanation)
+fn report_of(columns: &mut Columns<'_>, told: RelatedFinding<'_>) -> Result<Bytes, AllocError>
+    ensures report { IfOk result (λ bytes. (explanation : Explanation)
         × Explains (told_at told.entry, explanation)
-        × (bytes ≡ report_in sources.now.files (told_at told.entry, explanation))) }
+        × (bytes ≡ report_in columns.old (told_at told.entry, explanation))) }
+    ensures same { columns.new ≡ columns.old }
 {
     let finding = told.finding;
+    let column = column_of(columns, finding)?;
     let found = LocatedFinding {
         finding,
-        line: line_at(sources, &finding.place),
-        column: column_of(sources, finding),
+        line: line_at(columns, &finding.place),
+        column,
     };
-    let mut text = Vec::new(sources.allocator());
+    let mut text = Vec::new(columns.allocator());
     found.push(explanation_of(Topic::Code(finding.code)).words, &mut text)?;
     Bytes::from_vec(text)
 }
 
 // The lines behind it: its second places.
-fn behind_of(sources: &Sources, related: &[Related]) -> Result<Bytes, AllocError>
-    ensures { IfOk result (λ bytes. bytes ≡ seconds_in sources.now.files related.now) }
+fn behind_of(columns: &mut Columns<'_>, related: &[Related]) -> Result<Bytes, AllocError>
+    ensures seconds { IfOk result (λ bytes. bytes ≡ seconds_in columns.old related.now) }
+    ensures same { columns.new ≡ columns.old }
 {
-    let mut text = Vec::new(sources.allocator());
+    let mut text = Vec::new(columns.allocator());
     'related: for second in related {
-        let column = sources.column(&second.place, second.number, second.text.as_bytes());
+        let column = columns.column(&second.place, second.number, second.text.as_bytes())?;
         push_second(second, column, &mut text)?;
     }
     Bytes::from_vec(text)
 }
 
 // The line of a place, if there is one.
-fn line_at<'s>(sources: &'s Sources, place: &Place) -> Option<&'s [u8]>
-    ensures { option_copied result ≡ line_at sources.now.files place.now }
+fn line_at<'s>(columns: &'s Columns<'_>, place: &Place) -> Option<&'s [u8]>
+    ensures { option_copied result ≡ line_at columns.now place.now }
 {
-    let lines = sources.file(place.file.as_bytes())?;
+    let lines = columns.file(place.file.as_bytes())?;
     let index = place.line.checked_sub(1)?;
     let line = lines.get(index as usize)?;
     Some(line.as_bytes())
 }
 
 /// How many bytes of it are before the token that is found there, if there is one.
-pub(crate) fn column_of(sources: &Sources, finding: &Finding) -> Option<usize>
-    ensures { result ≡ column_of sources.now.files finding.now }
+pub(crate) fn column_of(
+    columns: &mut Columns<'_>,
+    finding: &Finding,
+) -> Result<Option<usize>, AllocError>
+    ensures column { IfOk result (λ column. column ≡ column_of columns.old finding.now) }
+    ensures same { columns.new ≡ columns.old }
 {
-    let text = finding.text.as_ref()?;
-    sources.column(&finding.place, finding.number, text.as_bytes())
+    match &finding.text {
+        Some(text) => columns.column(&finding.place, finding.number, text.as_bytes()),
+        None => Ok(None),
+    }
 }
 
 // These reports, each with what stands behind it, one after the other.

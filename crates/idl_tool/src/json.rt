@@ -15,6 +15,7 @@ use idl_driver::idl_project::{
     CompiledRoot, DeclaredPlace, DetailedEntry, Details, Finding, SitedToken, Sources, related_over,
 };
 use idl_driver::{Devices, Options, compile_files};
+use idl_inputs::Columns;
 use idl_json::{Diagnostic, ListedRow, NamePlace, RootTold, SecondPlace, root_line};
 use idl_loader::{Loader, Status};
 use idl_related::Related;
@@ -89,8 +90,9 @@ fn line_with(
         IsRootLine (told_of sources.now root.now compiled.now related.now) line.items) }
 {
     let details = details_of(sources, root, compiled.rows.is_faulty)?;
-    let listing = rows_of(sources, root, details.entries.as_slice())?;
-    let found = diagnostics_of(sources, compiled.rows.findings.as_slice(), related)?;
+    let mut columns = sources.columns();
+    let listing = rows_of(&mut columns, root, details.entries.as_slice())?;
+    let found = diagnostics_of(&mut columns, compiled.rows.findings.as_slice(), related)?;
     let asked = sources.asked(root)?;
     let told = RootTold {
         name: root,
@@ -120,48 +122,60 @@ fn details_of(sources: &Sources, root: &Name, has_error: bool) -> Result<Details
 
 // The rows of entries, each with where its name is declared first.
 fn rows_of<'d>(
-    sources: &Sources,
+    columns: &mut Columns<'_>,
     root: &Name,
     entries: &'d [DetailedEntry],
 ) -> Result<Vec<ListedRow<'d>>, AllocError>
-    ensures { IfOk result (λ rows.
-        map row_of rows.items ≡ map (row_in sources.now.files root.now) entries.entry.now) }
+    ensures rows { IfOk result (λ rows.
+        map row_of rows.items ≡ map (row_in columns.old root.now) entries.entry.now) }
+    ensures same { columns.new ≡ columns.old }
 {
-    let mut rows = Vec::with_capacity(sources.allocator(), entries.len())?;
+    let mut rows = Vec::with_capacity(columns.allocator(), entries.len())?;
     'entries: for entry in entries {
-        rows.push(row_in(sources, root, entry))?;
+        rows.push(row_in(columns, root, entry)?)?;
     }
     Ok(rows)
 }
 
 // The row of an entry.
-fn row_in<'d>(sources: &Sources, root: &Name, entry: &'d DetailedEntry) -> ListedRow<'d>
-    ensures { row_of result ≡ row_in sources.now.files root.now entry.entry.now }
+fn row_in<'d>(
+    columns: &mut Columns<'_>,
+    root: &Name,
+    entry: &'d DetailedEntry,
+) -> Result<ListedRow<'d>, AllocError>
+    ensures row { IfOk result (λ row. row_of row ≡ row_in columns.old root.now entry.entry.now) }
+    ensures same { columns.new ≡ columns.old }
 {
     let declared = match entry.places.as_slice().first() {
-        Some(declared) => Some(declared_in(sources, root, declared)),
+        Some(declared) => Some(declared_in(columns, root, declared)?),
         None => None,
     };
-    ListedRow {
+    Ok(ListedRow {
         tree: &entry.tree,
         declared,
-    }
+    })
 }
 
 // Where a name of a root is declared.
-fn declared_in<'d>(sources: &Sources, root: &Name, declared: &'d DeclaredPlace) -> NamePlace<'d>
-    ensures { place_of result ≡ declared_in sources.now.files root.now declared.entry.now }
+fn declared_in<'d>(
+    columns: &mut Columns<'_>,
+    root: &Name,
+    declared: &'d DeclaredPlace,
+) -> Result<NamePlace<'d>, AllocError>
+    ensures place { IfOk result (λ place.
+        place_of place ≡ declared_in columns.old root.now declared.entry.now) }
+    ensures same { columns.new ≡ columns.old }
 {
     let SitedToken {
         place,
         number,
         text,
     } = &declared.name;
-    NamePlace {
+    Ok(NamePlace {
         place,
-        column: sources.column(place, *number, text.as_bytes()),
+        column: columns.column(place, *number, text.as_bytes())?,
         is_main: place.file.as_bytes() == root.as_bytes(),
-    }
+    })
 }
 
 /// The trees of entries.
@@ -181,65 +195,74 @@ pub(crate) fn trees_of<'d>(
 
 // What is found, each with its column and its second places.
 fn diagnostics_of<'s>(
-    sources: &Sources,
+    columns: &mut Columns<'_>,
     findings: &'s [Finding],
     related: &'s [Seq<Related>],
 ) -> Result<Vec<Diagnostic<'s>>, AllocError>
     requires { length related.now ≡ length findings.now }
-    ensures { IfOk result (λ found. map located found.items
-        ≡ map (located_in sources.now.files) (zip findings.entry.now related.entry.now)) }
+    ensures found { IfOk result (λ found. map located found.items
+        ≡ map (located_in columns.old) (zip findings.entry.now related.entry.now)) }
+    ensures same { columns.new ≡ columns.old }
 {
-    let mut found = Vec::with_capacity(sources.allocator(), findings.len())?;
+    let mut found = Vec::with_capacity(columns.allocator(), findings.len())?;
     'findings: for index in 0..findings.len() {
         let seconds = related[index].as_slice();
-        found.push(diagnostic_of(sources, &findings[index], seconds)?)?;
+        found.push(diagnostic_of(columns, &findings[index], seconds)?)?;
     }
     Ok(found)
 }
 
 // What is found, with its column and its second places.
 fn diagnostic_of<'s>(
-    sources: &Sources,
+    columns: &mut Columns<'_>,
     finding: &'s Finding,
     related: &'s [Related],
 ) -> Result<Diagnostic<'s>, AllocError>
-    ensures { IfOk result (λ told.
-        located told ≡ located_in sources.now.files (finding.entry.now, related.entry.now)) }
+    ensures told { IfOk result (λ told.
+        located told ≡ located_in columns.old (finding.entry.now, related.entry.now)) }
+    ensures same { columns.new ≡ columns.old }
 {
-    let related = seconds_of(sources, related)?;
+    let column = column_of(columns, finding)?;
+    let related = seconds_of(columns, related)?;
     Ok(Diagnostic {
         place: &finding.place,
         code: finding.code,
         token: &finding.text,
-        column: column_of(sources, finding),
+        column,
         related,
     })
 }
 
 // Second places, each with its column.
 fn seconds_of<'s>(
-    sources: &Sources,
+    columns: &mut Columns<'_>,
     related: &'s [Related],
 ) -> Result<Seq<SecondPlace<'s>>, AllocError>
-    ensures { IfOk result (λ seconds.
-        map second_of seconds ≡ map (second_at sources.now.files) related.entry.now) }
+    ensures seconds { IfOk result (λ seconds.
+        map second_of seconds ≡ map (second_at columns.old) related.entry.now) }
+    ensures same { columns.new ≡ columns.old }
 {
-    let mut seconds = Vec::with_capacity(sources.allocator(), related.len())?;
+    let mut seconds = Vec::with_capacity(columns.allocator(), related.len())?;
     'related: for second in related {
-        seconds.push(second_of(sources, second))?;
+        seconds.push(second_of(columns, second)?)?;
     }
     Ok(Seq::from_vec(seconds))
 }
 
 // A second place, with its column.
-fn second_of<'s>(sources: &Sources, second: &'s Related) -> SecondPlace<'s>
-    ensures { second_of result ≡ second_at sources.now.files second.entry.now }
+fn second_of<'s>(
+    columns: &mut Columns<'_>,
+    second: &'s Related,
+) -> Result<SecondPlace<'s>, AllocError>
+    ensures place { IfOk result (λ place.
+        second_of place ≡ second_at columns.old second.entry.now) }
+    ensures same { columns.new ≡ columns.old }
 {
-    SecondPlace {
+    Ok(SecondPlace {
         reason: second.reason.words(),
         place: &second.place,
         token: &second.text,
-        column: sources.column(&second.place, second.number, second.text.as_bytes()),
+        column: columns.column(&second.place, second.number, second.text.as_bytes())?,
         more: second.more,
-    }
+    })
 }

@@ -12,7 +12,7 @@ ghost use Rattle.idl_text.specs.Starts.{column_in};
 
 use idl_base::Datum;
 use idl_lex::idl_source::File;
-use idl_text::{GroupedTokens, LinesLeft, column_in, lex};
+use idl_text::{ChunkColumns, GroupedTokens, LinesLeft, column_in, lex};
 use std::alloc::{AllocError, Global};
 use std::marker::Model;
 use std::rc::Rc;
@@ -64,6 +64,18 @@ impl LexedFile {
         ensures { result ≡ column_in self.now line number text.now }
     {
         column_in(self.tokens.lexed(), line, number, text)
+    }
+
+    /// The tokens of the chunk in which this line is, where they begin, for who asks for the columns of many.
+    pub fn chunk_columns(&self, alloc: Global, line: u32) -> Result<ChunkColumns<'_>, AllocError>
+        ensures { IfOk result (λ chunk. chunk ≡ self.now) }
+    {
+        ChunkColumns::new(alloc, self.tokens.lexed(), line)
+    }
+
+    /// How many lines are before that chunk.
+    pub fn lines_before(&self, line: u32) -> usize {
+        self.tokens.lexed().lines_before(line)
     }
 }
 

@@ -21,7 +21,14 @@ pub fn column_in(lexed: &Lexed, line: u32, number: Option<usize>, text: &[u8]) -
     ensures { result ≡ column_in lexed.now line number text.now }
 {
     let bytes = line_of(lexed.file().lines(), line)?.as_bytes();
-    let column = column_among(lexed, line, number, text)?;
+    column_with(bytes, column_among(lexed, line, number, text), text)
+}
+
+/// A column at which a line goes on with this text: one that goes over joined lines has none.
+pub(crate) fn column_with(bytes: &[u8], column: Option<usize>, text: &[u8]) -> Option<usize>
+    ensures { result ≡ column_with text.now bytes.now column }
+{
+    let column = column?;
     let rest = &bytes[column.min(bytes.len())..];
     if rest.starts_with(text) {
         Some(column)
@@ -30,8 +37,8 @@ pub fn column_in(lexed: &Lexed, line: u32, number: Option<usize>, text: &[u8]) -
     }
 }
 
-// The line with this number, from 1 on.
-fn line_of(lines: &[Line], number: u32) -> Option<&Line>
+/// The line with this number, from 1 on.
+pub(crate) fn line_of(lines: &[Line], number: u32) -> Option<&Line>
     ensures { option_copied result ≡ line_of lines.now number }
 {
     if number == 0 {
@@ -44,7 +51,7 @@ fn line_of(lines: &[Line], number: u32) -> Option<&Line>
 fn column_among(lexed: &Lexed, line: u32, number: Option<usize>, text: &[u8]) -> Option<usize>
     ensures { result ≡ column_among number text.now (on_line line (starts_of lexed.now)) }
 {
-    let starts = lexed.starts_around(line)?;
+    let starts = lexed.starts_around(line)?.starts;
     if let Some(number) = number {
         if let Some(column) = column_by(&starts, line, number, text) {
             return Some(column);

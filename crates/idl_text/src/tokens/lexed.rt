@@ -7,7 +7,7 @@ ghost use Rattle.std.specs.Prelude.{◌≡◌, ◌≤◌, ◌+◌, ◌<◌, ◌^
 ghost use Rattle.idl_text.specs.Chunk.{AreChunks, IsChunk, lines_in_chunks};
 ghost use Rattle.idl_lex.specs.bytes.Context.{line_start};
 ghost use Rattle.idl_text.specs.Cut.{AreTokensOf};
-ghost use Rattle.idl_text.specs.Starts.{on_line, starts_left, starts_of};
+ghost use Rattle.idl_text.specs.Starts.{IsLaidOut, on_line, starts_left, starts_of};
 ghost use Rattle.idl_lex.specs.bytes.Text.{joined};
 ghost use Rattle.idl_lex.specs.tokens.Tokens.{tokens_of};
 ghost use Rattle.idl_lex.specs.declared.tokens.token.PlacedToken.{PlacedToken};
@@ -15,7 +15,7 @@ ghost use Rattle.idl_lex.specs.declared.tokens.token.PlacedToken.{PlacedToken};
 use crate::tokens::chunk::{Chunk, Ends, PlacedChunk, cut_chunk};
 use crate::tokens::chunks::Chunks;
 use crate::tokens::file_tokens::FileTokens;
-use crate::tokens::starts_left::StartsLeft;
+use crate::tokens::starts_left::{ChunkStarts, StartsLeft};
 use crate::tokens::tokens_left::TokensLeft;
 use idl_lex::TextLeft;
 use idl_source::{File, Line};
@@ -78,21 +78,35 @@ impl Lexed {
     }
 
     /// The tokens of the chunk in which this line is, each where it begins.
-    pub(crate) fn starts_around(&self, line: u32) -> Option<StartsLeft<'_>>
-        ensures { MatchOption result (on_line line (starts_of self.now) ≡ [])
-            (λ starts. on_line line (starts_left starts) ≡ on_line line (starts_of self.now)) }
+    pub(crate) fn starts_around(&self, line: u32) -> Option<ChunkStarts<'_>>
+        ensures line { MatchOption result (on_line line (starts_of self.now) ≡ []) (λ chunk.
+            on_line line (starts_left chunk.starts) ≡ on_line line (starts_of self.now)) }
+        ensures chunk { IfSome result (IsLaidOut self.now) }
     {
         let Some(placed) = self.chunks.chunk_of(line as usize) else {
             return None;
         };
         let before = placed.lines_before;
+        let count = placed.chunk.lines;
         let (_before, from) = self.chunks.file.lines().split_at(before);
-        let (own, _later) = from.split_at(placed.chunk.lines);
-        let before = before as u32;
-        Some(StartsLeft::new(
-            FileTokens::new(&placed.chunk, before, 0),
-            TextLeft::new(own, before),
-        ))
+        let (own, _later) = from.split_at(count);
+        let starts = StartsLeft::new(
+            FileTokens::new(&placed.chunk, before as u32, 0),
+            TextLeft::new(own, before as u32),
+        );
+        Some(ChunkStarts {
+            before,
+            count,
+            starts,
+        })
+    }
+
+    /// How many lines are before the chunk in which this line is, if it is one of the file.
+    pub fn lines_before(&self, line: u32) -> usize {
+        match self.chunks.chunk_of(line as usize) {
+            Some(placed) => placed.lines_before,
+            None => 0,
+        }
     }
 
     /// Whether a chunk begins so many lines before the end.

@@ -13,6 +13,14 @@ pub struct StartsLeft<'a> {
     text: TextLeft<'a>,
 }
 
+/// The tokens of a chunk, each where it begins, with how many lines of the file are before the chunk and how many it has.
+#[derive(Drop)]
+pub struct ChunkStarts<'a> {
+    pub before: usize,
+    pub count: usize,
+    pub starts: StartsLeft<'a>,
+}
+
 impl<'a> StartsLeft<'a> {
     /// These tokens in this text.
     pub fn new(tokens: FileTokens<'a>, text: TextLeft<'a>) -> StartsLeft<'a>

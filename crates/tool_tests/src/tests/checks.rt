@@ -24,6 +24,11 @@ static ROWS: [&str; 7] = [
     "idltool check a.idl => a.idl: #define T No | typedef T X; => 1 out a.idl:2: error: `No` isn't declared here or in a scope \
      around [E30] /typedef T X; /\nidltool check a.idl => a.idl: typedef N\\ | o X; => 1 out a.idl:1: error: `No` isn't \
      declared here or in a scope around [E30] /typedef N\\ /",
+    // Tokens on lines that are joined have those of their own lines.
+    "idltool check a.idl => a.idl: typedef No A;\\ |  typedef No B; typedef Non C; => 1 out a.idl:1:9: error: `No` isn't declared \
+     here or in a scope around [E30] /typedef No A;\\ /        ^^ /a.idl:2:10: error: `No` isn't declared here or in a scope \
+     around [E30] / typedef No B; typedef Non C; /         ^^ /a.idl:2:24: error: `Non` isn't declared here or in a scope \
+     around [E30] / typedef No B; typedef Non C; /                       ^^^ /",
     // A tab stays a tab, another white byte is a blank, and what no terminal can show goes out by its number.
     "idltool check a.idl => a.idl: \ttypedef\tNo X; // ¬. => 1 out a.idl:1:10: error: `No` isn't declared here or in a scope \
      around [E30] /\ttypedef\tNo X; //  . /\t       \t^^ /\nidltool check a.idl => a.idl: /* \u{1b} */ typedef long ä; => 1 \

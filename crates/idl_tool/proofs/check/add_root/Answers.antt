@@ -23,5 +23,10 @@ returns c =
     let is = c.in_ok-told-2.ensures ∙ ap (λ ts. in_order (map told_at ts)) c.deref.ensures.value ∙ ap in_order (c.in_ok-told.ensures ∙ ap₂ zip c.as_slice-findings.ensures c.as_slice.ensures) in
     let of = told-root inputs root one related told c.requires (subst (λ fs. AreRelatedOver (bank_of inputs) root fs related) c.as_slice-findings.ensures c.in_ok-related.ensures) is in
     on_ok_weaker c.add_reports.result
-    (λ reported. (told, of, subst (λ ts. AreReported inputs.files (map told_at ts) before after) c.deref-2.ensures.value reported))
+    (λ reported. (
+      told,
+      of,
+      subst (λ fs. AreReported fs told before after) c.columns-columns.ensures
+          (subst (λ ts. AreReported c.columns-columns.result (map told_at ts) before after) c.deref-2.ensures.value reported),
+    ))
     c.add_reports.ensures

@@ -4,4 +4,7 @@ use Rattle.idl_tool.proofs.check.behind_of.Given as goal
 
 -- those of the places before
 abbrev pub invariant-related : goal.invariant-related
-invariant-related l = l.text.items ≡ seconds_in l.sources.files (take l.second-index l.related)
+invariant-related l = record {
+  files : l.columns ≡ l.fn.columns;
+  text : l.text.items ≡ seconds_in l.fn.columns (take l.second-index l.related);
+}

@@ -6,4 +6,7 @@ use Rattle.idl_tool.proofs.json.diagnostics_of.Given as goal
 
 -- those of the findings before
 abbrev pub invariant-findings : goal.invariant-findings
-invariant-findings l = map located l.found.items ≡ map (located_in l.sources.files) (take l.index (zip l.findings l.related))
+invariant-findings l = record {
+  files : l.columns ≡ l.fn.columns;
+  found : map located l.found.items ≡ map (located_in l.fn.columns) (take l.index (zip l.findings l.related));
+}

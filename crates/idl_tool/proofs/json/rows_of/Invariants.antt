@@ -5,4 +5,7 @@ use Rattle.idl_tool.proofs.json.rows_of.Given as goal
 
 -- those of the entries before
 abbrev pub invariant-entries : goal.invariant-entries
-invariant-entries l = map row_of l.rows.items ≡ map (row_in l.sources.files l.root) (take l.entry-index l.entries)
+invariant-entries l = record {
+  files : l.columns ≡ l.fn.columns;
+  rows : map row_of l.rows.items ≡ map (row_in l.fn.columns l.root) (take l.entry-index l.entries);
+}

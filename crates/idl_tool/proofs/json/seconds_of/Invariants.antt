@@ -5,4 +5,7 @@ use Rattle.idl_tool.proofs.json.seconds_of.Given as goal
 
 -- those of the places before
 abbrev pub invariant-related : goal.invariant-related
-invariant-related l = map second_of l.seconds.items ≡ map (second_at l.sources.files) (take l.second-index l.related)
+invariant-related l = record {
+  files : l.columns ≡ l.fn.columns;
+  seconds : map second_of l.seconds.items ≡ map (second_at l.fn.columns) (take l.second-index l.related);
+}
