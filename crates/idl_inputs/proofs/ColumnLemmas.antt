@@ -23,20 +23,22 @@ module _ (files : Texts) (place : ChunkPlace) (lines : List (List ℕ)) where
   -- one that is found is of the file of its name
   pub found-chunk : (chunks : List (ChunkPlace × List (List ℕ))) → AreOfFiles files chunks → lookup (ghosts.eq place) chunks ≡ Some lines → finite.get files place.file ≡ Some lines
   found-chunk [] are is = cc
-  found-chunk (b ∷ chunks) are is = by (ghosts.eq place b.0) refl is
+  found-chunk (b ∷ chunks) are is = by (ghosts.eq place b.0) refl is (found-chunk chunks (All-tail IsOfFile b chunks are))
     where
-      by : (x : Bool) → ghosts.eq place b.0 ≡ x → cond x (Some b.1) (lookup (ghosts.eq place) chunks) ≡ Some lines → finite.get files place.file ≡ Some lines
-      by true same found = same_file b.0 same ∙ All-head IsOfFile b chunks are ∙ found
-      by false other found = found-chunk chunks (All-tail IsOfFile b chunks are) found
+      by : (x : Bool) → ghosts.eq place b.0 ≡ x → cond x (Some b.1) (lookup (ghosts.eq place) chunks) ≡ Some lines
+          → (lookup (ghosts.eq place) chunks ≡ Some lines → finite.get files place.file ≡ Some lines) → finite.get files place.file ≡ Some lines
+      by true same found later = same_file b.0 same ∙ All-head IsOfFile b chunks are ∙ found
+      by false other found later = later found
 
   -- one more
   pub with-chunk : finite.get files place.file ≡ Some lines → (chunks : List (ChunkPlace × List (List ℕ))) → AreOfFiles files chunks → AreOfFiles files (insert_entry ghosts.eq chunks place lines)
   with-chunk of [] are = All-cons IsOfFile (place, lines) [] of (All-nil IsOfFile)
-  with-chunk of (b ∷ chunks) are = by (ghosts.eq place b.0) refl
+  with-chunk of (b ∷ chunks) are = by (ghosts.eq place b.0) refl (with-chunk of chunks (All-tail IsOfFile b chunks are))
     where
-      by : (x : Bool) → ghosts.eq place b.0 ≡ x → AreOfFiles files (cond x ((b.0, lines) ∷ chunks) (b ∷ insert_entry ghosts.eq chunks place lines))
-      by true same = All-cons IsOfFile (b.0, lines) chunks (sym (same_file b.0 same) ∙ of) (All-tail IsOfFile b chunks are)
-      by false other = All-cons IsOfFile b (insert_entry ghosts.eq chunks place lines) (All-head IsOfFile b chunks are) (with-chunk of chunks (All-tail IsOfFile b chunks are))
+      by : (x : Bool) → ghosts.eq place b.0 ≡ x → AreOfFiles files (insert_entry ghosts.eq chunks place lines)
+          → AreOfFiles files (cond x ((b.0, lines) ∷ chunks) (b ∷ insert_entry ghosts.eq chunks place lines))
+      by true same later = All-cons IsOfFile (b.0, lines) chunks (sym (same_file b.0 same) ∙ of) (All-tail IsOfFile b chunks are)
+      by false other later = All-cons IsOfFile b (insert_entry ghosts.eq chunks place lines) (All-head IsOfFile b chunks are) later
 
 -- before the first is laid out
 pub none-laid : (files : Texts) → AreOfFiles files []

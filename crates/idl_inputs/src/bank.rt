@@ -123,7 +123,7 @@ impl SessionBank {
     }
 
     /// The file of this name, with its tokens.
-    pub fn lexed(&self, name: &FileName) -> Option<&LexedFile>
+    pub(crate) fn lexed(&self, name: &FileName) -> Option<&LexedFile>
         ensures { option_copied result ≡ finite.get self.now.files name.now }
     {
         match self.texts.get(name) {

@@ -92,7 +92,7 @@ impl<'a> Columns<'a> {
     }
 
     /// The lines of the file of this name, or nothing where there is no such file. It takes no memory.
-    pub fn file(&self, name: &[u8]) -> Option<&[Line]>
+    pub fn file(&self, name: &[u8]) -> Option<&'a [Line]>
         ensures { option_copied result ≡ finite.get self.now name.now }
     {
         match self.bank.files().get(name) {

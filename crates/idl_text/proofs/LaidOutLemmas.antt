@@ -1,5 +1,5 @@
 -- The lines of a chunk, and the tokens that are put on them.
-use Rattle.std.proofs.Common.{◌≡◌, ◌∙◌, ◌⊎◌, inr, ◌≤◌, ◌<◌, ◌+◌, ◌++◌, ◌∷◌, ℕ, zero, suc, nat_eq, List, [], ap, append_assoc, arith, drop, get_or, length, sym}
+use Rattle.std.proofs.Common.{◌≡◌, ◌∙◌, inr, ◌≤◌, ◌<◌, ◌+◌, ◌++◌, ◌∷◌, ℕ, zero, suc, nat_eq, List, [], ap, append_assoc, arith, drop, get_or, length, sym}
 use Rattle.std.proofs.lemmas.List.Elements.{filter-append}
 use Rattle.idl_text.specs.Chunk.{AreChunks, AreChunksOf, IsChunkOfLine}
 use Rattle.idl_text.specs.Starts.{Start, on_line}

@@ -200,7 +200,7 @@ fn behind_of(columns: &mut Columns<'_>, related: &[Related]) -> Result<Bytes, Al
 }
 
 // The line of a place, if there is one.
-fn line_at<'s>(columns: &'s Columns<'_>, place: &Place) -> Option<&'s [u8]>
+fn line_at<'s>(columns: &Columns<'s>, place: &Place) -> Option<&'s [u8]>
     ensures { option_copied result ≡ line_at columns.now place.now }
 {
     let lines = columns.file(place.file.as_bytes())?;

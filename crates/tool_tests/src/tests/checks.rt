@@ -3,7 +3,7 @@
 use super::support::are_given;
 use std::test::Fail;
 
-static ROWS: [&str; 7] = [
+static ROWS: [&str; 8] = [
     // The line, and marks below the token; of a sound file nothing is told.
     "idltool check shop.idl => shop.idl: #include \"money.idl\" | interface Shop { |     Money price(); |     Mony total(); \
      | }; ¶ money.idl: typedef long Money; => 1 out shop.idl:4:5: error: `Mony` isn't declared here or in a scope around \

@@ -5,13 +5,13 @@ use Rattle.idl_inputs.specs.declared.columns.ChunkPlace.{ChunkPlace}
 use Rattle.idl_inputs.proofs.ColumnLemmas.{column-there, found-chunk, with-chunk}
 use Rattle.idl_inputs.proofs.columns.Columns.column.Goals as goal
 
-pub returns-in-Some-clause-column : goal.returns-in-Some-clause-column
-returns-in-Some-clause-column c =
+pub returns-in-Some-get-clause-column : goal.returns-in-Some-get-clause-column
+returns-in-Some-get-clause-column c =
     let files = c.self.inside.bank.now.files in
     let chunk : ChunkPlace = record { file = c.in_ok-clone.field-0; before = c.lines_before.result } in
-    let found = found-chunk files chunk c.in-Some-2.columns.now c.self.inside.chunks.entries c.self.invariant (sym c.in-Some-2.ensures.value) in
+    let found = found-chunk files chunk c.in-Some-get.columns.now c.self.inside.chunks.entries c.self.invariant (sym c.in-Some-get.ensures.value) in
     c.column.ensures
-    ∙ sym (column-there files c.args.place.now c.args.number c.args.text.now c.in-Some-2.columns.now (ap (finite.get files) (sym c.in_ok-clone.ensures.cases) ∙ found))
+    ∙ sym (column-there files c.args.place.now c.args.number c.args.text.now c.in-Some-get.columns.now (ap (finite.get files) (sym c.in_ok-clone.ensures.cases) ∙ found))
     ∙ ap (λ fs. column_at fs c.args.place.now c.args.number c.args.text.now) c.self.view_is
 
 pub returns-clause-column : goal.returns-clause-column
@@ -22,8 +22,8 @@ returns-clause-column c =
     ∙ sym (column-there files c.args.place.now c.args.number c.args.text.now c.in_ok-columns.columns there)
     ∙ ap (λ fs. column_at fs c.args.place.now c.args.number c.args.text.now) c.self.view_is
 
-pub invariant_of-self : goal.invariant_of-self
-invariant_of-self c =
+pub invariant_of-self-2 : goal.invariant_of-self-2
+invariant_of-self-2 c =
     let files = c.self.inside.bank.now.files in
     let chunk : ChunkPlace = record { file = c.in_ok-clone.field-0; before = c.lines_before.result } in
     let there = ap (finite.get files) c.in_ok-clone.ensures.cases ∙ sym c.in-Some.ensures ∙ ap Some (sym c.in_ok-columns.ensures) in

@@ -1,4 +1,4 @@
-use Rattle.std.proofs.Common.{◌≡◌, ◌∙◌, ◌<◌, ◌+◌, ◌++◌, [], ℕ, List, ap, append-nil, arith, get_or, length, map, sym}
+use Rattle.std.proofs.Common.{◌∙◌, ◌<◌, ◌+◌, ◌++◌, [], List, ap, append-nil, arith, get_or, map, sym}
 use Rattle.std.proofs.lemmas.List.{length-map}
 use Rattle.idl_text.specs.Starts.{Start, on_line, starts_left}
 use Rattle.idl_text.proofs.LaidOutLemmas.{put-next}
