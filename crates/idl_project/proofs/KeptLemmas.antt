@@ -23,7 +23,7 @@ use Rattle.idl_root.specs.AsBefore.{IsAsBefore, IsCompiledOf, IsMade}
 use Rattle.idl_root.specs.Compared.{compared_root, root_keys}
 use Rattle.idl_root.specs.Compile.{compile}
 use Rattle.idl_root.specs.declared.compiling.compiled.Compiled.{Compiled}
-use Rattle.idl_root.specs.Turns.{IsWithinTurns}
+use Rattle.idl_root.specs.Turns.{IsWithinWords}
 use Rattle.idl_root.specs.Results.{IsDeclarationPass, IsEntryPass, IsKeptOf, KeptLists, fresh_declarations, fresh_entries, root_marks}
 use Rattle.idl_root.specs.declared.kept.keeper.Keeper.{Keeper}
 use Rattle.idl_project.specs.Compared.{compared_in, met_between}
@@ -126,7 +126,7 @@ IsKept-still old new kept copy is result compiled marks over = record {
   over = subst (λ (k : Kept RootKey (Option RootAnswer) (List ℕ) (List Event)). HoldsOver key_eq expansion new k) (sym result) over;
   rows = compiled ∙ is.rows ∙ compile-again old new kept.result.value is.over over;
   marks = marks ∙ is.marks ∙ ap root_marks (sym (expanded-again old new kept.result.value is.over over));
-  turns = subst IsWithinTurns (sym (expanded-again old new kept.result.value is.over over)) is.turns;
+  within = subst IsWithinWords (sym (expanded-again old new kept.result.value is.over over)) is.within;
 }
 
 -- of what isn't there
@@ -173,7 +173,7 @@ unfolding compile_over
 IsCompiledOf-kept bank kept compiled same is = record {
   end = end_of bank kept.result.value.text;
   rows = same ∙ ap (λ (r : CompiledRoot). r.rows) is.rows;
-  turns = is.turns;
+  within = is.within;
 }
 
 -- what is kept of a root, by its place among all

@@ -22,7 +22,7 @@ use Rattle.idl_store.specs.Stored.{Stored, committed, discarded, nothing_stored,
 use Rattle.idl_prep.specs.Root.{expanded}
 use Rattle.idl_root.specs.AsBefore.{AreListsLeft}
 use Rattle.idl_root.specs.Results.{EntryResult}
-use Rattle.idl_root.specs.Turns.{IsWithinTurns}
+use Rattle.idl_root.specs.Turns.{IsWithinWords}
 use Rattle.idl_root.specs.declared.kept.keeper.Keeper.{Keeper}
 use Rattle.idl_source.specs.names.Name.{is_name}
 use Rattle.idl_project.specs.Compile.{compile_over}
@@ -52,12 +52,12 @@ lookup-held bank (e ∷ es) name h = by (bytes_eq name e.0) refl (lookup-held ba
         ap Some (kept.rows ∙ ap (compile_over bank) (sym ((bytes_decides name e.0).0 same)))
     by false other rest = rest
 
--- and no root that is kept needs more turns than its verdicts are taken with
-pub turns-held : (bank : RootKey → Option RootAnswer) (held : List (List ℕ × KeptRoot)) → AreKept bank held → All (λ name. IsWithinTurns (expanded name bank).0) (keys_of held)
-turns-held bank [] h = All-nil (λ name. IsWithinTurns (expanded name bank).0)
-turns-held bank (e ∷ es) h =
-    All-cons (λ name. IsWithinTurns (expanded name bank).0) e.0 (keys_of es) (All-head (λ (root : List ℕ × KeptRoot). IsKept bank root) e es h).turns
-    (turns-held bank es (All-tail (λ (root : List ℕ × KeptRoot). IsKept bank root) e es h))
+-- and words count what the units of each root add that is kept
+pub within-held : (bank : RootKey → Option RootAnswer) (held : List (List ℕ × KeptRoot)) → AreKept bank held → All (λ name. IsWithinWords (expanded name bank).0) (keys_of held)
+within-held bank [] h = All-nil (λ name. IsWithinWords (expanded name bank).0)
+within-held bank (e ∷ es) h =
+    All-cons (λ name. IsWithinWords (expanded name bank).0) e.0 (keys_of es) (All-head (λ (root : List ℕ × KeptRoot). IsKept bank root) e es h).within
+    (within-held bank es (All-tail (λ (root : List ℕ × KeptRoot). IsKept bank root) e es h))
 
 -- what isn't a name isn't that of a root
 pub list_any-bad_name : (names : List (List ℕ)) (name : List ℕ) → All (λ n. IsTrue (is_name n)) names → ¬ IsTrue (is_name name)

@@ -9,7 +9,7 @@ use Rattle.idl_event.specs.declared.asked.key.RootKey.{RootKey}
 use Rattle.idl_memo.specs.Kept.{HoldsOver}
 use Rattle.idl_prep.specs.Root.{expanded, expansion}
 use Rattle.idl_root.specs.Results.{root_marks}
-use Rattle.idl_root.specs.Turns.{IsWithinTurns}
+use Rattle.idl_root.specs.Turns.{IsWithinWords}
 use Rattle.idl_finding.specs.declared.finding.Finding.{Finding}
 use Rattle.idl_root.specs.declared.kept.keeper.Keeper.{Keeper}
 use Rattle.idl_inputs.specs.Bank.{bank_of}
@@ -58,13 +58,13 @@ abbrev pub absent_of : Project → List ℕ → Option (List (List ℕ))
 absent_of project name = option_map (λ root. root.absent) (compiled_of project name)
 
 -- what is kept of a root is what its task over these answers leaves, what compiling it over them
--- gives, and what its units are, of which verdicts are taken with as many turns as they need
+-- gives, and what its units are; and words count what these add
 pub record IsKept (bank : RootKey → Option RootAnswer) (root : List ℕ × KeptRoot) : Type 0 where
   pub text : root.1.result.value.text ≡ root.0
   pub over : HoldsOver key_eq expansion bank root.1.result.value
   pub rows : root.1.compiled.value ≡ compile_over bank root.0
   pub marks : root.1.marks.value ≡ root_marks (expanded root.0 bank).0
-  pub turns : IsWithinTurns (expanded root.0 bank).0
+  pub within : IsWithinWords (expanded root.0 bank).0
 
 -- that is so of each root
 abbrev pub AreKept : (RootKey → Option RootAnswer) → List (List ℕ × KeptRoot) → Type 0

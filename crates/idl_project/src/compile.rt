@@ -9,7 +9,7 @@ ghost use Rattle.idl_prep.specs.Root.{expanded, expansion};
 ghost use Rattle.idl_root.specs.AsBefore.{AreListsLeft, IsAsBefore, IsCompiledOf, kept_lists};
 ghost use Rattle.idl_finding.specs.Findings.{finding_row};
 ghost use Rattle.idl_root.specs.Results.{ExpandsNone, IsKeptOf, root_marks};
-ghost use Rattle.idl_root.specs.Turns.{IsWithinTurns};
+ghost use Rattle.idl_root.specs.Turns.{IsWithinWords};
 ghost use Rattle.idl_inputs.specs.Bank.{bank_of};
 ghost use Rattle.idl_project.specs.Compile.{compile_over, compiled_root, end_of, line_count};
 ghost use Rattle.idl_inputs.specs.Project.{Project};
@@ -66,7 +66,7 @@ pub fn compile_alone(
     root: &Name,
 ) -> Result<CompiledRoot, AllocError>
     ensures compiled { IfOk result (λ compiled. compiled ≡ compiled_root bank.now root.now) }
-    ensures turns { OnOk result (IsWithinTurns (expanded root.now (bank_of bank.now)).0) }
+    ensures within { OnOk result (IsWithinWords (expanded root.now (bank_of bank.now)).0) }
 {
     let kept = expanded_alone(memory.alloc(), bank, root)?;
     compile(memory, bank, &kept)
@@ -81,7 +81,7 @@ pub fn compile<B: RootBank>(
     requires { HoldsOver key_eq expansion (B.at bank.now) kept.now }
     ensures compiled { IfOk result (λ compiled.
         compiled ≡ compile_over (B.at bank.now) kept.now.text) }
-    ensures turns { OnOk result (IsWithinTurns (expanded kept.now.text (B.at bank.now)).0) }
+    ensures within { OnOk result (IsWithinWords (expanded kept.now.text (B.at bank.now)).0) }
 {
     let alloc = memory.alloc();
     let end = end_of(alloc, bank, root_name(kept))?;
@@ -107,8 +107,8 @@ pub fn compile_kept<B: RootBank>(
         × IfSome root.compiled (λ compiled. IsCompiledOf was compiled.now) }
     ensures compiled { let name = root.entry.result.now.text in
         IfOk result (λ r. r.compiled ≡ compile_over (B.at bank.now) name) }
-    ensures turns { let name = root.entry.result.now.text in
-        OnOk result (IsWithinTurns (expanded name (B.at bank.now)).0) }
+    ensures within { let name = root.entry.result.now.text in
+        OnOk result (IsWithinWords (expanded name (B.at bank.now)).0) }
     ensures marks { let name = root.entry.result.now.text in
         IfOk result (λ r. unwrap_or r.marks root.entry.marks.now
         ≡ root_marks (expanded name (B.at bank.now)).0) }

@@ -14,7 +14,9 @@ ghost use Rattle.idl_event.specs.declared.asked.key.RootKey.TheVariants as keys;
 ghost use Rattle.idl_inputs.specs.Asked.{asked_files, asked_of};
 ghost use Rattle.idl_prep.specs.Root.{expanded};
 ghost use Rattle.idl_root.specs.Details.{details};
-ghost use Rattle.idl_root.specs.Turns.{IsWithinTurns};
+ghost use Rattle.idl_root.specs.Places.{root_pieces};
+ghost use Rattle.idl_root.specs.Turns.{IsWithinWords};
+ghost use Rattle.idl_root.specs.idl_root_blocks.Places.{AreStandingOver};
 ghost use Rattle.idl_inputs.specs.Bank.{bank_of};
 ghost use Rattle.idl_inputs.specs.Columns.{column_of};
 ghost use Rattle.idl_project.specs.Details.{details_of, expansion_of};
@@ -37,7 +39,7 @@ use idl_inputs::{MacroBody, SessionBank, causes_by, directories};
 use idl_macro::is_macro_word;
 use idl_memo::{Edited, Meter, freshness, one_bank};
 use idl_prep::RootTask;
-use idl_root::{Finding, Keeper, Row, comparing, fresh_tasks};
+use idl_root::{Finding, Keeper, Row, blocks, comparing, fresh_tasks};
 use idl_source::{Line, Name, Refusal, Span};
 use std::alloc::{AllocError, Global};
 use std::marker::Model;
@@ -398,14 +400,19 @@ impl Session {
         let _roots = &self.roots;
     }
 
-    /// Tells of each root that its units need no more turns than their verdicts are taken with: so the laws of verdicts speak of it.
+    /// Tells of each root that its units need no more turns than their verdicts are taken with, and that each of its blocks stands: so the
+    /// laws of verdicts and of blocks speak of it.
     ///
-    /// This does nothing: it carries the fact.
+    /// This does nothing: it carries the facts.
     pub fn bounds_turns(&self)
-        ensures { let bank = bank_of self.now.project.inputs in
-            All (λ root. IsWithinTurns (expanded root bank).0) self.now.project.roots }
+        ensures within { let bank = bank_of self.now.project.inputs in
+            All (λ root. IsWithinWords (expanded root bank).0) self.now.project.roots }
+        ensures blocks { let bank = bank_of self.now.project.inputs in
+            All (λ root. AreStandingOver [] (root_pieces (expanded root bank).0))
+            self.now.project.roots }
     {
         let _roots = &self.roots;
+        blocks();
     }
 
     /// Where the session's memory comes from, for what a caller has to hand in.

@@ -1,11 +1,15 @@
--- The facts of a root are told, each behind those before it.
-use Rattle.std.proofs.Common.{◌≡◌, ◌≤◌, ◌∙◌, List, [], ◌∷◌, ◌++◌, arith, refl, sym, ap}
+-- The facts of a root are told, each behind those before it, and counted.
+use Rattle.std.proofs.Common.{◌≡◌, ◌≤◌, ◌<◌, ◌^◌, ◌∙◌, List, [], ◌∷◌, ◌++◌, arith, refl, subst, sym, ap}
 use Rattle.idl_root_blocks.proofs.IdlCheckLaws.ToldLaws.{MoreTurns, said-alike, told-more, told-nothing, turns-grow}
 use Rattle.idl_root_blocks.specs.idl_check_laws.Closing.{AreTold, IsTold as told}
 use Rattle.idl_root_blocks.specs.idl_check.declared.walk.verdict.Verdict.{Verdict}
 use Rattle.idl_root.specs.Judged.{HasTurns, added, facts_after}
-use Rattle.idl_env.specs.Facts.{UnitFacts}
+use Rattle.idl_root.specs.Turns.{IsWithinWords}
+use Rattle.idl_env.specs.Facts.{UnitFacts, answers, count_in}
 use Rattle.idl_env.specs.Turns.{most_turns, turns_for}
+use Rattle.idl_env.specs.declared.keys.key.Key.TheVariants.{Nameless}
+use Rattle.idl_event.specs.declared.told.event.Event.{Event}
+use Rattle.idl_unit.specs.Units.{units_of}
 use Rattle.idl_unit.specs.declared.unit.Unit.{Unit as RootUnit}
 use Rattle.idl_unit.specs.declared.unit.Unit.TheVariants as unit
 
@@ -30,6 +34,14 @@ turns-before units more enough =
     let all = ap turns_for (after-append units more []) in
     let rest = turns-after more (facts_after [] units) in
     omega (arith, all, rest, enough)
+
+-- facts that words count, of the units of a root
+pub within-words : (events : List Event) (facts : List UnitFacts) → facts ≡ facts_after [] (units_of events)
+    → turns_for facts ≤ most_turns → count_in (answers facts Nameless) < 2 ^ 64 → IsWithinWords events
+within-words events facts is turns count = record {
+  turns = subst (λ (fs : List UnitFacts). turns_for fs ≤ most_turns) is turns;
+  nameless = subst (λ (fs : List UnitFacts). count_in (answers fs Nameless) < 2 ^ 64) is count;
+}
 
 module _ (more : MoreTurns) where
   added-told : (facts : List UnitFacts) (u : RootUnit) → turns_for facts ≤ most_turns → AreTold facts → AreTold (facts ++ added facts u)

@@ -12,7 +12,6 @@ use Rattle.idl_env.specs.declared.additions.addition.Step.TheVariants.{Enters as
 use Rattle.idl_env.specs.declared.keys.key.Key.TheVariants.{Nameless}
 use Rattle.idl_env.specs.keys.Digested.{key_equiv}
 use Rattle.idl_env.specs.keys.Key.{key_eq}
-use Rattle.idl_block.proofs.FactLaws.OpenLaws.{facts-open}
 use Rattle.idl_block.specs.facts.Written.{boundary}
 use Rattle.idl_kept.specs.Texts.{BlockResult, IsPlaced, begins_in, inner_results, unit_results, with_blocks, with_units}
 use Rattle.idl_memo.proofs.QueryLaws.{IsLogOf-run}
@@ -112,7 +111,6 @@ module _
       stands-there : AreStanding facts end
       stands-there = record {
         told = told;
-        some = facts-open facts;
         turns = subst (λ (fs : List UnitFacts). turns_for fs ≤ most_turns) is-behind turns;
         count = subst (λ (fs : List UnitFacts). count_in (answers fs Nameless) < 2 ^ 64) is-behind count;
       }

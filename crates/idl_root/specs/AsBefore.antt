@@ -9,12 +9,13 @@ use Rattle.idl_root.specs.Compared.{AreOf, compared_root, root_keys}
 use Rattle.idl_root.specs.Compile.{compile}
 use Rattle.idl_finding.specs.Findings.{fault_finding}
 use Rattle.idl_root.specs.Followed.{results_from}
-use Rattle.idl_root.specs.Judged.{HasTurns, Judged}
+use Rattle.idl_root.specs.Judged.{Judged}
 use Rattle.idl_root.specs.Places.{EntryPlace, begins_of, blocks_of, declarations_after, declarations_of, entries_of, root_pieces}
 use Rattle.idl_root.specs.Printed.{Listed, name_index}
 use Rattle.idl_root.specs.Results.{DeclarationResult, EntryResult, IsDeclarationPass, IsEntryPass, KeptLists, entry_result, mark_at, marks_of}
 use Rattle.idl_root_blocks.specs.Met.{Known}
 use Rattle.idl_root_blocks.specs.Places.{block_result, declaration_result}
+use Rattle.idl_root.specs.Turns.{IsWithinWords}
 use Rattle.idl_root.specs.declared.compiling.compiled.Compiled.{Compiled}
 use Rattle.idl_finding.specs.declared.finding.EventFinding.{EventFinding}
 use Rattle.idl_root.specs.declared.kept.course.Course.{Course}
@@ -23,7 +24,6 @@ use Rattle.idl_root.specs.declared.kept.marks.Mark.{Mark}
 use Rattle.idl_root.specs.declared.kept.marks.Mark.TheVariants as mark
 use Rattle.idl_store.specs.Stored.{list_at, results_in, with_draft}
 use Rattle.idl_unit.specs.TokenRules.{fault_at}
-use Rattle.idl_unit.specs.Units.{units_of}
 use Rattle.idl_unit.specs.declared.unit.Unit.{Unit as RootUnit}
 use Rattle.idl_unit.specs.declared.unit.Unit.TheVariants.{Spelled, Entered, Left, End}
 use Rattle.idl_unit.specs.declared.unit.UnitText.{UnitText}
@@ -98,12 +98,11 @@ closing_beside (l ∷ listed) (k ∷ entries) =
 
 -- ---- roots
 
--- a root compiled to that at these events, for which verdicts are taken with as many turns as they
--- need
+-- a root compiled to that at these events, and words count what its units add
 pub record IsCompiledOf (events : List Event) (compiled : Compiled) : Type 0 where
   pub end : Place
   pub rows : compiled ≡ compile end events
-  pub turns : HasTurns (units_of events)
+  pub within : IsWithinWords events
 
 -- what is kept of the root at a place among all
 abbrev pub kept_lists : Keeper → ℕ → KeptLists

@@ -1,10 +1,13 @@
--- The turns of a root's verdicts.
-use Rattle.std.specs.Prelude.{List}
+-- What words of 64 bits count of a root.
+use Rattle.std.specs.Prelude.{◌<◌, ◌^◌, List, []}
+use Rattle.idl_env.specs.Facts.{answers, count_in}
+use Rattle.idl_env.specs.declared.keys.key.Key.TheVariants.{Nameless}
 use Rattle.idl_event.specs.declared.told.event.Event.{Event}
-use Rattle.idl_root.specs.Judged.{HasTurns}
+use Rattle.idl_root.specs.Judged.{HasTurns, facts_after}
 use Rattle.idl_unit.specs.Units.{units_of}
 
--- what the units of a root that expands to these events add needs no more turns than verdicts are
--- taken with
-abbrev pub IsWithinTurns : List Event → Type 0
-IsWithinTurns events = HasTurns (units_of events)
+-- Words of 64 bits count what the units of a root that expands to these events add: the turns that
+-- verdicts need over it, and the scopes without a name that it opens.
+pub record IsWithinWords (events : List Event) : Type 0 where
+  pub turns : HasTurns (units_of events)
+  pub nameless : count_in (answers (facts_after [] (units_of events)) Nameless) < 2 ^ 64

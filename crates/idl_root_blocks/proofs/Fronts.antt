@@ -1,5 +1,5 @@
 -- What stands in a block that stands: its fronts, and the blocks inside.
-use Rattle.std.proofs.Common.{◌≡◌, ◌≢◌, ◌≤◌, ◌<◌, ◌^◌, ◌∙◌, false, List, [], ◌∷◌, ◌++◌, Option, None, Some, append_assoc, arith, subst, sym, ap}
+use Rattle.std.proofs.Common.{◌≡◌, ◌≤◌, ◌<◌, ◌^◌, ◌∙◌, false, List, [], ◌∷◌, ◌++◌, Option, None, Some, append_assoc, arith, subst, sym, ap}
 use Rattle.std.proofs.lemmas.List.{map-append}
 use Rattle.idl_block.proofs.BlockLaws.{walk-block}
 use Rattle.idl_block.proofs.JoinedLaws.{walk-grows}
@@ -10,12 +10,11 @@ use Rattle.idl_root_blocks.proofs.VerdictLaws.Told.{files-told, text-told}
 use Rattle.idl_root_blocks.specs.verdicts.Standing.{AreInside, AreStanding, IsBlockFront, block_end, part_step, unit_asks, unit_writes}
 use Rattle.idl_check_laws.proofs.ToldLaws.{MoreTurns, turns-grow}
 use Rattle.idl_check_laws.specs.Closing.{AreTold}
-use Rattle.idl_env.specs.Facts.{UnitFacts, answers, count_in, scopes_in}
+use Rattle.idl_env.specs.Facts.{UnitFacts, answers, count_in}
 use Rattle.idl_env.specs.Turns.{most_turns, turns_for}
 use Rattle.idl_env.specs.declared.additions.addition.Step.{Step}
 use Rattle.idl_env.specs.declared.additions.addition.Step.TheVariants.{Enters as EntersFile, Leaves as LeavesFile}
-use Rattle.idl_env.specs.declared.keys.key.Key.TheVariants.{Cursor, Nameless}
-use Rattle.idl_block.proofs.FactLaws.OpenLaws.{facts-open}
+use Rattle.idl_env.specs.declared.keys.key.Key.TheVariants.{Nameless}
 use Rattle.idl_block.proofs.FactLaws.WalkLaws.{over-block}
 use Rattle.idl_block.specs.facts.Beneath.{Depth, deepened}
 use Rattle.idl_block.specs.facts.Known.{AskEnough}
@@ -38,7 +37,7 @@ Enough = (before : List UnitFacts) (parts : Parts) → IsBlockFront parts → Ar
     → AskEnough unit_asks unit_writes (answers before) parts (boundary EntersFile ∷ [])
 
 abbrev pub Walked : Type 0
-Walked = (before : List UnitFacts) (parts : Parts) → IsBlockFront parts → AreTold before → scopes_in (answers before Cursor) ≢ []
+Walked = (before : List UnitFacts) (parts : Parts) → IsBlockFront parts → AreTold before
     → turns_for (walk unit_ways answers parts (before ++ boundary EntersFile ∷ [])).1 ≤ most_turns
     → count_in (answers (walk unit_ways answers parts (before ++ boundary EntersFile ∷ [])).1 Nameless) < 2 ^ 64
     → AreStanding before (block_end (answers before) parts).1
@@ -117,7 +116,7 @@ module _ (enough : Enough) where
           (subst AreHeld (ap (facts_over (with_entering before)) is ∙ facts-split front behind (with_entering before) ∙ r.1) held)
 
       pub front-stands : AreStanding before (ended before front)
-      front-stands = walked before (parts_of front) front-block standing.told standing.some front-held.turns front-held.count
+      front-stands = walked before (parts_of front) front-block standing.told front-held.turns front-held.count
 
       pub front-told : AreTold (facts_over (with_entering before) front)
       front-told = text-told-over more front (with_entering before) front-held.turns (files-told before EntersFile tt standing.told)
@@ -137,4 +136,4 @@ module _ (enough : Enough) where
 
       pub inside-stands : AreStanding over (ended over inside)
       inside-stands =
-          walked over (parts_of inside) (of-block inside block) (front-told front (Enters false ∷ (inside ++ Leaves false ∷ behind)) is) (facts-open over) inside-held.turns inside-held.count
+          walked over (parts_of inside) (of-block inside block) (front-told front (Enters false ∷ (inside ++ Leaves false ∷ behind)) is) inside-held.turns inside-held.count

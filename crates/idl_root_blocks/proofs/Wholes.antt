@@ -10,7 +10,6 @@ use Rattle.idl_check_laws.proofs.ToldLaws.{MoreTurns}
 use Rattle.idl_check_laws.specs.Closing.{AreTold}
 use Rattle.idl_env.specs.Facts.{UnitFacts}
 use Rattle.idl_env.specs.declared.additions.addition.Step.TheVariants.{Enters as EntersFile, Leaves as LeavesFile}
-use Rattle.idl_block.proofs.FactLaws.OpenLaws.{facts-open}
 use Rattle.idl_block.proofs.FactLaws.Seen.Covers.{or-left}
 use Rattle.idl_block.proofs.FactLaws.StandingLaws.{or-right}
 use Rattle.idl_block.specs.facts.Written.{boundary}
@@ -19,7 +18,7 @@ use Rattle.idl_root_blocks.proofs.Fronts.{Walked, facts-grow, part-told, text-to
 use Rattle.idl_root_blocks.proofs.Splits.{declarations-split, facts-first, facts-split}
 use Rattle.idl_root_blocks.specs.Blocks.{AreCut, Block, Loose, Nothing, Pieces, parts_of, text_in}
 use Rattle.idl_root_blocks.specs.Met.{AreKnownWhole, IsKnownWhole, Known, with_block, with_part, with_pieces}
-use Rattle.idl_root_blocks.specs.Places.{BlockPlace, DeclarationPlace, block_at, blocks_over, declaration_at, declarations_over, facts_behind, facts_over, with_entering}
+use Rattle.idl_root_blocks.specs.Places.{AreStandingOver, BlockPlace, DeclarationPlace, block_at, blocks_over, declaration_at, declarations_over, facts_behind, facts_over, with_entering}
 use Rattle.idl_root_blocks.specs.declared.text.BlockPart.{BlockPart as Part}
 use Rattle.idl_root_blocks.specs.declared.text.BlockPart.TheVariants.{Enters, Leaves}
 
@@ -62,6 +61,30 @@ declarations-block inside pieces facts =
     declarations-first (Enters false) (text_in inside ++ Leaves false ∷ text_in pieces) facts
     ∙ declarations-split (text_in inside) (Leaves false ∷ text_in pieces) (with_entering facts)
     ∙ ap (λ (places : List DeclarationPlace). own ++ places) (declarations-first (Leaves false) (text_in pieces) over)
+
+-- ---- blocks stand
+
+module _ (walked : Walked) (more : MoreTurns) where
+  -- each among pieces, where all is told and no more than memory holds
+  pub stand-over : (pieces : Pieces) (facts : List UnitFacts) → AreCut pieces → AreTold facts → AreHeld (facts_over facts (text_in pieces)) → AreStandingOver facts pieces
+  stand-over Nothing facts cut told held = tt
+  stand-over (Loose part pieces) facts cut told held =
+      let r = facts-grow (part ∷ text_in pieces) facts in
+      let own : AreHeld facts = first-held facts r.0 (subst AreHeld r.1 held) in
+      stand-over pieces (facts_over facts (part ∷ [])) cut.1 (part-told more part facts own.turns told) (subst AreHeld (facts-first part (text_in pieces) facts) held)
+  stand-over (Block inside pieces) facts cut told held =
+      let text : List Part = text_in inside in
+      let over : List UnitFacts = facts_over (with_entering facts) text in
+      let end : List UnitFacts = facts_behind facts inside in
+      let behind : AreHeld (facts_over end (text_in pieces)) = subst AreHeld (facts-block inside pieces facts) held in
+      let grown = facts-grow (text_in pieces) end in
+      let at_end : AreHeld end = first-held end grown.0 (subst AreHeld grown.1 behind) in
+      let within : AreHeld over = first-held over (boundary LeavesFile ∷ []) at_end in
+      let inside_told : AreTold (with_entering facts) = files-told facts EntersFile tt told in
+      let end_told : AreTold end = files-told over LeavesFile tt (text-told-over more text (with_entering facts) within.turns inside_told) in (
+        walked facts (parts_of text) (of-block text cut.0) told within.turns within.count,
+        (stand-over inside (with_entering facts) cut.1.0 inside_told within, stand-over pieces end cut.1.1 end_told behind),
+      )
 
 -- ---- what is known of pieces
 
@@ -117,64 +140,53 @@ whole-more known units blocks block w = record {
       (blocks_over (with_entering w.before) w.inside) w.blocks;
 }
 
-module _ (walked : Walked) (more : MoreTurns) (known : Known) where
-  -- those among pieces that stand, whose units and blocks are known
-  pub whole-pieces : (pieces : Pieces) (facts : List UnitFacts) → AreCut pieces → AreTold facts → AreHeld (facts_over facts (text_in pieces))
-      → All (Contains known.declarations) (declarations_over facts (text_in pieces)) → All (Contains known.blocks) (blocks_over facts pieces)
-      → All (IsKnownWhole known) (blocks_over facts pieces)
-  whole-pieces Nothing facts cut told held units blocks = subst (All (IsKnownWhole known)) (sym (blocks-none facts)) (All-nil (IsKnownWhole known))
-  whole-pieces (Loose part pieces) facts cut told held units blocks =
-      let next : List UnitFacts = facts_over facts (part ∷ []) in
-      let r = facts-grow (part ∷ text_in pieces) facts in
-      let own : AreHeld facts = first-held facts r.0 (subst AreHeld r.1 held) in
-      subst (All (IsKnownWhole known)) (sym (blocks-loose part pieces facts))
-      (whole-pieces pieces next cut.1 (part-told more part facts own.turns told) (subst AreHeld (facts-first part (text_in pieces) facts) held)
-      (All-right (Contains known.declarations) (declaration_at facts part) (declarations_over next (text_in pieces))
-      (subst (All (Contains known.declarations)) (declarations-first part (text_in pieces) facts) units))
-      (subst (All (Contains known.blocks)) (blocks-loose part pieces facts) blocks))
-  whole-pieces (Block inside pieces) facts cut told held units blocks =
-      let text : List Part = text_in inside in
-      let over : List UnitFacts = facts_over (with_entering facts) text in
-      let end : List UnitFacts = facts_behind facts inside in
-      let inner : List BlockPlace = blocks_over (with_entering facts) inside in
-      let here : BlockPlace = block_at facts inside in
-      let later : List BlockPlace = blocks_over end pieces in
-      let own : List DeclarationPlace = declarations_over (with_entering facts) text in
-      let rest : List DeclarationPlace = declarations_over end (text_in pieces) in
-      let behind : AreHeld (facts_over end (text_in pieces)) = subst AreHeld (facts-block inside pieces facts) held in
-      let grown = facts-grow (text_in pieces) end in
-      let at_end : AreHeld end = first-held end grown.0 (subst AreHeld grown.1 behind) in
-      let within : AreHeld over = first-held over (boundary LeavesFile ∷ []) at_end in
-      let inside_told : AreTold (with_entering facts) = files-told facts EntersFile tt told in
-      let end_told : AreTold end = files-told over LeavesFile tt (text-told-over more text (with_entering facts) within.turns inside_told) in
-      let all_units : All (Contains known.declarations) (own ++ rest) = subst (All (Contains known.declarations)) (declarations-block inside pieces facts) units in
-      let all_blocks : All (Contains known.blocks) (inner ++ here ∷ later) = subst (All (Contains known.blocks)) (blocks-block inside pieces facts) blocks in
-      let units_inside : All (Contains known.declarations) own = All-left (Contains known.declarations) own rest all_units in
-      let blocks_inside : All (Contains known.blocks) inner = All-left (Contains known.blocks) inner (here ∷ later) all_blocks in
-      let after : All (Contains known.blocks) later = All-tail (Contains known.blocks) here later (All-right (Contains known.blocks) inner (here ∷ later) all_blocks) in
-      let whole : IsKnownWhole known here = record {
-        before = facts;
-        inside = inside;
-        stood = refl;
-        is_block = cut.0;
-        are_cut = cut.1.0;
-        standing = walked facts (parts_of text) (of-block text cut.0) told (facts-open facts) within.turns within.count;
-        units = units_inside;
-        blocks = blocks_inside;
-      } in
-      subst (All (IsKnownWhole known)) (sym (blocks-block inside pieces facts))
-      (All-append (IsKnownWhole known) inner (here ∷ later) (whole-pieces inside (with_entering facts) cut.1.0 inside_told within units_inside blocks_inside)
-      (All-cons (IsKnownWhole known) here later whole
-      (whole-pieces pieces end cut.1.1 end_told behind (All-right (Contains known.declarations) own rest all_units) after)))
+-- those among pieces that stand, whose units and blocks are known
+whole-pieces : (known : Known) (pieces : Pieces) (facts : List UnitFacts) → AreCut pieces → AreStandingOver facts pieces
+    → All (Contains known.declarations) (declarations_over facts (text_in pieces)) → All (Contains known.blocks) (blocks_over facts pieces)
+    → All (IsKnownWhole known) (blocks_over facts pieces)
+whole-pieces known Nothing facts cut standing units blocks = subst (All (IsKnownWhole known)) (sym (blocks-none facts)) (All-nil (IsKnownWhole known))
+whole-pieces known (Loose part pieces) facts cut standing units blocks =
+    let next : List UnitFacts = facts_over facts (part ∷ []) in
+    subst (All (IsKnownWhole known)) (sym (blocks-loose part pieces facts))
+    (whole-pieces known pieces next cut.1 standing
+    (All-right (Contains known.declarations) (declaration_at facts part) (declarations_over next (text_in pieces))
+    (subst (All (Contains known.declarations)) (declarations-first part (text_in pieces) facts) units))
+    (subst (All (Contains known.blocks)) (blocks-loose part pieces facts) blocks))
+whole-pieces known (Block inside pieces) facts cut standing units blocks =
+    let text : List Part = text_in inside in
+    let end : List UnitFacts = facts_behind facts inside in
+    let inner : List BlockPlace = blocks_over (with_entering facts) inside in
+    let here : BlockPlace = block_at facts inside in
+    let later : List BlockPlace = blocks_over end pieces in
+    let own : List DeclarationPlace = declarations_over (with_entering facts) text in
+    let rest : List DeclarationPlace = declarations_over end (text_in pieces) in
+    let all_units : All (Contains known.declarations) (own ++ rest) = subst (All (Contains known.declarations)) (declarations-block inside pieces facts) units in
+    let all_blocks : All (Contains known.blocks) (inner ++ here ∷ later) = subst (All (Contains known.blocks)) (blocks-block inside pieces facts) blocks in
+    let units_inside : All (Contains known.declarations) own = All-left (Contains known.declarations) own rest all_units in
+    let blocks_inside : All (Contains known.blocks) inner = All-left (Contains known.blocks) inner (here ∷ later) all_blocks in
+    let after : All (Contains known.blocks) later = All-tail (Contains known.blocks) here later (All-right (Contains known.blocks) inner (here ∷ later) all_blocks) in
+    let whole : IsKnownWhole known here = record {
+      before = facts;
+      inside = inside;
+      stood = refl;
+      is_block = cut.0;
+      are_cut = cut.1.0;
+      standing = standing.0;
+      units = units_inside;
+      blocks = blocks_inside;
+    } in
+    subst (All (IsKnownWhole known)) (sym (blocks-block inside pieces facts))
+    (All-append (IsKnownWhole known) inner (here ∷ later) (whole-pieces known inside (with_entering facts) cut.1.0 standing.1.0 units_inside blocks_inside)
+    (All-cons (IsKnownWhole known) here later whole
+    (whole-pieces known pieces end cut.1.1 standing.1.1 (All-right (Contains known.declarations) own rest all_units) after)))
 
-pub whole-with : Walked → MoreTurns → (known : Known) (facts : List UnitFacts) (pieces : Pieces) → AreKnownWhole known → AreCut pieces → AreTold facts → AreHeld (facts_over facts (text_in pieces))
-    → AreKnownWhole (with_pieces known facts pieces)
-whole-with walked more known facts pieces whole cut told held =
+pub whole-with : (known : Known) (facts : List UnitFacts) (pieces : Pieces) → AreKnownWhole known → AreCut pieces → AreStandingOver facts pieces → AreKnownWhole (with_pieces known facts pieces)
+whole-with known facts pieces whole cut standing =
     let units : List DeclarationPlace = declarations_over facts (text_in pieces) in
     let blocks : List BlockPlace = blocks_over facts pieces in
     let all : Known = with_pieces known facts pieces in
     All-append (IsKnownWhole all) known.blocks blocks (All-weaker (IsKnownWhole known) (IsKnownWhole all) (λ block w. whole-more known units blocks block w) known.blocks whole)
-    (whole-pieces walked more all pieces facts cut told held
+    (whole-pieces all pieces facts cut standing
     (All-weaker (Contains units) (Contains all.declarations) (λ x h. Contains-append_right known.declarations units x h) units (All-contains_itself units))
     (All-weaker (Contains blocks) (Contains all.blocks) (λ x h. Contains-append_right known.blocks blocks x h) blocks (All-contains_itself blocks)))
 

@@ -101,3 +101,13 @@ blocks_over facts (Loose part pieces) = blocks_over (facts_over facts (part ∷ 
 blocks_over facts (Block inside pieces) =
     blocks_over (with_entering facts) inside
     ++ block_at facts inside ∷ blocks_over (facts_behind facts inside) pieces
+
+-- each block among pieces stands, behind facts
+abbrev pub AreStandingOver : List UnitFacts → Pieces → Type 0
+AreStandingOver facts Nothing = Unit {0}
+AreStandingOver facts (Loose part pieces) =
+    AreStandingOver (facts_over facts (part ∷ [])) pieces
+AreStandingOver facts (Block inside pieces) =
+    Stands facts (text_in inside)
+    × (AreStandingOver (with_entering facts) inside
+    × AreStandingOver (facts_behind facts inside) pieces)

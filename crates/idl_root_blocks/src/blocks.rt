@@ -17,7 +17,7 @@ ghost use Rattle.idl_memo.specs.Kept.{IsAlike};
 ghost use Rattle.idl_memo.specs.Query.{Agree};
 ghost use Rattle.idl_root_blocks.specs.Blocks.{AreCut, IsOfBlock, Pieces, parts_of, text_in};
 ghost use Rattle.idl_root_blocks.specs.Met.{block_text_eq};
-ghost use Rattle.idl_root_blocks.specs.Places.{BlockPlace, ComesTo, Stands, block_asks, block_at, block_query, block_result, blocks_over, declaration_result, declarations_over, facts_over, unit_ways, with_entering};
+ghost use Rattle.idl_root_blocks.specs.Places.{AreStandingOver, BlockPlace, ComesTo, Stands, block_asks, block_at, block_query, block_result, blocks_over, declaration_result, declarations_over, facts_over, unit_ways, with_entering};
 ghost use Rattle.idl_root_blocks.specs.declared.text.BlockPart.{BlockPart as Part};
 ghost use Rattle.idl_root_blocks.specs.declared.text.BlockPart.TheVariants.{Enters, Leaves};
 
@@ -65,7 +65,7 @@ pub fn taking()
 }
 
 /// The front of a block's text may stand in a block, too. What it adds stands behind facts that are told, where all is no more than
-/// memory holds; and where a block stands, so do the blocks inside.
+/// memory holds; and where a block stands, so do the blocks inside. So does each block among pieces where that holds of all of them.
 pub fn standing()
     ensures front { (front behind : List Part)
         → IsOfBlock (front ++ behind) → IsBlockFront (parts_of front) }
@@ -79,6 +79,11 @@ pub fn standing()
         let over = facts_over (with_entering before) front in
         IsOfBlock text → Stands before text
         → IsOfBlock inside → Stands over inside }
+    ensures pieces { (facts : List UnitFacts) (pieces : Pieces)
+        → let behind = facts_over facts (text_in pieces) in
+        AreCut pieces → AreTold facts
+        → turns_for behind ≤ most_turns → count_in (answers behind Nameless) < 2 ^ 64
+        → AreStandingOver facts pieces }
 {
     enough();
     walked();

@@ -6,12 +6,13 @@ ghost use Rattle.idl_event.specs.declared.told.event.Event.{Event};
 ghost use Rattle.idl_root.specs.AsBefore.{AreAsBefore, AreListsLeft, IsAsBefore, IsCompiledOf, IsMade, kept_lists};
 ghost use Rattle.idl_root.specs.Compile.{compile, findings_told, has_error, open_finding, rows_beside};
 ghost use Rattle.idl_root.specs.Held.{told_of};
-ghost use Rattle.idl_root.specs.Judged.{HasTurns};
 ghost use Rattle.idl_root.specs.Results.{ExpandsNone, IsKeptOf, root_marks};
+ghost use Rattle.idl_root.specs.Turns.{IsWithinWords};
 ghost use Rattle.idl_unit.specs.Units.{units_of};
 
 use crate::compiling::judging::{Ended, RootState};
 use crate::compiling::memory::Memory;
+use crate::compiling::passing::bound;
 use crate::compiling::printing::{Printed, print_all};
 use crate::kept::again::{Again, are_as_before};
 use crate::kept::comparing::compare;
@@ -96,7 +97,7 @@ pub fn compile(
     expansion: &Expansion,
 ) -> Result<Compiled, AllocError>
     ensures compiled { IfOk result (λ compiled. compiled ≡ compile end.now expansion.now) }
-    ensures turns { OnOk result (HasTurns (units_of expansion.now)) }
+    ensures within { OnOk result (IsWithinWords expansion.now) }
 {
     memory.clear();
     let alloc = memory.alloc();
@@ -104,7 +105,7 @@ pub fn compile(
     let findings = event_findings(alloc, expansion)?;
     let first = RootState::new(alloc, findings, units.as_slice().len())?;
     let judging = first.with_all(alloc, units.as_slice())?;
-    judging.env.bounds_turns();
+    bound(&judging.env);
     let printed = print_all(alloc, &judging.env, judging.gathered.listed.as_slice())?;
     told(alloc, end, expansion, judging.ended(memory, printed))
 }
@@ -123,7 +124,7 @@ pub fn compile_kept(
         × IfSome root.compiled (λ compiled. IsCompiledOf was compiled.now) }
     ensures compiled { IfOk result (λ r.
         r.compiled ≡ compile root.entry.end.now root.entry.expansion.now) }
-    ensures turns { OnOk result (HasTurns (units_of root.entry.expansion.now)) }
+    ensures within { OnOk result (IsWithinWords root.entry.expansion.now) }
     ensures marks { IfOk result (λ r. unwrap_or r.marks root.entry.marks.now
         ≡ root_marks root.entry.expansion.now) }
     ensures tasks { OnOk result ((was : List Event) → IsKeptOf was root.entry.marks.now
@@ -227,7 +228,7 @@ fn compile_anew(
         (kept_lists keeper.old root.at) }
     ensures compiled { IfOk result (λ r.
         r.compiled ≡ compile root.entry.end.now root.entry.expansion.now) }
-    ensures turns { OnOk result (HasTurns (units_of root.entry.expansion.now)) }
+    ensures within { OnOk result (IsWithinWords root.entry.expansion.now) }
     ensures marks { IfOk result (λ r. r.marks ≡ Some (root_marks root.entry.expansion.now)) }
     ensures made { OnOk result (IsMade root.entry.expansion.now root.entry.at
         keeper.old keeper.new meter.old meter.new) }
@@ -243,7 +244,7 @@ fn compile_anew(
     let mut keeping = Keeping::new(alloc, earlier, count, *meter)?;
     keeper.begin(root.at)?;
     let judging = first.with_all_kept(&mut keeping, &mut keeper.texts, units)?;
-    judging.env.bounds_turns();
+    bound(&judging.env);
     let (counted, keys) = (keeping.meter, keeping.keys);
     let before = keeper.entries.results(root.at);
     let (marks, reprinting) = keeping.ended(before, judging.gathered.listed.len());

@@ -12,12 +12,13 @@ ghost use Rattle.idl_root.specs.Details.{details, printed};
 ghost use Rattle.idl_root.specs.Judged.{HasTurns, facts_after, judged_after};
 ghost use Rattle.idl_root.specs.Named.{named_after};
 ghost use Rattle.idl_root.specs.NamePlaces.{declared_names};
-ghost use Rattle.idl_root.specs.Places.{declarations_after};
+ghost use Rattle.idl_root.specs.Places.{declarations_after, root_pieces};
 ghost use Rattle.idl_root_blocks.specs.Blocks.{parts_of};
-ghost use Rattle.idl_root_blocks.specs.Places.{declarations_over, facts_over, unit_ways};
+ghost use Rattle.idl_root_blocks.specs.Places.{AreStandingOver, declarations_over, facts_over, unit_ways};
 ghost use Rattle.idl_root_blocks.specs.Units.{text_of};
 ghost use Rattle.idl_unit.specs.declared.unit.Unit.{Unit as RootUnit};
 ghost use Rattle.idl_root.specs.Told.{IsTold};
+ghost use Rattle.idl_root.specs.Turns.{IsWithinWords};
 ghost use Rattle.idl_unit.specs.Units.{units_of};
 ghost use Rattle.std.specs.List.Sorted.{IsNonDecreasingBy};
 ghost use Rattle.idl_finding.specs.Findings.{finding_row, in_order};
@@ -26,6 +27,7 @@ ghost use Rattle.idl_finding.specs.declared.finding.EventFinding.{EventFinding};
 use idl_repo::details::printing;
 use idl_repo::listed_row;
 use idl_root_blocks::idl_check_laws::{acceptance, ahead, more_turns, names, numbering, refusal};
+use idl_root_blocks::{cutting, standing};
 
 /// What is found is told in the order of events: no finding names an event before that of an earlier one, and each event has
 /// the findings that it had, in their order. This does nothing: it carries the law.
@@ -106,3 +108,15 @@ pub fn texts()
     ensures declarations { (facts : List UnitFacts) (units : List RootUnit)
         → declarations_after facts units ≡ declarations_over facts (text_of units) }
 {}
+
+/// Each block of a root stands, as the laws of blocks (`taking`, `containing` of `idl_root_blocks`) suppose: what stands before it is
+/// told, and words count what its units add. This does nothing: it carries the law.
+pub fn blocks()
+    ensures { (events : List Event)
+        → IsWithinWords events → AreStandingOver [] (root_pieces events) }
+{
+    texts();
+    // They do nothing: they carry laws of pieces, and of blocks.
+    cutting();
+    standing();
+}

@@ -310,8 +310,8 @@ fn joining()
     more_turns();
 }
 
-// The law that all is no more than memory holds. It does nothing.
-fn bound(env: &Env)
+/// The law that all is no more than memory holds. It does nothing.
+pub fn bound(env: &Env)
     ensures turns { turns_for env.now ≤ most_turns }
     ensures count { count_in (answers env.now Nameless) < 2 ^ 64 }
 {

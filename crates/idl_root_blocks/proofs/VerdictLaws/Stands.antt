@@ -1,5 +1,5 @@
 -- The parts of a block that stand so ask enough.
-use Rattle.std.proofs.Common.{◌≡◌, ◌≢◌, ◌≤◌, ◌<◌, ◌^◌, ◌∙◌, ap, append-nil, ℕ, length, append_assoc, arith, List, [], ◌∷◌, ◌++◌, Option, Some, None, refl, sym, subst}
+use Rattle.std.proofs.Common.{◌≡◌, ◌≤◌, ◌<◌, ◌^◌, ◌∙◌, ap, append-nil, ℕ, append_assoc, arith, List, [], ◌∷◌, ◌++◌, Option, Some, None, refl, sym, subst}
 use Rattle.std.specs.Prelude.{All}
 use Rattle.std.proofs.lemmas.List.Elements.{All-nil}
 use Rattle.idl_block.specs.Behind.{laid}
@@ -19,6 +19,7 @@ use Rattle.idl_block.specs.facts.Written.{boundary, ways_of}
 use Rattle.idl_block.proofs.FactLaws.AnsweredLaws.{answered-behind}
 use Rattle.idl_block.proofs.FactLaws.BeneathLaws.{answers-append}
 use Rattle.idl_block.proofs.FactLaws.InsideLaws.{Goes, IsIn, in-more, inside-less, start-in, step-in}
+use Rattle.idl_block.proofs.FactLaws.OpenLaws.{facts-open}
 use Rattle.idl_block.proofs.FactLaws.WalkLaws.{IsSound, after-more, first-sound, over-block, sound-more}
 use Rattle.idl_memo.specs.Query.{asked, outcome}
 use Rattle.idl_unit.specs.declared.unit.UnitText.{UnitText}
@@ -53,7 +54,6 @@ first-held facts more held =
 -- facts behind which units stand
 record IsPlace (facts : List UnitFacts) : Type 0 where
   pub told : AreTold facts
-  pub some : scopes_in (answers facts Cursor) ≢ []
   pub held : AreHeld facts
 
 -- names over facts that are told
@@ -63,10 +63,6 @@ pub record AreNames (facts : List UnitFacts) : Type 0 where
   pub next : (scope : List (List ℕ)) → count_in (answers facts (Opened (nameless (count_in (answers facts Nameless)) ∷ scope))) ≡ 0
   pub blank : (n : List ℕ) (scope : List (List ℕ)) → entity_in (answers facts (Declared n (nameless (count_in (answers facts Nameless)) ∷ scope))) ≡ None
   pub deepest : NoneInside (scopes_in (answers facts Cursor)) (path_around (scopes_in (answers facts Cursor)))
-
-no-less : {A : Type 0} {n : ℕ} (xs : List A) → xs ≡ [] → n < length xs → ⊥
-no-less [] is lt = omega (arith, lt)
-no-less (x ∷ xs) is lt = cc
 
 module _ (before : List UnitFacts) (names : (facts : List UnitFacts) → AreTold facts → count_in (answers facts Nameless) < 2 ^ 64 → AreNames facts) (text_step : IsTextStep) (more : MoreTurns) where
   abbrev bank : Key → Option Answer
@@ -93,7 +89,7 @@ module _ (before : List UnitFacts) (names : (facts : List UnitFacts) → AreTold
     text-asks : (text : UnitText) → IsPlace facts → HasAsked (scopes_in (laid answered written bank Cursor)) (asked (unit_asks text) (laid answered written bank)) (unit_writes (outcome (unit_asks text) (laid answered written bank)))
     text-asks text place =
         subst (λ (b : Key → Option Answer). HasAsked (scopes_in (b Cursor)) (asked (unit_asks text) b) (unit_writes (outcome (unit_asks text) b))) is-asked
-        (unit-asks most_turns text (answers facts) (names facts place.told place.held.count).own place.some (names facts place.told place.held.count).deepest)
+        (unit-asks most_turns text (answers facts) (names facts place.told place.held.count).own (facts-open facts) (names facts place.told place.held.count).deepest)
 
     text-named : (text : UnitText) → IsPlace facts
         → let f = unit_writes (outcome (unit_asks text) (laid answered written bank)) in AreNamedAt (with_additions f.additions (here written)).answers f.step
@@ -111,13 +107,6 @@ module _ (before : List UnitFacts) (names : (facts : List UnitFacts) → AreTold
         subst (λ (v : Verdict). All (AreStops (answers facts)) v.writes.additions) (sym (said-alike more facts text place.held.turns)) (unit-stops facts place.told text) in
         subst (λ (b : Key → Option Answer). All (AreStops (here written).answers) (unit_writes (outcome (unit_asks text) b)).additions) is-asked
         (subst (λ (a : Key → Option Answer). All (AreStops a) (unit_writes (outcome (unit_asks text) (answers facts))).additions) is-here stops)
-
-    -- a scope is open there
-    open-here : (d : Depth) → IsIn d (here written) → scopes_in (answers facts Cursor) ≢ []
-    open-here d deep none =
-        let there : scopes_in ((here written).answers Cursor) ≡ [] = subst (λ (a : Key → Option Answer). scopes_in (a Cursor) ≡ []) is-here none in
-        let long : d.scopes < length (scopes_in ((here written).answers Cursor)) = deep.cursor in
-        no-less (scopes_in ((here written).answers Cursor)) there long
 
     -- what a part adds is told
     part-told : (part : Part UnitText Step) → IsOfFiles part → turns_for facts ≤ most_turns → AreTold facts → AreTold (before ++ (written ++ facts_at unit_asks unit_writes bank part written ∷ []))
@@ -207,7 +196,7 @@ module _ (before : List UnitFacts) (names : (facts : List UnitFacts) → AreTold
   stands-from d [] written sound deep told inside standing = tt
   stands-from d (part ∷ parts) written sound deep told inside standing =
       let here = standing sound in
-      by part (record { told = told; some = open-here written sound d deep; held = here.0 }) inside.0 (deepened d (part_step part)) refl inside.1
+      by part (record { told = told; held = here.0 }) inside.0 (deepened d (part_step part)) refl inside.1
       (λ next after deep within. stands-from next parts (written ++ facts_at unit_asks unit_writes bank part written ∷ []) after deep
       (part-told written sound part inside.0 here.0.turns told) within here.1)
     where
@@ -245,18 +234,18 @@ module _ (before : List UnitFacts) (names : (facts : List UnitFacts) → AreTold
   pub stands-enough : (parts : List (Part UnitText Step)) → IsBlockFront parts → AreStanding before (block_end bank parts).1 → AskEnough unit_asks unit_writes bank parts (boundary Enters ∷ [])
   stands-enough parts inside standing =
       let held : AreHeld (before ++ (block_end bank parts).1) = record { turns = standing.turns; count = standing.count } in
-      stands-from (record { scopes = 0; files = 0 }) parts (boundary Enters ∷ []) (first-sound bank) (start-in bank standing.some) (files-told before Enters tt standing.told) inside
+      stands-from (record { scopes = 0; files = 0 }) parts (boundary Enters ∷ []) (first-sound bank) (start-in bank (facts-open before)) (files-told before Enters tt standing.told) inside
       (are-places (block_end bank parts).1 held parts (boundary Enters ∷ []) refl)
 
   -- what it writes stands where its units add no more than memory holds
-  pub stands-walked : (parts : List (Part UnitText Step)) → IsBlockFront parts → AreTold before → scopes_in (bank Cursor) ≢ [] → AreHeld (walked parts (before ++ boundary Enters ∷ []))
+  pub stands-walked : (parts : List (Part UnitText Step)) → IsBlockFront parts → AreTold before → AreHeld (walked parts (before ++ boundary Enters ∷ []))
       → AreStanding before (block_end bank parts).1
-  stands-walked parts inside told some held =
+  stands-walked parts inside told held =
       let entered : List UnitFacts = boundary Enters ∷ [] in
       let enough : AskEnough unit_asks unit_writes bank parts entered =
-      stands-from (record { scopes = 0; files = 0 }) parts entered (first-sound bank) (start-in bank some) (files-told before Enters tt told) inside
+      stands-from (record { scopes = 0; files = 0 }) parts entered (first-sound bank) (start-in bank (facts-open before)) (files-told before Enters tt told) inside
       (walk-places (walked parts (before ++ entered)) held parts entered refl) in
       let same : walk ways answers parts (before ++ entered) ≡ ((block_end bank parts).0, before ++ (block_end bank parts).1) =
       walk-block ways answers before parts entered (over-block unit_asks unit_writes before parts enough) in
       let there : AreHeld (before ++ (block_end bank parts).1) = subst AreHeld (ap (λ (e : List Verdict × List UnitFacts). e.1) same) held in
-      record { told = told; some = some; turns = there.turns; count = there.count }
+      record { told = told; turns = there.turns; count = there.count }

@@ -1,20 +1,20 @@
 //! The laws of blocks of verdicts.
 
-ghost use Rattle.std.specs.Prelude.{◌≡◌, ◌≢◌, ◌≤◌, ◌<◌, ◌^◌, ◌∷◌, ◌++◌, [], List};
+ghost use Rattle.std.specs.Prelude.{◌≡◌, ◌≤◌, ◌<◌, ◌^◌, ◌∷◌, ◌++◌, [], List};
 ghost use Rattle.idl_block.specs.Blocks.{Part, walk};
 ghost use Rattle.idl_block.specs.Behind.{laid};
 ghost use Rattle.idl_block.specs.Questions.{AreNested, outer_asked};
 ghost use Rattle.idl_root_blocks.specs.verdicts.Standing.{AreStanding, IsBlockFront, block_end, unit_asks, unit_writes};
 ghost use Rattle.idl_check_laws.specs.Closing.{AreTold};
-ghost use Rattle.idl_env.specs.Facts.{UnitFacts, answers, count_in, scopes_in};
+ghost use Rattle.idl_env.specs.Facts.{UnitFacts, answers, count_in};
 ghost use Rattle.idl_env.specs.Turns.{most_turns, turns_for};
 ghost use Rattle.idl_env.specs.declared.additions.addition.Step.{Step};
 ghost use Rattle.idl_env.specs.declared.additions.addition.Step.TheVariants.{Enters};
-ghost use Rattle.idl_env.specs.declared.keys.key.Key.TheVariants.{Cursor, Nameless};
+ghost use Rattle.idl_env.specs.declared.keys.key.Key.TheVariants.{Nameless};
 ghost use Rattle.idl_block.specs.facts.Answered.{answered};
 ghost use Rattle.idl_block.specs.facts.Known.{AskEnough};
 ghost use Rattle.idl_block.specs.facts.Written.{boundary, ways_of};
-ghost use Rattle.idl_memo.specs.Query.{Agree, outcome};
+ghost use Rattle.idl_memo.specs.Query.{Agree};
 ghost use Rattle.idl_unit.specs.declared.unit.UnitText.{UnitText};
 
 use idl_block::facts::{FactUnits, agreeing};
@@ -54,7 +54,7 @@ pub fn walked()
     ensures { (before : List UnitFacts) (parts : List (Part UnitText Step))
         → let ways = ways_of unit_asks unit_writes in
         let facts = (walk ways answers parts (before ++ boundary Enters ∷ [])).1 in
-        IsBlockFront parts → AreTold before → scopes_in (answers before Cursor) ≢ []
+        IsBlockFront parts → AreTold before
         → turns_for facts ≤ most_turns → count_in (answers facts Nameless) < 2 ^ 64
         → AreStanding before (block_end (answers before) parts).1 }
 {

@@ -6,7 +6,7 @@ use Rattle.idl_event.specs.declared.told.event.Event.{Event}
 use Rattle.idl_prep.specs.Root.{absent_files}
 use Rattle.idl_root.specs.AsBefore.{IsAsBefore, IsMade}
 use Rattle.idl_root.specs.Compile.{compile}
-use Rattle.idl_root.specs.Turns.{IsWithinTurns}
+use Rattle.idl_root.specs.Turns.{IsWithinWords}
 use Rattle.idl_root.specs.Results.{root_marks}
 use Rattle.idl_project.specs.Compile.{end_of}
 use Rattle.idl_project.proofs.KeptLemmas.{IsDrafted-from, compile-kept, none-weaker}
@@ -21,10 +21,10 @@ returns-clause-compiled g c =
     let names : c.from_vec.result ≡ absent_files kept.log = c.from_vec.ensures ∙ c.in_ok-names.ensures in
     (λ i. record { rows = rows i; absent = names i }) ∙ compile-kept bank kept c.requires.over
 
-pub returns-clause-turns : goal.returns-clause-turns
-returns-clause-turns g c =
+pub returns-clause-within : goal.returns-clause-within
+returns-clause-within g c =
     let is = c.root_expansion.ensures ∙ ap (λ (p : List Event × List (RootKey × Option RootAnswer)). p.0) c.requires.over in
-    subst IsWithinTurns is c.in_ok-rows.ensures.turns
+    subst IsWithinWords is c.in_ok-rows.ensures.within
 
 pub returns-clause-marks : goal.returns-clause-marks
 returns-clause-marks g c =

@@ -13,7 +13,7 @@ use Rattle.idl_memo.proofs.QueryLaws.{outcome-agree}
 use Rattle.idl_memo.specs.Kept.{Kept}
 use Rattle.idl_memo.specs.Query.{noted_all}
 use Rattle.idl_root_blocks.proofs.Results.{asks-block}
-use Rattle.idl_root_blocks.proofs.Wholes.{each-passes, passing, pieces-block, pieces-loose, pieces-none, whole-with}
+use Rattle.idl_root_blocks.proofs.Wholes.{each-passes, passing, pieces-block, pieces-loose, pieces-none, stand-over, whole-with}
 use Rattle.idl_root_blocks.specs.Blocks.{parts_of, text_in}
 use Rattle.idl_root_blocks.specs.Met.{IsKnownWhole, alike_block, alike_unit, block_text_eq, unit_text_eq}
 use Rattle.idl_root_blocks.specs.Places.{BlockEnd, BlockPlace, DeclarationPlace, block_at, block_query, block_result, blocks_over, declaration_result, declarations_over, with_entering}
@@ -55,7 +55,7 @@ returns-clause-known c = λ known facts inside whole b cut standing is.
 
 pub returns-clause-pieces : goal.returns-clause-pieces
 returns-clause-pieces c = λ known facts pieces whole cut told turns count.
-    whole-with c.walked.ensures c.more_turns.ensures known facts pieces whole cut told (record { turns = turns; count = count })
+    whole-with known facts pieces whole cut (stand-over c.walked.ensures c.more_turns.ensures pieces facts cut told (record { turns = turns; count = count }))
 
 pub returns-clause-none : goal.returns-clause-none
 returns-clause-none c = pieces-none

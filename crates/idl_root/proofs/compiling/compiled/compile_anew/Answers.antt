@@ -2,8 +2,6 @@ use Rattle.std.proofs.Common.{◌≡◌, ◌≤◌, ◌∙◌, ◌++◌, List, S
 use Rattle.std.specs.Prelude.{IfSome, sum_by}
 use Rattle.idl_root_blocks.proofs.IdlCheckLaws.ToldLaws.{told-nothing}
 use Rattle.idl_root_blocks.specs.idl_check_laws.Closing.{AreTold}
-use Rattle.idl_env.specs.Facts.{UnitFacts}
-use Rattle.idl_env.specs.Turns.{most_turns, turns_for}
 use Rattle.idl_kept.specs.Texts.{Texts}
 use Rattle.idl_memo.specs.Meter.{compared_after, most_compared}
 use Rattle.idl_store.specs.Stored.{Stored, begun, grown, results_in}
@@ -18,6 +16,7 @@ use Rattle.idl_root.specs.Places.{entries_of, entries_over}
 use Rattle.idl_root.specs.Results.{EntryResult, HasDraft, IsEntryPass, PrintsOnly, entry_result, marks_of}
 use Rattle.idl_root.specs.declared.compiling.printing.Listed.{Listed as HeldListed}
 use Rattle.idl_root.proofs.CompileLemmas.{declarations-passed, entries-are, entries-drafted, entries-passed, expands-none, judged-all, printed-there, start-keeping, start-printed, start-there}
+use Rattle.idl_root.proofs.FactsTold.{within-words}
 use Rattle.idl_root.proofs.JudgingLemmas.{told-ended}
 use Rattle.idl_root.proofs.MadeLemmas.{begins-made, blocks-made, compared-made, declarations-made, keys-made}
 use Rattle.idl_root.proofs.StoredLemmas.{begun-results, has-begun}
@@ -73,13 +72,13 @@ returns-clause-compiled c =
     judged-all events c.args.units.now c.in_ok-findings.findings.items (held c.in_ok-first.first) judging c.requires.units c.in_ok-findings.ensures c.in_ok-first.ensures c.in_ok-judging.ensures.held in
     c.in_ok-compiled.ensures ∙ told-ended end events c.ended-ended.result judging c.ended-ended.ensures ∙ ap (told end events) all
 
-pub returns-clause-turns : goal.returns-clause-turns
-returns-clause-turns c =
+pub returns-clause-within : goal.returns-clause-within
+returns-clause-within c =
     let events = c.args.root.expansion.now in
     let judging = held c.in_ok-judging.judging in
     let all : judging ≡ outcome_of events =
     judged-all events c.args.units.now c.in_ok-findings.findings.items (held c.in_ok-first.first) judging c.requires.units c.in_ok-findings.ensures c.in_ok-first.ensures c.in_ok-judging.ensures.held in
-    subst (λ (fs : List UnitFacts). turns_for fs ≤ most_turns) (ap (λ (o : Outcome). o.facts) all) c.bounds_turns.ensures
+    within-words events judging.facts (ap (λ (o : Outcome). o.facts) all) c.bound.ensures.turns c.bound.ensures.count
 
 pub returns-clause-marks : goal.returns-clause-marks
 returns-clause-marks c =

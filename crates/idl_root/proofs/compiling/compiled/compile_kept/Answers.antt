@@ -6,14 +6,14 @@ use Rattle.idl_memo.specs.declared.meter.Meter.{Meter}
 use Rattle.idl_root.specs.AsBefore.{AreAsBefore}
 use Rattle.idl_root.specs.Compared.{root_keys}
 use Rattle.idl_root.specs.Results.{RootMarks}
-use Rattle.idl_root.proofs.AsBeforeLemmas.{declarations-again, entries-again, keys-again, pieces-again, turns-same}
+use Rattle.idl_root.proofs.AsBeforeLemmas.{declarations-again, entries-again, keys-again, pieces-again, within-same}
 use Rattle.idl_root.proofs.MadeLemmas.{compared-again}
 use Rattle.idl_root.proofs.TakenLemmas.{at-some, none-holds, none-weaker, some-there}
 use Rattle.idl_unit.specs.Units.{units_of}
 use Rattle.idl_root.proofs.compiling.compiled.compile_kept.Goals as goal
 
-pub returns-in-Some-clause-turns : goal.returns-in-Some-clause-turns
-returns-in-Some-clause-turns c =
+pub returns-in-Some-clause-within : goal.returns-in-Some-clause-within
+returns-in-Some-clause-within c =
     let was = c.requires.0 in
     let events = c.args.root.expansion.now in
     let same : AreAsBefore (units_of was) (units_of events) =
@@ -22,7 +22,7 @@ returns-in-Some-clause-turns c =
     let there =
     some-there c.args.root.compiled _
     (none-weaker c.args.root.compiled (λ h. let never : Some c.in-Some.compiled ≡ None = sym c.in-Some.is ∙ h in cc) c.in_ok-compiled.ensures.none) c.requires.2 in
-    turns-same (units_of was) (units_of events) same there.1.turns
+    within-same was events same there.1.within
 
 pub returns-in-Some-clause-marks : goal.returns-in-Some-clause-marks
 returns-in-Some-clause-marks c =
