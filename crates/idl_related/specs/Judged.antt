@@ -1,10 +1,13 @@
 -- How second places are gathered, unit by unit.
-use Rattle.std.specs.Prelude.{◌≡◌, List, All}
+use Rattle.std.specs.Prelude.{◌≡◌, ◌++◌, ℕ, true, List, All, map}
 use Rattle.idl_event.specs.declared.told.event.Event.{Event}
+use Rattle.idl_env.specs.Facts.{UnitFacts}
+use Rattle.idl_related.specs.Already.{names_after, pinned, told_by}
 use Rattle.idl_related.specs.Related.{AreOfFinding}
 use Rattle.idl_related.specs.declared.related.JudgedUnits.{JudgedUnits}
 use Rattle.idl_related.specs.declared.related.RelatedPlaces.{RelatedPlaces}
 use Rattle.idl_unit.specs.Units.{units_of}
+use Rattle.idl_unit.specs.declared.unit.Unit.{Unit as RootUnit}
 
 -- what is told of findings of the root
 abbrev pub AreTold : List Event → List RelatedPlaces → Type 0
@@ -14,3 +17,14 @@ AreTold events told = All (λ t. AreOfFinding events t.related) told
 pub record IsOfRoot (judged : JudgedUnits) : Type 0 where
   pub units : judged.known.units.now ≡ units_of judged.expansion.now
   pub told : AreTold judged.expansion.now judged.told.items
+
+-- behind a unit with this number, over these facts
+pub record IsBehind (old new : JudgedUnits) (facts : List UnitFacts) (number : ℕ) (unit : RootUnit)
+    : Type 0 where
+  pub expansion : new.expansion.now ≡ old.expansion.now
+  pub asks : new.asks_already ≡ old.asks_already
+  pub names : old.asks_already ≡ true → new.first ≡ names_after facts number unit old.first
+  pub told :
+      map pinned new.told.items
+      ≡ map pinned old.told.items
+      ++ told_by old.expansion.now facts old.first number unit

@@ -1,23 +1,30 @@
 //! The second places of all that is found in a root.
 
-ghost use Rattle.std.specs.Prelude.{◌≡◌, ◌≤◌, ◌+◌, IfOk, IfSome, List, OnOk, length, slice_get};
+ghost use Rattle.std.specs.Prelude.{◌≡◌, ◌≤◌, ◌+◌, ◌++◌, ◌∷◌, [], true, All, IfOk, IfSome, List, OnOk, drop, flat_map, length, map, option_to_list, reverse, slice_get};
 ghost use Rattle.idl_event.specs.declared.told.event.Event.{Event};
+ghost use Rattle.std.specs.List.{fold, list_any};
+ghost use Rattle.std.specs.List.Sorted.{IsNonDecreasingBy, IsPermutation};
 ghost use Rattle.std.specs.Option.{option_copied};
-ghost use Rattle.idl_related.specs.Related.{AreAtTokens, AreOfFinding, AreRelated, IsAtToken};
-ghost use Rattle.idl_related.specs.Judged.{AreTold, IsOfRoot};
-ghost use Rattle.idl_related.specs.Told.{AreFew};
+ghost use Rattle.idl_related.specs.Already.{AreToldOf, added, already, boundary, dealt, names_behind, names_over, pinned, related_at, seconds_at, told_after, told_for, verdict_over, with_name};
+ghost use Rattle.idl_related.specs.Related.{AreAtTokens, AreOfFinding, AreRelated, AskAlready, IsAtToken};
+ghost use Rattle.idl_related.specs.Judged.{AreTold, IsBehind, IsOfRoot};
+ghost use Rattle.idl_related.specs.Told.{AreFew, has_second, is_already};
 ghost use Rattle.idl_finding.specs.Findings.{site_of, tokens_of};
+ghost use Rattle.idl_finding.specs.declared.finding.Finding.{Finding as FoundFinding};
 ghost use Rattle.idl_unit.specs.Units.{units_of};
+ghost use Rattle.idl_unit.specs.declared.unit.Unit.TheVariants.{Spelled};
 
 use crate::about::About;
+use crate::already::{add_names, already_in, names_in, seconds_at};
 use crate::known::KnownUnits;
-use crate::second::{Reason, Related, Second};
+use crate::second::{Reason, Related, Second, TokenPosition};
 use idl_base::{Bytes, Seq};
 use idl_check::{Scratch, verdict_of};
-use idl_env::{Env, Facts, Step, Writes};
+use idl_env::{DigestedKey, Env, Facts, Step, Writes};
 use idl_event::{Expansion, Site};
 use idl_fault::Code;
 use idl_finding::{Finding, token_number};
+use idl_map::Table;
 use idl_memo::Journal;
 use idl_unit::{Fault, SiteRun, Unit, UnitText, split};
 use std::alloc::{AllocError, Global};
@@ -34,24 +41,23 @@ pub fn related_of(
     if let Some(none) = unrelated(alloc, findings)? {
         return Ok(none);
     }
-    let asks_uses = findings
-        .iter()
-        .any(|finding| finding.code == Code::DeclaredAfterUse);
-    let told = told_of(alloc, expansion, asks_uses)?;
+    let told = told_of(alloc, expansion, findings)?;
     matched(alloc, findings, told)
 }
 
-// What is told of the units of what a root expands to, from the last event to the first.
+// What is told of the units of what a root expands to, from the last event to the first, as these findings ask.
 fn told_of(
     alloc: Global,
     expansion: &Expansion,
-    asks_uses: bool,
+    findings: &[Finding],
 ) -> Result<Vec<RelatedPlaces>, AllocError>
-    ensures { IfOk result (λ told. AreTold expansion.now told.items) }
+    ensures told { IfOk result (λ told. AreTold expansion.now told.items) }
+    ensures already { IfOk result (λ told.
+        AskAlready findings.now → AreToldOf expansion.now (reverse told.items)) }
 {
     let units = split(alloc, expansion)?;
-    let mut all = JudgedUnits::new(alloc, expansion, units.as_slice(), asks_uses)?;
-    all.pass_all(units.as_slice())?;
+    let mut all = JudgedUnits::new(alloc, expansion, units.as_slice(), findings)?;
+    all.pass_all()?;
     all.told_backwards()
 }
 
@@ -63,15 +69,16 @@ pub fn unrelated(
     ensures { IfOk result (λ none. IfSome none (λ related.
         (events : List Event) → AreRelated events findings.now related)) }
 {
-    if findings.iter().any(|finding| has_second(finding.code)) {
+    if may_have_second(findings) {
         return Ok(None);
     }
     Ok(Some(matched(alloc, findings, Vec::new(alloc))?))
 }
 
-// The second places of what is found in a unit, and the event that it names.
+// The second places of what is found in a unit, the event that it names, and its code.
 struct RelatedPlaces {
     event: usize,
+    code: Code,
     related: Seq<Related>,
 }
 
@@ -79,6 +86,7 @@ impl Drop for RelatedPlaces {
     fn drop(self) {
         let RelatedPlaces {
             event: _event,
+            code: _code,
             related: _related,
         } = self;
     }
@@ -91,15 +99,17 @@ impl RelatedPlaces {
     {
         let RelatedPlaces {
             event: _event,
+            code: _code,
             related,
         } = self;
         related
     }
 }
 
-// A unit of tokens or of a pragma, with the environment before it.
+// A unit of tokens or of a pragma, by its number, with the environment before it.
 #[derive(Clone, Copy)]
 struct SpelledUnit<'a> {
+    number: usize,
     env: &'a Env,
     text: &'a UnitText,
     sites: &'a SiteRun,
@@ -109,6 +119,10 @@ struct SpelledUnit<'a> {
 struct JudgedUnits<'a> {
     expansion: &'a Expansion,
     known: KnownUnits<'a>,
+    /// Whether anything asks where names are declared first.
+    asks_already: bool,
+    /// The names that the units declare, each at its key with where it is declared first, if that is asked.
+    first: Table<DigestedKey, TokenPosition>,
     told: Vec<RelatedPlaces>,
 }
 
@@ -117,54 +131,81 @@ impl<'a> Drop for JudgedUnits<'a> {
         let JudgedUnits {
             expansion: _expansion,
             known: _known,
+            asks_already: _asks_already,
+            first: _first,
             told: _told,
         } = self;
     }
 }
 
 impl<'a> JudgedUnits<'a> {
+    // Before the first of these units, which are those of what a root expands to, as these findings ask.
     fn new(
         alloc: Global,
         expansion: &'a Expansion,
         units: &'a [Unit],
-        asks_uses: bool,
+        findings: &[Finding],
     ) -> Result<JudgedUnits<'a>, AllocError>
         requires { units.now ≡ units_of expansion.now }
-        ensures { IfOk result (λ judged. IsOfRoot judged × (judged.expansion.now ≡ expansion.now)) }
+        ensures root { IfOk result IsOfRoot }
+        ensures expansion { IfOk result (λ judged. judged.expansion.now ≡ expansion.now) }
+        ensures asks { IfOk result (λ judged.
+            judged.asks_already ≡ list_any (λ f. is_already f.code) findings.now) }
+        ensures empty { IfOk result (λ judged. (judged.first ≡ []) × (judged.told.items ≡ [])) }
     {
+        let asks_uses = findings
+            .iter()
+            .any(|finding| finding.code == Code::DeclaredAfterUse);
         let known = KnownUnits::new(alloc, units, asks_uses)?;
         Ok(JudgedUnits {
             expansion,
             known,
+            asks_already: ask_already(findings),
+            first: Table::new(alloc),
             told: Vec::new(alloc),
         })
     }
 
-    // Behind these units, which are the first.
-    fn pass_all(&mut self, units: &[Unit]) -> Result<(), AllocError>
+    // Behind all units, before the first of them.
+    fn pass_all(&mut self) -> Result<(), AllocError>
         requires { IsOfRoot self.old }
         ensures root { OnOk result (IsOfRoot self.new) }
         ensures expansion { OnOk result (self.new.expansion.now ≡ self.old.expansion.now) }
+        ensures told { OnOk result (self.old.asks_already ≡ true
+            → map pinned self.new.told.items
+            ≡ map pinned self.old.told.items
+            ++ told_after self.old.expansion.now [] self.old.first 0
+            (units_of self.old.expansion.now)) }
     {
         let mut env = Env::new(self.known.alloc)?;
         let mut scratch = Scratch::new(self.known.alloc);
-        'units: for unit in units {
-            env = self.pass(env, &mut scratch, unit)?;
+        let units = self.known.units;
+        'units: for number in 0..units.len() {
+            env = self.pass(env, &mut scratch, number, &units[number])?;
         }
         Ok(())
     }
 
-    // Behind the next unit: the environment with what it adds.
-    fn pass(&mut self, env: Env, scratch: &mut Scratch, unit: &Unit) -> Result<Env, AllocError>
+    // Behind the unit with a number, which is next: the environment with what it adds.
+    fn pass(
+        &mut self,
+        env: Env,
+        scratch: &mut Scratch,
+        number: usize,
+        unit: &Unit,
+    ) -> Result<Env, AllocError>
         requires { IsOfRoot self.old }
         ensures root { OnOk result (IsOfRoot self.new) }
-        ensures expansion { OnOk result (self.new.expansion.now ≡ self.old.expansion.now) }
+        ensures behind { OnOk result (IsBehind self.old self.new env number unit.now) }
+        ensures env { IfOk result (λ after. after ≡ env ++ added env unit.now) }
     {
-        let Some(writes) = self.writes(&env, scratch, unit)? else {
-            return Ok(env);
-        };
-        self.known.pass(&env, writes.get())?;
-        env.add_own(writes, &mut scratch.room)
+        match self.writes(&env, scratch, number, unit)? {
+            Some(writes) => {
+                self.known.pass(&env, writes.get())?;
+                env.add_own(writes, &mut scratch.room)
+            }
+            None => Ok(env),
+        }
     }
 
     // What a unit adds; the end of a root adds nothing.
@@ -172,16 +213,23 @@ impl<'a> JudgedUnits<'a> {
         &mut self,
         env: &Env,
         scratch: &mut Scratch,
+        number: usize,
         unit: &Unit,
     ) -> Result<Option<Writes>, AllocError>
         requires { IsOfRoot self.old }
         ensures root { OnOk result (IsOfRoot self.new) }
-        ensures expansion { OnOk result (self.new.expansion.now ≡ self.old.expansion.now) }
+        ensures behind { OnOk result (IsBehind self.old self.new env.now number unit.now) }
+        ensures writes { IfOk result (λ writes. option_to_list writes ≡ added env.now unit.now) }
     {
         match unit {
             Unit::Spelled(text, sites) => {
-                let writes = self.judge(scratch, SpelledUnit { env, text, sites })?;
-                Ok(Some(writes))
+                let unit = SpelledUnit {
+                    number,
+                    env,
+                    text,
+                    sites,
+                };
+                Ok(Some(self.judge(scratch, unit)?))
             }
             Unit::Entered(_file, _inside) => Ok(Some(boundary(env.alloc(), Step::Enters)?)),
             Unit::Left(_file, _inside) => Ok(Some(boundary(env.alloc(), Step::Leaves)?)),
@@ -189,18 +237,22 @@ impl<'a> JudgedUnits<'a> {
         }
     }
 
-    // What such a unit adds. What is found in it is told.
+    // What such a unit adds. What is found in it is told, or else it is taken up what it declares.
     fn judge(&mut self, scratch: &mut Scratch, unit: SpelledUnit<'_>) -> Result<Writes, AllocError>
         requires { IsOfRoot self.old }
         ensures root { OnOk result (IsOfRoot self.new) }
-        ensures expansion { OnOk result (self.new.expansion.now ≡ self.old.expansion.now) }
+        ensures behind { OnOk result
+            (IsBehind self.old self.new unit.entry.env.now unit.entry.number
+            (Spelled unit.entry.text.now unit.entry.sites.now)) }
+        ensures writes { IfOk result (λ writes.
+            writes ≡ (verdict_over unit.entry.env.now unit.entry.text.now).writes) }
     {
         let verdict = verdict_of(scratch, unit.env, &mut Journal::told(), unit.text)?;
         self.take(scratch, unit, verdict.fault)?;
         Ok(verdict.into_writes())
     }
 
-    // Takes up what is found in a unit, if anything is.
+    // Takes up what is found in a unit, or else what it declares.
     fn take(
         &mut self,
         scratch: &mut Scratch,
@@ -210,10 +262,58 @@ impl<'a> JudgedUnits<'a> {
         requires { IsOfRoot self.old }
         ensures root { OnOk result (IsOfRoot self.new) }
         ensures expansion { OnOk result (self.new.expansion.now ≡ self.old.expansion.now) }
+        ensures asks { OnOk result (self.new.asks_already ≡ self.old.asks_already) }
+        ensures names { OnOk result (self.old.asks_already ≡ true
+            → self.new.first
+            ≡ names_behind unit.entry.env.now unit.entry.number unit.entry.text.now fault
+            self.old.first) }
+        ensures told { OnOk result (map pinned self.new.told.items
+            ≡ map pinned self.old.told.items
+            ++ told_for self.old.expansion.now unit.entry.env.now self.old.first unit.entry.number
+            unit.entry.text.now unit.entry.sites.now fault) }
     {
-        let Some(fault) = fault else {
+        match fault {
+            Some(fault) => self.take_fault(scratch, unit, fault),
+            None => self.take_names(scratch, unit),
+        }
+    }
+
+    // Takes up the names that a unit without fault declares, if they are asked for.
+    fn take_names(&mut self, scratch: &mut Scratch, unit: SpelledUnit<'_>) -> Result<(), AllocError>
+        requires { IsOfRoot self.old }
+        ensures root { OnOk result (IsOfRoot self.new) }
+        ensures expansion { OnOk result (self.new.expansion.now ≡ self.old.expansion.now) }
+        ensures asks { OnOk result (self.new.asks_already ≡ self.old.asks_already) }
+        ensures told { OnOk result (self.new.told.items ≡ self.old.told.items) }
+        ensures names { OnOk result (self.old.asks_already ≡ true
+            → self.new.first
+            ≡ fold with_name self.old.first
+            (names_over unit.entry.env.now unit.entry.number unit.entry.text.now)) }
+    {
+        if !self.asks_already {
             return Ok(());
-        };
+        }
+        let names = names_in(scratch, unit.env, unit.number, unit.text)?;
+        add_names(&mut self.first, names.as_slice())
+    }
+
+    // Takes up the fault of a unit.
+    fn take_fault(
+        &mut self,
+        scratch: &mut Scratch,
+        unit: SpelledUnit<'_>,
+        fault: Fault,
+    ) -> Result<(), AllocError>
+        requires { IsOfRoot self.old }
+        ensures root { OnOk result (IsOfRoot self.new) }
+        ensures expansion { OnOk result (self.new.expansion.now ≡ self.old.expansion.now) }
+        ensures asks { OnOk result (self.new.asks_already ≡ self.old.asks_already) }
+        ensures first { OnOk result (self.new.first ≡ self.old.first) }
+        ensures told { OnOk result (map pinned self.new.told.items
+            ≡ map pinned self.old.told.items
+            ++ told_for self.old.expansion.now unit.entry.env.now self.old.first unit.entry.number
+            unit.entry.text.now unit.entry.sites.now (Some fault)) }
+    {
         self.tell(scratch, unit, fault)?;
         self.known.pass_faulty(unit.env, unit.text)
     }
@@ -228,21 +328,65 @@ impl<'a> JudgedUnits<'a> {
         requires { IsOfRoot self.old }
         ensures root { OnOk result (IsOfRoot self.new) }
         ensures expansion { OnOk result (self.new.expansion.now ≡ self.old.expansion.now) }
+        ensures asks { OnOk result (self.new.asks_already ≡ self.old.asks_already) }
+        ensures first { OnOk result (self.new.first ≡ self.old.first) }
+        ensures told { OnOk result (map pinned self.new.told.items
+            ≡ map pinned self.old.told.items
+            ++ told_for self.old.expansion.now unit.entry.env.now self.old.first unit.entry.number
+            unit.entry.text.now unit.entry.sites.now (Some fault)) }
     {
         if !has_second(fault.code) {
             return Ok(());
         }
-        let Some(site) = site_of(unit.text, unit.sites, fault.index)? else {
-            return Ok(());
-        };
+        match site_of(unit.text, unit.sites, fault.index)? {
+            Some(site) => {
+                let seconds = self.seconds(scratch, unit, fault)?;
+                self.tell_at(site.event, fault.code, seconds.as_slice())
+            }
+            None => Ok(()),
+        }
+    }
+
+    // The second places of the fault of a unit.
+    fn seconds(
+        &self,
+        scratch: &mut Scratch,
+        unit: SpelledUnit<'_>,
+        fault: Fault,
+    ) -> Result<Vec<Second>, AllocError>
+        ensures few { IfOk result (λ seconds. AreFew seconds.items) }
+        ensures already { IfOk result (λ seconds.
+            is_already fault.code ≡ true → seconds.items
+            ≡ seconds_at (already fault.index self.now.first []
+            (names_over unit.entry.env.now unit.entry.number unit.entry.text.now))) }
+    {
+        if is_already(fault.code) {
+            return self.already(scratch, unit, fault.index);
+        }
         let about = About {
             known: &self.known,
             env: unit.env,
             text: unit.text,
             fault,
         };
-        let seconds = about.seconds(scratch)?;
-        self.tell_at(site.event, fault.code, seconds.as_slice())
+        about.seconds(scratch)
+    }
+
+    // Where the name at a token of a unit is declared already.
+    fn already(
+        &self,
+        scratch: &mut Scratch,
+        unit: SpelledUnit<'_>,
+        token: usize,
+    ) -> Result<Vec<Second>, AllocError>
+        ensures { IfOk result (λ seconds. seconds.items
+            ≡ seconds_at (already token self.now.first []
+            (names_over unit.entry.env.now unit.entry.number unit.entry.text.now))) }
+    {
+        let alloc = unit.env.alloc();
+        let own = names_in(scratch, unit.env, unit.number, unit.text)?;
+        let spot = already_in(alloc, &self.first, own.as_slice(), token)?;
+        seconds_at(alloc, spot)
     }
 
     // Tells what is found of this code at an event, with these second places.
@@ -251,10 +395,23 @@ impl<'a> JudgedUnits<'a> {
         requires few { AreFew seconds.now }
         ensures root { OnOk result (IsOfRoot self.new) }
         ensures expansion { OnOk result (self.new.expansion.now ≡ self.old.expansion.now) }
+        ensures asks { OnOk result (self.new.asks_already ≡ self.old.asks_already) }
+        ensures first { OnOk result (self.new.first ≡ self.old.first) }
+        ensures told { OnOk result (self.new.told.items
+            ≡ self.old.told.items
+            ++ record {
+              event = event;
+              code = code;
+              related = flat_map (related_at self.old.expansion.now) seconds.now;
+            } ∷ []) }
     {
         let related = self.related(seconds)?;
         self.count(code, seconds);
-        self.told.push(RelatedPlaces { event, related })?;
+        self.told.push(RelatedPlaces {
+            event,
+            code,
+            related,
+        })?;
         Ok(())
     }
 
@@ -263,6 +420,8 @@ impl<'a> JudgedUnits<'a> {
         ensures units { self.new.known.units.now ≡ self.old.known.units.now }
         ensures told { self.new.told.items ≡ self.old.told.items }
         ensures expansion { self.new.expansion.now ≡ self.old.expansion.now }
+        ensures asks { self.new.asks_already ≡ self.old.asks_already }
+        ensures first { self.new.first ≡ self.old.first }
     {
         if code == Code::NameNotFound && !are_faulty(seconds) {
             self.known.count_unknown();
@@ -273,7 +432,9 @@ impl<'a> JudgedUnits<'a> {
     fn related(&self, seconds: &[Second]) -> Result<Seq<Related>, AllocError>
         requires root { IsOfRoot self.now }
         requires few { AreFew seconds.now }
-        ensures { IfOk result (AreOfFinding self.now.expansion.now) }
+        ensures finding { IfOk result (AreOfFinding self.now.expansion.now) }
+        ensures places { IfOk result (λ related.
+            related ≡ flat_map (related_at self.now.expansion.now) seconds.now) }
     {
         let mut related = Vec::new(self.known.alloc);
         'seconds: for second in seconds {
@@ -288,6 +449,8 @@ impl<'a> JudgedUnits<'a> {
         requires related { AreAtTokens self.now.expansion.now related.old.items }
         ensures tokens { OnOk result (AreAtTokens self.now.expansion.now related.new.items) }
         ensures count { OnOk result (length related.new.items ≤ length related.old.items + 1) }
+        ensures place { OnOk result (related.new.items
+            ≡ related.old.items ++ related_at self.now.expansion.now second.now) }
     {
         match self.place(second)? {
             Some(place) => {
@@ -301,8 +464,10 @@ impl<'a> JudgedUnits<'a> {
     // This place, looked up.
     fn place(&self, second: &Second) -> Result<Option<Related>, AllocError>
         requires { IsOfRoot self.now }
-        ensures { let events = self.now.expansion.now in
+        ensures token { let events = self.now.expansion.now in
             IfOk result (λ place. IfSome place (IsAtToken events (units_of events))) }
+        ensures place { IfOk result (λ place.
+            option_to_list place ≡ related_at self.now.expansion.now second.now) }
     {
         let Some(Unit::Spelled(text, sites)) = self.known.units.get(second.spot.unit) else {
             return Ok(None);
@@ -326,14 +491,21 @@ impl<'a> JudgedUnits<'a> {
     // All that is told, from the last event to the first.
     fn told_backwards(self) -> Result<Vec<RelatedPlaces>, AllocError>
         requires { IsOfRoot self }
-        ensures { IfOk result (λ told. AreTold self.entry.expansion.now told.items) }
+        ensures told { IfOk result (λ told. AreTold self.entry.expansion.now told.items) }
+        ensures permutation { IfOk result (λ told.
+            IsPermutation self.entry.told.items (reverse told.items)) }
+        ensures ordered { IfOk result (λ told.
+            IsNonDecreasingBy (λ t. t.event) (reverse told.items)) }
     {
         let JudgedUnits {
             expansion: _expansion,
             known: _known,
+            asks_already: _asks_already,
+            first: _first,
             mut told,
         } = self;
-        told.sort_by(|one, other| other.event.cmp(&one.event))?;
+        told.sort_by_key(|places| places.event)?;
+        told.reverse();
         Ok(told)
     }
 }
@@ -347,7 +519,9 @@ fn are_faulty(seconds: &[Second]) -> bool {
 }
 
 // What a file boundary adds.
-fn boundary(alloc: Global, step: Step) -> Result<Writes, AllocError> {
+fn boundary(alloc: Global, step: Step) -> Result<Writes, AllocError>
+    ensures { IfOk result (λ writes. writes ≡ boundary step) }
+{
     let mut facts = Facts::new(alloc);
     facts.then(step);
     Writes::new(alloc, facts)
@@ -374,7 +548,9 @@ fn token_of(text: &UnitText, index: usize) -> Option<&[u8]>
 }
 
 // Whether what is found of this code may have second places. It is found in units alone.
-fn has_second(code: Code) -> bool {
+fn has_second(code: Code) -> bool
+    ensures { result ≡ has_second code }
+{
     match code {
         Code::NameNotFound
         | Code::AmbiguousName
@@ -402,15 +578,41 @@ fn has_second(code: Code) -> bool {
     }
 }
 
+// Whether any of these findings may have second places.
+fn may_have_second(findings: &[Finding]) -> bool
+    ensures { result ≡ list_any (λ f. has_second f.code) findings.now }
+{
+    findings.iter().any(|finding| has_second(finding.code))
+}
+
+// Whether of any of them a name is declared already.
+fn ask_already(findings: &[Finding]) -> bool
+    ensures { result ≡ list_any (λ f. is_already f.code) findings.now }
+{
+    findings.iter().any(|finding| is_already(finding.code))
+}
+
+// Whether a name is declared that is declared already.
+fn is_already(code: Code) -> bool
+    ensures { result ≡ is_already code }
+{
+    match code {
+        Code::AlreadyDeclared => true,
+        _ => false,
+    }
+}
+
 // For each finding, in order, what is told of it: of those that may have second places one after another, from the last on.
 fn matched(
     alloc: Global,
     findings: &[Finding],
     mut told: Vec<RelatedPlaces>,
 ) -> Result<Seq<Seq<Related>>, AllocError>
-    ensures { IfOk result (λ related.
+    ensures lists { IfOk result (λ related.
         (events : List Event) → AreTold events told.items
-        → AreRelated events findings.now related) }
+        → (length related ≡ length findings.now) × All (AreOfFinding events) related) }
+    ensures dealt { IfOk result (λ related.
+        related ≡ dealt findings.now (reverse told.items)) }
 {
     let mut all = Vec::with_capacity(alloc, findings.len())?;
     'findings: for finding in findings {
@@ -426,6 +628,9 @@ fn next_of(alloc: Global, code: Code, told: &mut Vec<RelatedPlaces>) -> Seq<Rela
         → AreOfFinding events result }
     ensures left { (events : List Event) → AreTold events told.old.items
         → AreTold events told.new.items }
+    ensures dealt { (f : FoundFinding) (findings : List FoundFinding) → f.code ≡ code
+        → dealt (f ∷ findings) (reverse told.old.items)
+        ≡ result ∷ dealt findings (reverse told.new.items) }
 {
     if !has_second(code) {
         return Seq::new(alloc);

@@ -1,7 +1,16 @@
-use Rattle.std.proofs.Common.{◌≡◌}
+use Rattle.std.proofs.Common.{◌≡◌, ◌++◌, [], true, drop, map}
+use Rattle.idl_related.specs.Already.{pinned, told_after}
 use Rattle.idl_related.specs.Judged.{IsOfRoot}
 use Rattle.idl_related.proofs.related.JudgedUnits.pass_all.Given as goal
 
--- what was told of the units before
+-- what was told of the units before, and what is told of those from here on
 abbrev pub invariant-units : goal.invariant-units
-invariant-units l = IsOfRoot l.self × (l.self.expansion.now ≡ l.fn.self.expansion.now)
+invariant-units l = record {
+  root : IsOfRoot l.self;
+  expansion : l.self.expansion.now ≡ l.fn.self.expansion.now;
+  asks : l.self.asks_already ≡ l.fn.self.asks_already;
+  told :
+      l.fn.self.asks_already ≡ true
+      → map pinned l.self.told.items ++ told_after l.fn.self.expansion.now l.env l.self.first l.number (drop l.number l.units)
+      ≡ map pinned l.fn.self.told.items ++ told_after l.fn.self.expansion.now [] l.fn.self.first 0 l.units;
+}

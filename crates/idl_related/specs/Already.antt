@@ -1,0 +1,187 @@
+-- Second places of a name that is declared already: where a name is declared first at its key.
+use Rattle.std.specs.Prelude.{◌≡◌, ℕ, ◌+◌, List, [], ◌∷◌, ◌++◌, drop, flat_map, is_some, map, nat_eq, option_to_list, slice_get, Option, None, Some, if◌then◌else◌}
+use Rattle.std.specs.List.{fold}
+use Rattle.std.specs.List.Sorted.{IsNonDecreasingBy, IsPermutation}
+use Rattle.std.specs.Map.{lookup}
+use Rattle.std.specs.Option.{option_or}
+use Rattle.idl_check.specs.walk.Names.{unit_names}
+use Rattle.idl_check.specs.walk.Verdict.{verdict}
+use Rattle.idl_check.specs.declared.walk.names.NamedSite.{NamedSite}
+use Rattle.idl_check.specs.declared.walk.names.NameRole.TheVariants.{Declared, Used}
+use Rattle.idl_check.specs.declared.walk.verdict.Verdict.{Verdict}
+use Rattle.idl_env.specs.Facts.{UnitFacts, answers, entity_key}
+use Rattle.idl_env.specs.Turns.{most_turns}
+use Rattle.idl_env.specs.keys.Key.{key_eq}
+use Rattle.idl_env.specs.declared.additions.addition.Step.{Step}
+use Rattle.idl_env.specs.declared.additions.addition.Step.TheVariants.{Enters, Leaves}
+use Rattle.idl_env.specs.declared.keys.key.Key.{Key}
+use Rattle.idl_event.specs.Apart.{place_in}
+use Rattle.idl_event.specs.declared.told.event.Event.{Event}
+use Rattle.idl_event.specs.declared.told.site.Site.{Site}
+use Rattle.idl_finding.specs.Findings.{site_of, tokens_of}
+use Rattle.idl_finding.specs.Number.{token_number}
+use Rattle.idl_finding.specs.declared.finding.Finding.{Finding}
+use Rattle.idl_memo.specs.Query.{outcome}
+use Rattle.idl_related.specs.Told.{has_second, is_already}
+use Rattle.idl_related.specs.declared.related.RelatedPlaces.{RelatedPlaces}
+use Rattle.idl_related.specs.declared.second.Reason.TheVariants as reason
+use Rattle.idl_related.specs.declared.second.Related.{Related}
+use Rattle.idl_related.specs.declared.second.Second.{Second}
+use Rattle.idl_related.specs.declared.second.TokenPosition.{TokenPosition}
+use Rattle.idl_unit.specs.TokenRules.{first}
+use Rattle.idl_unit.specs.Units.{units_of}
+use Rattle.idl_unit.specs.declared.fault.Fault.{Fault}
+use Rattle.idl_unit.specs.declared.unit.Unit.{Unit as RootUnit}
+use Rattle.idl_unit.specs.declared.unit.Unit.TheVariants.{Spelled, Entered, Left, End}
+use Rattle.idl_unit.specs.declared.unit.UnitText.{UnitText}
+
+-- ---- the units of a root, each over what those before it add
+
+abbrev pub verdict_over : List UnitFacts → UnitText → Verdict
+verdict_over facts text = outcome (verdict most_turns text) (answers facts)
+
+abbrev pub boundary : Step → UnitFacts
+boundary step = record { additions = []; step = step }
+
+-- what a unit adds
+abbrev pub added : List UnitFacts → RootUnit → List UnitFacts
+added facts (Spelled text sites) = (verdict_over facts text).writes ∷ []
+added facts (Entered file inside) = boundary Enters ∷ []
+added facts (Left file inside) = boundary Leaves ∷ []
+added facts End = []
+
+-- ---- the names that they declare
+
+-- names at the keys by which they are asked, and where they stand
+abbrev pub Names : Type 0
+Names = List (Key × TokenPosition)
+
+-- a name of the unit with this number, if it declares
+abbrev pub declared_at : ℕ → NamedSite → Names
+declared_at number n =
+    elim n.role [
+      | Declared ↦ (entity_key n.path, record { unit = number; token = n.index }) ∷ []
+      | Used ↦ []
+    ]
+
+-- those of a text over facts, up to its fault where it has one
+abbrev pub names_over : List UnitFacts → ℕ → UnitText → Names
+names_over facts number text =
+    flat_map (declared_at number) (unit_names most_turns (answers facts) text)
+
+-- with one more, if none is at its key: each stands where it is declared first
+abbrev pub with_name : Names → Key × TokenPosition → Names
+with_name names n = if is_some (lookup (key_eq n.0) names) then names else names ++ n ∷ []
+
+-- behind a text with this fault; a faulty one declares nothing
+abbrev pub names_behind : List UnitFacts → ℕ → UnitText → Option Fault → Names → Names
+names_behind facts number text None names =
+    fold with_name names (names_over facts number text)
+names_behind facts number text (Some fault) names = names
+
+abbrev pub names_after : List UnitFacts → ℕ → RootUnit → Names → Names
+names_after facts number (Spelled text sites) names =
+    names_behind facts number text (verdict_over facts text).fault names
+names_after facts number other names = names
+
+-- Where the name at a token is declared already: by one of these names of the units before, or else
+-- by one of those of its own unit before it.
+abbrev pub already : ℕ → Names → Names → Names → Option TokenPosition
+already token names before [] = None
+already token names before (n ∷ own) =
+    if nat_eq n.1.token token
+    then option_or (lookup (key_eq n.0) names) (lookup (key_eq n.0) before)
+    else already token names (with_name before n) own
+
+-- the second place there
+abbrev pub seconds_at : Option TokenPosition → List Second
+seconds_at spot =
+    map (λ s. record { reason = reason.Declared; spot = s; more = 0 }) (option_to_list spot)
+
+-- ---- and what is told of their faults
+
+-- a second place as it is told: of a token that stands somewhere
+abbrev pub related_with : List Event → Second → Option Site → Option (List ℕ)
+    → List Related
+related_with events s (Some site) (Some token) = record {
+  reason = s.reason;
+  place = place_in site;
+  number = token_number events site.event;
+  text = token;
+  more = s.more;
+} ∷ []
+related_with events s site token = []
+
+abbrev pub related_in : List Event → Second → Option RootUnit → List Related
+related_in events s (Some (Spelled text sites)) =
+    related_with events s (site_of text sites s.spot.token)
+    (slice_get (tokens_of text) s.spot.token)
+related_in events s other = []
+
+abbrev pub related_at : List Event → Second → List Related
+related_at events s = related_in events s (slice_get (units_of events) s.spot.unit)
+
+-- what is told of a fault that names an event, where a name at it is declared already there
+abbrev pub told_at : List Event → Fault → Option TokenPosition → Option Site → List RelatedPlaces
+told_at events fault spot None = []
+told_at events fault spot (Some site) = record {
+  event = site.event;
+  code = fault.code;
+  related =
+      if is_already fault.code then flat_map (related_at events) (seconds_at spot) else [];
+} ∷ []
+
+-- what is told of a text behind these names, if it has a fault that may have second places
+abbrev pub told_for : List Event → List UnitFacts → Names → ℕ → UnitText → List Site
+    → Option Fault → List RelatedPlaces
+told_for events facts names number text sites None = []
+told_for events facts names number text sites (Some fault) =
+    if has_second fault.code
+    then told_at events fault (already fault.index names [] (names_over facts number text))
+    (site_of text sites fault.index)
+    else []
+
+abbrev pub told_by : List Event → List UnitFacts → Names → ℕ → RootUnit → List RelatedPlaces
+told_by events facts names number (Spelled text sites) =
+    told_for events facts names number text sites (verdict_over facts text).fault
+told_by events facts names number other = []
+
+-- of units from this number on, in order
+abbrev pub told_after : List Event → List UnitFacts → Names → ℕ → List RootUnit
+    → List RelatedPlaces
+told_after events facts names number [] = []
+told_after events facts names number (u ∷ units) =
+    told_by events facts names number u
+    ++ told_after events (facts ++ added facts u) (names_after facts number u names)
+    (number + 1) units
+
+-- what is told, without the second places of other codes
+abbrev pub pinned : RelatedPlaces → RelatedPlaces
+pinned t = if is_already t.code then t else record t { related = [] }
+
+-- what is told of a root's faults, in the order of the events that they name
+pub record AreToldOf (events : List Event) (told : List RelatedPlaces) : Type 0 where
+  pub are : IsPermutation (told_after events [] [] 0 (units_of events)) (map pinned told)
+  pub ordered : IsNonDecreasingBy (λ (t : RelatedPlaces). t.event) told
+
+-- ---- and of findings
+
+abbrev pub places_told : Option RelatedPlaces → List Related
+places_told None = []
+places_told (Some t) = t.related
+
+-- the findings that may have second places have what is told, one after another
+abbrev pub dealt : List Finding → List RelatedPlaces → List (List Related)
+dealt [] told = []
+dealt (f ∷ findings) told =
+    if has_second f.code
+    then places_told (first told) ∷ dealt findings (drop 1 told)
+    else [] ∷ dealt findings told
+
+-- these findings have what is told of the root's faults: a name that is declared already has the
+-- place where it is declared first
+pub record AreDealt (events : List Event) (findings : List Finding) (related : List (List Related))
+    : Type 0 where
+  pub told : List RelatedPlaces
+  pub are : AreToldOf events told
+  pub dealt : related ≡ dealt findings told
