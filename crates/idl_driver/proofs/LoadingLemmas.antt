@@ -7,9 +7,9 @@ use Rattle.std.specs.FinMap as finite
 use Rattle.std.specs.FinMap.{get-empty, get-insert}
 use Rattle.std.specs.Ordering.{eq_by_cmp, nat_cmp}
 use Rattle.idl_source.specs.texts.Texts.{Texts}
-use Rattle.idl_project.specs.Compile.{compiled_root}
+use Rattle.idl_sources.specs.Compile.{compiled_root}
 use Rattle.idl_inputs.specs.Project.{Inputs}
-use Rattle.idl_project.specs.declared.compile.CompiledRoot.{CompiledRoot}
+use Rattle.idl_sources.specs.declared.compile.CompiledRoot.{CompiledRoot}
 use Rattle.idl_loader.specs.Holding.{Allows, Holding, NoFile}
 use Rattle.idl_driver.specs.Loading.{AreComplete, AreLoaded}
 use Rattle.idl_loader.specs.Holding.{IsFileOf}

@@ -1,6 +1,6 @@
 -- The files that options ask for, compiled.
 use Rattle.std.specs.Prelude.{◌≡◌, ℕ, List, map}
-use Rattle.idl_project.specs.Compile.{compiled_root}
+use Rattle.idl_sources.specs.Compile.{compiled_root}
 use Rattle.idl_inputs.specs.Made.{rootless}
 use Rattle.idl_inputs.specs.WellFormed.{IsWellFormed}
 use Rattle.idl_loader.specs.Holding.{Holding}

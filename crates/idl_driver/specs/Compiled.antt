@@ -2,7 +2,7 @@
 use Rattle.std.specs.Prelude.{ℕ, Bool, List}
 use Rattle.std.specs.List.{flat_map, list_any}
 use Rattle.idl_loader.specs.Lines.{whole_line}
-use Rattle.idl_project.specs.Compile.{compiled_root}
+use Rattle.idl_sources.specs.Compile.{compiled_root}
 use Rattle.idl_inputs.specs.Project.{Inputs}
 
 -- what a root is told of

@@ -8,4 +8,4 @@ pub mod Rows
 pub mod Tried
 pub mod Words
 pub mod Written
-pub use Rattle.idl_project.specs as idl_project
+pub use Rattle.idl_sources.specs as idl_sources

@@ -3,11 +3,11 @@ use Rattle.std.specs.Prelude.{◌≡◌, ℕ, List, All, Some, map}
 use Rattle.std.specs.FinMap as finite
 use Rattle.idl_source.specs.texts.Cut.{cut_lines}
 use Rattle.idl_source.specs.texts.Texts.{Texts}
-use Rattle.idl_project.specs.Compile.{compiled_root}
+use Rattle.idl_sources.specs.Compile.{compiled_root}
 use Rattle.idl_inputs.specs.Made.{rootless}
 use Rattle.idl_inputs.specs.Project.{Inputs}
 use Rattle.idl_inputs.specs.WellFormed.{IsWellFormed}
-use Rattle.idl_project.specs.declared.compile.CompiledRoot.{CompiledRoot}
+use Rattle.idl_sources.specs.declared.compile.CompiledRoot.{CompiledRoot}
 use Rattle.idl_loader.specs.Holding.{Holding, NoFile, Allows, IsFileOf}
 
 -- each file is one that the loader has

@@ -2,7 +2,7 @@
 use Rattle.std.specs.Prelude.{ℕ, Bool, List}
 use Rattle.std.specs.List.{flat_map, list_any}
 use Rattle.idl_loader.specs.Lines.{whole_line}
-use Rattle.idl_project.specs.declared.compile.CompiledRoot.{CompiledRoot}
+use Rattle.idl_sources.specs.declared.compile.CompiledRoot.{CompiledRoot}
 
 -- rows of roots, each on a line of its own
 abbrev pub lines_with : (CompiledRoot → List (List ℕ)) → List CompiledRoot → List ℕ

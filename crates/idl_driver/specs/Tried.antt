@@ -1,7 +1,7 @@
 -- Names that were tried: files that were loaded, and names that are missing.
 use Rattle.std.specs.Prelude.{◌≡◌, ℕ, List, All, Contains}
 use Rattle.idl_inputs.specs.Project.{Inputs}
-use Rattle.idl_project.specs.declared.compile.CompiledRoot.{CompiledRoot}
+use Rattle.idl_sources.specs.declared.compile.CompiledRoot.{CompiledRoot}
 use Rattle.idl_loader.specs.Holding.{Holding, NoFile, Allows}
 use Rattle.idl_driver.specs.Loading.{AreLoaded, StaysAsked}
 use Rattle.idl_driver.specs.declared.loading.Loading.{Loading}

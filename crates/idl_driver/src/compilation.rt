@@ -8,8 +8,8 @@ use crate::loading::compile_all;
 use crate::options::Options;
 use crate::preparing::prepared;
 use idl_loader::Loader;
-use idl_project::{CompiledRoot, Sources};
 use idl_source::Name;
+use idl_sources::{CompiledRoot, Sources};
 use indexmap::IndexSet;
 use std::alloc::Global;
 

@@ -21,6 +21,6 @@ pub use devices::Devices;
 pub use failure::{FailureSubject, ProgramFailure, tell_of};
 pub use idl_loader;
 pub use idl_loader::Status;
-pub use idl_project;
+pub use idl_sources;
 pub use options::{Options, options_of, values_of, with_options};
 pub use words::{ParsedWords, WordsFault, parse_words};

@@ -3,15 +3,15 @@
 ghost use Rattle.std.specs.Prelude.{◌≡◌, ◌++◌, ◌∷◌, [], All, Contains, IfNone, IfOk, OnOk, map};
 ghost use Rattle.std.specs.FinMap as finite;
 ghost use Rattle.idl_source.specs.texts.Cut.{cut_lines};
-ghost use Rattle.idl_project.specs.Compile.{compiled_root};
+ghost use Rattle.idl_sources.specs.Compile.{compiled_root};
 ghost use Rattle.idl_driver.specs.Loading.{AreCompiled};
 ghost use Rattle.idl_driver.specs.Tried.{AreMissing, IsLoading};
 
 use crate::failure::CompileFault;
 use idl_loader::{Loaded, Loader};
 use idl_prep::{Explorer, FileWalk, MAX_DEPTH, OpenFile, Waypoint};
-use idl_project::{CompiledRoot, Sources};
 use idl_source::{Name, Refusal, cut};
+use idl_sources::{CompiledRoot, Sources};
 use indexmap::IndexSet;
 use std::alloc::AllocError;
 

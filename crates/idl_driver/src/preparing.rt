@@ -6,9 +6,10 @@ ghost use Rattle.idl_driver.specs.Options.{AreAsked, before_equals, defined_by, 
 
 use crate::failure::OptionsFault;
 use crate::options::Options;
-use idl_project::{MAX_ROOTS, Sources};
+use idl_inputs::MAX_ROOTS;
 use idl_source::path::directory_at;
 use idl_source::{Directory, Line, Name, Refusal, first_part, join};
+use idl_sources::Sources;
 use indexmap::IndexSet;
 use std::alloc::{AllocError, Global};
 

@@ -4,9 +4,9 @@ use Rattle.std.proofs.lemmas.List.Folds.{flat_map-map}
 use Rattle.std.specs.List.{flat_map}
 use Rattle.clap.proofs.WalkLemmas.{list_any-map}
 use Rattle.idl_source.specs.devices.Device.{append}
-use Rattle.idl_session.specs.idl_project.Compile.{compiled_root}
+use Rattle.idl_session.specs.idl_project.idl_sources.Compile.{compiled_root}
 use Rattle.idl_inputs.specs.Project.{Inputs}
-use Rattle.idl_session.specs.idl_project.declared.compile.CompiledRoot.{CompiledRoot}
+use Rattle.idl_session.specs.idl_project.idl_sources.declared.compile.CompiledRoot.{CompiledRoot}
 use Rattle.idl_loader.specs.Lines.{whole_line}
 use Rattle.idl_loader.specs.declared.status.Status.{Status}
 use Rattle.idl_loader.specs.declared.status.Status.TheVariants.{Sound, Faulty}

@@ -1,7 +1,7 @@
 -- What goes out of compiled roots.
 use Rattle.std.specs.Prelude.{◌≡◌, ◌++◌, ℕ, List, [], if◌then◌else◌}
 use Rattle.idl_source.specs.devices.Device.{append}
-use Rattle.idl_session.specs.idl_project.declared.compile.CompiledRoot.{CompiledRoot}
+use Rattle.idl_session.specs.idl_project.idl_sources.declared.compile.CompiledRoot.{CompiledRoot}
 use Rattle.idl_loader.specs.declared.status.Status.{Status}
 use Rattle.idl_loader.specs.declared.status.Status.TheVariants.{Sound, Faulty}
 use Rattle.idl_driver.specs.Rows.{are_faulty, lines_with}

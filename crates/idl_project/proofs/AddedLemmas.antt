@@ -11,16 +11,16 @@ use Rattle.idl_event.specs.Key.{key_eq}
 use Rattle.idl_event.specs.declared.told.event.Event.{Event}
 use Rattle.idl_event.specs.declared.asked.key.RootAnswer.{RootAnswer}
 use Rattle.idl_event.specs.declared.asked.key.RootKey.{RootKey}
-use Rattle.idl_root.specs.idl_kept.Texts.{Texts}
+use Rattle.idl_sources.specs.idl_root.idl_kept.Texts.{Texts}
 use Rattle.idl_memo.specs.Fresh.{asked_among, places_over}
 use Rattle.idl_memo.specs.Meter.{compared_after}
 use Rattle.idl_prep.specs.Root.{expanded, expansion}
-use Rattle.idl_root.specs.Compared.{AreOf, AreSamePlaces, compared_root, shared_entries, shared_entry}
-use Rattle.idl_root.specs.Places.{EntryPlace}
-use Rattle.idl_root.specs.Results.{entry_result}
-use Rattle.idl_root.specs.declared.kept.keeper.Keeper.{Keeper}
-use Rattle.idl_root.specs.idl_root_blocks.Met.{Known}
-use Rattle.idl_root.specs.idl_root_blocks.Places.{block_result, declaration_result}
+use Rattle.idl_sources.specs.idl_root.Compared.{AreOf, AreSamePlaces, compared_root, shared_entries, shared_entry}
+use Rattle.idl_sources.specs.idl_root.Places.{EntryPlace}
+use Rattle.idl_sources.specs.idl_root.Results.{entry_result}
+use Rattle.idl_sources.specs.idl_root.declared.kept.keeper.Keeper.{Keeper}
+use Rattle.idl_sources.specs.idl_root.idl_root_blocks.Met.{Known}
+use Rattle.idl_sources.specs.idl_root.idl_root_blocks.Places.{block_result, declaration_result}
 use Rattle.idl_store.specs.Stored.{Stored, results_in}
 use Rattle.idl_project.specs.Compared.{KnownTasks, compared_in, met_between, tasks_of, with_tasks}
 use Rattle.idl_project.specs.Tasks.{alike_root, answer_eq, blocks_at, declarations_at, entries_at, kept_entries, kept_texts, lists_for}

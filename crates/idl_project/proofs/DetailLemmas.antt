@@ -11,15 +11,16 @@ use Rattle.idl_event.specs.declared.asked.key.RootKey.{RootKey}
 use Rattle.idl_event.specs.declared.told.event.Event.{Event}
 use Rattle.idl_fault.specs.declared.place.Place.{Place}
 use Rattle.idl_prep.specs.Root.{expanded}
-use Rattle.idl_root.specs.Compile.{compile}
-use Rattle.idl_root.specs.Details.{details, printed}
-use Rattle.idl_root.specs.declared.compiling.detailing.Details.{Details}
+use Rattle.idl_sources.specs.idl_root.Compile.{compile}
+use Rattle.idl_sources.specs.idl_root.Details.{details, printed}
+use Rattle.idl_sources.specs.idl_root.declared.compiling.detailing.Details.{Details}
 use Rattle.idl_inputs.specs.Bank.{bank_of}
-use Rattle.idl_project.specs.Compile.{compile_over, end_of}
-use Rattle.idl_project.specs.Details.{details_of, details_over}
+use Rattle.idl_sources.specs.Compile.{compile_over, end_of}
+use Rattle.idl_sources.specs.Details.{details_over}
+use Rattle.idl_project.specs.Details.{details_of}
 use Rattle.idl_inputs.specs.Project.{Project, is_root}
 use Rattle.idl_project.specs.UpToDate.{AreKept, IsKept, is_faulty_of, listing_of}
-use Rattle.idl_project.specs.declared.compile.CompiledRoot.{CompiledRoot}
+use Rattle.idl_sources.specs.declared.compile.CompiledRoot.{CompiledRoot}
 use Rattle.idl_project.specs.declared.kept_root.KeptRoot.{KeptRoot}
 
 abbrev pub kept_details : KeptRoot → Details

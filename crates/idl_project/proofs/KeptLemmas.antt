@@ -19,20 +19,21 @@ use Rattle.idl_memo.specs.Kept.{Kept, HoldsOver}
 use Rattle.idl_memo.specs.Query.{asked, is_logged, noted_all}
 use Rattle.idl_store.specs.Stored.{results_in}
 use Rattle.idl_prep.specs.Root.{absent_files, expanded, expansion, root}
-use Rattle.idl_root.specs.AsBefore.{IsAsBefore, IsCompiledOf, IsMade}
-use Rattle.idl_root.specs.Compared.{compared_root, root_keys}
-use Rattle.idl_root.specs.Compile.{compile}
-use Rattle.idl_root.specs.declared.compiling.compiled.Compiled.{Compiled}
-use Rattle.idl_root.specs.Turns.{IsWithinWords}
-use Rattle.idl_root.specs.Results.{IsDeclarationPass, IsEntryPass, IsKeptOf, KeptLists, fresh_declarations, fresh_entries, root_marks}
-use Rattle.idl_root.specs.declared.kept.keeper.Keeper.{Keeper}
+use Rattle.idl_sources.specs.idl_root.AsBefore.{IsAsBefore, IsCompiledOf, IsMade}
+use Rattle.idl_sources.specs.idl_root.Compared.{compared_root, root_keys}
+use Rattle.idl_sources.specs.idl_root.Compile.{compile}
+use Rattle.idl_sources.specs.idl_root.declared.compiling.compiled.Compiled.{Compiled}
+use Rattle.idl_sources.specs.idl_root.Turns.{IsWithinWords}
+use Rattle.idl_sources.specs.idl_root.Results.{IsDeclarationPass, IsEntryPass, IsKeptOf, KeptLists, fresh_declarations, fresh_entries, root_marks}
+use Rattle.idl_sources.specs.idl_root.declared.kept.keeper.Keeper.{Keeper}
+use Rattle.idl_sources.proofs.CompileLemmas.{compile-kept}
 use Rattle.idl_project.specs.Compared.{compared_in, met_between}
-use Rattle.idl_project.specs.Compile.{compile_over, end_of, line_count}
+use Rattle.idl_sources.specs.Compile.{compile_over, end_of, line_count}
 use Rattle.idl_project.specs.Renewed.{IsDrafted}
 use Rattle.idl_project.specs.Tasks.{answer_eq, declarations_among, declarations_at, entries_among, entries_at, root_lists}
 use Rattle.idl_project.specs.UpToDate.{AreKept, IsKept, keys_asked}
 use Rattle.idl_project.specs.Work.{fresh_roots, work_between}
-use Rattle.idl_project.specs.declared.compile.CompiledRoot.{CompiledRoot}
+use Rattle.idl_sources.specs.declared.compile.CompiledRoot.{CompiledRoot}
 use Rattle.idl_project.specs.declared.kept_root.KeptRoot.{KeptRoot}
 
 -- how many of these roots aren't alike at their own places
@@ -95,12 +96,6 @@ first-noted bank (k ∷ ks) = first-stays bank (k, bank k) ks []
 first-file : (bank : RootKey → Option RootAnswer) (name : List ℕ) → first_answer (expanded name bank).1 ≡ bank (key.File name)
 unfolding expansion root
 first-file bank name = first-noted bank (asked (expansion name) bank)
-
--- what is compiled from a result that holds
-pub compile-kept : (bank : RootKey → Option RootAnswer) (kept : Kept RootKey (Option RootAnswer) (List ℕ) (List Event)) → HoldsOver key_eq expansion bank kept
-    → record { rows = compile (end_of bank kept.text) kept.out; absent = absent_files kept.log } ≡ compile_over bank kept.text
-unfolding compile_over
-compile-kept bank kept over = λ i. record { rows = compile (end_of bank kept.text) (over i).0; absent = absent_files (over i).1 }
 
 -- where a result holds over two banks, the root compiles to the same over both
 pub compile-again : (old new : RootKey → Option RootAnswer) (kept : Kept RootKey (Option RootAnswer) (List ℕ) (List Event)) → HoldsOver key_eq expansion old kept → HoldsOver key_eq expansion new kept

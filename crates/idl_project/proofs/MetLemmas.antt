@@ -17,9 +17,9 @@ use Rattle.idl_event.specs.declared.asked.key.RootKey.{RootKey}
 use Rattle.idl_memo.specs.Fresh.{asked_among, keys_at, places_over}
 use Rattle.idl_memo.specs.Query.{asked}
 use Rattle.idl_prep.specs.Root.{expanded, expansion}
-use Rattle.idl_root.specs.Compared.{compared_root, shared_entries, shared_entry}
-use Rattle.idl_root.specs.Places.{EntryPlace, root_pieces}
-use Rattle.idl_root.specs.idl_root_blocks.Met.{Met, compared, met_over, shared_by}
+use Rattle.idl_sources.specs.idl_root.Compared.{compared_root, shared_entries, shared_entry}
+use Rattle.idl_sources.specs.idl_root.Places.{EntryPlace, root_pieces}
+use Rattle.idl_sources.specs.idl_root.idl_root_blocks.Met.{Met, compared, met_over, shared_by}
 use Rattle.idl_project.specs.Compared.{KnownTasks, MetEntry, MetRoot, MetText, PlaceMet, compared_in, met_among, met_at, met_entries, met_inside, shared_keys, tasks_of, with_tasks}
 use Rattle.idl_project.specs.Tasks.{alike_root, answer_eq, blocks_at, declarations_at, entries_at}
 

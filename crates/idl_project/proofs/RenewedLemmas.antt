@@ -7,18 +7,18 @@ use Rattle.std.specs.Str.{bytes_eq}
 use Rattle.idl_event.specs.declared.told.event.Event.{Event}
 use Rattle.idl_event.specs.declared.asked.key.RootAnswer.{RootAnswer}
 use Rattle.idl_event.specs.declared.asked.key.RootKey.{RootKey}
-use Rattle.idl_root.specs.idl_kept.Texts.{Texts, begins_in}
+use Rattle.idl_sources.specs.idl_root.idl_kept.Texts.{Texts, begins_in}
 use Rattle.idl_memo.specs.Fresh.{stale_at}
 use Rattle.idl_memo.specs.Meter.{compared_after}
 use Rattle.idl_memo.specs.declared.meter.Meter.{Meter}
 use Rattle.idl_prep.specs.Root.{expanded, expansion}
-use Rattle.idl_root.specs.Compared.{AreOf, AreSamePlaces, compared_root, root_keys, shared_entries, shared_entry}
-use Rattle.idl_root.specs.Places.{EntryPlace, begins_of, blocks_of, declarations_of, entries_of, root_pieces}
-use Rattle.idl_root.specs.Results.{entry_result, fresh_declarations, fresh_entries}
-use Rattle.idl_root.specs.declared.kept.keeper.Keeper.{Keeper}
-use Rattle.idl_root.specs.idl_root_blocks.Blocks.{Pieces}
-use Rattle.idl_root.specs.idl_root_blocks.Met.{Known}
-use Rattle.idl_root.specs.idl_root_blocks.Places.{DeclarationPlace, block_result, blocks_over, declaration_result}
+use Rattle.idl_sources.specs.idl_root.Compared.{AreOf, AreSamePlaces, compared_root, root_keys, shared_entries, shared_entry}
+use Rattle.idl_sources.specs.idl_root.Places.{EntryPlace, begins_of, blocks_of, declarations_of, entries_of, root_pieces}
+use Rattle.idl_sources.specs.idl_root.Results.{entry_result, fresh_declarations, fresh_entries}
+use Rattle.idl_sources.specs.idl_root.declared.kept.keeper.Keeper.{Keeper}
+use Rattle.idl_sources.specs.idl_root.idl_root_blocks.Blocks.{Pieces}
+use Rattle.idl_sources.specs.idl_root.idl_root_blocks.Met.{Known}
+use Rattle.idl_sources.specs.idl_root.idl_root_blocks.Places.{DeclarationPlace, block_result, blocks_over, declaration_result}
 use Rattle.idl_project.specs.Compared.{KnownTasks, compared_in, met_at, tasks_of, with_tasks}
 use Rattle.idl_project.specs.Renewed.{IsDrafted, IsHeld, IsLeft, IsRenewedAt}
 use Rattle.idl_project.specs.Tasks.{alike_root, answer_eq, begin_list, blocks_at, declarations_at, entries_at}

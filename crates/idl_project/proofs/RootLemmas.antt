@@ -16,16 +16,16 @@ use Rattle.idl_event.specs.Key.{key_eq}
 use Rattle.idl_event.specs.declared.asked.key.RootAnswer.{RootAnswer}
 use Rattle.idl_event.specs.declared.asked.key.RootKey.{RootKey}
 use Rattle.idl_memo.specs.Cause.{changed}
-use Rattle.idl_root.specs.idl_kept.Drafts.{committed_texts, no_texts}
-use Rattle.idl_root.specs.idl_kept.Texts.{Texts, without_drafts}
+use Rattle.idl_sources.specs.idl_root.idl_kept.Drafts.{committed_texts, no_texts}
+use Rattle.idl_sources.specs.idl_root.idl_kept.Texts.{Texts, without_drafts}
 use Rattle.idl_store.specs.Stored.{Stored, committed, discarded, nothing_stored, with_draft}
 use Rattle.idl_prep.specs.Root.{expanded}
-use Rattle.idl_root.specs.AsBefore.{AreListsLeft}
-use Rattle.idl_root.specs.Results.{EntryResult}
-use Rattle.idl_root.specs.Turns.{IsWithinWords}
-use Rattle.idl_root.specs.declared.kept.keeper.Keeper.{Keeper}
+use Rattle.idl_sources.specs.idl_root.AsBefore.{AreListsLeft}
+use Rattle.idl_sources.specs.idl_root.Results.{EntryResult}
+use Rattle.idl_sources.specs.idl_root.Turns.{IsWithinWords}
+use Rattle.idl_sources.specs.idl_root.declared.kept.keeper.Keeper.{Keeper}
 use Rattle.idl_source.specs.names.Name.{is_name}
-use Rattle.idl_project.specs.Compile.{compile_over}
+use Rattle.idl_sources.specs.Compile.{compile_over}
 use Rattle.idl_inputs.specs.Bank.{bank_of}
 use Rattle.idl_inputs.specs.Project.{Inputs, Project, no_inputs}
 use Rattle.idl_project.specs.Renewed.{IsKeeperLeft, IsRenewed}

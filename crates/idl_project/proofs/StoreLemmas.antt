@@ -11,7 +11,7 @@ use Rattle.std.proofs.lemmas.List.Sums.{fold_push}
 use Rattle.std.specs.List.{flat_map, fold, position, remove}
 use Rattle.std.specs.Set.{remove_key}
 use Rattle.idl_store.specs.Stored.{Stored, committed, list_at, placed, results_in, results_of_drafts, with_draft}
-use Rattle.idl_root.specs.Compared.{AreSamePlaces}
+use Rattle.idl_sources.specs.idl_root.Compared.{AreSamePlaces}
 use Rattle.idl_project.specs.Tasks.{lists_for}
 
 module _ {P R : Type 0} (result : P → R) where

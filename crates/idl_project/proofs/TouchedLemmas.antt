@@ -15,7 +15,7 @@ use Rattle.idl_memo.specs.Fresh.{fresh_among, fresh_at, places_over}
 use Rattle.idl_memo.specs.Query.{asked}
 use Rattle.idl_memo.specs.declared.meter.Meter.{Meter}
 use Rattle.idl_prep.specs.Root.{expansion}
-use Rattle.idl_root.specs.declared.kept.keeper.Keeper.{Keeper}
+use Rattle.idl_sources.specs.idl_root.declared.kept.keeper.Keeper.{Keeper}
 use Rattle.idl_project.specs.Renewed.{IsRenewedAt}
 use Rattle.idl_project.specs.Tasks.{RootPlace, alike_root, answer_eq}
 use Rattle.idl_project.specs.Work.{is_untouched, touched_between}

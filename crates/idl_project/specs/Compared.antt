@@ -10,9 +10,9 @@ use Rattle.idl_event.specs.declared.asked.key.RootAnswer.{RootAnswer}
 use Rattle.idl_event.specs.declared.asked.key.RootKey.{RootKey}
 use Rattle.idl_memo.specs.Fresh.{most_shared_at, places_over, shared_at}
 use Rattle.idl_prep.specs.Root.{expanded, expansion}
-use Rattle.idl_root.specs.Compared.{most_shared_entry, shared_entry}
-use Rattle.idl_root.specs.Places.{EntryPlace, root_pieces}
-use Rattle.idl_root.specs.idl_root_blocks.Met.{Known, Met, met_over, most_shared_by, shared_by}
+use Rattle.idl_sources.specs.idl_root.Compared.{most_shared_entry, shared_entry}
+use Rattle.idl_sources.specs.idl_root.Places.{EntryPlace, root_pieces}
+use Rattle.idl_sources.specs.idl_root.idl_root_blocks.Met.{Known, Met, met_over, most_shared_by, shared_by}
 use Rattle.idl_project.specs.Tasks.{RootPlace, alike_root, answer_eq, blocks_among, declarations_among, entries_among, entries_at}
 
 -- ---- known tasks

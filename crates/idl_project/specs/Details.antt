@@ -1,17 +1,11 @@
 -- What is told of the names of a root as data, when it is asked.
 use Rattle.std.specs.Prelude.{ℕ, List, Option, None, Some, if◌then◌else◌}
-use Rattle.idl_event.specs.declared.asked.key.RootAnswer.{RootAnswer}
-use Rattle.idl_event.specs.declared.asked.key.RootKey.{RootKey}
 use Rattle.idl_event.specs.declared.told.event.Event.{Event}
 use Rattle.idl_prep.specs.Root.{expanded}
-use Rattle.idl_root.specs.Details.{details}
-use Rattle.idl_root.specs.declared.compiling.detailing.Details.{Details}
+use Rattle.idl_sources.specs.idl_root.declared.compiling.detailing.Details.{Details}
 use Rattle.idl_inputs.specs.Bank.{bank_of}
 use Rattle.idl_inputs.specs.Project.{Project, is_root}
-
--- that of a root over these answers
-abbrev pub details_over : (RootKey → Option RootAnswer) → List ℕ → Details
-details_over bank root = details (expanded root bank).0
+use Rattle.idl_sources.specs.Details.{details_over}
 
 -- what the root of a name expands to; of another name nothing
 abbrev pub expansion_of : Project → List ℕ → Option (List Event)

@@ -1,6 +1,5 @@
 pub mod Batch
 pub mod Compared
-pub mod Compile
 pub mod Details
 pub mod Edited
 pub mod Related
@@ -8,5 +7,5 @@ pub mod Renewed
 pub mod Tasks
 pub mod UpToDate
 pub mod Work
-pub use Rattle.idl_root.specs as idl_root
+pub use Rattle.idl_sources.specs as idl_sources
 pub use Rattle.idl_prep.specs as idl_prep

@@ -1,19 +1,11 @@
 -- Second places of what is found in a root of a project.
 use Rattle.std.specs.Prelude.{◌≡◌, ℕ, List, Option, None, Some}
-use Rattle.idl_event.specs.declared.asked.key.RootAnswer.{RootAnswer}
-use Rattle.idl_event.specs.declared.asked.key.RootKey.{RootKey}
 use Rattle.idl_finding.specs.declared.finding.Finding.{Finding}
-use Rattle.idl_prep.specs.Root.{expanded}
 use Rattle.idl_inputs.specs.Bank.{bank_of}
 use Rattle.idl_inputs.specs.Project.{Project}
 use Rattle.idl_project.specs.UpToDate.{findings_of}
-use Rattle.idl_related.specs.Related.{AreRelated}
-use Rattle.idl_related.specs.declared.second.Related.{Related}
-
--- those of findings of a root over these answers
-abbrev pub AreRelatedOver : (RootKey → Option RootAnswer) → List ℕ → List Finding
-    → List (List Related) → Type 0
-AreRelatedOver bank root findings related = AreRelated (expanded root bank).0 findings related
+use Rattle.idl_sources.specs.idl_related.declared.second.Related.{Related}
+use Rattle.idl_sources.specs.Related.{AreRelatedOver}
 
 -- those of all that is found in a root of a project, of another name than a root's nothing
 abbrev pub AreRelatedTo : Project → List ℕ → Option (List Finding) → Option (List (List Related))

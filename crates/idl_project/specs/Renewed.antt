@@ -3,13 +3,13 @@ use Rattle.std.specs.Prelude.{◌≡◌, ◌⊎◌, ℕ, ◌+◌, true, false, L
 use Rattle.std.specs.Map.{keys_of}
 use Rattle.idl_event.specs.declared.asked.key.RootAnswer.{RootAnswer}
 use Rattle.idl_event.specs.declared.asked.key.RootKey.{RootKey}
-use Rattle.idl_root.specs.idl_kept.Drafts.{committed_texts}
+use Rattle.idl_sources.specs.idl_root.idl_kept.Drafts.{committed_texts}
 use Rattle.idl_store.specs.Stored.{committed}
 use Rattle.idl_memo.specs.Meter.{compared_after}
 use Rattle.idl_memo.specs.declared.meter.Meter.{Meter}
 use Rattle.idl_prep.specs.Root.{expanded}
-use Rattle.idl_root.specs.AsBefore.{IsAsBefore, IsMade}
-use Rattle.idl_root.specs.declared.kept.keeper.Keeper.{Keeper}
+use Rattle.idl_sources.specs.idl_root.AsBefore.{IsAsBefore, IsMade}
+use Rattle.idl_sources.specs.idl_root.declared.kept.keeper.Keeper.{Keeper}
 use Rattle.idl_inputs.specs.Bank.{bank_of}
 use Rattle.idl_inputs.specs.Project.{Inputs, Project}
 use Rattle.idl_project.specs.Tasks.{alike_root, kept_entries, kept_texts}

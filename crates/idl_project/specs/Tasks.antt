@@ -7,13 +7,13 @@ use Rattle.std.specs.Str.{bytes_eq}
 use Rattle.idl_event.specs.declared.asked.key.RootAnswer.{RootAnswer}
 use Rattle.idl_event.specs.declared.asked.key.RootAnswer.TheVariants.{Macro, File, Search}
 use Rattle.idl_event.specs.declared.asked.key.RootKey.{RootKey}
-use Rattle.idl_root.specs.idl_kept.Texts.{BlockResult, DeclarationResult, Texts}
+use Rattle.idl_sources.specs.idl_root.idl_kept.Texts.{BlockResult, DeclarationResult, Texts}
 use Rattle.idl_memo.specs.Fresh.{Place, is_alike}
 use Rattle.idl_store.specs.Stored.{Stored}
 use Rattle.idl_prep.specs.Root.{expanded, expansion}
-use Rattle.idl_root.specs.Places.{EntryPlace, begins_of, blocks_of, declarations_of, entries_of}
-use Rattle.idl_root.specs.Results.{EntryResult, KeptLists, entry_result}
-use Rattle.idl_root.specs.idl_root_blocks.Places.{BlockPlace, DeclarationPlace, block_result, declaration_result}
+use Rattle.idl_sources.specs.idl_root.Places.{EntryPlace, begins_of, blocks_of, declarations_of, entries_of}
+use Rattle.idl_sources.specs.idl_root.Results.{EntryResult, KeptLists, entry_result}
+use Rattle.idl_sources.specs.idl_root.idl_root_blocks.Places.{BlockPlace, DeclarationPlace, block_result, declaration_result}
 
 -- ---- roots
 

@@ -8,16 +8,16 @@ use Rattle.idl_event.specs.Key.{key_eq}
 use Rattle.idl_event.specs.declared.asked.key.RootKey.{RootKey}
 use Rattle.idl_memo.specs.Kept.{HoldsOver}
 use Rattle.idl_prep.specs.Root.{expanded, expansion}
-use Rattle.idl_root.specs.Results.{root_marks}
-use Rattle.idl_root.specs.Turns.{IsWithinWords}
+use Rattle.idl_sources.specs.idl_root.Results.{root_marks}
+use Rattle.idl_sources.specs.idl_root.Turns.{IsWithinWords}
 use Rattle.idl_finding.specs.declared.finding.Finding.{Finding}
-use Rattle.idl_root.specs.declared.kept.keeper.Keeper.{Keeper}
+use Rattle.idl_sources.specs.idl_root.declared.kept.keeper.Keeper.{Keeper}
 use Rattle.idl_inputs.specs.Bank.{bank_of}
-use Rattle.idl_project.specs.Compile.{compiled_root, compile_over}
+use Rattle.idl_sources.specs.Compile.{compiled_root, compile_over}
 use Rattle.idl_inputs.specs.Project.{Inputs, Project, project_code, is_root, names_code}
 use Rattle.idl_project.specs.Tasks.{kept_entries, kept_texts}
 use Rattle.idl_inputs.specs.WellFormed.{IsWellFormed}
-use Rattle.idl_project.specs.declared.compile.CompiledRoot.{CompiledRoot}
+use Rattle.idl_sources.specs.declared.compile.CompiledRoot.{CompiledRoot}
 use Rattle.idl_project.specs.declared.kept_root.KeptRoot.{KeptRoot}
 use Rattle.idl_project.specs.declared.work.Work.{Work}
 

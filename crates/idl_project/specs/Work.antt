@@ -8,7 +8,7 @@ use Rattle.idl_event.specs.declared.asked.key.RootKey.{RootKey}
 use Rattle.idl_memo.specs.Fresh.{fresh_among, places_over}
 use Rattle.idl_memo.specs.Meter.{compared_after}
 use Rattle.idl_prep.specs.Root.{expansion}
-use Rattle.idl_root.specs.Results.{fresh_declarations, fresh_entries}
+use Rattle.idl_sources.specs.idl_root.Results.{fresh_declarations, fresh_entries}
 use Rattle.idl_inputs.specs.Bank.{bank_of}
 use Rattle.idl_project.specs.Compared.{PlaceMet, compared_in, met_between}
 use Rattle.idl_inputs.specs.Project.{Project, is_root}

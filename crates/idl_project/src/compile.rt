@@ -1,46 +1,28 @@
 //! The compilation of a root.
 
 ghost use Rattle.std.specs.Prelude.{◌≡◌, ◌⊎◌, ℕ, IfNone, IfOk, IfSome, List, OnOk, map};
-ghost use Rattle.std.specs.Option.{option_copied, option_map, unwrap_or};
+ghost use Rattle.std.specs.Option.{option_map, unwrap_or};
 ghost use Rattle.idl_event.specs.Key.{key_eq};
 ghost use Rattle.idl_event.specs.declared.told.event.Event.{Event};
 ghost use Rattle.idl_memo.specs.Kept.{HoldsOver};
 ghost use Rattle.idl_prep.specs.Root.{expanded, expansion};
-ghost use Rattle.idl_root.specs.AsBefore.{AreListsLeft, IsAsBefore, IsCompiledOf, kept_lists};
+ghost use Rattle.idl_sources.specs.idl_root.AsBefore.{AreListsLeft, IsAsBefore, IsCompiledOf, kept_lists};
 ghost use Rattle.idl_finding.specs.Findings.{finding_row};
-ghost use Rattle.idl_root.specs.Results.{ExpandsNone, IsKeptOf, root_marks};
-ghost use Rattle.idl_root.specs.Turns.{IsWithinWords};
-ghost use Rattle.idl_inputs.specs.Bank.{bank_of};
-ghost use Rattle.idl_project.specs.Compile.{compile_over, compiled_root, end_of, line_count};
+ghost use Rattle.idl_sources.specs.idl_root.Results.{ExpandsNone, IsKeptOf, root_marks};
+ghost use Rattle.idl_sources.specs.idl_root.Turns.{IsWithinWords};
+ghost use Rattle.idl_sources.specs.Compile.{compile_over, end_of};
 ghost use Rattle.idl_inputs.specs.Project.{Project};
 ghost use Rattle.idl_project.specs.Renewed.{IsDrafted};
 ghost use Rattle.idl_project.specs.UpToDate.{diagnostics_of, findings_of};
 
 use idl_base::Seq;
-use idl_event::{RootAnswer, RootBank, RootKey};
-use idl_fault::{FileName, Place};
-use idl_inputs::SessionBank;
-use idl_inputs::expanding::{KeptExpansion, expanded_alone};
+use idl_event::RootBank;
+use idl_inputs::expanding::KeptExpansion;
 use idl_inputs::reading::{absent_names, root_expansion, root_name};
 use idl_memo::Meter;
-use idl_root::{Compiled, Keeper, KeptSource, Marks, Memory, Recompiled, telling};
-use idl_source::Name;
-use std::alloc::{AllocError, Global};
-
-/// What a root compiles to: its rows, and the files that it asks for and that aren't there, in the order first asked.
-pub struct CompiledRoot {
-    pub rows: Compiled,
-    pub absent: Seq<Name>,
-}
-
-impl Drop for CompiledRoot {
-    fn drop(self) {
-        let CompiledRoot {
-            rows: _rows,
-            absent: _absent,
-        } = self;
-    }
-}
+use idl_sources::idl_root::{Compiled, Keeper, KeptSource, Marks, Recompiled, telling};
+use idl_sources::{CompiledRoot, end_of, idl_root};
+use std::alloc::AllocError;
 
 /// What a root compiles to, and what its units are, unless they are as they were.
 #[derive(Drop)]
@@ -59,41 +41,8 @@ pub struct KeptTask<'a> {
     pub compiled: Option<&'a Compiled>,
 }
 
-/// Compiles a root over a bank, in which its own file may be absent. Nothing is kept of it.
-pub fn compile_alone(
-    memory: &mut Memory,
-    bank: &SessionBank,
-    root: &Name,
-) -> Result<CompiledRoot, AllocError>
-    ensures compiled { IfOk result (λ compiled. compiled ≡ compiled_root bank.now root.now) }
-    ensures within { OnOk result (IsWithinWords (expanded root.now (bank_of bank.now)).0) }
-{
-    let kept = expanded_alone(memory.alloc(), bank, root)?;
-    compile(memory, bank, &kept)
-}
-
-/// Compiles a root over a bank, in which its own file may be absent, from the result of its task.
-pub fn compile<B: RootBank>(
-    memory: &mut Memory,
-    bank: &B,
-    kept: &KeptExpansion,
-) -> Result<CompiledRoot, AllocError>
-    requires { HoldsOver key_eq expansion (B.at bank.now) kept.now }
-    ensures compiled { IfOk result (λ compiled.
-        compiled ≡ compile_over (B.at bank.now) kept.now.text) }
-    ensures within { OnOk result (IsWithinWords (expanded kept.now.text (B.at bank.now)).0) }
-{
-    let alloc = memory.alloc();
-    let end = end_of(alloc, bank, root_name(kept))?;
-    let rows = idl_root::compile(memory, &end, root_expansion(kept))?;
-    let names = absent_names(alloc, kept)?;
-    Ok(CompiledRoot {
-        rows,
-        absent: Seq::from_vec(names),
-    })
-}
-
-/// The same, where the results of its declarations, blocks and entries are kept.
+/// Compiles a root over a bank, in which its own file may be absent, from the result of its task. The results of its declarations, blocks
+/// and entries are kept.
 ///
 /// After want of memory nothing is said of the meter, and there may be drafts more.
 pub fn compile_kept<B: RootBank>(
@@ -153,23 +102,4 @@ pub fn diagnostics_are_findings()
 {
     // It does nothing: it carries the law of a root's rows.
     telling();
-}
-
-// The end of a root: its number of lines.
-fn end_of<B: RootBank>(alloc: Global, bank: &B, root: &Name) -> Result<Place, AllocError>
-    ensures { IfOk result (λ place. place ≡ end_of (B.at bank.now) root.now) }
-{
-    let file = FileName::new(alloc, root)?;
-    let line = line_count(bank.answer(&RootKey::File(file.clone()?)));
-    Ok(Place { file, line })
-}
-
-// The number of lines of an answered file.
-fn line_count(answer: Option<&RootAnswer>) -> u32
-    ensures { result ≡ line_count (option_copied answer.entry) }
-{
-    match answer {
-        Some(RootAnswer::File(text)) => text.file().line_count() as u32,
-        _ => 0,
-    }
 }

@@ -2,20 +2,17 @@
 
 ghost use Rattle.std.specs.Prelude.{◌≡◌, ℕ, IfOk, List, Some, false};
 ghost use Rattle.std.specs.Option.{option_map};
-ghost use Rattle.idl_root.specs.Details.{printed};
+ghost use Rattle.idl_sources.specs.idl_root.Details.{printed};
 ghost use Rattle.idl_inputs.specs.Bank.{bank_of};
-ghost use Rattle.idl_project.specs.Compile.{compiled_root};
-ghost use Rattle.idl_project.specs.Details.{details_of, details_over};
+ghost use Rattle.idl_sources.specs.Compile.{compiled_root};
+ghost use Rattle.idl_sources.specs.Details.{details_over};
+ghost use Rattle.idl_project.specs.Details.{details_of};
 ghost use Rattle.idl_inputs.specs.Project.{Inputs, Project};
 ghost use Rattle.idl_project.specs.UpToDate.{is_faulty_of, listing_of};
 
 use crate::session::Session;
-use idl_inputs::SessionBank;
-use idl_inputs::expanding::expanded_alone;
-use idl_inputs::reading::root_expansion;
-use idl_root::{Details, detailing};
-use idl_source::Name;
-use std::alloc::{AllocError, Global};
+use idl_sources::idl_root::{Details, detailing};
+use std::alloc::AllocError;
 
 impl Session {
     /// What the listing of a root tells, as data, and of a root with an error what is declared in it; nothing where the name isn't one
@@ -28,14 +25,6 @@ impl Session {
             None => Ok(None),
         }
     }
-}
-
-/// The details of a root over a bank. It is expanded, and its units judged, for them alone.
-pub fn details_alone(alloc: Global, bank: &SessionBank, root: &Name) -> Result<Details, AllocError>
-    ensures { IfOk result (λ details. details ≡ details_over (bank_of bank.now) root.now) }
-{
-    let kept = expanded_alone(alloc, bank, root)?;
-    idl_root::details_of(alloc, root_expansion(&kept))
 }
 
 /// Where a root has no error, the rows of its listing are what its details are printed as. This does nothing: it carries the law.

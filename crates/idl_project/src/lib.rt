@@ -13,24 +13,22 @@ mod kept_root;
 mod related;
 mod root_table;
 mod session;
-mod sources;
-mod word;
 mod work;
 
-pub use compile::{CompiledRoot, diagnostics_are_findings};
+pub use compile::diagnostics_are_findings;
 pub use detailed::listing_is_details;
 pub use idl_inputs::{
     FileEdit, MAX_BODY, MAX_DIRECTORIES, MAX_MACROS, MAX_ROOTS, Stepless, answers_come_from_inputs,
     edits_keep_form, edits_keep_limits,
 };
 pub use idl_prep;
-pub use idl_root;
-pub use idl_root::{
+pub use idl_source::Span;
+pub use idl_sources;
+pub use idl_sources::idl_root::{
     Compiled, DeclaredPlace, DetailedEntry, Details, Finding, Row, SitedToken, UsedName, idl_check,
     idl_parse, idl_root_blocks, idl_scope,
 };
-pub use idl_source::Span;
-pub use related::{related_in, related_over};
+pub use idl_sources::{CompiledRoot, Sources, idl_root, related_over};
+pub use related::related_in;
 pub use session::Session;
-pub use sources::Sources;
 pub use work::{Work, compared_is_bounded, untouched_roots_stay};

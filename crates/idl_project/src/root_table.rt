@@ -3,7 +3,7 @@
 ghost use Rattle.std.specs.Prelude.{◌≡◌, ◌+◌, ◌<◌, ◌∷◌, ◌++◌, [], false, IfOk, OnOk, OnErr, is_some, length, nat_le, slice_get};
 ghost use Rattle.idl_inputs.specs.Bank.{bank_of};
 ghost use Rattle.idl_inputs.specs.Refiled.{AreCauses};
-ghost use Rattle.idl_root.specs.AsBefore.{AreListsLeft};
+ghost use Rattle.idl_sources.specs.idl_root.AsBefore.{AreListsLeft};
 ghost use Rattle.idl_project.specs.Renewed.{IsAdded, IsKeeperLeft, IsDrafted, IsRenewed};
 ghost use Rattle.idl_project.specs.Tasks.{kept_entries, kept_texts};
 ghost use Rattle.std.specs.Option.{option_copied, option_map};
@@ -14,7 +14,6 @@ ghost use Rattle.idl_memo.specs.Meter.{compared_after, most_compared};
 ghost use Rattle.idl_source.specs.Limits.{most_roots};
 ghost use Rattle.idl_project.specs.UpToDate.{IsUpToDate, keys_asked, project_held};
 
-use crate::compile::CompiledRoot;
 use crate::kept_root::{BankChange, KeptRoot};
 use crate::work::Work;
 use idl_base::Seq;
@@ -22,8 +21,9 @@ use idl_event::RootBank;
 use idl_inputs::{MAX_ROOTS, SessionBank, Stepless};
 use idl_memo::{Meter, one_bank};
 use idl_prep::RootTask;
-use idl_root::{Keeper, comparing, fresh_tasks};
 use idl_source::Name;
+use idl_sources::CompiledRoot;
+use idl_sources::idl_root::{Keeper, comparing, fresh_tasks};
 use indexmap::IndexMap;
 use std::alloc::{AllocError, Global};
 use std::marker::Model;

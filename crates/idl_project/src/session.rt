@@ -13,10 +13,10 @@ ghost use Rattle.std.specs.Str.{bytes_eq};
 ghost use Rattle.idl_event.specs.declared.asked.key.RootKey.TheVariants as keys;
 ghost use Rattle.idl_inputs.specs.Asked.{asked_files, asked_of};
 ghost use Rattle.idl_prep.specs.Root.{expanded};
-ghost use Rattle.idl_root.specs.Details.{details};
-ghost use Rattle.idl_root.specs.Places.{root_pieces};
-ghost use Rattle.idl_root.specs.Turns.{IsWithinWords};
-ghost use Rattle.idl_root.specs.idl_root_blocks.Places.{AreStandingOver};
+ghost use Rattle.idl_sources.specs.idl_root.Details.{details};
+ghost use Rattle.idl_sources.specs.idl_root.Places.{root_pieces};
+ghost use Rattle.idl_sources.specs.idl_root.Turns.{IsWithinWords};
+ghost use Rattle.idl_sources.specs.idl_root.idl_root_blocks.Places.{AreStandingOver};
 ghost use Rattle.idl_inputs.specs.Bank.{bank_of};
 ghost use Rattle.idl_inputs.specs.Columns.{column_of};
 ghost use Rattle.idl_project.specs.Details.{details_of, expansion_of};
@@ -27,10 +27,8 @@ ghost use Rattle.idl_inputs.specs.Edits.{Put, Splice, Define, Undef, Search, Add
 ghost use Rattle.idl_project.specs.UpToDate.{compiled_of, diagnostics_of, findings_of, listing_of, dump_of, is_faulty_of, absent_of};
 ghost use Rattle.idl_inputs.specs.WellFormed.{IsWellFormed};
 
-use crate::compile::CompiledRoot;
 use crate::kept_root::{BankChange, KeptRoot};
 use crate::root_table::RootTable;
-use crate::word::spelled;
 use crate::work::Work;
 use idl_base::{Bytes, Seq};
 use idl_event::{Expansion, RootAnswer, RootKey};
@@ -39,8 +37,9 @@ use idl_inputs::{MacroBody, SessionBank, causes_by, directories};
 use idl_macro::is_macro_word;
 use idl_memo::{Edited, Meter, freshness, one_bank};
 use idl_prep::RootTask;
-use idl_root::{Finding, Keeper, Row, blocks, comparing, fresh_tasks};
 use idl_source::{Line, Name, Refusal, Span};
+use idl_sources::CompiledRoot;
+use idl_sources::idl_root::{Finding, Keeper, Row, blocks, comparing, fresh_tasks};
 use std::alloc::{AllocError, Global};
 use std::marker::Model;
 
@@ -97,7 +96,7 @@ impl Session {
     pub fn define(&mut self, word: &[u8], body: Line) -> Result<Work, Refusal>
         ensures { IsEdited (Define word.now body) self.old self.new result }
     {
-        let word = spelled(self.keeper.alloc(), word)?;
+        let word = Bytes::from_slice(self.keeper.alloc(), word)?;
         if let Some(refusal) = self.bank.refusal_of_define(&word, &body) {
             return Err(refusal);
         }
@@ -135,7 +134,7 @@ impl Session {
         if !is_macro_word(word) {
             return Err(Refusal::BadMacro);
         }
-        let word = spelled(self.keeper.alloc(), word)?;
+        let word = Bytes::from_slice(self.keeper.alloc(), word)?;
         let key = RootKey::Macro(word.clone()?);
         let none: Option<RootAnswer> = None;
         let answer = none.as_ref();

@@ -12,13 +12,13 @@ ghost use Rattle.idl_project.specs.Details.{details_of, expansion_of};
 ghost use Rattle.idl_project.specs.Related.{AreRelatedIn};
 ghost use Rattle.idl_project.specs.UpToDate.{compiled_of};
 ghost use Rattle.idl_project.specs.Work.{IsPassedOver, met_of, no_work, touched_of, work_of};
-ghost use Rattle.idl_related.specs.declared.second.Related.{Related};
+ghost use Rattle.idl_sources.specs.idl_related.declared.second.Related.{Related};
 
 use idl_inputs::SessionBank;
 use idl_memo::{Meter, freshness, reliance, sharing};
 use idl_prep::RootTask;
-use idl_root::comparing;
-use idl_root::idl_root_blocks::meeting;
+use idl_sources::idl_root::comparing;
+use idl_sources::idl_root::idl_root_blocks::meeting;
 
 /// How many roots an edit expanded, declarations it checked and entries of a listing it printed, through kept results, and how many keys
 /// those had asked that were alike where they were met.

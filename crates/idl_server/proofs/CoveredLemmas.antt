@@ -15,13 +15,13 @@ use Rattle.idl_source.specs.Limits.{most_roots}
 use Rattle.idl_source.specs.names.Name.{is_name}
 use Rattle.idl_source.specs.declared.refusal.Refusal.{Refusal}
 use Rattle.idl_source.specs.declared.refusal.Refusal.TheVariants.{BadName, NoSuchRoot, OverLimit, RootThere}
-use Rattle.idl_project.specs.Compile.{compiled_root}
+use Rattle.idl_project.specs.idl_sources.Compile.{compiled_root}
 use Rattle.idl_project.specs.Edited.{IsRefused}
 use Rattle.idl_inputs.specs.Edits.{AddRoot, DropRoot, after, result_map}
 use Rattle.idl_inputs.specs.Project.{Project, is_root, with_roots}
 use Rattle.idl_project.specs.UpToDate.{State, findings_of}
 use Rattle.idl_inputs.specs.WellFormed.{IsWellFormed}
-use Rattle.idl_project.specs.declared.compile.CompiledRoot.{CompiledRoot}
+use Rattle.idl_project.specs.idl_sources.declared.compile.CompiledRoot.{CompiledRoot}
 use Rattle.idl_editor.specs.documents.Documents.{AreSameBeside, texts_of}
 use Rattle.idl_server.specs.Files.{IsKept}
 use Rattle.idl_server.specs.Named.{asks_for, root_with}

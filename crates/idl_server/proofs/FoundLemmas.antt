@@ -9,10 +9,10 @@ use Rattle.std.specs.Option.{option_map}
 use Rattle.std.specs.Str.{bytes_eq}
 use Rattle.std.specs.Prelude.{if◌then◌else◌}
 use Rattle.idl_finding.specs.declared.finding.Finding.{Finding}
-use Rattle.idl_project.specs.Compile.{compiled_root}
+use Rattle.idl_project.specs.idl_sources.Compile.{compiled_root}
 use Rattle.idl_inputs.specs.Project.{Project}
 use Rattle.idl_project.specs.UpToDate.{findings_of}
-use Rattle.idl_project.specs.declared.compile.CompiledRoot.{CompiledRoot}
+use Rattle.idl_project.specs.idl_sources.declared.compile.CompiledRoot.{CompiledRoot}
 use Rattle.idl_editor.specs.told.Found.{is_in, most_told, told_with}
 use Rattle.idl_server.specs.Found.{findings_by, found_by, found_in}
 use Rattle.idl_editor.proofs.FoundLemmas.{told-all}

@@ -5,7 +5,7 @@ use Rattle.std.specs.FinMap as finite
 use Rattle.std.specs.List.{list_any}
 use Rattle.std.specs.Map.{lookup}
 use Rattle.std.specs.Str.{bytes_eq}
-use Rattle.idl_project.specs.Compile.{compiled_root}
+use Rattle.idl_project.specs.idl_sources.Compile.{compiled_root}
 use Rattle.idl_project.specs.Edited.{IsAccepted}
 use Rattle.idl_inputs.specs.Edits.{Define, Search}
 use Rattle.idl_project.specs.UpToDate.{State}

@@ -10,7 +10,7 @@ use Rattle.std.specs.Result.{OnOk}
 use Rattle.std.specs.Str.{bytes_eq}
 use Rattle.idl_source.specs.texts.Cut.{cut_lines}
 use Rattle.idl_inputs.specs.Batch.{after_all}
-use Rattle.idl_project.specs.Compile.{compiled_root}
+use Rattle.idl_project.specs.idl_sources.Compile.{compiled_root}
 use Rattle.idl_inputs.specs.Edits.{Edit, Put, Remove}
 use Rattle.idl_project.specs.UpToDate.{State}
 use Rattle.idl_loader.specs.Holding.{Allows, Holding, NoFile}

@@ -6,7 +6,7 @@ use Rattle.std.specs.Map.{lookup}
 use Rattle.std.specs.Str.{bytes_eq}
 use Rattle.idl_source.specs.texts.Cut.{cut_lines}
 use Rattle.idl_inputs.specs.Bank.{IsSameBeside}
-use Rattle.idl_project.specs.Compile.{compiled_root}
+use Rattle.idl_project.specs.idl_sources.Compile.{compiled_root}
 use Rattle.idl_loader.specs.Holding.{Holding, NoFile, Allows}
 use Rattle.idl_loader.specs.Holding.{IsFileOf}
 use Rattle.idl_editor.specs.uris.Folders.{FolderNamed, path_for}

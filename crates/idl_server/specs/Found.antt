@@ -2,7 +2,7 @@
 use Rattle.std.specs.Prelude.{ℕ, List, [], flat_map, fold, take}
 use Rattle.std.specs.List.{filter}
 use Rattle.idl_finding.specs.declared.finding.Finding.{Finding}
-use Rattle.idl_project.specs.Compile.{compiled_root}
+use Rattle.idl_project.specs.idl_sources.Compile.{compiled_root}
 use Rattle.idl_inputs.specs.Project.{Inputs, Project}
 use Rattle.idl_editor.specs.told.Found.{is_in, most_told, with_one}
 

@@ -12,11 +12,11 @@ use Rattle.idl_inputs.specs.Asked.{asked_of}
 use Rattle.idl_inputs.specs.Columns.{column_of}
 use Rattle.idl_project.specs.Details.{details_of}
 use Rattle.idl_inputs.specs.Project.{Project}
-use Rattle.idl_project.specs.idl_root.declared.compiling.detailing.DetailedEntry.{DetailedEntry}
-use Rattle.idl_project.specs.idl_root.declared.compiling.detailing.Details.{Details}
-use Rattle.idl_project.specs.idl_root.declared.compiling.places.DeclaredPlace.{DeclaredPlace}
-use Rattle.idl_project.specs.idl_root.declared.compiling.places.SitedToken.{SitedToken}
-use Rattle.idl_project.specs.idl_root.declared.compiling.places.UsedName.{UsedName}
+use Rattle.idl_project.specs.idl_sources.idl_root.declared.compiling.detailing.DetailedEntry.{DetailedEntry}
+use Rattle.idl_project.specs.idl_sources.idl_root.declared.compiling.detailing.Details.{Details}
+use Rattle.idl_project.specs.idl_sources.idl_root.declared.compiling.places.DeclaredPlace.{DeclaredPlace}
+use Rattle.idl_project.specs.idl_sources.idl_root.declared.compiling.places.SitedToken.{SitedToken}
+use Rattle.idl_project.specs.idl_sources.idl_root.declared.compiling.places.UsedName.{UsedName}
 use Rattle.idl_editor.specs.told.Json.{location_json}
 use Rattle.idl_editor.specs.Places.{is_up_to}
 use Rattle.idl_server.specs.Places.{range_of}

@@ -17,12 +17,12 @@ use Rattle.indexmap.specs.IndexMap.{insert_entry}
 use Rattle.indexmap.specs.IndexSet.{insert_all, insert_key}
 use Rattle.idl_explain.specs.declared.explanation.Explanation.{Explanation}
 use Rattle.idl_source.specs.texts.Texts.{Texts}
-use Rattle.idl_driver.specs.idl_project.Related.{AreRelatedOver}
+use Rattle.idl_driver.specs.idl_sources.Related.{AreRelatedOver}
 use Rattle.idl_related.specs.declared.second.Related.{Related}
 use Rattle.idl_inputs.specs.Bank.{bank_of}
-use Rattle.idl_driver.specs.idl_project.Compile.{compiled_root}
+use Rattle.idl_driver.specs.idl_sources.Compile.{compiled_root}
 use Rattle.idl_inputs.specs.Project.{Inputs}
-use Rattle.idl_driver.specs.idl_project.declared.compile.CompiledRoot.{CompiledRoot}
+use Rattle.idl_driver.specs.idl_sources.declared.compile.CompiledRoot.{CompiledRoot}
 use Rattle.idl_tool.specs.Checked.{AreReported, AreToldOf, Entry, Explained, Explains, IsTold, IsToldOf, Told, all_of, entry_in, in_order, report_in, seconds_in, with_entry}
 use Rattle.idl_tool.proofs.JsonLemmas.{zip-push}
 

@@ -10,9 +10,9 @@ use Rattle.idl_loader.specs.Lines.{whole_line}
 use Rattle.idl_source.specs.texts.Texts.{Texts}
 use Rattle.idl_inputs.specs.Asked.{asked_over}
 use Rattle.idl_inputs.specs.Bank.{bank_of}
-use Rattle.idl_driver.specs.idl_project.Compile.{compiled_root}
+use Rattle.idl_driver.specs.idl_sources.Compile.{compiled_root}
 use Rattle.idl_inputs.specs.Project.{Inputs}
-use Rattle.idl_driver.specs.idl_project.declared.compile.CompiledRoot.{CompiledRoot}
+use Rattle.idl_driver.specs.idl_sources.declared.compile.CompiledRoot.{CompiledRoot}
 use Rattle.idl_driver.specs.Compiled.{errors_in, is_faulty, lines_of}
 use Rattle.idl_driver.specs.Rows.{are_faulty, lines_with}
 use Rattle.idl_tool.specs.Deps.{empty_rule, is_other, is_there, need_of, needs_in, needs_of, rules_for, rules_in, target_of}

@@ -10,7 +10,7 @@ use Rattle.idl_changes.specs.declared.change.Weight.{Weight}
 use Rattle.idl_changes.specs.declared.change.Weight.TheVariants.{Breaks}
 use Rattle.idl_source.specs.devices.Device.{append}
 use Rattle.idl_inputs.specs.Bank.{bank_of}
-use Rattle.idl_driver.specs.idl_project.Details.{details_over}
+use Rattle.idl_driver.specs.idl_sources.Details.{details_over}
 use Rattle.idl_inputs.specs.Project.{Inputs}
 use Rattle.idl_driver.specs.Compilations.{IsCompilation, HasCompiled}
 use Rattle.idl_loader.specs.Holding.{Holding}

@@ -3,9 +3,9 @@ use Rattle.std.proofs.Common.{◌≡◌, ◌∙◌, ◌+◌, ◌<◌, ◌++◌, 
 use Rattle.std.proofs.lemmas.List.{append-nil, get_or-map, take_more}
 use Rattle.std.proofs.lemmas.List.Folds.{concat-append}
 use Rattle.std.specs.List.{AllZip, concat}
-use Rattle.idl_driver.specs.idl_project.Compile.{compiled_root}
+use Rattle.idl_driver.specs.idl_sources.Compile.{compiled_root}
 use Rattle.idl_inputs.specs.Project.{Inputs}
-use Rattle.idl_driver.specs.idl_project.declared.compile.CompiledRoot.{CompiledRoot}
+use Rattle.idl_driver.specs.idl_sources.declared.compile.CompiledRoot.{CompiledRoot}
 use Rattle.idl_tool.specs.Json.{IsLineOf, IsLineWith}
 
 -- items that belong together, place by place, and two more

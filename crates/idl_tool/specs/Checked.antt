@@ -9,14 +9,14 @@ use Rattle.idl_explain.specs.declared.explanation.Explanation.{Explanation}
 use Rattle.idl_explain.specs.declared.explanation.Topic.TheVariants as topic
 use Rattle.idl_fault.specs.declared.place.Place.{Place}
 use Rattle.idl_related.specs.Follows.{follows}
-use Rattle.idl_driver.specs.idl_project.Related.{AreRelatedOver}
+use Rattle.idl_driver.specs.idl_sources.Related.{AreRelatedOver}
 use Rattle.idl_related.specs.declared.second.Related.{Related}
 use Rattle.idl_finding.specs.declared.finding.Finding.{Finding}
 use Rattle.idl_source.specs.devices.Device.{append}
 use Rattle.idl_source.specs.texts.Texts.{Texts}
 use Rattle.idl_inputs.specs.Bank.{bank_of}
 use Rattle.idl_inputs.specs.Columns.{column_at}
-use Rattle.idl_driver.specs.idl_project.Compile.{compiled_root}
+use Rattle.idl_driver.specs.idl_sources.Compile.{compiled_root}
 use Rattle.idl_inputs.specs.Made.{rootless}
 use Rattle.idl_inputs.specs.Project.{Inputs}
 use Rattle.idl_inputs.specs.WellFormed.{IsWellFormed}

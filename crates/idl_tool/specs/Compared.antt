@@ -6,7 +6,7 @@ use Rattle.idl_changes.specs.declared.change.Change.{Change}
 use Rattle.idl_changes.specs.declared.change.Weight.{Weight}
 use Rattle.idl_changes.specs.declared.change.Weight.TheVariants.{Breaks}
 use Rattle.idl_repo.specs.declared.details.row_tree.RowTree.{RowTree}
-use Rattle.idl_driver.specs.idl_project.idl_root.declared.compiling.detailing.Details.{Details}
+use Rattle.idl_driver.specs.idl_sources.idl_root.declared.compiling.detailing.Details.{Details}
 use Rattle.idl_loader.specs.Lines.{whole_line}
 use Rattle.idl_source.specs.devices.Device.{append}
 use Rattle.idl_inputs.specs.Made.{rootless}

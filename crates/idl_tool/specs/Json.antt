@@ -8,21 +8,21 @@ use Rattle.idl_json.specs.Diagnostic.{Located, Second}
 use Rattle.idl_json.specs.Listed.{LocatedRow, NamePlace}
 use Rattle.idl_json.specs.Root.{IsRootLine, Root}
 use Rattle.idl_related.specs.Reasons.{reason_words}
-use Rattle.idl_driver.specs.idl_project.Related.{AreRelatedOver}
+use Rattle.idl_driver.specs.idl_sources.Related.{AreRelatedOver}
 use Rattle.idl_related.specs.declared.second.Related.{Related}
-use Rattle.idl_driver.specs.idl_project.idl_root.declared.compiling.detailing.DetailedEntry.{DetailedEntry}
-use Rattle.idl_driver.specs.idl_project.idl_root.declared.compiling.places.DeclaredPlace.{DeclaredPlace}
+use Rattle.idl_driver.specs.idl_sources.idl_root.declared.compiling.detailing.DetailedEntry.{DetailedEntry}
+use Rattle.idl_driver.specs.idl_sources.idl_root.declared.compiling.places.DeclaredPlace.{DeclaredPlace}
 use Rattle.idl_source.specs.devices.Device.{append}
 use Rattle.idl_source.specs.texts.Texts.{Texts}
 use Rattle.idl_inputs.specs.Asked.{asked_over}
 use Rattle.idl_inputs.specs.Bank.{bank_of}
 use Rattle.idl_inputs.specs.Columns.{column_at}
-use Rattle.idl_driver.specs.idl_project.Compile.{compiled_root}
-use Rattle.idl_driver.specs.idl_project.Details.{details_over}
+use Rattle.idl_driver.specs.idl_sources.Compile.{compiled_root}
+use Rattle.idl_driver.specs.idl_sources.Details.{details_over}
 use Rattle.idl_inputs.specs.Made.{rootless}
 use Rattle.idl_inputs.specs.Project.{Inputs}
 use Rattle.idl_inputs.specs.WellFormed.{IsWellFormed}
-use Rattle.idl_driver.specs.idl_project.declared.compile.CompiledRoot.{CompiledRoot}
+use Rattle.idl_driver.specs.idl_sources.declared.compile.CompiledRoot.{CompiledRoot}
 use Rattle.idl_driver.specs.Written.{Written}
 use Rattle.idl_driver.specs.Compiled.{is_faulty}
 use Rattle.idl_loader.specs.Holding.{Holding}

@@ -7,14 +7,14 @@ ghost use Rattle.idl_explain.specs.declared.explanation.Explanation.{Explanation
 ghost use Rattle.idl_driver.specs.Compilations.{HasCompiled};
 ghost use Rattle.idl_driver.specs.Rows.{are_faulty};
 ghost use Rattle.idl_loader.specs.declared.status.Status.TheVariants.{Faulty, Sound};
-ghost use Rattle.idl_driver.specs.idl_project.Compile.{compiled_root};
+ghost use Rattle.idl_driver.specs.idl_sources.Compile.{compiled_root};
 ghost use Rattle.idl_tool.specs.Checked.{AreReported, AreToldOf, Explains, IsChecked, IsReportText, IsToldOf, Told, all_of, column_of, entry_text, in_order, line_at, report_in, seconds_in};
 ghost use Rattle.idl_tool.specs.ToldAt.{told_at};
 
 use crate::failure::ToolFailure;
 use crate::report::{LocatedFinding, push_second};
 use idl_base::{Bytes, Seq};
-use idl_driver::idl_project::{CompiledRoot, Finding, Sources, related_over};
+use idl_driver::idl_sources::{CompiledRoot, Finding, Sources, related_over};
 use idl_driver::{Compilation, Devices, Options, compile_files};
 use idl_explain::{Topic, explanation_of};
 use idl_fault::Place;

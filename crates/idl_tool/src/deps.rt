@@ -11,7 +11,7 @@ ghost use Rattle.idl_tool.specs.make_rules.Make.{IsMakeRule, is_make_name, need_
 use crate::failure::ToolFailure;
 use crate::make_rules::{is_make_name, push_need, push_need_if_there, push_target};
 use crate::request::Deps;
-use idl_driver::idl_project::{CompiledRoot, Sources};
+use idl_driver::idl_sources::{CompiledRoot, Sources};
 use idl_driver::{Devices, FailureSubject, compile_files};
 use idl_loader::{Loader, Status, write_lines};
 use idl_source::devices::{WriteFailed, write_all};

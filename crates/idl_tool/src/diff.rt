@@ -3,7 +3,7 @@
 ghost use Rattle.std.specs.Prelude.{◌≡◌, ◌≤◌, ◌<◌, ◌+◌, ◌-◌, ◌^◌, IfOk, OnErr, OnOk, flat_map, if◌then◌else◌, map};
 ghost use Rattle.idl_source.specs.devices.Device.{append};
 ghost use Rattle.idl_inputs.specs.Bank.{bank_of};
-ghost use Rattle.idl_driver.specs.idl_project.Details.{details_over};
+ghost use Rattle.idl_driver.specs.idl_sources.Details.{details_over};
 ghost use Rattle.idl_loader.specs.declared.status.Status.TheVariants.{Faulty, Sound};
 ghost use Rattle.idl_driver.specs.Compilations.{HasCompiled};
 ghost use Rattle.idl_driver.specs.Rows.{are_faulty};
@@ -16,7 +16,7 @@ use crate::failure::ToolFailure;
 use crate::json::trees_of;
 use crate::request::Diff;
 use idl_changes::{Change, Weight, changes};
-use idl_driver::idl_project::{CompiledRoot, Details, Sources};
+use idl_driver::idl_sources::{CompiledRoot, Details, Sources};
 use idl_driver::{Compilation, Devices, compile_files};
 use idl_loader::{Loader, Status};
 use idl_repo::details::RowTree;

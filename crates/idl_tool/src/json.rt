@@ -5,13 +5,13 @@ ghost use Rattle.std.specs.List.{AllZip, concat, zip};
 ghost use Rattle.idl_json.specs.Diagnostic.{located, second_of};
 ghost use Rattle.idl_json.specs.Listed.{place_of, row_of};
 ghost use Rattle.idl_json.specs.Root.{IsRootLine};
-ghost use Rattle.idl_driver.specs.idl_project.Compile.{compiled_root};
+ghost use Rattle.idl_driver.specs.idl_sources.Compile.{compiled_root};
 ghost use Rattle.idl_tool.specs.Json.{IsLineOf, IsLineWith, IsWritten, declared_in, listing_of, located_in, row_in, second_at, told_of};
 
 use crate::check::{column_of, status_of};
 use crate::failure::ToolFailure;
 use idl_base::Seq;
-use idl_driver::idl_project::{
+use idl_driver::idl_sources::{
     CompiledRoot, DeclaredPlace, DetailedEntry, Details, Finding, SitedToken, Sources, related_over,
 };
 use idl_driver::{Devices, Options, compile_files};

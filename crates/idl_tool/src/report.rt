@@ -4,7 +4,7 @@ ghost use Rattle.std.specs.Prelude.{◌≡◌, ◌++◌, ◌<◌, IfOk, OnOk, ma
 ghost use Rattle.std.specs.Option.{option_copied};
 ghost use Rattle.idl_tool.specs.Report.{beginning, column_text, excerpt, gap_below, heading, hex_digit, line_byte, mark_below, more_text, place_text, report, saying, second_line, severity, shown_byte, shown_line, shown_token, token_in};
 
-use idl_driver::idl_project::Finding;
+use idl_driver::idl_sources::Finding;
 use idl_explain::Words;
 use idl_fault::{Code, Place};
 use idl_related::Related;

@@ -1,8 +1,8 @@
 use Rattle.std.proofs.Common.{◌≡◌, ◌∙◌, ℕ, All, List, ap, map, refl, subst, sym}
 use Rattle.std.proofs.lemmas.List.Elements.{All-nil}
-use Rattle.idl_project.specs.Compile.{compiled_root}
+use Rattle.idl_sources.specs.Compile.{compiled_root}
 use Rattle.idl_inputs.specs.Project.{Inputs}
-use Rattle.idl_project.specs.declared.compile.CompiledRoot.{CompiledRoot}
+use Rattle.idl_sources.specs.declared.compile.CompiledRoot.{CompiledRoot}
 use Rattle.idl_loader.specs.Holding.{Allows, Holding, NoFile}
 use Rattle.idl_driver.specs.Loading.{AreLoaded}
 use Rattle.idl_driver.specs.Tried.{AreMissing, IsTrue}

@@ -1,7 +1,7 @@
 use Rattle.std.specs.Prelude.{None, Some, if◌then◌else◌}
 use Rattle.std.specs.Option.{option_map}
 use Rattle.std.proofs.Common.{ap}
-use Rattle.idl_session.specs.idl_project.Compile.{compiled_root}
+use Rattle.idl_session.specs.idl_project.idl_sources.Compile.{compiled_root}
 use Rattle.idl_program.proofs.laws.rows_of_a_session.Goals as goal
 
 pub returns-clause-errors : goal.returns-clause-errors

@@ -1,5 +1,5 @@
 use Rattle.std.proofs.Common.{◌≡◌, List, IfErr, rules, subst}
-use Rattle.idl_session.specs.idl_project.declared.compile.CompiledRoot.{CompiledRoot}
+use Rattle.idl_session.specs.idl_project.idl_sources.declared.compile.CompiledRoot.{CompiledRoot}
 use Rattle.idl_driver.specs.Written.{Written}
 use Rattle.idl_driver.specs.declared.failure.ProgramFailure.TheVariants.{WriteFailed}
 use Rattle.idl_driver.proofs.ToldLemmas.{until-none, until-write}

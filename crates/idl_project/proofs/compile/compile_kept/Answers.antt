@@ -4,12 +4,13 @@ use Rattle.idl_event.specs.declared.asked.key.RootAnswer.{RootAnswer}
 use Rattle.idl_event.specs.declared.asked.key.RootKey.{RootKey}
 use Rattle.idl_event.specs.declared.told.event.Event.{Event}
 use Rattle.idl_prep.specs.Root.{absent_files}
-use Rattle.idl_root.specs.AsBefore.{IsAsBefore, IsMade}
-use Rattle.idl_root.specs.Compile.{compile}
-use Rattle.idl_root.specs.Turns.{IsWithinWords}
-use Rattle.idl_root.specs.Results.{root_marks}
-use Rattle.idl_project.specs.Compile.{end_of}
-use Rattle.idl_project.proofs.KeptLemmas.{IsDrafted-from, compile-kept, none-weaker}
+use Rattle.idl_sources.specs.idl_root.AsBefore.{IsAsBefore, IsMade}
+use Rattle.idl_sources.specs.idl_root.Compile.{compile}
+use Rattle.idl_sources.specs.idl_root.Turns.{IsWithinWords}
+use Rattle.idl_sources.specs.idl_root.Results.{root_marks}
+use Rattle.idl_sources.specs.Compile.{end_of}
+use Rattle.idl_sources.proofs.CompileLemmas.{compile-kept}
+use Rattle.idl_project.proofs.KeptLemmas.{IsDrafted-from, none-weaker}
 use Rattle.idl_project.proofs.compile.compile_kept.Goals as goal
 
 pub returns-clause-compiled : goal.returns-clause-compiled

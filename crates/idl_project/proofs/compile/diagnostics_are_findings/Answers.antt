@@ -5,12 +5,12 @@ use Rattle.idl_event.specs.declared.asked.key.RootAnswer.{RootAnswer}
 use Rattle.idl_event.specs.declared.asked.key.RootKey.{RootKey}
 use Rattle.idl_fault.specs.declared.place.Place.{Place}
 use Rattle.idl_prep.specs.Root.{expanded}
-use Rattle.idl_root.specs.Compile.{compile}
+use Rattle.idl_sources.specs.idl_root.Compile.{compile}
 use Rattle.idl_finding.specs.Findings.{finding_row}
 use Rattle.idl_inputs.specs.Bank.{bank_of}
-use Rattle.idl_project.specs.Compile.{compile_over, compiled_root, end_of}
+use Rattle.idl_sources.specs.Compile.{compile_over, compiled_root, end_of}
 use Rattle.idl_inputs.specs.Project.{is_root}
-use Rattle.idl_project.specs.declared.compile.CompiledRoot.{CompiledRoot}
+use Rattle.idl_sources.specs.declared.compile.CompiledRoot.{CompiledRoot}
 use Rattle.idl_project.proofs.compile.diagnostics_are_findings.Goals as goal
 
 -- a root's diagnostics are the rows of what is found in it

@@ -2,8 +2,8 @@
 use Rattle.std.proofs.Common.{◌≡◌, ◌⊎◌, ◌∙◌, ℕ, List, ap, inl, inr, subst, sym}
 use Rattle.idl_memo.specs.declared.meter.Meter.{Meter}
 use Rattle.idl_prep.specs.Root.{expanded}
-use Rattle.idl_root.specs.AsBefore.{IsAsBefore, kept_lists}
-use Rattle.idl_root.specs.Results.{IsKeptOf, RootMarks}
+use Rattle.idl_sources.specs.idl_root.AsBefore.{IsAsBefore, kept_lists}
+use Rattle.idl_sources.specs.idl_root.Results.{IsKeptOf, RootMarks}
 use Rattle.idl_project.specs.Renewed.{IsDrafted}
 use Rattle.idl_project.proofs.KeptLemmas.{IsAsBefore-metered, IsDrafted-metered, none-weaker}
 use Rattle.idl_project.proofs.kept_root.expanded.Goals as goal

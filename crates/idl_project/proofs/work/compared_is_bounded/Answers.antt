@@ -8,9 +8,9 @@ use Rattle.idl_event.specs.declared.asked.key.RootAnswer.{RootAnswer}
 use Rattle.std.specs.Prelude.{Bool}
 use Rattle.idl_memo.specs.Fresh.{most_shared_at, shared_at}
 use Rattle.idl_prep.specs.Root.{expansion}
-use Rattle.idl_root.specs.Compared.{most_shared_entry, shared_entry}
-use Rattle.idl_root.specs.Places.{EntryPlace}
-use Rattle.idl_root.specs.idl_root_blocks.Met.{Met, compared, most_compared, most_shared_by, shared_by}
+use Rattle.idl_sources.specs.idl_root.Compared.{most_shared_entry, shared_entry}
+use Rattle.idl_sources.specs.idl_root.Places.{EntryPlace}
+use Rattle.idl_sources.specs.idl_root.idl_root_blocks.Met.{Met, compared, most_compared, most_shared_by, shared_by}
 use Rattle.idl_project.specs.Compared.{MetEntry, MetRoot, MetText, PlaceMet, compared_in, most_compared_in, most_shared_keys, shared_keys}
 use Rattle.idl_project.specs.Tasks.{RootPlace}
 use Rattle.idl_project.specs.Work.{met_of}

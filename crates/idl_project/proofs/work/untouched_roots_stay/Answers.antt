@@ -15,19 +15,20 @@ use Rattle.idl_memo.specs.Fresh.{fresh_among, fresh_at, is_alike, log_at, places
 use Rattle.idl_memo.specs.Kept.{Kept, result_over}
 use Rattle.idl_memo.specs.Query.{HoldsIn}
 use Rattle.idl_prep.specs.Root.{expanded, expansion}
-use Rattle.idl_related.specs.Related.{AreRelated}
-use Rattle.idl_related.specs.declared.second.Related.{Related}
-use Rattle.idl_root.specs.Details.{details}
+use Rattle.idl_sources.specs.idl_related.Related.{AreRelated}
+use Rattle.idl_sources.specs.idl_related.declared.second.Related.{Related}
+use Rattle.idl_sources.specs.idl_root.Details.{details}
 use Rattle.idl_inputs.specs.Asked.{asked_files, asked_of, asked_over}
 use Rattle.idl_inputs.specs.Bank.{bank_of}
 use Rattle.idl_inputs.specs.Project.{Project}
-use Rattle.idl_project.specs.Compile.{compile_over}
-use Rattle.idl_project.specs.Details.{details_of, details_over, expansion_of}
+use Rattle.idl_sources.specs.Compile.{compile_over}
+use Rattle.idl_sources.specs.Details.{details_over}
+use Rattle.idl_project.specs.Details.{details_of, expansion_of}
 use Rattle.idl_project.specs.Related.{AreRelatedIn, AreRelatedTo}
 use Rattle.idl_project.specs.Tasks.{RootPlace, answer_eq}
 use Rattle.idl_project.specs.UpToDate.{compiled_of, findings_of}
 use Rattle.idl_project.specs.Work.{IsPassedOver}
-use Rattle.idl_project.specs.declared.compile.CompiledRoot.{CompiledRoot}
+use Rattle.idl_sources.specs.declared.compile.CompiledRoot.{CompiledRoot}
 use Rattle.idl_project.proofs.AskedLemmas.{files-alike}
 use Rattle.idl_project.proofs.KeptLemmas.{answer_eq-derived, compile-again}
 use Rattle.idl_project.proofs.TouchedLemmas.{count-touched, untouched-alike}

@@ -1,7 +1,7 @@
 use Rattle.std.proofs.Common.{◌≡◌, drop}
 use Rattle.std.specs.List.{list_any}
 use Rattle.idl_server.specs.Named.{stands_at}
-use Rattle.idl_project.specs.idl_root.declared.compiling.places.DeclaredPlace.{DeclaredPlace}
+use Rattle.idl_project.specs.idl_sources.idl_root.declared.compiling.places.DeclaredPlace.{DeclaredPlace}
 use Rattle.idl_server.proofs.named.is_declared_at.Given as goal
 
 -- none of those before

@@ -1,7 +1,7 @@
 use Rattle.std.proofs.Common.{◌∙◌, ap, ap₂, length, map, subst}
 use Rattle.std.proofs.lemmas.Result.{on_ok_weaker}
 use Rattle.std.specs.List.{zip}
-use Rattle.idl_driver.specs.idl_project.Related.{AreRelatedOver}
+use Rattle.idl_driver.specs.idl_sources.Related.{AreRelatedOver}
 use Rattle.idl_inputs.specs.Bank.{bank_of}
 use Rattle.idl_tool.specs.Checked.{AreReported, in_order}
 use Rattle.idl_tool.specs.ToldAt.{told_at}

@@ -1,6 +1,6 @@
 use Rattle.std.proofs.Common.{◌∙◌, ℕ, List, ap, map, subst, sym}
 use Rattle.std.proofs.lemmas.Result.{IfOk-weaker}
-use Rattle.idl_driver.specs.idl_project.Compile.{compiled_root}
+use Rattle.idl_driver.specs.idl_sources.Compile.{compiled_root}
 use Rattle.idl_tool.specs.Checked.{AreToldOf}
 use Rattle.idl_tool.proofs.check.report_text.Goals as goal
 

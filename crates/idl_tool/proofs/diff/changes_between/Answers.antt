@@ -3,7 +3,7 @@ use Rattle.std.proofs.lemmas.Result.{IfOk-weaker}
 use Rattle.idl_changes.specs.Changes.{changes}
 use Rattle.idl_repo.specs.declared.details.row_tree.RowTree.{RowTree}
 use Rattle.idl_inputs.specs.Bank.{bank_of}
-use Rattle.idl_driver.specs.idl_project.Details.{details_over}
+use Rattle.idl_driver.specs.idl_sources.Details.{details_over}
 use Rattle.idl_tool.specs.Compared.{all_trees, trees_in}
 use Rattle.idl_tool.proofs.DiffLemmas.{trees-of-all}
 use Rattle.idl_tool.proofs.diff.changes_between.Goals as goal

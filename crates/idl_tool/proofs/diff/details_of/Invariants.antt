@@ -1,6 +1,6 @@
 use Rattle.std.proofs.Common.{◌≡◌, map, take}
 use Rattle.idl_inputs.specs.Bank.{bank_of}
-use Rattle.idl_driver.specs.idl_project.Details.{details_over}
+use Rattle.idl_driver.specs.idl_sources.Details.{details_over}
 use Rattle.idl_tool.proofs.diff.details_of.Given as goal
 
 -- those so far

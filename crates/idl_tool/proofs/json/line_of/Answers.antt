@@ -1,7 +1,7 @@
 use Rattle.std.proofs.Common.{◌∙◌, ap, length, subst}
 use Rattle.idl_json.specs.Root.{IsRootLine}
 use Rattle.idl_inputs.specs.Bank.{bank_of}
-use Rattle.idl_driver.specs.idl_project.Related.{AreRelatedOver}
+use Rattle.idl_driver.specs.idl_sources.Related.{AreRelatedOver}
 use Rattle.idl_tool.specs.Json.{IsLineWith, told_of}
 use Rattle.idl_tool.proofs.JsonLemmas.{ok-weaker}
 use Rattle.idl_tool.proofs.json.line_of.Goals as goal

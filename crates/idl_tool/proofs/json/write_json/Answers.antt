@@ -1,7 +1,7 @@
 use Rattle.std.proofs.Common.{◌∙◌, ℕ, List, ap, if◌then◌else◌, map, refl, subst, sym}
 use Rattle.std.specs.List.{AllZip}
 use Rattle.idl_source.specs.devices.Device.{append}
-use Rattle.idl_driver.specs.idl_project.Compile.{compiled_root}
+use Rattle.idl_driver.specs.idl_sources.Compile.{compiled_root}
 use Rattle.idl_driver.specs.Rows.{are_faulty}
 use Rattle.idl_loader.specs.declared.status.Status.TheVariants.{Faulty, Sound}
 use Rattle.idl_tool.specs.Json.{IsLineOf}

@@ -1,7 +1,7 @@
 use Rattle.std.proofs.Common.{ℕ, All, Contains, List, sym, take}
 use Rattle.std.proofs.lemmas.List.{take_all}
 use Rattle.std.proofs.lemmas.List.Elements.{All-same}
-use Rattle.idl_project.specs.declared.compile.CompiledRoot.{CompiledRoot}
+use Rattle.idl_sources.specs.declared.compile.CompiledRoot.{CompiledRoot}
 use Rattle.idl_loader.proofs.ListLemmas.{All-take_more}
 use Rattle.idl_driver.proofs.loading.Loading.untried.Goals as goal
 

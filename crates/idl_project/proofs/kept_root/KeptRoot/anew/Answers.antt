@@ -1,7 +1,7 @@
 -- Nothing is kept of it yet.
 use Rattle.std.proofs.Common.{[], subst, sym}
-use Rattle.idl_root.specs.AsBefore.{kept_lists}
-use Rattle.idl_root.specs.Results.{IsKeptOf, KeptLists, RootMarks}
+use Rattle.idl_sources.specs.idl_root.AsBefore.{kept_lists}
+use Rattle.idl_sources.specs.idl_root.Results.{IsKeptOf, KeptLists, RootMarks}
 use Rattle.idl_project.proofs.kept_root.KeptRoot.anew.Goals as goal
 
 pub expanded-requires-clause-kept : goal.expanded-requires-clause-kept

@@ -6,10 +6,10 @@ use Rattle.idl_event.specs.declared.asked.key.RootAnswer.{RootAnswer}
 use Rattle.idl_event.specs.declared.asked.key.RootKey.{RootKey}
 use Rattle.idl_memo.specs.Kept.{Kept, HoldsOver}
 use Rattle.idl_prep.specs.Root.{expanded, expansion}
-use Rattle.idl_root.specs.AsBefore.{IsAsBefore, kept_lists}
+use Rattle.idl_sources.specs.idl_root.AsBefore.{IsAsBefore, kept_lists}
 use Rattle.idl_inputs.specs.Bank.{bank_of}
 use Rattle.idl_project.specs.Renewed.{IsDrafted}
-use Rattle.idl_project.specs.declared.compile.CompiledRoot.{CompiledRoot}
+use Rattle.idl_sources.specs.declared.compile.CompiledRoot.{CompiledRoot}
 use Rattle.idl_project.proofs.KeptLemmas.{IsCompiledOf-kept, IsKept-still, IsKeptOf-held, expanded-again, held-meter}
 use Rattle.idl_project.proofs.kept_root.KeptRoot.renewed.Goals as goal
 

@@ -3,9 +3,9 @@ use Rattle.std.proofs.Common.{◌≡◌, ◌∙◌, ℕ, [], List, length, map, 
 use Rattle.std.proofs.lemmas.List.{length-map}
 use Rattle.std.proofs.lemmas.Map.Entries.{length-keys_of}
 use Rattle.std.specs.Map.{keys_of}
-use Rattle.idl_root.specs.idl_kept.Texts.{Texts}
+use Rattle.idl_sources.specs.idl_root.idl_kept.Texts.{Texts}
 use Rattle.idl_store.specs.Stored.{Stored, list_at}
-use Rattle.idl_root.specs.Results.{EntryResult}
+use Rattle.idl_sources.specs.idl_root.Results.{EntryResult}
 use Rattle.idl_inputs.specs.Bank.{bank_of}
 use Rattle.idl_project.specs.Tasks.{begin_list, block_list, declaration_list, entry_list}
 use Rattle.idl_project.proofs.RootLemmas.{IsKeeperLeft-discarded}

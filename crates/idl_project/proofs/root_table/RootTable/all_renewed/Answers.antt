@@ -6,14 +6,14 @@ use Rattle.std.specs.List.{list_any, IsDistinct}
 use Rattle.std.specs.Map.{keys_of}
 use Rattle.std.specs.Option.{option_eq}
 use Rattle.std.specs.Str.{bytes_eq}
-use Rattle.idl_root.specs.idl_kept.Texts.{Texts}
+use Rattle.idl_sources.specs.idl_root.idl_kept.Texts.{Texts}
 use Rattle.idl_memo.specs.Fresh.{stale_at}
 use Rattle.idl_memo.specs.Meter.{compared_after}
 use Rattle.idl_memo.specs.declared.meter.Meter.{Meter}
 use Rattle.idl_prep.specs.Root.{expansion}
 use Rattle.idl_store.specs.Stored.{list_at}
-use Rattle.idl_root.specs.Results.{entry_result, fresh_declarations, fresh_entries}
-use Rattle.idl_root.specs.idl_root_blocks.Places.{block_result, declaration_result}
+use Rattle.idl_sources.specs.idl_root.Results.{entry_result, fresh_declarations, fresh_entries}
+use Rattle.idl_sources.specs.idl_root.idl_root_blocks.Places.{block_result, declaration_result}
 use Rattle.idl_inputs.specs.Bank.{bank_of}
 use Rattle.idl_project.specs.Compared.{KnownTasks, compared_in, met_among, met_at, tasks_of, with_tasks}
 use Rattle.idl_project.specs.Renewed.{IsRenewedAt}

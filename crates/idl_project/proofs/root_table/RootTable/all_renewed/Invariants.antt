@@ -3,9 +3,9 @@ use Rattle.std.specs.List.{IsDistinct}
 use Rattle.std.specs.Map.{keys_of}
 use Rattle.std.specs.Str.{bytes_eq}
 use Rattle.idl_memo.specs.Meter.{compared_after, most_compared}
-use Rattle.idl_root.specs.AsBefore.{AreListsLeft}
-use Rattle.idl_root.specs.Results.{entry_result, fresh_declarations, fresh_entries}
-use Rattle.idl_root.specs.idl_root_blocks.Places.{block_result, declaration_result}
+use Rattle.idl_sources.specs.idl_root.AsBefore.{AreListsLeft}
+use Rattle.idl_sources.specs.idl_root.Results.{entry_result, fresh_declarations, fresh_entries}
+use Rattle.idl_sources.specs.idl_root.idl_root_blocks.Places.{block_result, declaration_result}
 use Rattle.idl_inputs.specs.Bank.{bank_of}
 use Rattle.idl_project.specs.Compared.{compared_in, met_among, met_between, tasks_of, with_tasks}
 use Rattle.idl_project.specs.Tasks.{begin_list, blocks_at, declarations_at, entries_at}

@@ -17,10 +17,10 @@ use Rattle.idl_source.specs.Limits.{most_roots}
 use Rattle.idl_source.specs.names.Name.{is_name}
 use Rattle.idl_source.specs.declared.refusal.Refusal.{Refusal}
 use Rattle.idl_source.specs.declared.refusal.Refusal.TheVariants.{BadName, OverLimit, RootThere}
-use Rattle.idl_root.specs.idl_kept.Texts.{Texts}
+use Rattle.idl_sources.specs.idl_root.idl_kept.Texts.{Texts}
 use Rattle.idl_store.specs.Stored.{with_draft}
-use Rattle.idl_root.specs.Results.{entry_result, fresh_declarations, fresh_entries}
-use Rattle.idl_root.specs.idl_root_blocks.Places.{declaration_result}
+use Rattle.idl_sources.specs.idl_root.Results.{entry_result, fresh_declarations, fresh_entries}
+use Rattle.idl_sources.specs.idl_root.idl_root_blocks.Places.{declaration_result}
 use Rattle.idl_inputs.specs.Bank.{bank_of}
 use Rattle.idl_project.specs.Compared.{compared_in, met_between}
 use Rattle.idl_project.specs.Tasks.{alike_root, begin_list, block_list, declaration_list, declarations_among, declarations_at, entries_among, entries_at, entry_list}

@@ -2,9 +2,9 @@ use Rattle.std.proofs.Common.{All, [], List, ℕ, subst}
 use Rattle.std.proofs.lemmas.List.Elements.{All-weaker}
 use Rattle.std.specs.Map.{keys_of}
 use Rattle.idl_prep.specs.Root.{expanded}
-use Rattle.idl_root.specs.Places.{root_pieces}
-use Rattle.idl_root.specs.Turns.{IsWithinWords}
-use Rattle.idl_root.specs.idl_root_blocks.Places.{AreStandingOver}
+use Rattle.idl_sources.specs.idl_root.Places.{root_pieces}
+use Rattle.idl_sources.specs.idl_root.Turns.{IsWithinWords}
+use Rattle.idl_sources.specs.idl_root.idl_root_blocks.Places.{AreStandingOver}
 use Rattle.idl_inputs.specs.Bank.{bank_of}
 use Rattle.idl_project.specs.UpToDate.{State}
 use Rattle.idl_project.proofs.RootLemmas.{within-held}

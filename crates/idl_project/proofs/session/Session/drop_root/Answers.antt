@@ -9,7 +9,7 @@ use Rattle.std.specs.Set.{remove_key}
 use Rattle.std.specs.Str.{bytes_eq}
 use Rattle.indexmap.proofs.CallerLemmas.{keys-shift_remove_entry}
 use Rattle.idl_event.specs.declared.asked.key.RootAnswer.{RootAnswer}
-use Rattle.idl_root.specs.idl_kept.Texts.{Texts}
+use Rattle.idl_sources.specs.idl_root.idl_kept.Texts.{Texts}
 use Rattle.idl_memo.specs.Fresh.{is_alike}
 use Rattle.idl_memo.specs.Meter.{compared_after}
 use Rattle.idl_prep.specs.Root.{expansion}
@@ -17,8 +17,8 @@ use Rattle.idl_source.specs.names.Name.{is_name}
 use Rattle.idl_source.specs.declared.refusal.Refusal.{Refusal}
 use Rattle.idl_source.specs.declared.refusal.Refusal.TheVariants.{BadName, NoSuchRoot}
 use Rattle.idl_store.specs.Stored.{Stored, removed}
-use Rattle.idl_root.specs.Results.{entry_result, fresh_declarations, fresh_entries}
-use Rattle.idl_root.specs.idl_root_blocks.Places.{declaration_result}
+use Rattle.idl_sources.specs.idl_root.Results.{entry_result, fresh_declarations, fresh_entries}
+use Rattle.idl_sources.specs.idl_root.idl_root_blocks.Places.{declaration_result}
 use Rattle.idl_inputs.specs.Bank.{bank_of}
 use Rattle.idl_project.specs.Compared.{compared_in, met_between, tasks_of}
 use Rattle.idl_inputs.specs.Edits.{DropRoot, after, result_map, roots_without}

@@ -2,7 +2,7 @@ use Rattle.std.proofs.Common.{◌≡◌, ℕ, All, List, subst, sym, take, true}
 use Rattle.std.proofs.lemmas.List.{take_all}
 use Rattle.std.proofs.lemmas.List.Elements.{All-get_or, All-same}
 use Rattle.idl_loader.proofs.ListLemmas.{All-take_more}
-use Rattle.idl_project.specs.Compile.{compiled_root}
+use Rattle.idl_project.specs.idl_sources.Compile.{compiled_root}
 use Rattle.idl_inputs.specs.Project.{is_root}
 use Rattle.idl_server.specs.Files.{IsTried}
 use Rattle.idl_server.proofs.RootLemmas.{absent-tried, root-lost}

@@ -6,8 +6,8 @@ ghost use Rattle.idl_prep.specs.Root.{expanded};
 ghost use Rattle.idl_root.specs.Turns.{IsWithinWords};
 ghost use Rattle.idl_inputs.specs.Asked.{asked_over};
 ghost use Rattle.idl_inputs.specs.Bank.{bank_of};
-ghost use Rattle.idl_project.specs.Compile.{compiled_root};
-ghost use Rattle.idl_project.specs.Details.{details_over};
+ghost use Rattle.idl_sources.specs.Compile.{compiled_root};
+ghost use Rattle.idl_sources.specs.Details.{details_over};
 ghost use Rattle.idl_inputs.specs.Edits.{Define, Put, Search, Undef};
 ghost use Rattle.idl_inputs.specs.Made.{IsMade, rootless};
 ghost use Rattle.idl_inputs.specs.Project.{no_inputs};
@@ -15,8 +15,7 @@ ghost use Rattle.idl_inputs.specs.WellFormed.{IsWellFormed};
 
 use crate::compile::{CompiledRoot, compile_alone};
 use crate::detailed::details_alone;
-use crate::word::spelled;
-use idl_base::Seq;
+use idl_base::{Bytes, Seq};
 use idl_event::{RootAnswer, RootKey};
 use idl_inputs::expanding::asked_alone;
 use idl_inputs::{Columns, EditedFiles, FileEdit, MacroBody, SessionBank, Stepless, directories};
@@ -84,7 +83,7 @@ impl Sources {
     pub fn define(&mut self, word: &[u8], body: Line) -> Result<(), Refusal>
         ensures { IsMade (Define word.now body) self.old self.new result }
     {
-        let word = spelled(self.memory.alloc(), word)?;
+        let word = Bytes::from_slice(self.memory.alloc(), word)?;
         if let Some(refusal) = self.bank.refusal_of_define(&word, &body) {
             return Err(refusal);
         }
@@ -102,7 +101,7 @@ impl Sources {
         if !is_macro_word(word) {
             return Err(Refusal::BadMacro);
         }
-        let word = spelled(self.memory.alloc(), word)?;
+        let word = Bytes::from_slice(self.memory.alloc(), word)?;
         self.bank.undef(&word);
         Ok(())
     }

@@ -5,7 +5,7 @@ use Rattle.idl_inputs.specs.Made.{rootless}
 use Rattle.idl_inputs.specs.Project.{Inputs}
 use Rattle.idl_inputs.proofs.EditLemmas.{undef-accepted}
 use Rattle.idl_inputs.proofs.FormLemmas.{after-formed}
-use Rattle.idl_project.proofs.sources.Sources.undef.Goals as goal
+use Rattle.idl_sources.proofs.sources.Sources.undef.Goals as goal
 
 pub invariant_of-self : goal.invariant_of-self
 invariant_of-self c =

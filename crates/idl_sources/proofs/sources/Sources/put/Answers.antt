@@ -8,7 +8,7 @@ use Rattle.idl_inputs.specs.Refiled.{files_after}
 use Rattle.idl_inputs.specs.declared.file_edit.FileEdit.TheVariants as file
 use Rattle.idl_inputs.proofs.FormLemmas.{after-formed}
 use Rattle.idl_inputs.proofs.RefiledLemmas.{accepted-by, refiled-none, refused-by}
-use Rattle.idl_project.proofs.sources.Sources.put.Goals as goal
+use Rattle.idl_sources.proofs.sources.Sources.put.Goals as goal
 
 pub edit-requires : goal.edit-requires
 edit-requires c = refiled-none c.self.inside.bank c.new-edited.result c.new-edited.ensures.files c.new-edited.ensures.answers

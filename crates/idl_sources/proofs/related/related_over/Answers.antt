@@ -5,7 +5,7 @@ use Rattle.idl_prep.specs.Root.{expanded}
 use Rattle.idl_related.specs.Related.{AreRelated}
 use Rattle.idl_related.specs.declared.second.Related.{Related}
 use Rattle.idl_inputs.specs.Bank.{bank_of}
-use Rattle.idl_project.proofs.related.related_over.Goals as goal
+use Rattle.idl_sources.proofs.related.related_over.Goals as goal
 
 pub returns-in-Some : goal.returns-in-Some
 returns-in-Some c =

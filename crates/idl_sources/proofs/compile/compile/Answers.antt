@@ -6,9 +6,9 @@ use Rattle.idl_event.specs.declared.told.event.Event.{Event}
 use Rattle.idl_prep.specs.Root.{absent_files}
 use Rattle.idl_root.specs.Compile.{compile}
 use Rattle.idl_root.specs.Turns.{IsWithinWords}
-use Rattle.idl_project.specs.Compile.{end_of}
-use Rattle.idl_project.proofs.KeptLemmas.{compile-kept}
-use Rattle.idl_project.proofs.compile.compile.Goals as goal
+use Rattle.idl_sources.specs.Compile.{end_of}
+use Rattle.idl_sources.proofs.CompileLemmas.{compile-kept}
+use Rattle.idl_sources.proofs.compile.compile.Goals as goal
 
 pub returns-clause-compiled : goal.returns-clause-compiled
 returns-clause-compiled g c =

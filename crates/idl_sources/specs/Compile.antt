@@ -9,7 +9,7 @@ use Rattle.idl_prep.specs.Root.{expanded, absent_files}
 use Rattle.idl_root.specs.Compile.{compile}
 use Rattle.idl_inputs.specs.Bank.{bank_of}
 use Rattle.idl_inputs.specs.Project.{Inputs}
-use Rattle.idl_project.specs.declared.compile.CompiledRoot.{CompiledRoot}
+use Rattle.idl_sources.specs.declared.compile.CompiledRoot.{CompiledRoot}
 
 -- how many lines the file has that is answered
 abbrev pub line_count : Option RootAnswer → ℕ

@@ -6,7 +6,7 @@ use Rattle.idl_inputs.specs.Made.{rootless}
 use Rattle.idl_inputs.specs.Project.{Inputs}
 use Rattle.idl_inputs.proofs.EditLemmas.{define-accepted, define-refused}
 use Rattle.idl_inputs.proofs.FormLemmas.{after-formed}
-use Rattle.idl_project.proofs.sources.Sources.define.Goals as goal
+use Rattle.idl_sources.proofs.sources.Sources.define.Goals as goal
 
 pub returns-in-Some : goal.returns-in-Some
 returns-in-Some c =
