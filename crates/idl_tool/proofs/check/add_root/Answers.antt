@@ -9,7 +9,7 @@ use Rattle.idl_tool.proofs.CheckLemmas.{told-root}
 use Rattle.idl_tool.proofs.check.add_root.Goals as goal
 
 pub told_of-requires : goal.told_of-requires
-told_of-requires c = ap length c.as_slice.ensures ∙ c.in_ok-related.ensures.0
+told_of-requires c = ap length c.as_slice.ensures ∙ c.in_ok-related.ensures.count
 
 pub returns : goal.returns
 returns c =

@@ -7,7 +7,7 @@ use Rattle.idl_tool.proofs.JsonLemmas.{ok-weaker}
 use Rattle.idl_tool.proofs.json.line_of.Goals as goal
 
 pub line_with-requires : goal.line_with-requires
-line_with-requires c = ap length c.as_slice.ensures ∙ c.in_ok-related.ensures.0 ∙ ap length c.as_slice-findings.ensures
+line_with-requires c = ap length c.as_slice.ensures ∙ c.in_ok-related.ensures.count ∙ ap length c.as_slice-findings.ensures
 
 pub returns : goal.returns
 returns c =
