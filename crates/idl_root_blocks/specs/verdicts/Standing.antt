@@ -57,7 +57,8 @@ abbrev pub block_end : (Key → Option Answer) → List (Part UnitText Step)
 block_end bank parts =
     outcome (block (ways_of unit_asks unit_writes) parts (boundary Enters ∷ [])) bank
 
--- What a block has written stands behind facts: these are told, and all is no more than memory holds.
+-- What a block has written stands behind facts: these are told, and all is no more than memory
+-- holds.
 pub record AreStanding (before facts : List UnitFacts) : Type 0 where
   pub told : AreTold before
   pub turns : turns_for (before ++ facts) ≤ most_turns
