@@ -149,7 +149,7 @@ impl Sources {
         self.bank.files().get(name.as_bytes()).is_some()
     }
 
-    /// Where tokens begin that are found in files, as a session tells it. Each block of a file is gone through once.
+    /// Where tokens begin that are found in files, as a session tells it. Each chunk of a file is gone through once.
     pub fn columns(&self) -> Columns<'_>
         ensures { result ≡ self.now.files }
     {
