@@ -8,7 +8,8 @@ use Rattle.idl_event.specs.declared.told.site.Site.{Site}
 use Rattle.idl_fault.specs.declared.code.Code.{Code}
 use Rattle.idl_finding.specs.Findings.{site_of}
 use Rattle.idl_finding.specs.declared.finding.Finding.{Finding}
-use Rattle.idl_related.specs.Already.{Names, added, already, dealt, names_after, names_over, pinned, places_told, related_at, seconds_at, told_after, told_at, told_by, told_for}
+use Rattle.idl_related.specs.Already.{Names, already, dealt, names_after, names_over, pinned, places_told, related_at, seconds_at, told_after, told_at, told_by, told_for}
+use Rattle.idl_check.specs.walk.Verdict.{added}
 use Rattle.idl_related.specs.Told.{AreFew, has_other, has_second, is_already}
 use Rattle.idl_related.specs.Judged.{IsBehind}
 use Rattle.idl_related.specs.declared.related.JudgedUnits.{JudgedUnits}

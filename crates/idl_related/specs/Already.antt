@@ -5,15 +5,12 @@ use Rattle.std.specs.List.Sorted.{IsNonDecreasingBy, IsPermutation}
 use Rattle.std.specs.Map.{lookup}
 use Rattle.std.specs.Option.{option_or}
 use Rattle.idl_check.specs.walk.Names.{unit_names}
-use Rattle.idl_check.specs.walk.Verdict.{verdict}
+use Rattle.idl_check.specs.walk.Verdict.{added, verdict_over}
 use Rattle.idl_check.specs.declared.walk.names.NamedSite.{NamedSite}
 use Rattle.idl_check.specs.declared.walk.names.NameRole.TheVariants.{Declared, Used}
-use Rattle.idl_check.specs.declared.walk.verdict.Verdict.{Verdict}
 use Rattle.idl_env.specs.Facts.{UnitFacts, answers, entity_key}
 use Rattle.idl_env.specs.Turns.{most_turns}
 use Rattle.idl_env.specs.keys.Key.{key_eq}
-use Rattle.idl_env.specs.declared.additions.addition.Step.{Step}
-use Rattle.idl_env.specs.declared.additions.addition.Step.TheVariants.{Enters, Leaves}
 use Rattle.idl_env.specs.declared.keys.key.Key.{Key}
 use Rattle.idl_event.specs.Apart.{place_in}
 use Rattle.idl_event.specs.declared.told.event.Event.{Event}
@@ -21,7 +18,6 @@ use Rattle.idl_event.specs.declared.told.site.Site.{Site}
 use Rattle.idl_finding.specs.Findings.{site_of, tokens_of}
 use Rattle.idl_finding.specs.Number.{token_number}
 use Rattle.idl_finding.specs.declared.finding.Finding.{Finding}
-use Rattle.idl_memo.specs.Query.{outcome}
 use Rattle.idl_related.specs.Told.{has_second, is_already}
 use Rattle.idl_related.specs.declared.related.RelatedPlaces.{RelatedPlaces}
 use Rattle.idl_related.specs.declared.second.Reason.TheVariants as reason
@@ -32,25 +28,10 @@ use Rattle.idl_unit.specs.TokenRules.{first}
 use Rattle.idl_unit.specs.Units.{units_of}
 use Rattle.idl_unit.specs.declared.fault.Fault.{Fault}
 use Rattle.idl_unit.specs.declared.unit.Unit.{Unit as RootUnit}
-use Rattle.idl_unit.specs.declared.unit.Unit.TheVariants.{Spelled, Entered, Left, End}
+use Rattle.idl_unit.specs.declared.unit.Unit.TheVariants.{Spelled}
 use Rattle.idl_unit.specs.declared.unit.UnitText.{UnitText}
 
--- ---- the units of a root, each over what those before it add
-
-abbrev pub verdict_over : List UnitFacts → UnitText → Verdict
-verdict_over facts text = outcome (verdict most_turns text) (answers facts)
-
-abbrev pub boundary : Step → UnitFacts
-boundary step = record { additions = []; step = step }
-
--- what a unit adds
-abbrev pub added : List UnitFacts → RootUnit → List UnitFacts
-added facts (Spelled text sites) = (verdict_over facts text).writes ∷ []
-added facts (Entered file inside) = boundary Enters ∷ []
-added facts (Left file inside) = boundary Leaves ∷ []
-added facts End = []
-
--- ---- the names that they declare
+-- ---- the names that the units of a root declare, each over what those before it add
 
 -- names at the keys by which they are asked, and where they stand
 abbrev pub Names : Type 0

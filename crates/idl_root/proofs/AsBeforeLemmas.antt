@@ -2,7 +2,7 @@
 use Rattle.std.proofs.Common.{◌≡◌, ℕ, ◌+◌, Bool, List, [], ◌∷◌, ◌++◌, flat_map, length, map, refl, ap, sym, subst, ◌∙◌, append-nil, arith, option_to_list}
 use Rattle.std.proofs.lemmas.List.{length-append, map-append}
 use Rattle.std.specs.List.{enumerate_from, sum_by}
-use Rattle.idl_env.specs.Facts.{UnitFacts, answers}
+use Rattle.idl_env.specs.Facts.{UnitFacts, answers, boundary}
 use Rattle.idl_env.specs.declared.additions.addition.Step.TheVariants.{Enters as EntersFile, Leaves as LeavesFile}
 use Rattle.idl_event.specs.declared.told.event.Event.{Event}
 use Rattle.idl_event.specs.declared.told.site.Site.{Site}
@@ -12,8 +12,8 @@ use Rattle.idl_root.specs.Compared.{entry_keys, root_keys}
 use Rattle.idl_root.specs.Compile.{all_findings, compile, findings_told, has_error, is_open, outcome_of, row_in, rows_beside}
 use Rattle.idl_finding.specs.Findings.{event_finding, finding_row}
 use Rattle.idl_root.specs.Findings.{unit_finding}
-use Rattle.idl_root.specs.Judged.{facts_after, judged_after, judged_over, verdict_over}
-use Rattle.idl_block.specs.facts.Written.{boundary}
+use Rattle.idl_root.specs.Judged.{facts_after, judged_after, judged_over}
+use Rattle.idl_root_blocks.specs.idl_check.walk.Verdict.{verdict_over}
 use Rattle.idl_root.specs.Places.{EntryPlace, declarations_after, declarations_of, entries_of, entries_over, root_pieces}
 use Rattle.idl_root_blocks.specs.Blocks.{cut}
 use Rattle.idl_root_blocks.specs.Met.{outermost_keys}

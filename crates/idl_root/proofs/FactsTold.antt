@@ -3,7 +3,8 @@ use Rattle.std.proofs.Common.{◌≡◌, ◌≤◌, ◌<◌, ◌^◌, ◌∙◌,
 use Rattle.idl_root_blocks.proofs.IdlCheckLaws.ToldLaws.{MoreTurns, said-alike, told-more, told-nothing, turns-grow}
 use Rattle.idl_root_blocks.specs.idl_check_laws.Closing.{AreTold, IsTold as told}
 use Rattle.idl_root_blocks.specs.idl_check.declared.walk.verdict.Verdict.{Verdict}
-use Rattle.idl_root.specs.Judged.{HasTurns, added, facts_after}
+use Rattle.idl_root.specs.Judged.{HasTurns, facts_after}
+use Rattle.idl_root_blocks.specs.idl_check.walk.Verdict.{added}
 use Rattle.idl_root.specs.Turns.{IsWithinWords}
 use Rattle.idl_env.specs.Facts.{UnitFacts, answers, count_in}
 use Rattle.idl_env.specs.Turns.{most_turns, turns_for}

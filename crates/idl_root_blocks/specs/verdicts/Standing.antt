@@ -4,12 +4,12 @@ use Rattle.idl_block.specs.Blocks.{Part, Text, Boundary, block}
 use Rattle.idl_check_laws.specs.Closing.{AreTold}
 use Rattle.idl_env.specs.declared.answering.answer.Answer.{Answer}
 use Rattle.idl_env.specs.declared.keys.key.Key.{Key}
-use Rattle.idl_block.specs.facts.Written.{boundary, ways_of}
+use Rattle.idl_block.specs.facts.Written.{ways_of}
 use Rattle.idl_memo.specs.Query.{outcome}
 use Rattle.idl_check_laws.specs.idl_check.declared.walk.verdict.Verdict.{Verdict}
 use Rattle.idl_check_laws.specs.idl_check.walk.Placing.{faulty_step}
 use Rattle.idl_check_laws.specs.idl_check.walk.Verdict.{verdict}
-use Rattle.idl_env.specs.Facts.{UnitFacts, answers, count_in}
+use Rattle.idl_env.specs.Facts.{UnitFacts, answers, boundary, count_in}
 use Rattle.idl_env.specs.Turns.{most_turns, turns_for}
 use Rattle.idl_env.specs.declared.additions.addition.Step.{Step}
 use Rattle.idl_env.specs.declared.additions.addition.Step.TheVariants.{Enters, Leaves, Stays}

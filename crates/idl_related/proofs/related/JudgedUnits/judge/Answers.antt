@@ -1,6 +1,7 @@
 use Rattle.std.proofs.Common.{◌≡◌, ◌∙◌, ◌++◌, ap, map}
 use Rattle.idl_check.specs.declared.walk.verdict.Verdict.{Verdict}
-use Rattle.idl_related.specs.Already.{names_behind, pinned, told_for, verdict_over}
+use Rattle.idl_related.specs.Already.{names_behind, pinned, told_for}
+use Rattle.idl_check.specs.walk.Verdict.{verdict_over}
 use Rattle.idl_related.proofs.related.JudgedUnits.judge.Goals as goal
 
 pub returns-clause-behind : goal.returns-clause-behind

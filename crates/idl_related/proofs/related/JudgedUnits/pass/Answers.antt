@@ -1,7 +1,7 @@
 use Rattle.std.proofs.Common.{◌≡◌, ◌∙◌, ◌∷◌, ◌++◌, [], ap, option_to_list, sym}
 use Rattle.std.proofs.lemmas.List.{append-nil}
 use Rattle.std.proofs.lemmas.Result.{IfOk-weaker}
-use Rattle.idl_related.specs.Already.{added}
+use Rattle.idl_check.specs.walk.Verdict.{added}
 use Rattle.idl_related.proofs.AlreadyLemmas.{on-ok}
 use Rattle.idl_related.proofs.related.JudgedUnits.pass.Goals as goal
 
