@@ -29,7 +29,7 @@ use Rattle.idl_finding.specs.declared.finding.Finding.{Finding}
 use Rattle.idl_root.specs.declared.kept.course.Course.{Course}
 use Rattle.idl_root.specs.declared.kept.marks.Mark.{Mark}
 use Rattle.idl_root.specs.declared.kept.marks.Mark.TheVariants as mark
-use Rattle.idl_root.specs.Turns.{IsWithinWords}
+use Rattle.idl_root.specs.Turns.{FitsU64}
 use Rattle.idl_root.proofs.FactsTold.{within-words}
 use Rattle.idl_root.proofs.TextLaws.{declarations-text, facts-text}
 use Rattle.idl_unit.specs.Units.{units_of}
@@ -108,7 +108,7 @@ declarations-same before units same =
 pub facts-same : (before units : List RootUnit) → AreAsBefore before units → facts_after [] units ≡ facts_after [] before
 facts-same before units same = facts-text units [] ∙ ap (facts_over []) (text-same before units same) ∙ sym (facts-text before [])
 
-pub within-same : (was events : List Event) → AreAsBefore (units_of was) (units_of events) → IsWithinWords was → IsWithinWords events
+pub within-same : (was events : List Event) → AreAsBefore (units_of was) (units_of events) → FitsU64 was → FitsU64 events
 within-same was events same within = within-words events (facts_after [] (units_of was)) (sym (facts-same (units_of was) (units_of events) same)) within.turns within.nameless
 
 -- ---- what is found in them
