@@ -4,12 +4,12 @@ use Rattle.std.specs.List.{list_any}
 use Rattle.idl_event.specs.declared.told.event.Event.{Event}
 use Rattle.idl_event.specs.declared.told.site.Site.{Site}
 use Rattle.idl_event.specs.Apart.{place_in}
-use Rattle.idl_related.specs.Already.{AreDealt}
+use Rattle.idl_related.specs.FirstDeclared.{AreAssigned}
 use Rattle.idl_related.specs.declared.second.Related.{Related}
 use Rattle.idl_finding.specs.Findings.{site_of, tokens_of}
 use Rattle.idl_finding.specs.Number.{token_number}
 use Rattle.idl_finding.specs.declared.finding.Finding.{Finding}
-use Rattle.idl_related.specs.Told.{is_already, most_told}
+use Rattle.idl_related.specs.Told.{is_redeclaration, most_told}
 use Rattle.idl_unit.specs.Units.{units_of}
 use Rattle.idl_unit.specs.declared.unit.Unit.{Unit as RootUnit}
 use Rattle.idl_unit.specs.declared.unit.Unit.TheVariants.{Spelled}
@@ -37,13 +37,13 @@ pub record AreOfFinding (events : List Event) (related : List Related) : Type 0 
   pub few : length related ≤ most_told
   pub tokens : AreAtTokens events related
 
--- a name of one of these is declared already
-abbrev pub AskAlready : List Finding → Type 0
-AskAlready findings = list_any (λ f. is_already f.code) findings ≡ true
+-- one of these is a redeclaration
+abbrev pub HasRedeclaration : List Finding → Type 0
+HasRedeclaration findings = list_any (λ f. is_redeclaration f.code) findings ≡ true
 
 -- those of findings of that root, a list for each
 pub record AreRelated (events : List Event) (findings : List Finding)
     (related : List (List Related)) : Type 0 where
   pub count : length related ≡ length findings
   pub lists : All (AreOfFinding events) related
-  pub already : AskAlready findings → AreDealt events findings related
+  pub first_declared : HasRedeclaration findings → AreAssigned events findings related

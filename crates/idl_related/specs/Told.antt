@@ -6,10 +6,10 @@ use Rattle.idl_fault.specs.declared.code.Code.{Code}
 use Rattle.idl_fault.specs.declared.code.Code.TheVariants as code
 use Rattle.idl_related.specs.declared.second.Second.{Second}
 
--- a name is declared that is declared already
-abbrev pub is_already : Code → Bool
-is_already code.AlreadyDeclared = true
-is_already other = false
+-- E33: a name is declared that is declared already in its scope
+abbrev pub is_redeclaration : Code → Bool
+is_redeclaration code.AlreadyDeclared = true
+is_redeclaration other = false
 
 -- findings of that code and of these may have them
 abbrev pub has_other : Code → Bool
@@ -37,7 +37,7 @@ has_other code.RepeatedTypeprefix = true
 has_other other = false
 
 abbrev pub has_second : Code → Bool
-has_second code = is_already code || has_other code
+has_second code = is_redeclaration code || has_other code
 
 -- so many declarations are told of what has several, and so many near names
 abbrev pub most_told : ℕ

@@ -5,19 +5,19 @@ ghost use Rattle.idl_event.specs.declared.told.event.Event.{Event};
 ghost use Rattle.std.specs.List.{fold, list_any};
 ghost use Rattle.std.specs.List.Sorted.{IsNonDecreasingBy, IsPermutation};
 ghost use Rattle.std.specs.Option.{option_copied};
-ghost use Rattle.idl_related.specs.Already.{AreToldOf, already, dealt, names_behind, names_over, pinned, related_at, seconds_at, told_after, told_for, with_name};
+ghost use Rattle.idl_related.specs.FirstDeclared.{AreOfFaults, assigned, first_declaration, names_behind, names_over, related_at, seconds_at, told_after, told_for, with_name, without_other_places};
 ghost use Rattle.idl_env.specs.Facts.{boundary};
 ghost use Rattle.idl_check.specs.walk.Verdict.{added, verdict_over};
-ghost use Rattle.idl_related.specs.Related.{AreAtTokens, AreOfFinding, AreRelated, AskAlready, IsAtToken};
-ghost use Rattle.idl_related.specs.Judged.{AreTold, IsBehind, IsOfRoot};
-ghost use Rattle.idl_related.specs.Told.{AreFew, has_second, is_already};
+ghost use Rattle.idl_related.specs.Related.{AreAtTokens, AreOfFinding, AreRelated, HasRedeclaration, IsAtToken};
+ghost use Rattle.idl_related.specs.Judged.{AreOfFindings, IsBehind, IsOfRoot};
+ghost use Rattle.idl_related.specs.Told.{AreFew, has_second, is_redeclaration};
 ghost use Rattle.idl_finding.specs.Findings.{site_of, tokens_of};
 ghost use Rattle.idl_finding.specs.declared.finding.Finding.{Finding as FoundFinding};
 ghost use Rattle.idl_unit.specs.Units.{units_of};
 ghost use Rattle.idl_unit.specs.declared.unit.Unit.TheVariants.{Spelled};
 
 use crate::about::About;
-use crate::already::{add_names, already_in, names_in, seconds_at};
+use crate::first_declared::{add_names, first_declaration, names_in, seconds_at};
 use crate::known::KnownUnits;
 use crate::second::{Reason, Related, Second, TokenPosition};
 use idl_base::{Bytes, Seq};
@@ -53,9 +53,9 @@ fn told_of(
     expansion: &Expansion,
     findings: &[Finding],
 ) -> Result<Vec<RelatedPlaces>, AllocError>
-    ensures told { IfOk result (λ told. AreTold expansion.now told.items) }
-    ensures already { IfOk result (λ told.
-        AskAlready findings.now → AreToldOf expansion.now (reverse told.items)) }
+    ensures told { IfOk result (λ told. AreOfFindings expansion.now told.items) }
+    ensures first_declared { IfOk result (λ told.
+        HasRedeclaration findings.now → AreOfFaults expansion.now (reverse told.items)) }
 {
     let units = split(alloc, expansion)?;
     let mut all = JudgedUnits::new(alloc, expansion, units.as_slice(), findings)?;
@@ -122,7 +122,7 @@ struct JudgedUnits<'a> {
     expansion: &'a Expansion,
     known: KnownUnits<'a>,
     /// Whether anything asks where names are declared first.
-    asks_already: bool,
+    asks_first: bool,
     /// The names that the units declare, each at its key with where it is declared first, if that is asked.
     first: Table<DigestedKey, TokenPosition>,
     told: Vec<RelatedPlaces>,
@@ -133,7 +133,7 @@ impl<'a> Drop for JudgedUnits<'a> {
         let JudgedUnits {
             expansion: _expansion,
             known: _known,
-            asks_already: _asks_already,
+            asks_first: _asks_first,
             first: _first,
             told: _told,
         } = self;
@@ -152,7 +152,7 @@ impl<'a> JudgedUnits<'a> {
         ensures root { IfOk result IsOfRoot }
         ensures expansion { IfOk result (λ judged. judged.expansion.now ≡ expansion.now) }
         ensures asks { IfOk result (λ judged.
-            judged.asks_already ≡ list_any (λ f. is_already f.code) findings.now) }
+            judged.asks_first ≡ list_any (λ f. is_redeclaration f.code) findings.now) }
         ensures empty { IfOk result (λ judged. (judged.first ≡ []) × (judged.told.items ≡ [])) }
     {
         let asks_uses = findings
@@ -162,7 +162,7 @@ impl<'a> JudgedUnits<'a> {
         Ok(JudgedUnits {
             expansion,
             known,
-            asks_already: ask_already(findings),
+            asks_first: has_redeclaration(findings),
             first: Table::new(alloc),
             told: Vec::new(alloc),
         })
@@ -173,9 +173,9 @@ impl<'a> JudgedUnits<'a> {
         requires { IsOfRoot self.old }
         ensures root { OnOk result (IsOfRoot self.new) }
         ensures expansion { OnOk result (self.new.expansion.now ≡ self.old.expansion.now) }
-        ensures told { OnOk result (self.old.asks_already ≡ true
-            → map pinned self.new.told.items
-            ≡ map pinned self.old.told.items
+        ensures told { OnOk result (self.old.asks_first ≡ true
+            → map without_other_places self.new.told.items
+            ≡ map without_other_places self.old.told.items
             ++ told_after self.old.expansion.now [] self.old.first 0
             (units_of self.old.expansion.now)) }
     {
@@ -264,13 +264,13 @@ impl<'a> JudgedUnits<'a> {
         requires { IsOfRoot self.old }
         ensures root { OnOk result (IsOfRoot self.new) }
         ensures expansion { OnOk result (self.new.expansion.now ≡ self.old.expansion.now) }
-        ensures asks { OnOk result (self.new.asks_already ≡ self.old.asks_already) }
-        ensures names { OnOk result (self.old.asks_already ≡ true
+        ensures asks { OnOk result (self.new.asks_first ≡ self.old.asks_first) }
+        ensures names { OnOk result (self.old.asks_first ≡ true
             → self.new.first
             ≡ names_behind unit.entry.env.now unit.entry.number unit.entry.text.now fault
             self.old.first) }
-        ensures told { OnOk result (map pinned self.new.told.items
-            ≡ map pinned self.old.told.items
+        ensures told { OnOk result (map without_other_places self.new.told.items
+            ≡ map without_other_places self.old.told.items
             ++ told_for self.old.expansion.now unit.entry.env.now self.old.first unit.entry.number
             unit.entry.text.now unit.entry.sites.now fault) }
     {
@@ -285,14 +285,14 @@ impl<'a> JudgedUnits<'a> {
         requires { IsOfRoot self.old }
         ensures root { OnOk result (IsOfRoot self.new) }
         ensures expansion { OnOk result (self.new.expansion.now ≡ self.old.expansion.now) }
-        ensures asks { OnOk result (self.new.asks_already ≡ self.old.asks_already) }
+        ensures asks { OnOk result (self.new.asks_first ≡ self.old.asks_first) }
         ensures told { OnOk result (self.new.told.items ≡ self.old.told.items) }
-        ensures names { OnOk result (self.old.asks_already ≡ true
+        ensures names { OnOk result (self.old.asks_first ≡ true
             → self.new.first
             ≡ fold with_name self.old.first
             (names_over unit.entry.env.now unit.entry.number unit.entry.text.now)) }
     {
-        if !self.asks_already {
+        if !self.asks_first {
             return Ok(());
         }
         let names = names_in(scratch, unit.env, unit.number, unit.text)?;
@@ -309,10 +309,10 @@ impl<'a> JudgedUnits<'a> {
         requires { IsOfRoot self.old }
         ensures root { OnOk result (IsOfRoot self.new) }
         ensures expansion { OnOk result (self.new.expansion.now ≡ self.old.expansion.now) }
-        ensures asks { OnOk result (self.new.asks_already ≡ self.old.asks_already) }
+        ensures asks { OnOk result (self.new.asks_first ≡ self.old.asks_first) }
         ensures first { OnOk result (self.new.first ≡ self.old.first) }
-        ensures told { OnOk result (map pinned self.new.told.items
-            ≡ map pinned self.old.told.items
+        ensures told { OnOk result (map without_other_places self.new.told.items
+            ≡ map without_other_places self.old.told.items
             ++ told_for self.old.expansion.now unit.entry.env.now self.old.first unit.entry.number
             unit.entry.text.now unit.entry.sites.now (Some fault)) }
     {
@@ -330,10 +330,10 @@ impl<'a> JudgedUnits<'a> {
         requires { IsOfRoot self.old }
         ensures root { OnOk result (IsOfRoot self.new) }
         ensures expansion { OnOk result (self.new.expansion.now ≡ self.old.expansion.now) }
-        ensures asks { OnOk result (self.new.asks_already ≡ self.old.asks_already) }
+        ensures asks { OnOk result (self.new.asks_first ≡ self.old.asks_first) }
         ensures first { OnOk result (self.new.first ≡ self.old.first) }
-        ensures told { OnOk result (map pinned self.new.told.items
-            ≡ map pinned self.old.told.items
+        ensures told { OnOk result (map without_other_places self.new.told.items
+            ≡ map without_other_places self.old.told.items
             ++ told_for self.old.expansion.now unit.entry.env.now self.old.first unit.entry.number
             unit.entry.text.now unit.entry.sites.now (Some fault)) }
     {
@@ -357,13 +357,13 @@ impl<'a> JudgedUnits<'a> {
         fault: Fault,
     ) -> Result<Vec<Second>, AllocError>
         ensures few { IfOk result (λ seconds. AreFew seconds.items) }
-        ensures already { IfOk result (λ seconds.
-            is_already fault.code ≡ true → seconds.items
-            ≡ seconds_at (already fault.index self.now.first []
+        ensures first_declared { IfOk result (λ seconds.
+            is_redeclaration fault.code ≡ true → seconds.items
+            ≡ seconds_at (first_declaration fault.index self.now.first []
             (names_over unit.entry.env.now unit.entry.number unit.entry.text.now))) }
     {
-        if is_already(fault.code) {
-            return self.already(scratch, unit, fault.index);
+        if is_redeclaration(fault.code) {
+            return self.first_declared(scratch, unit, fault.index);
         }
         let about = About {
             known: &self.known,
@@ -374,20 +374,20 @@ impl<'a> JudgedUnits<'a> {
         about.seconds(scratch)
     }
 
-    // Where the name at a token of a unit is declared already.
-    fn already(
+    // Where the name at a token of a unit is declared first, if that is before it.
+    fn first_declared(
         &self,
         scratch: &mut Scratch,
         unit: SpelledUnit<'_>,
         token: usize,
     ) -> Result<Vec<Second>, AllocError>
         ensures { IfOk result (λ seconds. seconds.items
-            ≡ seconds_at (already token self.now.first []
+            ≡ seconds_at (first_declaration token self.now.first []
             (names_over unit.entry.env.now unit.entry.number unit.entry.text.now))) }
     {
         let alloc = unit.env.alloc();
         let own = names_in(scratch, unit.env, unit.number, unit.text)?;
-        let spot = already_in(alloc, &self.first, own.as_slice(), token)?;
+        let spot = first_declaration(alloc, &self.first, own.as_slice(), token)?;
         seconds_at(alloc, spot)
     }
 
@@ -397,7 +397,7 @@ impl<'a> JudgedUnits<'a> {
         requires few { AreFew seconds.now }
         ensures root { OnOk result (IsOfRoot self.new) }
         ensures expansion { OnOk result (self.new.expansion.now ≡ self.old.expansion.now) }
-        ensures asks { OnOk result (self.new.asks_already ≡ self.old.asks_already) }
+        ensures asks { OnOk result (self.new.asks_first ≡ self.old.asks_first) }
         ensures first { OnOk result (self.new.first ≡ self.old.first) }
         ensures told { OnOk result (self.new.told.items
             ≡ self.old.told.items
@@ -422,7 +422,7 @@ impl<'a> JudgedUnits<'a> {
         ensures units { self.new.known.units.now ≡ self.old.known.units.now }
         ensures told { self.new.told.items ≡ self.old.told.items }
         ensures expansion { self.new.expansion.now ≡ self.old.expansion.now }
-        ensures asks { self.new.asks_already ≡ self.old.asks_already }
+        ensures asks { self.new.asks_first ≡ self.old.asks_first }
         ensures first { self.new.first ≡ self.old.first }
     {
         if code == Code::NameNotFound && !are_faulty(seconds) {
@@ -493,7 +493,7 @@ impl<'a> JudgedUnits<'a> {
     // All that is told, from the last event to the first.
     fn told_backwards(self) -> Result<Vec<RelatedPlaces>, AllocError>
         requires { IsOfRoot self }
-        ensures told { IfOk result (λ told. AreTold self.entry.expansion.now told.items) }
+        ensures told { IfOk result (λ told. AreOfFindings self.entry.expansion.now told.items) }
         ensures permutation { IfOk result (λ told.
             IsPermutation self.entry.told.items (reverse told.items)) }
         ensures ordered { IfOk result (λ told.
@@ -502,7 +502,7 @@ impl<'a> JudgedUnits<'a> {
         let JudgedUnits {
             expansion: _expansion,
             known: _known,
-            asks_already: _asks_already,
+            asks_first: _asks_first,
             first: _first,
             mut told,
         } = self;
@@ -587,16 +587,16 @@ fn may_have_second(findings: &[Finding]) -> bool
     findings.iter().any(|finding| has_second(finding.code))
 }
 
-// Whether of any of them a name is declared already.
-fn ask_already(findings: &[Finding]) -> bool
-    ensures { result ≡ list_any (λ f. is_already f.code) findings.now }
+// Whether any of them is a redeclaration.
+fn has_redeclaration(findings: &[Finding]) -> bool
+    ensures { result ≡ list_any (λ f. is_redeclaration f.code) findings.now }
 {
-    findings.iter().any(|finding| is_already(finding.code))
+    findings.iter().any(|finding| is_redeclaration(finding.code))
 }
 
-// Whether a name is declared that is declared already.
-fn is_already(code: Code) -> bool
-    ensures { result ≡ is_already code }
+// Whether a name is declared that is declared already in its scope.
+fn is_redeclaration(code: Code) -> bool
+    ensures { result ≡ is_redeclaration code }
 {
     match code {
         Code::AlreadyDeclared => true,
@@ -611,10 +611,10 @@ fn matched(
     mut told: Vec<RelatedPlaces>,
 ) -> Result<Seq<Seq<Related>>, AllocError>
     ensures lists { IfOk result (λ related.
-        (events : List Event) → AreTold events told.items
+        (events : List Event) → AreOfFindings events told.items
         → (length related ≡ length findings.now) × All (AreOfFinding events) related) }
-    ensures dealt { IfOk result (λ related.
-        related ≡ dealt findings.now (reverse told.items)) }
+    ensures assigned { IfOk result (λ related.
+        related ≡ assigned findings.now (reverse told.items)) }
 {
     let mut all = Vec::with_capacity(alloc, findings.len())?;
     'findings: for finding in findings {
@@ -626,13 +626,13 @@ fn matched(
 
 // What is told last, which goes; of a code that has no second places nothing.
 fn next_of(alloc: Global, code: Code, told: &mut Vec<RelatedPlaces>) -> Seq<Related>
-    ensures next { (events : List Event) → AreTold events told.old.items
+    ensures next { (events : List Event) → AreOfFindings events told.old.items
         → AreOfFinding events result }
-    ensures left { (events : List Event) → AreTold events told.old.items
-        → AreTold events told.new.items }
-    ensures dealt { (f : FoundFinding) (findings : List FoundFinding) → f.code ≡ code
-        → dealt (f ∷ findings) (reverse told.old.items)
-        ≡ result ∷ dealt findings (reverse told.new.items) }
+    ensures left { (events : List Event) → AreOfFindings events told.old.items
+        → AreOfFindings events told.new.items }
+    ensures assigned { (f : FoundFinding) (findings : List FoundFinding) → f.code ≡ code
+        → assigned (f ∷ findings) (reverse told.old.items)
+        ≡ result ∷ assigned findings (reverse told.new.items) }
 {
     if !has_second(code) {
         return Seq::new(alloc);

@@ -2,7 +2,7 @@ use Rattle.std.proofs.Common.{◌≡◌, ◌∙◌, ◌∷◌, ◌++◌, [], ap,
 use Rattle.std.proofs.lemmas.List.{append-nil}
 use Rattle.std.proofs.lemmas.Result.{IfOk-weaker}
 use Rattle.idl_check.specs.walk.Verdict.{added}
-use Rattle.idl_related.proofs.AlreadyLemmas.{on-ok}
+use Rattle.idl_related.proofs.FirstDeclaredLemmas.{on-ok}
 use Rattle.idl_related.proofs.related.JudgedUnits.pass.Goals as goal
 
 pub returns-in-None-clause-env : goal.returns-in-None-clause-env

@@ -2,7 +2,7 @@ use Rattle.std.proofs.Common.{◌∙◌, ◌∷◌, [], ap, refl, subst, sym}
 use Rattle.idl_env.specs.Facts.{UnitFacts}
 use Rattle.idl_check.specs.walk.Verdict.{added}
 use Rattle.idl_related.specs.Judged.{IsBehind}
-use Rattle.idl_related.proofs.AlreadyLemmas.{behind-same}
+use Rattle.idl_related.proofs.FirstDeclaredLemmas.{behind-same}
 use Rattle.idl_related.proofs.related.JudgedUnits.writes.Goals as goal
 
 pub returns-in_ok-judge-in-Spelled-clause-behind : goal.returns-in_ok-judge-in-Spelled-clause-behind

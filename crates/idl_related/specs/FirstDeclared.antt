@@ -1,4 +1,4 @@
--- Second places of a name that is declared already: where a name is declared first at its key.
+-- Second places of redeclarations: where a name is declared first at its key.
 use Rattle.std.specs.Prelude.{◌≡◌, ℕ, ◌+◌, List, [], ◌∷◌, ◌++◌, drop, flat_map, is_some, map, nat_eq, option_to_list, slice_get, Option, None, Some, if◌then◌else◌}
 use Rattle.std.specs.List.{fold}
 use Rattle.std.specs.List.Sorted.{IsNonDecreasingBy, IsPermutation}
@@ -18,7 +18,7 @@ use Rattle.idl_event.specs.declared.told.site.Site.{Site}
 use Rattle.idl_finding.specs.Findings.{site_of, tokens_of}
 use Rattle.idl_finding.specs.Number.{token_number}
 use Rattle.idl_finding.specs.declared.finding.Finding.{Finding}
-use Rattle.idl_related.specs.Told.{has_second, is_already}
+use Rattle.idl_related.specs.Told.{has_second, is_redeclaration}
 use Rattle.idl_related.specs.declared.related.RelatedPlaces.{RelatedPlaces}
 use Rattle.idl_related.specs.declared.second.Reason.TheVariants as reason
 use Rattle.idl_related.specs.declared.second.Related.{Related}
@@ -65,14 +65,14 @@ names_after facts number (Spelled text sites) names =
     names_behind facts number text (verdict_over facts text).fault names
 names_after facts number other names = names
 
--- Where the name at a token is declared already: by one of these names of the units before, or else
--- by one of those of its own unit before it.
-abbrev pub already : ℕ → Names → Names → Names → Option TokenPosition
-already token names before [] = None
-already token names before (n ∷ own) =
+-- Where the name at a token is declared first, if that is before it: by one of these names of the
+-- units before, or else by one of those of its own unit before it.
+abbrev pub first_declaration : ℕ → Names → Names → Names → Option TokenPosition
+first_declaration token names before [] = None
+first_declaration token names before (n ∷ own) =
     if nat_eq n.1.token token
     then option_or (lookup (key_eq n.0) names) (lookup (key_eq n.0) before)
-    else already token names (with_name before n) own
+    else first_declaration token names (with_name before n) own
 
 -- the second place there
 abbrev pub seconds_at : Option TokenPosition → List Second
@@ -102,14 +102,14 @@ related_in events s other = []
 abbrev pub related_at : List Event → Second → List Related
 related_at events s = related_in events s (slice_get (units_of events) s.spot.unit)
 
--- what is told of a fault that names an event, where a name at it is declared already there
+-- what is told of a fault that names an event, where a name at it is declared first there
 abbrev pub told_at : List Event → Fault → Option TokenPosition → Option Site → List RelatedPlaces
 told_at events fault spot None = []
 told_at events fault spot (Some site) = record {
   event = site.event;
   code = fault.code;
   related =
-      if is_already fault.code then flat_map (related_at events) (seconds_at spot) else [];
+      if is_redeclaration fault.code then flat_map (related_at events) (seconds_at spot) else [];
 } ∷ []
 
 -- what is told of a text behind these names, if it has a fault that may have second places
@@ -118,7 +118,7 @@ abbrev pub told_for : List Event → List UnitFacts → Names → ℕ → UnitTe
 told_for events facts names number text sites None = []
 told_for events facts names number text sites (Some fault) =
     if has_second fault.code
-    then told_at events fault (already fault.index names [] (names_over facts number text))
+    then told_at events fault (first_declaration fault.index names [] (names_over facts number text))
     (site_of text sites fault.index)
     else []
 
@@ -137,12 +137,12 @@ told_after events facts names number (u ∷ units) =
     (number + 1) units
 
 -- what is told, without the second places of other codes
-abbrev pub pinned : RelatedPlaces → RelatedPlaces
-pinned t = if is_already t.code then t else record t { related = [] }
+abbrev pub without_other_places : RelatedPlaces → RelatedPlaces
+without_other_places t = if is_redeclaration t.code then t else record t { related = [] }
 
 -- what is told of a root's faults, in the order of the events that they name
-pub record AreToldOf (events : List Event) (told : List RelatedPlaces) : Type 0 where
-  pub are : IsPermutation (told_after events [] [] 0 (units_of events)) (map pinned told)
+pub record AreOfFaults (events : List Event) (told : List RelatedPlaces) : Type 0 where
+  pub are : IsPermutation (told_after events [] [] 0 (units_of events)) (map without_other_places told)
   pub ordered : IsNonDecreasingBy (λ (t : RelatedPlaces). t.event) told
 
 -- ---- and of findings
@@ -152,17 +152,17 @@ places_told None = []
 places_told (Some t) = t.related
 
 -- the findings that may have second places have what is told, one after another
-abbrev pub dealt : List Finding → List RelatedPlaces → List (List Related)
-dealt [] told = []
-dealt (f ∷ findings) told =
+abbrev pub assigned : List Finding → List RelatedPlaces → List (List Related)
+assigned [] told = []
+assigned (f ∷ findings) told =
     if has_second f.code
-    then places_told (first told) ∷ dealt findings (drop 1 told)
-    else [] ∷ dealt findings told
+    then places_told (first told) ∷ assigned findings (drop 1 told)
+    else [] ∷ assigned findings told
 
--- these findings have what is told of the root's faults: a name that is declared already has the
--- place where it is declared first
-pub record AreDealt (events : List Event) (findings : List Finding) (related : List (List Related))
-    : Type 0 where
+-- these findings have what is told of the root's faults: a redeclaration has the place where the
+-- name is declared first
+pub record AreAssigned (events : List Event) (findings : List Finding)
+    (related : List (List Related)) : Type 0 where
   pub told : List RelatedPlaces
-  pub are : AreToldOf events told
-  pub dealt : related ≡ dealt findings told
+  pub are : AreOfFaults events told
+  pub assigned : related ≡ assigned findings told
