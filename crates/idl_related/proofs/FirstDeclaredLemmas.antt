@@ -6,11 +6,12 @@ use Rattle.idl_env.specs.Facts.{UnitFacts}
 use Rattle.idl_event.specs.declared.told.event.Event.{Event}
 use Rattle.idl_event.specs.declared.told.site.Site.{Site}
 use Rattle.idl_fault.specs.declared.code.Code.{Code}
+use Rattle.idl_fault.specs.declared.code.Code.TheVariants.{AlreadyDeclared}
 use Rattle.idl_finding.specs.Findings.{site_of}
 use Rattle.idl_finding.specs.declared.finding.Finding.{Finding}
 use Rattle.idl_related.specs.FirstDeclared.{Names, assigned, first_declaration, names_after, names_over, places_told, related_at, seconds_at, told_after, told_at, told_by, told_for, without_other_places}
 use Rattle.idl_check.specs.walk.Verdict.{added}
-use Rattle.idl_related.specs.Told.{AreFew, has_other, has_second, is_redeclaration}
+use Rattle.idl_related.specs.Told.{AreFew, has_second, is_redeclaration}
 use Rattle.idl_related.specs.Judged.{IsBehind}
 use Rattle.idl_related.specs.declared.related.JudgedUnits.{JudgedUnits}
 use Rattle.idl_related.specs.declared.related.RelatedPlaces.{RelatedPlaces}
@@ -38,16 +39,21 @@ IfOk-both (Err e) P Q R both p q = tt
 
 -- ---- which findings may have second places
 
-none-by : (a b x y : Bool) → ((a || b) || x) ≡ false → (x ≡ false → y ≡ false) → (a || y) ≡ false
-none-by true b x y none rest = none
-none-by false true x y none rest = cc
-none-by false false x y none rest = rest none
+-- a redeclaration may have them
+no-redeclaration : (code : Code) → has_second code ≡ false → is_redeclaration code ≡ false
+no-redeclaration AlreadyDeclared none = absurd (let both : true ≡ false = none in cc)
+no-redeclaration other none = refl
+
+none-by : (a b x y : Bool) → (a || x) ≡ false → (a ≡ false → b ≡ false) → (x ≡ false → y ≡ false) → (b || y) ≡ false
+none-by true b x y none own rest = absurd (let both : true ≡ false = none in cc)
+none-by false b x y none own rest = ap (λ (t : Bool). t || y) (own refl) ∙ rest none
 
 -- where none may have any, none is a redeclaration
 pub none-redeclared : (fs : List Finding) → list_any (λ f. has_second f.code) fs ≡ false → list_any (λ f. is_redeclaration f.code) fs ≡ false
 none-redeclared [] none = refl
 none-redeclared (f ∷ fs) none =
-    none-by (is_redeclaration f.code) (has_other f.code) (list_any (λ g. has_second g.code) fs) (list_any (λ g. is_redeclaration g.code) fs) none (none-redeclared fs)
+    none-by (has_second f.code) (is_redeclaration f.code) (list_any (λ g. has_second g.code) fs) (list_any (λ g. is_redeclaration g.code) fs) none
+    (no-redeclaration f.code) (none-redeclared fs)
 
 -- ---- what is told of units
 
