@@ -9,7 +9,7 @@ use Rattle.idl_fault.specs.declared.code.Code.{Code}
 use Rattle.idl_fault.specs.declared.code.Code.TheVariants.{AlreadyDeclared}
 use Rattle.idl_finding.specs.Findings.{site_of}
 use Rattle.idl_finding.specs.declared.finding.Finding.{Finding}
-use Rattle.idl_related.specs.FirstDeclared.{Names, assigned, first_declaration, names_after, names_over, places_told, related_at, seconds_at, told_after, told_at, told_by, told_for, without_other_places}
+use Rattle.idl_related.specs.FirstDeclared.{Names, UnitsBefore, assigned, first_declaration_over, names_after, places_told, related_at, seconds_at, told_after, told_at, told_by, told_for, with_unit, without_other_places}
 use Rattle.idl_check.specs.walk.Verdict.{added}
 use Rattle.idl_related.specs.Told.{AreFew, has_second, is_redeclaration}
 use Rattle.idl_related.specs.Judged.{IsBehind}
@@ -79,34 +79,35 @@ told-behind events fault spot site seconds old new are is =
     ∙ ap (λ l. map without_other_places old ++ l) (without-told events fault spot site seconds (is_redeclaration fault.code) are)
 
 -- what is told of a fault that may have second places
-pub told-for : (events : List Event) (facts : List UnitFacts) (names : Names) (number : ℕ) (text : UnitText) (sites : List Site) (fault : Fault) (site : Option Site)
-    → has_second fault.code ≡ true → site ≡ site_of text sites fault.index
-    → told_at events fault (first_declaration fault.index names [] (names_over facts number text)) site ≡ told_for events facts names number text sites (Some fault)
-told-for events facts names number text sites fault site may at =
-    let spot = first_declaration fault.index names [] (names_over facts number text) in
+pub told-for : (events : List Event) (before : UnitsBefore) (spelled : UnitText × List Site) (fault : Fault) (site : Option Site)
+    → has_second fault.code ≡ true → site ≡ site_of spelled.0 spelled.1 fault.index
+    → told_at events fault (first_declaration_over before spelled.0 fault.index) site ≡ told_for events before spelled (Some fault)
+told-for events before spelled fault site may at =
+    let spot = first_declaration_over before spelled.0 fault.index in
     ap (told_at events fault spot) at
-    ∙ ap (λ (b : Bool). if b then told_at events fault spot (site_of text sites fault.index) else []) (sym may)
+    ∙ ap (λ (b : Bool). if b then told_at events fault spot (site_of spelled.0 spelled.1 fault.index) else []) (sym may)
 
-pub told-none : (events : List Event) (facts : List UnitFacts) (names : Names) (number : ℕ) (text : UnitText) (sites : List Site) (fault : Fault)
-    → has_second fault.code ≡ false → [] ≡ told_for events facts names number text sites (Some fault)
-told-none events facts names number text sites fault none =
-    let spot = first_declaration fault.index names [] (names_over facts number text) in
-    ap (λ (b : Bool). if b then told_at events fault spot (site_of text sites fault.index) else []) (sym none)
+pub told-none : (events : List Event) (before : UnitsBefore) (spelled : UnitText × List Site) (fault : Fault)
+    → has_second fault.code ≡ false → [] ≡ told_for events before spelled (Some fault)
+told-none events before spelled fault none =
+    let spot = first_declaration_over before spelled.0 fault.index in
+    ap (λ (b : Bool). if b then told_at events fault spot (site_of spelled.0 spelled.1 fault.index) else []) (sym none)
 
 -- what was told of units, and what is told of those from a place on, behind the one there
-pub units-behind : (events : List Event) (facts after : List UnitFacts) (names next : Names) (units : List RootUnit) (i : ℕ) (u : RootUnit) (old new : List RelatedPlaces)
-    → i < length units → u ≡ get_or units i u
-    → after ≡ facts ++ added facts u → next ≡ names_after facts i u names
-    → map without_other_places new ≡ map without_other_places old ++ told_by events facts names i u
-    → map without_other_places new ++ told_after events after next (i + 1) (drop (i + 1) units) ≡ map without_other_places old ++ told_after events facts names i (drop i units)
-units-behind events facts after names next units i u old new lt at adds declares tells =
-    let rest = drop (i + 1) units in
-    let more = told_after events (facts ++ added facts u) (names_after facts i u names) (i + 1) rest in
-    ap (λ fs. map without_other_places new ++ told_after events fs next (i + 1) rest) adds
-    ∙ ap (λ ns. map without_other_places new ++ told_after events (facts ++ added facts u) ns (i + 1) rest) declares
+pub units-behind : (events : List Event) (before : UnitsBefore) (facts : List UnitFacts) (names : Names) (units : List RootUnit) (u : RootUnit) (old new : List RelatedPlaces)
+    → before.number < length units → u ≡ get_or units before.number u
+    → facts ≡ before.facts ++ added before.facts u → names ≡ names_after before u
+    → map without_other_places new ≡ map without_other_places old ++ told_by events before u
+    → map without_other_places new ++ told_after events (record { facts = facts; names = names; number = before.number + 1 }) (drop (before.number + 1) units)
+    ≡ map without_other_places old ++ told_after events before (drop before.number units)
+units-behind events before facts names units u old new lt at adds declares tells =
+    let rest = drop (before.number + 1) units in
+    let more = told_after events (with_unit before u) rest in
+    ap (λ fs. map without_other_places new ++ told_after events (record { facts = fs; names = names; number = before.number + 1 }) rest) adds
+    ∙ ap (λ ns. map without_other_places new ++ told_after events (record { facts = before.facts ++ added before.facts u; names = ns; number = before.number + 1 }) rest) declares
     ∙ ap (λ l. l ++ more) tells
-    ∙ append_assoc (map without_other_places old) (told_by events facts names i u) more
-    ∙ ap (λ us. map without_other_places old ++ told_after events facts names i us) (ap (λ v. v ∷ rest) at ∙ sym (drop_more units i u lt))
+    ∙ append_assoc (map without_other_places old) (told_by events before u) more
+    ∙ ap (λ us. map without_other_places old ++ told_after events before us) (ap (λ v. v ∷ rest) at ∙ sym (drop_more units before.number u lt))
 
 -- ---- what is assigned to findings
 
@@ -156,10 +157,10 @@ few-first (Some spot) = omega arith
 
 -- ---- units that declare nothing and have no fault
 
-pub behind-same : (judged : JudgedUnits) (facts : List UnitFacts) (number : ℕ) (unit : RootUnit)
-    → names_after facts number unit judged.first ≡ judged.first → told_by judged.expansion.now facts judged.first number unit ≡ []
-    → IsBehind judged judged facts number unit
-behind-same judged facts number unit names told = record {
+pub behind-same : (judged : JudgedUnits) (before : UnitsBefore) (unit : RootUnit)
+    → names_after before unit ≡ judged.first → told_by judged.expansion.now before unit ≡ []
+    → IsBehind judged judged before unit
+behind-same judged before unit names told = record {
   expansion = refl;
   asks = refl;
   names = λ asks. sym names;

@@ -37,6 +37,15 @@ use Rattle.idl_unit.specs.declared.unit.UnitText.{UnitText}
 abbrev pub Names : Type 0
 Names = List (Key × TokenPosition)
 
+-- the units before one: what they add, the names that they declare, and how many they are
+pub record UnitsBefore : Type 0 where
+  pub facts : List UnitFacts
+  pub names : Names
+  pub number : ℕ
+
+abbrev pub no_units : UnitsBefore
+no_units = record { facts = []; names = []; number = 0 }
+
 -- a name of the unit with this number, if it declares
 abbrev pub declared_at : ℕ → NamedSite → Names
 declared_at number n =
@@ -55,15 +64,23 @@ abbrev pub with_name : Names → Key × TokenPosition → Names
 with_name names n = if is_some (lookup (key_eq n.0) names) then names else names ++ n ∷ []
 
 -- behind a text with this fault; a faulty one declares nothing
-abbrev pub names_behind : List UnitFacts → ℕ → UnitText → Option Fault → Names → Names
-names_behind facts number text None names =
-    fold with_name names (names_over facts number text)
-names_behind facts number text (Some fault) names = names
+abbrev pub names_behind : UnitsBefore → UnitText → Option Fault → Names
+names_behind before text None =
+    fold with_name before.names (names_over before.facts before.number text)
+names_behind before text (Some fault) = before.names
 
-abbrev pub names_after : List UnitFacts → ℕ → RootUnit → Names → Names
-names_after facts number (Spelled text sites) names =
-    names_behind facts number text (verdict_over facts text).fault names
-names_after facts number other names = names
+abbrev pub names_after : UnitsBefore → RootUnit → Names
+names_after before (Spelled text sites) =
+    names_behind before text (verdict_over before.facts text).fault
+names_after before other = before.names
+
+-- with one more unit
+abbrev pub with_unit : UnitsBefore → RootUnit → UnitsBefore
+with_unit before unit = record {
+  facts = before.facts ++ added before.facts unit;
+  names = names_after before unit;
+  number = before.number + 1;
+}
 
 -- Where the name at a token is declared first, if that is before it: by one of these names of the
 -- units before, or else by one of those of its own unit before it.
@@ -73,6 +90,11 @@ first_declaration token names before (n ∷ own) =
     if nat_eq n.1.token token
     then option_or (lookup (key_eq n.0) names) (lookup (key_eq n.0) before)
     else first_declaration token names (with_name before n) own
+
+-- where the name at a token of a text is declared first, if that is before it
+abbrev pub first_declaration_over : UnitsBefore → UnitText → ℕ → Option TokenPosition
+first_declaration_over before text token =
+    first_declaration token before.names [] (names_over before.facts before.number text)
 
 -- the second place there
 abbrev pub seconds_at : Option TokenPosition → List Second
@@ -112,29 +134,27 @@ told_at events fault spot (Some site) = record {
       if is_redeclaration fault.code then flat_map (related_at events) (seconds_at spot) else [];
 } ∷ []
 
--- what is told of a text behind these names, if it has a fault that may have second places
-abbrev pub told_for : List Event → List UnitFacts → Names → ℕ → UnitText → List Site
-    → Option Fault → List RelatedPlaces
-told_for events facts names number text sites None = []
-told_for events facts names number text sites (Some fault) =
+-- what is told of a text whose tokens stand at these sites, if it has a fault that may have second
+-- places
+abbrev pub told_for : List Event → UnitsBefore → UnitText × List Site → Option Fault
+    → List RelatedPlaces
+told_for events before spelled None = []
+told_for events before spelled (Some fault) =
     if has_second fault.code
-    then told_at events fault (first_declaration fault.index names [] (names_over facts number text))
-    (site_of text sites fault.index)
+    then told_at events fault (first_declaration_over before spelled.0 fault.index)
+    (site_of spelled.0 spelled.1 fault.index)
     else []
 
-abbrev pub told_by : List Event → List UnitFacts → Names → ℕ → RootUnit → List RelatedPlaces
-told_by events facts names number (Spelled text sites) =
-    told_for events facts names number text sites (verdict_over facts text).fault
-told_by events facts names number other = []
+abbrev pub told_by : List Event → UnitsBefore → RootUnit → List RelatedPlaces
+told_by events before (Spelled text sites) =
+    told_for events before (text, sites) (verdict_over before.facts text).fault
+told_by events before other = []
 
--- of units from this number on, in order
-abbrev pub told_after : List Event → List UnitFacts → Names → ℕ → List RootUnit
-    → List RelatedPlaces
-told_after events facts names number [] = []
-told_after events facts names number (u ∷ units) =
-    told_by events facts names number u
-    ++ told_after events (facts ++ added facts u) (names_after facts number u names)
-    (number + 1) units
+-- of units behind those, in order
+abbrev pub told_after : List Event → UnitsBefore → List RootUnit → List RelatedPlaces
+told_after events before [] = []
+told_after events before (u ∷ units) =
+    told_by events before u ++ told_after events (with_unit before u) units
 
 -- what is told, without the second places of other codes
 abbrev pub without_other_places : RelatedPlaces → RelatedPlaces
@@ -142,7 +162,8 @@ without_other_places t = if is_redeclaration t.code then t else record t { relat
 
 -- what is told of a root's faults, in the order of the events that they name
 pub record AreOfFaults (events : List Event) (told : List RelatedPlaces) : Type 0 where
-  pub are : IsPermutation (told_after events [] [] 0 (units_of events)) (map without_other_places told)
+  pub are :
+      IsPermutation (told_after events no_units (units_of events)) (map without_other_places told)
   pub ordered : IsNonDecreasingBy (λ (t : RelatedPlaces). t.event) told
 
 -- ---- and of findings

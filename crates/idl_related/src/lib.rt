@@ -9,8 +9,8 @@
 #![tactic(auto)]
 
 mod about;
-mod first_declared;
 mod denoting;
+mod first_declared;
 mod given;
 mod known;
 mod names;

@@ -1,15 +1,15 @@
 //! The second places of all that is found in a root.
 
-ghost use Rattle.std.specs.Prelude.{◌≡◌, ◌≤◌, ◌+◌, ◌++◌, ◌∷◌, [], true, All, IfOk, IfSome, List, OnOk, drop, flat_map, length, map, option_to_list, reverse, slice_get};
+ghost use Rattle.std.specs.Prelude.{◌≡◌, ◌≤◌, ◌+◌, ◌++◌, ◌∷◌, [], true, All, IfOk, IfSome, List, None, OnOk, drop, flat_map, length, map, option_to_list, reverse, slice_get};
 ghost use Rattle.idl_event.specs.declared.told.event.Event.{Event};
-ghost use Rattle.std.specs.List.{fold, list_any};
+ghost use Rattle.std.specs.List.{list_any};
 ghost use Rattle.std.specs.List.Sorted.{IsNonDecreasingBy, IsPermutation};
 ghost use Rattle.std.specs.Option.{option_copied};
-ghost use Rattle.idl_related.specs.FirstDeclared.{AreOfFaults, assigned, first_declaration, names_behind, names_over, related_at, seconds_at, told_after, told_for, with_name, without_other_places};
+ghost use Rattle.idl_related.specs.FirstDeclared.{AreOfFaults, assigned, first_declaration_over, names_behind, related_at, seconds_at, told_after, told_for, without_other_places};
 ghost use Rattle.idl_env.specs.Facts.{boundary};
 ghost use Rattle.idl_check.specs.walk.Verdict.{added, verdict_over};
 ghost use Rattle.idl_related.specs.Related.{AreAtTokens, AreOfFinding, AreRelated, HasRedeclaration, IsAtToken};
-ghost use Rattle.idl_related.specs.Judged.{AreOfFindings, IsBehind, IsOfRoot};
+ghost use Rattle.idl_related.specs.Judged.{AreOfFindings, IsBehind, IsOfRoot, before_spelled, text_and_sites, units_before};
 ghost use Rattle.idl_related.specs.Told.{AreFew, has_second, is_redeclaration};
 ghost use Rattle.idl_finding.specs.Findings.{site_of, tokens_of};
 ghost use Rattle.idl_finding.specs.declared.finding.Finding.{Finding as FoundFinding};
@@ -108,6 +108,13 @@ impl RelatedPlaces {
     }
 }
 
+// A unit, by its number.
+#[derive(Clone, Copy)]
+struct NumberedUnit<'a> {
+    number: usize,
+    unit: &'a Unit,
+}
+
 // A unit of tokens or of a pragma, by its number, with the environment before it.
 #[derive(Clone, Copy)]
 struct SpelledUnit<'a> {
@@ -176,32 +183,37 @@ impl<'a> JudgedUnits<'a> {
         ensures told { OnOk result (self.old.asks_first ≡ true
             → map without_other_places self.new.told.items
             ≡ map without_other_places self.old.told.items
-            ++ told_after self.old.expansion.now [] self.old.first 0
+            ++ told_after self.old.expansion.now (units_before self.old [] 0)
             (units_of self.old.expansion.now)) }
     {
         let mut env = Env::new(self.known.alloc)?;
         let mut scratch = Scratch::new(self.known.alloc);
         let units = self.known.units;
         'units: for number in 0..units.len() {
-            env = self.pass(env, &mut scratch, number, &units[number])?;
+            let unit = NumberedUnit {
+                number,
+                unit: &units[number],
+            };
+            env = self.pass(env, &mut scratch, unit)?;
         }
         Ok(())
     }
 
-    // Behind the unit with a number, which is next: the environment with what it adds.
+    // Behind a unit, which is next: the environment with what it adds.
     fn pass(
         &mut self,
         env: Env,
         scratch: &mut Scratch,
-        number: usize,
-        unit: &Unit,
+        unit: NumberedUnit<'_>,
     ) -> Result<Env, AllocError>
         requires { IsOfRoot self.old }
         ensures root { OnOk result (IsOfRoot self.new) }
-        ensures behind { OnOk result (IsBehind self.old self.new env number unit.now) }
-        ensures env { IfOk result (λ after. after ≡ env ++ added env unit.now) }
+        ensures behind { OnOk result
+            (IsBehind self.old self.new (units_before self.old env unit.entry.number)
+            unit.entry.unit.now) }
+        ensures env { IfOk result (λ after. after ≡ env ++ added env unit.entry.unit.now) }
     {
-        match self.writes(&env, scratch, number, unit)? {
+        match self.writes(&env, scratch, unit)? {
             Some(writes) => {
                 self.known.pass(&env, writes.get())?;
                 env.add_own(writes, &mut scratch.room)
@@ -215,23 +227,25 @@ impl<'a> JudgedUnits<'a> {
         &mut self,
         env: &Env,
         scratch: &mut Scratch,
-        number: usize,
-        unit: &Unit,
+        unit: NumberedUnit<'_>,
     ) -> Result<Option<Writes>, AllocError>
         requires { IsOfRoot self.old }
         ensures root { OnOk result (IsOfRoot self.new) }
-        ensures behind { OnOk result (IsBehind self.old self.new env.now number unit.now) }
-        ensures writes { IfOk result (λ writes. option_to_list writes ≡ added env.now unit.now) }
+        ensures behind { OnOk result
+            (IsBehind self.old self.new (units_before self.old env.now unit.entry.number)
+            unit.entry.unit.now) }
+        ensures writes { IfOk result (λ writes.
+            option_to_list writes ≡ added env.now unit.entry.unit.now) }
     {
-        match unit {
+        match unit.unit {
             Unit::Spelled(text, sites) => {
-                let unit = SpelledUnit {
-                    number,
+                let spelled = SpelledUnit {
+                    number: unit.number,
                     env,
                     text,
                     sites,
                 };
-                Ok(Some(self.judge(scratch, unit)?))
+                Ok(Some(self.judge(scratch, spelled)?))
             }
             Unit::Entered(_file, _inside) => Ok(Some(boundary(env.alloc(), Step::Enters)?)),
             Unit::Left(_file, _inside) => Ok(Some(boundary(env.alloc(), Step::Leaves)?)),
@@ -244,7 +258,7 @@ impl<'a> JudgedUnits<'a> {
         requires { IsOfRoot self.old }
         ensures root { OnOk result (IsOfRoot self.new) }
         ensures behind { OnOk result
-            (IsBehind self.old self.new unit.entry.env.now unit.entry.number
+            (IsBehind self.old self.new (before_spelled self.old unit.entry)
             (Spelled unit.entry.text.now unit.entry.sites.now)) }
         ensures writes { IfOk result (λ writes.
             writes ≡ (verdict_over unit.entry.env.now unit.entry.text.now).writes) }
@@ -267,12 +281,11 @@ impl<'a> JudgedUnits<'a> {
         ensures asks { OnOk result (self.new.asks_first ≡ self.old.asks_first) }
         ensures names { OnOk result (self.old.asks_first ≡ true
             → self.new.first
-            ≡ names_behind unit.entry.env.now unit.entry.number unit.entry.text.now fault
-            self.old.first) }
+            ≡ names_behind (before_spelled self.old unit.entry) unit.entry.text.now fault) }
         ensures told { OnOk result (map without_other_places self.new.told.items
             ≡ map without_other_places self.old.told.items
-            ++ told_for self.old.expansion.now unit.entry.env.now self.old.first unit.entry.number
-            unit.entry.text.now unit.entry.sites.now fault) }
+            ++ told_for self.old.expansion.now (before_spelled self.old unit.entry)
+            (text_and_sites unit.entry) fault) }
     {
         match fault {
             Some(fault) => self.take_fault(scratch, unit, fault),
@@ -289,8 +302,7 @@ impl<'a> JudgedUnits<'a> {
         ensures told { OnOk result (self.new.told.items ≡ self.old.told.items) }
         ensures names { OnOk result (self.old.asks_first ≡ true
             → self.new.first
-            ≡ fold with_name self.old.first
-            (names_over unit.entry.env.now unit.entry.number unit.entry.text.now)) }
+            ≡ names_behind (before_spelled self.old unit.entry) unit.entry.text.now None) }
     {
         if !self.asks_first {
             return Ok(());
@@ -313,8 +325,8 @@ impl<'a> JudgedUnits<'a> {
         ensures first { OnOk result (self.new.first ≡ self.old.first) }
         ensures told { OnOk result (map without_other_places self.new.told.items
             ≡ map without_other_places self.old.told.items
-            ++ told_for self.old.expansion.now unit.entry.env.now self.old.first unit.entry.number
-            unit.entry.text.now unit.entry.sites.now (Some fault)) }
+            ++ told_for self.old.expansion.now (before_spelled self.old unit.entry)
+            (text_and_sites unit.entry) (Some fault)) }
     {
         self.tell(scratch, unit, fault)?;
         self.known.pass_faulty(unit.env, unit.text)
@@ -334,8 +346,8 @@ impl<'a> JudgedUnits<'a> {
         ensures first { OnOk result (self.new.first ≡ self.old.first) }
         ensures told { OnOk result (map without_other_places self.new.told.items
             ≡ map without_other_places self.old.told.items
-            ++ told_for self.old.expansion.now unit.entry.env.now self.old.first unit.entry.number
-            unit.entry.text.now unit.entry.sites.now (Some fault)) }
+            ++ told_for self.old.expansion.now (before_spelled self.old unit.entry)
+            (text_and_sites unit.entry) (Some fault)) }
     {
         if !has_second(fault.code) {
             return Ok(());
@@ -359,8 +371,8 @@ impl<'a> JudgedUnits<'a> {
         ensures few { IfOk result (λ seconds. AreFew seconds.items) }
         ensures first_declared { IfOk result (λ seconds.
             is_redeclaration fault.code ≡ true → seconds.items
-            ≡ seconds_at (first_declaration fault.index self.now.first []
-            (names_over unit.entry.env.now unit.entry.number unit.entry.text.now))) }
+            ≡ seconds_at (first_declaration_over (before_spelled self.now unit.entry)
+            unit.entry.text.now fault.index)) }
     {
         if is_redeclaration(fault.code) {
             return self.first_declared(scratch, unit, fault.index);
@@ -382,8 +394,8 @@ impl<'a> JudgedUnits<'a> {
         token: usize,
     ) -> Result<Vec<Second>, AllocError>
         ensures { IfOk result (λ seconds. seconds.items
-            ≡ seconds_at (first_declaration token self.now.first []
-            (names_over unit.entry.env.now unit.entry.number unit.entry.text.now))) }
+            ≡ seconds_at (first_declaration_over (before_spelled self.now unit.entry)
+            unit.entry.text.now token)) }
     {
         let alloc = unit.env.alloc();
         let own = names_in(scratch, unit.env, unit.number, unit.text)?;

@@ -1,8 +1,8 @@
 use Rattle.std.proofs.Common.{◌∙◌, ◌++◌, [], IfOk, IsPermutation, ap, map, reverse, subst}
 use Rattle.std.proofs.lemmas.List.Sorted.{IsPermutation-map}
 use Rattle.std.specs.List.Sorted.{IsNonDecreasingBy}
-use Rattle.idl_related.specs.FirstDeclared.{AreOfFaults, told_after, without_other_places}
-use Rattle.idl_related.specs.Judged.{AreOfFindings}
+use Rattle.idl_related.specs.FirstDeclared.{AreOfFaults, no_units, told_after, without_other_places}
+use Rattle.idl_related.specs.Judged.{AreOfFindings, units_before}
 use Rattle.idl_related.specs.Related.{HasRedeclaration}
 use Rattle.idl_related.proofs.FirstDeclaredLemmas.{IfOk-both}
 use Rattle.idl_related.proofs.related.told_of.Goals as goal
@@ -23,9 +23,9 @@ returns-clause-first_declared c =
     (λ told permutation ordered asks.
     let are =
     c.in_ok-pass_all.ensures.told (start.asks ∙ asks)
-    ∙ ap (λ l. map without_other_places l ++ told_after first.expansion.now [] first.first 0 (units_of first.expansion.now)) start.empty.1
-    ∙ ap (λ names. told_after first.expansion.now [] names 0 (units_of first.expansion.now)) start.empty.0
-    ∙ ap (λ events. told_after events [] [] 0 (units_of events)) start.expansion in
+    ∙ ap (λ l. map without_other_places l ++ told_after first.expansion.now (units_before first [] 0) (units_of first.expansion.now)) start.empty.1
+    ∙ ap (λ names. told_after first.expansion.now (record { facts = []; names = names; number = 0 }) (units_of first.expansion.now)) start.empty.0
+    ∙ ap (λ events. told_after events no_units (units_of events)) start.expansion in
     record {
       are = subst (λ l. IsPermutation l (map without_other_places (reverse told.items))) are (IsPermutation-map without_other_places last.told.items (reverse told.items) permutation);
       ordered = ordered;

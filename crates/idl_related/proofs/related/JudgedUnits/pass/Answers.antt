@@ -18,5 +18,5 @@ returns-in_ok-pass-in-Some-clause-behind c =
 pub returns-in_ok-pass-in-Some-clause-env : goal.returns-in_ok-pass-in-Some-clause-env
 returns-in_ok-pass-in-Some-clause-env c =
     let env = c.args.env in
-    IfOk-weaker c.add_own.result (λ after. after ≡ env ++ c.in-Some.writes ∷ []) (λ after. after ≡ env ++ added env c.args.unit.now)
+    IfOk-weaker c.add_own.result (λ after. after ≡ env ++ c.in-Some.writes ∷ []) (λ after. after ≡ env ++ added env c.args.unit.unit.now)
     (λ after is. is ∙ ap (λ l. env ++ l) (ap option_to_list (sym c.in-Some.is) ∙ c.in_ok-writes.ensures.writes)) c.add_own.ensures
