@@ -172,7 +172,8 @@ abbrev pub places_told : Option RelatedPlaces → List Related
 places_told None = []
 places_told (Some t) = t.related
 
--- the findings that may have second places have what is told, one after another
+-- The findings that may have second places have what is told, one after another. So these are to be
+-- all that is found in the root, in order: what is told has no other mark of whose it is.
 abbrev pub assigned : List Finding → List RelatedPlaces → List (List Related)
 assigned [] told = []
 assigned (f ∷ findings) told =
@@ -180,8 +181,8 @@ assigned (f ∷ findings) told =
     then places_told (first told) ∷ assigned findings (drop 1 told)
     else [] ∷ assigned findings told
 
--- these findings have what is told of the root's faults: a redeclaration has the place where the
--- name is declared first
+-- all that is found in a root, in order, has what is told of its faults: a redeclaration has the
+-- place where the name is declared first
 pub record AreAssigned (events : List Event) (findings : List Finding)
     (related : List (List Related)) : Type 0 where
   pub told : List RelatedPlaces

@@ -15,9 +15,10 @@ use Rattle.idl_unit.specs.declared.unit.Unit.{Unit as RootUnit}
 use Rattle.idl_unit.specs.declared.unit.Unit.TheVariants.{Spelled}
 use Rattle.idl_unit.specs.declared.unit.UnitText.{UnitText}
 
--- it is told of a token of one of these units as a finding there would be: where the token stands, its
--- number, and how it is spelled
-pub record IsAtToken (events : List Event) (units : List RootUnit) (related : Related) : Type 0 where
+-- it is told of a token of one of these units as a finding there would be: where the token stands,
+-- its number, and how it is spelled
+pub record IsAtToken (events : List Event) (units : List RootUnit) (related : Related)
+    : Type 0 where
   pub text : UnitText
   pub sites : List Site
   pub index : ℕ
@@ -41,7 +42,9 @@ pub record AreOfFinding (events : List Event) (related : List Related) : Type 0 
 abbrev pub HasRedeclaration : List Finding → Type 0
 HasRedeclaration findings = list_any (λ f. is_redeclaration f.code) findings ≡ true
 
--- those of findings of that root, a list for each
+-- Those of findings of that root, a list for each. Where one is a redeclaration, they are to be all
+-- that is found in the root, in order: which places are whose is told by where they stand among
+-- these.
 pub record AreRelated (events : List Event) (findings : List Finding)
     (related : List (List Related)) : Type 0 where
   pub count : length related ≡ length findings

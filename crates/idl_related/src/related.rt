@@ -31,8 +31,10 @@ use idl_memo::Journal;
 use idl_unit::{Fault, SiteRun, Unit, UnitText, split};
 use std::alloc::{AllocError, Global};
 
-/// For each of these findings of what a root expands to, in order, its second places. The units are judged for it, and nothing of that is
-/// kept. Where no finding has second places none is judged.
+/// For each of these findings of what a root expands to, in order, its second places. They are to be all that is found in the root: where
+/// one is a redeclaration the places are those of all, one after another, and of some of them alone each may have another one's.
+///
+/// The units are judged for it, and nothing of that is kept. Where no finding has second places none is judged.
 pub fn related_of(
     alloc: Global,
     expansion: &Expansion,
