@@ -1,7 +1,8 @@
 -- Names that are declared again, and what is told of them and assigned to findings.
-use Rattle.std.proofs.Common.{◌≡◌, ◌∙◌, ◌<◌, ◌+◌, ◌||◌, ℕ, Bool, true, false, IfOk, OnOk, List, [], ◌∷◌, ◌++◌, Option, None, Some, Result, Ok, Err, ap, arith, drop, flat_map, get_or, length, map, refl, reverse, sym, if◌then◌else◌}
+use Rattle.std.proofs.Common.{◌≡◌, ◌∙◌, ◌<◌, ◌+◌, ◌&&◌, ◌||◌, ℕ, Bool, true, false, IfOk, OnOk, List, [], ◌∷◌, ◌++◌, Option, None, Some, Result, Ok, Err, ap, arith, cond, drop, filter, flat_map, get_or, is_lt, length, map, nat_cmp, not, refl, reverse, sym, if◌then◌else◌}
 use Rattle.std.proofs.lemmas.List.{append-nil, append_assoc, drop_more, map-append, reverse-append}
 use Rattle.std.specs.List.{list_any}
+use Rattle.std.specs.List.Sorted.{ties}
 use Rattle.idl_env.specs.Facts.{UnitFacts}
 use Rattle.idl_event.specs.declared.told.event.Event.{Event}
 use Rattle.idl_event.specs.declared.told.site.Site.{Site}
@@ -9,7 +10,7 @@ use Rattle.idl_fault.specs.declared.code.Code.{Code}
 use Rattle.idl_fault.specs.declared.code.Code.TheVariants.{AlreadyDeclared}
 use Rattle.idl_finding.specs.Findings.{site_of}
 use Rattle.idl_finding.specs.declared.finding.Finding.{Finding}
-use Rattle.idl_related.specs.FirstDeclared.{Names, UnitsBefore, assigned, first_declaration_over, names_after, places_told, related_at, seconds_at, told_after, told_at, told_by, told_for, with_unit, without_other_places}
+use Rattle.idl_related.specs.FirstDeclared.{KeepsOrder, Names, UnitsBefore, assigned, first_declaration_over, names_after, places_told, related_at, seconds_at, told_after, told_at, told_by, told_for, with_unit, without_other_places}
 use Rattle.idl_check.specs.walk.Verdict.{added}
 use Rattle.idl_related.specs.Told.{AreFew, has_second, is_redeclaration}
 use Rattle.idl_related.specs.Judged.{IsBehind}
@@ -108,6 +109,33 @@ units-behind events before facts names units u old new lt at adds declares tells
     ∙ ap (λ l. l ++ more) tells
     ∙ append_assoc (map without_other_places old) (told_by events before u) more
     ∙ ap (λ us. map without_other_places old ++ told_after events before us) (ap (λ v. v ∷ rest) at ∙ sym (drop_more units before.number u lt))
+
+-- ---- what is told of one event
+
+-- without other places it is of that event
+event-same : (b : Bool) (t : RelatedPlaces) → let u : RelatedPlaces = if b then t else record t { related = [] } in u.event ≡ t.event
+event-same true t = refl
+event-same false t = refl
+
+abbrev is_earlier : RelatedPlaces → RelatedPlaces → Bool
+is_earlier x y = is_lt (nat_cmp x.event y.event)
+
+ties-without : (x : RelatedPlaces) (told : List RelatedPlaces)
+    → filter (ties is_earlier x) (map without_other_places told) ≡ map without_other_places (filter (ties is_earlier x) told)
+ties-without x [] = refl
+ties-without x (t ∷ told) =
+    let rest = filter (ties is_earlier x) (map without_other_places told) in
+    ap (λ (n : ℕ). cond (not (is_lt (nat_cmp x.event n)) && not (is_lt (nat_cmp n x.event))) (without_other_places t ∷ rest) rest) (event-same (is_redeclaration t.code) t)
+    ∙ by (ties is_earlier x t) (ties-without x told)
+  where
+    by : (b : Bool) → filter (ties is_earlier x) (map without_other_places told) ≡ map without_other_places (filter (ties is_earlier x) told)
+        → cond b (without_other_places t ∷ filter (ties is_earlier x) (map without_other_places told)) (filter (ties is_earlier x) (map without_other_places told))
+        ≡ map without_other_places (cond b (t ∷ filter (ties is_earlier x) told) (filter (ties is_earlier x) told))
+    by true next = ap (λ l. without_other_places t ∷ l) next
+    by false next = next
+
+pub kept-without : (old new : List RelatedPlaces) → KeepsOrder old new → KeepsOrder (map without_other_places old) (map without_other_places new)
+kept-without old new kept = λ x. ties-without x new ∙ ap (map without_other_places) (kept x) ∙ sym (ties-without x old)
 
 -- ---- what is assigned to findings
 

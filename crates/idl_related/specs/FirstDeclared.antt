@@ -1,9 +1,10 @@
 -- Second places of redeclarations: where a name is declared first at its key.
 use Rattle.std.specs.Prelude.{◌≡◌, ℕ, ◌+◌, List, [], ◌∷◌, ◌++◌, drop, flat_map, is_some, map, nat_eq, option_to_list, slice_get, Option, None, Some, if◌then◌else◌}
 use Rattle.std.specs.List.{fold}
-use Rattle.std.specs.List.Sorted.{IsNonDecreasingBy, IsPermutation}
+use Rattle.std.specs.List.Sorted.{IsNonDecreasingBy, IsPermutation, IsStableByKey}
 use Rattle.std.specs.Map.{lookup}
 use Rattle.std.specs.Option.{option_or}
+use Rattle.std.specs.Ordering.{nat_cmp}
 use Rattle.idl_check.specs.walk.Names.{unit_names}
 use Rattle.idl_check.specs.walk.Verdict.{added, verdict_over}
 use Rattle.idl_check.specs.declared.walk.names.NamedSite.{NamedSite}
@@ -160,11 +161,17 @@ told_after events before (u ∷ units) =
 abbrev pub without_other_places : RelatedPlaces → RelatedPlaces
 without_other_places t = if is_redeclaration t.code then t else record t { related = [] }
 
+-- what is told of one event stays in its order
+abbrev pub KeepsOrder : List RelatedPlaces → List RelatedPlaces → Type 0
+KeepsOrder old new = IsStableByKey (λ (t : RelatedPlaces). t.event) nat_cmp old new
+
 -- what is told of a root's faults, in the order of the events that they name
 pub record AreOfFaults (events : List Event) (told : List RelatedPlaces) : Type 0 where
   pub are :
       IsPermutation (told_after events no_units (units_of events)) (map without_other_places told)
   pub ordered : IsNonDecreasingBy (λ (t : RelatedPlaces). t.event) told
+  pub kept :
+      KeepsOrder (told_after events no_units (units_of events)) (map without_other_places told)
 
 -- ---- and of findings
 

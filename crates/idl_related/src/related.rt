@@ -5,7 +5,7 @@ ghost use Rattle.idl_event.specs.declared.told.event.Event.{Event};
 ghost use Rattle.std.specs.List.{list_any};
 ghost use Rattle.std.specs.List.Sorted.{IsNonDecreasingBy, IsPermutation};
 ghost use Rattle.std.specs.Option.{option_copied};
-ghost use Rattle.idl_related.specs.FirstDeclared.{AreOfFaults, assigned, first_declaration_over, names_behind, related_at, seconds_at, told_after, told_for, without_other_places};
+ghost use Rattle.idl_related.specs.FirstDeclared.{AreOfFaults, KeepsOrder, assigned, first_declaration_over, names_behind, related_at, seconds_at, told_after, told_for, without_other_places};
 ghost use Rattle.idl_env.specs.Facts.{boundary};
 ghost use Rattle.idl_check.specs.walk.Verdict.{added, verdict_over};
 ghost use Rattle.idl_related.specs.Related.{AreAtTokens, AreOfFinding, AreRelated, HasRedeclaration, IsAtToken};
@@ -512,6 +512,8 @@ impl<'a> JudgedUnits<'a> {
             IsPermutation self.entry.told.items (reverse told.items)) }
         ensures ordered { IfOk result (λ told.
             IsNonDecreasingBy (λ t. t.event) (reverse told.items)) }
+        ensures kept { IfOk result (λ told.
+            KeepsOrder self.entry.told.items (reverse told.items)) }
     {
         let JudgedUnits {
             expansion: _expansion,
