@@ -1,1 +1,2 @@
 mod FirstDeclaredLemmas
+pub mod FoundLemmas
