@@ -1,4 +1,5 @@
 pub mod Apart
+pub mod Codes
 pub mod Expanding
 pub mod Items
 pub mod Key

@@ -1,4 +1,5 @@
 mod FindingLemmas
+pub mod FoundLemmas
 pub mod LineNumberLemmas
 pub mod NumberLemmas
 pub mod OrderLemmas

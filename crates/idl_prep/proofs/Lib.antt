@@ -1,4 +1,5 @@
 pub mod CandidateLemmas
+pub mod CodeLemmas
 pub mod DirectiveLemmas
 pub mod GroupLemmas
 pub mod IncludeLemmas

@@ -1,1 +1,2 @@
-mod AlreadyLemmas
+mod FirstDeclaredLemmas
+pub mod FoundLemmas

@@ -11,6 +11,7 @@ mod DetailLemmas
 mod DigestLemmas
 mod FactsTold
 mod FollowingLemmas
+pub mod FoundLemmas
 mod FrontLemmas
 mod JudgingLemmas
 mod KeptLemmas

@@ -19,7 +19,7 @@ use Rattle.idl_root.proofs.SharedLemmas.{compared-most, shared-one}
 use Rattle.idl_root.specs.Compared.{IsMetAt}
 use Rattle.idl_root.proofs.StoredLemmas.{grown-none, grown-results}
 use Rattle.idl_root.specs.Followed.{IsDeclarationLast, IsKeeping, UnitsOnly}
-use Rattle.idl_root.specs.Judged.{verdict_over}
+use Rattle.idl_root_blocks.specs.idl_check.walk.Verdict.{verdict_over}
 use Rattle.idl_root.specs.Passed.{AllGoOn, ArePassed, Compares, WalksOnly, keys_behind, part_mark, with_kept}
 use Rattle.idl_root.specs.Results.{DeclarationResult, HasDraft, IsDeclarationPass}
 use Rattle.idl_root.specs.declared.kept.keeping.Keeping.{Keeping}

@@ -15,7 +15,7 @@ use Rattle.idl_root.specs.Printed.{Listed, name_index}
 use Rattle.idl_root.specs.Results.{DeclarationResult, EntryResult, IsDeclarationPass, IsEntryPass, KeptLists, entry_result, mark_at, marks_of}
 use Rattle.idl_root_blocks.specs.Met.{Known}
 use Rattle.idl_root_blocks.specs.Places.{block_result, declaration_result}
-use Rattle.idl_root.specs.Turns.{IsWithinWords}
+use Rattle.idl_root.specs.Turns.{FitsU64}
 use Rattle.idl_root.specs.declared.compiling.compiled.Compiled.{Compiled}
 use Rattle.idl_finding.specs.declared.finding.EventFinding.{EventFinding}
 use Rattle.idl_root.specs.declared.kept.course.Course.{Course}
@@ -102,7 +102,7 @@ closing_beside (l ∷ listed) (k ∷ entries) =
 pub record IsCompiledOf (events : List Event) (compiled : Compiled) : Type 0 where
   pub end : Place
   pub rows : compiled ≡ compile end events
-  pub within : IsWithinWords events
+  pub within : FitsU64 events
 
 -- what is kept of the root at a place among all
 abbrev pub kept_lists : Keeper → ℕ → KeptLists

@@ -1,1 +1,2 @@
+mod AssignedLemmas
 pub mod CompileLemmas

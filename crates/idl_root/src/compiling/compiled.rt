@@ -7,7 +7,7 @@ ghost use Rattle.idl_root.specs.AsBefore.{AreAsBefore, AreListsLeft, IsAsBefore,
 ghost use Rattle.idl_root.specs.Compile.{compile, findings_told, has_error, open_finding, rows_beside};
 ghost use Rattle.idl_root.specs.Held.{told_of};
 ghost use Rattle.idl_root.specs.Results.{ExpandsNone, IsKeptOf, root_marks};
-ghost use Rattle.idl_root.specs.Turns.{IsWithinWords};
+ghost use Rattle.idl_root.specs.Turns.{FitsU64};
 ghost use Rattle.idl_unit.specs.Units.{units_of};
 
 use crate::compiling::judging::{Ended, RootState};
@@ -97,7 +97,7 @@ pub fn compile(
     expansion: &Expansion,
 ) -> Result<Compiled, AllocError>
     ensures compiled { IfOk result (λ compiled. compiled ≡ compile end.now expansion.now) }
-    ensures within { OnOk result (IsWithinWords expansion.now) }
+    ensures within { OnOk result (FitsU64 expansion.now) }
 {
     memory.clear();
     let alloc = memory.alloc();
@@ -124,7 +124,7 @@ pub fn compile_kept(
         × IfSome root.compiled (λ compiled. IsCompiledOf was compiled.now) }
     ensures compiled { IfOk result (λ r.
         r.compiled ≡ compile root.entry.end.now root.entry.expansion.now) }
-    ensures within { OnOk result (IsWithinWords root.entry.expansion.now) }
+    ensures within { OnOk result (FitsU64 root.entry.expansion.now) }
     ensures marks { IfOk result (λ r. unwrap_or r.marks root.entry.marks.now
         ≡ root_marks root.entry.expansion.now) }
     ensures tasks { OnOk result ((was : List Event) → IsKeptOf was root.entry.marks.now
@@ -228,7 +228,7 @@ fn compile_anew(
         (kept_lists keeper.old root.at) }
     ensures compiled { IfOk result (λ r.
         r.compiled ≡ compile root.entry.end.now root.entry.expansion.now) }
-    ensures within { OnOk result (IsWithinWords root.entry.expansion.now) }
+    ensures within { OnOk result (FitsU64 root.entry.expansion.now) }
     ensures marks { IfOk result (λ r. r.marks ≡ Some (root_marks root.entry.expansion.now)) }
     ensures made { OnOk result (IsMade root.entry.expansion.now root.entry.at
         keeper.old keeper.new meter.old meter.new) }

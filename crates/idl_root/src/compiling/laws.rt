@@ -6,19 +6,20 @@ ghost use Rattle.idl_env.specs.Facts.{UnitFacts, answers};
 ghost use Rattle.idl_event.specs.declared.told.event.Event.{Event};
 ghost use Rattle.idl_fault.specs.declared.place.Place.{Place};
 ghost use Rattle.idl_root_blocks.specs.idl_check_laws.Closing.{AreTold};
-ghost use Rattle.idl_root.specs.Closing.{ClosesAtFirst};
+ghost use Rattle.idl_root.specs.Closing.{ClosesAtFirst, IsOfEnd};
 ghost use Rattle.idl_root.specs.Compile.{compile, outcome_of};
 ghost use Rattle.idl_root.specs.Details.{details, printed};
 ghost use Rattle.idl_root.specs.Judged.{HasTurns, facts_after, judged_after};
 ghost use Rattle.idl_root.specs.Named.{named_after};
 ghost use Rattle.idl_root.specs.NamePlaces.{declared_names};
 ghost use Rattle.idl_root.specs.Places.{declarations_after, root_pieces};
+ghost use Rattle.idl_root.specs.Printed.{Listed, closing_finding};
 ghost use Rattle.idl_root_blocks.specs.Blocks.{parts_of};
 ghost use Rattle.idl_root_blocks.specs.Places.{AreStandingOver, declarations_over, facts_over, unit_ways};
 ghost use Rattle.idl_root_blocks.specs.Units.{text_of};
 ghost use Rattle.idl_unit.specs.declared.unit.Unit.{Unit as RootUnit};
 ghost use Rattle.idl_root.specs.Told.{IsTold};
-ghost use Rattle.idl_root.specs.Turns.{IsWithinWords};
+ghost use Rattle.idl_root.specs.Turns.{FitsU64};
 ghost use Rattle.idl_unit.specs.Units.{units_of};
 ghost use Rattle.std.specs.List.Sorted.{IsNonDecreasingBy};
 ghost use Rattle.idl_finding.specs.Findings.{finding_row, in_order};
@@ -86,6 +87,15 @@ pub fn closing()
     listed_row();
 }
 
+/// What is wrong with a name at the end of a root is told as E75 or W80. This does nothing: it carries the law.
+pub fn ending()
+    ensures { (facts : List UnitFacts) (l : Listed)
+        → All (λ f. IsOfEnd f.code) (closing_finding facts l) }
+{
+    // It does nothing: it carries laws of the listing.
+    listed_row();
+}
+
 /// The facts of a root are what verdicts tell, each over those before it: of them the law of closed interfaces speaks
 /// (`inheriting` of `idl_check_laws`). Where they need no more turns than a verdict is taken with, none before them does: so the laws of
 /// verdicts (`denoting`, `more_turns`) speak of each unit. This does nothing: it carries the law.
@@ -113,7 +123,7 @@ pub fn texts()
 /// told, and words count what its units add. This does nothing: it carries the law.
 pub fn blocks()
     ensures { (events : List Event)
-        → IsWithinWords events → AreStandingOver [] (root_pieces events) }
+        → FitsU64 events → AreStandingOver [] (root_pieces events) }
 {
     texts();
     // They do nothing: they carry laws of pieces, and of blocks.
