@@ -13,10 +13,9 @@ ghost use Rattle.idl_env.specs.declared.keys.key.Key.TheVariants.{Nameless};
 ghost use Rattle.idl_block.specs.facts.Written.{boundary};
 ghost use Rattle.idl_env.specs.keys.Key.{key_eq};
 ghost use Rattle.idl_memo.specs.Fresh.{is_alike, log_at};
-ghost use Rattle.idl_memo.specs.Kept.{IsAlike};
 ghost use Rattle.idl_memo.specs.Query.{Agree};
 ghost use Rattle.idl_root_blocks.specs.Blocks.{AreCut, IsOfBlock, Pieces, parts_of, text_in};
-ghost use Rattle.idl_root_blocks.specs.Met.{block_text_eq};
+ghost use Rattle.idl_root_blocks.specs.Met.{IsLike, block_text_eq};
 ghost use Rattle.idl_root_blocks.specs.Places.{AreStandingOver, BlockPlace, ComesTo, Stands, block_asks, block_at, block_query, block_result, blocks_over, declaration_result, declarations_over, facts_over, unit_ways, with_entering};
 ghost use Rattle.idl_root_blocks.specs.declared.text.BlockPart.{BlockPart as Part};
 ghost use Rattle.idl_root_blocks.specs.declared.text.BlockPart.TheVariants.{Enters, Leaves};
@@ -56,7 +55,7 @@ pub fn taking()
         × ((block_result here).log ≡ log_at key_eq block_query here) }
     // And that is alike at a place just where the block is.
     ensures kept { (here task : BlockPlace)
-        → IsAlike here.0 here.1 (block_result task)
+        → IsLike here (block_result task)
         ↔ (is_alike block_text_eq (option_eq answer_eq) block_query here task ≡ true) }
 {
     alike();
@@ -91,7 +90,7 @@ pub fn standing()
 }
 
 /// Where a block is alike, what is kept of each of its units is the same at both places: the text, what it asked with the answers,
-/// and its verdict. Each block inside is alike, too, and the same is kept of it.
+/// and its verdict. Where units are around the same boundaries, each block inside is alike, too, and the same is kept of it.
 pub fn resulting()
     ensures units { (before other : List UnitFacts) (text there : List Part)
         → let end = block_end (answers before) (parts_of text) in
@@ -100,13 +99,13 @@ pub fn resulting()
         (there, answers other) (text, answers before) ≡ true
         → map declaration_result (declarations_over (with_entering other) there)
         ≡ map declaration_result (declarations_over (with_entering before) text) }
-    ensures blocks { (before other : List UnitFacts) (inside there : Pieces)
+    ensures blocks { (before other : List UnitFacts) (inside : Pieces)
         → let end = block_end (answers before) (parts_of (text_in inside)) in
-        IsOfBlock (text_in inside) → AreCut inside → AreCut there
+        IsOfBlock (text_in inside) → AreCut inside
         → AreStanding before end.1 → AreStanding other end.1
         → is_alike block_text_eq (option_eq answer_eq) block_query
-        (block_at other there) (block_at before inside) ≡ true
-        → map block_result (blocks_over (with_entering other) there)
+        (block_at other inside) (block_at before inside) ≡ true
+        → map block_result (blocks_over (with_entering other) inside)
         ≡ map block_result (blocks_over (with_entering before) inside) }
 {
     enough();

@@ -25,7 +25,7 @@ mod task;
 mod text;
 pub mod verdicts;
 
-pub use block_text::BlockText;
+pub use block_text::{BlockText, ENCLOSED, PLAIN};
 pub use blocks::{resulting, standing, taking};
 pub use finding::{block_at, blocks_in, texts_in};
 pub use idl_check_laws;

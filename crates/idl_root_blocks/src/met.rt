@@ -1,14 +1,15 @@
 //! The laws of what is compared at an edit.
 
-ghost use Rattle.std.specs.Prelude.{◌≡◌, ◌≤◌, ◌<◌, ◌+◌, ◌^◌, ◌∷◌, [], List, map, true, if◌then◌else◌};
+ghost use Rattle.std.specs.Prelude.{◌≡◌, ◌≤◌, ◌<◌, ◌+◌, ◌^◌, ◌∷◌, [], All, IsTrue, List, map, true, if◌then◌else◌};
+ghost use Rattle.std.specs.List.{list_any};
 ghost use Rattle.idl_check_laws.specs.Closing.{AreTold};
 ghost use Rattle.idl_env.specs.Facts.{UnitFacts, answers, count_in};
 ghost use Rattle.idl_env.specs.Turns.{most_turns, turns_for};
 ghost use Rattle.idl_env.specs.declared.keys.key.Key.TheVariants.{Nameless};
 ghost use Rattle.idl_root_blocks.specs.Blocks.{AreCut, Block, IsOfBlock, Loose, Nothing, Pieces, text_in};
-ghost use Rattle.idl_root_blocks.specs.Met.{AreKnownAt, AreKnownWhole, AreSame, Known, Met, MetBlock, MetUnit, compared, is_known, met_over, most_compared, outermost_keys, shared_by, with_block, with_part, with_pieces};
+ghost use Rattle.idl_root_blocks.specs.Met.{AreKnownAt, AreKnownWhole, AreSame, Known, Met, MetBlock, MetUnit, alike_unit, compared, is_known, met_over, most_compared, outermost_keys, shared_by, with_block, with_part, with_pieces};
 ghost use Rattle.idl_root_blocks.specs.declared.text.BlockPart.{BlockPart as Part};
-ghost use Rattle.idl_root_blocks.specs.Places.{Stands, block_at, declaration_at, facts_behind, facts_over, with_entering};
+ghost use Rattle.idl_root_blocks.specs.Places.{Stands, block_at, declaration_at, declarations_over, facts_behind, facts_over, with_entering};
 
 use crate::blocks::resulting;
 use crate::equality::exact;
@@ -48,15 +49,15 @@ pub fn meeting()
     exact::<DigestedKey>();
 }
 
-/// Of a known block that stands its units and the blocks inside are known, where it is so with each known block where it stood; and
-/// so it is when all of a root, or of pieces of one, becomes known.
+/// Of a known block that stands its units are known, where it is so with each known block where it stood; and so it is when all of a
+/// root, or of pieces of one, becomes known.
 pub fn containing()
     ensures known { (known : Known) (facts : List UnitFacts) (inside : Pieces)
         → let text = text_in inside in
-        AreKnownWhole known → IsOfBlock text → AreCut inside
-        → Stands facts text
+        AreKnownWhole known → IsOfBlock text → Stands facts text
         → is_known known.blocks (block_at facts inside) ≡ true
-        → AreKnownAt known (with_entering facts) inside }
+        → All (λ here. IsTrue (list_any (alike_unit here) known.declarations))
+        (declarations_over (with_entering facts) text) }
     ensures pieces { (known : Known) (facts : List UnitFacts) (pieces : Pieces)
         → let behind = facts_over facts (text_in pieces) in
         AreKnownWhole known → AreCut pieces → AreTold facts

@@ -3,18 +3,20 @@
 ghost use Rattle.std.specs.Prelude.{◌≡◌, IfOk};
 ghost use Rattle.std.specs.Option.{option_to_list};
 ghost use Rattle.std.proofs.Common.{ap};
+ghost use Rattle.idl_root_blocks.specs.Blocks.{is_enclosed, plain_part};
 ghost use Rattle.idl_root_blocks.specs.Units.{parts_of_unit, text_of};
+ghost use Rattle.idl_root_blocks.specs.contracts.text.BlockPartPartialEq.TheImpl.{ghosts as parts};
 ghost use Rattle.idl_root_blocks.specs.declared.text.BlockPart.TheVariants.{Text, Enters, Leaves};
 
 use crate::block_text::BlockText;
 use idl_base::Datum;
 use idl_unit::{Unit, UnitText};
 use std::alloc::{AllocError, Global};
-use std::hash::Hash;
+use std::hash::{Hash, Hasher};
 
 /// A part of a block: a unit with tokens, or the boundary of a file that it includes and whether that stands inside a unit of
 /// tokens. Files have no names here.
-#[derive(Clone, PartialEq, Eq, PartialOrd, Ord, Hash, Drop)]
+#[derive(Clone, PartialEq, Eq, PartialOrd, Ord, Drop)]
 pub enum BlockPart {
     /// A unit with tokens.
     Text(UnitText),
@@ -22,6 +24,48 @@ pub enum BlockPart {
     Enters(bool),
     /// A file is left.
     Leaves(bool),
+}
+
+impl BlockPart {
+    // Whether it is a boundary around which a unit is.
+    pub(crate) fn is_enclosed(&self) -> bool
+        ensures { result ≡ is_enclosed self.now }
+    {
+        match self {
+            BlockPart::Text(_unit) => false,
+            BlockPart::Enters(inside) | BlockPart::Leaves(inside) => *inside,
+        }
+    }
+
+    // Whether another is the same, whatever units are around both.
+    pub(crate) fn is_like(&self, other: &BlockPart) -> bool
+        ensures { result ≡ parts.eq (plain_part self.now) (plain_part other.now) }
+    {
+        match (self, other) {
+            (BlockPart::Text(unit), BlockPart::Text(same)) => *unit == *same,
+            (BlockPart::Enters(_inside), BlockPart::Enters(_within)) => true,
+            (BlockPart::Leaves(_inside), BlockPart::Leaves(_within)) => true,
+            _ => false,
+        }
+    }
+}
+
+// What units are around is not hashed, so that texts in which that alone differs are found together.
+impl Hash for BlockPart {
+    ghost use Rattle.idl_root_blocks.specs.Blocks.{part_writes};
+    ghost use Rattle.idl_root_blocks.specs.contracts.text.BlockPartDatum.TheImpl.Laws.{same-law as same_part};
+
+    ghost hash_input = { part_writes };
+
+    ghost respects_eq = { λ x y h. ap part_writes (same_part x y h) };
+
+    fn hash<H: Hasher>(&self, state: &mut H) {
+        match self {
+            BlockPart::Text(unit) => unit.hash(state),
+            BlockPart::Enters(_inside) => state.write_u8(0),
+            BlockPart::Leaves(_inside) => state.write_u8(1),
+        }
+    }
 }
 
 impl Datum for BlockPart {

@@ -4,14 +4,14 @@
 //! by its number. Buckets stand in the library's hash map, of which a look-up waits once. Its hash is fixed, so buckets
 //! can be made that share a place in it: none of their results is compared, but a look-up passes them.
 
-ghost use Rattle.std.specs.Prelude.{◌≡◌, ◌≢◌, ◌↔◌, [], ℕ, All, Any, Contains, IfErr, IfOk, OnErr, OnOk, length, nat_eq, position};
+ghost use Rattle.std.specs.Prelude.{◌≡◌, ◌≢◌, ◌↔◌, [], ℕ, All, Any, Contains, IfErr, IfOk, OnErr, OnOk, length, map, nat_eq, position};
 ghost use Rattle.std.specs.List.{HoldsAt};
 ghost use Rattle.std.specs.HashMap.{IsUnique};
 ghost use Rattle.std.specs.List.Sorted.{IsPermutation, IsSearchInRange};
 ghost use Rattle.std.specs.declared.cmp.Ordering.TheVariants.{Equal};
 ghost use Rattle.idl_store.specs.Buckets.{AddsOne, bucket_at};
 ghost use Rattle.idl_store.specs.declared.index.Numbered.{Numbered};
-ghost use Rattle.idl_store.specs.Index.{AreInOrder, IsGap, IsGapAmong, IsInOrder, numbered, numbered_cmp, numbered_in};
+ghost use Rattle.idl_store.specs.Index.{AreInOrder, IsGap, IsGapAmong, IsInOrder, numbered, numbered_cmp, numbered_in, those_of};
 
 use crate::ranked::{Probe, Ranked};
 use std::alloc::{AllocError, Global};
@@ -108,6 +108,16 @@ impl<R: Ranked> Index<R> {
         ensures { (e : (R × ℕ) × ℕ) → Contains self.new e ↔ Contains self.old e }
     {
         shrink_map(&mut self.buckets);
+    }
+
+    // The results of a bucket. It takes no memory.
+    pub(crate) fn bucket(&self, bucket: u64) -> &[Numbered<R>]
+        ensures { map (numbered bucket) result.now ≡ those_of bucket self.now }
+    {
+        match self.buckets.get(&bucket) {
+            Some(results) => results.as_slice(),
+            None => &[],
+        }
     }
 
     // The number of a result of this bucket that a probe looks for, or the gap where one would go. It takes no memory.

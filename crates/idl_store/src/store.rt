@@ -6,7 +6,7 @@
 //!
 //! Which bank is asked matters to few: all else is done by a `Shelf`, of results whatever they are.
 
-ghost use Rattle.std.specs.Prelude.{◌≡◌, ◌<◌, ◌∷◌, [], IfNone, IfOk, IfSome, IsTrue, OnErr, OnOk, Option, Some, length, slice_get};
+ghost use Rattle.std.specs.Prelude.{◌≡◌, ◌<◌, ◌∷◌, [], All, Any, IfNone, IfOk, IfSome, IsFalse, IsTrue, OnErr, OnOk, Option, Some, length, slice_get};
 ghost use Rattle.std.specs.Option.{option_copied, option_map, option_to_list};
 ghost use Rattle.idl_memo.specs.Kept.{IsSound, NoneAlikeAt, result_over};
 ghost use Rattle.idl_memo.specs.Meter.{count_of, most_compared};
@@ -14,9 +14,9 @@ ghost use Rattle.idl_store.specs.Obtained.{IsObtained};
 ghost use Rattle.idl_store.specs.Spots.{result_on, results_from};
 ghost use Rattle.idl_store.specs.Stored.{begun, committed, discarded, grown, last_draft, list_at, nothing_stored, removed, result_at, results_in};
 
-use crate::look_up::{put_once, spot_of_alike, take_alike};
+use crate::look_up::{has_beside, put_once, spot_of_alike, take_alike};
 use crate::numbers::Spot;
-use crate::ranked::Held;
+use crate::ranked::{Held, Test};
 use crate::shelf::Shelf;
 use idl_memo::{Bank, Kept, LentBank, Log, Meter, PlainBank, Runnable, Runs, Task, keep};
 use std::alloc::{AllocError, Global};
@@ -123,6 +123,23 @@ where
         ensures { IsTrue result → result_on self.now spot ≡ result_on self.now other }
     {
         self.shelf.is_one(spot, other)
+    }
+
+    /// Whether a result passes a test that is found by this hint and a text that is hashed as this one. It takes no memory.
+    pub fn has_beside<Q: Test<Kept<B, T::Text, T::Out>>>(
+        &self,
+        text: &T::Text,
+        hint: u64,
+        test: &Q,
+    ) -> bool
+        ensures some { IsTrue result
+            → Any (λ kept. IsTrue (Q.passes test.now kept)) (results_in self.now) }
+        ensures none { IsFalse result → All (λ kept.
+            T.Text.hash_input kept.text ≡ T.Text.hash_input text.now
+            → T.hint_of kept.text (slice_get kept.log 0) ≡ hint
+            → IsFalse (Q.passes test.now kept)) (results_in self.now) }
+    {
+        has_beside(&self.shelf, text, hint, test)
     }
 
     /// Begins a draft, without results, of a list: of one that is there, or else of a new last one.
