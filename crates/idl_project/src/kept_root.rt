@@ -129,7 +129,7 @@ impl KeptRoot {
     {
         let (at, kept) = root;
         if kept.outlasts(change.causes) {
-            meter.compared = meter.compared.saturating_add(kept.key_count() as u64);
+            meter.compare(kept.key_count());
             return Ok(KeptRoot {
                 result: kept.result.clone()?,
                 compiled: kept.compiled.clone()?,

@@ -6,7 +6,7 @@ use Rattle.std.proofs.lemmas.Option.{same_Some}
 use Rattle.idl_kept.specs.Texts.{Texts, with_units}
 use Rattle.idl_memo.specs.Fresh.{Place}
 use Rattle.idl_memo.specs.Kept.{Kept, SomeAlikeAt}
-use Rattle.idl_memo.specs.Meter.{ComparesOnly, compared_after, count_of, raised}
+use Rattle.idl_memo.specs.Meter.{compared_after, count_of, raised}
 use Rattle.idl_memo.specs.declared.meter.Meter.{Meter}
 use Rattle.idl_memo.specs.declared.task.TaskKind.{TaskKind}
 use Rattle.idl_memo.specs.declared.task.TaskKind.TheVariants.{Expand, Check, Print}
@@ -85,18 +85,17 @@ obtained-last is grows met = record { result_is = is; new_is = grows; obtained =
 
 -- the keys of one that is alike are compared
 module _ {K V T O : Type 0} (kind : TaskKind) (place : Place K V T) (here : Kept K V T O) (before : Meter) where
-  met-compared : (results : List (Kept K V T O)) (after : Meter) (keys : ℕ) → keys ≡ length here.log → ComparesOnly before after → after.compared ≡ compared_after before.compared keys
+  met-compared : (results : List (Kept K V T O)) (after : Meter) (keys : ℕ) → keys ≡ length here.log → after ≡ record before { compared = compared_after before.compared keys }
       → SomeAlikeAt place results → IsMetAt place here kind results before after
-  met-compared results after keys all only counts some =
-      inl (some, only ∙ ap (λ n. record before { compared = n }) (counts ∙ ap (λ n. compared_after before.compared n) all))
+  met-compared results after keys all counts some = inl (some, counts ∙ ap (λ n. record before { compared = compared_after before.compared n }) all)
 
   -- what is taken again goes last into it too
-  pub taken-last : {old new : Stored (Kept K V T O)} {result : Kept K V T O} (after : Meter) (keys : ℕ) → keys ≡ length here.log → ComparesOnly before after
-      → after.compared ≡ compared_after before.compared keys → IsTakenAgain place here old new result → IsObtainedLast kind place here old new before after result
-  taken-last {old} after keys all only counts taken = record {
+  pub taken-last : {old new : Stored (Kept K V T O)} {result : Kept K V T O} (after : Meter) (keys : ℕ) → keys ≡ length here.log → after ≡ record before { compared = compared_after before.compared keys }
+      → IsTakenAgain place here old new result → IsObtainedLast kind place here old new before after result
+  taken-last {old} after keys all counts taken = record {
     result_is = taken.result_is;
     new_is = taken.new_is;
-    obtained = met-compared (results_in old) after keys all only counts taken.alike;
+    obtained = met-compared (results_in old) after keys all counts taken.alike;
   }
 
   -- one that was run was counted
@@ -107,11 +106,10 @@ module _ {K V T O : Type 0} (kind : TaskKind) (place : Place K V T) (here : Kept
 
   module _ (results : List (Kept K V T O)) (between : Meter) (is : IsObtained place kind results before between) where
     -- so where none was, one is alike, and its keys are compared; and else one was run
-    pub met-alike : count_of kind between ≡ count_of kind before → (after : Meter) (keys : ℕ) → keys ≡ length here.log → ComparesOnly between after
-        → after.compared ≡ compared_after between.compared keys → IsMetAt place here kind results before after
-    met-alike same after keys all only counts = elim is [
-      | inl some ↦ met-compared results after keys all (subst (λ (m : Meter). ComparesOnly m after) some.1 only)
-          (counts ∙ ap (λ (m : Meter). compared_after m.compared keys) some.1) some.0
+    pub met-alike : count_of kind between ≡ count_of kind before → (after : Meter) (keys : ℕ) → keys ≡ length here.log → after ≡ record between { compared = compared_after between.compared keys }
+        → IsMetAt place here kind results before after
+    met-alike same after keys all counts = elim is [
+      | inl some ↦ met-compared results after keys all (counts ∙ ap (λ (m : Meter). record m { compared = compared_after m.compared keys }) some.1) some.0
       | inr fresh ↦ absurd (not-raised kind before (ap (λ (m : Meter). count_of kind m) (sym fresh.1) ∙ same))
     ]
 

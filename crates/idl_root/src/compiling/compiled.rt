@@ -15,7 +15,6 @@ use crate::compiling::memory::Memory;
 use crate::compiling::passing::bound;
 use crate::compiling::printing::{Printed, print_all};
 use crate::kept::again::{Again, are_as_before};
-use crate::kept::comparing::compare;
 use crate::kept::course::Course;
 use crate::kept::keeper::Keeper;
 use crate::kept::keeping::Keeping;
@@ -139,7 +138,7 @@ pub fn compile_kept(
 {
     let units = split(keeper.alloc(), root.expansion)?;
     if let Some(compiled) = compiled_again(keeper, root, units.as_slice())? {
-        compare(meter, root.marks.keys());
+        meter.compare(root.marks.keys());
         return Ok(Recompiled {
             compiled,
             marks: None,

@@ -16,7 +16,6 @@ ghost use Rattle.idl_root.specs.Results.{DeclarationResult, EntryResult};
 ghost use Rattle.idl_root.specs.declared.kept.course.Course.{Course as RootCourse};
 ghost use Rattle.idl_root.specs.declared.kept.marks.Mark.TheVariants.{Judged};
 
-use crate::kept::comparing::compare;
 use crate::kept::course::Course;
 use crate::kept::following::Following;
 use crate::kept::known::Known;
@@ -178,7 +177,7 @@ impl<'k> Keeping<'k> {
     {
         match following.take_again(kept, text)? {
             Some(declaration) => {
-                compare(&mut self.meter, unit_keys(&declaration));
+                self.meter.compare(unit_keys(&declaration));
                 let facts = kept_verdict(&declaration).writes.get();
                 self.following = following.with_same(env, facts)?;
                 Ok(declaration)
@@ -237,7 +236,7 @@ impl<'k> Keeping<'k> {
         if self.meter.checked != before {
             return Ok(found);
         }
-        compare(&mut self.meter, unit_keys(&found));
+        self.meter.compare(unit_keys(&found));
         Ok(found)
     }
 

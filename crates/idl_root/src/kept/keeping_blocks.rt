@@ -12,7 +12,6 @@ ghost use Rattle.idl_root_blocks.specs.Places.{block_result};
 ghost use Rattle.idl_root_blocks.specs.Units.{text_of};
 ghost use Rattle.idl_store.specs.Spots.{result_on};
 
-use crate::kept::comparing::compare;
 use crate::kept::keeping::Keeping;
 use idl_env::{Env, PlainEnv};
 use idl_kept::KeptTexts;
@@ -143,7 +142,7 @@ impl<'k> Keeping<'k> {
         } }
     {
         let keys = block.log().len();
-        compare(&mut self.meter, keys);
+        self.meter.compare(keys);
         if self.blocks.is_empty() {
             self.keys = self.keys.saturating_add(keys);
             return Ok(());

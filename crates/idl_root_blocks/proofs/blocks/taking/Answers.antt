@@ -33,13 +33,13 @@ pub returns-clause-alike : goal.returns-clause-alike
 returns-clause-alike c = λ before other text there b standing standing_there is.
     let end : BlockEnd = block_end (answers before) (parts_of text) in
     let means =
-    (is_alike-means block_text_eq c.exact.ensures.itself c.exact.ensures.turn c.exact.ensures.same
-    (option_eq answer_eq) c.exact-2.ensures.itself c.exact-2.ensures.same block_query
-    (there, answers other) (text, answers before)).0 is in
+    (is_alike-means block_text_eq c.exact.ensures.equal (option_eq answer_eq) c.exact-2.ensures.equal.refl c.exact-2.ensures.same
+    block_query (λ x y is. ap block_query (c.exact.ensures.same x y is)) (there, answers other) (text, answers before)).0 is in
+    let same_text : there ≡ text = c.exact.ensures.same there text means.0 in
     let again : block_end (answers other) (parts_of text) ≡ end = outcome-agree (block_query text) (answers before) (answers other) means.1 in
-    let same : block_end (answers other) (parts_of there) ≡ end = ap (λ t. block_end (answers other) (parts_of t)) means.0 ∙ again in
+    let same : block_end (answers other) (parts_of there) ≡ end = ap (λ t. block_end (answers other) (parts_of t)) same_text ∙ again in
     let own : AreStanding other (block_end (answers other) (parts_of there)).1 = subst (λ (e : BlockEnd). AreStanding other e.1) (sym same) standing_there in
-    let block : IsOfBlock there = subst IsOfBlock (sym means.0) b in (
+    let block : IsOfBlock there = subst IsOfBlock (sym same_text) b in (
       (c.alike.ensures before before (parts_of text) (of-block text b) standing standing (λ k d below. refl)).0,
       subst (ComesTo other there) same (c.alike.ensures other other (parts_of there) (of-block there block) own own (λ k d below. refl)).0,
     )
@@ -53,17 +53,17 @@ returns-clause-asks c = λ here task. (
 pub returns-clause-kept : goal.returns-clause-kept
 returns-clause-kept c = λ here task.
     let log = ap (noted_all key_eq task.1 []) (asks-block task.0 task.1) in (
-      λ one. (is_alike-means block_text_eq c.exact.ensures.itself c.exact.ensures.turn c.exact.ensures.same
-          (option_eq answer_eq) c.exact-2.ensures.itself c.exact-2.ensures.same block_query here task).1 (
-            sym one.text_is,
+      λ one. (is_alike-means block_text_eq c.exact.ensures.equal (option_eq answer_eq) c.exact-2.ensures.equal.refl c.exact-2.ensures.same
+          block_query (λ x y is. ap block_query (c.exact.ensures.same x y is)) here task).1 (
+            ap (block_text_eq here.0) one.text_is ∙ c.exact.ensures.equal.refl here.0,
             Agree-from_log (asked (block_query task.0) task.1) task.1 here.1 (log_at key_eq block_query task)
                 (IsLogOf-run key_eq key_equiv.refl same_key (block_query task.0) task.1) (subst (HoldsIn here.1) log one.answers),
           ),
       λ is. (let class =
-          (is_alike-class block_text_eq c.exact.ensures.itself c.exact.ensures.turn c.exact.ensures.same
-          (option_eq answer_eq) c.exact-2.ensures.itself c.exact-2.ensures.same block_query key_eq key_equiv.refl same_key here task).0 is in
+          (is_alike-class block_text_eq c.exact.ensures.equal (option_eq answer_eq) c.exact-2.ensures.equal.refl c.exact-2.ensures.same
+          block_query (λ x y is. ap block_query (c.exact.ensures.same x y is)) key_eq key_equiv.refl same_key here task).0 is in
           record {
-            text_is = sym class.0;
+            text_is = sym (c.exact.ensures.same here.0 task.0 class.0);
             answers = subst (HoldsIn here.1) (class.1 ∙ sym log) (IsLogOf-run key_eq key_equiv.refl same_key (block_query here.0) here.1).answers;
           }),
     )

@@ -27,21 +27,21 @@ returns-clause-known c = λ known facts inside whole b cut standing is.
     let w = found.1.0 in
     let alike : alike_block (block_at facts inside) (block_at w.before w.inside) ≡ true = ap (alike_block (block_at facts inside)) (sym w.stood) ∙ found.1.1 in
     let means =
-    (is_alike-means block_text_eq c.exact-2.ensures.itself c.exact-2.ensures.turn c.exact-2.ensures.same
-    (option_eq answer_eq) c.exact-3.ensures.itself c.exact-3.ensures.same block_query
-    (block_at facts inside) (block_at w.before w.inside)).0 alike in
+    (is_alike-means block_text_eq c.exact-2.ensures.equal (option_eq answer_eq) c.exact-3.ensures.equal.refl c.exact-3.ensures.same
+    block_query (λ x y is. ap block_query (c.exact-2.ensures.same x y is)) (block_at facts inside) (block_at w.before w.inside)).0 alike in
+    let text : text_in inside ≡ text_in w.inside = c.exact-2.ensures.same (text_in inside) (text_in w.inside) means.0 in
     let same : block_end (answers facts) (parts_of (text_in inside)) ≡ block_end (answers w.before) (parts_of (text_in w.inside)) =
-    ap (λ (t : List Part). block_end (answers facts) (parts_of t)) means.0 ∙ outcome-agree (block_query (text_in w.inside)) (answers w.before) (answers facts) means.1 in
+    ap (λ (t : List Part). block_end (answers facts) (parts_of t)) text ∙ outcome-agree (block_query (text_in w.inside)) (answers w.before) (answers facts) means.1 in
     let there : AreStanding facts (block_end (answers w.before) (parts_of (text_in w.inside))).1 = subst (λ (e : BlockEnd). AreStanding facts e.1) same standing in
     let units : (x y : DeclarationPlace) → declaration_result x ≡ declaration_result y → alike_unit x y ≡ true =
-    λ x y same. (is_alike-class unit_text_eq c.exact.ensures.itself c.exact.ensures.turn c.exact.ensures.same
-    (option_eq answer_eq) c.exact-3.ensures.itself c.exact-3.ensures.same unit_asks key_eq c.exact-4.ensures.itself c.exact-4.ensures.same x y).1
-    (ap (λ (k : Kept Key (Option Answer) UnitText Verdict). k.text) same, ap (λ (k : Kept Key (Option Answer) UnitText Verdict). k.log) same) in
+    λ x y same. (is_alike-class unit_text_eq c.exact.ensures.equal (option_eq answer_eq) c.exact-3.ensures.equal.refl c.exact-3.ensures.same unit_asks (λ x y is. ap unit_asks (c.exact.ensures.same x y is))
+    key_eq c.exact-4.ensures.equal.refl c.exact-4.ensures.same x y).1
+    (ap (λ (k : Kept Key (Option Answer) UnitText Verdict). unit_text_eq k.text y.0) same ∙ c.exact.ensures.equal.refl y.0, ap (λ (k : Kept Key (Option Answer) UnitText Verdict). k.log) same) in
     let asks = λ (x : BlockPlace). ap (noted_all key_eq x.1 []) (asks-block x.0 x.1) in
     let blocks : (x y : BlockPlace) → block_result x ≡ block_result y → alike_block x y ≡ true =
-    λ x y same. (is_alike-class block_text_eq c.exact-2.ensures.itself c.exact-2.ensures.turn c.exact-2.ensures.same
-    (option_eq answer_eq) c.exact-3.ensures.itself c.exact-3.ensures.same block_query key_eq c.exact-4.ensures.itself c.exact-4.ensures.same x y).1 (
-      ap (λ (k : Kept Key (Option Answer) (List Part) (Unit {0})). k.text) same,
+    λ x y same. (is_alike-class block_text_eq c.exact-2.ensures.equal (option_eq answer_eq) c.exact-3.ensures.equal.refl c.exact-3.ensures.same block_query (λ x y is. ap block_query (c.exact-2.ensures.same x y is))
+    key_eq c.exact-4.ensures.equal.refl c.exact-4.ensures.same x y).1 (
+      ap (λ (k : Kept Key (Option Answer) (List Part) (Unit {0})). block_text_eq k.text y.0) same ∙ c.exact-2.ensures.equal.refl y.0,
       sym (asks x) ∙ ap (λ (k : Kept Key (Option Answer) (List Part) (Unit {0})). k.log) same ∙ asks y,
     ) in
     record {

@@ -1,4 +1,4 @@
-use Rattle.std.proofs.Common.{◌≤◌, refl}
+use Rattle.std.proofs.Common.{◌≤◌, ap, refl}
 use Rattle.std.specs.Option.{option_eq}
 use Rattle.idl_root_blocks.specs.verdicts.Standing.{unit_asks}
 use Rattle.idl_env.specs.SameAnswer.{answer_eq}
@@ -27,10 +27,8 @@ returns-clause-most c = λ met. met-most each met
   where
     each : (m : Met) → shared_by m ≤ most_shared_by m
     each (MetUnit known here) =
-        shared-most unit_text_eq c.exact.ensures.itself c.exact.ensures.turn c.exact.ensures.same
-        (option_eq answer_eq) c.exact-3.ensures.itself c.exact-3.ensures.same unit_asks
-        key_eq c.exact-4.ensures.itself c.exact-4.ensures.same known here
+        shared-most unit_text_eq c.exact.ensures.equal (option_eq answer_eq) c.exact-3.ensures.equal.refl c.exact-3.ensures.same
+        unit_asks (λ x y is. ap unit_asks (c.exact.ensures.same x y is)) key_eq c.exact-4.ensures.equal.refl c.exact-4.ensures.same known here
     each (MetBlock known here) =
-        shared-most block_text_eq c.exact-2.ensures.itself c.exact-2.ensures.turn c.exact-2.ensures.same
-        (option_eq answer_eq) c.exact-3.ensures.itself c.exact-3.ensures.same block_query
-        key_eq c.exact-4.ensures.itself c.exact-4.ensures.same known here
+        shared-most block_text_eq c.exact-2.ensures.equal (option_eq answer_eq) c.exact-3.ensures.equal.refl c.exact-3.ensures.same
+        block_query (λ x y is. ap block_query (c.exact-2.ensures.same x y is)) key_eq c.exact-4.ensures.equal.refl c.exact-4.ensures.same known here

@@ -1,4 +1,4 @@
-use Rattle.std.proofs.Common.{refl}
+use Rattle.std.proofs.Common.{ap, refl}
 use Rattle.std.specs.Option.{option_eq}
 use Rattle.idl_root_blocks.specs.verdicts.Standing.{unit_asks}
 use Rattle.idl_env.specs.SameAnswer.{answer_eq}
@@ -15,10 +15,10 @@ returns-clause-all c = λ known facts pieces h. compared-known pieces known fact
 
 pub returns-clause-itself : goal.returns-clause-itself
 returns-clause-itself c = known-itself
-    (λ here. (is_alike-class unit_text_eq c.exact.ensures.itself c.exact.ensures.turn c.exact.ensures.same
-    (option_eq answer_eq) c.exact-3.ensures.itself c.exact-3.ensures.same unit_asks key_eq c.exact-4.ensures.itself c.exact-4.ensures.same here here).1 (refl, refl))
-    (λ here. (is_alike-class block_text_eq c.exact-2.ensures.itself c.exact-2.ensures.turn c.exact-2.ensures.same
-    (option_eq answer_eq) c.exact-3.ensures.itself c.exact-3.ensures.same block_query key_eq c.exact-4.ensures.itself c.exact-4.ensures.same here here).1 (refl, refl))
+    (λ here. (is_alike-class unit_text_eq c.exact.ensures.equal (option_eq answer_eq) c.exact-3.ensures.equal.refl c.exact-3.ensures.same unit_asks (λ x y is. ap unit_asks (c.exact.ensures.same x y is))
+    key_eq c.exact-4.ensures.equal.refl c.exact-4.ensures.same here here).1 (c.exact.ensures.equal.refl here.0, refl))
+    (λ here. (is_alike-class block_text_eq c.exact-2.ensures.equal (option_eq answer_eq) c.exact-3.ensures.equal.refl c.exact-3.ensures.same block_query (λ x y is. ap block_query (c.exact-2.ensures.same x y is))
+    key_eq c.exact-4.ensures.equal.refl c.exact-4.ensures.same here here).1 (c.exact-2.ensures.equal.refl here.0, refl))
 
 pub returns-clause-more : goal.returns-clause-more
 returns-clause-more c = λ known facts other pieces others h. known-more known (declarations_over other (text_in others)) (blocks_over other others) facts pieces h

@@ -32,7 +32,7 @@ returns-then-outlasts-clause-renewed g c =
       alike = c.outlasts.ensures.alike before after c.requires.causes c.requires.kept ∙ c.if-outlasts.true;
       events = expanded-again before after kept c.requires.kept.over over;
       kept = record { texts = refl; entries = refl };
-      meter = held-meter c.args.meter.now _ c.key_count.result (length (expanded kept.text after).1) (ap (λ n. record c.args.meter.now { compared = n }) c.saturating_add-meter.ensures) keys;
+      meter = held-meter c.args.meter.now _ c.key_count.result (length (expanded kept.text after).1) c.compare.ensures keys;
     })
 
 -- what was kept of it

@@ -45,12 +45,12 @@ returns-in-Some-clause-tasks c = λ was kept.
       entries_are = entries-again was events same;
       texts = refl;
       entries = refl;
-      checked = ap (λ (m : Meter). m.checked) c.compare.ensures.counts;
-      printed = ap (λ (m : Meter). m.printed) c.compare.ensures.counts;
+      checked = ap (λ (m : Meter). m.checked) c.compare.ensures;
+      printed = ap (λ (m : Meter). m.printed) c.compare.ensures;
       compared =
           let keys : c.keys.result ≡ compared_after 0 (root_keys events) =
           c.keys.ensures ∙ ap (λ (m : RootMarks). m.keys) kept.marks_are ∙ ap (compared_after 0) (sym (keys-again was events same)) in
-          c.compare.ensures.keys ∙ compared-again c.args.meter.now.compared c.keys.result (root_keys events) keys;
+          ap (λ (m : Meter). m.compared) c.compare.ensures ∙ compared-again c.args.meter.now.compared c.keys.result (root_keys events) keys;
     })
 
 pub returns-in-Some-clause-first : goal.returns-in-Some-clause-first

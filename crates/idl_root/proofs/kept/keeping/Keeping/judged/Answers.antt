@@ -18,7 +18,7 @@ returns-in_ok-self-in-Some-clause-obtained c =
     let taken = at-some c.in_ok-declaration.field-0 c.in-Some.declaration _ c.in-Some.is c.in_ok-declaration.ensures.again c.args.self.now.earlier env c.requires in
     let asked : c.unit_keys.result ≡ length c.in-Some.declaration.value.log = search rules in
     let keys : c.unit_keys.result ≡ length (declaration_result place).log = asked ∙ ap (λ (k : DeclarationResult). length k.log) taken.result_is in
-    taken-last Check place (declaration_result place) c.args.self.now.meter c.compare.new.meter c.unit_keys.result keys c.compare.ensures.counts c.compare.ensures.keys taken
+    taken-last Check place (declaration_result place) c.args.self.now.meter c.compare.new.self c.unit_keys.result keys c.compare.ensures taken
 
 pub returns-in_ok-self-in-Some-clause-lists : goal.returns-in_ok-self-in-Some-clause-lists
 returns-in_ok-self-in-Some-clause-lists c =

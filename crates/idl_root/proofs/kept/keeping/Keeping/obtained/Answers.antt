@@ -19,7 +19,7 @@ returns-clause-obtained c =
     let old = c.args.kept.now.declarations in
     let before = c.args.self.now.meter in
     let between = c.obtain.new.meter in
-    let after = c.compare.new.meter in
+    let after = c.compare.new.self in
     let found = c.in_ok-found.found.value in
     let place : DeclarationPlace = (c.in_ok-clone.field-0, answers c.args.env.now) in
     let asked : c.unit_keys.result ≡ length found.log = search rules in
@@ -28,7 +28,7 @@ returns-clause-obtained c =
     subst (λ (t : UnitText). IsDeclarationLast (t, answers c.args.env.now) old c.obtain.new.self.declarations before after found)
     (copy-law c.args.text.now c.in_ok-clone.field-0 c.in_ok-clone.ensures.cases)
     (obtained-last c.in_ok-found.ensures.result (ap (λ (t : Texts). t.declarations) c.in_ok-found.ensures.ok)
-    (met-alike Check place (declaration_result place) before (results_in old) between c.in_ok-found.ensures.meter same after c.unit_keys.result keys c.compare.ensures.counts c.compare.ensures.keys))
+    (met-alike Check place (declaration_result place) before (results_in old) between c.in_ok-found.ensures.meter same after c.unit_keys.result keys c.compare.ensures))
 
 -- one that was run
 pub returns-then-self-before-clause-obtained : goal.returns-then-self-before-clause-obtained

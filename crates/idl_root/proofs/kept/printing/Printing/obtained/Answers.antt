@@ -29,7 +29,7 @@ returns-clause-obtained c =
     let old = c.args.kept.now in
     let before = c.args.self.now.meter in
     let between = c.obtain.new.meter in
-    let after = c.compare.new.meter in
+    let after = c.compare.new.self in
     let found = c.in_ok-found.found.value in
     let place : EntryPlace = (c.in_ok-clone.field-0, answers c.args.env.now) in
     let asked : c.entry_keys.result ≡ length found.log = search rules in
@@ -37,7 +37,7 @@ returns-clause-obtained c =
     let same : count_of Print between ≡ count_of Print before = grind (arith, nat_tests, c.if-self-before.false) in
     subst (λ (p : List (List ℕ)). IsEntryLast (p, answers c.args.env.now) old c.obtain.new.self before after found) c.in_ok-clone.ensures.cases
     (obtained-last c.in_ok-found.ensures.result c.in_ok-found.ensures.ok
-    (met-alike Print place (entry_result place) before (results_in old) between c.in_ok-found.ensures.meter same after c.entry_keys.result keys c.compare.ensures.counts c.compare.ensures.keys))
+    (met-alike Print place (entry_result place) before (results_in old) between c.in_ok-found.ensures.meter same after c.entry_keys.result keys c.compare.ensures))
 
 pub returns-then-self-before-clause-lists : goal.returns-then-self-before-clause-lists
 returns-then-self-before-clause-lists c = ap (λ (s : Stored EntryResult). s.lists) c.in_ok-found.ensures.ok
