@@ -4,14 +4,14 @@
 //! by its number. Buckets stand in the library's hash map, of which a look-up waits once. Its hash is fixed, so buckets
 //! can be made that share a place in it: none of their results is compared, but a look-up passes them.
 
-ghost use Rattle.std.specs.Prelude.{◌≡◌, ◌≢◌, ◌↔◌, [], ℕ, All, Any, Contains, IfErr, IfOk, OnErr, OnOk, length, map, nat_eq, position};
+ghost use Rattle.std.specs.Prelude.{◌≡◌, ◌≢◌, ◌↔◌, [], ℕ, All, Any, Contains, IfErr, IfOk, OnErr, OnOk, length, nat_eq, position};
 ghost use Rattle.std.specs.List.{HoldsAt};
 ghost use Rattle.std.specs.HashMap.{IsUnique};
 ghost use Rattle.std.specs.List.Sorted.{IsPermutation, IsSearchInRange};
 ghost use Rattle.std.specs.declared.cmp.Ordering.TheVariants.{Equal};
 ghost use Rattle.idl_store.specs.Buckets.{AddsOne, bucket_at};
 ghost use Rattle.idl_store.specs.declared.index.Numbered.{Numbered};
-ghost use Rattle.idl_store.specs.Index.{AreInOrder, IsGap, IsGapAmong, IsInOrder, numbered, numbered_cmp, numbered_in, those_of};
+ghost use Rattle.idl_store.specs.Index.{AreInOrder, IsGap, IsGapAmong, IsInOrder, numbered, numbered_cmp, numbered_in};
 
 use crate::ranked::{Probe, Ranked};
 use std::alloc::{AllocError, Global};
@@ -112,7 +112,9 @@ impl<R: Ranked> Index<R> {
 
     // The results of a bucket. It takes no memory.
     pub(crate) fn bucket(&self, bucket: u64) -> &[Numbered<R>]
-        ensures { map (numbered bucket) result.now ≡ those_of bucket self.now }
+        ensures among { All (λ one. Contains self.now (numbered bucket one)) result.now }
+        ensures all { (e : (R × ℕ) × ℕ) → Contains self.now e → e.0.1 ≡ bucket
+            → Any (λ one. numbered bucket one ≡ e) result.now }
     {
         match self.buckets.get(&bucket) {
             Some(results) => results.as_slice(),
