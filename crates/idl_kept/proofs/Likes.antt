@@ -1,5 +1,5 @@
 -- What is kept of blocks that are alike, whatever units are around boundaries in them.
-use Rattle.std.proofs.Common.{◌≡◌, ◌∙◌, ℕ, ◌&&◌, Bool, true, false, List, [], ◌∷◌, Option, None, Some, map, not, refl, subst, sym, take, ap, if◌then◌else◌, ◌^◌}
+use Rattle.std.proofs.Common.{◌≡◌, ◌∙◌, ◌^◌, ℕ, ◌&&◌, Bool, true, false, List, [], ◌∷◌, Option, Some, not, refl, sym, take, ap, if◌then◌else◌}
 use Rattle.std.proofs.lemmas.List.Elements.{All-cons, All-contains, All-contains_itself, All-head, All-nil, All-tail, All-weaker}
 use Rattle.std.specs.Cmp.Lexicographic.{lists_equiv, pointwise}
 use Rattle.std.specs.Hash as fed
@@ -35,13 +35,18 @@ none-other bank (e ∷ log) h = by (option_eq answer_eq e.1 (bank e.0)) refl h (
     by : (b : Bool) → option_eq answer_eq e.1 (bank e.0) ≡ b → is_none (if b then first_other answer_eq bank log else Some (e.1, bank e.0)) ≡ true
         → (is_none (first_other answer_eq bank log) ≡ true → HoldsIn bank log) → HoldsIn bank (e ∷ log)
     by true is h later = All-cons (λ e. e.1 ≡ bank e.0) e log (same_option answer_eq same_answer e.1 (bank e.0) is) (later h)
-    by false is h later = cc
+    by false is h later = (let no : false ≡ true = h in cc)
 
 holds-all : (bank : Key → Option Answer) (log : Log) → HoldsIn bank log → is_none (first_other answer_eq bank log) ≡ true
 holds-all bank [] h = refl
 holds-all bank (e ∷ log) h =
     let is : option_eq answer_eq e.1 (bank e.0) ≡ true = ap (option_eq answer_eq e.1) (sym (All-head (λ e. e.1 ≡ bank e.0) e log h)) ∙ option_eq-itself answer_eq answer_equiv.refl e.1 in
     ap (λ b. is_none (if b then first_other answer_eq bank log else Some (e.1, bank e.0))) is ∙ holds-all bank log (All-tail (λ e. e.1 ≡ bank e.0) e log h)
+
+-- what is told of no answer
+pub not-turned : (a b : Bool) → a ≡ not b → not a ≡ b
+not-turned a true h = ap not h
+not-turned a false h = ap not h
 
 module _ (here : BlockPlace) where
   -- the test tells which are alike
@@ -58,34 +63,26 @@ module _ (here : BlockPlace) where
   pub some-like : (results : List BlockResult) → Any (λ kept. is_like here kept ≡ true) results → Any (IsLike here) results
   some-like results a = (a.0, a.1, a.2, a.3, tested a.1 a.4)
 
-  -- where no result is found of this hint
-  abbrev pub NoneFound : ℕ → List BlockResult → Type 0
-  NoneFound hint results =
-      All (λ kept. fed.slice part_writes (take 8 kept.text) ≡ fed.slice part_writes (take 8 here.0) → text_hint kept.text ≡ hint → is_like here kept ≡ false) results
+  -- under this hint it isn't found
+  abbrev pub HasNone : ℕ → BlockResult → Type 0
+  HasNone hint kept = fed.slice part_writes (take 8 kept.text) ≡ fed.slice part_writes (take 8 here.0) → text_hint kept.text ≡ hint → is_like here kept ≡ false
 
-  untested : (kept : BlockResult) → is_like here kept ≡ false → ¬ IsLike here kept
-  untested kept no like = (let none : true ≡ false = sym (passes kept like) ∙ no in cc)
+  module _ (kept : BlockResult) (like : IsLike here kept) where
+    missed : (hint : ℕ) → HasNone hint kept → text_hint kept.text ≡ hint → ⊥
+    missed hint none at = (let no : true ≡ false = sym (passes kept like) ∙ none (like-writes kept.text here.0 like.text_is) at in cc)
 
-  -- of those with a unit around a boundary, and of the others where one is around one here, and none has one text, none is alike
-  pub none-like : (results : List BlockResult) → NoneFound (2 ^ 32) results → (has_enclosed here.0 ≡ true → NoneFound 0 results) → NoneAlikeAt here results → All (λ kept. ¬ IsLike here kept) results
-  none-like results enclosed plain none = All-weaker (Contains results) (λ kept. ¬ IsLike here kept) each results (All-contains_itself results)
-    where
-      abbrev HasNone : ℕ → BlockResult → Type 0
-      HasNone hint kept = fed.slice part_writes (take 8 kept.text) ≡ fed.slice part_writes (take 8 here.0) → text_hint kept.text ≡ hint → is_like here kept ≡ false
+    missed-plain : has_enclosed kept.text ≡ false → (has_enclosed here.0 ≡ true → HasNone 0 kept) → ¬ IsAlike here.0 here.1 kept → (b : Bool) → has_enclosed here.0 ≡ b → ⊥
+    missed-plain own plain none true is = missed 0 (plain is) (ap (λ (b : Bool). if b then 2 ^ 32 else 0) own)
+    missed-plain own plain none false is = none (record { text_is = sym (plain-itself kept.text own) ∙ like.text_is ∙ plain-itself here.0 is; answers = like.answers })
 
-      each : (kept : BlockResult) → Contains results kept → ¬ IsLike here kept
-      each kept c like = by (has_enclosed kept.text) refl
-        where
-          fed-alike : fed.slice part_writes (take 8 kept.text) ≡ fed.slice part_writes (take 8 here.0)
-          fed-alike = like-writes kept.text here.0 like.text_is
+    missed-any : HasNone (2 ^ 32) kept → (has_enclosed here.0 ≡ true → HasNone 0 kept) → ¬ IsAlike here.0 here.1 kept → (b : Bool) → has_enclosed kept.text ≡ b → ⊥
+    missed-any enclosed plain none true own = missed (2 ^ 32) enclosed (ap (λ (b : Bool). if b then 2 ^ 32 else 0) own)
+    missed-any enclosed plain none false own = missed-plain own plain none (has_enclosed here.0) refl
 
-          here-by : has_enclosed kept.text ≡ false → (b : Bool) → has_enclosed here.0 ≡ b → ⊥
-          here-by own true is =
-              untested kept (All-contains (HasNone 0) results kept (plain is) c fed-alike (ap (λ b. if b then 2 ^ 32 else 0) own)) like
-          here-by own false is =
-              All-contains (λ k. ¬ IsAlike here.0 here.1 k) results kept none c
-              (record { text_is = sym (plain-itself kept.text own) ∙ like.text_is ∙ plain-itself here.0 is; answers = like.answers })
-
-          by : (b : Bool) → has_enclosed kept.text ≡ b → ⊥
-          by true own = untested kept (All-contains (HasNone (2 ^ 32)) results kept enclosed c fed-alike (ap (λ b. if b then 2 ^ 32 else 0) own)) like
-          by false own = here-by own (has_enclosed here.0) refl
+  -- where none is found with an enclosed boundary, nor one without if one is enclosed here, and none has this very text, none is alike
+  pub none-like : (results : List BlockResult) → All (HasNone (2 ^ 32)) results → (has_enclosed here.0 ≡ true → All (HasNone 0) results) → NoneAlikeAt here results → All (λ kept. ¬ IsLike here kept) results
+  none-like results enclosed plain none =
+      All-weaker (Contains results) (λ kept. ¬ IsLike here kept)
+      (λ kept c like. missed-any kept like (All-contains (HasNone (2 ^ 32)) results kept enclosed c) (λ is. All-contains (HasNone 0) results kept (plain is) c)
+      (All-contains (λ k. ¬ IsAlike here.0 here.1 k) results kept none c) (has_enclosed kept.text) refl)
+      results (All-contains_itself results)

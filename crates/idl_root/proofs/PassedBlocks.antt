@@ -144,14 +144,14 @@ not-true false no = refl
 module _ (tells : (here task : BlockPlace) → IsLike here (block_result task) ↔ (is_alike block_text_eq (option_eq answer_eq) block_query here task ≡ true)) (known : List BlockPlace) (here : BlockPlace) where
   pub is-known : Any (IsLike here) (map block_result known) → is_known known here ≡ true
   is-known a =
-      let at : a.0 < length known = omega (arith, a.2, length-map block_result known) in
+      let at : a.0 < length known = omega (arith, a.2, length-map known block_result) in
       let same : block_result (get_or known a.0 here) ≡ a.1 = sym (get_or-map block_result known a.0 here a.1 at) ∙ a.3 in
       list_any_at (alike_block here) known a.0 here at ((tells here (get_or known a.0 here)).0 (subst (IsLike here) (sym same) a.4))
 
   pub is-new : All (λ kept. ¬ IsLike here kept) (map block_result known) → is_known known here ≡ false
   is-new none =
       list_any_none (alike_block here) known (All-from_get_or (λ task. alike_block here task ≡ false) known here (λ k below.
-      let there : k < length (map block_result known) = omega (arith, below, length-map block_result known) in
+      let there : k < length (map block_result known) = omega (arith, below, length-map known block_result) in
       let no : ¬ IsLike here (block_result (get_or known k here)) =
       subst (λ r. ¬ IsLike here r) (get_or-map block_result known k here (block_result here) below) (All-get_or (λ kept. ¬ IsLike here kept) (map block_result known) k (block_result here) there none) in
       not-true (alike_block here (get_or known k here)) (λ is. no ((tells here (get_or known k here)).1 is))))

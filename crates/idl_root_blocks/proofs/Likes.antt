@@ -1,5 +1,5 @@
 -- Texts of blocks, whatever units are around boundaries in them.
-use Rattle.std.proofs.Common.{◌≡◌, ◌∙◌, ◌++◌, true, false, List, [], ◌∷◌, flat_map, length, map, refl, sym, take, ap}
+use Rattle.std.proofs.Common.{◌≡◌, ◌∙◌, ◌++◌, ℕ, true, false, List, [], ◌∷◌, flat_map, refl, sym, take, ap}
 use Rattle.std.proofs.lemmas.List.{length-map, take-map}
 use Rattle.std.specs.Cmp.{IsEquivalence, on_equiv}
 use Rattle.std.specs.Cmp.Lexicographic.{pointwise}
@@ -35,17 +35,17 @@ plain-parts (Leaves inside ∷ text) = ap (λ (ps : List (BlockStep UnitText Ste
 -- and feed a hasher the same
 plain-fed : (text : List Part) → flat_map part_writes (plain_text text) ≡ flat_map part_writes text
 plain-fed [] = refl
-plain-fed (Text unit ∷ text) = ap (λ ws. part_writes (Text unit) ++ ws) (plain-fed text)
-plain-fed (Enters inside ∷ text) = ap (λ ws. part_writes (Enters inside) ++ ws) (plain-fed text)
-plain-fed (Leaves inside ∷ text) = ap (λ ws. part_writes (Leaves inside) ++ ws) (plain-fed text)
+plain-fed (Text unit ∷ text) = ap (λ (ws : List (List ℕ)). part_writes (Text unit) ++ ws) (plain-fed text)
+plain-fed (Enters inside ∷ text) = ap (λ (ws : List (List ℕ)). part_writes (Enters inside) ++ ws) (plain-fed text)
+plain-fed (Leaves inside ∷ text) = ap (λ (ws : List (List ℕ)). part_writes (Leaves inside) ++ ws) (plain-fed text)
 
 plain-writes : (text : List Part) → fed.slice part_writes (plain_text text) ≡ fed.slice part_writes text
-plain-writes text = λ i. fed.usize (length-map plain_part text i) ++ plain-fed text i
+plain-writes text = λ i. fed.usize (length-map text plain_part i) ++ plain-fed text i
 
 pub like-writes : (text other : List Part) → plain_text text ≡ plain_text other → fed.slice part_writes (take 8 text) ≡ fed.slice part_writes (take 8 other)
 like-writes text other is =
     sym (plain-writes (take 8 text))
-    ∙ ap (λ t. fed.slice part_writes t) (sym (take-map plain_part 8 text) ∙ ap (λ t. take 8 t) is ∙ take-map plain_part 8 other)
+    ∙ ap (λ (t : List Part). fed.slice part_writes t) (sym (take-map plain_part 8 text) ∙ ap (λ (t : List Part). take 8 t) is ∙ take-map plain_part 8 other)
     ∙ plain-writes (take 8 other)
 
 -- ---- texts that are equal so
