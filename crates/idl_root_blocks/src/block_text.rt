@@ -6,7 +6,7 @@ ghost use Rattle.std.specs.Cmp.Lexicographic.{pointwise, slice_cmp, lists_per, l
 ghost use Rattle.std.proofs.Common.{ap};
 ghost use Rattle.std.specs.Hash as fed;
 ghost use Rattle.idl_base.specs.Exact.{same_list};
-ghost use Rattle.idl_root_blocks.specs.Blocks.{has_enclosed, part_writes, text_hint};
+ghost use Rattle.idl_root_blocks.specs.Blocks.{has_enclosed, part_writes, plain_part, text_hint};
 ghost use Rattle.idl_root_blocks.specs.Met.{block_text_eq};
 ghost use Rattle.idl_root_blocks.specs.contracts.text.BlockPartDatum.TheImpl.Laws.{same-law as same_part};
 ghost use Rattle.idl_root_blocks.specs.contracts.text.BlockPartEq.TheImpl.Laws.{laws-law as part_equiv};
@@ -22,8 +22,10 @@ use std::cmp::Ordering;
 use std::hash::{Hash, Hasher};
 use std::marker::Model;
 
-/// The hint of texts with a boundary in them around which a unit is, and that of all others.
+/// The hint of texts with a boundary in them around which a unit is.
 pub const ENCLOSED: u64 = 1 << 32;
+
+/// The hint of all other texts.
 pub const PLAIN: u64 = 0;
 
 // By so many parts it is found.
@@ -73,7 +75,11 @@ impl BlockText {
     pub fn hint(&self) -> u64
         ensures { result ≡ text_hint self.now }
     {
-        if self.has_enclosed() { ENCLOSED } else { PLAIN }
+        if self.has_enclosed() {
+            ENCLOSED
+        } else {
+            PLAIN
+        }
     }
 
     /// Whether blocks of both have one text: whatever units are around boundaries in them.
@@ -163,13 +169,25 @@ fn are_like(these: &[BlockPart], those: &[BlockPart]) -> bool
         let Some((beside, others)) = theirs.split_first() else {
             return false;
         };
-        if !part.is_like(beside) {
+        if !is_like(part, beside) {
             return false;
         }
         mine = behind;
         theirs = others;
     }
     theirs.is_empty()
+}
+
+// Whether a part is another, whatever units are around both.
+fn is_like(part: &BlockPart, other: &BlockPart) -> bool
+    ensures { result ≡ parts.eq (plain_part part.now) (plain_part other.now) }
+{
+    match (part, other) {
+        (BlockPart::Text(unit), BlockPart::Text(same)) => *unit == *same,
+        (BlockPart::Enters(_inside), BlockPart::Enters(_within)) => true,
+        (BlockPart::Leaves(_inside), BlockPart::Leaves(_within)) => true,
+        _ => false,
+    }
 }
 
 // The first of these.

@@ -3,9 +3,8 @@
 ghost use Rattle.std.specs.Prelude.{◌≡◌, IfOk};
 ghost use Rattle.std.specs.Option.{option_to_list};
 ghost use Rattle.std.proofs.Common.{ap};
-ghost use Rattle.idl_root_blocks.specs.Blocks.{is_enclosed, plain_part};
+ghost use Rattle.idl_root_blocks.specs.Blocks.{is_enclosed};
 ghost use Rattle.idl_root_blocks.specs.Units.{parts_of_unit, text_of};
-ghost use Rattle.idl_root_blocks.specs.contracts.text.BlockPartPartialEq.TheImpl.{ghosts as parts};
 ghost use Rattle.idl_root_blocks.specs.declared.text.BlockPart.TheVariants.{Text, Enters, Leaves};
 
 use crate::block_text::BlockText;
@@ -36,28 +35,21 @@ impl BlockPart {
             BlockPart::Enters(inside) | BlockPart::Leaves(inside) => *inside,
         }
     }
-
-    // Whether another is the same, whatever units are around both.
-    pub(crate) fn is_like(&self, other: &BlockPart) -> bool
-        ensures { result ≡ parts.eq (plain_part self.now) (plain_part other.now) }
-    {
-        match (self, other) {
-            (BlockPart::Text(unit), BlockPart::Text(same)) => *unit == *same,
-            (BlockPart::Enters(_inside), BlockPart::Enters(_within)) => true,
-            (BlockPart::Leaves(_inside), BlockPart::Leaves(_within)) => true,
-            _ => false,
-        }
-    }
 }
 
 // What units are around is not hashed, so that texts in which that alone differs are found together.
 impl Hash for BlockPart {
     ghost use Rattle.idl_root_blocks.specs.Blocks.{part_writes};
-    ghost use Rattle.idl_root_blocks.specs.contracts.text.BlockPartDatum.TheImpl.Laws.{same-law as same_part};
+    ghost use Rattle.std.specs.Prelude.{refl};
+    ghost use Rattle.idl_unit.specs.contracts.unit.UnitTextDatum.TheImpl.Laws.{same-law};
 
     ghost hash_input = { part_writes };
 
-    ghost respects_eq = { λ x y h. ap part_writes (same_part x y h) };
+    ghost respects_eq = { elim [
+      | Text a ↦ elim [ Text b ↦ λ h. ap part_writes (ap Text (same-law a b h)) | Enters b ↦ λ h. cc | Leaves b ↦ λ h. cc ]
+      | Enters a ↦ elim [ Text b ↦ λ h. cc | Enters b ↦ λ h. refl | Leaves b ↦ λ h. cc ]
+      | Leaves a ↦ elim [ Text b ↦ λ h. cc | Enters b ↦ λ h. cc | Leaves b ↦ λ h. refl ]
+    ] };
 
     fn hash<H: Hasher>(&self, state: &mut H) {
         match self {
