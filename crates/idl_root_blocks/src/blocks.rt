@@ -1,6 +1,6 @@
 //! The laws of blocks where they stand.
 
-ghost use Rattle.std.specs.Prelude.{◌≡◌, ◌↔◌, ◌≤◌, ◌<◌, ◌^◌, ◌∷◌, ◌++◌, [], List, false, map, true};
+ghost use Rattle.std.specs.Prelude.{◌≡◌, ◌↔◌, ◌≤◌, ◌<◌, ◌^◌, ◌∷◌, [], List, map, true};
 ghost use Rattle.std.specs.Option.{option_eq};
 ghost use Rattle.idl_block.specs.Questions.{outer_asked};
 ghost use Rattle.idl_root_blocks.specs.verdicts.Standing.{AreStanding, IsBlockFront, block_end};
@@ -18,7 +18,6 @@ ghost use Rattle.idl_root_blocks.specs.Blocks.{AreCut, IsOfBlock, Pieces, parts_
 ghost use Rattle.idl_root_blocks.specs.Met.{IsLike, block_text_eq};
 ghost use Rattle.idl_root_blocks.specs.Places.{AreStandingOver, BlockPlace, ComesTo, Stands, block_asks, block_at, block_query, block_result, blocks_over, declaration_result, declarations_over, facts_over, unit_ways, with_entering};
 ghost use Rattle.idl_root_blocks.specs.declared.text.BlockPart.{BlockPart as Part};
-ghost use Rattle.idl_root_blocks.specs.declared.text.BlockPart.TheVariants.{Enters, Leaves};
 
 use crate::equality::exact;
 use crate::text::BlockPart;
@@ -63,28 +62,20 @@ pub fn taking()
     exact::<Option<Answer>>();
 }
 
-/// The front of a block's text may stand in a block, too. What it adds stands behind facts that are told, where all is no more than
-/// memory holds; and where a block stands, so do the blocks inside. So does each block among pieces where that holds of all of them.
+/// What a block adds stands behind facts that are told, where all is no more than memory holds. So does each block among pieces where
+/// that holds of all of them.
 pub fn standing()
-    ensures front { (front behind : List Part)
-        → IsOfBlock (front ++ behind) → IsBlockFront (parts_of front) }
     ensures here { (before : List UnitFacts) (text : List Part)
         → let facts = facts_over (with_entering before) text in
         IsBlockFront (parts_of text) → AreTold before
         → turns_for facts ≤ most_turns → count_in (answers facts Nameless) < 2 ^ 64
         → Stands before text }
-    ensures inside { (before : List UnitFacts) (front inside behind : List Part)
-        → let text = front ++ Enters false ∷ (inside ++ Leaves false ∷ behind) in
-        let over = facts_over (with_entering before) front in
-        IsOfBlock text → Stands before text
-        → IsOfBlock inside → Stands over inside }
     ensures pieces { (facts : List UnitFacts) (pieces : Pieces)
         → let behind = facts_over facts (text_in pieces) in
         AreCut pieces → AreTold facts
         → turns_for behind ≤ most_turns → count_in (answers behind Nameless) < 2 ^ 64
         → AreStandingOver facts pieces }
 {
-    enough();
     walked();
     more_turns();
 }

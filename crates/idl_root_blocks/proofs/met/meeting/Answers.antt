@@ -1,24 +1,14 @@
-use Rattle.std.proofs.Common.{◌≤◌, ap, refl}
+use Rattle.std.proofs.Common.{◌≤◌, ap}
 use Rattle.std.specs.Option.{option_eq}
 use Rattle.idl_root_blocks.specs.verdicts.Standing.{unit_asks}
 use Rattle.idl_env.specs.SameAnswer.{answer_eq}
 use Rattle.idl_env.specs.keys.Key.{key_eq}
 use Rattle.idl_memo.proofs.FreshTasks.{shared-most}
 use Rattle.idl_root_blocks.proofs.Likes.{like-equiv, like-query}
-use Rattle.idl_root_blocks.proofs.Meets.{met-block, met-known, met-loose, met-most}
-use Rattle.idl_root_blocks.specs.Met.{Met, MetBlock, MetUnit, block_text_eq, met_over, most_shared_by, shared_by, unit_text_eq}
+use Rattle.idl_root_blocks.proofs.Meets.{met-known, met-most}
+use Rattle.idl_root_blocks.specs.Met.{Met, MetBlock, MetUnit, block_text_eq, most_shared_by, shared_by, unit_text_eq}
 use Rattle.idl_root_blocks.specs.Places.{block_query}
 use Rattle.idl_root_blocks.proofs.met.meeting.Goals as goal
-
-pub returns-clause-none : goal.returns-clause-none
-unfolding met_over
-returns-clause-none c = λ known facts. refl
-
-pub returns-clause-loose : goal.returns-clause-loose
-returns-clause-loose c = λ known facts part pieces. met-loose known facts part pieces
-
-pub returns-clause-block : goal.returns-clause-block
-returns-clause-block c = λ known facts inside pieces. met-block known facts inside pieces
 
 pub returns-clause-known : goal.returns-clause-known
 returns-clause-known c = λ known other facts pieces h. met-known pieces known other facts h
