@@ -198,8 +198,8 @@ impl KeptTexts {
         self.blocks.alike(task, env)
     }
 
-    /// Whether a block is kept that is alike to the task over this bank, whatever units are around boundaries in both. Where none is in
-    /// which they are around the same ones (`alike`), few are looked at. It takes no memory.
+    /// Whether a block is kept that is alike to the task over this bank, whatever units are around boundaries in both: asked where none
+    /// is found in which they are around the same ones. Few are looked at, and it takes no memory.
     pub fn has_like(&self, task: &BlockTask, env: &PlainEnv) -> bool
         ensures some { IsTrue result
             → Any (IsLike (task.now.text, answers env.now)) (results_in self.now.blocks) }
