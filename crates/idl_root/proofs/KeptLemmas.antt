@@ -2,11 +2,11 @@
 use Rattle.std.proofs.Common.{◌≡◌, ◌⊎◌, ℕ, ◌+◌, List, [], ◌∷◌, ◌++◌, map, refl, ap, sym, subst, ◌∙◌, append_assoc, inl, inr}
 use Rattle.idl_env.specs.Facts.{UnitFacts, answers}
 use Rattle.idl_memo.specs.Kept.{NoneAlikeAt, SomeAlikeAt}
+use Rattle.idl_store.specs.Obtained.{IsObtained}
 use Rattle.idl_store.specs.Stored.{Stored, grown, results_in}
 use Rattle.idl_memo.specs.declared.meter.Meter.{Meter}
 use Rattle.idl_memo.specs.declared.task.TaskKind.TheVariants.{Print}
 use Rattle.idl_root.proofs.StoredLemmas.{grown-grown, grown-results}
-use Rattle.idl_root.specs.Compared.{IsMetAt}
 use Rattle.idl_root.specs.Places.{EntryPlace, entries_over}
 use Rattle.idl_root.specs.Printed.{Listed}
 use Rattle.idl_root.specs.Results.{ChecksOnly, EntryResult, HasDraft, IsEntryPass, PrintsOnly, entry_result, mark_at, marks_of}
@@ -32,7 +32,7 @@ printed-kept kept next facts l listed grows =
     ap (λ k. grown k (map entry_result (entries_over facts listed))) grows
     ∙ grown-grown kept (entry_result (l.path, answers facts) ∷ []) (map entry_result (entries_over facts listed))
 
-pub prints-one : (here : EntryPlace) (results : List EntryResult) (old new : Meter) → IsMetAt here (entry_result here) Print results old new → PrintsOnly old new
+pub prints-one : (here : EntryPlace) (results : List EntryResult) (old new : Meter) → IsObtained here (entry_result here) Print results old new → PrintsOnly old new
 prints-one here results old new (inl (some, h)) = subst (λ (n : Meter). n ≡ record old { printed = n.printed; compared = n.compared }) (sym h) refl
 prints-one here results old new (inr (none, h)) = subst (λ (n : Meter). n ≡ record old { printed = n.printed; compared = n.compared }) (sym h) refl
 
@@ -47,7 +47,7 @@ module _ (one : (here : EntryPlace) (old new : List EntryResult) (before after :
   where
     -- one name is a pass over its entry, and with those behind it over theirs
     pub printed-pass : (facts : List UnitFacts) (l : Listed) (listed : List Listed) → next ≡ grown kept (entry_result (l.path, answers facts) ∷ [])
-        → IsMetAt (l.path, answers facts) (entry_result (l.path, answers facts)) Print (results_in kept) old new
+        → IsObtained (l.path, answers facts) (entry_result (l.path, answers facts)) Print (results_in kept) old new
         → (end : List EntryResult) (total : ℕ) → IsEntryPass (entries_over facts listed) (results_in next) end new.printed total
         → IsEntryPass (entries_over facts (l ∷ listed)) (results_in kept) end old.printed total
     printed-pass facts l listed grows h end total rest =

@@ -8,12 +8,12 @@ use Rattle.idl_env.specs.keys.Key.{key_digest}
 use Rattle.idl_kept.specs.Texts.{Texts}
 use Rattle.idl_memo.specs.Fresh.{Place}
 use Rattle.idl_memo.specs.Kept.{Kept, SomeAlikeAt}
+use Rattle.idl_store.specs.Obtained.{IsObtained}
 use Rattle.idl_store.specs.Stored.{Stored, grown, list_at, result_at, results_in}
 use Rattle.idl_memo.specs.declared.meter.Meter.{Meter}
 use Rattle.idl_memo.specs.declared.task.TaskKind.{TaskKind}
 use Rattle.idl_memo.specs.declared.task.TaskKind.TheVariants.{Check, Print}
 use Rattle.idl_root.specs.Changed.{ShareNone}
-use Rattle.idl_root.specs.Compared.{IsMetAt}
 use Rattle.idl_block.specs.facts.Written.{boundary}
 use Rattle.idl_root.specs.Places.{EntryPlace, declarations_after}
 use Rattle.idl_root_blocks.specs.Asking.{AreNoted as HaveNoted, Opened}
@@ -163,7 +163,7 @@ pub record IsObtainedLast {K V T O : Type 0} (kind : TaskKind) (place : Place K 
     (result : Kept K V T O) : Type 0 where
   pub result_is : result ≡ here
   pub new_is : new ≡ grown old (here ∷ [])
-  pub obtained : IsMetAt place here kind (results_in old) before after
+  pub obtained : IsObtained place here kind (results_in old) before after
 
 -- that of a declaration, and that of an entry
 abbrev pub IsDeclarationLast : DeclarationPlace → Stored DeclarationResult

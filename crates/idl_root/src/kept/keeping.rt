@@ -231,13 +231,7 @@ impl<'k> Keeping<'k> {
         let task = DeclarationTask {
             text: text.clone()?,
         };
-        let before = self.meter.checked;
-        let found = kept.obtain(&task, env, &mut self.scratch, &mut self.meter)?;
-        if self.meter.checked != before {
-            return Ok(found);
-        }
-        self.meter.compare(unit_keys(&found));
-        Ok(found)
+        Ok(kept.obtain(&task, env, &mut self.scratch, &mut self.meter)?)
     }
 
     // What is followed, behind the units that are no longer there: taken out, until it is put back behind this unit.
