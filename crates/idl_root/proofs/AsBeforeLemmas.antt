@@ -22,7 +22,8 @@ use Rattle.idl_root_blocks.specs.Units.{text_of}
 use Rattle.idl_root_blocks.specs.declared.text.BlockPart.{BlockPart}
 use Rattle.idl_root_blocks.specs.declared.text.BlockPart.TheVariants.{Text, Enters, Leaves}
 use Rattle.idl_root.specs.Printed.{Listed, closing_finding, entry_over, entry_row, first_paths, listed_in, listed_with}
-use Rattle.idl_root.specs.Results.{DeclarationResult, EntryResult, entry_result, marks_of}
+use Rattle.idl_kept.specs.Texts.{DeclarationResult}
+use Rattle.idl_root.specs.Results.{EntryResult, entry_result, marks_of}
 use Rattle.idl_root.specs.declared.compiling.compiled.Compiled.{Compiled}
 use Rattle.idl_finding.specs.declared.finding.EventFinding.{EventFinding}
 use Rattle.idl_finding.specs.declared.finding.Finding.{Finding}

@@ -8,7 +8,8 @@ use Rattle.idl_finding.specs.Findings.{fault_finding}
 use Rattle.idl_root.specs.Judged.{Judged}
 use Rattle.idl_root.specs.Held.{listed_at}
 use Rattle.idl_root.specs.Printed.{name_index}
-use Rattle.idl_root.specs.Results.{DeclarationResult, EntryResult, mark_at, marks_of}
+use Rattle.idl_kept.specs.Texts.{DeclarationResult}
+use Rattle.idl_root.specs.Results.{EntryResult, mark_at, marks_of}
 use Rattle.idl_finding.specs.declared.finding.EventFinding.{EventFinding}
 use Rattle.idl_root.specs.declared.compiling.printing.Listed.{Listed as HeldListed}
 use Rattle.idl_root.specs.declared.kept.course.Course.{Course}

@@ -11,7 +11,8 @@ use Rattle.idl_root.specs.AsBefore.{AreCourse}
 use Rattle.idl_root.specs.Followed.{ArePrinted, IsKeeping, WereThere, added_by, facts_of, results_from}
 use Rattle.idl_root.specs.Held.{to_come}
 use Rattle.idl_root.specs.Places.{declarations_after, declarations_of, entries_of, entries_over}
-use Rattle.idl_root.specs.Results.{ChecksOnly, DeclarationResult, EntryResult, ExpandsNone, IsDeclarationPass, IsEntryPass, IsKeptOf, KeptLists, PrintsOnly, RootMarks, entry_result}
+use Rattle.idl_kept.specs.Texts.{DeclarationResult}
+use Rattle.idl_root.specs.Results.{ChecksOnly, EntryResult, ExpandsNone, IsDeclarationPass, IsEntryPass, IsKeptOf, KeptLists, PrintsOnly, RootMarks, entry_result}
 use Rattle.idl_finding.specs.declared.finding.EventFinding.{EventFinding}
 use Rattle.idl_root.specs.declared.kept.course.Course.{Course}
 use Rattle.idl_root.specs.declared.kept.keeping.Keeping.{Keeping}

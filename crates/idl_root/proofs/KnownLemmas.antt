@@ -11,7 +11,8 @@ use Rattle.idl_root.specs.Held.{with_judged, with_units}
 use Rattle.idl_root.specs.Judged.{Judged}
 use Rattle.idl_root.specs.Passed.{known_results, marks_in}
 use Rattle.idl_root.specs.Printed.{listed_in}
-use Rattle.idl_root.specs.Results.{DeclarationResult, marks_of}
+use Rattle.idl_kept.specs.Texts.{DeclarationResult}
+use Rattle.idl_root.specs.Results.{marks_of}
 use Rattle.idl_root.specs.declared.kept.known.Known.{Known}
 use Rattle.idl_root.specs.declared.kept.marks.Mark.{Mark}
 use Rattle.idl_root.specs.declared.kept.marks.Mark.TheVariants.{Judged as JudgedMark, Entered as EnteredMark, Left as LeftMark}

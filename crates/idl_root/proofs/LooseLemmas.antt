@@ -7,7 +7,7 @@ use Rattle.idl_root_blocks.specs.verdicts.Standing.{unit_asks}
 use Rattle.idl_env.specs.Facts.{UnitFacts, answers}
 use Rattle.idl_env.specs.SameAnswer.{answer_eq}
 use Rattle.idl_env.specs.keys.Key.{key_eq}
-use Rattle.idl_kept.specs.Texts.{Texts, with_units}
+use Rattle.idl_kept.specs.Texts.{DeclarationResult, Texts, with_units}
 use Rattle.idl_memo.specs.Fresh.{fresh_at, shared_at}
 use Rattle.idl_memo.specs.Kept.{NoneAlikeAt, SomeAlikeAt}
 use Rattle.idl_memo.specs.Meter.{compared_after, most_compared}
@@ -20,7 +20,7 @@ use Rattle.idl_root.proofs.StoredLemmas.{grown-none, grown-results}
 use Rattle.idl_root.specs.Followed.{IsDeclarationLast, IsKeeping, UnitsOnly}
 use Rattle.idl_root.specs.Judged.{verdict_over}
 use Rattle.idl_root.specs.Passed.{AllGoOn, ArePassed, Compares, WalksOnly, keys_behind, part_mark, with_kept}
-use Rattle.idl_root.specs.Results.{DeclarationResult, HasDraft, IsDeclarationPass}
+use Rattle.idl_root.specs.Results.{HasDraft, IsDeclarationPass}
 use Rattle.idl_root.specs.declared.kept.keeping.Keeping.{Keeping}
 use Rattle.idl_root.specs.declared.kept.marks.Mark.TheVariants.{Judged}
 use Rattle.idl_root_blocks.proofs.Wholes.{declarations-first, declarations-none}

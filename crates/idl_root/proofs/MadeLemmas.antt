@@ -4,13 +4,12 @@ use Rattle.std.specs.Prelude.{length, sum_by}
 use Rattle.idl_env.specs.Facts.{UnitFacts}
 use Rattle.idl_event.specs.declared.told.event.Event.{Event}
 use Rattle.idl_kept.specs.Drafts.{begun_texts}
-use Rattle.idl_kept.specs.Texts.{Texts, begins_in}
+use Rattle.idl_kept.specs.Texts.{DeclarationResult, Texts, begins_in}
 use Rattle.idl_memo.specs.Meter.{compared_after, most_compared}
 use Rattle.idl_memo.specs.declared.meter.Meter.{Meter}
 use Rattle.idl_root.specs.Compared.{AreOf, compared_root, entry_keys, root_keys, shared_entries}
 use Rattle.idl_root.specs.Passed.{Compares, with_kept}
 use Rattle.idl_root.specs.Places.{EntryPlace, begins_of, blocks_of, declarations_of, entries_of, root_pieces, root_text}
-use Rattle.idl_root.specs.Results.{DeclarationResult}
 use Rattle.idl_root.proofs.SharedLemmas.{compared-more, compared-most}
 use Rattle.idl_root.proofs.StoredLemmas.{begun-results, grown-begun}
 use Rattle.idl_root.proofs.TextLaws.{declarations-text}

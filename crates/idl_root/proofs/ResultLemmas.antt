@@ -10,7 +10,8 @@ use Rattle.idl_root.specs.Judged.{facts_after, verdict_over}
 use Rattle.idl_block.specs.facts.Written.{boundary}
 use Rattle.idl_root.specs.Places.{declarations_after, declarations_of, entries_of, entries_over}
 use Rattle.idl_root.specs.Printed.{Listed}
-use Rattle.idl_root.specs.Results.{DeclarationResult, EntryResult, IsKeptOf, KeptLists, RootMarks, entry_result, marks_of}
+use Rattle.idl_kept.specs.Texts.{DeclarationResult}
+use Rattle.idl_root.specs.Results.{EntryResult, IsKeptOf, KeptLists, RootMarks, entry_result, marks_of}
 use Rattle.idl_root_blocks.specs.Places.{declaration_result}
 use Rattle.idl_root.specs.declared.kept.course.Course.{Course}
 use Rattle.idl_root.specs.declared.kept.marks.Mark.{Mark}

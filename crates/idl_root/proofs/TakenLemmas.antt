@@ -3,7 +3,7 @@ use Rattle.std.proofs.Common.{◌≡◌, ℕ, List, [], ◌∷◌, Option, None,
 use Rattle.std.specs.Option.{option_map}
 use Rattle.std.specs.Prelude.{IfNone, IfOk, IfSome, OnErr, OnOk, Result, Ok, Err, option_to_list}
 use Rattle.std.proofs.lemmas.Option.{same_Some}
-use Rattle.idl_kept.specs.Texts.{Texts, with_units}
+use Rattle.idl_kept.specs.Texts.{DeclarationResult, Texts, with_units}
 use Rattle.idl_memo.specs.Fresh.{Place}
 use Rattle.idl_memo.specs.Kept.{Kept}
 use Rattle.idl_memo.specs.Meter.{compared_after}
@@ -11,7 +11,6 @@ use Rattle.idl_memo.specs.declared.meter.Meter.{Meter}
 use Rattle.idl_memo.specs.declared.task.TaskKind.{TaskKind}
 use Rattle.idl_store.specs.Stored.{Stored, grown}
 use Rattle.idl_root.specs.Followed.{IsObtainedLast, IsTakenAgain, UnitsOnly}
-use Rattle.idl_root.specs.Results.{DeclarationResult}
 use Rattle.idl_root.proofs.StoredLemmas.{grown-none}
 
 -- what is kept grows by some results

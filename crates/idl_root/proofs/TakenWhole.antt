@@ -6,7 +6,7 @@ use Rattle.idl_env.specs.Facts.{UnitFacts, answers, count_in}
 use Rattle.idl_env.specs.Turns.{most_turns, turns_for}
 use Rattle.idl_env.specs.declared.keys.key.Key.TheVariants.{Nameless}
 use Rattle.idl_kept.proofs.Begins.{count-unit_results}
-use Rattle.idl_kept.specs.Texts.{BlockResult, IsPlaced, IsTaken, Texts, unit_results, with_whole}
+use Rattle.idl_kept.specs.Texts.{BlockResult, DeclarationResult, IsPlaced, IsTaken, Texts, unit_results, with_whole}
 use Rattle.idl_memo.specs.Kept.{NoneAlikeAt, SomeAlikeAt}
 use Rattle.idl_root.proofs.AsBeforeLemmas.{judged-kept}
 use Rattle.idl_root.proofs.BlockLemmas.{from-among, pass-known}
@@ -18,7 +18,7 @@ use Rattle.idl_root.specs.Followed.{added_by}
 use Rattle.idl_root.specs.Judged.{judged_after}
 use Rattle.idl_root.specs.Passed.{IsSameBlock, marks_in}
 use Rattle.idl_root.specs.Places.{declarations_after}
-use Rattle.idl_root.specs.Results.{DeclarationResult, HasDraft, IsDeclarationPass, marks_of}
+use Rattle.idl_root.specs.Results.{HasDraft, IsDeclarationPass, marks_of}
 use Rattle.idl_root_blocks.proofs.Cuts.{cut-whole}
 use Rattle.idl_root_blocks.specs.Blocks.{IsOfBlock, Pieces, cut, text_in}
 use Rattle.idl_root_blocks.specs.Finding.{texts_in}

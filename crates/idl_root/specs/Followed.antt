@@ -5,7 +5,7 @@ use Rattle.idl_env.specs.Outside.{WorldsAgreeAround, WorldsAgreeOutside, looked_
 use Rattle.idl_env.specs.declared.additions.addition.Step.TheVariants.{Enters, Leaves, Stays}
 use Rattle.idl_env.specs.declared.keys.key.Key.{Key}
 use Rattle.idl_env.specs.keys.Key.{key_digest}
-use Rattle.idl_kept.specs.Texts.{Texts}
+use Rattle.idl_kept.specs.Texts.{DeclarationResult, Texts}
 use Rattle.idl_memo.specs.Fresh.{Place}
 use Rattle.idl_memo.specs.Kept.{Kept, SomeAlikeAt}
 use Rattle.idl_store.specs.Obtained.{IsObtained}
@@ -18,7 +18,7 @@ use Rattle.idl_block.specs.facts.Written.{boundary}
 use Rattle.idl_root.specs.Places.{EntryPlace, declarations_after}
 use Rattle.idl_root_blocks.specs.Asking.{AreNoted as HaveNoted, Opened}
 use Rattle.idl_root_blocks.specs.Places.{DeclarationPlace, declaration_result}
-use Rattle.idl_root.specs.Results.{DeclarationResult, EntryResult, entry_result, marks_of}
+use Rattle.idl_root.specs.Results.{EntryResult, entry_result, marks_of}
 use Rattle.idl_root.specs.declared.kept.course.Course.{Course}
 use Rattle.idl_root.specs.declared.kept.following.Following.{Following}
 use Rattle.idl_root.specs.declared.kept.keeping.Keeping.{Keeping}

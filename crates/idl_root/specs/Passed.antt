@@ -3,12 +3,12 @@
 use Rattle.std.specs.Prelude.{◌≡◌, ◌≤◌, ℕ, List, [], ◌∷◌, ◌++◌, length, map}
 use Rattle.idl_root_blocks.specs.verdicts.Standing.{IsBlockFront}
 use Rattle.idl_env.specs.Facts.{UnitFacts}
-use Rattle.idl_kept.specs.Texts.{IsLast, IsPlaced, Texts, begins_in, unit_results, with_blocks, with_units, with_whole}
+use Rattle.idl_kept.specs.Texts.{DeclarationResult, IsLast, IsPlaced, Texts, begins_in, unit_results, with_blocks, with_units, with_whole}
 use Rattle.idl_memo.specs.Meter.{compared_after, most_compared}
 use Rattle.idl_memo.specs.declared.meter.Meter.{Meter}
 use Rattle.idl_root.specs.Compared.{AreOf}
 use Rattle.idl_root.specs.Followed.{IsKeeping, added_by}
-use Rattle.idl_root.specs.Results.{ChecksOnly, DeclarationResult, HasDraft, IsDeclarationPass}
+use Rattle.idl_root.specs.Results.{ChecksOnly, HasDraft, IsDeclarationPass}
 use Rattle.idl_root.specs.declared.kept.keeping.Keeping.{Keeping}
 use Rattle.idl_root.specs.declared.kept.known.Known.{Known}
 use Rattle.idl_root.specs.declared.kept.marks.Mark.{Mark}

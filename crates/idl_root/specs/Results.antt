@@ -2,7 +2,6 @@
 use Rattle.std.specs.Prelude.{◌≡◌, ◌≢◌, ℕ, List, [], ◌∷◌, Option, flat_map, map}
 use Rattle.std.specs.Option.{option_eq}
 use Rattle.idl_root_blocks.specs.idl_check.walk.Verdict.{verdict}
-use Rattle.idl_root_blocks.specs.idl_check.declared.walk.verdict.Verdict.{Verdict}
 use Rattle.idl_entity.specs.Path.{path_eq}
 use Rattle.idl_env.specs.SameAnswer.{answer_eq}
 use Rattle.idl_env.specs.Turns.{most_turns}
@@ -18,7 +17,7 @@ use Rattle.idl_memo.specs.declared.meter.Meter.{Meter}
 use Rattle.idl_store.specs.Stored.{Stored}
 use Rattle.idl_repo.specs.Entry.{entry}
 use Rattle.idl_repo.specs.declared.entry.Entry.{Entry}
-use Rattle.idl_kept.specs.Texts.{BlockResult}
+use Rattle.idl_kept.specs.Texts.{BlockResult, DeclarationResult}
 use Rattle.idl_root.specs.Compared.{root_keys}
 use Rattle.idl_root.specs.Places.{EntryPlace, begins_of, blocks_of, declarations_of, entries_of}
 use Rattle.idl_root_blocks.specs.Met.{unit_text_eq}
@@ -28,12 +27,8 @@ use Rattle.idl_root.specs.declared.kept.marks.Mark.TheVariants as mark
 use Rattle.idl_unit.specs.Units.{units_of}
 use Rattle.idl_unit.specs.declared.unit.Unit.{Unit as RootUnit}
 use Rattle.idl_unit.specs.declared.unit.Unit.TheVariants.{Spelled, Entered, Left, End}
-use Rattle.idl_unit.specs.declared.unit.UnitText.{UnitText}
 
--- what is kept of a declaration, and of an entry
-abbrev pub DeclarationResult : Type 0
-DeclarationResult = Kept Key (Option Answer) UnitText Verdict
-
+-- what is kept of an entry
 abbrev pub EntryResult : Type 0
 EntryResult = Kept Key (Option Answer) (List (List ℕ)) Entry
 

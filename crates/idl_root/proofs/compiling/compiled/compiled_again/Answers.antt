@@ -1,6 +1,6 @@
 use Rattle.std.proofs.Common.{◌≡◌, ap, rules, sym}
 use Rattle.idl_root.specs.AsBefore.{kept_lists}
-use Rattle.idl_root.specs.Results.{DeclarationResult}
+use Rattle.idl_kept.specs.Texts.{DeclarationResult}
 use Rattle.idl_root.proofs.CompileLemmas.{start-course}
 use Rattle.idl_root.proofs.TakenLemmas.{at-some, some-holds}
 use Rattle.idl_store.specs.Stored.{Stored, list_at}

@@ -9,7 +9,7 @@ use Rattle.idl_finding.specs.declared.finding.EventFinding.{EventFinding}
 use Rattle.idl_root.specs.declared.compiling.printing.Listed.{Listed as HeldListed}
 use Rattle.idl_root.proofs.AsBeforeLemmas.{closing-again, found-again, told-again}
 use Rattle.idl_root.specs.Places.{declarations_of}
-use Rattle.idl_root.specs.Results.{DeclarationResult}
+use Rattle.idl_kept.specs.Texts.{DeclarationResult}
 use Rattle.idl_root_blocks.specs.Places.{declaration_result}
 use Rattle.idl_store.specs.Stored.{Stored, list_at}
 use Rattle.idl_unit.specs.Units.{units_of}
