@@ -12,7 +12,6 @@ use Rattle.idl_root.specs.Passed.{Compares, with_kept}
 use Rattle.idl_root.specs.Places.{EntryPlace, begins_of, blocks_of, declarations_of, entries_of, root_pieces, root_text}
 use Rattle.idl_root.proofs.SharedLemmas.{compared-more, compared-most}
 use Rattle.idl_root.proofs.StoredLemmas.{begun-results, grown-begun}
-use Rattle.idl_root.proofs.TextLaws.{declarations-text}
 use Rattle.idl_root_blocks.proofs.Cuts.{cut-whole}
 use Rattle.idl_root_blocks.specs.Blocks.{cut, text_in}
 use Rattle.idl_root_blocks.specs.Met.{Known, compared, met_over, outermost_keys}
@@ -33,7 +32,7 @@ last-begun (d ∷ e ∷ drafts) at = last-begun (e ∷ drafts) at
 -- a root's declarations are those among its pieces
 declarations-among : (events : List Event) → declarations_over [] (text_in (root_pieces events)) ≡ declarations_of events
 unfolding declarations_of
-declarations-among events = ap (declarations_over []) (cut-whole (root_text events)) ∙ sym (declarations-text (units_of events) [])
+declarations-among events = ap (declarations_over []) (cut-whole (root_text events))
 
 module _ (events : List Event) (old between : Texts) (at : ℕ) (facts : List UnitFacts) (units : List RootUnit)
     (begins : between ≡ begun_texts old at) (none : facts ≡ []) (are : units ≡ units_of events)

@@ -12,12 +12,10 @@ use Rattle.idl_root.proofs.AsBeforeLemmas.{judged-kept}
 use Rattle.idl_root.proofs.BlockLemmas.{from-among, pass-known}
 use Rattle.idl_root.proofs.KnownLemmas.{marks-text}
 use Rattle.idl_root.proofs.StoredLemmas.{grown-results}
-use Rattle.idl_root.proofs.TextLaws.{declarations-text}
 use Rattle.idl_root.specs.AsBefore.{judged_beside}
 use Rattle.idl_root.specs.Followed.{added_by}
 use Rattle.idl_root.specs.Judged.{judged_after}
 use Rattle.idl_root.specs.Passed.{IsSameBlock, marks_in}
-use Rattle.idl_root.specs.Places.{declarations_after}
 use Rattle.idl_root.specs.Results.{HasDraft, IsDeclarationPass, marks_of}
 use Rattle.idl_root_blocks.proofs.Cuts.{cut-whole}
 use Rattle.idl_root_blocks.specs.Blocks.{IsOfBlock, Pieces, cut, text_in}
@@ -69,11 +67,8 @@ module _
       pub facts-are : behind ≡ facts_over (with_entering facts) (text_in (cut text))
       facts-are = is ∙ behind-is ∙ sym same.facts_are ∙ ap (facts_over (with_entering facts)) (sym (cut-whole text))
 
-      results-are : known ≡ map declaration_result (declarations_after (with_entering facts) units)
-      results-are =
-          known-are ∙ sym same.units
-          ∙ ap (λ (t : List Part). map declaration_result (declarations_over (with_entering facts) t)) (cut-whole text)
-          ∙ ap (map declaration_result) (sym (declarations-text units (with_entering facts)))
+      results-are : known ≡ map declaration_result (declarations_over (with_entering facts) text)
+      results-are = known-are ∙ sym same.units ∙ ap (λ (t : List Part). map declaration_result (declarations_over (with_entering facts) t)) (cut-whole text)
 
       pub judged-are : judged_beside units known ≡ judged_after (with_entering facts) units
       judged-are = ap (judged_beside units) results-are ∙ sym (judged-kept units (with_entering facts))

@@ -15,9 +15,10 @@ use Rattle.idl_memo.specs.declared.task.TaskKind.{TaskKind}
 use Rattle.idl_memo.specs.declared.task.TaskKind.TheVariants.{Check, Print}
 use Rattle.idl_root.specs.Changed.{ShareNone}
 use Rattle.idl_block.specs.facts.Written.{boundary}
-use Rattle.idl_root.specs.Places.{EntryPlace, declarations_after}
+use Rattle.idl_root.specs.Places.{EntryPlace}
 use Rattle.idl_root_blocks.specs.Asking.{AreNoted as HaveNoted, Opened}
-use Rattle.idl_root_blocks.specs.Places.{DeclarationPlace, declaration_result}
+use Rattle.idl_root_blocks.specs.Places.{DeclarationPlace, declaration_result, declarations_over}
+use Rattle.idl_root_blocks.specs.Units.{text_of}
 use Rattle.idl_root.specs.Results.{EntryResult, entry_result, marks_of}
 use Rattle.idl_root.specs.declared.kept.course.Course.{Course}
 use Rattle.idl_root.specs.declared.kept.following.Following.{Following}
@@ -66,7 +67,7 @@ pub record WereThere (before : List UnitFacts) (marks : List Mark)
     : Type 0 where
   pub units : List RootUnit
   pub marks_are : marks ≡ marks_of units
-  pub results_are : results ≡ map declaration_result (declarations_after before units)
+  pub results_are : results ≡ map declaration_result (declarations_over before (text_of units))
 
 -- the results of the units that are still to come, in the lists that are kept
 abbrev pub results_from : List (List DeclarationResult) → Course → List DeclarationResult
