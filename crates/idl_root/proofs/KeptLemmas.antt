@@ -1,5 +1,6 @@
 -- What is kept of units, one after another: results at the end of the last draft, and counts.
 use Rattle.std.proofs.Common.{◌≡◌, ◌⊎◌, ℕ, ◌+◌, List, [], ◌∷◌, ◌++◌, map, refl, ap, sym, subst, ◌∙◌, append_assoc, inl, inr}
+use Rattle.std.proofs.lemmas.List.{map-append}
 use Rattle.idl_env.specs.Facts.{UnitFacts, answers}
 use Rattle.idl_memo.specs.Kept.{NoneAlikeAt, SomeAlikeAt}
 use Rattle.idl_store.specs.Obtained.{IsObtained}
@@ -9,15 +10,17 @@ use Rattle.idl_memo.specs.declared.task.TaskKind.TheVariants.{Print}
 use Rattle.idl_root.proofs.StoredLemmas.{grown-grown, grown-results}
 use Rattle.idl_root.specs.Places.{EntryPlace, entries_over}
 use Rattle.idl_root.specs.Printed.{Listed}
-use Rattle.idl_root.specs.Results.{ChecksOnly, EntryResult, HasDraft, IsEntryPass, PrintsOnly, entry_result, mark_at, marks_of}
+use Rattle.idl_root.specs.Results.{ChecksOnly, EntryResult, HasDraft, IsEntryPass, PrintsOnly, entry_result, mark_at, marks_of, part_mark}
 use Rattle.idl_root.specs.declared.kept.marks.Mark.{Mark}
+use Rattle.idl_root_blocks.specs.Units.{parts_of_unit, text_of}
 use Rattle.idl_unit.specs.declared.unit.Unit.{Unit as RootUnit}
 
 -- ---- units
 
 -- the marks of one, and of those behind it
 pub marks-more : (marks next : List Mark) (u : RootUnit) (units : List RootUnit) → next ≡ marks ++ mark_at u → next ++ marks_of units ≡ marks ++ marks_of (u ∷ units)
-marks-more marks next u units is = ap (λ l. l ++ marks_of units) is ∙ append_assoc marks (mark_at u) (marks_of units)
+marks-more marks next u units is =
+    ap (λ l. l ++ marks_of units) is ∙ append_assoc marks (mark_at u) (marks_of units) ∙ ap (λ (ms : List Mark). marks ++ ms) (sym (map-append part_mark (parts_of_unit u) (text_of units)))
 
 -- no other count rises with one more than with those behind it
 pub checks-more : (old between new : Meter) → ChecksOnly old between → ChecksOnly between new → ChecksOnly old new

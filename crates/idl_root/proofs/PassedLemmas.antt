@@ -13,8 +13,8 @@ use Rattle.idl_root.proofs.SharedLemmas.{compared-more, compared-most}
 use Rattle.idl_root.proofs.StoredLemmas.{grown-results, has-grown}
 use Rattle.idl_root.specs.Compared.{AreOf}
 use Rattle.idl_root.specs.Followed.{IsKeeping}
-use Rattle.idl_root.specs.Passed.{AllGoOn, ArePassed, Compares, HasDrafts, keys_behind, marks_in, with_kept}
-use Rattle.idl_root.specs.Results.{IsDeclarationPass}
+use Rattle.idl_root.specs.Passed.{AllGoOn, ArePassed, Compares, HasDrafts, keys_behind, with_kept}
+use Rattle.idl_root.specs.Results.{IsDeclarationPass, marks_in}
 use Rattle.idl_root.specs.declared.kept.keeping.Keeping.{Keeping}
 use Rattle.idl_root_blocks.proofs.Fronts.{Enough, Walked}
 use Rattle.idl_root_blocks.proofs.Wholes.{declarations-none}

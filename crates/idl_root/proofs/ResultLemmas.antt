@@ -61,7 +61,7 @@ judged-there (Spelled text sites ∷ units) before marks k results m r =
     let next = before ++ (verdict_over before text).writes ∷ [] in
     let same : k ≡ here = same-head k here results (map declaration_result (declarations_over next (text_of units))) r in
     let rest = same-tail k here results (map declaration_result (declarations_over next (text_of units))) r in
-    let behind : marks ≡ marks_of units = cc in
+    let behind = same-tail mark.Judged mark.Judged marks (marks_of units) m in
     let own : WereThere (before ++ here.out.writes ∷ []) marks results = record { units = units; marks_are = behind; results_are = rest } in (
       same ∙ ap (λ t. declaration_result (t, answers before)) (sym (ap (λ (x : DeclarationResult). x.text) same)),
       subst (λ (x : DeclarationResult). WereThere (before ++ x.out.writes ∷ []) marks results) (sym same) own,
@@ -77,8 +77,7 @@ unfolding declarations_over
 entered-there [] before own marks results m r = cc
 entered-there (Spelled text sites ∷ units) before own marks results m r = cc
 entered-there (Entered file inside ∷ units) before own marks results m r =
-    let behind : marks ≡ marks_of units = cc in
-    record { units = units; marks_are = behind; results_are = r }
+    record { units = units; marks_are = same-tail (mark.Entered own) (mark.Entered inside) marks (marks_of units) m; results_are = r }
 entered-there (Left file inside ∷ units) before own marks results m r = cc
 entered-there (End ∷ units) before own marks results m r = entered-there units before own marks results m r
 
@@ -90,8 +89,7 @@ left-there [] before own marks results m r = cc
 left-there (Spelled text sites ∷ units) before own marks results m r = cc
 left-there (Entered file inside ∷ units) before own marks results m r = cc
 left-there (Left file inside ∷ units) before own marks results m r =
-    let behind : marks ≡ marks_of units = cc in
-    record { units = units; marks_are = behind; results_are = r }
+    record { units = units; marks_are = same-tail (mark.Left own) (mark.Left inside) marks (marks_of units) m; results_are = r }
 left-there (End ∷ units) before own marks results m r = left-there units before own marks results m r
 
 -- the first has tokens

@@ -10,13 +10,12 @@ use Rattle.idl_kept.specs.Texts.{BlockResult, DeclarationResult, IsPlaced, IsTak
 use Rattle.idl_memo.specs.Kept.{NoneAlikeAt, SomeAlikeAt}
 use Rattle.idl_root.proofs.AsBeforeLemmas.{judged-kept}
 use Rattle.idl_root.proofs.BlockLemmas.{from-among, pass-known}
-use Rattle.idl_root.proofs.KnownLemmas.{marks-text}
 use Rattle.idl_root.proofs.StoredLemmas.{grown-results}
 use Rattle.idl_root.specs.AsBefore.{judged_beside}
 use Rattle.idl_root.specs.Followed.{added_by}
 use Rattle.idl_root.specs.Judged.{judged_after}
-use Rattle.idl_root.specs.Passed.{IsSameBlock, marks_in}
-use Rattle.idl_root.specs.Results.{HasDraft, IsDeclarationPass, marks_of}
+use Rattle.idl_root.specs.Passed.{IsSameBlock}
+use Rattle.idl_root.specs.Results.{HasDraft, IsDeclarationPass, marks_in, marks_of}
 use Rattle.idl_root_blocks.proofs.Cuts.{cut-whole}
 use Rattle.idl_root_blocks.specs.Blocks.{IsOfBlock, Pieces, cut, text_in}
 use Rattle.idl_root_blocks.specs.Finding.{texts_in}
@@ -53,7 +52,7 @@ module _
 
     -- what is added beside these results
     behind-is : with_entering facts ++ added_by (marks_of units) known ≡ with_entering facts ++ added_by (marks_in text) results
-    behind-is = λ i. with_entering facts ++ added_by (marks-text units i) (known-are i)
+    behind-is = ap (λ (rs : List DeclarationResult). with_entering facts ++ added_by (marks_in text) rs) known-are
 
     module _ (behind : List UnitFacts) (is : behind ≡ with_entering facts ++ added_by (marks_of units) known)
         (turns : turns_for behind ≤ most_turns) (count : count_in (answers behind Nameless) < 2 ^ 64) where
