@@ -1,10 +1,8 @@
 -- The results of the tasks of roots, as they are kept.
 use Rattle.std.specs.Prelude.{◌≡◌, ◌≢◌, ℕ, List, [], Option, map}
 use Rattle.std.specs.Option.{option_eq}
-use Rattle.idl_root_blocks.specs.idl_check.walk.Verdict.{verdict}
 use Rattle.idl_entity.specs.Path.{path_eq}
 use Rattle.idl_env.specs.SameAnswer.{answer_eq}
-use Rattle.idl_env.specs.Turns.{most_turns}
 use Rattle.idl_env.specs.declared.answering.answer.Answer.{Answer}
 use Rattle.idl_env.specs.declared.keys.key.Key.{Key}
 use Rattle.idl_env.specs.keys.Key.{key_eq}
@@ -25,6 +23,7 @@ use Rattle.idl_root_blocks.specs.Places.{DeclarationPlace, block_result, declara
 use Rattle.idl_root_blocks.specs.Units.{parts_of_unit, text_of}
 use Rattle.idl_root_blocks.specs.declared.text.BlockPart.{BlockPart}
 use Rattle.idl_root_blocks.specs.declared.text.BlockPart.TheVariants.{Text, Enters, Leaves}
+use Rattle.idl_root_blocks.specs.verdicts.Standing.{unit_asks}
 use Rattle.idl_root.specs.declared.kept.marks.Mark.{Mark}
 use Rattle.idl_root.specs.declared.kept.marks.Mark.TheVariants as mark
 use Rattle.idl_unit.specs.Units.{units_of}
@@ -41,7 +40,7 @@ entry_result place = result_over key_eq entry place
 -- how many of these declarations are fresh against the known ones, and of these entries
 abbrev pub fresh_declarations : List DeclarationPlace → List DeclarationPlace → ℕ
 fresh_declarations known places =
-    fresh_among unit_text_eq (option_eq answer_eq) (verdict most_turns) known places
+    fresh_among unit_text_eq (option_eq answer_eq) unit_asks known places
 
 abbrev pub fresh_entries : List EntryPlace → List EntryPlace → ℕ
 fresh_entries known places = fresh_among path_eq (option_eq answer_eq) entry known places
@@ -50,8 +49,7 @@ fresh_entries known places = fresh_among path_eq (option_eq answer_eq) entry kno
 abbrev pub IsDeclarationPass : List DeclarationPlace → List DeclarationResult
     → List DeclarationResult → ℕ → ℕ → Type 0
 IsDeclarationPass places old new before after =
-    IsPass key_eq unit_text_eq (option_eq answer_eq) (verdict most_turns) places old new before
-    after
+    IsPass key_eq unit_text_eq (option_eq answer_eq) unit_asks places old new before after
 
 -- the results of these entries come behind others, and those are counted that are fresh
 abbrev pub IsEntryPass : List EntryPlace → List EntryResult → List EntryResult → ℕ → ℕ → Type 0
