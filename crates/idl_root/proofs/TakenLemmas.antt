@@ -9,7 +9,7 @@ use Rattle.idl_memo.specs.Kept.{Kept}
 use Rattle.idl_memo.specs.Meter.{compared_after}
 use Rattle.idl_memo.specs.declared.meter.Meter.{Meter}
 use Rattle.idl_memo.specs.declared.task.TaskKind.{TaskKind}
-use Rattle.idl_store.specs.Stored.{Stored, grown}
+use Rattle.idl_store.specs.Stored.{Stored}
 use Rattle.idl_root.specs.Followed.{IsObtainedLast, IsTakenAgain, UnitsOnly}
 use Rattle.idl_root.proofs.StoredLemmas.{grown-none}
 

@@ -151,7 +151,8 @@ pub fn compile_kept(
 }
 
 // What the root compiles to, if its units are as they were and it has an error where it had one: then the rows of its listing and
-// its dump are those of before, and what is found in its units is found where they stand now.
+// its dump are those of before, and what is found in its units is found where they stand now. A source is a last line, an expansion, and
+// the units in it.
 fn compiled_again(
     keeper: &Keeper,
     before: RootBefore<'_>,
