@@ -196,8 +196,11 @@ fn told_again(
     let alloc = keeper.alloc();
     let (end, expansion, units) = source;
     let findings = event_findings(alloc, expansion)?;
-    let again =
-        Again::new(alloc, findings).with_all(keeper.texts.declarations(), before.at, units)?;
+    let again = Again::new(alloc, findings).with_all(
+        keeper.texts.declarations(),
+        before.at,
+        units,
+    )?;
     let closing = again.closing(&keeper.entries, before.at)?;
     let found = RootFindings {
         findings: again.into_findings(),
