@@ -15,7 +15,7 @@ ghost use Rattle.idl_memo.specs.Meter.{count_of, most_compared};
 ghost use Rattle.idl_memo.specs.declared.task.TaskKind.TheVariants.{Check};
 ghost use Rattle.idl_root_blocks.specs.Blocks.{Pieces};
 ghost use Rattle.idl_root_blocks.specs.Met.{IsLike};
-ghost use Rattle.idl_root_blocks.specs.Places.{block_at, block_result, declaration_result};
+ghost use Rattle.idl_root_blocks.specs.Places.{DeclarationPlace, block_at, block_result, declaration_result};
 ghost use Rattle.idl_store.specs.Obtained.{IsObtained};
 ghost use Rattle.idl_store.specs.Spots.{result_on, results_from};
 ghost use Rattle.idl_store.specs.Stored.{last_draft, result_at, results_in};
@@ -148,7 +148,8 @@ impl KeptTexts {
             found.value ≡ declaration_result (task.now.text, answers env.now)) }
         ensures ok { OnOk result (self.new
             ≡ with_units self.old (declaration_result (task.now.text, answers env.now) ∷ [])) }
-        ensures meter { OnOk result (IsObtained (task.now.text, answers env.now) Check
+        ensures meter { let here : DeclarationPlace = (task.now.text, answers env.now) in
+            OnOk result (IsObtained here (declaration_result here) Check
             (results_in self.old.declarations) meter.old meter.new) }
         ensures err { OnErr result (self.new ≡ self.old) }
     {

@@ -16,8 +16,8 @@ use Rattle.idl_root.proofs.BlockLemmas.{places-are, spot-among, whole-kept}
 use Rattle.idl_root.proofs.PiecesLemmas.{compared-none, facts-inside}
 use Rattle.idl_root.proofs.WholeLemmas.{block-holds}
 use Rattle.idl_root.specs.Followed.{IsKeeping}
-use Rattle.idl_root.specs.Passed.{AllGoOn, ArePassed, keys_behind, marks_in, part_mark}
-use Rattle.idl_root.specs.Results.{ChecksOnly, IsDeclarationPass}
+use Rattle.idl_root.specs.Passed.{AllGoOn, ArePassed, keys_behind}
+use Rattle.idl_root.specs.Results.{ChecksOnly, IsDeclarationPass, marks_in, part_mark}
 use Rattle.idl_root.specs.declared.kept.keeping.Keeping.{Keeping}
 use Rattle.idl_root.specs.declared.kept.marks.Mark.{Mark}
 use Rattle.idl_root.specs.declared.kept.marks.Mark.TheVariants.{Entered, Left}

@@ -18,7 +18,8 @@ use Rattle.idl_memo.proofs.QueryLaws.{IsLogOf-run}
 use Rattle.idl_memo.specs.Fresh.{is_alike}
 use Rattle.idl_memo.specs.Query.{HoldsIn}
 use Rattle.idl_root.specs.Followed.{added_by}
-use Rattle.idl_root.specs.Passed.{IsSameBlock, marks_in}
+use Rattle.idl_root.specs.Results.{marks_in}
+use Rattle.idl_root.specs.Passed.{IsSameBlock}
 use Rattle.idl_root_blocks.proofs.Cuts.{cut-one, cut-whole}
 use Rattle.idl_root_blocks.specs.Blocks.{AreCut, IsOfBlock, Pieces, cut, parts_of, plain_text, text_in}
 use Rattle.idl_root_blocks.specs.Met.{IsLike, block_text_eq}

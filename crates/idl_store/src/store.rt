@@ -1,8 +1,8 @@
 //! The results of a kind of task, as the roots of a project have them.
 //!
 //! What an edit makes stands in drafts from the start, so that the next place and root find it. Accepted, each takes
-//! the place of its list by moves alone; refused, all are dropped by one call. Who obtains a result keeps it, and
-//! counts no keys. `put` looks its result up by its own log.
+//! the place of its list by moves alone; refused, all are dropped by one call. Who obtains a result keeps it.
+//! `put` looks its result up by its own log.
 //!
 //! Which bank is asked matters to few: all else is done by a `Shelf`, of results whatever they are.
 
@@ -246,8 +246,8 @@ where
     B::Answer: Ord,
     T::Text: Ord,
 {
-    /// The result of the task over this bank: a kept one that is alike, or what a run gives. It goes into the last draft; where there
-    /// is none, it is kept nowhere.
+    /// The result of the task over this bank: a kept one that is alike, whose keys are compared, or what a run gives. It goes into the
+    /// last draft; where there is none, it is kept nowhere.
     ///
     /// Want of memory leaves the store as it was. Nothing is said of the meter then.
     pub fn obtain(
@@ -262,13 +262,18 @@ where
             ≡ result_over B.Key.eq T.query (T.text_of task.now, B.at bank.now)) }
         ensures ok { OnOk result (self.new ≡ grown self.old
             (result_over B.Key.eq T.query (T.text_of task.now, B.at bank.now) ∷ [])) }
-        ensures meter { OnOk result (IsObtained (T.text_of task.now, B.at bank.now) T.KIND
+        ensures meter { OnOk result (IsObtained (T.text_of task.now, B.at bank.now)
+            (result_over B.Key.eq T.query (T.text_of task.now, B.at bank.now)) T.KIND
             (results_in self.old) meter.old meter.new) }
         ensures err { OnErr result (self.new ≡ self.old) }
     {
         let found = take_alike(&mut self.shelf, task, bank)?;
         let gap = match found {
-            Ok(held) => return Ok(held.into_shared()),
+            Ok(held) => {
+                let shared = held.into_shared();
+                meter.compare(shared.log().len());
+                return Ok(shared);
+            }
             Err(gap) => gap,
         };
         let alloc = self.shelf.alloc();

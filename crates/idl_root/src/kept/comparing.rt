@@ -6,7 +6,6 @@ ghost use Rattle.idl_root.specs.Compared.{AreSamePlaces, compared_root, most_sha
 ghost use Rattle.idl_root.specs.Places.{EntryPlace, blocks_of, declarations_of, entries_of};
 ghost use Rattle.idl_root_blocks.specs.Met.{Known};
 
-use crate::compiling::laws::texts;
 use idl_env::Env;
 use idl_memo::{freshness, sharing};
 use idl_repo::EntryTask;
@@ -35,7 +34,6 @@ pub fn comparing()
     ensures entries_most { (known : List EntryPlace) (here : EntryPlace)
         → shared_entry known here ≤ most_shared_entry known here }
 {
-    texts();
     cutting();
     meeting();
     repeating();

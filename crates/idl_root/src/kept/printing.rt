@@ -145,13 +145,7 @@ impl Printing {
         let task = EntryTask {
             path: path.clone()?,
         };
-        let before = self.meter.printed;
-        let found = kept.obtain(&task, env, &mut self.buffer, &mut self.meter)?;
-        if self.meter.printed != before {
-            return Ok(found);
-        }
-        self.meter.compare(entry_keys(&found));
-        Ok(found)
+        Ok(kept.obtain(&task, env, &mut self.buffer, &mut self.meter)?)
     }
 
     // What was kept of it, if it may be taken over.

@@ -24,8 +24,8 @@ use Rattle.idl_block.specs.facts.Written.{boundary}
 use Rattle.idl_root_blocks.specs.Asking.{AreNoted as HaveNoted}
 use Rattle.idl_root.specs.Held.{to_come, with_gathered, with_units}
 use Rattle.idl_root.specs.Judged.{added, facts_after, judged_after, judged_at}
-use Rattle.idl_root.specs.Passed.{AllGoOn, ArePassed, Compares, MayBeLeft, marks_in}
-use Rattle.idl_root.specs.Results.{ChecksOnly, IsDeclarationPass}
+use Rattle.idl_root.specs.Passed.{AllGoOn, ArePassed, Compares, MayBeLeft}
+use Rattle.idl_root.specs.Results.{ChecksOnly, IsDeclarationPass, marks_in}
 use Rattle.idl_root.specs.declared.kept.keeping.Keeping.{Keeping}
 use Rattle.idl_root.specs.declared.kept.marks.Mark.{Mark}
 use Rattle.idl_root.specs.declared.kept.marks.Mark.TheVariants.{Entered, Left}

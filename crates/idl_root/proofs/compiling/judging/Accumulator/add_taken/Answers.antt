@@ -4,14 +4,13 @@ use Rattle.idl_env.specs.Facts.{UnitFacts, answers, count_in}
 use Rattle.idl_env.specs.Turns.{most_turns, turns_for}
 use Rattle.idl_env.specs.declared.keys.key.Key.TheVariants.{Nameless}
 use Rattle.idl_memo.specs.declared.meter.Meter.{Meter}
-use Rattle.idl_root.proofs.KnownLemmas.{marks-text}
 use Rattle.idl_root.proofs.PassedBlocks.{compares-taken, is-known, passed-block, some-on}
 use Rattle.idl_root.proofs.TakenWhole.{facts-are, judged-are, kept-are, none-run, same}
 use Rattle.idl_root.specs.AsBefore.{judged_beside}
 use Rattle.idl_root.specs.Followed.{IsFollowing, IsKeeping, added_by}
 use Rattle.idl_root.specs.Held.{with_gathered, with_units}
-use Rattle.idl_root.specs.Passed.{AllGoOn, known_results, marks_in}
-use Rattle.idl_root.specs.Results.{IsDeclarationPass, marks_of}
+use Rattle.idl_root.specs.Passed.{AllGoOn, known_results}
+use Rattle.idl_root.specs.Results.{IsDeclarationPass, marks_in, marks_of}
 use Rattle.idl_root.specs.declared.kept.keeping.Keeping.{Keeping}
 use Rattle.idl_root.specs.declared.kept.marks.Mark.{Mark}
 use Rattle.idl_root.specs.declared.kept.marks.Mark.TheVariants.{Entered, Left}
@@ -98,7 +97,7 @@ returns-clause-passed c =
     c.in_ok-env-3.ensures.marks
     ∙ ap (λ (ms : List Mark). ms ++ Left false ∷ [])
     (c.in_ok-env-2.ensures.marks
-    ∙ (λ i. (c.in_ok-env.ensures.marks ∙ ap (λ (k : Keeping). k.marks.items ++ Entered false ∷ []) c.in_ok-first.ensures.rest) i ++ marks-text units i)) in
+    ∙ (λ i. (c.in_ok-env.ensures.marks ∙ ap (λ (k : Keeping). k.marks.items ++ Entered false ∷ []) c.in_ok-first.ensures.rest) i ++ marks_in text)) in
     let own : IsKeeping kept.declarations.lists c.add_known.new.keeping behind =
     subst (λ ls. IsKeeping ls c.add_known.new.keeping behind) (ap (λ s. s.lists) (c.new-known.ensures.declarations ∙ c.declarations.ensures) ∙ lists) c.in_ok-env-2.ensures.keeping in
     let walks : IsKeeping kept.declarations.lists after (facts_behind facts (cut text)) = subst (IsKeeping kept.declarations.lists after) end (c.in_ok-env-3.ensures.keeping kept.declarations.lists own) in

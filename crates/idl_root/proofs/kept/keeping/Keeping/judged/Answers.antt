@@ -1,13 +1,12 @@
 use Rattle.std.proofs.Common.{◌≡◌, ◌++◌, ◌∷◌, ◌∙◌, [], ap, length, rules, subst, sym}
 use Rattle.std.specs.Prelude.{IfOk, IfSome}
 use Rattle.idl_env.specs.Facts.{answers}
-use Rattle.idl_kept.specs.Texts.{Texts}
+use Rattle.idl_kept.specs.Texts.{DeclarationResult, Texts}
 use Rattle.idl_memo.specs.declared.task.TaskKind.TheVariants.{Check}
 use Rattle.idl_store.specs.Stored.{Stored}
 use Rattle.idl_root.specs.Followed.{IsDeclarationLast, IsFollowed, IsNext, UnitsOnly}
 use Rattle.idl_root.specs.Judged.{verdict_over}
 use Rattle.idl_root_blocks.specs.Places.{DeclarationPlace, declaration_result}
-use Rattle.idl_root.specs.Results.{DeclarationResult}
 use Rattle.idl_root.proofs.TakenLemmas.{at-none, at-some, some-weaker, taken-last}
 use Rattle.idl_root.proofs.kept.keeping.Keeping.judged.Goals as goal
 
