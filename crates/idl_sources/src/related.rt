@@ -49,7 +49,8 @@ pub fn related_over(
 }
 
 /// Of all that is found in a root the findings that may have second places are just those that are told of, one after another: of the same
-/// codes, and at tokens of the same numbers in their lines. This does nothing: it carries the law.
+/// codes, and at tokens of the same numbers in their lines. So what is assigned in order is each finding's own. This does nothing: it
+/// carries the law.
 pub fn assigning()
     ensures codes { (bank : RootKey → Option RootAnswer) (root : List ℕ) (end : Place)
         (related : List (List Second)) → let events = (expanded root bank).0 in
