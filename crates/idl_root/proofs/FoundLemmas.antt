@@ -1,5 +1,5 @@
 -- What is found in the units of a root, by the verdict of each over the facts before it, and of what codes the findings of its end are.
-use Rattle.std.proofs.Common.{◌≡◌, ◌∙◌, ◌++◌, ℕ, Bool, true, false, All, IfSome, List, [], ◌∷◌, Option, None, Some, ap, flat_map, inl, inr, option_map, refl, slice_get, subst, sym, if◌then◌else◌}
+use Rattle.std.proofs.Common.{◌≡◌, ◌∙◌, ◌++◌, ℕ, Bool, true, false, All, IfSome, List, [], ◌∷◌, Option, None, Some, ap, flat_map, option_map, refl, slice_get, subst, sym, if◌then◌else◌}
 use Rattle.std.proofs.lemmas.List.Elements.{All-cons, All-nil, filter-append}
 use Rattle.std.specs.List.{enumerate_from}
 use Rattle.idl_root_blocks.specs.idl_check.walk.Verdict.{added, verdict_over}

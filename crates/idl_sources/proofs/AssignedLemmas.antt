@@ -1,6 +1,6 @@
 -- What is found in a root that may have second places, against what is told of its faults: one after another they are of the same
 -- events and codes.
-use Rattle.std.proofs.Common.{◌≡◌, ◌∙◌, ◌+◌, ◌++◌, ℕ, Bool, true, false, All, List, [], ◌∷◌, ap, cond, filter, flat_map, inl, inr, map, refl, subst, sym}
+use Rattle.std.proofs.Common.{◌≡◌, ◌∙◌, ◌+◌, ◌++◌, ℕ, Bool, true, false, All, List, [], ◌∷◌, ap, cond, filter, flat_map, map, refl, subst, sym}
 use Rattle.std.proofs.lemmas.List.{append-nil}
 use Rattle.std.proofs.lemmas.List.Elements.{All-head, All-tail, filter-append}
 use Rattle.std.specs.List.{enumerate_from}
