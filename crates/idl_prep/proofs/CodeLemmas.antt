@@ -8,9 +8,10 @@ use Rattle.idl_event.specs.Items.{rules, whole_allowance}
 use Rattle.idl_event.specs.declared.asked.key.RootAnswer.{RootAnswer}
 use Rattle.idl_event.specs.declared.asked.key.RootKey.{RootKey}
 use Rattle.idl_event.specs.declared.asked.key.RootKey.TheVariants as key
-use Rattle.idl_event.specs.declared.told.event.Event.TheVariants.{Left, Pragma}
-use Rattle.idl_event.specs.declared.told.event.Item.TheVariants.{Counted, Kept}
+use Rattle.idl_event.specs.declared.told.event.Event.TheVariants.{Entered, Fault, Left, Pragma}
+use Rattle.idl_event.specs.declared.told.event.Item.TheVariants.{Counted, Kept, TooDeep, Turn}
 use Rattle.idl_event.proofs.CodeLemmas.{AreOwn, Tells, tells-then, within-own}
+use Rattle.idl_fault.specs.declared.code.Code.TheVariants.{NotFound}
 use Rattle.idl_fault.specs.declared.file_name.FileName.{FileName}
 use Rattle.idl_fault.specs.declared.place.Place.{Place}
 use Rattle.idl_lex.specs.kinds.Word.{is_word}

@@ -14,7 +14,7 @@ use Rattle.idl_finding.specs.Findings.{fault_finding, finding_at, found_at, site
 use Rattle.idl_finding.specs.declared.finding.EventFinding.{EventFinding}
 use Rattle.idl_finding.proofs.FoundLemmas.{bare, bare_found, filter-map, found_by, found_in, of_codes}
 use Rattle.idl_finding.proofs.OrderLemmas.{AreFrom, AreOrdered, at, tied}
-use Rattle.idl_related.specs.FirstDeclared.{AreOfFaults, UnitsBefore, first_declaration_over, no_units, told_after, told_at, told_by, told_for, with_unit, without_other_places}
+use Rattle.idl_related.specs.FirstDeclared.{AreOfFaults, KeepsOrder, UnitsBefore, first_declaration_over, no_units, told_after, told_at, told_by, told_for, with_unit, without_other_places}
 use Rattle.idl_related.specs.Told.{has_second, is_redeclaration}
 use Rattle.idl_related.proofs.FirstDeclaredLemmas.{is_earlier}
 use Rattle.idl_related.specs.declared.related.RelatedPlaces.{RelatedPlaces}
