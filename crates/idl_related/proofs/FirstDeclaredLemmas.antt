@@ -117,7 +117,7 @@ event-same : (b : Bool) (t : RelatedPlaces) → let u : RelatedPlaces = if b the
 event-same true t = refl
 event-same false t = refl
 
-abbrev pub is_earlier : RelatedPlaces → RelatedPlaces → Bool
+abbrev is_earlier : RelatedPlaces → RelatedPlaces → Bool
 is_earlier x y = is_lt (nat_cmp x.event y.event)
 
 ties-without : (x : RelatedPlaces) (told : List RelatedPlaces)

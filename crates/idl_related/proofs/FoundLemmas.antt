@@ -1,5 +1,5 @@
 -- What is told of the faults of units, against what is found in the units: of the same events, with the same codes.
-use Rattle.std.proofs.Common.{◌≡◌, ◌∙◌, ◌<◌, ◌≤◌, ℕ, suc, Bool, true, false, cond, List, [], ◌∷◌, ◌++◌, Option, None, Some, ap, arith, filter, get_or, length, map, nat_eq, refl, slice_get, sym, if◌then◌else◌}
+use Rattle.std.proofs.Common.{◌≡◌, ◌∙◌, ◌<◌, ◌≤◌, ℕ, suc, Bool, true, false, cond, List, [], ◌∷◌, ◌++◌, Option, None, Some, ap, arith, filter, get_or, is_lt, length, map, nat_cmp, nat_eq, refl, slice_get, sym, if◌then◌else◌}
 use Rattle.std.proofs.lemmas.List.{map-append}
 use Rattle.std.proofs.lemmas.List.Elements.{filter-append}
 use Rattle.std.specs.List.Sorted.{IsNonDecreasingBy, ties}
@@ -16,7 +16,6 @@ use Rattle.idl_finding.proofs.FoundLemmas.{bare, bare_found, filter-map, found_b
 use Rattle.idl_finding.proofs.OrderLemmas.{AreFrom, AreOrdered, at, tied}
 use Rattle.idl_related.specs.FirstDeclared.{AreOfFaults, KeepsOrder, UnitsBefore, first_declaration_over, no_units, told_after, told_at, told_by, told_for, with_unit, without_other_places}
 use Rattle.idl_related.specs.Told.{has_second, is_redeclaration}
-use Rattle.idl_related.proofs.FirstDeclaredLemmas.{is_earlier}
 use Rattle.idl_related.specs.declared.related.RelatedPlaces.{RelatedPlaces}
 use Rattle.idl_related.specs.declared.second.TokenPosition.{TokenPosition}
 use Rattle.idl_unit.specs.Units.{units_of}
@@ -32,17 +31,17 @@ bare_told told = map (λ (t : RelatedPlaces). bare t.event t.code) told
 
 site-told : (events : List Event) (fault : Fault) (spot : Option TokenPosition) (site : Option Site) (token : Option (List ℕ))
     → bare_told (if has_second fault.code then told_at events fault spot site else []) ≡ bare_found (of_codes has_second (finding_at fault.code site token))
-site-told events fault spot None token = none (has_second fault.code)
+site-told events fault spot None token = by (has_second fault.code)
   where
-    none : (b : Bool) → bare_told (if b then told_at events fault spot None else []) ≡ []
-    none true = refl
-    none false = refl
-site-told events fault spot (Some site) token = one (has_second fault.code)
+    by : (b : Bool) → bare_told (if b then told_at events fault spot None else []) ≡ []
+    by true = refl
+    by false = refl
+site-told events fault spot (Some site) token = by (has_second fault.code)
   where
-    one : (b : Bool) → bare_told (if b then told_at events fault spot (Some site) else [])
+    by : (b : Bool) → bare_told (if b then told_at events fault spot (Some site) else [])
         ≡ bare_found (cond b (found_at site.event (place_in site) fault.code token ∷ []) [])
-    one true = refl
-    one false = refl
+    by true = refl
+    by false = refl
 
 fault-told : (events : List Event) (before : UnitsBefore) (text : UnitText) (sites : List Site) (fault : Option Fault)
     → bare_told (told_for events before (text, sites) fault) ≡ bare_found (of_codes has_second (fault_finding text sites fault))
@@ -75,6 +74,9 @@ units-told events before (u ∷ units) =
     ∙ sym (ap bare_found (filter-append (λ (f : EventFinding). has_second f.code) here rest))
 
 -- ---- in order
+
+abbrev is_earlier : RelatedPlaces → RelatedPlaces → Bool
+is_earlier x y = is_lt (nat_cmp x.event y.event)
 
 abbrev of_event : ℕ → RelatedPlaces
 of_event n = record { event = n; code = AlreadyDeclared; related = [] }
