@@ -1,14 +1,12 @@
 -- What is found in a root that may have second places, against what is told of its faults: one after another they are of the same
 -- events and codes.
-use Rattle.std.proofs.Common.{◌≡◌, ◌∙◌, ◌+◌, ◌++◌, ℕ, Bool, true, false, All, List, [], ◌∷◌, ap, cond, filter, flat_map, map, refl, subst, sym}
+use Rattle.std.proofs.Common.{◌≡◌, ◌∙◌, ◌+◌, ◌++◌, ◌||◌, ℕ, Bool, true, false, All, List, [], ◌∷◌, ap, cond, filter, flat_map, map, refl, subst, sym}
 use Rattle.std.proofs.lemmas.List.{append-nil}
 use Rattle.std.proofs.lemmas.List.Elements.{All-head, All-tail, filter-append}
-use Rattle.std.specs.List.{enumerate_from}
-use Rattle.idl_event.specs.Codes.{has_own_code, is_of_expansion}
+use Rattle.std.specs.List.{enumerate_from, list_any}
 use Rattle.idl_event.specs.declared.told.event.Event.{Event}
 use Rattle.idl_event.specs.declared.told.event.Event.TheVariants as event
 use Rattle.idl_fault.specs.declared.code.Code.{Code}
-use Rattle.idl_fault.specs.declared.code.Code.TheVariants as code
 use Rattle.idl_fault.specs.declared.place.Place.{Place}
 use Rattle.idl_finding.specs.Findings.{event_finding, found_at, in_order, numbered}
 use Rattle.idl_finding.specs.Number.{token_number}
@@ -24,12 +22,13 @@ use Rattle.idl_root.specs.Closing.{IsOfEnd}
 use Rattle.idl_root.specs.Compile.{compile, is_open, open_finding, outcome_of}
 use Rattle.idl_root.specs.Printed.{Listed, closing_finding}
 use Rattle.idl_root.proofs.FoundLemmas.{outcome-found}
+use Rattle.idl_sources.specs.Related.{may_have_second}
 
 -- ---- findings that have no second places
 
-of-end : (why : Code) → IsOfEnd why → has_second why ≡ false
-of-end why (inl is) = subst (λ c. has_second c ≡ false) (sym is) refl
-of-end why (inr is) = subst (λ c. has_second c ≡ false) (sym is) refl
+of-end : (code : Code) → IsOfEnd code → has_second code ≡ false
+of-end code (inl is) = subst (λ c. has_second c ≡ false) (sym is) refl
+of-end code (inr is) = subst (λ c. has_second c ≡ false) (sym is) refl
 
 ends-none : (found : List EventFinding) → All (λ (f : EventFinding). IsOfEnd f.code) found → of_codes has_second found ≡ []
 ends-none [] are = refl
@@ -47,29 +46,20 @@ open-none : (end : Place) (b : Bool) → filter (λ (f : Finding). has_second f.
 open-none end true = refl
 open-none end false = refl
 
-own-code : (why : Code) → is_of_expansion why ≡ true → has_second why ≡ false
-own-code code.NotFound own = refl
-own-code code.MalformedInclude own = refl
-own-code code.OutOfPlace own = refl
-own-code code.NotClosed own = refl
-own-code code.MalformedMacro own = refl
-own-code code.UnknownDirective own = refl
-own-code code.Error own = refl
-own-code code.OtherDefinition own = refl
-own-code code.BadCondition own = refl
-own-code code.PastLimit own = refl
-own-code other own = absurd (let both : false ≡ true = own in cc)
+both-false : (a b : Bool) → (a || b) ≡ false → (a ≡ false) × (b ≡ false)
+both-false true b h = absurd (let both : true ≡ false = h in cc)
+both-false false b h = (refl, h)
 
-event-none : (n : ℕ) (e : Event) (rest : List EventFinding) → has_own_code e ≡ true → of_codes has_second (event_finding (n, e) ++ rest) ≡ of_codes has_second rest
-event-none n (event.Fault place why text) rest own =
-    ap (λ b. cond b (found_at n place why text ∷ of_codes has_second rest) (of_codes has_second rest)) (own-code why own)
-event-none n other rest own = refl
+event-none : (n : ℕ) (e : Event) (rest : List EventFinding) → may_have_second e ≡ false → of_codes has_second (event_finding (n, e) ++ rest) ≡ of_codes has_second rest
+event-none n (event.Fault place code text) rest none =
+    ap (λ b. cond b (found_at n place code text ∷ of_codes has_second rest) (of_codes has_second rest)) none
+event-none n other rest none = refl
 
-events-none : (n : ℕ) (events : List Event) → All (λ (e : Event). has_own_code e ≡ true) events → of_codes has_second (flat_map event_finding (enumerate_from n events)) ≡ []
-events-none n [] own = refl
-events-none n (e ∷ events) own =
-    let is : Event → Type 0 = λ (e : Event). has_own_code e ≡ true in
-    event-none n e (flat_map event_finding (enumerate_from (n + 1) events)) (All-head is e events own) ∙ events-none (n + 1) events (All-tail is e events own)
+events-none : (n : ℕ) (events : List Event) → list_any may_have_second events ≡ false → of_codes has_second (flat_map event_finding (enumerate_from n events)) ≡ []
+events-none n [] none = refl
+events-none n (e ∷ events) none =
+    let parts = both-false (may_have_second e) (list_any may_have_second events) none in
+    event-none n e (flat_map event_finding (enumerate_from (n + 1) events)) parts.0 ∙ events-none (n + 1) events parts.1
 
 -- ---- all that is found
 
@@ -83,7 +73,7 @@ found-numbers : (events : List Event) (found : List EventFinding)
 found-numbers events [] = refl
 found-numbers events (f ∷ found) = ap (λ l. token_number events f.event ∷ l) (found-numbers events found)
 
-module _ (end : Place) (events : List Event) (own : All (λ (e : Event). has_own_code e ≡ true) events)
+module _ (end : Place) (events : List Event) (plain : list_any may_have_second events ≡ false)
     (ends : (l : Listed) → All (λ (f : EventFinding). IsOfEnd f.code) (closing_finding (outcome_of events).facts l))
   where
     abbrev found : List EventFinding
@@ -114,15 +104,15 @@ module _ (end : Place) (events : List Event) (own : All (λ (e : Event). has_own
           (told-ordered assigned.told assigned.are.ordered)
           (λ n.
           at-ordered has_second n (outcome_of events).found
-          ∙ ap (λ (l : List EventFinding). at n (bare_found l)) (outcome-found has_second events (events-none 0 events own))
+          ∙ ap (λ (l : List EventFinding). at n (bare_found l)) (outcome-found has_second events (events-none 0 events plain))
           ∙ sym (told-at events assigned.told assigned.are n))
 
       pub assigned-codes : map (λ (f : Finding). f.code) (filter (λ (f : Finding). has_second f.code) (compile end events).findings) ≡ map (λ t. t.code) assigned.told
       assigned-codes =
           ap (map (λ (f : Finding). f.code)) all-found ∙ found-codes events found ∙ ap (map (λ (f : EventFinding). f.code)) same
-          ∙ sym (told-by (λ (e : ℕ) (why : Code). why) assigned.told)
+          ∙ sym (told-by (λ (e : ℕ) (code : Code). code) assigned.told)
 
       pub assigned-numbers : map (λ (f : Finding). f.number) (filter (λ (f : Finding). has_second f.code) (compile end events).findings) ≡ map (λ t. token_number events t.event) assigned.told
       assigned-numbers =
           ap (map (λ (f : Finding). f.number)) all-found ∙ found-numbers events found ∙ ap (map (λ (f : EventFinding). token_number events f.event)) same
-          ∙ sym (told-by (λ (e : ℕ) (why : Code). token_number events e) assigned.told)
+          ∙ sym (told-by (λ (e : ℕ) (code : Code). token_number events e) assigned.told)

@@ -1,24 +1,23 @@
 //! The second places of what is found in a root, which are worked out when they are asked for.
 
-ghost use Rattle.std.specs.Prelude.{◌≡◌, ℕ, IfOk, List, Option, filter, map};
-ghost use Rattle.idl_event.specs.declared.asked.key.RootAnswer.{RootAnswer};
-ghost use Rattle.idl_event.specs.declared.asked.key.RootKey.{RootKey};
+ghost use Rattle.std.specs.Prelude.{◌≡◌, IfOk, List, false, filter, map};
+ghost use Rattle.std.specs.List.{list_any};
+ghost use Rattle.idl_event.specs.declared.told.event.Event.{Event};
 ghost use Rattle.idl_fault.specs.declared.place.Place.{Place};
 ghost use Rattle.idl_finding.specs.Number.{token_number};
 ghost use Rattle.idl_inputs.specs.Bank.{bank_of};
-ghost use Rattle.idl_prep.specs.Root.{expanded};
 ghost use Rattle.idl_related.specs.FirstDeclared.{AreAssigned};
 ghost use Rattle.idl_related.specs.Told.{has_second};
 ghost use Rattle.idl_related.specs.declared.second.Related.{Related as Second};
 ghost use Rattle.idl_root.specs.Compile.{compile};
-ghost use Rattle.idl_sources.specs.Related.{AreRelatedOver};
+ghost use Rattle.idl_sources.specs.Related.{AreRelatedOver, may_have_second};
 
 use crate::sources::Sources;
 use idl_base::Seq;
 use idl_event::Expansion;
 use idl_finding::Finding;
 use idl_memo::{Kept, Meter, run_anew};
-use idl_prep::{RootTask, expansion_codes};
+use idl_prep::RootTask;
 use idl_related::{Related, related_of, unrelated};
 use idl_root::ending;
 use idl_source::Name;
@@ -49,23 +48,21 @@ pub fn related_over(
 }
 
 /// Of all that is found in a root the findings that may have second places are just those that are told of, one after another: of the same
-/// codes, and at tokens of the same numbers in their lines. So what is assigned in order is each finding's own. This does nothing: it
-/// carries the law.
+/// codes, and at tokens of the same numbers in their lines. So what is assigned in order is each finding's own.
+///
+/// It is supposed that no fault of the preprocessor has such a code. This does nothing: it carries the law.
 pub fn assigning()
-    ensures codes { (bank : RootKey → Option RootAnswer) (root : List ℕ) (end : Place)
-        (related : List (List Second)) → let events = (expanded root bank).0 in
-        let findings = (compile end events).findings in
-        (assigned : AreAssigned events findings related)
-        → map (λ f. f.code) (filter (λ f. has_second f.code) findings)
+    ensures codes { (end : Place) (events : List Event) (related : List (List Second))
+        → list_any may_have_second events ≡ false
+        → (assigned : AreAssigned events (compile end events).findings related)
+        → map (λ f. f.code) (filter (λ f. has_second f.code) (compile end events).findings)
         ≡ map (λ t. t.code) assigned.told }
-    ensures numbers { (bank : RootKey → Option RootAnswer) (root : List ℕ) (end : Place)
-        (related : List (List Second)) → let events = (expanded root bank).0 in
-        let findings = (compile end events).findings in
-        (assigned : AreAssigned events findings related)
-        → map (λ f. f.number) (filter (λ f. has_second f.code) findings)
+    ensures numbers { (end : Place) (events : List Event) (related : List (List Second))
+        → list_any may_have_second events ≡ false
+        → (assigned : AreAssigned events (compile end events).findings related)
+        → map (λ f. f.number) (filter (λ f. has_second f.code) (compile end events).findings)
         ≡ map (λ t. token_number events t.event) assigned.told }
 {
-    // They do nothing: they carry laws of codes, of expansions and of what is told at the end.
-    expansion_codes();
+    // It does nothing: it carries a law of what is told at the end.
     ending();
 }
