@@ -1,5 +1,4 @@
 pub mod Apart
-pub mod Codes
 pub mod Expanding
 pub mod Items
 pub mod Key

@@ -1,7 +1,6 @@
 pub mod AgainLemmas
 pub mod AllowanceLemmas
 pub mod ArrivalLemmas
-pub mod CodeLemmas
 pub mod ConditionLemmas
 pub mod DigestLemmas
 pub mod DirectiveLemmas

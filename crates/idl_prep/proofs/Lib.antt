@@ -1,5 +1,4 @@
 pub mod CandidateLemmas
-pub mod CodeLemmas
 pub mod DirectiveLemmas
 pub mod GroupLemmas
 pub mod IncludeLemmas

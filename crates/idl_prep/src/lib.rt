@@ -14,7 +14,6 @@ mod directives;
 mod walk;
 
 pub use directives::candidate::first_candidate;
-pub use walk::codes::expansion_codes;
 pub use walk::explorer::{Explorer, FileWalk, OpenFile, Waypoint};
 pub use walk::root_task::{RootTask, absent};
 

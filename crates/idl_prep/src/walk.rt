@@ -1,7 +1,6 @@
 //! The walk over the lines of a root.
 
 pub(crate) mod branch;
-pub(crate) mod codes;
 pub(crate) mod explorer;
 pub(crate) mod file;
 pub(crate) mod groups;
