@@ -1,5 +1,4 @@
 mod FindingLemmas
-pub mod FoundLemmas
 pub mod LineNumberLemmas
 pub mod NumberLemmas
 pub mod OrderLemmas

@@ -11,12 +11,12 @@ abbrev pub at : ℕ → List EventFinding → List EventFinding
 at n found = filter (λ f. nat_eq n f.event) found
 
 -- none names an event before this one
-abbrev pub AreFrom : ℕ → List EventFinding → Type 0
+abbrev AreFrom : ℕ → List EventFinding → Type 0
 AreFrom n [] = Unit {0}
 AreFrom n (f ∷ found) = (n ≤ f.event) × AreFrom n found
 
 -- none names an event before that of an earlier one
-abbrev pub AreOrdered : List EventFinding → Type 0
+abbrev AreOrdered : List EventFinding → Type 0
 AreOrdered [] = Unit {0}
 AreOrdered (f ∷ found) = AreFrom f.event found × AreOrdered found
 
@@ -46,7 +46,7 @@ left true f g l m h = ap (drop 1) h
 left false f g l m h = h
 
 -- two lists in order are one, where each event has the same findings in both
-pub ordered-once : (a b : List EventFinding) → AreOrdered a → AreOrdered b → ((n : ℕ) → at n a ≡ at n b) → a ≡ b
+ordered-once : (a b : List EventFinding) → AreOrdered a → AreOrdered b → ((n : ℕ) → at n a ≡ at n b) → a ≡ b
 ordered-once [] [] p q same = refl
 ordered-once [] (g ∷ b) p q same =
     let is : nat_eq g.event g.event ≡ true = grind (arith, tests) in
@@ -129,7 +129,7 @@ at-in_order n [] = refl
 at-in_order n (f ∷ found) =
     at-among n f (in_order found) ∙ ap (λ l. cond (nat_eq n f.event) (f ∷ l) l) (at-in_order n found)
 
-pub ordered-in_order : (found : List EventFinding) → AreOrdered (in_order found)
+ordered-in_order : (found : List EventFinding) → AreOrdered (in_order found)
 ordered-in_order [] = tt
 ordered-in_order (f ∷ found) = ordered-among f (in_order found) (ordered-in_order found)
 
@@ -157,7 +157,7 @@ pub in_order-rises : (found : List EventFinding) → IsNonDecreasingBy (λ f. f.
 in_order-rises found = rises-ordered (in_order found) (ordered-in_order found)
 
 -- numbers that tie are one
-pub tied : (a b : ℕ) → not (is_lt (nat_cmp a b)) && not (is_lt (nat_cmp b a)) ≡ nat_eq a b
+tied : (a b : ℕ) → not (is_lt (nat_cmp a b)) && not (is_lt (nat_cmp b a)) ≡ nat_eq a b
 tied a b = (λ i. not (less a b i) && not (less b a i)) ∙ grind (arith, tests)
 
 -- what a stable sort by the event gives

@@ -1,2 +1,1 @@
 mod FirstDeclaredLemmas
-pub mod FoundLemmas

@@ -11,7 +11,6 @@ mod DetailLemmas
 mod DigestLemmas
 mod FactsTold
 mod FollowingLemmas
-pub mod FoundLemmas
 mod FrontLemmas
 mod JudgingLemmas
 mod KeptLemmas

@@ -1,10 +1,7 @@
--- What is wrong with a name at the end of a root: where it is told, at the first of its places, and
--- by which codes.
-use Rattle.std.specs.Prelude.{◌≡◌, ◌⊎◌, List, [], ◌∷◌, All, Some}
+-- Where what is wrong with a name at the end of a root is told: at the first of its places.
+use Rattle.std.specs.Prelude.{◌≡◌, List, [], ◌∷◌, All, Some}
 use Rattle.idl_env.specs.Facts.{UnitFacts}
 use Rattle.idl_event.specs.declared.told.event.Event.{Event}
-use Rattle.idl_fault.specs.declared.code.Code.{Code}
-use Rattle.idl_fault.specs.declared.code.Code.TheVariants.{InterfaceNeverDefined, NeverDefined}
 use Rattle.idl_finding.specs.Findings.{numbered}
 use Rattle.idl_root.specs.NamePlaces.{places_at}
 use Rattle.idl_root.specs.Printed.{Listed, closing_finding}
@@ -28,7 +25,3 @@ StandsAtFirst (place ∷ places) f = StandsAt place f
 abbrev pub ClosesAtFirst : List Event → List UnitFacts → List PlacedName → Listed → Type 0
 ClosesAtFirst events facts names l =
     All (λ f. StandsAtFirst (places_at l.path names) (numbered events f)) (closing_finding facts l)
-
--- E75 or W80: what is never defined is found at the end alone
-abbrev pub IsOfEnd : Code → Type 0
-IsOfEnd code = (code ≡ NeverDefined) ⊎ (code ≡ InterfaceNeverDefined)

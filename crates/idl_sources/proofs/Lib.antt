@@ -1,2 +1,1 @@
-mod AssignedLemmas
 pub mod CompileLemmas

@@ -15,5 +15,5 @@ pub use idl_root;
 pub use idl_root::{
     Compiled, DeclaredPlace, DetailedEntry, Details, Finding, Row, SitedToken, UsedName,
 };
-pub use related::{assigning, related_over};
+pub use related::related_over;
 pub use sources::Sources;

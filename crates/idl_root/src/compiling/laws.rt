@@ -6,7 +6,7 @@ ghost use Rattle.idl_env.specs.Facts.{UnitFacts, answers};
 ghost use Rattle.idl_event.specs.declared.told.event.Event.{Event};
 ghost use Rattle.idl_fault.specs.declared.place.Place.{Place};
 ghost use Rattle.idl_root_blocks.specs.idl_check_laws.Closing.{AreTold};
-ghost use Rattle.idl_root.specs.Closing.{ClosesAtFirst, IsOfEnd};
+ghost use Rattle.idl_root.specs.Closing.{ClosesAtFirst};
 ghost use Rattle.idl_root.specs.Compile.{compile, outcome_of};
 ghost use Rattle.idl_root.specs.Details.{details, printed};
 ghost use Rattle.idl_root.specs.Judged.{HasTurns, facts_after, judged_after};
@@ -83,15 +83,6 @@ pub fn closing()
     ahead();
     refusal();
     acceptance();
-    listed_row();
-}
-
-/// What is wrong with a name at the end of a root is told as E75 or W80. This does nothing: it carries the law.
-pub fn ending()
-    ensures { (facts : List UnitFacts) (l : Listed)
-        → All (λ f. IsOfEnd f.code) (closing_finding facts l) }
-{
-    // It does nothing: it carries laws of the listing.
     listed_row();
 }
 
