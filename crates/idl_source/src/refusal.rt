@@ -35,7 +35,7 @@ pub enum Refusal {
     /// There is a root of that name already.
     #[error("root already there")]
     RootThere,
-    /// Memory was refused where something had to grow. A few calls answer so, too, where they can't go on for a reason of their own.
+    /// Memory was refused where something had to grow. Few calls answer so where they can't go on otherwise.
     #[error("no memory")]
     NoMemory,
     /// The input ended inside a command.

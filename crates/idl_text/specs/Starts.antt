@@ -1,8 +1,7 @@
 -- Where the tokens of a file begin, and the column of one that is asked for.
--- A column is found when it is asked for, in a chunk, of which only white space and comments have to
--- be told apart from tokens. A chunk has some 64 lines, unless lines are joined or a comment goes
--- over them. So a call doesn't grow with the file otherwise, and takes no memory. Who asks for many
--- goes over each chunk once, and holds what begins on its lines.
+-- A column is found when it is asked for, in a chunk of some 64 lines, of which only white space
+-- and comments have to be told apart from tokens. So a call doesn't grow with the file, and takes
+-- no memory. Who asks for many goes over each chunk once, and holds what begins on its lines.
 use Rattle.std.specs.Prelude.{◌≡◌, ◌+◌, ◌<◌, ◌≤◌, ℕ, zero, suc, List, [], ◌∷◌, ◌++◌, drop, filter, get_or, length, map, nat_eq, slice_get, take, Option, None, Some, if◌then◌else◌}
 use Rattle.std.specs.List.{starts_with}
 use Rattle.std.specs.Str.{bytes_eq}
@@ -93,8 +92,8 @@ AreLinesOf lines before starts =
     (index : ℕ) → index < length starts
     → get_or starts index [] ≡ on_line (before + index + 1) (starts_of lines)
 
--- Tokens of a chunk behind so many lines of a file, where they begin: on each of so many lines,
--- they are those of the file.
+-- Tokens of a chunk behind so many lines of a file, where they begin: on each of so many lines, they
+-- are those of the file.
 abbrev pub IsLaidOut : List (List ℕ) → ChunkStarts → Type 0
 IsLaidOut lines chunk =
     (line : ℕ) → chunk.before < line → line ≤ chunk.before + chunk.count

@@ -101,8 +101,7 @@ impl Lexed {
         })
     }
 
-    /// How many lines are before the chunk in which this line is, if it is one of the file. No clause says so: who keeps what was found in
-    /// a chunk finds it again by this number, and only cost rests on it.
+    /// How many lines are before the chunk in which this line is, if it is one of the file.
     pub fn lines_before(&self, line: u32) -> usize {
         match self.chunks.chunk_of(line as usize) {
             Some(placed) => placed.lines_before,
