@@ -14,8 +14,8 @@ use Rattle.idl_related.specs.FirstDeclared.{KeepsOrder, Names, UnitsBefore, assi
 use Rattle.idl_check.specs.walk.Verdict.{added}
 use Rattle.idl_related.specs.Told.{AreFew, has_second, is_redeclaration}
 use Rattle.idl_related.specs.Judged.{IsBehind}
-use Rattle.idl_related.specs.declared.related.JudgedUnits.{JudgedUnits}
-use Rattle.idl_related.specs.declared.related.RelatedPlaces.{RelatedPlaces}
+use Rattle.idl_related.specs.declared.judged.JudgedUnits.{JudgedUnits}
+use Rattle.idl_related.specs.declared.told.RelatedPlaces.{RelatedPlaces}
 use Rattle.idl_related.specs.declared.second.Related.{Related}
 use Rattle.idl_related.specs.declared.second.Second.{Second}
 use Rattle.idl_related.specs.declared.second.TokenPosition.{TokenPosition}

@@ -20,7 +20,7 @@ use Rattle.idl_finding.specs.Findings.{site_of, tokens_of}
 use Rattle.idl_finding.specs.Number.{token_number}
 use Rattle.idl_finding.specs.declared.finding.Finding.{Finding}
 use Rattle.idl_related.specs.Told.{has_second, is_redeclaration}
-use Rattle.idl_related.specs.declared.related.RelatedPlaces.{RelatedPlaces}
+use Rattle.idl_related.specs.declared.told.RelatedPlaces.{RelatedPlaces}
 use Rattle.idl_related.specs.declared.second.Reason.TheVariants as reason
 use Rattle.idl_related.specs.declared.second.Related.{Related}
 use Rattle.idl_related.specs.declared.second.Second.{Second}

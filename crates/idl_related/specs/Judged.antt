@@ -5,9 +5,9 @@ use Rattle.idl_event.specs.declared.told.site.Site.{Site}
 use Rattle.idl_env.specs.Facts.{UnitFacts}
 use Rattle.idl_related.specs.FirstDeclared.{UnitsBefore, names_after, told_by, without_other_places}
 use Rattle.idl_related.specs.Related.{AreOfFinding}
-use Rattle.idl_related.specs.declared.related.JudgedUnits.{JudgedUnits}
-use Rattle.idl_related.specs.declared.related.RelatedPlaces.{RelatedPlaces}
-use Rattle.idl_related.specs.declared.related.SpelledUnit.{SpelledUnit}
+use Rattle.idl_related.specs.declared.judged.JudgedUnits.{JudgedUnits}
+use Rattle.idl_related.specs.declared.told.RelatedPlaces.{RelatedPlaces}
+use Rattle.idl_related.specs.declared.judged.SpelledUnit.{SpelledUnit}
 use Rattle.idl_unit.specs.Units.{units_of}
 use Rattle.idl_unit.specs.declared.unit.Unit.{Unit as RootUnit}
 use Rattle.idl_unit.specs.declared.unit.UnitText.{UnitText}

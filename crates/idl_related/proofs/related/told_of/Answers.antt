@@ -4,7 +4,7 @@ use Rattle.std.specs.List.Sorted.{IsNonDecreasingBy}
 use Rattle.idl_related.specs.FirstDeclared.{AreOfFaults, KeepsOrder, no_units, told_after, without_other_places}
 use Rattle.idl_related.specs.Judged.{AreOfFindings, units_before}
 use Rattle.idl_related.specs.Related.{HasRedeclaration}
-use Rattle.idl_related.specs.declared.related.RelatedPlaces.{RelatedPlaces}
+use Rattle.idl_related.specs.declared.told.RelatedPlaces.{RelatedPlaces}
 use Rattle.idl_related.proofs.FirstDeclaredLemmas.{IfOk-both, kept-without}
 use Rattle.idl_related.proofs.related.told_of.Goals as goal
 use Rattle.idl_unit.specs.Units.{units_of}

@@ -2,7 +2,7 @@ use Rattle.std.proofs.Common.{◌≡◌, ◌∙◌, true, false, subst, sym}
 use Rattle.std.proofs.lemmas.List.Elements.{All-nil}
 use Rattle.idl_related.specs.Judged.{AreOfFindings}
 use Rattle.idl_related.specs.Related.{AreOfFinding}
-use Rattle.idl_related.specs.declared.related.RelatedPlaces.{RelatedPlaces}
+use Rattle.idl_related.specs.declared.told.RelatedPlaces.{RelatedPlaces}
 use Rattle.idl_related.proofs.FirstDeclaredLemmas.{none-redeclared}
 use Rattle.idl_related.proofs.related.unrelated.Goals as goal
 
