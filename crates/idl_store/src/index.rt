@@ -110,6 +110,18 @@ impl<R: Ranked> Index<R> {
         shrink_map(&mut self.buckets);
     }
 
+    // The results of a bucket. It takes no memory.
+    pub(crate) fn bucket(&self, bucket: u64) -> &[Numbered<R>]
+        ensures among { All (λ one. Contains self.now (numbered bucket one)) result.now }
+        ensures all { (e : (R × ℕ) × ℕ) → Contains self.now e → e.0.1 ≡ bucket
+            → Any (λ one. numbered bucket one ≡ e) result.now }
+    {
+        match self.buckets.get(&bucket) {
+            Some(results) => results.as_slice(),
+            None => &[],
+        }
+    }
+
     // The number of a result of this bucket that a probe looks for, or the gap where one would go. It takes no memory.
     pub(crate) fn find<P: Probe<R>>(&self, bucket: u64, probe: &P) -> Result<usize, Gap>
         ensures found { IfOk result (λ number.
