@@ -9,7 +9,7 @@ ghost use Rattle.idl_prep.specs.Root.{expanded, expansion};
 ghost use Rattle.idl_sources.specs.idl_root.AsBefore.{AreListsLeft, IsAsBefore, IsCompiledOf, kept_lists};
 ghost use Rattle.idl_finding.specs.Findings.{finding_row};
 ghost use Rattle.idl_sources.specs.idl_root.Results.{ExpandsNone, IsKeptOf, root_marks};
-ghost use Rattle.idl_sources.specs.idl_root.Turns.{IsWithinWords};
+ghost use Rattle.idl_sources.specs.idl_root.Turns.{FitsU64};
 ghost use Rattle.idl_sources.specs.Compile.{compile_over, end_of};
 ghost use Rattle.idl_inputs.specs.Project.{Project};
 ghost use Rattle.idl_project.specs.Renewed.{IsDrafted};
@@ -42,7 +42,7 @@ pub fn compile_kept<B: RootBank>(
     ensures compiled { let name = root.entry.0.now.value.text in
         IfOk result (λ r. r.0 ≡ compile_over (B.at bank.now) name) }
     ensures within { let name = root.entry.0.now.value.text in
-        OnOk result (IsWithinWords (expanded name (B.at bank.now)).0) }
+        OnOk result (FitsU64 (expanded name (B.at bank.now)).0) }
     ensures marks { let name = root.entry.0.now.value.text in
         IfOk result (λ r. unwrap_or r.1 root.entry.1.marks.now.value
         ≡ root_marks (expanded name (B.at bank.now)).0) }

@@ -1,21 +1,23 @@
 //! The second places of all that is found in a root.
 
-ghost use Rattle.std.specs.Prelude.{◌≡◌, ◌≤◌, ◌+◌, ◌++◌, ◌∷◌, [], true, All, IfOk, IfSome, List, OnOk, drop, flat_map, length, map, option_to_list, reverse, slice_get};
+ghost use Rattle.std.specs.Prelude.{◌≡◌, ◌≤◌, ◌+◌, ◌++◌, ◌∷◌, [], true, All, IfOk, IfSome, List, None, OnOk, drop, flat_map, length, map, option_to_list, reverse, slice_get};
 ghost use Rattle.idl_event.specs.declared.told.event.Event.{Event};
-ghost use Rattle.std.specs.List.{fold, list_any};
+ghost use Rattle.std.specs.List.{list_any};
 ghost use Rattle.std.specs.List.Sorted.{IsNonDecreasingBy, IsPermutation};
 ghost use Rattle.std.specs.Option.{option_copied};
-ghost use Rattle.idl_related.specs.Already.{AreToldOf, added, already, boundary, dealt, names_behind, names_over, pinned, related_at, seconds_at, told_after, told_for, verdict_over, with_name};
-ghost use Rattle.idl_related.specs.Related.{AreAtTokens, AreOfFinding, AreRelated, AskAlready, IsAtToken};
-ghost use Rattle.idl_related.specs.Judged.{AreTold, IsBehind, IsOfRoot};
-ghost use Rattle.idl_related.specs.Told.{AreFew, has_second, is_already};
+ghost use Rattle.idl_related.specs.FirstDeclared.{AreOfFaults, KeepsOrder, assigned, first_declaration_over, names_behind, related_at, seconds_at, told_after, told_for, without_other_places};
+ghost use Rattle.idl_env.specs.Facts.{boundary};
+ghost use Rattle.idl_check.specs.walk.Verdict.{added, verdict_over};
+ghost use Rattle.idl_related.specs.Related.{AreAtTokens, AreOfFinding, AreRelated, HasRedeclaration, IsAtToken};
+ghost use Rattle.idl_related.specs.Judged.{AreOfFindings, IsBehind, IsOfRoot, before_spelled, text_and_sites, units_before};
+ghost use Rattle.idl_related.specs.Told.{AreFew, has_second, is_redeclaration};
 ghost use Rattle.idl_finding.specs.Findings.{site_of, tokens_of};
 ghost use Rattle.idl_finding.specs.declared.finding.Finding.{Finding as FoundFinding};
 ghost use Rattle.idl_unit.specs.Units.{units_of};
 ghost use Rattle.idl_unit.specs.declared.unit.Unit.TheVariants.{Spelled};
 
 use crate::about::About;
-use crate::already::{add_names, already_in, names_in, seconds_at};
+use crate::first_declared::{add_names, first_declaration, names_in, seconds_at};
 use crate::known::KnownUnits;
 use crate::second::{Reason, Related, Second, TokenPosition};
 use idl_base::{Bytes, Seq};
@@ -29,8 +31,10 @@ use idl_memo::Journal;
 use idl_unit::{Fault, SiteRun, Unit, UnitText, split};
 use std::alloc::{AllocError, Global};
 
-/// For each of these findings of what a root expands to, in order, its second places. The units are judged for it, and nothing of that is
-/// kept. Where no finding has second places none is judged.
+/// For each of these findings of what a root expands to, in order, its second places. They are to be all that is found in the root: where
+/// one is a redeclaration the places are those of all, one after another, and of some of them alone each may have another one's.
+///
+/// The units are judged for it, and nothing of that is kept. Where no finding has second places none is judged.
 pub fn related_of(
     alloc: Global,
     expansion: &Expansion,
@@ -51,9 +55,9 @@ fn told_of(
     expansion: &Expansion,
     findings: &[Finding],
 ) -> Result<Vec<RelatedPlaces>, AllocError>
-    ensures told { IfOk result (λ told. AreTold expansion.now told.items) }
-    ensures already { IfOk result (λ told.
-        AskAlready findings.now → AreToldOf expansion.now (reverse told.items)) }
+    ensures told { IfOk result (λ told. AreOfFindings expansion.now told.items) }
+    ensures first_declared { IfOk result (λ told.
+        HasRedeclaration findings.now → AreOfFaults expansion.now (reverse told.items)) }
 {
     let units = split(alloc, expansion)?;
     let mut all = JudgedUnits::new(alloc, expansion, units.as_slice(), findings)?;
@@ -106,6 +110,13 @@ impl RelatedPlaces {
     }
 }
 
+// A unit, by its number.
+#[derive(Clone, Copy)]
+struct NumberedUnit<'a> {
+    number: usize,
+    unit: &'a Unit,
+}
+
 // A unit of tokens or of a pragma, by its number, with the environment before it.
 #[derive(Clone, Copy)]
 struct SpelledUnit<'a> {
@@ -120,7 +131,7 @@ struct JudgedUnits<'a> {
     expansion: &'a Expansion,
     known: KnownUnits<'a>,
     /// Whether anything asks where names are declared first.
-    asks_already: bool,
+    asks_first: bool,
     /// The names that the units declare, each at its key with where it is declared first, if that is asked.
     first: Table<DigestedKey, TokenPosition>,
     told: Vec<RelatedPlaces>,
@@ -131,7 +142,7 @@ impl<'a> Drop for JudgedUnits<'a> {
         let JudgedUnits {
             expansion: _expansion,
             known: _known,
-            asks_already: _asks_already,
+            asks_first: _asks_first,
             first: _first,
             told: _told,
         } = self;
@@ -150,7 +161,7 @@ impl<'a> JudgedUnits<'a> {
         ensures root { IfOk result IsOfRoot }
         ensures expansion { IfOk result (λ judged. judged.expansion.now ≡ expansion.now) }
         ensures asks { IfOk result (λ judged.
-            judged.asks_already ≡ list_any (λ f. is_already f.code) findings.now) }
+            judged.asks_first ≡ list_any (λ f. is_redeclaration f.code) findings.now) }
         ensures empty { IfOk result (λ judged. (judged.first ≡ []) × (judged.told.items ≡ [])) }
     {
         let asks_uses = findings
@@ -160,7 +171,7 @@ impl<'a> JudgedUnits<'a> {
         Ok(JudgedUnits {
             expansion,
             known,
-            asks_already: ask_already(findings),
+            asks_first: has_redeclaration(findings),
             first: Table::new(alloc),
             told: Vec::new(alloc),
         })
@@ -171,35 +182,40 @@ impl<'a> JudgedUnits<'a> {
         requires { IsOfRoot self.old }
         ensures root { OnOk result (IsOfRoot self.new) }
         ensures expansion { OnOk result (self.new.expansion.now ≡ self.old.expansion.now) }
-        ensures told { OnOk result (self.old.asks_already ≡ true
-            → map pinned self.new.told.items
-            ≡ map pinned self.old.told.items
-            ++ told_after self.old.expansion.now [] self.old.first 0
+        ensures told { OnOk result (self.old.asks_first ≡ true
+            → map without_other_places self.new.told.items
+            ≡ map without_other_places self.old.told.items
+            ++ told_after self.old.expansion.now (units_before self.old [] 0)
             (units_of self.old.expansion.now)) }
     {
         let mut env = Env::new(self.known.alloc)?;
         let mut scratch = Scratch::new(self.known.alloc);
         let units = self.known.units;
         'units: for number in 0..units.len() {
-            env = self.pass(env, &mut scratch, number, &units[number])?;
+            let unit = NumberedUnit {
+                number,
+                unit: &units[number],
+            };
+            env = self.pass(env, &mut scratch, unit)?;
         }
         Ok(())
     }
 
-    // Behind the unit with a number, which is next: the environment with what it adds.
+    // Behind a unit, which is next: the environment with what it adds.
     fn pass(
         &mut self,
         env: Env,
         scratch: &mut Scratch,
-        number: usize,
-        unit: &Unit,
+        unit: NumberedUnit<'_>,
     ) -> Result<Env, AllocError>
         requires { IsOfRoot self.old }
         ensures root { OnOk result (IsOfRoot self.new) }
-        ensures behind { OnOk result (IsBehind self.old self.new env number unit.now) }
-        ensures env { IfOk result (λ after. after ≡ env ++ added env unit.now) }
+        ensures behind { OnOk result
+            (IsBehind self.old self.new (units_before self.old env unit.entry.number)
+            unit.entry.unit.now) }
+        ensures env { IfOk result (λ after. after ≡ env ++ added env unit.entry.unit.now) }
     {
-        match self.writes(&env, scratch, number, unit)? {
+        match self.writes(&env, scratch, unit)? {
             Some(writes) => {
                 self.known.pass(&env, writes.get())?;
                 env.add_own(writes, &mut scratch.room)
@@ -213,23 +229,25 @@ impl<'a> JudgedUnits<'a> {
         &mut self,
         env: &Env,
         scratch: &mut Scratch,
-        number: usize,
-        unit: &Unit,
+        unit: NumberedUnit<'_>,
     ) -> Result<Option<Writes>, AllocError>
         requires { IsOfRoot self.old }
         ensures root { OnOk result (IsOfRoot self.new) }
-        ensures behind { OnOk result (IsBehind self.old self.new env.now number unit.now) }
-        ensures writes { IfOk result (λ writes. option_to_list writes ≡ added env.now unit.now) }
+        ensures behind { OnOk result
+            (IsBehind self.old self.new (units_before self.old env.now unit.entry.number)
+            unit.entry.unit.now) }
+        ensures writes { IfOk result (λ writes.
+            option_to_list writes ≡ added env.now unit.entry.unit.now) }
     {
-        match unit {
+        match unit.unit {
             Unit::Spelled(text, sites) => {
-                let unit = SpelledUnit {
-                    number,
+                let spelled = SpelledUnit {
+                    number: unit.number,
                     env,
                     text,
                     sites,
                 };
-                Ok(Some(self.judge(scratch, unit)?))
+                Ok(Some(self.judge(scratch, spelled)?))
             }
             Unit::Entered(_file, _inside) => Ok(Some(boundary(env.alloc(), Step::Enters)?)),
             Unit::Left(_file, _inside) => Ok(Some(boundary(env.alloc(), Step::Leaves)?)),
@@ -242,7 +260,7 @@ impl<'a> JudgedUnits<'a> {
         requires { IsOfRoot self.old }
         ensures root { OnOk result (IsOfRoot self.new) }
         ensures behind { OnOk result
-            (IsBehind self.old self.new unit.entry.env.now unit.entry.number
+            (IsBehind self.old self.new (before_spelled self.old unit.entry)
             (Spelled unit.entry.text.now unit.entry.sites.now)) }
         ensures writes { IfOk result (λ writes.
             writes ≡ (verdict_over unit.entry.env.now unit.entry.text.now).writes) }
@@ -262,15 +280,14 @@ impl<'a> JudgedUnits<'a> {
         requires { IsOfRoot self.old }
         ensures root { OnOk result (IsOfRoot self.new) }
         ensures expansion { OnOk result (self.new.expansion.now ≡ self.old.expansion.now) }
-        ensures asks { OnOk result (self.new.asks_already ≡ self.old.asks_already) }
-        ensures names { OnOk result (self.old.asks_already ≡ true
+        ensures asks { OnOk result (self.new.asks_first ≡ self.old.asks_first) }
+        ensures names { OnOk result (self.old.asks_first ≡ true
             → self.new.first
-            ≡ names_behind unit.entry.env.now unit.entry.number unit.entry.text.now fault
-            self.old.first) }
-        ensures told { OnOk result (map pinned self.new.told.items
-            ≡ map pinned self.old.told.items
-            ++ told_for self.old.expansion.now unit.entry.env.now self.old.first unit.entry.number
-            unit.entry.text.now unit.entry.sites.now fault) }
+            ≡ names_behind (before_spelled self.old unit.entry) unit.entry.text.now fault) }
+        ensures told { OnOk result (map without_other_places self.new.told.items
+            ≡ map without_other_places self.old.told.items
+            ++ told_for self.old.expansion.now (before_spelled self.old unit.entry)
+            (text_and_sites unit.entry) fault) }
     {
         match fault {
             Some(fault) => self.take_fault(scratch, unit, fault),
@@ -283,14 +300,13 @@ impl<'a> JudgedUnits<'a> {
         requires { IsOfRoot self.old }
         ensures root { OnOk result (IsOfRoot self.new) }
         ensures expansion { OnOk result (self.new.expansion.now ≡ self.old.expansion.now) }
-        ensures asks { OnOk result (self.new.asks_already ≡ self.old.asks_already) }
+        ensures asks { OnOk result (self.new.asks_first ≡ self.old.asks_first) }
         ensures told { OnOk result (self.new.told.items ≡ self.old.told.items) }
-        ensures names { OnOk result (self.old.asks_already ≡ true
+        ensures names { OnOk result (self.old.asks_first ≡ true
             → self.new.first
-            ≡ fold with_name self.old.first
-            (names_over unit.entry.env.now unit.entry.number unit.entry.text.now)) }
+            ≡ names_behind (before_spelled self.old unit.entry) unit.entry.text.now None) }
     {
-        if !self.asks_already {
+        if !self.asks_first {
             return Ok(());
         }
         let names = names_in(scratch, unit.env, unit.number, unit.text)?;
@@ -307,12 +323,12 @@ impl<'a> JudgedUnits<'a> {
         requires { IsOfRoot self.old }
         ensures root { OnOk result (IsOfRoot self.new) }
         ensures expansion { OnOk result (self.new.expansion.now ≡ self.old.expansion.now) }
-        ensures asks { OnOk result (self.new.asks_already ≡ self.old.asks_already) }
+        ensures asks { OnOk result (self.new.asks_first ≡ self.old.asks_first) }
         ensures first { OnOk result (self.new.first ≡ self.old.first) }
-        ensures told { OnOk result (map pinned self.new.told.items
-            ≡ map pinned self.old.told.items
-            ++ told_for self.old.expansion.now unit.entry.env.now self.old.first unit.entry.number
-            unit.entry.text.now unit.entry.sites.now (Some fault)) }
+        ensures told { OnOk result (map without_other_places self.new.told.items
+            ≡ map without_other_places self.old.told.items
+            ++ told_for self.old.expansion.now (before_spelled self.old unit.entry)
+            (text_and_sites unit.entry) (Some fault)) }
     {
         self.tell(scratch, unit, fault)?;
         self.known.pass_faulty(unit.env, unit.text)
@@ -328,12 +344,12 @@ impl<'a> JudgedUnits<'a> {
         requires { IsOfRoot self.old }
         ensures root { OnOk result (IsOfRoot self.new) }
         ensures expansion { OnOk result (self.new.expansion.now ≡ self.old.expansion.now) }
-        ensures asks { OnOk result (self.new.asks_already ≡ self.old.asks_already) }
+        ensures asks { OnOk result (self.new.asks_first ≡ self.old.asks_first) }
         ensures first { OnOk result (self.new.first ≡ self.old.first) }
-        ensures told { OnOk result (map pinned self.new.told.items
-            ≡ map pinned self.old.told.items
-            ++ told_for self.old.expansion.now unit.entry.env.now self.old.first unit.entry.number
-            unit.entry.text.now unit.entry.sites.now (Some fault)) }
+        ensures told { OnOk result (map without_other_places self.new.told.items
+            ≡ map without_other_places self.old.told.items
+            ++ told_for self.old.expansion.now (before_spelled self.old unit.entry)
+            (text_and_sites unit.entry) (Some fault)) }
     {
         if !has_second(fault.code) {
             return Ok(());
@@ -355,13 +371,13 @@ impl<'a> JudgedUnits<'a> {
         fault: Fault,
     ) -> Result<Vec<Second>, AllocError>
         ensures few { IfOk result (λ seconds. AreFew seconds.items) }
-        ensures already { IfOk result (λ seconds.
-            is_already fault.code ≡ true → seconds.items
-            ≡ seconds_at (already fault.index self.now.first []
-            (names_over unit.entry.env.now unit.entry.number unit.entry.text.now))) }
+        ensures first_declared { IfOk result (λ seconds.
+            is_redeclaration fault.code ≡ true → seconds.items
+            ≡ seconds_at (first_declaration_over (before_spelled self.now unit.entry)
+            unit.entry.text.now fault.index)) }
     {
-        if is_already(fault.code) {
-            return self.already(scratch, unit, fault.index);
+        if is_redeclaration(fault.code) {
+            return self.first_declared(scratch, unit, fault.index);
         }
         let about = About {
             known: &self.known,
@@ -372,20 +388,20 @@ impl<'a> JudgedUnits<'a> {
         about.seconds(scratch)
     }
 
-    // Where the name at a token of a unit is declared already.
-    fn already(
+    // Where the name at a token of a unit is declared first, if that is before it.
+    fn first_declared(
         &self,
         scratch: &mut Scratch,
         unit: SpelledUnit<'_>,
         token: usize,
     ) -> Result<Vec<Second>, AllocError>
         ensures { IfOk result (λ seconds. seconds.items
-            ≡ seconds_at (already token self.now.first []
-            (names_over unit.entry.env.now unit.entry.number unit.entry.text.now))) }
+            ≡ seconds_at (first_declaration_over (before_spelled self.now unit.entry)
+            unit.entry.text.now token)) }
     {
         let alloc = unit.env.alloc();
         let own = names_in(scratch, unit.env, unit.number, unit.text)?;
-        let spot = already_in(alloc, &self.first, own.as_slice(), token)?;
+        let spot = first_declaration(alloc, &self.first, own.as_slice(), token)?;
         seconds_at(alloc, spot)
     }
 
@@ -395,7 +411,7 @@ impl<'a> JudgedUnits<'a> {
         requires few { AreFew seconds.now }
         ensures root { OnOk result (IsOfRoot self.new) }
         ensures expansion { OnOk result (self.new.expansion.now ≡ self.old.expansion.now) }
-        ensures asks { OnOk result (self.new.asks_already ≡ self.old.asks_already) }
+        ensures asks { OnOk result (self.new.asks_first ≡ self.old.asks_first) }
         ensures first { OnOk result (self.new.first ≡ self.old.first) }
         ensures told { OnOk result (self.new.told.items
             ≡ self.old.told.items
@@ -420,7 +436,7 @@ impl<'a> JudgedUnits<'a> {
         ensures units { self.new.known.units.now ≡ self.old.known.units.now }
         ensures told { self.new.told.items ≡ self.old.told.items }
         ensures expansion { self.new.expansion.now ≡ self.old.expansion.now }
-        ensures asks { self.new.asks_already ≡ self.old.asks_already }
+        ensures asks { self.new.asks_first ≡ self.old.asks_first }
         ensures first { self.new.first ≡ self.old.first }
     {
         if code == Code::NameNotFound && !are_faulty(seconds) {
@@ -491,16 +507,18 @@ impl<'a> JudgedUnits<'a> {
     // All that is told, from the last event to the first.
     fn told_backwards(self) -> Result<Vec<RelatedPlaces>, AllocError>
         requires { IsOfRoot self }
-        ensures told { IfOk result (λ told. AreTold self.entry.expansion.now told.items) }
+        ensures told { IfOk result (λ told. AreOfFindings self.entry.expansion.now told.items) }
         ensures permutation { IfOk result (λ told.
             IsPermutation self.entry.told.items (reverse told.items)) }
         ensures ordered { IfOk result (λ told.
             IsNonDecreasingBy (λ t. t.event) (reverse told.items)) }
+        ensures kept { IfOk result (λ told.
+            KeepsOrder self.entry.told.items (reverse told.items)) }
     {
         let JudgedUnits {
             expansion: _expansion,
             known: _known,
-            asks_already: _asks_already,
+            asks_first: _asks_first,
             first: _first,
             mut told,
         } = self;
@@ -585,16 +603,16 @@ fn may_have_second(findings: &[Finding]) -> bool
     findings.iter().any(|finding| has_second(finding.code))
 }
 
-// Whether of any of them a name is declared already.
-fn ask_already(findings: &[Finding]) -> bool
-    ensures { result ≡ list_any (λ f. is_already f.code) findings.now }
+// Whether any of them is a redeclaration.
+fn has_redeclaration(findings: &[Finding]) -> bool
+    ensures { result ≡ list_any (λ f. is_redeclaration f.code) findings.now }
 {
-    findings.iter().any(|finding| is_already(finding.code))
+    findings.iter().any(|finding| is_redeclaration(finding.code))
 }
 
-// Whether a name is declared that is declared already.
-fn is_already(code: Code) -> bool
-    ensures { result ≡ is_already code }
+// Whether a name is declared that is declared already in its scope.
+fn is_redeclaration(code: Code) -> bool
+    ensures { result ≡ is_redeclaration code }
 {
     match code {
         Code::AlreadyDeclared => true,
@@ -609,10 +627,10 @@ fn matched(
     mut told: Vec<RelatedPlaces>,
 ) -> Result<Seq<Seq<Related>>, AllocError>
     ensures lists { IfOk result (λ related.
-        (events : List Event) → AreTold events told.items
+        (events : List Event) → AreOfFindings events told.items
         → (length related ≡ length findings.now) × All (AreOfFinding events) related) }
-    ensures dealt { IfOk result (λ related.
-        related ≡ dealt findings.now (reverse told.items)) }
+    ensures assigned { IfOk result (λ related.
+        related ≡ assigned findings.now (reverse told.items)) }
 {
     let mut all = Vec::with_capacity(alloc, findings.len())?;
     'findings: for finding in findings {
@@ -624,13 +642,13 @@ fn matched(
 
 // What is told last, which goes; of a code that has no second places nothing.
 fn next_of(alloc: Global, code: Code, told: &mut Vec<RelatedPlaces>) -> Seq<Related>
-    ensures next { (events : List Event) → AreTold events told.old.items
+    ensures next { (events : List Event) → AreOfFindings events told.old.items
         → AreOfFinding events result }
-    ensures left { (events : List Event) → AreTold events told.old.items
-        → AreTold events told.new.items }
-    ensures dealt { (f : FoundFinding) (findings : List FoundFinding) → f.code ≡ code
-        → dealt (f ∷ findings) (reverse told.old.items)
-        ≡ result ∷ dealt findings (reverse told.new.items) }
+    ensures left { (events : List Event) → AreOfFindings events told.old.items
+        → AreOfFindings events told.new.items }
+    ensures assigned { (f : FoundFinding) (findings : List FoundFinding) → f.code ≡ code
+        → assigned (f ∷ findings) (reverse told.old.items)
+        ≡ result ∷ assigned findings (reverse told.new.items) }
 {
     if !has_second(code) {
         return Seq::new(alloc);

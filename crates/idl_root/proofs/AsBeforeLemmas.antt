@@ -2,7 +2,7 @@
 use Rattle.std.proofs.Common.{◌≡◌, ℕ, ◌+◌, Bool, List, [], ◌∷◌, ◌++◌, flat_map, length, map, refl, ap, sym, ◌∙◌, append-nil, arith, option_to_list}
 use Rattle.std.proofs.lemmas.List.{length-append, map-append}
 use Rattle.std.specs.List.{enumerate_from, sum_by}
-use Rattle.idl_env.specs.Facts.{UnitFacts, answers}
+use Rattle.idl_env.specs.Facts.{UnitFacts, answers, boundary}
 use Rattle.idl_env.specs.declared.additions.addition.Step.TheVariants.{Enters as EntersFile, Leaves as LeavesFile}
 use Rattle.idl_event.specs.declared.told.event.Event.{Event}
 use Rattle.idl_event.specs.declared.told.site.Site.{Site}
@@ -12,8 +12,8 @@ use Rattle.idl_root.specs.Compared.{entry_keys, root_keys}
 use Rattle.idl_root.specs.Compile.{all_findings, compile, findings_told, has_error, is_open, outcome_of, row_in, rows_beside}
 use Rattle.idl_finding.specs.Findings.{event_finding, finding_row}
 use Rattle.idl_root.specs.Findings.{unit_finding}
-use Rattle.idl_root.specs.Judged.{facts_after, judged_after, judged_over, verdict_over}
-use Rattle.idl_block.specs.facts.Written.{boundary}
+use Rattle.idl_root.specs.Judged.{facts_after, judged_after, judged_over}
+use Rattle.idl_root_blocks.specs.idl_check.walk.Verdict.{verdict_over}
 use Rattle.idl_root.specs.Places.{EntryPlace, declarations_of, entries_of, entries_over, root_pieces, root_text}
 use Rattle.idl_root_blocks.specs.Blocks.{cut}
 use Rattle.idl_root_blocks.specs.Met.{outermost_keys}
@@ -30,7 +30,7 @@ use Rattle.idl_finding.specs.declared.finding.Finding.{Finding}
 use Rattle.idl_root.specs.declared.kept.course.Course.{Course}
 use Rattle.idl_root.specs.declared.kept.marks.Mark.{Mark}
 use Rattle.idl_root.specs.declared.kept.marks.Mark.TheVariants as mark
-use Rattle.idl_root.specs.Turns.{IsWithinWords}
+use Rattle.idl_root.specs.Turns.{FitsU64}
 use Rattle.idl_root.proofs.FactsTold.{within-words}
 use Rattle.idl_root.proofs.TextLaws.{facts-text}
 use Rattle.idl_unit.specs.Units.{units_of}
@@ -108,7 +108,7 @@ declarations-same before units same = ap (declarations_over []) (text-same befor
 pub facts-same : (before units : List RootUnit) → AreAsBefore before units → facts_after [] units ≡ facts_after [] before
 facts-same before units same = facts-text units [] ∙ ap (facts_over []) (text-same before units same) ∙ sym (facts-text before [])
 
-pub within-same : (was events : List Event) → AreAsBefore (units_of was) (units_of events) → IsWithinWords was → IsWithinWords events
+pub within-same : (was events : List Event) → AreAsBefore (units_of was) (units_of events) → FitsU64 was → FitsU64 events
 within-same was events same within = within-words events (facts_after [] (units_of was)) (sym (facts-same (units_of was) (units_of events) same)) within.turns within.nameless
 
 -- ---- what is found in them

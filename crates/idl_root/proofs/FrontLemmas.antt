@@ -8,7 +8,7 @@ use Rattle.idl_kept.specs.Texts.{AreListsOf, DeclarationResult, Texts}
 use Rattle.idl_memo.specs.declared.meter.Meter.{Meter}
 use Rattle.idl_root.proofs.PassedLemmas.{compares-more, has-kept, passed-more}
 use Rattle.idl_root.proofs.PiecesLemmas.{facts-inside, joined}
-use Rattle.idl_root.specs.Judged.{added}
+use Rattle.idl_root_blocks.specs.idl_check.walk.Verdict.{added}
 use Rattle.idl_root.specs.Passed.{ArePassed, Compares, HasDrafts, with_kept}
 use Rattle.idl_root.specs.Results.{IsDeclarationPass}
 use Rattle.idl_root.specs.declared.kept.keeping.Keeping.{Keeping}

@@ -1,13 +1,13 @@
 -- What is kept of units: their marks and their results, each over what those before it added.
 use Rattle.std.proofs.Common.{◌≡◌, ℕ, zero, suc, ◌+◌, Bool, List, [], ◌∷◌, ◌++◌, map, refl, ap, sym, subst, ◌∙◌, add-one, append-nil, append_assoc, drop}
 use Rattle.std.proofs.lemmas.List.Elements.{All-cons, All-nil}
-use Rattle.idl_env.specs.Facts.{UnitFacts, answers}
+use Rattle.idl_env.specs.Facts.{UnitFacts, answers, boundary}
 use Rattle.idl_env.specs.declared.additions.addition.Step.TheVariants.{Enters, Leaves}
 use Rattle.idl_event.specs.declared.told.event.Event.{Event}
 use Rattle.idl_root.specs.Compile.{outcome_of}
 use Rattle.idl_root.specs.Followed.{ArePrinted, IsBehind, IsFirst, IsNext, IsPassed, WereThere, added_by, facts_of, results_from}
-use Rattle.idl_root.specs.Judged.{facts_after, verdict_over}
-use Rattle.idl_block.specs.facts.Written.{boundary}
+use Rattle.idl_root.specs.Judged.{facts_after}
+use Rattle.idl_root_blocks.specs.idl_check.walk.Verdict.{verdict_over}
 use Rattle.idl_root.specs.Places.{declarations_of, entries_of, entries_over}
 use Rattle.idl_root.specs.Printed.{Listed}
 use Rattle.idl_kept.specs.Texts.{DeclarationResult}

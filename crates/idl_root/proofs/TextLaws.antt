@@ -3,7 +3,8 @@ use Rattle.std.proofs.Common.{◌≡◌, ◌∙◌, List, [], ◌∷◌, ◌++�
 use Rattle.idl_block.specs.Blocks.{walk}
 use Rattle.idl_root_blocks.specs.idl_check.declared.walk.verdict.Verdict.{Verdict}
 use Rattle.idl_env.specs.Facts.{UnitFacts, answers}
-use Rattle.idl_root.specs.Judged.{Judged, added, facts_after, judged_after, verdict_over}
+use Rattle.idl_root.specs.Judged.{Judged, facts_after, judged_after}
+use Rattle.idl_root_blocks.specs.idl_check.walk.Verdict.{added, verdict_over}
 use Rattle.idl_root_blocks.specs.Blocks.{parts_of}
 use Rattle.idl_root_blocks.specs.Places.{facts_over, unit_ways}
 use Rattle.idl_root_blocks.specs.Units.{text_of}

@@ -4,7 +4,7 @@ use Rattle.std.proofs.lemmas.List.{append_cancel_left}
 use Rattle.std.specs.Option.{option_eq}
 use Rattle.idl_root_blocks.specs.verdicts.Standing.{AreStanding, IsBlockFront, block_end}
 use Rattle.idl_root_blocks.specs.idl_check_laws.Closing.{AreTold}
-use Rattle.idl_env.specs.Facts.{UnitFacts, answers, count_in}
+use Rattle.idl_env.specs.Facts.{UnitFacts, answers, boundary, count_in}
 use Rattle.idl_env.specs.SameAnswer.{answer_eq}
 use Rattle.idl_env.specs.SameKey.{same_key}
 use Rattle.idl_env.specs.Turns.{most_turns, turns_for}
@@ -12,7 +12,6 @@ use Rattle.idl_env.specs.declared.additions.addition.Step.TheVariants.{Enters as
 use Rattle.idl_env.specs.declared.keys.key.Key.TheVariants.{Nameless}
 use Rattle.idl_env.specs.keys.Digested.{key_equiv}
 use Rattle.idl_env.specs.keys.Key.{key_eq}
-use Rattle.idl_block.specs.facts.Written.{boundary}
 use Rattle.idl_kept.specs.Texts.{BlockResult, IsPlaced, begins_in, inner_results, unit_results, with_blocks, with_units}
 use Rattle.idl_memo.proofs.QueryLaws.{IsLogOf-run}
 use Rattle.idl_memo.specs.Fresh.{is_alike}

@@ -16,7 +16,7 @@ use Rattle.idl_root.specs.Results.{EntryResult, IsDeclarationPass, IsEntryPass, 
 use Rattle.idl_root_blocks.specs.Met.{Known}
 use Rattle.idl_root_blocks.specs.Places.{block_result, declaration_result, declarations_over}
 use Rattle.idl_root_blocks.specs.Units.{text_of}
-use Rattle.idl_root.specs.Turns.{IsWithinWords}
+use Rattle.idl_root.specs.Turns.{FitsU64}
 use Rattle.idl_root.specs.declared.compiling.compiled.Compiled.{Compiled}
 use Rattle.idl_finding.specs.declared.finding.EventFinding.{EventFinding}
 use Rattle.idl_root.specs.declared.kept.course.Course.{Course}
@@ -103,7 +103,7 @@ closing_beside (l ∷ listed) (k ∷ entries) =
 pub record IsCompiledOf (events : List Event) (compiled : Compiled) : Type 0 where
   pub end : Place
   pub rows : compiled ≡ compile end events
-  pub within : IsWithinWords events
+  pub within : FitsU64 events
 
 -- what is kept of the root at a place among all
 abbrev pub kept_lists : Keeper → ℕ → KeptLists

@@ -1,6 +1,6 @@
 -- What was kept of a root, beside the facts of the units that stand there now.
 use Rattle.std.specs.Prelude.{◌≡◌, ℕ, Bool, true, false, List, [], ◌∷◌, ◌++◌, Option, Some, All, Contains, IfSome, drop, map}
-use Rattle.idl_env.specs.Facts.{UnitFacts, World, answers, world}
+use Rattle.idl_env.specs.Facts.{UnitFacts, World, answers, boundary, world}
 use Rattle.idl_env.specs.Outside.{WorldsAgreeAround, WorldsAgreeOutside, looked_at_by}
 use Rattle.idl_env.specs.declared.additions.addition.Step.TheVariants.{Enters, Leaves, Stays}
 use Rattle.idl_env.specs.declared.keys.key.Key.{Key}
@@ -14,7 +14,6 @@ use Rattle.idl_memo.specs.declared.meter.Meter.{Meter}
 use Rattle.idl_memo.specs.declared.task.TaskKind.{TaskKind}
 use Rattle.idl_memo.specs.declared.task.TaskKind.TheVariants.{Check, Print}
 use Rattle.idl_root.specs.Changed.{ShareNone}
-use Rattle.idl_block.specs.facts.Written.{boundary}
 use Rattle.idl_root.specs.Places.{EntryPlace}
 use Rattle.idl_root_blocks.specs.Asking.{AreNoted as HaveNoted, Opened}
 use Rattle.idl_root_blocks.specs.Places.{DeclarationPlace, declaration_result, declarations_over}

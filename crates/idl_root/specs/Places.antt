@@ -9,6 +9,7 @@ use Rattle.idl_env.specs.declared.keys.key.Key.{Key}
 use Rattle.idl_event.specs.declared.told.event.Event.{Event}
 use Rattle.idl_memo.specs.Fresh.{Place}
 use Rattle.idl_root.specs.Compile.{outcome_of}
+use Rattle.idl_root_blocks.specs.idl_check.walk.Verdict.{added}
 use Rattle.idl_root.specs.Printed.{Listed}
 use Rattle.idl_kept.specs.Texts.{begins_in}
 use Rattle.idl_root_blocks.specs.Blocks.{Pieces, cut}

@@ -7,7 +7,7 @@ use Rattle.std.specs.Hash as fed
 use Rattle.idl_block.specs.Blocks.{Part as BlockStep, block}
 use Rattle.idl_env.specs.declared.additions.addition.Step.{Step}
 use Rattle.idl_env.specs.declared.additions.addition.Step.TheVariants.{Enters as EntersFile}
-use Rattle.idl_block.specs.facts.Written.{boundary}
+use Rattle.idl_env.specs.Facts.{boundary}
 use Rattle.idl_root_blocks.specs.Blocks.{has_enclosed, part_of, part_writes, parts_of, plain_part, plain_text}
 use Rattle.idl_root_blocks.specs.Met.{block_text_eq}
 use Rattle.idl_root_blocks.specs.Places.{block_query, unit_ways}

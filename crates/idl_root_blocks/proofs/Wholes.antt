@@ -8,11 +8,10 @@ use Rattle.idl_root_blocks.proofs.VerdictLaws.Stands.{AreHeld, first-held}
 use Rattle.idl_root_blocks.proofs.VerdictLaws.Told.{files-told}
 use Rattle.idl_check_laws.proofs.ToldLaws.{MoreTurns}
 use Rattle.idl_check_laws.specs.Closing.{AreTold}
-use Rattle.idl_env.specs.Facts.{UnitFacts}
+use Rattle.idl_env.specs.Facts.{UnitFacts, boundary}
 use Rattle.idl_env.specs.declared.additions.addition.Step.TheVariants.{Enters as EntersFile, Leaves as LeavesFile}
 use Rattle.idl_block.proofs.FactLaws.Seen.Covers.{or-left}
 use Rattle.idl_block.proofs.FactLaws.StandingLaws.{or-right}
-use Rattle.idl_block.specs.facts.Written.{boundary}
 use Rattle.idl_root_blocks.proofs.Comes.{of-block}
 use Rattle.idl_root_blocks.proofs.Fronts.{Walked, facts-grow, part-told, text-told-over}
 use Rattle.idl_root_blocks.proofs.Splits.{declarations-split, facts-first, facts-split}

@@ -230,7 +230,8 @@ fn remove_at<R: Ranked>(buckets: &mut HashMap<u64, Vec<Numbered<R>>>, bucket: u6
     ensures one { (kept : R) → Contains (numbered_in buckets.old.entries) ((kept, bucket), number)
         → AddsOne (numbered_in buckets.new.entries) (numbered_in buckets.old.entries)
         ((kept, bucket), number) }
-    ensures gone { (kept : R) → ¬ Contains (numbered_in buckets.new.entries) ((kept, bucket), number) }
+    ensures gone { (kept : R)
+        → ¬ Contains (numbered_in buckets.new.entries) ((kept, bucket), number) }
     ensures order { IsInOrder R.rank buckets.new }
 {
     let Some(results) = buckets.get_mut(&bucket) else {

@@ -16,7 +16,7 @@ use std::cmp::Ordering;
 use std::marker::Model;
 use std::rc::Rc;
 
-/// What is kept in the order of its kind.
+/// What a shelf keeps: it belongs into a bucket, as by a hash, and has an order among others of its kind, by which it is found there.
 pub(crate) trait Ranked: Drop {
     /// How one stands to another.
     ghost rank: { Self → Self → Standing };
@@ -35,7 +35,7 @@ pub(crate) trait Ranked: Drop {
     ghost ranked: { IsTotalOrder rank };
 }
 
-/// What is looked for among some that are ranked.
+/// A search key: what is looked for among some that are ranked, by how each of them stands to it.
 pub(crate) trait Probe<R> {
     /// How one of those stands to what is looked for.
     ghost stand: { Self → R → Standing };

@@ -21,7 +21,7 @@ use slab::Slab;
 use std::alloc::{AllocError, Global};
 use std::marker::Model;
 
-/// Lists of results, and the drafts of those that an edit makes.
+/// Where a store keeps results: lists, the drafts of those that an edit makes, and an index that finds them. It knows no bank.
 ///
 /// To every contract it is these lists, and what finds results: who looks for one learns where it would go, and may put it there.
 /// A result is kept once, under a number, as long as a list or a draft has it, and a look-up finds it as long.

@@ -7,7 +7,7 @@ ghost use Rattle.idl_root.specs.AsBefore.{AreAsBefore, AreListsLeft, IsAsBefore,
 ghost use Rattle.idl_root.specs.Compile.{compile, findings_told, has_error, open_finding, rows_beside};
 ghost use Rattle.idl_root.specs.Held.{told_of};
 ghost use Rattle.idl_root.specs.Results.{ExpandsNone, IsKeptOf, root_marks};
-ghost use Rattle.idl_root.specs.Turns.{IsWithinWords};
+ghost use Rattle.idl_root.specs.Turns.{FitsU64};
 ghost use Rattle.idl_unit.specs.Units.{units_of};
 
 use crate::compiling::judging::{Ended, RootState};
@@ -95,7 +95,7 @@ pub fn compile(
     expansion: &Expansion,
 ) -> Result<Compiled, AllocError>
     ensures compiled { IfOk result (λ compiled. compiled ≡ compile end.now expansion.now) }
-    ensures within { OnOk result (IsWithinWords expansion.now) }
+    ensures within { OnOk result (FitsU64 expansion.now) }
 {
     memory.clear();
     let alloc = memory.alloc();
@@ -124,7 +124,7 @@ pub fn compile_kept(
         × IfSome before.compiled (λ compiled. IsCompiledOf was compiled.now) }
     ensures compiled { IfOk result (λ r.
         r.compiled ≡ compile source.entry.0.now source.entry.1.now) }
-    ensures within { OnOk result (IsWithinWords source.entry.1.now) }
+    ensures within { OnOk result (FitsU64 source.entry.1.now) }
     ensures marks { IfOk result (λ r. unwrap_or r.marks before.entry.marks.now.value
         ≡ root_marks source.entry.1.now) }
     ensures tasks { OnOk result ((was : List Event) → IsKeptOf was before.entry.marks.now.value
@@ -236,7 +236,7 @@ fn compile_anew(
         (kept_lists keeper.old before.at) }
     ensures compiled { IfOk result (λ r.
         r.compiled ≡ compile source.entry.0.now source.entry.1.now) }
-    ensures within { OnOk result (IsWithinWords source.entry.1.now) }
+    ensures within { OnOk result (FitsU64 source.entry.1.now) }
     ensures marks { IfOk result (λ r. r.marks ≡ Some (root_marks source.entry.1.now)) }
     ensures made { OnOk result (IsMade source.entry.1.now before.entry.at
         keeper.old keeper.new meter.old meter.new) }

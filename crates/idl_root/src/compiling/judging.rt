@@ -2,8 +2,7 @@
 
 ghost use Rattle.std.specs.Prelude.{◌≡◌, ◌≤◌, ◌++◌, ◌∷◌, [], IfOk, List, OnOk, flat_map, map, option_to_list};
 ghost use Rattle.idl_root_blocks.specs.idl_check_laws.Closing.{AreTold};
-ghost use Rattle.idl_env.specs.Facts.{UnitFacts};
-ghost use Rattle.idl_block.specs.facts.Written.{boundary};
+ghost use Rattle.idl_env.specs.Facts.{UnitFacts, boundary};
 ghost use Rattle.idl_kept.specs.Texts.{AreListsOf, DeclarationResult};
 ghost use Rattle.idl_memo.specs.Meter.{compared_after, most_compared};
 ghost use Rattle.idl_store.specs.Stored.{results_in};
@@ -11,7 +10,8 @@ ghost use Rattle.idl_root.specs.Added.{told_by};
 ghost use Rattle.idl_root.specs.Compile.{is_open};
 ghost use Rattle.idl_root.specs.Followed.{IsBoundary, IsKeeping, added_by};
 ghost use Rattle.idl_root.specs.Held.{IsEnded, held, to_come, with_gathered, with_judged, with_units};
-ghost use Rattle.idl_root.specs.Judged.{added, judged_at, verdict_over};
+ghost use Rattle.idl_root.specs.Judged.{judged_at};
+ghost use Rattle.idl_root_blocks.specs.idl_check.walk.Verdict.{added, verdict_over};
 ghost use Rattle.idl_root.specs.Named.{named_after, named_as};
 ghost use Rattle.idl_root.specs.Passed.{ArePassed, Compares, HasDrafts, WalksOnly, with_kept};
 ghost use Rattle.idl_root.specs.Printed.{closing_finding, entry_row};

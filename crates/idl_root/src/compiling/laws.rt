@@ -18,7 +18,7 @@ ghost use Rattle.idl_root_blocks.specs.Places.{AreStandingOver, facts_over, unit
 ghost use Rattle.idl_root_blocks.specs.Units.{text_of};
 ghost use Rattle.idl_unit.specs.declared.unit.Unit.{Unit as RootUnit};
 ghost use Rattle.idl_root.specs.Told.{IsTold};
-ghost use Rattle.idl_root.specs.Turns.{IsWithinWords};
+ghost use Rattle.idl_root.specs.Turns.{FitsU64};
 ghost use Rattle.idl_unit.specs.Units.{units_of};
 ghost use Rattle.std.specs.List.Sorted.{IsNonDecreasingBy};
 ghost use Rattle.idl_finding.specs.Findings.{finding_row, in_order};
@@ -110,7 +110,7 @@ pub fn texts()
 /// told, and words count what its units add. This does nothing: it carries the law.
 pub fn blocks()
     ensures { (events : List Event)
-        → IsWithinWords events → AreStandingOver [] (root_pieces events) }
+        → FitsU64 events → AreStandingOver [] (root_pieces events) }
 {
     texts();
     // They do nothing: they carry laws of pieces, and of blocks.

@@ -6,7 +6,7 @@ ghost use Rattle.idl_memo.specs.Query.{HoldsIn};
 ghost use Rattle.idl_store.specs.Spots.{result_on};
 ghost use Rattle.idl_store.specs.Stored.{list_at};
 ghost use Rattle.idl_root.specs.Followed.{AreBeside, ArePrinted, IsDeclarationLast, IsFollowed, IsFollowing, IsKeeping, UnitsOnly, WereThere, added_by, facts_of, results_from};
-ghost use Rattle.idl_root.specs.Judged.{verdict_over};
+ghost use Rattle.idl_root_blocks.specs.idl_check.walk.Verdict.{verdict_over};
 ghost use Rattle.idl_root.specs.Passed.{AllGoOn, JudgesOnly, WalksOnly, keys_behind};
 ghost use Rattle.idl_root_blocks.specs.Asking.{AreNoted as HaveNoted, with_asked};
 ghost use Rattle.idl_root_blocks.specs.Met.{unit_keys};

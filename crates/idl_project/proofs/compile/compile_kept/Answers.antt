@@ -7,7 +7,7 @@ use Rattle.idl_memo.specs.Kept.{Kept}
 use Rattle.idl_prep.specs.Root.{absent_files}
 use Rattle.idl_sources.specs.idl_root.AsBefore.{IsAsBefore, IsMade}
 use Rattle.idl_sources.specs.idl_root.Compile.{compile}
-use Rattle.idl_sources.specs.idl_root.Turns.{IsWithinWords}
+use Rattle.idl_sources.specs.idl_root.Turns.{FitsU64}
 use Rattle.idl_sources.specs.idl_root.Results.{root_marks}
 use Rattle.idl_sources.specs.Compile.{end_of}
 use Rattle.idl_sources.proofs.CompileLemmas.{compile-kept}
@@ -30,7 +30,7 @@ returns-clause-compiled g c =
 pub returns-clause-within : goal.returns-clause-within
 returns-clause-within g c =
     let is = c.root_expansion.ensures ∙ ap (λ (k : KeptRun). k.out) c.deref-2.ensures ∙ ap (λ (p : List Event × List (RootKey × Option RootAnswer)). p.0) c.requires.over in
-    subst IsWithinWords is c.in_ok-rows.ensures.within
+    subst FitsU64 is c.in_ok-rows.ensures.within
 
 pub returns-clause-marks : goal.returns-clause-marks
 returns-clause-marks g c =

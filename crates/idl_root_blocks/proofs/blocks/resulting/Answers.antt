@@ -3,11 +3,10 @@ use Rattle.std.specs.Option.{option_eq}
 use Rattle.idl_block.proofs.ResultLaws.{results-alike}
 use Rattle.idl_block.specs.Blocks.{unit_places}
 use Rattle.idl_root_blocks.specs.verdicts.Standing.{AreStanding, block_end}
-use Rattle.idl_env.specs.Facts.{answers}
+use Rattle.idl_env.specs.Facts.{answers, boundary}
 use Rattle.idl_env.specs.SameAnswer.{answer_eq}
 use Rattle.idl_env.specs.declared.additions.addition.Step.TheVariants.{Enters}
 use Rattle.idl_env.specs.keys.Key.{key_eq}
-use Rattle.idl_block.specs.facts.Written.{boundary}
 use Rattle.idl_memo.proofs.FreshTasks.{is_alike-means}
 use Rattle.idl_memo.proofs.QueryLaws.{outcome-agree}
 use Rattle.idl_root_blocks.proofs.Comes.{of-block}

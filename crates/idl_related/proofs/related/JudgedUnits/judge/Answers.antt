@@ -1,6 +1,8 @@
 use Rattle.std.proofs.Common.{◌≡◌, ◌∙◌, ◌++◌, ap, map}
 use Rattle.idl_check.specs.declared.walk.verdict.Verdict.{Verdict}
-use Rattle.idl_related.specs.Already.{names_behind, pinned, told_for, verdict_over}
+use Rattle.idl_related.specs.FirstDeclared.{names_behind, told_for, without_other_places}
+use Rattle.idl_check.specs.walk.Verdict.{verdict_over}
+use Rattle.idl_related.specs.Judged.{before_spelled, text_and_sites}
 use Rattle.idl_related.proofs.related.JudgedUnits.judge.Goals as goal
 
 pub returns-clause-behind : goal.returns-clause-behind
@@ -11,10 +13,10 @@ returns-clause-behind c =
     let taken = c.in_ok-take.ensures in record {
       expansion = taken.expansion;
       asks = taken.asks;
-      names = λ asks. taken.names asks ∙ ap (λ (v : Verdict). names_behind unit.env.now unit.number unit.text.now v.fault self.first) is;
+      names = λ asks. taken.names asks ∙ ap (λ (v : Verdict). names_behind (before_spelled self unit) unit.text.now v.fault) is;
       told =
           taken.told
-          ∙ ap (λ (v : Verdict). map pinned self.told.items ++ told_for self.expansion.now unit.env.now self.first unit.number unit.text.now unit.sites.now v.fault) is;
+          ∙ ap (λ (v : Verdict). map without_other_places self.told.items ++ told_for self.expansion.now (before_spelled self unit) (text_and_sites unit) v.fault) is;
     }
 
 pub returns-clause-writes : goal.returns-clause-writes

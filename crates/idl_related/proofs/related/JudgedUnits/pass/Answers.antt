@@ -1,8 +1,8 @@
 use Rattle.std.proofs.Common.{◌≡◌, ◌∙◌, ◌∷◌, ◌++◌, [], ap, option_to_list, sym}
 use Rattle.std.proofs.lemmas.List.{append-nil}
 use Rattle.std.proofs.lemmas.Result.{IfOk-weaker}
-use Rattle.idl_related.specs.Already.{added}
-use Rattle.idl_related.proofs.AlreadyLemmas.{on-ok}
+use Rattle.idl_check.specs.walk.Verdict.{added}
+use Rattle.idl_related.proofs.FirstDeclaredLemmas.{on-ok}
 use Rattle.idl_related.proofs.related.JudgedUnits.pass.Goals as goal
 
 pub returns-in-None-clause-env : goal.returns-in-None-clause-env
@@ -18,5 +18,5 @@ returns-in_ok-pass-in-Some-clause-behind c =
 pub returns-in_ok-pass-in-Some-clause-env : goal.returns-in_ok-pass-in-Some-clause-env
 returns-in_ok-pass-in-Some-clause-env c =
     let env = c.args.env in
-    IfOk-weaker c.add_own.result (λ after. after ≡ env ++ c.in-Some.writes ∷ []) (λ after. after ≡ env ++ added env c.args.unit.now)
+    IfOk-weaker c.add_own.result (λ after. after ≡ env ++ c.in-Some.writes ∷ []) (λ after. after ≡ env ++ added env c.args.unit.unit.now)
     (λ after is. is ∙ ap (λ l. env ++ l) (ap option_to_list (sym c.in-Some.is) ∙ c.in_ok-writes.ensures.writes)) c.add_own.ensures

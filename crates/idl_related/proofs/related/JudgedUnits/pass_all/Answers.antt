@@ -1,7 +1,8 @@
 use Rattle.std.proofs.Common.{◌≡◌, ◌∙◌, ◌++◌, [], ap, map, refl, subst, sym}
 use Rattle.std.proofs.lemmas.List.{append-nil, drop_all}
-use Rattle.idl_related.specs.Already.{pinned, told_after, told_by}
-use Rattle.idl_related.proofs.AlreadyLemmas.{units-behind}
+use Rattle.idl_related.specs.FirstDeclared.{told_after, told_by, without_other_places}
+use Rattle.idl_related.specs.Judged.{units_before}
+use Rattle.idl_related.proofs.FirstDeclaredLemmas.{units-behind}
 use Rattle.idl_related.proofs.related.JudgedUnits.pass_all.Goals as goal
 
 pub units-init : goal.units-init
@@ -10,7 +11,7 @@ units-init c =
       root = c.requires;
       expansion = refl;
       asks = refl;
-      told = λ asks. ap (λ facts. map pinned self.told.items ++ told_after self.expansion.now facts self.first 0 self.known.units.now) c.in_ok-env.ensures;
+      told = λ asks. ap (λ facts. map without_other_places self.told.items ++ told_after self.expansion.now (units_before self facts 0) self.known.units.now) c.in_ok-env.ensures;
     }
 
 pub units-preserved : goal.units-preserved
@@ -21,15 +22,16 @@ units-preserved c =
     let new = c.pass.new.self in
     let i = c.units.number in
     let unit = c.index-units-number.result in
+    let before = units_before old env i in
     let passed = c.in_ok-env-2.ensures in
     let inv = c.units.invariant in record {
       root = passed.root;
       expansion = passed.behind.expansion ∙ inv.expansion;
       asks = passed.behind.asks ∙ inv.asks;
       told = λ asks.
-          units-behind events env c.in_ok-env-2.env old.first new.first c.args.self.now.known.units.now i unit old.told.items new.told.items
+          units-behind events before c.in_ok-env-2.env new.first c.args.self.now.known.units.now unit old.told.items new.told.items
           c.units-test.true c.index-units-number.is passed.env (passed.behind.names (inv.asks ∙ asks))
-          (subst (λ out. map pinned new.told.items ≡ map pinned old.told.items ++ told_by out env old.first i unit) inv.expansion passed.behind.told)
+          (subst (λ out. map without_other_places new.told.items ≡ map without_other_places old.told.items ++ told_by out before unit) inv.expansion passed.behind.told)
           ∙ inv.told asks;
     }
 
@@ -39,8 +41,8 @@ returns-clause-told c = λ asks.
     let events = self.expansion.now in
     let units = self.known.units.now in
     let last = c.units.self in
-    let told = map pinned last.told.items in
+    let told = map without_other_places last.told.items in
     sym (append-nil told)
-    ∙ ap (λ us. told ++ told_after events c.units.env last.first c.units.number us) (sym (drop_all c.units.number units c.units-test.false))
+    ∙ ap (λ us. told ++ told_after events (units_before last c.units.env c.units.number) us) (sym (drop_all c.units.number units c.units-test.false))
     ∙ c.units.invariant.told asks
-    ∙ ap (λ us. map pinned self.told.items ++ told_after events [] self.first 0 us) c.requires.units
+    ∙ ap (λ us. map without_other_places self.told.items ++ told_after events (units_before self [] 0) us) c.requires.units

@@ -1,6 +1,6 @@
 use Rattle.std.proofs.Common.{◌≡◌, ◌++◌, [], true, drop, map}
-use Rattle.idl_related.specs.Already.{pinned, told_after}
-use Rattle.idl_related.specs.Judged.{IsOfRoot}
+use Rattle.idl_related.specs.FirstDeclared.{told_after, without_other_places}
+use Rattle.idl_related.specs.Judged.{IsOfRoot, units_before}
 use Rattle.idl_related.proofs.related.JudgedUnits.pass_all.Given as goal
 
 -- what was told of the units before, and what is told of those from here on
@@ -8,9 +8,9 @@ abbrev pub invariant-units : goal.invariant-units
 invariant-units l = record {
   root : IsOfRoot l.self;
   expansion : l.self.expansion.now ≡ l.fn.self.expansion.now;
-  asks : l.self.asks_already ≡ l.fn.self.asks_already;
+  asks : l.self.asks_first ≡ l.fn.self.asks_first;
   told :
-      l.fn.self.asks_already ≡ true
-      → map pinned l.self.told.items ++ told_after l.fn.self.expansion.now l.env l.self.first l.number (drop l.number l.units)
-      ≡ map pinned l.fn.self.told.items ++ told_after l.fn.self.expansion.now [] l.fn.self.first 0 l.units;
+      l.fn.self.asks_first ≡ true
+      → map without_other_places l.self.told.items ++ told_after l.fn.self.expansion.now (units_before l.self l.env l.number) (drop l.number l.units)
+      ≡ map without_other_places l.fn.self.told.items ++ told_after l.fn.self.expansion.now (units_before l.fn.self [] 0) l.units;
 }

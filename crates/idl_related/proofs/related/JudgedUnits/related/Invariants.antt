@@ -1,5 +1,5 @@
 use Rattle.std.proofs.Common.{◌≡◌, ◌≤◌, ◌++◌, drop, flat_map, length}
-use Rattle.idl_related.specs.Already.{related_at}
+use Rattle.idl_related.specs.FirstDeclared.{related_at}
 use Rattle.idl_related.specs.Related.{AreAtTokens}
 use Rattle.idl_related.proofs.related.JudgedUnits.related.Given as goal
 

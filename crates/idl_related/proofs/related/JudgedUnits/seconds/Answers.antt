@@ -1,28 +1,29 @@
-use Rattle.std.proofs.Common.{◌≡◌, ◌∙◌, [], true, false, subst, sym}
+use Rattle.std.proofs.Common.{◌≡◌, ◌∙◌, true, false, subst, sym}
 use Rattle.std.proofs.lemmas.Result.{IfOk-weaker}
-use Rattle.idl_related.specs.Already.{already, names_over, seconds_at}
-use Rattle.idl_related.specs.Told.{AreFew, is_already}
-use Rattle.idl_related.proofs.AlreadyLemmas.{few-already}
+use Rattle.idl_related.specs.FirstDeclared.{first_declaration_over, seconds_at}
+use Rattle.idl_related.specs.Judged.{before_spelled}
+use Rattle.idl_related.specs.Told.{AreFew, is_redeclaration}
+use Rattle.idl_related.proofs.FirstDeclaredLemmas.{few-first}
 use Rattle.idl_related.proofs.related.JudgedUnits.seconds.Goals as goal
 
-pub returns-then-is_already-clause-few : goal.returns-then-is_already-clause-few
-returns-then-is_already-clause-few c =
+pub returns-then-is_redeclaration-clause-few : goal.returns-then-is_redeclaration-clause-few
+returns-then-is_redeclaration-clause-few c =
     let unit = c.args.unit in
-    let spot = already c.args.fault.index c.args.self.now.first [] (names_over unit.env.now unit.number unit.text.now) in
-    IfOk-weaker c.already.result (λ seconds. seconds.items ≡ seconds_at spot) (λ seconds. AreFew seconds.items)
-    (λ seconds is. subst AreFew (sym is) (few-already spot)) c.already.ensures
+    let spot = first_declaration_over (before_spelled c.args.self.now unit) unit.text.now c.args.fault.index in
+    IfOk-weaker c.first_declared.result (λ seconds. seconds.items ≡ seconds_at spot) (λ seconds. AreFew seconds.items)
+    (λ seconds is. subst AreFew (sym is) (few-first spot)) c.first_declared.ensures
 
-pub returns-then-is_already-clause-already : goal.returns-then-is_already-clause-already
-returns-then-is_already-clause-already c =
+pub returns-then-is_redeclaration-clause-first_declared : goal.returns-then-is_redeclaration-clause-first_declared
+returns-then-is_redeclaration-clause-first_declared c =
     let unit = c.args.unit in
-    let spot = already c.args.fault.index c.args.self.now.first [] (names_over unit.env.now unit.number unit.text.now) in
-    IfOk-weaker c.already.result (λ seconds. seconds.items ≡ seconds_at spot) (λ seconds. is_already c.args.fault.code ≡ true → seconds.items ≡ seconds_at spot)
-    (λ seconds is yes. is) c.already.ensures
+    let spot = first_declaration_over (before_spelled c.args.self.now unit) unit.text.now c.args.fault.index in
+    IfOk-weaker c.first_declared.result (λ seconds. seconds.items ≡ seconds_at spot) (λ seconds. is_redeclaration c.args.fault.code ≡ true → seconds.items ≡ seconds_at spot)
+    (λ seconds is yes. is) c.first_declared.ensures
 
-pub returns-clause-already : goal.returns-clause-already
-returns-clause-already c =
+pub returns-clause-first_declared : goal.returns-clause-first_declared
+returns-clause-first_declared c =
     let unit = c.args.unit in
-    let spot = already c.args.fault.index c.args.self.now.first [] (names_over unit.env.now unit.number unit.text.now) in
-    let other : is_already c.args.fault.code ≡ false = sym c.is_already.ensures ∙ c.if-is_already.false in
-    IfOk-weaker c.seconds.result (λ seconds. AreFew seconds.items) (λ seconds. is_already c.args.fault.code ≡ true → seconds.items ≡ seconds_at spot)
+    let spot = first_declaration_over (before_spelled c.args.self.now unit) unit.text.now c.args.fault.index in
+    let other : is_redeclaration c.args.fault.code ≡ false = sym c.is_redeclaration.ensures ∙ c.if-is_redeclaration.false in
+    IfOk-weaker c.seconds.result (λ seconds. AreFew seconds.items) (λ seconds. is_redeclaration c.args.fault.code ≡ true → seconds.items ≡ seconds_at spot)
     (λ seconds few yes. absurd (let both : true ≡ false = sym yes ∙ other in cc)) c.seconds.ensures

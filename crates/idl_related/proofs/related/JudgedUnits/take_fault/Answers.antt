@@ -1,4 +1,4 @@
-use Rattle.idl_related.proofs.AlreadyLemmas.{on-ok}
+use Rattle.idl_related.proofs.FirstDeclaredLemmas.{on-ok}
 use Rattle.idl_related.proofs.related.JudgedUnits.take_fault.Goals as goal
 
 pub returns-clause-told : goal.returns-clause-told

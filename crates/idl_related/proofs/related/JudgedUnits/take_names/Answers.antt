@@ -1,7 +1,7 @@
 use Rattle.std.proofs.Common.{◌∙◌, ap}
 use Rattle.std.proofs.lemmas.Result.{on_ok_weaker}
 use Rattle.std.specs.List.{fold}
-use Rattle.idl_related.specs.Already.{with_name}
+use Rattle.idl_related.specs.FirstDeclared.{with_name}
 use Rattle.idl_related.proofs.related.JudgedUnits.take_names.Goals as goal
 
 pub returns-clause-names : goal.returns-clause-names

@@ -1,7 +1,7 @@
 use Rattle.std.proofs.Common.{◌∙◌, ◌∷◌, ◌++◌, [], List, ap, subst, sym}
 use Rattle.std.proofs.lemmas.List.Elements.{All-push}
 use Rattle.idl_event.specs.declared.told.event.Event.{Event}
-use Rattle.idl_related.specs.Judged.{AreTold}
+use Rattle.idl_related.specs.Judged.{AreOfFindings}
 use Rattle.idl_related.specs.Related.{AreOfFinding}
 use Rattle.idl_related.specs.declared.related.RelatedPlaces.{RelatedPlaces}
 use Rattle.idl_related.specs.declared.second.Related.{Related}
@@ -16,8 +16,8 @@ returns-clause-root c =
     record {
       units = c.count.ensures.units ∙ c.requires.root.units ∙ ap units_of (sym c.count.ensures.expansion);
       told =
-          subst (λ (out : List Event). AreTold out c.push.new.self.items) (sym c.count.ensures.expansion)
-          (subst (AreTold events) (sym items)
+          subst (λ (out : List Event). AreOfFindings out c.push.new.self.items) (sym c.count.ensures.expansion)
+          (subst (AreOfFindings events) (sym items)
           (All-push (λ (t : RelatedPlaces). AreOfFinding events t.related) c.args.self.now.told.items one c.requires.root.told c.in_ok-related.ensures.finding));
     }
 

@@ -1,7 +1,8 @@
 use Rattle.std.proofs.Common.{◌∙◌, All, IsPermutation, ap, reverse, rules, subst, sym}
 use Rattle.std.proofs.lemmas.List.{reverse-reverse}
-use Rattle.std.proofs.lemmas.List.Sorted.{All-permutation, IsNonDecreasingBy-from_sort_by_key, IsPermutation-reverse}
+use Rattle.std.proofs.lemmas.List.Sorted.{All-permutation, IsNonDecreasingBy-from_sort_by_key, IsPermutation-reverse, answers_always}
 use Rattle.std.specs.List.Sorted.{IsNonDecreasingBy}
+use Rattle.idl_related.specs.FirstDeclared.{KeepsOrder}
 use Rattle.idl_related.specs.Related.{AreOfFinding}
 use Rattle.idl_related.specs.declared.related.RelatedPlaces.{RelatedPlaces}
 use Rattle.idl_related.proofs.related.JudgedUnits.told_backwards.Goals as goal
@@ -24,3 +25,9 @@ returns-clause-ordered c =
     let sorted = c.sort_by_key.new.self.items in
     subst (IsNonDecreasingBy (λ (t : RelatedPlaces). t.event)) (sym (ap reverse c.reverse.ensures.items ∙ reverse-reverse sorted))
     (IsNonDecreasingBy-from_sort_by_key (λ (t : RelatedPlaces). t.event) sorted c.in_ok-sort_by_key.ensures.sorted (λ a r q k. search rules))
+
+pub returns-clause-kept : goal.returns-clause-kept
+returns-clause-kept c =
+    let sorted = c.sort_by_key.new.self.items in
+    subst (KeepsOrder c.args.self.told.items) (sym (ap reverse c.reverse.ensures.items ∙ reverse-reverse sorted))
+    (c.in_ok-sort_by_key.ensures.stable (λ (t : RelatedPlaces). t.event) (answers_always _ _ _ (λ f a r g h. search rules)))

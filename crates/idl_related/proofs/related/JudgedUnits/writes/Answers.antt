@@ -1,13 +1,14 @@
 use Rattle.std.proofs.Common.{◌∙◌, ◌∷◌, [], ap, refl, subst, sym}
 use Rattle.idl_env.specs.Facts.{UnitFacts}
-use Rattle.idl_related.specs.Already.{added}
-use Rattle.idl_related.specs.Judged.{IsBehind}
-use Rattle.idl_related.proofs.AlreadyLemmas.{behind-same}
+use Rattle.idl_check.specs.walk.Verdict.{added}
+use Rattle.idl_related.specs.Judged.{IsBehind, units_before}
+use Rattle.idl_related.proofs.FirstDeclaredLemmas.{behind-same}
 use Rattle.idl_related.proofs.related.JudgedUnits.writes.Goals as goal
 
 pub returns-in_ok-judge-in-Spelled-clause-behind : goal.returns-in_ok-judge-in-Spelled-clause-behind
 returns-in_ok-judge-in-Spelled-clause-behind c =
-    subst (IsBehind c.args.self.now c.judge.new.self c.args.env.now c.args.number) (sym c.in-Spelled.is) c.in_ok-judge-in-Spelled.ensures.behind
+    let self = c.args.self.now in
+    subst (IsBehind self c.judge.new.self (units_before self c.args.env.now c.args.unit.number)) (sym c.in-Spelled.is) c.in_ok-judge-in-Spelled.ensures.behind
 
 pub returns-in_ok-judge-in-Spelled-clause-writes : goal.returns-in_ok-judge-in-Spelled-clause-writes
 returns-in_ok-judge-in-Spelled-clause-writes c =
@@ -16,14 +17,17 @@ returns-in_ok-judge-in-Spelled-clause-writes c =
 pub returns-in_ok-boundary-in-Entered-clause-behind : goal.returns-in_ok-boundary-in-Entered-clause-behind
 returns-in_ok-boundary-in-Entered-clause-behind c =
     let self = c.args.self.now in
-    subst (IsBehind self self c.args.env.now c.args.number) (sym c.in-Entered.is) (behind-same self c.args.env.now c.args.number _ refl refl)
+    let before = units_before self c.args.env.now c.args.unit.number in
+    subst (IsBehind self self before) (sym c.in-Entered.is) (behind-same self before _ refl refl)
 
 pub returns-in_ok-boundary-in-Left-clause-behind : goal.returns-in_ok-boundary-in-Left-clause-behind
 returns-in_ok-boundary-in-Left-clause-behind c =
     let self = c.args.self.now in
-    subst (IsBehind self self c.args.env.now c.args.number) (sym c.in-Left.is) (behind-same self c.args.env.now c.args.number _ refl refl)
+    let before = units_before self c.args.env.now c.args.unit.number in
+    subst (IsBehind self self before) (sym c.in-Left.is) (behind-same self before _ refl refl)
 
 pub returns-in-End-clause-behind : goal.returns-in-End-clause-behind
 returns-in-End-clause-behind c =
     let self = c.args.self.now in
-    subst (IsBehind self self c.args.env.now c.args.number) (sym c.in-End.is) (behind-same self c.args.env.now c.args.number _ refl refl)
+    let before = units_before self c.args.env.now c.args.unit.number in
+    subst (IsBehind self self before) (sym c.in-End.is) (behind-same self before _ refl refl)

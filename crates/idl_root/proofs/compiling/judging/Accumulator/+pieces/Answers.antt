@@ -3,7 +3,7 @@ use Rattle.std.proofs.lemmas.List.{nil_from_length}
 use Rattle.std.specs.Prelude.{All, Any}
 use Rattle.idl_root_blocks.proofs.VerdictLaws.Told.{files-told}
 use Rattle.idl_root_blocks.specs.idl_check_laws.Closing.{AreTold}
-use Rattle.idl_env.specs.Facts.{UnitFacts, answers, count_in}
+use Rattle.idl_env.specs.Facts.{UnitFacts, answers, boundary, count_in}
 use Rattle.idl_env.specs.Turns.{most_turns, turns_for}
 use Rattle.idl_env.specs.declared.additions.addition.Step.TheVariants.{Enters as EntersFile}
 use Rattle.idl_env.specs.declared.keys.key.Key.TheVariants.{Nameless}
@@ -20,10 +20,10 @@ use Rattle.idl_root.proofs.PiecesLemmas.{facts-inside}
 use Rattle.idl_root.proofs.TextLaws.{facts-text}
 use Rattle.idl_root.specs.Added.{told_by}
 use Rattle.idl_root.specs.Followed.{IsFollowing, IsKeeping, added_by}
-use Rattle.idl_block.specs.facts.Written.{boundary}
 use Rattle.idl_root_blocks.specs.Asking.{AreNoted as HaveNoted}
 use Rattle.idl_root.specs.Held.{to_come, with_gathered, with_units}
-use Rattle.idl_root.specs.Judged.{added, facts_after, judged_after, judged_at}
+use Rattle.idl_root.specs.Judged.{facts_after, judged_after, judged_at}
+use Rattle.idl_root_blocks.specs.idl_check.walk.Verdict.{added}
 use Rattle.idl_root.specs.Passed.{AllGoOn, ArePassed, Compares, MayBeLeft}
 use Rattle.idl_root.specs.Results.{ChecksOnly, IsDeclarationPass, marks_in}
 use Rattle.idl_root.specs.declared.kept.keeping.Keeping.{Keeping}

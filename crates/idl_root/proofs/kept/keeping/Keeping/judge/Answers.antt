@@ -9,7 +9,7 @@ use Rattle.idl_store.specs.Stored.{Stored}
 use Rattle.idl_root.proofs.BlockLemmas.{own-alike}
 use Rattle.idl_root.proofs.TakenLemmas.{at-some}
 use Rattle.idl_root.specs.Followed.{IsFollowed, IsFollowing}
-use Rattle.idl_root.specs.Judged.{verdict_over}
+use Rattle.idl_root_blocks.specs.idl_check.walk.Verdict.{verdict_over}
 use Rattle.idl_root.specs.Passed.{AllGoOn, keys_behind}
 use Rattle.idl_root_blocks.specs.Asking.{AreNoted as HaveNoted, with_asked}
 use Rattle.idl_root.specs.declared.kept.following.Following.{Following}

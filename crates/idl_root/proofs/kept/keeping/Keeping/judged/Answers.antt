@@ -5,7 +5,7 @@ use Rattle.idl_kept.specs.Texts.{DeclarationResult, Texts}
 use Rattle.idl_memo.specs.declared.task.TaskKind.TheVariants.{Check}
 use Rattle.idl_store.specs.Stored.{Stored}
 use Rattle.idl_root.specs.Followed.{IsDeclarationLast, IsFollowed, IsNext, UnitsOnly}
-use Rattle.idl_root.specs.Judged.{verdict_over}
+use Rattle.idl_root_blocks.specs.idl_check.walk.Verdict.{verdict_over}
 use Rattle.idl_root_blocks.specs.Places.{DeclarationPlace, declaration_result}
 use Rattle.idl_root.proofs.TakenLemmas.{at-none, at-some, some-weaker, taken-last}
 use Rattle.idl_root.proofs.kept.keeping.Keeping.judged.Goals as goal

@@ -1,7 +1,7 @@
 use Rattle.std.proofs.Common.{◌≡◌, ◌∙◌, ap, flat_map}
 use Rattle.std.proofs.lemmas.Result.{IfOk-weaker}
-use Rattle.idl_related.specs.Already.{declared_at, names_over}
-use Rattle.idl_related.proofs.already.names_in.Goals as goal
+use Rattle.idl_related.specs.FirstDeclared.{declared_at, names_over}
+use Rattle.idl_related.proofs.first_declared.names_in.Goals as goal
 
 pub returns : goal.returns
 returns c =

@@ -1,7 +1,7 @@
 use Rattle.std.proofs.Common.{◌≡◌, ◌∙◌, Some, ap, sym}
 use Rattle.std.proofs.lemmas.Result.{IfOk-weaker}
-use Rattle.idl_related.specs.Already.{seconds_at}
-use Rattle.idl_related.proofs.already.seconds_at.Goals as goal
+use Rattle.idl_related.specs.FirstDeclared.{seconds_at}
+use Rattle.idl_related.proofs.first_declared.seconds_at.Goals as goal
 
 pub returns-in-Some : goal.returns-in-Some
 returns-in-Some c =

@@ -1,7 +1,7 @@
 use Rattle.std.proofs.Common.{◌≡◌, drop}
 use Rattle.std.specs.List.{fold}
-use Rattle.idl_related.specs.Already.{with_name}
-use Rattle.idl_related.proofs.already.add_names.Given as goal
+use Rattle.idl_related.specs.FirstDeclared.{with_name}
+use Rattle.idl_related.proofs.first_declared.add_names.Given as goal
 
 -- what comes of the names from here on
 abbrev pub invariant-loop-name : goal.invariant-loop-name

@@ -2,7 +2,7 @@ use Rattle.std.proofs.Common.{◌≡◌, ◌∙◌, ◌∷◌, ◌++◌, [], Boo
 use Rattle.std.proofs.lemmas.Result.{on_ok_weaker}
 use Rattle.std.specs.Map.{lookup}
 use Rattle.idl_env.specs.keys.Key.{key_eq}
-use Rattle.idl_related.proofs.already.add_name.Goals as goal
+use Rattle.idl_related.proofs.first_declared.add_name.Goals as goal
 
 pub returns-then-contains : goal.returns-then-contains
 returns-then-contains c =

@@ -1,7 +1,7 @@
 use Rattle.std.proofs.Common.{◌∙◌}
-use Rattle.idl_related.specs.Already.{declared_at}
-use Rattle.idl_related.proofs.AlreadyLemmas.{items-behind}
-use Rattle.idl_related.proofs.already.declared_in.Goals as goal
+use Rattle.idl_related.specs.FirstDeclared.{declared_at}
+use Rattle.idl_related.proofs.FirstDeclaredLemmas.{items-behind}
+use Rattle.idl_related.proofs.first_declared.declared_in.Goals as goal
 
 pub loop-site-preserved : goal.loop-site-preserved
 loop-site-preserved c =

@@ -1,8 +1,8 @@
 use Rattle.std.proofs.Common.{◌∙◌, ◌+◌, ◌∷◌, ap, drop, sym}
 use Rattle.std.proofs.lemmas.List.{at_drop_all, at_drop_more}
 use Rattle.std.specs.List.{fold}
-use Rattle.idl_related.specs.Already.{with_name}
-use Rattle.idl_related.proofs.already.add_names.Goals as goal
+use Rattle.idl_related.specs.FirstDeclared.{with_name}
+use Rattle.idl_related.proofs.first_declared.add_names.Goals as goal
 
 pub loop-name-preserved : goal.loop-name-preserved
 loop-name-preserved c =

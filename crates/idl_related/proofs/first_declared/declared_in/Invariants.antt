@@ -1,6 +1,6 @@
 use Rattle.std.proofs.Common.{◌≡◌, ◌++◌, drop, flat_map}
-use Rattle.idl_related.specs.Already.{declared_at}
-use Rattle.idl_related.proofs.already.declared_in.Given as goal
+use Rattle.idl_related.specs.FirstDeclared.{declared_at}
+use Rattle.idl_related.proofs.first_declared.declared_in.Given as goal
 
 -- those so far, and those of the names from here on
 abbrev pub invariant-loop-site : goal.invariant-loop-site

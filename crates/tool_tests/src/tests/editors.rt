@@ -1,46 +1,15 @@
 //! What the server writes for messages of an editor, and how it ends.
 
-ghost use Rattle.idl_loader.specs.Holding.{Untold};
-
-use idl_loader::{Loaded, PathLoader, Service};
+use super::support::TextFiles;
+use idl_loader::Service;
 use idl_server::LanguageServer;
-use idl_source::Name;
 use idl_source::devices::{BufferSink, SliceSource};
 use std::alloc::{AllocError, Global};
 use std::test::Fail;
 
-// One file of one line, as `NAME: LINE`, or none.
-#[derive(Drop)]
-struct TextFile<'a> {
-    alloc: Global,
-    text: &'a str,
-}
-
-impl<'a> PathLoader for TextFile<'a> {
-    ghost told_of = { λ _ _. Untold };
-
-    fn load_path(&mut self, path: &[u8]) -> Loaded {
-        let (title, line) = self.text.split_once(": ").unwrap_or((self.text, ""));
-        match Name::new(path) {
-            Some(name) if name.as_bytes() == title.as_bytes() => match bytes_of(self.alloc, line) {
-                Ok(bytes) => Loaded::Bytes(bytes),
-                Err(_) => Loaded::NoMemory,
-            },
-            _ => Loaded::Missing,
-        }
-    }
-}
-
-// The bytes of a line, with a newline behind.
-fn bytes_of(alloc: Global, line: &str) -> Result<Vec<u8>, AllocError> {
-    let mut bytes = Vec::from_slice(alloc, line.as_bytes())?;
-    bytes.push(b'\n')?;
-    Ok(bytes)
-}
-
-// Over this file, the server has this status at the end of the input, and has written this.
+// Over these files, the server has this status at the end of the input, and has written this.
 fn is_served(alloc: Global, text: &str, input: &str, code: u8, want: &str) -> Result<(), Fail> {
-    let mut loader = TextFile { alloc, text };
+    let mut loader = TextFiles { alloc, text };
     let mut source = SliceSource::new(input.as_bytes());
     let mut output = BufferSink::new(alloc, 100_000)?;
     let service = LanguageServer::new(alloc);

@@ -1,11 +1,11 @@
-//! Where a name that is declared already is declared first.
+//! Where a name that is declared again is declared first.
 
 ghost use Rattle.std.specs.Prelude.{◌≡◌, ◌++◌, [], IfOk, OnOk, Some, flat_map, nat_eq};
 ghost use Rattle.std.specs.List.{fold};
 ghost use Rattle.std.specs.Map.{lookup};
 ghost use Rattle.std.specs.Option.{option_or};
 ghost use Rattle.idl_env.specs.keys.Key.{key_eq};
-ghost use Rattle.idl_related.specs.Already.{already, declared_at, names_over, seconds_at, with_name};
+ghost use Rattle.idl_related.specs.FirstDeclared.{declared_at, first_declaration, names_over, seconds_at, with_name};
 
 use crate::about::push;
 use crate::second::{Reason, Second, TokenPosition};
@@ -94,15 +94,15 @@ fn add_name(
     first.insert(key, name.1)
 }
 
-/// Where that of a unit's own names which stands at a token is declared already: by the first of others at its key, or else of those
-/// before it.
-pub fn already_in(
+/// Where that of a unit's own names which stands at a token is declared first, if that is before it: by the first of others at its key, or
+/// else of those before it.
+pub fn first_declaration(
     alloc: Global,
     first: &Table<DigestedKey, TokenPosition>,
     own: &[(DigestedKey, TokenPosition)],
     token: usize,
 ) -> Result<Option<TokenPosition>, AllocError>
-    ensures { IfOk result (λ spot. spot ≡ already token first.now [] own.now) }
+    ensures { IfOk result (λ spot. spot ≡ first_declaration token first.now [] own.now) }
 {
     let mut before = Table::new(alloc);
     for name in own {
@@ -136,7 +136,7 @@ fn first_of(
     }
 }
 
-/// The second place of a name that is declared already there, if it is.
+/// The second place of a name that is declared first there, if it is declared before.
 pub fn seconds_at(alloc: Global, spot: Option<TokenPosition>) -> Result<Vec<Second>, AllocError>
     ensures { IfOk result (λ seconds. seconds.items ≡ seconds_at spot) }
 {
