@@ -75,11 +75,7 @@ impl BlockText {
     pub fn hint(&self) -> u64
         ensures { result ≡ text_hint self.now }
     {
-        if self.has_enclosed() {
-            ENCLOSED
-        } else {
-            PLAIN
-        }
+        if self.has_enclosed() { ENCLOSED } else { PLAIN }
     }
 
     /// Whether blocks of both have one text: whatever units are around boundaries in them.

@@ -65,9 +65,11 @@ impl<'k> Keeping<'k> {
     /// A block was left before which so many keys had been compared, and which asked so many. Where it is alike to a known one these are
     /// compared, and nothing inside counts.
     pub fn compare_block(&mut self, is_like: bool, before: u64, keys: usize)
-        ensures { self.new ≡ record self.old { meter = record self.old.meter {
-          compared = if is_like then compared_after before keys else self.old.meter.compared;
-        } } }
+        ensures { self.new ≡ record self.old {
+          meter = record self.old.meter {
+            compared = if is_like then compared_after before keys else self.old.meter.compared;
+          };
+        } }
     {
         if is_like {
             self.meter.compared = before.saturating_add(keys as u64);
