@@ -11,7 +11,7 @@ returns-in-Some-clause-among g c =
     let m = c.self.inside.buckets in
     let v = c.in-Some.results.now in
     let there = found_bucket c.args.bucket m.entries v (sym c.in-Some.ensures.value) in
-    subst (All (λ one. Contains c.args.self.now (numbered c.args.bucket one))) (sym c.as_slice.ensures)
+    subst (All (λ one. Contains c.args.self.now (numbered c.args.bucket one))) (sym c.as_slice.ensures.value)
     (subst (λ index. All (λ one. Contains index (numbered c.args.bucket one)) v.items) c.self.view_is
     (All-weaker (Contains v.items) (λ one. Contains (numbered_in m.entries) (numbered c.args.bucket one))
     (λ one d. in_all numbered m.entries (c.args.bucket, v) one there d) v.items (All-contains_itself v.items)))
@@ -21,7 +21,7 @@ returns-in-Some-clause-all g c = λ e among at.
     let m = c.self.inside.buckets in
     let v = c.in-Some.results.now in
     let b = in_bucket numbered (λ e. e.0.1) (λ k x. refl) m c.self.invariant.unique c.args.bucket v (sym c.in-Some.ensures.value) e (subst (λ index. Contains index e) (sym c.self.view_is) among) at in
-    subst (Any (λ one. numbered c.args.bucket one ≡ e)) (sym c.as_slice.ensures) (b.1.0, b.0, b.1.1, b.1.2, sym b.2)
+    subst (Any (λ one. numbered c.args.bucket one ≡ e)) (sym c.as_slice.ensures.value) (b.1.0, b.0, b.1.1, b.1.2, sym b.2)
 
 pub returns-in-None-clause-among : goal.returns-in-None-clause-among
 returns-in-None-clause-among g c = All-nil (λ one. Contains c.args.self.now (numbered c.args.bucket one))
