@@ -1,5 +1,5 @@
 -- What is kept of blocks that are alike, whatever units are around boundaries in them.
-use Rattle.std.proofs.Common.{◌≡◌, ◌∙◌, ◌^◌, ℕ, ◌&&◌, Bool, true, false, List, [], ◌∷◌, Option, Some, not, refl, sym, take, ap, if◌then◌else◌}
+use Rattle.std.proofs.Common.{◌≡◌, ◌∙◌, ◌^◌, ℕ, ◌&&◌, Bool, true, false, List, [], ◌∷◌, Option, Some, refl, sym, take, ap, if◌then◌else◌}
 use Rattle.std.proofs.lemmas.List.Elements.{All-cons, All-contains, All-contains_itself, All-head, All-nil, All-tail, All-weaker}
 use Rattle.std.specs.Cmp.Lexicographic.{lists_equiv, pointwise}
 use Rattle.std.specs.Hash as fed
@@ -42,11 +42,6 @@ holds-all bank [] h = refl
 holds-all bank (e ∷ log) h =
     let is : option_eq answer_eq e.1 (bank e.0) ≡ true = ap (option_eq answer_eq e.1) (sym (All-head (λ e. e.1 ≡ bank e.0) e log h)) ∙ option_eq-itself answer_eq answer_equiv.refl e.1 in
     ap (λ b. is_none (if b then first_other answer_eq bank log else Some (e.1, bank e.0))) is ∙ holds-all bank log (All-tail (λ e. e.1 ≡ bank e.0) e log h)
-
--- what is told of no answer
-pub not-turned : (a b : Bool) → a ≡ not b → not a ≡ b
-not-turned a true h = ap not h
-not-turned a false h = ap not h
 
 module _ (here : BlockPlace) where
   -- the test tells which are alike

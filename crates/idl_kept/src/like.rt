@@ -9,18 +9,10 @@ use idl_root_blocks::{BlockText, KeptBlock};
 use idl_store::Test;
 
 /// The text of a block, and where it stands.
+#[derive(Clone, Copy)]
 pub(crate) struct Like<'a> {
     pub(crate) text: &'a BlockText,
     pub(crate) env: &'a PlainEnv,
-}
-
-impl<'a> Drop for Like<'a> {
-    fn drop(self) {
-        let Like {
-            text: _text,
-            env: _env,
-        } = self;
-    }
 }
 
 impl<'a> Test<KeptBlock> for Like<'a> {

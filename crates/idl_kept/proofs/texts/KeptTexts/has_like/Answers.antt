@@ -20,13 +20,13 @@ pub returns-then-has_enclosed-clause-some : goal.returns-then-has_enclosed-claus
 returns-then-has_enclosed-clause-some c = λ is.
     let here : BlockPlace = (c.args.task.now.text, answers c.args.env.now) in
     subst (λ (t : Texts). Any (IsLike here) (results_in t.blocks)) c.self.view_is
-    (some-like here (results_in c.self.inside.blocks) (c.has_beside-2.ensures.some is))
+    (some-like here (results_in c.self.inside.blocks) (c.has_beside-then-has_enclosed.ensures.some is))
 
 pub returns-then-has_enclosed-clause-none : goal.returns-then-has_enclosed-clause-none
 returns-then-has_enclosed-clause-none c = λ is none.
     let here : BlockPlace = (c.args.task.now.text, answers c.args.env.now) in
     subst (λ (t : Texts). All (λ kept. ¬ IsLike here kept) (results_in t.blocks)) c.self.view_is
-    (none-like here (results_in c.self.inside.blocks) (c.has_beside.ensures.none c.if-has_beside.false) (λ enclosed. c.has_beside-2.ensures.none is)
+    (none-like here (results_in c.self.inside.blocks) (c.has_beside.ensures.none c.if-has_beside.false) (λ enclosed. c.has_beside-then-has_enclosed.ensures.none is)
     (subst (λ (t : Texts). NoneAlikeAt here (results_in t.blocks)) (sym c.self.view_is) none))
 
 pub returns-else-has_enclosed-clause-none : goal.returns-else-has_enclosed-clause-none
