@@ -139,7 +139,7 @@ module _ (asks : (here : BlockPlace) → (block_result here).log ≡ log_at key_
 
 not-true : (b : Bool) → (b ≡ true → ⊥) → b ≡ false
 not-true true no = absurd (no refl)
-not-true false no = refl
+not-true false _ = refl
 
 module _ (tells : (here task : BlockPlace) → IsLike here (block_result task) ↔ (is_alike block_text_eq (option_eq answer_eq) block_query here task ≡ true)) (known : List BlockPlace) (here : BlockPlace) where
   pub is-known : Any (IsLike here) (map block_result known) → is_known known here ≡ true
