@@ -77,13 +77,13 @@ add_all-units-preserved-in-Some-block_at t c =
       subst (λ ls. IsKeeping ls now after) (sym is.lists.declarations) (subst (IsKeeping kept.declarations.lists now) (facts-inside own Nothing env ∙ sym is.env) is.passed.keeping_is),
       told-block c.more_turns.ensures env after own is.env turns inv.5,
       has-passed env (Block own Nothing) kept next keeping now is.passed inv.6,
-      λ new behind then. inv.7 new behind
+      λ new behind later. inv.7 new behind
           (subst (λ (p : Pieces). ArePassed env p kept keeping new behind) (sym pieces)
-          (c.joining.ensures.block env own rest kept next new keeping now behind inv.6 is.passed (subst (λ (fs : List UnitFacts). ArePassed fs rest next now new behind) is.env then))),
-      λ new then. inv.8 new
+          (c.joining.ensures.block env own rest kept next new keeping now behind inv.6 is.passed (subst (λ (fs : List UnitFacts). ArePassed fs rest next now new behind) is.env later))),
+      λ new later. inv.8 new
           (subst (λ (p : Pieces). Compares env p kept keeping.meter new) (sym pieces)
           (c.joining.ensures.compares_block env own rest kept next keeping.meter now.meter new inv.6 is.passed.kept_is is.compared
-          (subst (λ (fs : List UnitFacts). Compares fs rest next now.meter new) is.env then))),
+          (subst (λ (fs : List UnitFacts). Compares fs rest next now.meter new) is.env later))),
     )
 
 pub add_all-units-preserved : goal.add_all-units-preserved
@@ -124,13 +124,13 @@ add_all-units-preserved t c =
       subst (λ ls. IsKeeping ls now after) (sym is.lists.declarations) (subst (IsKeeping kept.declarations.lists now) (ap (facts_over env) (front-text parts) ∙ sym over) passed.keeping_is),
       told-unit c.more_turns.ensures env after unit over turns inv.5,
       has-passed env (in_front parts Nothing) kept next keeping now passed inv.6,
-      λ new behind then. inv.7 new behind
+      λ new behind later. inv.7 new behind
           (subst (λ (p : Pieces). ArePassed env p kept keeping new behind) (sym pieces)
-          (c.joining.ensures.front env parts rest kept next new keeping now behind inv.6 passed (subst (λ (fs : List UnitFacts). ArePassed fs rest next now new behind) over then))),
-      λ new then. inv.8 new
+          (c.joining.ensures.front env parts rest kept next new keeping now behind inv.6 passed (subst (λ (fs : List UnitFacts). ArePassed fs rest next now new behind) over later))),
+      λ new later. inv.8 new
           (subst (λ (p : Pieces). Compares env p kept keeping.meter new) (sym pieces)
           (c.joining.ensures.compares_front env parts rest kept next keeping.meter now.meter new inv.6 passed.kept_is compares
-          (subst (λ (fs : List UnitFacts). Compares fs rest next now.meter new) over then))),
+          (subst (λ (fs : List UnitFacts). Compares fs rest next now.meter new) over later))),
     )
 
 pub add_all-returns-clause-env : goal.add_all-returns-clause-env
