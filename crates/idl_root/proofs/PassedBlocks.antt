@@ -130,16 +130,16 @@ module _ (asks : (here : BlockPlace) → (block_result here).log ≡ log_at key_
       → inside ≡ compared_after old.compared (compared (met_over known (with_entering facts) own))
       → behind.compared ≡ (if is_like then compared_after old.compared keys else inside)
       → behind.compared ≡ compared_after old.compared (compared (met_over known facts pieces))
-  compares-entered known old behind true inside keys is none asked own counts =
+  compares-entered known old behind true inside keys is none asked within counts =
       compares-taken known old behind (ap (λ u. is_known known.blocks (u, answers facts)) (cut-whole text) ∙ is refl) (counts ∙ ap (compared_after old.compared) asked)
-  compares-entered known old behind false inside keys some is asked own counts =
-      compares-left known old behind (ap (λ u. is_known known.blocks (u, answers facts)) (cut-whole text) ∙ is refl) (counts ∙ own)
+  compares-entered known old behind false inside keys some is asked within counts =
+      compares-left known old behind (ap (λ u. is_known known.blocks (u, answers facts)) (cut-whole text) ∙ is refl) (counts ∙ within)
 
 -- ---- whether one is known
 
 not-true : (b : Bool) → (b ≡ true → ⊥) → b ≡ false
-not-true true no = absurd (no refl)
-not-true false _ = refl
+not-true true never = absurd (never refl)
+not-true false never = refl
 
 module _ (tells : (here task : BlockPlace) → IsLike here (block_result task) ↔ (is_alike block_text_eq (option_eq answer_eq) block_query here task ≡ true)) (known : List BlockPlace) (here : BlockPlace) where
   pub is-known : Any (IsLike here) (map block_result known) → is_known known here ≡ true
@@ -152,9 +152,9 @@ module _ (tells : (here task : BlockPlace) → IsLike here (block_result task) �
   is-new none =
       list_any_none (alike_block here) known (All-from_get_or (λ task. alike_block here task ≡ false) known here (λ k below.
       let there : k < length (map block_result known) = omega (arith, below, length-map known block_result) in
-      let no : ¬ IsLike here (block_result (get_or known k here)) =
+      let other : ¬ IsLike here (block_result (get_or known k here)) =
       subst (λ r. ¬ IsLike here r) (get_or-map block_result known k here (block_result here) below) (All-get_or (λ kept. ¬ IsLike here kept) (map block_result known) k (block_result here) there none) in
-      not-true (alike_block here (get_or known k here)) (λ is. no ((tells here (get_or known k here)).1 is))))
+      not-true (alike_block here (get_or known k here)) (λ is. other ((tells here (get_or known k here)).1 is))))
 
 -- what stands at a spot is alike where it is the result of that place
 pub some-on : (kept : Texts) (spot : Spot) (facts : List UnitFacts) (text : List Part) → result_on kept.blocks spot ≡ Some (block_result (text, answers facts)) → Any (IsLike (text, answers facts)) (results_in kept.blocks)
