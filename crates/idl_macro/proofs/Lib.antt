@@ -2,7 +2,6 @@ pub mod AgainLemmas
 pub mod AllowanceLemmas
 pub mod ArrivalLemmas
 pub mod ConditionLemmas
-pub mod DigestLemmas
 pub mod DirectiveLemmas
 pub mod MacroLemmas
 pub mod OutputLemmas

@@ -3,6 +3,7 @@ pub mod ChunkLemmas
 pub mod ChunkStarts
 pub mod ColumnLaws
 pub mod CutLemmas
+pub mod DigestLemmas
 pub mod GroupTextLemmas
 pub mod LaidOutLemmas
 pub mod LeftLemmas
