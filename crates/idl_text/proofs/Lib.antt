@@ -4,6 +4,7 @@ pub mod ChunkStarts
 pub mod ColumnLaws
 pub mod CutLemmas
 pub mod DigestLemmas
+pub mod GatherLemmas
 pub mod GroupTextLemmas
 pub mod LaidOutLemmas
 pub mod LeftLemmas
@@ -16,3 +17,4 @@ pub mod TextLemmas
 pub mod TreeLawLemmas
 pub mod TreeLemmas
 pub mod WalkLemmas
+pub mod WordLemmas

@@ -98,7 +98,7 @@ fn gather_word(
         return Ok(());
     }
     let digest = digest_of(token.as_bytes());
-    if is_there(words, hints.places_of(digest), token) {
+    if is_there(words.as_slice(), hints.places_of(digest), token) {
         return Ok(());
     }
     hints.note(digest, words.len())?;
