@@ -8,4 +8,5 @@ pub mod OutputLemmas
 pub mod PlainLemmas
 pub mod ReplaceLemmas
 pub mod RoomLemmas
+pub mod WordLemmas
 pub mod ConditionLaws
