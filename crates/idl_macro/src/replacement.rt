@@ -52,7 +52,7 @@ pub fn replace_text<B: RootBank>(
         return progress.emit_lines(file, lines);
     }
     let mut left = lines.parts();
-    'parts: while let Some((part, rest)) = left.split_first() {
+    'chunks: while let Some((part, rest)) = left.split_first() {
         replace_tokens(macros, file, &part, progress)?;
         left = rest;
     }

@@ -164,11 +164,11 @@ impl<B: RootBank> Progress<B> {
 
     /// All tokens of a text, where the limits leave as many: the same as `emit` with each, at less cost.
     pub fn emit_lines(&mut self, file: &FileName, text: &TextLines<'_>) -> Result<(), AllocError>
-        requires room { length text.now ≤ tokens_left self.old.left }
+        requires { length text.now ≤ tokens_left self.old.left }
         ensures { OnOk result (self.new ≡ after_text file.now text.now self.old) }
     {
         let mut left = text.parts();
-        'parts: while let Some((part, rest)) = left.split_first() {
+        'chunks: while let Some((part, rest)) = left.split_first() {
             self.emit_text(file, &part)?;
             left = rest;
         }

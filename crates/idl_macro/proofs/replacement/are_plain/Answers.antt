@@ -19,10 +19,10 @@ pub words-preserved : goal.words-preserved
 words-preserved g c =
     let bank = g.B.Bank.at c.args.macros.now.bank.now in
     let definitions = c.args.macros.now.definitions.now in
-    let words = c.words.result.now in
-    let count = c.words-2.count in
+    let words = c.words-words.result.now in
+    let count = c.words.count in
     let token = c.index-words-count.result in
-    let p = c.words-2.progress in
+    let p = c.words.progress in
     let q = c.body_of.new.progress in
     let lt : count < length words = omega (arith, c.words-test.true) in
     let word : token ≡ get_or words count [] = c.index-words-count.is ∙ get_or_default words count token [] lt in
@@ -31,35 +31,35 @@ words-preserved g c =
     ap (λ (o : Option (Bor (List Token))). arrived (option_copied o) q) (sym none)
     ∙ c.in_ok-body_of.ensures
     ∙ ap (λ (w : Token). arrival bank (replacement definitions [] w) p) word in
-    asked-next bank definitions c.args.lines.now words c.words.ensures c.args.progress.now p count q lt c.words-2.invariant asked
+    asked-next bank definitions c.args.lines.now words c.words-words.ensures c.args.progress.now p count q lt c.words.invariant asked
 
 pub returns-then-is_some-clause-again : goal.returns-then-is_some-clause-again
 returns-then-is_some-clause-again g c = λ file.
     let bank = g.B.Bank.at c.args.macros.now.bank.now in
     let definitions = c.args.macros.now.definitions.now in
-    let words = c.words.result.now in
-    let count = c.words-2.count in
+    let words = c.words-words.result.now in
+    let count = c.words.count in
     let token = c.index-words-count.result in
-    let p = c.words-2.progress in
+    let p = c.words.progress in
     let q = c.body_of.new.progress in
     let lt : count < length words = omega (arith, c.words-test.true) in
     let word : token ≡ get_or words count [] = c.index-words-count.is ∙ get_or_default words count token [] lt in
     let asked : q ≡ reached bank (replacement definitions [] (get_or words count [])) p =
     ap (λ (r : Reached × Option (Option (List Token))). r.0) (c.in_ok-body_of.ensures ∙ ap (λ (w : Token). arrival bank (replacement definitions [] w) p) word) in
-    (asked-again bank definitions c.args.lines.now words c.words.ensures c.args.progress.now p count q lt c.words-2.invariant asked).again file
+    (asked-again bank definitions c.args.lines.now words c.words-words.ensures c.args.progress.now p count q lt c.words.invariant asked).again file
 
 pub returns-clause-room : goal.returns-clause-room
-returns-clause-room g c = λ plain. c.words-2.invariant.room
+returns-clause-room g c = λ plain. c.words.invariant.room
 
 pub returns-clause-plain : goal.returns-clause-plain
 returns-clause-plain g c = λ file plain.
     let bank = g.B.Bank.at c.args.macros.now.bank.now in
     let definitions = c.args.macros.now.definitions.now in
-    let words = c.words.result.now in
-    let p = c.words-2.progress in
+    let words = c.words-words.result.now in
+    let p = c.words.progress in
     let whole : AreAsked bank definitions c.args.lines.now words c.args.progress.now p =
-    subst (λ (ws : List Token). AreAsked bank definitions c.args.lines.now ws c.args.progress.now p) (take_all c.words-2.count words (omega (arith, c.words-test.false))) c.words-2.invariant in
-    asked-all bank definitions c.args.lines.now words c.words.ensures c.args.progress.now p whole file
+    subst (λ (ws : List Token). AreAsked bank definitions c.args.lines.now ws c.args.progress.now p) (take_all c.words.count words (omega (arith, c.words-test.false))) c.words.invariant in
+    asked-all bank definitions c.args.lines.now words c.words-words.ensures c.args.progress.now p whole file
 
 pub returns-clause-again : goal.returns-clause-again
-returns-clause-again g c = λ file. c.words-2.invariant.again file
+returns-clause-again g c = λ file. c.words.invariant.again file

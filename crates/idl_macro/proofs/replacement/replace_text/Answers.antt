@@ -13,33 +13,33 @@ pub returns-then-are_plain : goal.returns-then-are_plain
 returns-then-are_plain g c =
     IfOk-weaker c.emit_lines.result _ _ (λ _ emitted. emitted ∙ c.in_ok-are_plain.ensures.plain c.args.file.now c.if-are_plain.true) c.emit_lines.ensures
 
-pub parts-init : goal.parts-init
-parts-init g c =
+pub chunks-init : goal.chunks-init
+chunks-init g c =
     let bank = g.B.Bank.at c.args.macros.now.bank.now in
     let definitions = c.args.macros.now.definitions.now in
     ap (λ (ts : List PlacedToken). reached bank (text c.args.file.now definitions ts) c.are_plain.new.progress) c.parts-left.ensures
     ∙ c.in_ok-are_plain.ensures.again c.args.file.now
 
-pub parts-preserved : goal.parts-preserved
-parts-preserved g c =
+pub chunks-preserved : goal.chunks-preserved
+chunks-preserved g c =
     let bank = g.B.Bank.at c.args.macros.now.bank.now in
     let definitions = c.args.macros.now.definitions.now in
     let file = c.args.file.now in
     let part = c.in-Some.part in
     let rest = c.in-Some.rest in
     ap (reached bank (text file definitions rest)) c.in_ok-replace_tokens.ensures
-    ∙ sym (reached-text-append bank file definitions part rest c.parts.progress)
-    ∙ ap (λ (ts : List PlacedToken). reached bank (text file definitions ts) c.parts.progress) (sym c.in-Some.ensures.0)
-    ∙ c.parts.invariant
+    ∙ sym (reached-text-append bank file definitions part rest c.chunks.progress)
+    ∙ ap (λ (ts : List PlacedToken). reached bank (text file definitions ts) c.chunks.progress) (sym c.in-Some.ensures.0)
+    ∙ c.chunks.invariant
 
-pub parts-smaller : goal.parts-smaller
-parts-smaller g c = omega (arith, c.in-Some.ensures.1, ap length c.in-Some.ensures.0, length-append c.in-Some.part c.in-Some.rest)
+pub chunks-smaller : goal.chunks-smaller
+chunks-smaller g c = omega (arith, c.in-Some.ensures.1, ap length c.in-Some.ensures.0, length-append c.in-Some.part c.in-Some.rest)
 
 pub returns : goal.returns
 returns g c =
     let bank = g.B.Bank.at c.args.macros.now.bank.now in
     let definitions = c.args.macros.now.definitions.now in
     let file = c.args.file.now in
-    sym (reached-text-nil bank file definitions c.parts.progress)
-    ∙ ap (λ (ts : List PlacedToken). reached bank (text file definitions ts) c.parts.progress) (sym c.in_default.ensures)
-    ∙ c.parts.invariant
+    sym (reached-text-nil bank file definitions c.chunks.progress)
+    ∙ ap (λ (ts : List PlacedToken). reached bank (text file definitions ts) c.chunks.progress) (sym c.in_default.ensures)
+    ∙ c.chunks.invariant
