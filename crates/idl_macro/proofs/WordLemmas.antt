@@ -189,7 +189,7 @@ module _ (bank : RootKey → Option RootAnswer) (definitions : Definitions) (tok
       let all : All (λ (t : PlacedToken). IsAsked bank definitions p t.token) tokens =
       All-weaker (IsMet words) (λ (t : PlacedToken). IsAsked bank definitions p t.token) (asked-met bank definitions p words asked.each) tokens are.all in
       sym (ap (λ ts. reached bank (text file definitions ts) p) (sym (append-nil tokens))
-      ∙ plain-all bank definitions file tokens [] [] p asked.room all
+      ∙ plain-all bank definitions file tokens [] [] p (omega (arith, asked.room)) all
       ∙ reached-text-nil bank file definitions (after_text file tokens p))
       ∙ asked.again file
 

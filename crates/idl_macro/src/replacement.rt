@@ -37,7 +37,6 @@ pub enum Output {
 
 /// The tokens of a text are replaced, each at its own place, and emitted. In most texts all stand for themselves: each word is
 /// asked for once, and then all are emitted.
-#[tactic(auto, unfolding(crate::specs::Replace::text))]
 pub fn replace_text<B: RootBank>(
     macros: &Macros<'_, B>,
     file: &FileName,

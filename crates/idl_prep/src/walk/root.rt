@@ -190,8 +190,8 @@ impl<B: RootBank> Root<B> {
         replace_tokens(&macros, site.file, tokens, &mut self.progress)
     }
 
-    /// The tokens of a text, where nothing is logged of those that stand for themselves: their macros are asked for with a progress that is
-    /// past its limits.
+    /// The tokens of a text, where nothing is logged of those that stand for themselves: their macros are asked for with a progress
+    /// that is past its limits.
     pub fn emit_unlogged(
         &mut self,
         site: &WalkedFile<'_, B>,
