@@ -36,7 +36,7 @@ impl<'a> TextLines<'a> {
         ensures { result ≡ take count tokens.entry }
     {
         TextLines {
-            parts: TextParts { tokens, count },
+            parts: TextParts::new(tokens, count),
             words,
         }
     }
@@ -45,7 +45,7 @@ impl<'a> TextLines<'a> {
     pub fn len(&self) -> usize
         ensures { result ≡ length self.now }
     {
-        self.parts.count
+        self.parts.len()
     }
 
     /// The words that stand there, in the order in which they do so first. Some may be given twice.
@@ -59,10 +59,7 @@ impl<'a> TextLines<'a> {
     pub fn parts(&self) -> TextParts<'a>
         ensures { result ≡ self.now }
     {
-        TextParts {
-            tokens: self.parts.tokens.copied(),
-            count: self.parts.count,
-        }
+        self.parts.copied()
     }
 }
 
@@ -86,6 +83,31 @@ impl<'a> Model for TextParts<'a> {
 }
 
 impl<'a> TextParts<'a> {
+    // The first so many of these tokens.
+    fn new(tokens: TokensLeft<'a>, count: usize) -> TextParts<'a>
+        requires { count ≤ length tokens.entry }
+        ensures { result ≡ take count tokens.entry }
+    {
+        TextParts { tokens, count }
+    }
+
+    // How many tokens there are.
+    fn len(&self) -> usize
+        ensures { result ≡ length self.now }
+    {
+        self.count
+    }
+
+    // The same tokens again. It takes no memory.
+    fn copied(&self) -> TextParts<'a>
+        ensures { result ≡ self.now }
+    {
+        TextParts {
+            tokens: self.tokens.copied(),
+            count: self.count,
+        }
+    }
+
     /// Those of them that come first and stand in one chunk, and those after them.
     pub fn split_first(&self) -> Option<(FileTokens<'a>, TextParts<'a>)>
         ensures { MatchOption result (self.now ≡ []) (λ parts.

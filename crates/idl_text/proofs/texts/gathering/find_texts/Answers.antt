@@ -39,7 +39,7 @@ lines-preserved-then-text-gt0 c =
     record {
       within = behind.0;
       left = found.behind ∙ behind.1;
-      texts = All-same (IsTextOf tokens) c.push.new.texts.items _ c.in_ok-push.ensures.items
+      texts = All-same (IsTextOf tokens) c.push.new.self.items _ c.in_ok-push.ensures.items
           (All-push (IsTextOf tokens) c.lines.texts.items text here.texts (text-placed tokens c.lines.left c.lines.at text here.left found.from some found.text));
     }
 

@@ -20,6 +20,6 @@ returns-then-is_there c = λ text t same are.
 pub returns : goal.returns
 returns c = λ text t same are.
     let old = c.args.words.now.items in
-    let one : c.push.new.words.items ≡ old ++ t.token ∷ [] =
+    let one : c.push.new.self.items ≡ old ++ t.token ∷ [] =
     c.in_ok-push.ensures.items ∙ ap (λ (w : Token). old ++ w ∷ []) (c.in_ok-clone.ensures.cases ∙ sym same) in
     subst (λ (ws : List Token). AreWordsOf (text ++ t ∷ []) ws) (sym one) (words-new text old t are)
