@@ -1,8 +1,7 @@
-use Rattle.std.proofs.Common.{◌≡◌, ◌∙◌, ◌+◌, ◌<◌, ap, arith, drop, length, sym}
+use Rattle.std.proofs.Common.{◌≡◌, ◌∙◌, ◌<◌, ap, arith, drop, length}
 use Rattle.std.proofs.lemmas.List.{length-append, length-drop}
 use Rattle.std.proofs.lemmas.List.Elements.{All-nil, All-push, All-same}
 use Rattle.idl_lex.specs.tokens.Tokens.{tokens_of}
-use Rattle.idl_lex.specs.declared.tokens.token.PlacedToken.{PlacedToken}
 use Rattle.idl_text.specs.Texts.{IsTextOf}
 use Rattle.idl_text.proofs.GatherLemmas.{not_none-some, text-behind, text-placed}
 use Rattle.idl_text.proofs.LeftLemmas.{behind-first, within-first}

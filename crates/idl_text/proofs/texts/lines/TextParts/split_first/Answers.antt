@@ -1,4 +1,4 @@
-use Rattle.std.proofs.Common.{◌≡◌, ◌∙◌, ◌<◌, ◌≤◌, ◌++◌, ◌-◌, ap, arith, length, sym, take}
+use Rattle.std.proofs.Common.{◌∙◌, ◌++◌, ◌-◌, ap, sym, take}
 use Rattle.idl_text.proofs.GatherLemmas.{take-past}
 use Rattle.idl_text.proofs.texts.lines.TextParts.split_first.Goals as goal
 
