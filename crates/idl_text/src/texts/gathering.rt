@@ -15,6 +15,9 @@ use crate::tokens::tokens_left::TokensLeft;
 use idl_lex::Token;
 use std::alloc::{AllocError, Global};
 
+// Of so many words of a text no hints are noted.
+const FEW: usize = 16;
+
 /// The texts of a file.
 pub fn find_texts(alloc: Global, lexed: &Lexed) -> Result<TextTable, AllocError>
     ensures { IfOk result (λ table. AreTextsOf (tokens_of lexed.now) table) }
@@ -97,13 +100,27 @@ fn gather_word(
     if !token.is_word() {
         return Ok(());
     }
-    let digest = digest_of(token.as_bytes());
-    if is_there(words.as_slice(), hints.places_of(digest), token) {
+    if is_found(words.as_slice(), token, hints)? {
         return Ok(());
     }
-    hints.note(digest, words.len())?;
     words.push(token.clone()?)?;
     Ok(())
+}
+
+// Whether a word is found among these: few are looked through, and behind as many a hint is needed. Where it isn't found, a hint
+// is noted of where it will stand.
+fn is_found(words: &[Token], word: &Token, hints: &mut Hints) -> Result<bool, AllocError>
+    ensures { IfOk result (λ found. IsTrue found → Contains words.now word.now) }
+{
+    if words.len() < FEW {
+        return Ok(words.contains(word));
+    }
+    let digest = digest_of(word.as_bytes());
+    if is_there(words, hints.places_of(digest), word) {
+        return Ok(true);
+    }
+    hints.note(digest, words.len())?;
+    Ok(false)
 }
 
 // Whether a word stands at one of these places.
