@@ -89,11 +89,7 @@ fn gather_words(
 }
 
 // They go on with one token more.
-fn gather_word(
-    token: &Token,
-    words: &mut Vec<Token>,
-    hints: &mut Hints,
-) -> Result<(), AllocError>
+fn gather_word(token: &Token, words: &mut Vec<Token>, hints: &mut Hints) -> Result<(), AllocError>
     ensures { OnOk result ((text : List PlacedToken) (t : PlacedToken) → t.token ≡ token.now
         → AreWordsOf text words.old.items → AreWordsOf (text ++ t ∷ []) words.new.items) }
 {

@@ -12,8 +12,8 @@ returns c =
     let rest = c.first_part-part.result.1 in
     let first = c.first_part-part.ensures in (
       sym c.self.view_is
-      ∙ ap (take it.count) first.all
-      ∙ take-past it.count part rest first.few
-      ∙ ap (λ n. part ++ take (it.count - n) rest) (sym c.len.ensures),
+          ∙ ap (take it.count) first.all
+          ∙ take-past it.count part rest first.few
+          ∙ ap (λ n. part ++ take (it.count - n) rest) (sym c.len.ensures),
       first.some,
     )
