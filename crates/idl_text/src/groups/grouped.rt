@@ -140,14 +140,14 @@ impl<'a> LinesLeft<'a> {
     {
         let file = self.file;
         let text = file.texts.text_from(self.before)?;
-        let tokens = file.lexed.behind(self.before);
         let before = self.before + text.count;
         let rest = LinesLeft {
             file,
             before,
             tokens: file.lexed.behind(before),
         };
-        Some((TextLines::new(tokens, text.count, &text.words), rest))
+        let lines = TextLines::new(self.tokens.copied(), text.count, &text.words);
+        Some((lines, rest))
     }
 
     /// What comes after the branch of a group that begins with these lines, and the faults of groups in that branch; `None`

@@ -49,7 +49,7 @@ fn gather_text<'a>(
     tokens: TokensLeft<'a>,
     hints: &mut Hints,
 ) -> Result<(TextSpan, TokensLeft<'a>), AllocError>
-    requires { length tokens.entry < 2 ^ 64 }
+    requires { length tokens < 2 ^ 64 }
     ensures text { IfOk result (λ found. BeginsText tokens.entry found.0.count found.0.words.items) }
     ensures from { IfOk result (λ found. found.0.from ≡ from) }
     ensures behind { IfOk result (λ found. found.1 ≡ drop found.0.count tokens.entry) }

@@ -31,8 +31,8 @@ impl<'a> Model for TextLines<'a> {
 impl<'a> TextLines<'a> {
     /// The first so many of these tokens, which have these words.
     pub(crate) fn new(tokens: TokensLeft<'a>, count: usize, words: &'a [Token]) -> TextLines<'a>
-        requires within { count ≤ length tokens.entry }
-        requires words { AreWordsOf (take count tokens.entry) words.now }
+        requires within { count ≤ length tokens }
+        requires words { AreWordsOf (take count tokens) words.now }
         ensures { result ≡ take count tokens.entry }
     {
         TextLines {
@@ -85,7 +85,7 @@ impl<'a> Model for TextParts<'a> {
 impl<'a> TextParts<'a> {
     // The first so many of these tokens.
     fn new(tokens: TokensLeft<'a>, count: usize) -> TextParts<'a>
-        requires { count ≤ length tokens.entry }
+        requires { count ≤ length tokens }
         ensures { result ≡ take count tokens.entry }
     {
         TextParts { tokens, count }

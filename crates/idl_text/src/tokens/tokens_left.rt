@@ -108,6 +108,7 @@ impl<'a> TokensLeft<'a> {
         );
         (text, rest)
     }
+
     /// Those of the tokens that come first and stand in one chunk, so many at most, and those after them.
     pub(crate) fn first_part(&self, most: usize) -> (FileTokens<'a>, TokensLeft<'a>)
         requires left { 0 < length self.now }

@@ -7,11 +7,11 @@ use Rattle.idl_macro.proofs.ReplaceLemmas.{reached-text-append, reached-text-nil
 use Rattle.idl_macro.proofs.replacement.replace_text.Goals as goal
 
 pub emit_lines-requires : goal.emit_lines-requires
-emit_lines-requires g c = c.in_ok-are_plain.ensures.room c.if-are_plain.true
+emit_lines-requires g c = c.in_ok-are_plain.ensures.room c.if-branch.true
 
-pub returns-then-are_plain : goal.returns-then-are_plain
-returns-then-are_plain g c =
-    IfOk-weaker c.emit_lines.result _ _ (λ _ emitted. emitted ∙ c.in_ok-are_plain.ensures.plain c.args.file.now c.if-are_plain.true) c.emit_lines.ensures
+pub returns-then-branch : goal.returns-then-are_plain
+returns-then-branch g c =
+    IfOk-weaker c.emit_lines.result _ _ (λ _ emitted. emitted ∙ c.in_ok-are_plain.ensures.plain c.args.file.now c.if-branch.true) c.emit_lines.ensures
 
 pub chunks-init : goal.chunks-init
 chunks-init g c =

@@ -48,15 +48,15 @@ lines-smaller-then-text-gt0 c =
     let found = c.in_ok-text.ensures in
     omega (arith, c.if-text-gt0.true, found.text.within, ap length found.behind, length-drop text.count c.lines.left)
 
-pub first_line-requires : goal.first_line-requires
-first_line-requires c =
+pub first_line-line-requires : goal.first_line-line-requires
+first_line-line-requires c =
     let found = c.in_ok-text.ensures in
     let none : c.in_ok-text.text.count ≡ 0 = omega (arith, c.if-text-gt0.false) in
     let some : 0 < length c.lines.left = not_none-some c.lines.left c.is_empty.result c.is_empty.ensures c.lines-test.true in
     omega (arith, some, none, ap length found.behind, length-drop c.in_ok-text.text.count c.lines.left)
 
-pub overflow_add-at-2 : goal.overflow_add-at-2
-overflow_add-at-2 c =
+pub overflow_add-at-in-lines : goal.overflow_add-at-in-lines
+overflow_add-at-in-lines c =
     let tokens = tokens_of c.args.lexed.now in
     let here = c.lines.invariant in
     let none : c.in_ok-text.text.count ≡ 0 = omega (arith, c.if-text-gt0.false) in
@@ -64,7 +64,7 @@ overflow_add-at-2 c =
     omega (
       arith,
       c.all-left.ensures.room,
-      within-first tokens c.in_ok-text.behind c.first_line-line.result.0 c.first_line-line.result.1 c.lines.at c.len.result is c.first_line-line.ensures.all c.len.ensures here.within,
+      within-first tokens c.in_ok-text.behind c.first_line-line.result.0 c.first_line-line.result.1 c.lines.at c.len-at.result is c.first_line-line.ensures.all c.len-at.ensures here.within,
     )
 
 pub lines-preserved : goal.lines-preserved
@@ -78,8 +78,8 @@ lines-preserved c =
     let none : c.in_ok-text.text.count ≡ 0 = omega (arith, c.if-text-gt0.false) in
     let is : behind ≡ drop c.lines.at tokens = c.in_ok-text.ensures.behind ∙ ap (λ n. drop n c.lines.left) none ∙ here.left in
     record {
-      within = within-first tokens behind line rest c.lines.at c.len.result is all c.len.ensures here.within;
-      left = behind-first tokens behind line rest c.lines.at c.len.result is all c.len.ensures;
+      within = within-first tokens behind line rest c.lines.at c.len-at.result is all c.len-at.ensures here.within;
+      left = behind-first tokens behind line rest c.lines.at c.len-at.result is all c.len-at.ensures;
       texts = here.texts;
     }
 

@@ -36,25 +36,27 @@ invariant_of-rest c =
     let here = text-found tokens c.args.self.now it.before c.file.inside.texts text is c.self.invariant.1 are c.in_ok-text.ensures.0 c.in_ok-text.ensures.1 in
     (c.behind.ensures, here.end, c.self.invariant.2)
 
-pub new-requires-clause-within : goal.new-requires-clause-within
-new-requires-clause-within c =
+pub new-lines-requires-clause-within : goal.new-lines-requires-clause-within
+new-lines-requires-clause-within c =
     let it = c.self.inside in
     let tokens = tokens_of it.file.now in
     let text = c.in_ok-text.text.now in
     let is : c.args.self.now ≡ drop it.before tokens = sym c.self.view_is ∙ c.self.invariant.0 in
     let are : AreTextsOf tokens c.file.inside.texts = subst (λ lines. AreTextsOf (tokens_of lines) c.file.inside.texts) c.file.view_is c.file.invariant.1 in
+    let same : c.args.self.now ≡ c.copied.result = sym c.self.view_is ∙ sym c.copied.ensures in
     let here = text-found tokens c.args.self.now it.before c.file.inside.texts text is c.self.invariant.1 are c.in_ok-text.ensures.0 c.in_ok-text.ensures.1 in
-    omega (arith, here.begins.within, ap length (is ∙ sym c.behind-tokens.ensures))
+    omega (arith, here.begins.within, ap length same)
 
-pub new-requires-clause-words : goal.new-requires-clause-words
-new-requires-clause-words c =
+pub new-lines-requires-clause-words : goal.new-lines-requires-clause-words
+new-lines-requires-clause-words c =
     let it = c.self.inside in
     let tokens = tokens_of it.file.now in
     let text = c.in_ok-text.text.now in
     let is : c.args.self.now ≡ drop it.before tokens = sym c.self.view_is ∙ c.self.invariant.0 in
     let are : AreTextsOf tokens c.file.inside.texts = subst (λ lines. AreTextsOf (tokens_of lines) c.file.inside.texts) c.file.view_is c.file.invariant.1 in
+    let same : c.args.self.now ≡ c.copied.result = sym c.self.view_is ∙ sym c.copied.ensures in
     let here = text-found tokens c.args.self.now it.before c.file.inside.texts text is c.self.invariant.1 are c.in_ok-text.ensures.0 c.in_ok-text.ensures.1 in
-    subst (λ ts. AreWordsOf (take text.count ts) text.words.items) (is ∙ sym c.behind-tokens.ensures) here.begins.words
+    subst (λ ts. AreWordsOf (take text.count ts) text.words.items) same here.begins.words
 
 pub returns-clause-lines : goal.returns-clause-lines
 returns-clause-lines c =
@@ -63,8 +65,9 @@ returns-clause-lines c =
     let text = c.in_ok-text.text.now in
     let is : c.args.self.now ≡ drop it.before tokens = sym c.self.view_is ∙ c.self.invariant.0 in
     let are : AreTextsOf tokens c.file.inside.texts = subst (λ lines. AreTextsOf (tokens_of lines) c.file.inside.texts) c.file.view_is c.file.invariant.1 in
+    let same : c.args.self.now ≡ c.copied.result = sym c.self.view_is ∙ sym c.copied.ensures in
     let here = text-found tokens c.args.self.now it.before c.file.inside.texts text is c.self.invariant.1 are c.in_ok-text.ensures.0 c.in_ok-text.ensures.1 in
-    let front : take text.count c.args.self.now ≡ c.new.result = ap (take text.count) (is ∙ sym c.behind-tokens.ensures) ∙ sym c.new.ensures in
+    let front : take text.count c.args.self.now ≡ c.new-lines.result = ap (take text.count) same ∙ sym c.new-lines.ensures in
     let back : drop text.count c.args.self.now ≡ c.behind.result = here.behind ∙ sym c.behind.ensures in
     here.begins.lines ∙ (λ i. map Text (lines_of (front i)) ++ lines_from (back i))
 
@@ -75,8 +78,9 @@ returns-clause-all c =
     let text = c.in_ok-text.text.now in
     let is : c.args.self.now ≡ drop it.before tokens = sym c.self.view_is ∙ c.self.invariant.0 in
     let are : AreTextsOf tokens c.file.inside.texts = subst (λ lines. AreTextsOf (tokens_of lines) c.file.inside.texts) c.file.view_is c.file.invariant.1 in
+    let same : c.args.self.now ≡ c.copied.result = sym c.self.view_is ∙ sym c.copied.ensures in
     let here = text-found tokens c.args.self.now it.before c.file.inside.texts text is c.self.invariant.1 are c.in_ok-text.ensures.0 c.in_ok-text.ensures.1 in
-    let front : take text.count c.args.self.now ≡ c.new.result = ap (take text.count) (is ∙ sym c.behind-tokens.ensures) ∙ sym c.new.ensures in
+    let front : take text.count c.args.self.now ≡ c.new-lines.result = ap (take text.count) same ∙ sym c.new-lines.ensures in
     let back : drop text.count c.args.self.now ≡ c.behind.result = here.behind ∙ sym c.behind.ensures in
     sym (take-append-drop text.count c.args.self.now) ∙ (λ i. front i ++ back i)
 
@@ -87,6 +91,7 @@ returns-clause-some c =
     let text = c.in_ok-text.text.now in
     let is : c.args.self.now ≡ drop it.before tokens = sym c.self.view_is ∙ c.self.invariant.0 in
     let are : AreTextsOf tokens c.file.inside.texts = subst (λ lines. AreTextsOf (tokens_of lines) c.file.inside.texts) c.file.view_is c.file.invariant.1 in
+    let same : c.args.self.now ≡ c.copied.result = sym c.self.view_is ∙ sym c.copied.ensures in
     let here = text-found tokens c.args.self.now it.before c.file.inside.texts text is c.self.invariant.1 are c.in_ok-text.ensures.0 c.in_ok-text.ensures.1 in
-    let front : take text.count c.args.self.now ≡ c.new.result = ap (take text.count) (is ∙ sym c.behind-tokens.ensures) ∙ sym c.new.ensures in
+    let front : take text.count c.args.self.now ≡ c.new-lines.result = ap (take text.count) same ∙ sym c.new-lines.ensures in
     omega (arith, here.some, ap length front, length-take-le text.count c.args.self.now here.begins.within)
