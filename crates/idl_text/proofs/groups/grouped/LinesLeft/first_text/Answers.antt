@@ -1,4 +1,4 @@
-use Rattle.std.proofs.Common.{◌≡◌, ◌∙◌, ◌+◌, ◌++◌, ap, arith, drop, length, map, subst, sym, take}
+use Rattle.std.proofs.Common.{◌≡◌, ◌∙◌, ◌+◌, ◌≤◌, ◌++◌, ap, arith, drop, length, map, subst, sym, take}
 use Rattle.std.proofs.lemmas.List.{length-take-le, take-append-drop}
 use Rattle.idl_lex.specs.tokens.Tokens.{lines_of, tokens_of}
 use Rattle.idl_text.specs.Line.{Text, lines_from}
@@ -24,7 +24,7 @@ behind-requires c =
     let is : c.args.self.now ≡ drop it.before tokens = sym c.self.view_is ∙ c.self.invariant.0 in
     let are : AreTextsOf tokens c.file.inside.texts = subst (λ lines. AreTextsOf (tokens_of lines) c.file.inside.texts) c.file.view_is c.file.invariant.1 in
     let here = text-found tokens c.args.self.now it.before c.file.inside.texts text is c.self.invariant.1 are c.in_ok-text.ensures.0 c.in_ok-text.ensures.1 in
-    here.end
+    subst (λ lines. it.before + text.count ≤ length (tokens_of lines)) (sym c.file.view_is) here.end
 
 pub invariant_of-rest : goal.invariant_of-rest
 invariant_of-rest c =
@@ -34,7 +34,7 @@ invariant_of-rest c =
     let is : c.args.self.now ≡ drop it.before tokens = sym c.self.view_is ∙ c.self.invariant.0 in
     let are : AreTextsOf tokens c.file.inside.texts = subst (λ lines. AreTextsOf (tokens_of lines) c.file.inside.texts) c.file.view_is c.file.invariant.1 in
     let here = text-found tokens c.args.self.now it.before c.file.inside.texts text is c.self.invariant.1 are c.in_ok-text.ensures.0 c.in_ok-text.ensures.1 in
-    (c.behind.ensures, here.end, c.self.invariant.2)
+    (c.behind.ensures ∙ ap (λ lines. drop (it.before + text.count) (tokens_of lines)) c.file.view_is, here.end, c.self.invariant.2)
 
 pub new-lines-requires-clause-within : goal.new-lines-requires-clause-within
 new-lines-requires-clause-within c =
@@ -56,7 +56,8 @@ new-lines-requires-clause-words c =
     let are : AreTextsOf tokens c.file.inside.texts = subst (λ lines. AreTextsOf (tokens_of lines) c.file.inside.texts) c.file.view_is c.file.invariant.1 in
     let same : c.args.self.now ≡ c.copied.result = sym c.self.view_is ∙ sym c.copied.ensures in
     let here = text-found tokens c.args.self.now it.before c.file.inside.texts text is c.self.invariant.1 are c.in_ok-text.ensures.0 c.in_ok-text.ensures.1 in
-    subst (λ ts. AreWordsOf (take text.count ts) text.words.items) same here.begins.words
+    subst (AreWordsOf (take text.count c.copied.result)) (sym c.deref.ensures.value)
+    (subst (λ ts. AreWordsOf (take text.count ts) text.words.items) same here.begins.words)
 
 pub returns-clause-lines : goal.returns-clause-lines
 returns-clause-lines c =
@@ -68,7 +69,8 @@ returns-clause-lines c =
     let same : c.args.self.now ≡ c.copied.result = sym c.self.view_is ∙ sym c.copied.ensures in
     let here = text-found tokens c.args.self.now it.before c.file.inside.texts text is c.self.invariant.1 are c.in_ok-text.ensures.0 c.in_ok-text.ensures.1 in
     let front : take text.count c.args.self.now ≡ c.new-lines.result = ap (take text.count) same ∙ sym c.new-lines.ensures in
-    let back : drop text.count c.args.self.now ≡ c.behind.result = here.behind ∙ sym c.behind.ensures in
+    let back : drop text.count c.args.self.now ≡ c.behind.result =
+    here.behind ∙ sym (c.behind.ensures ∙ ap (λ lines. drop (it.before + text.count) (tokens_of lines)) c.file.view_is) in
     here.begins.lines ∙ (λ i. map Text (lines_of (front i)) ++ lines_from (back i))
 
 pub returns-clause-all : goal.returns-clause-all
@@ -81,7 +83,8 @@ returns-clause-all c =
     let same : c.args.self.now ≡ c.copied.result = sym c.self.view_is ∙ sym c.copied.ensures in
     let here = text-found tokens c.args.self.now it.before c.file.inside.texts text is c.self.invariant.1 are c.in_ok-text.ensures.0 c.in_ok-text.ensures.1 in
     let front : take text.count c.args.self.now ≡ c.new-lines.result = ap (take text.count) same ∙ sym c.new-lines.ensures in
-    let back : drop text.count c.args.self.now ≡ c.behind.result = here.behind ∙ sym c.behind.ensures in
+    let back : drop text.count c.args.self.now ≡ c.behind.result =
+    here.behind ∙ sym (c.behind.ensures ∙ ap (λ lines. drop (it.before + text.count) (tokens_of lines)) c.file.view_is) in
     sym (take-append-drop text.count c.args.self.now) ∙ (λ i. front i ++ back i)
 
 pub returns-clause-some : goal.returns-clause-some
