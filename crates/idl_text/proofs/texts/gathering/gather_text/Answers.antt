@@ -1,4 +1,4 @@
-use Rattle.std.proofs.Common.{◌≡◌, ◌∙◌, ◌<◌, ap, arith, length, subst, sym, take}
+use Rattle.std.proofs.Common.{◌<◌, ap, arith, length, subst, sym, take}
 use Rattle.std.proofs.lemmas.List.{length-append}
 use Rattle.idl_text.specs.Texts.{BeginsText}
 use Rattle.idl_text.proofs.GatherLemmas.{gathered-begins, gathered-more, gathered-none, not_none-some}

@@ -1,4 +1,4 @@
-use Rattle.std.proofs.Common.{◌≡◌, ◌∙◌, ◌+◌, ◌≤◌, List, ap, arith, length, length-append, sym, subst}
+use Rattle.std.proofs.Common.{◌∙◌, ◌+◌, ◌≤◌, List, ap, arith, length, length-append, sym, subst}
 use Rattle.idl_event.specs.Expanding.{Reached, after_text}
 use Rattle.idl_event.specs.Items.{tokens_left}
 use Rattle.idl_lex.specs.declared.tokens.token.PlacedToken.{PlacedToken}
