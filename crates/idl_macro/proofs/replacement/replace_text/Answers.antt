@@ -1,4 +1,4 @@
-use Rattle.std.proofs.Common.{◌≡◌, ◌∙◌, List, ap, arith, length, length-append, sym}
+use Rattle.std.proofs.Common.{◌∙◌, List, ap, arith, length, length-append, sym}
 use Rattle.std.proofs.lemmas.Result.{IfOk-weaker}
 use Rattle.idl_event.specs.Expanding.{reached}
 use Rattle.idl_lex.specs.declared.tokens.token.PlacedToken.{PlacedToken}
