@@ -9,7 +9,7 @@ use Rattle.idl_macro.proofs.replacement.replace_text.Goals as goal
 pub emit_lines-requires : goal.emit_lines-requires
 emit_lines-requires g c = c.in_ok-are_plain.ensures.room c.if-branch.true
 
-pub returns-then-branch : goal.returns-then-are_plain
+pub returns-then-branch : goal.returns-then-branch
 returns-then-branch g c =
     IfOk-weaker c.emit_lines.result _ _ (λ _ emitted. emitted ∙ c.in_ok-are_plain.ensures.plain c.args.file.now c.if-branch.true) c.emit_lines.ensures
 
