@@ -50,9 +50,9 @@ fn gather_text<'a>(
     hints: &mut Hints,
 ) -> Result<(TextSpan, TokensLeft<'a>), AllocError>
     requires { length tokens < 2 ^ 64 }
-    ensures text { IfOk result (λ found. BeginsText tokens.entry found.0.count found.0.words.items) }
-    ensures from { IfOk result (λ found. found.0.from ≡ from) }
-    ensures behind { IfOk result (λ found. found.1 ≡ drop found.0.count tokens.entry) }
+    ensures text { IfOk result (λ it. BeginsText tokens.entry it.0.count it.0.words.items) }
+    ensures from { IfOk result (λ it. it.0.from ≡ from) }
+    ensures behind { IfOk result (λ it. it.1 ≡ drop it.0.count tokens.entry) }
 {
     let mut words = Vec::new(alloc);
     let mut left = tokens;
