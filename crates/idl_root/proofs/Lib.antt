@@ -7,6 +7,7 @@ mod ClosingLemmas
 mod ComeLemmas
 mod ComparedLemmas
 mod CompileLemmas
+mod CompiledLemmas
 mod DetailLemmas
 mod DigestLemmas
 mod FactsTold

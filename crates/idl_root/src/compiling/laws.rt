@@ -1,6 +1,6 @@
 //! The laws of what is told.
 
-ghost use Rattle.std.specs.Prelude.{◌≡◌, ◌<◌, ◌++◌, [], ℕ, All, List, false, filter, length, map, nat_eq};
+ghost use Rattle.std.specs.Prelude.{◌≡◌, ◌↔◌, ◌<◌, ◌++◌, [], ℕ, All, List, false, filter, length, map, nat_eq};
 ghost use Rattle.idl_block.specs.Blocks.{walk};
 ghost use Rattle.idl_env.specs.Facts.{UnitFacts, answers};
 ghost use Rattle.idl_event.specs.declared.told.event.Event.{Event};
@@ -8,6 +8,7 @@ ghost use Rattle.idl_fault.specs.declared.place.Place.{Place};
 ghost use Rattle.idl_root_blocks.specs.idl_check_laws.Closing.{AreTold};
 ghost use Rattle.idl_root.specs.Closing.{ClosesAtFirst};
 ghost use Rattle.idl_root.specs.Compile.{compile, outcome_of};
+ghost use Rattle.idl_root.specs.Compiled.{CompilesTo};
 ghost use Rattle.idl_root.specs.Details.{details, printed};
 ghost use Rattle.idl_root.specs.Judged.{HasTurns, facts_after, judged_after};
 ghost use Rattle.idl_root.specs.Named.{named_after};
@@ -19,6 +20,7 @@ ghost use Rattle.idl_root_blocks.specs.Units.{text_of};
 ghost use Rattle.idl_unit.specs.declared.unit.Unit.{Unit as RootUnit};
 ghost use Rattle.idl_root.specs.Told.{IsTold};
 ghost use Rattle.idl_root.specs.Turns.{FitsU64};
+ghost use Rattle.idl_root.specs.declared.compiling.compiled.Compiled.{Compiled};
 ghost use Rattle.idl_unit.specs.Units.{units_of};
 ghost use Rattle.std.specs.List.Sorted.{IsNonDecreasingBy};
 ghost use Rattle.idl_finding.specs.Findings.{finding_row, in_order};
@@ -116,4 +118,14 @@ pub fn blocks()
     // They do nothing: they carry laws of pieces, and of blocks.
     cutting();
     standing();
+}
+
+/// What a root compiles to is told by its units one by one, each of which has its verdict over the facts of those before it: by no
+/// bound on turns. This does nothing: it carries the law.
+pub fn compiled()
+    ensures { (end : Place) (events : List Event) (compiled : Compiled) → FitsU64 events
+        → CompilesTo end events compiled ↔ (compiled ≡ compile end events) }
+{
+    // It does nothing: it carries a law of verdicts.
+    more_turns();
 }
