@@ -1,11 +1,13 @@
 -- What is answered of a root is what its units come to, and nothing else is.
-use Rattle.std.proofs.Common.{◌≡◌, ◌∙◌, ◌||◌, ℕ, All, Bool, true, false, cond, List, [], ◌∷◌, Option, None, Some, refl, subst, sym, ap}
+use Rattle.std.proofs.Common.{◌≡◌, ◌∙◌, ◌<◌, ◌^◌, ◌||◌, ℕ, All, Bool, true, false, cond, List, [], ◌∷◌, length, Option, None, Some, Bor, refl, subst, sym, ap}
 use Rattle.std.specs.Prelude.{◌↔◌}
 use Rattle.std.proofs.lemmas.Bool.{false≢true}
 use Rattle.std.proofs.lemmas.List.Elements.{All-head, All-tail}
 use Rattle.std.specs.Cmp.Lexicographic.{bytes_decides}
-use Rattle.std.specs.List.{list_any}
+use Rattle.std.specs.List.{enumerate_from, list_any}
+use Rattle.std.specs.Option.{IfSome, option_copied}
 use Rattle.std.specs.Str.{bytes_eq}
+use Rattle.idl_event.specs.Apart.{tokens_in}
 use Rattle.idl_event.specs.declared.asked.key.RootAnswer.{RootAnswer}
 use Rattle.idl_event.specs.declared.asked.key.RootKey.{RootKey}
 use Rattle.idl_event.specs.declared.told.event.Event.{Event}
@@ -31,11 +33,20 @@ root-among P (r ∷ roots) name all h = by (bytes_eq name r) refl (root-among P 
     by true same rest h = subst P (sym ((bytes_decides name r).0 same)) (All-head P r roots all)
     by false other rest h = rest h
 
-some-same : (x y : CompiledRoot) → ◌≡◌ {A = Option CompiledRoot} (Some x) (Some y) → x ≡ y
+some-same : {A : Type 0} (x y : A) → ◌≡◌ {A = Option A} (Some x) (Some y) → x ≡ y
 some-same x y h = cc
 
-none-some : (x : CompiledRoot) → ◌≡◌ {A = Option CompiledRoot} None (Some x) → ⊥
+none-some : {A : Type 0} (x : A) → ◌≡◌ {A = Option A} None (Some x) → ⊥
 none-some x h = cc
+
+-- the tokens of events are counted that are found
+abbrev pub IsSmall : Bor (List Event) → Type 0
+IsSmall e = length (tokens_in (enumerate_from 0 e.now)) < 2 ^ 64
+
+pub found-small : (found : Option (Bor (List Event))) (events : List Event) → option_copied found ≡ Some events → IfSome found IsSmall
+    → length (tokens_in (enumerate_from 0 events)) < 2 ^ 64
+found-small None events is small = absurd (none-some events is)
+found-small (Some e) events is small = subst (λ (es : List Event). length (tokens_in (enumerate_from 0 es)) < 2 ^ 64) (some-same e.now events is) small
 
 -- what the law of a root says of its events
 abbrev pub Law : List Event → Type 0

@@ -33,4 +33,5 @@ mod TakenLemmas
 mod TakenWhole
 mod TextLaws
 mod ToldLemmas
+mod VerdictLemmas
 mod WholeLemmas

@@ -1,10 +1,17 @@
 //! The laws of what is told.
 
-ghost use Rattle.std.specs.Prelude.{◌≡◌, ◌↔◌, ◌<◌, ◌++◌, [], ℕ, All, List, false, filter, length, map, nat_eq};
+ghost use Rattle.std.specs.Prelude.{◌≡◌, ◌↔◌, ◌<◌, ◌≤◌, ◌^◌, ◌++◌, [], ℕ, All, List, false, filter, length, map, nat_eq};
+ghost use Rattle.std.specs.List.{enumerate_from};
 ghost use Rattle.idl_block.specs.Blocks.{walk};
 ghost use Rattle.idl_env.specs.Facts.{UnitFacts, answers};
+ghost use Rattle.idl_env.specs.Turns.{turns_for};
+ghost use Rattle.idl_event.specs.Apart.{tokens_in};
 ghost use Rattle.idl_event.specs.declared.told.event.Event.{Event};
 ghost use Rattle.idl_fault.specs.declared.place.Place.{Place};
+ghost use Rattle.idl_memo.specs.Query.{outcome};
+ghost use Rattle.idl_root_blocks.specs.idl_check.walk.Judging.{FitsMemory};
+ghost use Rattle.idl_root_blocks.specs.idl_check.walk.Verdict.{verdict};
+ghost use Rattle.idl_root_blocks.specs.idl_check.declared.walk.verdict.Verdict.{Verdict};
 ghost use Rattle.idl_root_blocks.specs.idl_check_laws.Closing.{AreTold};
 ghost use Rattle.idl_root.specs.Closing.{ClosesAtFirst};
 ghost use Rattle.idl_root.specs.Compile.{compile, outcome_of};
@@ -18,8 +25,10 @@ ghost use Rattle.idl_root_blocks.specs.Blocks.{parts_of};
 ghost use Rattle.idl_root_blocks.specs.Places.{AreStandingOver, facts_over, unit_ways};
 ghost use Rattle.idl_root_blocks.specs.Units.{text_of};
 ghost use Rattle.idl_unit.specs.declared.unit.Unit.{Unit as RootUnit};
+ghost use Rattle.idl_unit.specs.declared.unit.UnitText.{UnitText};
 ghost use Rattle.idl_root.specs.Told.{IsTold};
 ghost use Rattle.idl_root.specs.Turns.{FitsU64};
+ghost use Rattle.idl_root.specs.Verdict.{IsVerdict};
 ghost use Rattle.idl_root.specs.declared.compiling.compiled.Compiled.{Compiled};
 ghost use Rattle.idl_unit.specs.Units.{units_of};
 ghost use Rattle.std.specs.List.Sorted.{IsNonDecreasingBy};
@@ -28,8 +37,11 @@ ghost use Rattle.idl_finding.specs.declared.finding.EventFinding.{EventFinding};
 
 use idl_repo::details::printing;
 use idl_repo::listed_row;
-use idl_root_blocks::idl_check_laws::{acceptance, ahead, more_turns, names, numbering, refusal};
+use idl_root_blocks::idl_check_laws::{
+    acceptance, ahead, least, more_turns, names, numbering, refusal,
+};
 use idl_root_blocks::{cutting, standing};
+use idl_unit::nothing_lost;
 
 /// What is found is told in the order of events: no finding names an event before that of an earlier one, and each event has
 /// the findings that it had, in their order. This does nothing: it carries the law.
@@ -120,12 +132,28 @@ pub fn blocks()
     standing();
 }
 
+/// The verdict of a unit is told by the least of all its faults, and where it has none by what all its sites come to: the same, and the
+/// only one, with each number of turns that is enough for the facts before it. This does nothing: it carries the law.
+pub fn judging()
+    ensures { (facts : List UnitFacts) (turns : ℕ) (text : UnitText) (v : Verdict)
+        → turns_for facts ≤ turns → FitsMemory text
+        → IsVerdict facts text v ↔ (v ≡ outcome (verdict turns text) (answers facts)) }
+{
+    // They do nothing: they carry laws of verdicts.
+    least();
+    refusal();
+    acceptance();
+    more_turns();
+}
+
 /// What a root compiles to is told by its units one by one, each of which has its verdict over the facts of those before it: by no
 /// bound on turns. This does nothing: it carries the law.
 pub fn compiled()
-    ensures { (end : Place) (events : List Event) (compiled : Compiled) → FitsU64 events
+    ensures { (end : Place) (events : List Event) (compiled : Compiled)
+        → FitsU64 events → length (tokens_in (enumerate_from 0 events)) < 2 ^ 64
         → CompilesTo end events compiled ↔ (compiled ≡ compile end events) }
 {
-    // It does nothing: it carries a law of verdicts.
-    more_turns();
+    judging();
+    // It does nothing: it carries a law of units.
+    nothing_lost();
 }
