@@ -13,11 +13,11 @@ use Rattle.idl_memo.proofs.QueryLaws.{outcome-and_then}
 use Rattle.idl_memo.specs.Query.{Done, and_then, outcome}
 use Rattle.idl_parts.specs.Item.{items}
 use Rattle.idl_parts.specs.UnitParts.{unit_parts}
-use Rattle.idl_root.specs.Verdict.{IsToldBy, IsVerdict, IsVerdictBy, faults_of, pragma_said}
+use Rattle.idl_root.specs.Verdict.{IsRead, IsToldBy, IsVerdict, IsVerdictBy, faults_of, pragma_said}
 use Rattle.idl_root_blocks.proofs.IdlCheckLaws.ToldLaws.{MoreTurns}
 use Rattle.idl_root_blocks.specs.idl_check.ids.About.{Said}
 use Rattle.idl_root_blocks.specs.idl_check.ids.Pragmas.{said_by}
-use Rattle.idl_root_blocks.specs.idl_check.idl_parse.Parse.{pragma_faults}
+use Rattle.idl_root_blocks.specs.idl_check.idl_parse.Parse.{StopsAt, pragma_faults}
 use Rattle.idl_root_blocks.specs.idl_check.walk.AllFaults.{or_else, unit_faults}
 use Rattle.idl_root_blocks.specs.idl_check.walk.Judging.{FitsMemory, IsSound, walked}
 use Rattle.idl_root_blocks.specs.idl_check.walk.Placing.{faulty_step}
@@ -34,6 +34,16 @@ use Rattle.idl_unit.specs.Faults.{least_fault}
 use Rattle.idl_unit.specs.declared.fault.Fault.{Fault}
 use Rattle.idl_unit.specs.declared.unit.UnitText.{UnitText}
 use Rattle.idl_unit.specs.declared.unit.UnitText.TheVariants as unit
+
+-- ---- what is read
+
+module _
+    (spelled : (tokens : List Token) (tree : Tree) → (tree_of tokens ≡ Ok tree) ↔ (lexemes tokens ≡ spell tree))
+    (stopped : (tokens : List Token) (place : ℕ) → (tree_of tokens ≡ Err place) ↔ StopsAt tokens place)
+  where
+    pub reads : (tokens : List Token) (r : Result Tree ℕ) → IsRead tokens r ↔ (tree_of tokens ≡ r)
+    reads tokens (Ok tree) = ((spelled tokens tree).1, (spelled tokens tree).0)
+    reads tokens (Err n) = ((stopped tokens n).1, (stopped tokens n).0)
 
 -- ---- pragmas
 
@@ -82,7 +92,7 @@ module _
     → outcome (verdict turns (unit.Tokens tokens)) answers ≡ faulty fault (faulty_step tokens))
     (accepted : (turns : ℕ) (tokens : List Token) (answers : Key → Option Answer) → (outcome (verdict turns (unit.Tokens tokens)) answers).fault ≡ None
     → IsSound turns answers (scopes_in (answers Cursor)) tokens (outcome (verdict turns (unit.Tokens tokens)) answers))
-    (spelled : (tokens : List Token) (tree : Tree) → (tree_of tokens ≡ Ok tree) ↔ (lexemes tokens ≡ spell tree))
+    (reading : (tokens : List Token) (r : Result Tree ℕ) → IsRead tokens r ↔ (tree_of tokens ≡ r))
   where
     module _ (turns : ℕ) (bank : Key → Option Answer) (tokens : List Token) where
       -- what comes of them is told so
@@ -92,11 +102,13 @@ module _
       comes-told None (Ok tree) is read =
           let scopes = scopes_in (bank Cursor) in
           let a = accepted turns tokens bank is in
-          let same : a.tree ≡ tree = ok-same (sym ((spelled tokens a.tree).1 a.spelled) ∙ read) in
+          let both : ◌≡◌ {A = Result Tree ℕ} (Ok a.tree) (Ok tree) = sym ((reading tokens (Ok a.tree)).0 a.spelled) ∙ read in
+          let same : a.tree ≡ tree = ok-same both in
           a.is ∙ ap (λ (t : Tree). sound tokens scopes t (walked turns bank (items (unit_parts t)) (first_walk scopes))) same
       comes-told None (Err n) is read =
           let a = accepted turns tokens bank is in
-          absurd (err-ok (sym read ∙ (spelled tokens a.tree).1 a.spelled))
+          let both : ◌≡◌ {A = Result Tree ℕ} (Err n) (Ok a.tree) = sym read ∙ (reading tokens (Ok a.tree)).0 a.spelled in
+          absurd (err-ok both)
 
       module _ (fits : FitsMemory (unit.Tokens tokens)) where
         -- the fault is the least of all
@@ -108,10 +120,10 @@ module _
 
         tokens-is : (v : Verdict) → IsVerdictBy turns bank (unit.Tokens tokens) v ↔ (v ≡ outcome (verdict turns (unit.Tokens tokens)) bank)
         tokens-is v = (
-          λ h. told-once turns bank tokens (least_fault (faults_of turns bank tokens h.0)) h.0 v (outcome (verdict turns (unit.Tokens tokens)) bank) h.2 (comes-read h.0 h.1),
+          λ h. told-once turns bank tokens (least_fault (faults_of turns bank tokens h.0)) h.0 v (outcome (verdict turns (unit.Tokens tokens)) bank) h.2 (comes-read h.0 ((reading tokens h.0).0 h.1)),
           λ is.
               let r = tree_of tokens in
-              (r, refl, subst (λ (w : Verdict). IsToldBy turns bank tokens (least_fault (faults_of turns bank tokens r)) r w) (sym is) (comes-read r refl)),
+              (r, (reading tokens r).1 refl, subst (λ (w : Verdict). IsToldBy turns bank tokens (least_fault (faults_of turns bank tokens r)) r w) (sym is) (comes-read r refl)),
         )
 
     -- ---- any unit

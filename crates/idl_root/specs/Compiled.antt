@@ -1,5 +1,5 @@
--- What a root compiles to, said of its units one by one: each has its verdict over the facts of those
--- before it. No bound on turns is in it.
+-- What a root compiles to, said of its units one by one: each has its verdict over the facts of
+-- those before it. No bound on turns is in it.
 use Rattle.std.specs.Prelude.{◌≡◌, List, [], ◌∷◌, ◌++◌, flat_map}
 use Rattle.idl_env.specs.Facts.{UnitFacts, boundary}
 use Rattle.idl_env.specs.declared.additions.addition.Step.TheVariants.{Enters, Leaves}
@@ -15,7 +15,8 @@ use Rattle.idl_unit.specs.Units.{units_of}
 use Rattle.idl_unit.specs.declared.unit.Unit.{Unit as RootUnit}
 use Rattle.idl_unit.specs.declared.unit.Unit.TheVariants.{Spelled, Entered, Left, End}
 
--- Units behind facts, in order, those that have tokens with their verdicts; and the facts behind all.
+-- Units behind facts, in order, those that have tokens with their verdicts, and the facts behind
+-- them.
 abbrev pub AreJudged : List UnitFacts → List RootUnit → List Judged → List UnitFacts → Type 0
 AreJudged facts [] judged last = (judged ≡ []) × (last ≡ facts)
 AreJudged facts (Spelled text sites ∷ units) judged last =

@@ -1,6 +1,6 @@
 //! The laws of what is told.
 
-ghost use Rattle.std.specs.Prelude.{◌≡◌, ◌↔◌, ◌<◌, ◌≤◌, ◌^◌, ◌++◌, [], ℕ, All, List, false, filter, length, map, nat_eq};
+ghost use Rattle.std.specs.Prelude.{◌≡◌, ◌↔◌, ◌<◌, ◌≤◌, ◌^◌, ◌++◌, [], ℕ, All, List, Result, false, filter, length, map, nat_eq};
 ghost use Rattle.std.specs.List.{enumerate_from};
 ghost use Rattle.idl_block.specs.Blocks.{walk};
 ghost use Rattle.idl_env.specs.Facts.{UnitFacts, answers};
@@ -8,9 +8,10 @@ ghost use Rattle.idl_env.specs.Turns.{turns_for};
 ghost use Rattle.idl_event.specs.Apart.{tokens_in};
 ghost use Rattle.idl_event.specs.declared.told.event.Event.{Event};
 ghost use Rattle.idl_fault.specs.declared.place.Place.{Place};
+ghost use Rattle.idl_lex.specs.tokens.Tokens.{Token};
 ghost use Rattle.idl_memo.specs.Query.{outcome};
 ghost use Rattle.idl_root_blocks.specs.idl_check.walk.Judging.{FitsMemory};
-ghost use Rattle.idl_root_blocks.specs.idl_check.walk.Verdict.{verdict};
+ghost use Rattle.idl_root_blocks.specs.idl_check.walk.Verdict.{tree_of, verdict};
 ghost use Rattle.idl_root_blocks.specs.idl_check.declared.walk.verdict.Verdict.{Verdict};
 ghost use Rattle.idl_root_blocks.specs.idl_check_laws.Closing.{AreTold};
 ghost use Rattle.idl_root.specs.Closing.{ClosesAtFirst};
@@ -24,11 +25,12 @@ ghost use Rattle.idl_root.specs.Places.{root_pieces};
 ghost use Rattle.idl_root_blocks.specs.Blocks.{parts_of};
 ghost use Rattle.idl_root_blocks.specs.Places.{AreStandingOver, facts_over, unit_ways};
 ghost use Rattle.idl_root_blocks.specs.Units.{text_of};
+ghost use Rattle.idl_tree.specs.declared.unit.Tree.{Tree};
 ghost use Rattle.idl_unit.specs.declared.unit.Unit.{Unit as RootUnit};
 ghost use Rattle.idl_unit.specs.declared.unit.UnitText.{UnitText};
 ghost use Rattle.idl_root.specs.Told.{IsTold};
 ghost use Rattle.idl_root.specs.Turns.{FitsU64};
-ghost use Rattle.idl_root.specs.Verdict.{IsVerdict};
+ghost use Rattle.idl_root.specs.Verdict.{IsRead, IsVerdict};
 ghost use Rattle.idl_root.specs.declared.compiling.compiled.Compiled.{Compiled};
 ghost use Rattle.idl_unit.specs.Units.{units_of};
 ghost use Rattle.std.specs.List.Sorted.{IsNonDecreasingBy};
@@ -38,7 +40,7 @@ ghost use Rattle.idl_finding.specs.declared.finding.EventFinding.{EventFinding};
 use idl_repo::details::printing;
 use idl_repo::listed_row;
 use idl_root_blocks::idl_check_laws::{
-    acceptance, ahead, least, more_turns, names, numbering, refusal,
+    acceptance, ahead, least, more_turns, names, numbering, refusal, stopping,
 };
 use idl_root_blocks::{cutting, standing};
 use idl_unit::nothing_lost;
@@ -132,6 +134,17 @@ pub fn blocks()
     standing();
 }
 
+/// Of the tokens of a unit is read the tree that they spell, or where they stop being the beginning of one: readers come to that, and to
+/// nothing else. This does nothing: it carries the law.
+pub fn reading_units()
+    ensures { (tokens : List Token) (read : Result Tree ℕ)
+        → IsRead tokens read ↔ (tree_of tokens ≡ read) }
+{
+    // They do nothing: they carry laws of trees.
+    acceptance();
+    stopping();
+}
+
 /// The verdict of a unit is told by the least of all its faults, and where it has none by what all its sites come to: the same, and the
 /// only one, with each number of turns that is enough for the facts before it. This does nothing: it carries the law.
 pub fn judging()
@@ -139,6 +152,7 @@ pub fn judging()
         → turns_for facts ≤ turns → FitsMemory text
         → IsVerdict facts text v ↔ (v ≡ outcome (verdict turns text) (answers facts)) }
 {
+    reading_units();
     // They do nothing: they carry laws of verdicts.
     least();
     refusal();
