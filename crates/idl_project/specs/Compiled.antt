@@ -7,8 +7,8 @@ use Rattle.idl_sources.specs.Compile.{end_of}
 use Rattle.idl_sources.specs.declared.compile.CompiledRoot.{CompiledRoot}
 use Rattle.idl_sources.specs.idl_root.Compiled.{CompilesTo}
 
--- what a root compiles to over these answers: what its events do, and the files that it asks for and
--- that aren't there
+-- what a root compiles to over these answers: what its events do, and the files that it asks for
+-- and that aren't there
 pub record CompilesOver (bank : RootKey → Option RootAnswer) (root : List ℕ)
     (compiled : CompiledRoot) : Type 0 where
   pub rows : CompilesTo (end_of bank root) (expanded root bank).0 compiled.rows

@@ -50,8 +50,8 @@ module _ (turns : ℕ) (bank : Key → Option Answer) where
       let scopes = scopes_in (bank Cursor) in
       or_else turns bank (first_faults tokens scopes) (read_faults scopes read)
 
-  -- The verdict of tokens of which this is read, by the least of their faults, if there is one: with
-  -- a fault what a faulty unit does to the open scopes, without one what all sites come to.
+  -- The verdict of tokens of which this is read, by the least of their faults, if there is one: what
+  -- a faulty unit does to the open scopes, or without a fault what all sites come to.
   abbrev pub IsToldBy : List Token → Option Fault → Result Tree ℕ → Verdict → Type 0
   IsToldBy tokens (Some f) read v = v ≡ faulty f (faulty_step tokens)
   IsToldBy tokens None (Ok tree) v =
