@@ -58,7 +58,35 @@ enough-here u units facts enough =
     let there = turns-after units (facts ++ added facts u) in
     omega (arith, here, there, enough)
 
+-- ---- a root comes to one thing
+
+module _ (once : (facts : List UnitFacts) (text : UnitText) (v w : Verdict) → IsVerdict facts text v → IsVerdict facts text w → v ≡ w) where
+  judged-once : (units : List RootUnit) (facts : List UnitFacts) (js ks : List Judged) (last end : List UnitFacts) → AreJudged facts units js last → AreJudged facts units ks end
+      → (js ≡ ks) × (last ≡ end)
+  judged-once [] facts js ks last end a b = (a.0 ∙ sym b.0, a.1 ∙ sym b.1)
+  judged-once (Spelled text sites ∷ units) facts js ks last end a b =
+      let same : a.0 ≡ b.0 = once facts text a.0 b.0 a.2 b.2 in
+      let rest = judged-once units (facts ++ (b.0).writes ∷ []) a.1 b.1 last end (subst (λ (v : Verdict). AreJudged (facts ++ v.writes ∷ []) units a.1 last) same a.3) b.3 in
+      (
+        a.4
+            ∙ ap (λ (v : Verdict). with_verdict text sites v ∷ a.1) same
+            ∙ ap (λ (more : List Judged). with_verdict text sites b.0 ∷ more) rest.0
+            ∙ sym b.4,
+        rest.1,
+      )
+  judged-once (Entered file inside ∷ units) facts js ks last end a b = judged-once units (facts ++ boundary Enters ∷ []) js ks last end a b
+  judged-once (Left file inside ∷ units) facts js ks last end a b = judged-once units (facts ++ boundary Leaves ∷ []) js ks last end a b
+  judged-once (End ∷ units) facts js ks last end a b = judged-once units facts js ks last end a b
+
+  pub compiles-once : (end : Place) (events : List Event) (c d : Compiled) → CompilesTo end events c → CompilesTo end events d → c ≡ d
+  compiles-once end events c d h k =
+      let same = judged-once (units_of events) [] h.judged k.judged h.facts k.facts h.are_judged k.are_judged in
+      h.is ∙ (λ i. told end events (outcome_over events (same.0 i) (same.1 i))) ∙ sym k.is
+
+-- ---- it is what the units come to
+
 module _
+    (once : (facts : List UnitFacts) (text : UnitText) (v w : Verdict) → IsVerdict facts text v → IsVerdict facts text w → v ≡ w)
     (judging : (facts : List UnitFacts) (turns : ℕ) (text : UnitText) (v : Verdict) → turns_for facts ≤ turns → FitsMemory text
     → IsVerdict facts text v ↔ (v ≡ outcome (verdict turns text) (answers facts)))
   where
@@ -80,30 +108,6 @@ module _
         subst (λ (fs : List UnitFacts). AreJudged facts units (judged_after fs units) (facts_after fs units)) (sym same)
         (units-judged units facts (subst (λ (fs : List UnitFacts). turns_for (facts_after fs units) ≤ most_turns) same enough) short.1)
 
-    judged-only : (units : List RootUnit) (facts : List UnitFacts) (judged : List Judged) (last : List UnitFacts) → turns_for (facts_after facts units) ≤ most_turns → AllByRecursion IsShort units
-        → AreJudged facts units judged last → (judged ≡ judged_after facts units) × (last ≡ facts_after facts units)
-    unfolding facts_after judged_after
-    judged-only [] facts judged last enough short are = are
-    judged-only (Spelled text sites ∷ units) facts judged last enough short are =
-        let v = verdict_over facts text in
-        let same : are.0 ≡ v = (judging facts most_turns text are.0 (enough-here (Spelled text sites) units facts enough) short.0).0 are.2 in
-        let rest = judged-only units (facts ++ v.writes ∷ []) are.1 last enough short.1 (subst (λ (w : Verdict). AreJudged (facts ++ w.writes ∷ []) units are.1 last) same are.3) in
-        (
-          are.4
-              ∙ ap (λ (w : Verdict). with_verdict text sites w ∷ are.1) same
-              ∙ ap (λ (js : List Judged). with_verdict text sites v ∷ js) rest.0,
-          rest.1,
-        )
-    judged-only (Entered file inside ∷ units) facts judged last enough short are = judged-only units (facts ++ boundary Enters ∷ []) judged last enough short.1 are
-    judged-only (Left file inside ∷ units) facts judged last enough short are = judged-only units (facts ++ boundary Leaves ∷ []) judged last enough short.1 are
-    judged-only (End ∷ units) facts judged last enough short are =
-        let same = append-nil facts in
-        let rest = judged-only units facts judged last (subst (λ (fs : List UnitFacts). turns_for (facts_after fs units) ≤ most_turns) same enough) short.1 are in
-        (
-          rest.0 ∙ ap (λ (fs : List UnitFacts). judged_after fs units) (sym same),
-          rest.1 ∙ ap (λ (fs : List UnitFacts). facts_after fs units) (sym same),
-        )
-
     -- ---- a root
 
     pub compiles-to : (end : Place) (events : List Event) (compiled : Compiled) → FitsU64 events → AllByRecursion IsShort (units_of events)
@@ -111,8 +115,8 @@ module _
     unfolding compile
     compiles-to end events compiled within short = (
       λ h.
-          let only = judged-only (units_of events) [] h.judged h.facts within.turns short h.are_judged in
-          h.is ∙ (λ i. told end events (outcome_over events (only.0 i) (only.1 i))),
+          let same = judged-once once (units_of events) [] h.judged (judged_after [] (units_of events)) h.facts (facts_after [] (units_of events)) h.are_judged (units-judged (units_of events) [] within.turns short) in
+          h.is ∙ (λ i. told end events (outcome_over events (same.0 i) (same.1 i))),
       λ is. record {
         judged = judged_after [] (units_of events);
         facts = facts_after [] (units_of events);

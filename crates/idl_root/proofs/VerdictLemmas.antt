@@ -85,7 +85,22 @@ told-once turns bank tokens None (Err n) v w a b = absurd a
 swapped : (a b : ℕ) → a + b ≡ b + a
 swapped a b = omega arith
 
--- by the laws of verdicts
+-- ---- a unit has one verdict
+
+module _ (reading : (tokens : List Token) (r : Result Tree ℕ) → IsRead tokens r ↔ (tree_of tokens ≡ r)) where
+  by-once : (turns : ℕ) (bank : Key → Option Answer) (text : UnitText) (v w : Verdict) → IsVerdictBy turns bank text v → IsVerdictBy turns bank text w → v ≡ w
+  by-once turns bank (unit.Tokens tokens) v w a b =
+      let same : a.0 ≡ b.0 = sym ((reading tokens a.0).0 a.1) ∙ (reading tokens b.0).0 b.1 in
+      told-once turns bank tokens (least_fault (faults_of turns bank tokens b.0)) b.0 v w
+      (subst (λ (r : Result Tree ℕ). IsToldBy turns bank tokens (least_fault (faults_of turns bank tokens r)) r v) same a.2) b.2
+  by-once turns bank (unit.Pragma tokens inside) v w a b = a ∙ sym b
+
+  pub verdict-once : (facts : List UnitFacts) (text : UnitText) (v w : Verdict) → IsVerdict facts text v → IsVerdict facts text w → v ≡ w
+  verdict-once facts text v w a b =
+      by-once (a.0 + b.0) (answers facts) text v w (a.1 b.0) (subst (λ (n : ℕ). IsVerdictBy n (answers facts) text w) (swapped b.0 a.0) (b.1 a.0))
+
+-- ---- by the laws of verdicts it is that which the walk comes to
+
 module _
     (least : (turns : ℕ) (text : UnitText) (answers : Key → Option Answer) → FitsMemory text → (outcome (verdict turns text) answers).fault ≡ least_fault (unit_faults turns answers text))
     (refused : (turns : ℕ) (tokens : List Token) (answers : Key → Option Answer) (fault : Fault) → (outcome (verdict turns (unit.Tokens tokens)) answers).fault ≡ Some fault

@@ -145,12 +145,14 @@ pub fn reading_units()
     stopping();
 }
 
-/// The verdict of a unit is told by the least of all its faults, and where it has none by what all its sites come to: the same, and the
-/// only one, with each number of turns that is enough for the facts before it. This does nothing: it carries the law.
+/// The verdict of a unit is told by the least of all its faults, and where it has none by what all its sites come to: it has one, that with
+/// each number of turns that is enough for the facts before it. This does nothing: it carries the laws.
 pub fn judging()
-    ensures { (facts : List UnitFacts) (turns : ℕ) (text : UnitText) (v : Verdict)
+    ensures is { (facts : List UnitFacts) (turns : ℕ) (text : UnitText) (v : Verdict)
         → turns_for facts ≤ turns → FitsMemory text
         → IsVerdict facts text v ↔ (v ≡ outcome (verdict turns text) (answers facts)) }
+    ensures once { (facts : List UnitFacts) (text : UnitText) (v w : Verdict)
+        → IsVerdict facts text v → IsVerdict facts text w → v ≡ w }
 {
     reading_units();
     // They do nothing: they carry laws of verdicts.
@@ -161,11 +163,13 @@ pub fn judging()
 }
 
 /// What a root compiles to is told by its units one by one, each of which has its verdict over the facts of those before it: by no
-/// bound on turns. This does nothing: it carries the law.
+/// bound on turns. So it compiles to one thing. This does nothing: it carries the laws.
 pub fn compiled()
-    ensures { (end : Place) (events : List Event) (compiled : Compiled)
+    ensures is { (end : Place) (events : List Event) (compiled : Compiled)
         → FitsU64 events → length (tokens_in (enumerate_from 0 events)) < 2 ^ 64
         → CompilesTo end events compiled ↔ (compiled ≡ compile end events) }
+    ensures once { (end : Place) (events : List Event) (c d : Compiled)
+        → CompilesTo end events c → CompilesTo end events d → c ≡ d }
 {
     judging();
     // It does nothing: it carries a law of units.

@@ -13,5 +13,5 @@ returns c = λ compiled.
     let events = (expanded name bank).0 in
     answered project name compiled
     (λ there end rows.
-    c.compiled.ensures end events rows (root-among (λ root. FitsU64 (expanded root bank).0) project.roots name c.bounds_turns.ensures.within there)
+    c.compiled.ensures.is end events rows (root-among (λ root. FitsU64 (expanded root bank).0) project.roots name c.bounds_turns.ensures.within there)
     (found-small c.expansion.result events (c.expansion.ensures ∙ ap (λ b. cond b (Some events) None) there) c.count_within.ensures))
