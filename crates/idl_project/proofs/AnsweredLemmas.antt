@@ -21,7 +21,6 @@ use Rattle.idl_sources.specs.Compile.{compile_over, end_of}
 use Rattle.idl_sources.specs.declared.compile.CompiledRoot.{CompiledRoot}
 use Rattle.idl_sources.specs.idl_root.Compile.{compile}
 use Rattle.idl_sources.specs.idl_root.Compiled.{CompilesTo}
-use Rattle.idl_sources.specs.idl_root.Turns.{FitsU64}
 use Rattle.idl_sources.specs.idl_root.declared.compiling.compiled.Compiled.{Compiled}
 
 -- what holds of all roots holds of one
