@@ -66,8 +66,7 @@ module _ (once : (facts : List UnitFacts) (text : UnitText) (v w : Verdict) → 
   judged-once [] facts js ks last end a b = (a.0 ∙ sym b.0, a.1 ∙ sym b.1)
   judged-once (Spelled text sites ∷ units) facts js ks last end a b =
       let same : a.0 ≡ b.0 = once facts text a.0 b.0 a.2 b.2 in
-      let rest = judged-once units (facts ++ (b.0).writes ∷ []) a.1 b.1 last end (subst (λ (v : Verdict). AreJudged (facts ++ v.writes ∷ []) units a.1 last) same a.3) b.3 in
-      (
+      let rest = judged-once units (facts ++ (b.0).writes ∷ []) a.1 b.1 last end (subst (λ (v : Verdict). AreJudged (facts ++ v.writes ∷ []) units a.1 last) same a.3) b.3 in (
         a.4
             ∙ ap (λ (v : Verdict). with_verdict text sites v ∷ a.1) same
             ∙ ap (λ (more : List Judged). with_verdict text sites b.0 ∷ more) rest.0
