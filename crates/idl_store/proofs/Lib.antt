@@ -3,7 +3,6 @@ pub mod Bucketed
 pub mod Changing
 pub mod Drafting
 pub mod Exactness
-pub mod Finding
 pub mod Hinting
 pub mod Indexing
 pub mod Looking

@@ -1,41 +1,18 @@
 -- What a look-up finds among ranked results, and what it tells where it finds nothing.
-use Rattle.std.proofs.Common.{◌≡◌, ◌≢◌, ◌∙◌, ℕ, Bool, true, false, List, [], ◌∷◌, Option, Some, None, Result, Ok, Err, cond, filter, nat_eq, refl, sym}
+use Rattle.std.proofs.Common.{◌≡◌, ◌∙◌, ℕ, Bool, true, List, Option, Some, None, Result, Ok, Err, sym}
 use Rattle.std.specs.Cmp.{IsTotalOrder}
-use Rattle.std.specs.Prelude.{All, Contains, IfErr, IfNone, IfOk, IfSome}
+use Rattle.std.specs.Prelude.{All, Contains, IfErr, IfNone, IfOk}
 use Rattle.std.specs.declared.cmp.Ordering.{Ordering}
 use Rattle.std.specs.declared.cmp.Ordering.TheVariants.{Equal}
-use Rattle.std.proofs.lemmas.Bool.{eq-eqb}
-use Rattle.std.proofs.lemmas.List.Elements.{All-cons, All-head, All-nil, All-tail, All-weaker}
+use Rattle.std.proofs.lemmas.List.Elements.{All-weaker}
 use Rattle.idl_memo.specs.Kept.{Kept, IsAlike, IsSound, NoneAlikeAt, SomeAlikeAt, result_over}
 use Rattle.idl_memo.specs.Query.{Query, first_asked}
 use Rattle.idl_memo.proofs.Placing.{result_over-alike}
 use Rattle.idl_store.specs.Buckets.{bucket_at, bucket_of}
-use Rattle.idl_store.specs.Index.{IsGap, IsGapAmong, those_of}
 use Rattle.idl_store.specs.Order.{place_cmp, results_cmp}
 use Rattle.idl_store.specs.Shelved.{IsSought}
-use Rattle.idl_store.specs.declared.index.Gap.{Gap}
 use Rattle.idl_store.proofs.Hinting.{bucket-alike}
-use Rattle.idl_store.proofs.Indexing.{gap-apart}
 use Rattle.idl_store.proofs.Searching.{alike-equal, equal-alike, place-result}
-
--- what holds of those that pass a test
-all-passed : {X : Type 0} (P : X → Type 0) (test : X → Bool) (xs : List X) → All P (filter test xs) → All (λ x. test x ≡ true → P x) xs
-all-passed P test [] all = All-nil (λ x. test x ≡ true → P x)
-all-passed {X} P test (x ∷ xs) all = by (test x) refl all (all-passed P test xs)
-  where
-    by : (b : Bool) → test x ≡ b → All P (cond b (x ∷ filter test xs) (filter test xs)) → (All P (filter test xs) → All (λ x. test x ≡ true → P x) xs) → All (λ x. test x ≡ true → P x) (x ∷ xs)
-    by true at all rest = All-cons (λ x. test x ≡ true → P x) x xs (λ _. All-head P x (filter test xs) all) (rest (All-tail P x (filter test xs) all))
-    by false at all rest = All-cons (λ x. test x ≡ true → P x) x xs (λ is. (let no : true ≡ false = sym is ∙ at in cc)) (rest all)
-
--- in a gap nothing of its bucket is as what was looked for
-pub gap-bare : {R : Type 0} (order : R → Ordering) (P : R → Type 0) → ((r : R) → P r → order r ≡ Equal) → (results : List ((R × ℕ) × ℕ)) (gap : Gap) → IsGapAmong order results gap → All (λ e. e.0.1 ≡ gap.bucket → ¬ P e.0.0) results
-gap-bare {R} order P equal results gap is = by gap.place is.within is.apart
-  where
-    by : (p : Option ℕ) → IfSome p (IsGap (λ e. order e.0.0) (those_of gap.bucket results)) → IfNone p (All (λ e. e.0.1 ≢ gap.bucket) results) → All (λ e. e.0.1 ≡ gap.bucket → ¬ P e.0.0) results
-    by None within apart = All-weaker (λ e. e.0.1 ≢ gap.bucket) (λ e. e.0.1 ≡ gap.bucket → ¬ P e.0.0) (λ e other same. absurd (other same)) results apart
-    by (Some place) within apart =
-        All-weaker (λ e. nat_eq e.0.1 gap.bucket ≡ true → ¬ P e.0.0) (λ e. e.0.1 ≡ gap.bucket → ¬ P e.0.0) (λ e none same. none (eq-eqb e.0.1 gap.bucket same)) results
-        (all-passed (λ e. ¬ P e.0.0) (λ e. nat_eq e.0.1 gap.bucket) results (gap-apart (λ e. order e.0.0) (λ e. P e.0.0) (λ e p. equal e.0.0 p) (those_of gap.bucket results) place within))
 
 -- clauses of a look-up that may be refused memory, from others
 pub found-weaker : {X Y Z : Type 0} {P Q : X → Type 0} (r : Result (Result X Y) Z) → IfOk r (λ found. IfOk found P) → ((x : X) → P x → Q x) → IfOk r (λ found. IfOk found Q)

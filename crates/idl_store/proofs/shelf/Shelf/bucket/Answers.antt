@@ -4,7 +4,7 @@ use Rattle.idl_store.proofs.Beside.{kept-there, those-kept}
 use Rattle.idl_store.proofs.shelf.Shelf.bucket.Goals as goal
 
 pub returns-clause-among : goal.returns-clause-among
-returns-clause-among g c = those-kept c.self.invariant.0 c.args.bucket c.bucket.result.now c.args.self.now.stored (ap (λ s. s.stored) c.self.view_is) c.bucket.ensures.among
+returns-clause-among g c = those-kept c.self.invariant.0 c.args.bucket c.bucket.result.now c.bucket.ensures.value c.args.self.now.stored (ap (λ s. s.stored) c.self.view_is)
 
 pub returns-clause-all : goal.returns-clause-all
-returns-clause-all g c = kept-there c.self.invariant.0 c.args.bucket c.bucket.result.now c.args.self.now.stored (ap (λ s. s.stored) c.self.view_is) c.bucket.ensures.all
+returns-clause-all g c = kept-there c.self.invariant.0 c.args.bucket c.bucket.result.now c.bucket.ensures.value c.args.self.now.stored (ap (λ s. s.stored) c.self.view_is)

@@ -1,0 +1,12 @@
+-- The buckets are those of the map.
+use Rattle.std.proofs.Common.{OnOk, subst, sym}
+use Rattle.idl_store.specs.Index.{AddsTo, IsGapAmong, buckets_of}
+use Rattle.idl_store.proofs.index.Index.insert.Goals as goal
+
+pub insert_at-requires-clause-gap : goal.insert_at-requires-clause-gap
+insert_at-requires-clause-gap g c =
+    subst (λ index. IsGapAmong (λ other. g.R.Ranked.rank other c.args.kept) index c.args.gap) (sym c.self.view_is) c.requires
+
+pub returns-clause-ok : goal.returns-clause-ok
+returns-clause-ok g c =
+    subst (λ index. OnOk c.insert_at.result (AddsTo index (buckets_of c.insert_at.new.buckets) c.args.gap.bucket (record { result = c.args.kept; number = c.args.number }))) c.self.view_is c.insert_at.ensures.ok
