@@ -9,7 +9,7 @@ use Rattle.std.proofs.lemmas.List.{drop-map, get_or-map, length-map, map-append,
 use Rattle.std.proofs.lemmas.List.Elements.{All-cons, All-nil, All-same}
 use Rattle.std.proofs.lemmas.Option.{same_Some}
 use Rattle.slab.specs.Slab.{Slab, get}
-use Rattle.idl_store.specs.Index.{AddsTo, bucket_in}
+use Rattle.idl_store.specs.Index.{AddsTo, bucket_in, numbered}
 use Rattle.idl_store.specs.Numbers.{AreFewer, AreMore, AreUsed, IsIndexOf, IsSoundAt, IsPut, IsStored, joined, kept_at, lists_of, result_of, shown, times, uses_of, with_bucket}
 use Rattle.idl_store.specs.Stored.{Stored, grown, results_in, results_of_drafts, with_results}
 use Rattle.idl_store.specs.declared.index.Numbered.{Numbered}
@@ -100,7 +100,7 @@ module _ {R : Type 0} {is_sound : R → Type 0} {bucket : R → ℕ} {used : Sla
       by n x (Some r) e h =
           let same : Some r.0 ≡ Some x = sym (ap (option_map (λ (r : R × ℕ). r.0)) e) ∙ h in
           let is : r.0 ≡ x = cc in
-          let one : Numbered R = record { result = r.0; number = n } in
+          let one : Numbered R = numbered r.0 n in
           subst P is (all r.1 one ((stored.indexed r.1 one).1 e))
 
   module _ (new : Slab (Used R)) where
@@ -162,7 +162,7 @@ module _ {R : Type 0} {is_sound : R → Type 0} {bucket : R → ℕ} {used : Sla
 
     module _ (after : List (ℕ × List (Numbered R))) where
       -- a new result under a number that was free
-      pub stored-put : (r : R) (n : ℕ) → 0 < length numbers.drafts → IsPut used new r (bucket r) n → AddsTo index after (bucket r) (record { result = r; number = n }) → is_sound r → IsStored is_sound bucket new after (grown numbers (n ∷ []))
+      pub stored-put : (r : R) (n : ℕ) → 0 < length numbers.drafts → IsPut used new r (bucket r) n → AddsTo index after (bucket r) (numbered r n) → is_sound r → IsStored is_sound bucket new after (grown numbers (n ∷ []))
       stored-put r n some put adds sound = record {
         counted = λ m. counted_by m (cases_eq m n);
         needed = λ m there. needed_by m there (cases_eq m n);

@@ -8,7 +8,7 @@ use Rattle.std.proofs.lemmas.List.Elements.{All-contains, All-contains_itself, A
 use Rattle.std.proofs.lemmas.Option.{same_Some}
 use Rattle.slab.specs.Slab.{Slab, get}
 use Rattle.idl_memo.specs.Kept.{Kept}
-use Rattle.idl_store.specs.Index.{AddsTo, IsGapAmong, bucket_in}
+use Rattle.idl_store.specs.Index.{AddsTo, IsGapAmong, bucket_in, numbered}
 use Rattle.idl_store.specs.Numbers.{AreMore, IsPut, IsStored, result_of, shown, times, uses_of, with_bucket}
 use Rattle.idl_store.specs.Spots.{result_on}
 use Rattle.idl_store.specs.Stored.{Stored, grown, results_in, results_of_drafts, with_results}
@@ -128,7 +128,7 @@ module _ {R : Type 0} {is_sound : R → Type 0} {bucket : R → ℕ} {used : Sla
   -- it is stored, and in the last draft
   module _ (new : Slab (Used R)) (after : List (ℕ × List (Numbered R))) (r : R) (b : ℕ) (drafts : List (ℕ × List ℕ)) (at : b ≡ bucket r) where
     abbrev IsIn : Type 0
-    IsIn = (n : ℕ) × IsPut used new r b n × (drafts ≡ with_results numbers.drafts (n ∷ [])) × AddsTo index after b (record { result = r; number = n })
+    IsIn = (n : ℕ) × IsPut used new r b n × (drafts ≡ with_results numbers.drafts (n ∷ [])) × AddsTo index after b (numbered r n)
 
     put_there : (n : ℕ) → IsPut used new r b n → IsPut used new r (bucket r) n
     put_there n put = subst (λ (m : ℕ). IsPut used new r m n) at put
@@ -136,7 +136,7 @@ module _ {R : Type 0} {is_sound : R → Type 0} {bucket : R → ℕ} {used : Sla
     pub comes-stored : is_sound r → 0 < length numbers.drafts → IsIn → IsStored is_sound bucket new after (record { lists = numbers.lists; drafts = drafts })
     comes-stored sound some ok =
         subst (λ (ds : List (ℕ × List ℕ)). IsStored is_sound bucket new after (record { lists = numbers.lists; drafts = ds })) (sym ok.2)
-        (stored-put stored new after r ok.0 some (put_there ok.0 ok.1) (subst (λ (m : ℕ). AddsTo index after m (record { result = r; number = ok.0 })) at ok.3) sound)
+        (stored-put stored new after r ok.0 some (put_there ok.0 ok.1) (subst (λ (m : ℕ). AddsTo index after m (numbered r ok.0)) at ok.3) sound)
 
     pub comes-shown : (s : Stored R) → shown (result_of used) numbers ≡ s → IsIn → shown (result_of new) (record { lists = numbers.lists; drafts = drafts }) ≡ grown s (r ∷ [])
     comes-shown s view ok =

@@ -11,7 +11,7 @@ use Rattle.std.proofs.lemmas.Option.{same_Some}
 use Rattle.idl_store.specs.Stored.{results_of_drafts}
 use Rattle.slab.specs.Slab.{Slab, Updates, get, with_value}
 use Rattle.slab.proofs.SlabLemmas.{Updates-with_value}
-use Rattle.idl_store.specs.Index.{AddsTo, IsAlone, bucket_in}
+use Rattle.idl_store.specs.Index.{AddsTo, IsAlone, bucket_in, numbered}
 use Rattle.idl_store.specs.Numbers.{AreFewer, AreMore, IsIndexOf, kept_at, times, uses_of, with_bucket}
 use Rattle.idl_store.specs.declared.index.Numbered.{Numbered}
 use Rattle.idl_store.specs.declared.numbers.Used.{Used}
@@ -49,7 +49,7 @@ module _ {R : Type 0} (old new : Slab (Used R)) where
 
   module _ (before after : List (ℕ × List (Numbered R))) (number : ℕ) (k : R × ℕ) (others : (n : ℕ) → n ≢ number → get new n ≡ get old n) where
     abbrev item : Numbered R
-    item = record { result = k.0; number = number }
+    item = numbered k.0 number
 
     placed_other : (n : ℕ) → n ≢ number → kept_at new n ≡ kept_at old n
     placed_other n e = ap (option_map with_bucket) (others n e)
@@ -107,7 +107,7 @@ module _ {R : Type 0} (old new : Slab (Used R)) where
       → ((one : Numbered R) → one.number ≡ number → Contains (bucket_in before last.bucket) one → AddsTo after before last.bucket one) → All (λ one. one.number ≢ number) (bucket_in after last.bucket) → IsIndexOf old before → IsIndexOf new after
   indexed-removed before after number last was updates adds out indexed =
       let k : R × ℕ = (last.result, last.bucket) in
-      let one : Numbered R = record { result = last.result; number = number } in
+      let one : Numbered R = numbered last.result number in
       let here : kept_at old number ≡ Some k = ap (option_map with_bucket) was in
       indexed-gone before after number k updates.others here updates.changed (adds one refl ((indexed last.bucket one).1 here)) out indexed
 

@@ -31,6 +31,10 @@ module _ {R : Type 0} where
   abbrev pub bucket_in : List (ℕ × List (Numbered R)) → ℕ → List (Numbered R)
   bucket_in buckets bucket = unwrap_or (lookup (nat_eq bucket) buckets) []
 
+  -- a result with its number
+  abbrev pub numbered : R → ℕ → Numbered R
+  numbered result number = record { result = result; number = number }
+
   -- the order of results, whatever their numbers
   abbrev pub numbered_cmp : (R → R → Ordering) → Numbered R → Numbered R → Ordering
   numbered_cmp cmp one other = cmp one.result other.result

@@ -11,7 +11,7 @@ ghost use Rattle.std.specs.List.Sorted.{IsSearchInRange};
 ghost use Rattle.std.specs.declared.cmp.Ordering.TheVariants.{Equal};
 ghost use Rattle.idl_store.specs.Buckets.{AddsOne, bucket_at};
 ghost use Rattle.idl_store.specs.declared.index.Numbered.{Numbered};
-ghost use Rattle.idl_store.specs.Index.{AddsTo, AreInOrder, IsAlone, IsGap, IsGapAmong, IsInOrder, bucket_in, buckets_of, numbered_cmp};
+ghost use Rattle.idl_store.specs.Index.{AddsTo, AreInOrder, IsAlone, IsGap, IsGapAmong, IsInOrder, bucket_in, buckets_of, numbered, numbered_cmp};
 
 use crate::ranked::{Probe, Ranked};
 use std::alloc::{AllocError, Global};
@@ -83,8 +83,7 @@ impl<R: Ranked> Index<R> {
         alloc: Global,
     ) -> Result<(), AllocError>
         requires { IsGapAmong (λ other. R.rank other kept) self.old gap }
-        ensures ok { OnOk result (AddsTo self.old self.new gap.bucket
-            (record { result = kept; number = number })) }
+        ensures ok { OnOk result (AddsTo self.old self.new gap.bucket (numbered kept number)) }
         ensures err { OnErr result (self.new ≡ self.old) }
     {
         let item = Numbered {

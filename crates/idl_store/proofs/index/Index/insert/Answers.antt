@@ -1,6 +1,6 @@
 -- The buckets are those of the map.
 use Rattle.std.proofs.Common.{OnOk, subst, sym}
-use Rattle.idl_store.specs.Index.{AddsTo, IsGapAmong, buckets_of}
+use Rattle.idl_store.specs.Index.{AddsTo, IsGapAmong, buckets_of, numbered}
 use Rattle.idl_store.proofs.index.Index.insert.Goals as goal
 
 pub insert_at-requires-clause-gap : goal.insert_at-requires-clause-gap
@@ -9,4 +9,4 @@ insert_at-requires-clause-gap g c =
 
 pub returns-clause-ok : goal.returns-clause-ok
 returns-clause-ok g c =
-    subst (λ index. OnOk c.insert_at.result (AddsTo index (buckets_of c.insert_at.new.buckets) c.args.gap.bucket (record { result = c.args.kept; number = c.args.number }))) c.self.view_is c.insert_at.ensures.ok
+    subst (λ index. OnOk c.insert_at.result (AddsTo index (buckets_of c.insert_at.new.buckets) c.args.gap.bucket (numbered c.args.kept c.args.number))) c.self.view_is c.insert_at.ensures.ok
