@@ -47,6 +47,10 @@ module _ {R : Type 0} where
   pub bucket-same : {S : Type 0} (m n : HashMap ℕ (Vec (Numbered R) Global) S) (b : ℕ) → get nat_eq n b ≡ get nat_eq m b → bucket_in (buckets_of n) b ≡ bucket_in (buckets_of m) b
   bucket-same m n b same = bucket-found n b (get nat_eq m b) same ∙ sym (found (nat_eq b) m.entries)
 
+  -- a map without entries has no buckets
+  pub none-in : {S : Type 0} (m : HashMap ℕ (Vec (Numbered R) Global) S) → m.entries ≡ [] → buckets_of m ≡ []
+  none-in m is = ap (λ (es : List (ℕ × Vec (Numbered R) Global)). map seen es) is
+
   -- ---- what is written
 
   -- the same items in a bucket
