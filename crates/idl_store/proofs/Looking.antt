@@ -1,6 +1,5 @@
 -- What a look-up finds among ranked results, and what it tells where it finds nothing.
-use Rattle.std.proofs.Common.{◌≡◌, ◌∙◌, ℕ, Bool, true, List, Option, Some, None, Result, Ok, Err, sym}
-use Rattle.std.specs.Cmp.{IsTotalOrder}
+use Rattle.std.proofs.Common.{◌≡◌, ◌∙◌, ℕ, Bool, List, Option, Some, None, Result, Ok, Err, sym}
 use Rattle.std.specs.Prelude.{All, Contains, IfErr, IfNone, IfOk}
 use Rattle.std.specs.declared.cmp.Ordering.{Ordering}
 use Rattle.std.specs.declared.cmp.Ordering.TheVariants.{Equal}
@@ -11,6 +10,7 @@ use Rattle.idl_memo.proofs.Placing.{result_over-alike}
 use Rattle.idl_store.specs.Buckets.{bucket_at, bucket_of}
 use Rattle.idl_store.specs.Order.{place_cmp, results_cmp}
 use Rattle.idl_store.specs.Shelved.{IsSought}
+use Rattle.idl_store.proofs.Exactness.{IsExact}
 use Rattle.idl_store.proofs.Hinting.{bucket-alike}
 use Rattle.idl_store.proofs.Searching.{alike-equal, equal-alike, place-result}
 
@@ -29,21 +29,19 @@ pub none-weaker : {X P Q : Type 0} (o : Option X) → IfNone o P → (P → Q) �
 none-weaker None h to = to h
 none-weaker (Some x) h to = tt
 
-module _ {K V T O X : Type 0} (text_cmp : T → T → Ordering) (answer_cmp : V → V → Ordering) (texts : IsTotalOrder text_cmp) (answers : IsTotalOrder answer_cmp)
-    (text_exact : (t u : T) → text_cmp t u ≡ Equal → t ≡ u) (answer_exact : (v w : V) → answer_cmp v w ≡ Equal → v ≡ w)
-    (eq : K → K → Bool) (itself : (k : K) → eq k k ≡ true) (same : (k l : K) → eq k l ≡ true → k ≡ l) (query : T → Query K V X O) (text : T) (bank : K → V) where
+module _ {K V T O X : Type 0} {text_cmp : T → T → Ordering} {answer_cmp : V → V → Ordering} {eq : K → K → Bool} (exact : IsExact text_cmp answer_cmp eq) (query : T → Query K V X O) (text : T) (bank : K → V) where
   -- whatever came of the task stands to the place as to the result there
   pub place-sought : IsSought (IsSound eq query) (results_cmp text_cmp answer_cmp) (λ kept. place_cmp text_cmp answer_cmp kept text bank) (result_over eq query (text, bank))
-  place-sought = λ other sound. place-result text_cmp answer_cmp texts answers text_exact answer_exact eq same query other text bank sound
+  place-sought = λ other sound. place-result exact query other text bank sound
 
   module _ (kept : Kept K V T O) (found : place_cmp text_cmp answer_cmp kept text bank ≡ Equal) where
     -- one that nothing tells from the place is alike
     found-alike : IsAlike text bank kept
-    found-alike = alike-equal text_cmp answer_cmp texts answers text_exact answer_exact kept text bank found
+    found-alike = alike-equal exact kept text bank found
 
     -- and so the result there
     pub found-here : IsSound eq query kept → kept ≡ result_over eq query (text, bank)
-    found-here sound = result_over-alike eq query itself same (text, bank) kept sound found-alike
+    found-here sound = result_over-alike eq query exact.key_itself exact.key_is (text, bank) kept sound found-alike
 
     pub found-among : (results : List (Kept K V T O)) → Contains results kept → SomeAlikeAt (text, bank) results
     found-among results among = (among.0, kept, among.1, among.2, found-alike)
@@ -53,4 +51,4 @@ module _ {K V T O X : Type 0} (text_cmp : T → T → Ordering) (answer_cmp : V 
       → All (λ kept. IsSound eq query kept × (bucket_of input hint kept ≡ b → ¬ (place_cmp text_cmp answer_cmp kept text bank ≡ Equal))) results → NoneAlikeAt (text, bank) results
   none-among input hint b at results none =
       All-weaker (λ kept. IsSound eq query kept × (bucket_of input hint kept ≡ b → ¬ (place_cmp text_cmp answer_cmp kept text bank ≡ Equal))) (λ kept. ¬ IsAlike text bank kept)
-      (λ kept out alike. out.1 (bucket-alike eq itself same query input hint text bank kept out.0 alike ∙ sym at) (equal-alike text_cmp answer_cmp texts answers kept text bank alike)) results none
+      (λ kept out alike. out.1 (bucket-alike eq exact.key_itself exact.key_is query input hint text bank kept out.0 alike ∙ sym at) (equal-alike exact kept text bank alike)) results none
