@@ -3,7 +3,7 @@ use Rattle.std.proofs.Common.{◌≡◌, [], None, OnErr, OnOk, Some, ap, subst,
 use Rattle.std.specs.Prelude.{is_some}
 use Rattle.std.proofs.lemmas.Result.{on_err_weaker, on_ok_weaker}
 use Rattle.idl_store.specs.Buckets.{AddsOne}
-use Rattle.idl_store.specs.Index.{AddsTo, AreInOrder, IsGap, bucket_in, buckets_of, numbered_cmp}
+use Rattle.idl_store.specs.Index.{AddsTo, AreInOrder, IsGap, IsInOrder, bucket_in, buckets_of, numbered_cmp}
 use Rattle.idl_store.proofs.Bucketed.{adds-written, bucket-found, bucket-kept, order-written, written}
 use Rattle.idl_store.proofs.index.insert_at.Goals as goal
 
@@ -46,6 +46,10 @@ returns-in-Some-clause-order g c =
     let n = c.get_mut.follows.lender w in
     let is = written m n d (Some w) ((c.get_mut.follows.holds w).3 (ap is_some (sym c.in-Some.ensures.value))) in
     order-written (buckets_of m) (buckets_of n) d w.items is g.R.Ranked.rank c.insert_in.ensures.order c.requires.order
+
+pub insert_alone-requires-clause-order : goal.insert_alone-requires-clause-order
+insert_alone-requires-clause-order g c =
+    subst (λ m. IsInOrder g.R.Ranked.rank (buckets_of m)) (sym c.get_mut.follows.holds-at-none) c.requires.order
 
 pub insert_alone-requires-clause-apart : goal.insert_alone-requires-clause-apart
 insert_alone-requires-clause-apart g c =

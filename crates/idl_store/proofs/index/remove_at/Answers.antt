@@ -4,7 +4,7 @@ use Rattle.std.specs.Prelude.{All, Contains, is_some}
 use Rattle.std.proofs.lemmas.Bool.{eqb-true}
 use Rattle.std.proofs.lemmas.List.Elements.{All-nil}
 use Rattle.idl_store.specs.Buckets.{AddsOne}
-use Rattle.idl_store.specs.Index.{AreInOrder, IsAlone, bucket_in, buckets_of, numbered_cmp}
+use Rattle.idl_store.specs.Index.{AreInOrder, IsAlone, IsInOrder, bucket_in, buckets_of, numbered_cmp}
 use Rattle.idl_store.proofs.Bucketed.{bucket-found, none_left, order-written, takes-written, written, written-then}
 use Rattle.idl_store.proofs.index.remove_at.Goals as goal
 
@@ -17,6 +17,10 @@ pub returns-in_default-clause-gone : goal.returns-in_default-clause-gone
 returns-in_default-clause-gone g c =
     subst (λ m. All (λ one. one.number ≢ c.args.number) (bucket_in (buckets_of m) c.args.bucket)) (sym c.get_mut.follows.holds-at-none)
     (subst (All (λ one. one.number ≢ c.args.number)) (sym (bucket-found c.args.buckets.now c.args.bucket None (sym c.in_default.ensures.value))) (All-nil (λ one. one.number ≢ c.args.number)))
+
+pub returns-in_default-clause-order : goal.returns-in_default-clause-order
+returns-in_default-clause-order g c =
+    subst (λ m. IsInOrder g.R.Ranked.rank (buckets_of m)) (sym c.get_mut.follows.holds-at-none) c.requires.order
 
 pub remove_in-requires-clause-order : goal.remove_in-requires-clause-order
 remove_in-requires-clause-order g c =
