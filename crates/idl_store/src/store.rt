@@ -14,9 +14,10 @@ ghost use Rattle.idl_store.specs.Obtained.{IsObtained};
 ghost use Rattle.idl_store.specs.Spots.{result_on, results_from};
 ghost use Rattle.idl_store.specs.Stored.{begun, committed, discarded, grown, last_draft, list_at, nothing_stored, removed, result_at, results_in};
 
-use crate::look_up::{has_beside, put_once, spot_of_alike, take_alike};
+use crate::index::bucket_of;
+use crate::look_up::{has_passing, take_alike};
 use crate::numbers::Spot;
-use crate::ranked::{Held, Test};
+use crate::ranked::{Held, Place, Test};
 use crate::shelf::Shelf;
 use idl_memo::{Bank, Kept, LentBank, Log, Meter, PlainBank, Runnable, Runs, Task, keep};
 use std::alloc::{AllocError, Global};
@@ -139,7 +140,7 @@ where
             → T.hint_of kept.text (slice_get kept.log 0) ≡ hint
             → IsFalse (Q.passes test.now kept)) (results_in self.now) }
     {
-        has_beside(&self.shelf, text, hint, test)
+        has_passing::<B, T, Q>(self.shelf.bucket(bucket_of(text, hint)), test)
     }
 
     /// Begins a draft, without results, of a list: of one that is there, or else of a new last one.
@@ -237,7 +238,8 @@ where
         ensures none { IfNone result
             (NoneAlikeAt (T.text_of task.now, B.at bank.now) (results_in self.now)) }
     {
-        spot_of_alike(&self.shelf, task, bank)
+        let bucket = bucket_of(task.text(), task.hint(bank));
+        self.shelf.spot(bucket, &Place { task, bank })
     }
 }
 
@@ -301,7 +303,8 @@ where
         ensures ok { OnOk result (self.new ≡ grown self.old (kept.value ∷ [])) }
         ensures err { OnErr result (self.new ≡ self.old) }
     {
-        put_once(&mut self.shelf, Held::<B, T>::of(kept), hint)
+        let bucket = bucket_of(kept.text(), hint);
+        self.shelf.put_once(Held::<B, T>::of(kept), bucket)
     }
 }
 
