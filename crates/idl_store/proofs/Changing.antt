@@ -1,11 +1,11 @@
 -- A store whose lists or drafts change.
-use Rattle.std.proofs.Common.{◌≡◌, ◌≢◌, ◌⊎◌, ℕ, suc, ◌+◌, ◌<◌, ◌≤◌, List, [], ◌∷◌, ◌++◌, Option, Some, None, refl, sym, ap, ◌∙◌, subst, arith, inl, inr, length, get_or, take, drop, Vec, Result, Ok, Err, OnErr, OnOk}
+use Rattle.std.proofs.Common.{◌≡◌, ◌≢◌, ◌⊎◌, ℕ, suc, ◌+◌, ◌<◌, ◌≤◌, List, [], ◌∷◌, Option, Some, None, refl, sym, ap, ◌∙◌, subst, arith, inl, inr, length, get_or, Vec, Result, Ok, Err, OnErr, OnOk}
 use Rattle.std.specs.Prelude.{All, Contains, IsSome}
 use Rattle.std.specs.Global.{Global}
 use Rattle.std.specs.List.{cons_option, filter_map, remove}
 use Rattle.std.specs.Option.{option_map}
 use Rattle.std.proofs.lemmas.Bool.{cases_eq}
-use Rattle.std.proofs.lemmas.List.{drop-map, get_or-map, length-map, map-append, take-map}
+use Rattle.std.proofs.lemmas.List.{get_or-map, length-map}
 use Rattle.std.proofs.lemmas.List.Elements.{All-cons, All-nil, All-same}
 use Rattle.std.proofs.lemmas.Option.{same_Some}
 use Rattle.slab.specs.Slab.{Slab, get}
@@ -14,7 +14,7 @@ use Rattle.idl_store.specs.Numbers.{AreFewer, AreMore, AreUsed, IsIndexOf, IsSou
 use Rattle.idl_store.specs.Stored.{Stored, grown, results_in, results_of_drafts, with_results}
 use Rattle.idl_store.specs.declared.index.Numbered.{Numbered}
 use Rattle.idl_store.specs.declared.numbers.Used.{Used}
-use Rattle.idl_store.proofs.Shown.{results_in-shown, shown-same}
+use Rattle.idl_store.proofs.Shown.{map-removed, results_in-shown, shown-same}
 use Rattle.idl_store.proofs.Times.{times-append, times-remove, times-with_results, times_first}
 use Rattle.idl_store.proofs.Using.{indexed-put, indexed-same, times_one, times_other}
 
@@ -236,9 +236,7 @@ parts-removed n lists drafts list d below =
 
 -- a list of vectors less
 pub lists-removed : (lists : List (Vec ℕ Global)) (list : ℕ) → lists_of (remove lists list) ≡ remove (lists_of lists) list
-lists-removed lists list =
-    map-append (λ (l : Vec ℕ Global). l.items) (take list lists) (drop (suc list) lists)
-    ∙ (λ i. sym (take-map (λ (l : Vec ℕ Global). l.items) list lists) i ++ sym (drop-map (λ (l : Vec ℕ Global). l.items) (suc list) lists) i)
+lists-removed lists list = map-removed (λ (l : Vec ℕ Global). l.items) lists list
 
 -- and its numbers
 pub parts-taken : (n : ℕ) (lists : List (Vec ℕ Global)) (drafts : List (ℕ × List ℕ)) (list : ℕ) (v : Vec ℕ Global) → list < length lists → v ≡ get_or lists list v → times n (results_in (record { lists = lists_of lists; drafts = drafts })) ≡ times n (results_in (record { lists = remove (lists_of lists) list; drafts = drafts })) + times n v.items

@@ -12,7 +12,7 @@ use Rattle.std.proofs.lemmas.Cmp.{alike_right}
 use Rattle.std.proofs.lemmas.List.Quantifiers.{position-Some}
 use Rattle.std.proofs.lemmas.List.Sums.{fails_before_first}
 use Rattle.std.proofs.lemmas.List.{get_or-drop, get_or-take, length-drop, length-take-le, take-append-drop, take_more}
-use Rattle.std.proofs.lemmas.List.Elements.{All-append, All-cons, All-contains, All-contains_itself, All-head, All-nil, All-same, All-tail, All-weaker, Contains-append_cases, Contains-append_left, Contains-append_right}
+use Rattle.std.proofs.lemmas.List.Elements.{All-append, All-cons, All-contains, All-contains_itself, All-drop, All-head, All-nil, All-same, All-tail, All-take, All-weaker, Contains-append_cases, Contains-append_left, Contains-append_right}
 use Rattle.idl_store.specs.Buckets.{AddsOne}
 use Rattle.idl_store.specs.Index.{AreInOrder, IsGap}
 
@@ -208,15 +208,11 @@ search-found f P equal xs (Err i) found = tt
 
 -- a gap in an order that is told otherwise
 pub gap-same : {X : Type 0} (f g : X → Ordering) (xs : List X) (i : ℕ) → All (λ y. f y ≡ g y) xs → IsGap f xs i → IsGap g xs i
-gap-same f g xs i same gap =
-    let parts = All-same (λ y. f y ≡ g y) (take i xs ++ drop i xs) xs (take-append-drop i xs) same in
-    let front = all-front (λ y. f y ≡ g y) (take i xs) (drop i xs) parts in
-    let rest = all-rest (λ y. f y ≡ g y) (take i xs) (drop i xs) parts in
-    record {
-      within = gap.within;
-      before = λ k d below. sym (front k d below) ∙ gap.before k d below;
-      behind = λ k d below. sym (rest k d below) ∙ gap.behind k d below;
-    }
+gap-same f g xs i same gap = record {
+  within = gap.within;
+  before = λ k d below. sym (All-take (λ y. f y ≡ g y) i xs same k d below) ∙ gap.before k d below;
+  behind = λ k d below. sym (All-drop (λ y. f y ≡ g y) i xs same k d below) ∙ gap.behind k d below;
+}
 
 -- in a gap nothing is as what was looked for
 pub gap-apart : {X : Type 0} (f : X → Ordering) (P : X → Type 0) → ((y : X) → P y → f y ≡ Equal) → (xs : List X) (i : ℕ) → IsGap f xs i → All (λ y. ¬ P y) xs
