@@ -6,7 +6,7 @@ use Rattle.idl_store.specs.Buckets.{bucket_at}
 use Rattle.idl_store.specs.Stored.{grown}
 use Rattle.idl_store.proofs.Exactness.{exact_task}
 use Rattle.idl_store.proofs.Searching.{equal-results}
-use Rattle.idl_store.proofs.store.Store.put.Goals as goal
+use Rattle.idl_store.proofs.store.Store+Held+B+T+W.put.Goals as goal
 
 pub put_once-requires-clause-sound : goal.put_once-requires-clause-sound
 put_once-requires-clause-sound g c = subst (λ k. IsSound g.B.Key.PartialEq.eq g.T.Task.query k) (sym c.of.ensures) c.requires.sound

@@ -7,7 +7,7 @@ use Rattle.idl_store.specs.Buckets.{bucket_of}
 use Rattle.idl_store.specs.Stored.{results_in}
 use Rattle.idl_store.proofs.Beside.{none-passes, some-passes}
 use Rattle.idl_store.proofs.Hinting.{bucket-as}
-use Rattle.idl_store.proofs.store.Store.has_beside.Goals as goal
+use Rattle.idl_store.proofs.store.Store+Held+B+T+W.has_beside.Goals as goal
 
 pub returns-clause-some : goal.returns-clause-some
 returns-clause-some g c = λ is.

@@ -8,7 +8,7 @@ use Rattle.idl_store.specs.Spots.{result_on}
 use Rattle.idl_store.specs.Stored.{results_in}
 use Rattle.idl_store.proofs.Exactness.{exact_task}
 use Rattle.idl_store.proofs.Looking.{found-here, none-among, none-weaker, place-sought}
-use Rattle.idl_store.proofs.store.Store.alike.Goals as goal
+use Rattle.idl_store.proofs.store.Store+Held+B+T+W.alike.Goals as goal
 
 pub returns-clause-found : goal.returns-clause-found
 returns-clause-found g c =

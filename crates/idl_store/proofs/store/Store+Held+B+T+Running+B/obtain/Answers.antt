@@ -9,7 +9,7 @@ use Rattle.idl_store.specs.Index.{IsGapAmong}
 use Rattle.idl_store.specs.Order.{results_cmp}
 use Rattle.idl_store.specs.Stored.{grown, results_in}
 use Rattle.idl_store.proofs.Obtaining.{keys-same}
-use Rattle.idl_store.proofs.store.Store.obtain.Goals as goal
+use Rattle.idl_store.proofs.store.Store+Held+B+T+Running+B.obtain.Goals as goal
 
 pub returns-in-Ok-clause-result : goal.returns-in-Ok-clause-result
 returns-in-Ok-clause-result g c = c.into_shared-shared.ensures ∙ IfOk-at_ok _ c.in-Ok.is c.in_ok-found.ensures.result
