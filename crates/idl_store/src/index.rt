@@ -5,7 +5,7 @@
 //! can be made that share a place in it: none of their results is compared, but a look-up passes them.
 
 ghost use Rattle.std.specs.Prelude.{◌≡◌, ◌≢◌, [], ℕ, All, Any, Contains, IfErr, IfOk, OnErr, OnOk, length, nat_eq, position};
-ghost use Rattle.std.specs.List.{HoldsAt};
+ghost use Rattle.std.specs.List.{HoldsAt, list_any};
 ghost use Rattle.std.specs.HashMap.{get};
 ghost use Rattle.std.specs.List.Sorted.{IsSearchInRange};
 ghost use Rattle.std.specs.declared.cmp.Ordering.TheVariants.{Equal};
@@ -13,7 +13,7 @@ ghost use Rattle.idl_store.specs.Buckets.{AddsOne, bucket_at};
 ghost use Rattle.idl_store.specs.declared.index.Numbered.{Numbered};
 ghost use Rattle.idl_store.specs.Index.{AddsTo, AreInOrder, IsAlone, IsGap, IsGapAmong, IsInOrder, bucket_in, buckets_of, numbered, numbered_cmp};
 
-use crate::ranked::{Probe, Ranked};
+use crate::ranked::{Probe, Ranked, Test};
 use std::alloc::{AllocError, Global};
 use std::collections::HashMap;
 use std::hash::{FoldHasher, Hash, Hasher};
@@ -245,6 +245,13 @@ fn place_of<R>(bucket: &[Numbered<R>], number: usize) -> Option<usize>
     ensures { result ≡ position (λ one. nat_eq one.number number) bucket.now }
 {
     bucket.iter().position(|one| one.number == number)
+}
+
+// Whether one of these passes a test.
+pub(crate) fn has_passing<R, Q: Test<R>>(results: &[Numbered<R>], test: &Q) -> bool
+    ensures { result ≡ list_any (λ one. Q.passes test.now one.result) results.now }
+{
+    results.iter().any(|one| test.passes(&one.result))
 }
 
 // Where the result stands that a probe looks for, or the gap where one would go.

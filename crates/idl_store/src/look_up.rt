@@ -1,7 +1,6 @@
-//! How a kept result is taken that is alike to a task, and how results are tested.
+//! How a kept result is taken that is alike to a task.
 
 ghost use Rattle.std.specs.Prelude.{◌≡◌, ◌∷◌, [], IfErr, IfOk, OnErr, OnOk};
-ghost use Rattle.std.specs.List.{list_any};
 ghost use Rattle.std.specs.Option.{option_cmp};
 ghost use Rattle.idl_memo.specs.Kept.{NoneAlikeAt, SomeAlikeAt, result_over};
 ghost use Rattle.idl_store.specs.Buckets.{bucket_of};
@@ -9,21 +8,11 @@ ghost use Rattle.idl_store.specs.Index.{IsGapAmong};
 ghost use Rattle.idl_store.specs.Order.{results_cmp};
 ghost use Rattle.idl_store.specs.Stored.{grown, results_in};
 
-use crate::index::{Gap, Numbered, bucket_of};
-use crate::ranked::{Held, Place, Test};
+use crate::index::{Gap, bucket_of};
+use crate::ranked::{Held, Place};
 use crate::shelf::Shelf;
-use idl_memo::{Bank, Kept, LentBank, Task};
+use idl_memo::{LentBank, Task};
 use std::alloc::AllocError;
-
-// Whether one of these passes a test.
-pub(crate) fn has_passing<B: Bank, T: Task<B>, Q: Test<Kept<B, T::Text, T::Out>>>(
-    results: &[Numbered<Held<B, T>>],
-    test: &Q,
-) -> bool
-    ensures { result ≡ list_any (λ one. Q.passes test.now one.result) results.now }
-{
-    results.iter().any(|one| test.passes(one.result.shared()))
-}
 
 // A result that is alike to the task over this bank goes into the last draft too. Where there is none, this is the gap where it
 // would go, and nothing goes anywhere.

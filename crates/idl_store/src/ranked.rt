@@ -83,8 +83,8 @@ impl<B: Bank, T: Task<B>> Held<B, T> {
         Held { shared }
     }
 
-    // The result as it is shared.
-    pub(crate) fn shared(&self) -> &Rc<Kept<B, T::Text, T::Out>>
+    /// The result as it is shared.
+    pub fn shared(&self) -> &Rc<Kept<B, T::Text, T::Out>>
         ensures { result.now.value ≡ self.now }
     {
         &self.shared

@@ -15,7 +15,7 @@ ghost use Rattle.idl_store.specs.Spots.{result_on, results_from};
 ghost use Rattle.idl_store.specs.Stored.{begun, committed, discarded, grown, last_draft, list_at, nothing_stored, removed, result_at, results_in};
 
 use crate::index::bucket_of;
-use crate::look_up::{has_passing, take_alike};
+use crate::look_up::take_alike;
 use crate::numbers::Spot;
 use crate::ranked::{Held, Place, Ranked, Test};
 use crate::shelf::Shelf;
@@ -209,7 +209,7 @@ where
     }
 
     /// Whether a result passes a test that is found by this hint and a text that is hashed as this one. It takes no memory.
-    pub fn has_beside<Q: Test<Kept<B, T::Text, T::Out>>>(
+    pub fn has_beside<Q: Test<Held<B, T>>>(
         &self,
         text: &T::Text,
         hint: u64,
@@ -222,7 +222,7 @@ where
             → T.hint_of kept.text (slice_get kept.log 0) ≡ hint
             → IsFalse (Q.passes test.now kept)) (results_in self.now) }
     {
-        has_passing::<B, T, Q>(self.shelf.bucket(bucket_of(text, hint)), test)
+        self.shelf.has_passing(bucket_of(text, hint), test)
     }
 
     /// The result at a place of a list, which goes into the last draft too. Nothing goes anywhere where there is no such result, or no

@@ -5,15 +5,12 @@ use Rattle.std.specs.Prelude.{All, Any, IsTrue}
 use Rattle.std.specs.List.{slice_get}
 use Rattle.idl_store.specs.Buckets.{bucket_of}
 use Rattle.idl_store.specs.Stored.{results_in}
-use Rattle.idl_store.proofs.Beside.{none-passes, some-passes}
 use Rattle.idl_store.proofs.Hinting.{bucket-as}
 use Rattle.idl_store.proofs.store.Store+Held+B+T+W.has_beside.Goals as goal
 
 pub returns-clause-some : goal.returns-clause-some
 returns-clause-some g c = λ is.
-    let test = g.Q.Test.passes c.args.test.now in
-    subst (λ s. Any (λ kept. IsTrue (test kept)) (results_in s)) c.self.view_is
-    (some-passes test c.bucket.result.now (results_in c.self.inside.shelf.stored) c.bucket.ensures.among (sym c.has_passing.ensures ∙ is))
+    subst (λ s. Any (λ kept. IsTrue (g.Q.Test.passes c.args.test.now kept)) (results_in s)) c.self.view_is (c.has_passing.ensures.some is)
 
 pub returns-clause-none : goal.returns-clause-none
 returns-clause-none g c = λ is.
@@ -21,8 +18,7 @@ returns-clause-none g c = λ is.
     let hint = g.T.Task.hint_of in
     let test = g.Q.Test.passes c.args.test.now in
     subst (λ s. All (λ kept. input kept.text ≡ input c.args.text.now → hint kept.text (slice_get kept.log 0) ≡ c.args.hint → test kept ≡ false) (results_in s)) c.self.view_is
-    (All-weaker (λ kept. bucket_of input hint kept ≡ c.bucket_of.result → Any (λ one. one.result ≡ kept) c.bucket.result.now)
+    (All-weaker (λ kept. bucket_of input hint kept ≡ c.bucket_of.result → test kept ≡ false)
     (λ kept. input kept.text ≡ input c.args.text.now → hint kept.text (slice_get kept.log 0) ≡ c.args.hint → test kept ≡ false)
-    (λ kept there hashed hinted. none-passes test c.bucket.result.now (sym c.has_passing.ensures ∙ is) kept
-    (there (bucket-as input kept.text c.args.text.now (hint kept.text (slice_get kept.log 0)) c.args.hint hashed hinted ∙ sym c.bucket_of.ensures)))
-    (results_in c.self.inside.shelf.stored) c.bucket.ensures.all)
+    (λ kept none hashed hinted. none (bucket-as input kept.text c.args.text.now (hint kept.text (slice_get kept.log 0)) c.args.hint hashed hinted ∙ sym c.bucket_of.ensures))
+    (results_in c.self.inside.shelf.stored) (c.has_passing.ensures.none is))
