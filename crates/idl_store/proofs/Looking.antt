@@ -1,6 +1,6 @@
 -- What a look-up finds among ranked results, and what it tells where it finds nothing.
 use Rattle.std.proofs.Common.{◌≡◌, ◌∙◌, ℕ, Bool, List, Option, Some, None, Result, Ok, Err, sym}
-use Rattle.std.specs.Prelude.{All, Contains, IfErr, IfNone, IfOk}
+use Rattle.std.specs.Prelude.{All, Contains, IfErr, IfNone, IfOk, OnErr}
 use Rattle.std.specs.declared.cmp.Ordering.{Ordering}
 use Rattle.std.specs.declared.cmp.Ordering.TheVariants.{Equal}
 use Rattle.std.proofs.lemmas.List.Elements.{All-weaker}
@@ -20,10 +20,10 @@ found-weaker (Ok (Ok x)) h to = to x h
 found-weaker (Ok (Err y)) h to = tt
 found-weaker (Err z) h to = tt
 
-pub missed-weaker : {X Y Z : Type 0} {P Q : Y → Type 0} (r : Result (Result X Y) Z) → IfOk r (λ found. IfErr found P) → ((y : Y) → P y → Q y) → IfOk r (λ found. IfErr found Q)
-missed-weaker (Ok (Ok x)) h to = tt
-missed-weaker (Ok (Err y)) h to = to y h
-missed-weaker (Err z) h to = tt
+pub missed-all : {X Y Z N : Type 0} {P Q S : Y → Type 0} (r : Result (Result X Y) Z) → IfOk r (λ found. OnErr found N) → IfOk r (λ found. IfErr found P) → IfOk r (λ found. IfErr found Q) → ((y : Y) → N → P y → Q y → S y) → IfOk r (λ found. IfErr found S)
+missed-all (Ok (Ok x)) n p q to = tt
+missed-all (Ok (Err y)) n p q to = to y n p q
+missed-all (Err z) n p q to = tt
 
 pub none-weaker : {X P Q : Type 0} (o : Option X) → IfNone o P → (P → Q) → IfNone o Q
 none-weaker None h to = to h

@@ -1,6 +1,6 @@
 //! How a kept result is taken that is alike to a task.
 
-ghost use Rattle.std.specs.Prelude.{◌≡◌, ◌∷◌, [], IfErr, IfOk, OnErr, OnOk};
+ghost use Rattle.std.specs.Prelude.{◌≡◌, ◌∷◌, [], IfErr, IfOk, OnErr};
 ghost use Rattle.std.specs.Option.{option_cmp};
 ghost use Rattle.idl_memo.specs.Kept.{NoneAlikeAt, SomeAlikeAt, result_over};
 ghost use Rattle.idl_store.specs.Buckets.{bucket_of};
@@ -26,20 +26,16 @@ pub(crate) fn take_alike<B: LentBank, T: Task<B>>(
 where
     B::Answer: Ord,
     T::Text: Ord,
-    ensures result { IfOk result (λ found. IfOk found (λ one.
-        one ≡ result_over B.Key.eq T.query (T.text_of task.now, B.at bank.now))) }
-    ensures ok { IfOk result (λ found. OnOk found (shelf.new.stored ≡ grown shelf.old.stored
-        (result_over B.Key.eq T.query (T.text_of task.now, B.at bank.now) ∷ []))) }
-    ensures some { IfOk result (λ found. OnOk found
-        (SomeAlikeAt (T.text_of task.now, B.at bank.now) (results_in shelf.old.stored))) }
-    ensures none { IfOk result (λ found. OnErr found
-        (NoneAlikeAt (T.text_of task.now, B.at bank.now) (results_in shelf.old.stored))) }
-    ensures gap { IfOk result (λ found. IfErr found (IsGapAmong (λ other.
-        results_cmp T.Text.cmp (option_cmp B.Answer.cmp) other
-        (result_over B.Key.eq T.query (T.text_of task.now, B.at bank.now))) shelf.new.index)) }
-    ensures bucket { IfOk result (λ found. IfErr found (λ gap. gap.bucket
-        ≡ bucket_of T.Text.hash_input T.hint_of
-        (result_over B.Key.eq T.query (T.text_of task.now, B.at bank.now)))) }
+    ensures found { let here = result_over B.Key.eq T.query (T.text_of task.now, B.at bank.now) in
+        IfOk result (λ found. IfOk found (λ one. (one ≡ here)
+        × SomeAlikeAt (T.text_of task.now, B.at bank.now) (results_in shelf.old.stored)
+        × (shelf.new.stored ≡ grown shelf.old.stored (here ∷ [])))) }
+    ensures missed { let here = result_over B.Key.eq T.query (T.text_of task.now, B.at bank.now) in
+        IfOk result (λ found. IfErr found (λ gap.
+        NoneAlikeAt (T.text_of task.now, B.at bank.now) (results_in shelf.old.stored)
+        × IsGapAmong (λ other. results_cmp T.Text.cmp (option_cmp B.Answer.cmp) other here)
+        shelf.new.index gap
+        × (gap.bucket ≡ bucket_of T.Text.hash_input T.hint_of here))) }
     ensures same { IfOk result (λ found. OnErr found (shelf.new ≡ shelf.old)) }
     ensures err { OnErr result (shelf.new.stored ≡ shelf.old.stored) }
 {
