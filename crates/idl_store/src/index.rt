@@ -180,7 +180,8 @@ fn insert_alone<R: Ranked>(
 ) -> Result<(), AllocError>
     requires order { IsInOrder R.rank (buckets_of buckets.old) }
     requires apart { bucket_in (buckets_of buckets.old) bucket ≡ [] }
-    ensures ok { OnOk result (AddsTo (buckets_of buckets.old) (buckets_of buckets.new) bucket item) }
+    ensures ok { OnOk result
+        (AddsTo (buckets_of buckets.old) (buckets_of buckets.new) bucket item) }
     ensures err { OnErr result (buckets_of buckets.new ≡ buckets_of buckets.old) }
     ensures order { IsInOrder R.rank (buckets_of buckets.new) }
 {
