@@ -1,4 +1,4 @@
-pub mod Beside
+pub mod Tested
 pub mod Bucketed
 pub mod Changing
 pub mod Drafting

@@ -3,7 +3,7 @@ use Rattle.std.proofs.Common.{◌≡◌, ◌∙◌, false, ap, sym}
 use Rattle.std.proofs.lemmas.List.Elements.{All-weaker}
 use Rattle.std.specs.Prelude.{Any}
 use Rattle.idl_store.specs.Stored.{results_in}
-use Rattle.idl_store.proofs.Beside.{kept-there, none-passes, some-passes, those-kept}
+use Rattle.idl_store.proofs.Tested.{kept-there, none-passes, some-passes, those-kept}
 use Rattle.idl_store.proofs.shelf.Shelf.has_passing.Goals as goal
 
 pub returns-clause-some : goal.returns-clause-some
