@@ -12,7 +12,7 @@ place_by-requires g c = c.bucket-results.ensures.order
 pub returns-in-Ok-clause-found : goal.returns-in-Ok-clause-found
 returns-in-Ok-clause-found g c =
     let stand = g.P.Probe.stand c.args.probe.now in
-    let one = c.index-results-place.result.now in
+    let one = c.index-results-place.result in
     let here : stand one.result ≡ Equal = subst (λ (o : Numbered g.row.R.Denot). stand o.result ≡ Equal) (sym c.index-results-place.ensures) (c.in-Ok.ensures.found one) in
     subst (λ (items : List (Numbered g.row.R.Denot)). Any (λ item. (stand item.result ≡ Equal) × (item.number ≡ one.number)) items) c.bucket-results.ensures.value
     (c.in-Ok.place, one, c.in-Ok.ensures.within, sym c.index-results-place.ensures, (here, refl))
