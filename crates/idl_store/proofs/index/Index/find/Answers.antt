@@ -13,9 +13,9 @@ pub returns-in-Ok-clause-found : goal.returns-in-Ok-clause-found
 returns-in-Ok-clause-found g c =
     let stand = g.P.Probe.stand c.args.probe.now in
     let one = c.index-results-place.result in
-    let here : stand one.result ≡ Equal = subst (λ (o : Numbered g.row.R.Denot). stand o.result ≡ Equal) (sym c.index-results-place.ensures) (c.in-Ok.ensures.found one) in
+    let here : stand one.result ≡ Equal = subst (λ (o : Numbered g.row.R.Denot). stand o.result ≡ Equal) (sym c.index-results-place.is) (c.in-Ok.ensures.found one) in
     subst (λ (items : List (Numbered g.row.R.Denot)). Any (λ item. (stand item.result ≡ Equal) × (item.number ≡ one.number)) items) c.bucket-results.ensures.value
-    (c.in-Ok.place, one, c.in-Ok.ensures.within, sym c.index-results-place.ensures, (here, refl))
+    (c.in-Ok.place, one, c.in-Ok.ensures.within, sym c.index-results-place.is, (here, refl))
 
 pub returns-in-Err-clause-gap : goal.returns-in-Err-clause-gap
 returns-in-Err-clause-gap g c = λ kept same.
