@@ -1,5 +1,5 @@
 -- A bucket is searched alone: whatever else is kept has another number.
-use Rattle.std.proofs.Common.{◌≡◌, List, ap, subst, sym}
+use Rattle.std.proofs.Common.{◌≡◌, List, ap, get_or, subst, sym}
 use Rattle.std.specs.Prelude.{All, Any}
 use Rattle.std.specs.declared.cmp.Ordering.TheVariants.{Equal}
 use Rattle.idl_store.specs.Index.{IsGap}
@@ -14,7 +14,7 @@ returns-in-Ok-clause-found g c =
     let stand = g.P.Probe.stand c.args.probe.now in
     let one = c.index-results-place.result in
     let here : stand one.result ≡ Equal = subst (λ (o : Numbered g.row.R.Denot). stand o.result ≡ Equal) (sym c.index-results-place.is) (c.in-Ok.ensures.found one) in
-    subst (λ (items : List (Numbered g.row.R.Denot)). Any (λ item. (stand item.result ≡ Equal) × (item.number ≡ one.number)) items) c.bucket-results.ensures.value
+    subst (λ (items : List (Numbered g.row.R.Denot)). Any (λ item. (stand item.result ≡ Equal) × (item.number ≡ (get_or c.bucket-results.result.now c.in-Ok.place one).number)) items) c.bucket-results.ensures.value
     (c.in-Ok.place, one, c.in-Ok.ensures.within, sym c.index-results-place.is, (here, ap (λ (o : Numbered g.row.R.Denot). o.number) c.index-results-place.is))
 
 pub returns-in-Err-clause-gap : goal.returns-in-Err-clause-gap
