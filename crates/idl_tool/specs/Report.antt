@@ -63,10 +63,13 @@ abbrev pub column_text : Option ℕ → List ℕ
 column_text None = []
 column_text (Some column) = codes ":" ++ decimal (column + 1)
 
--- `FILE:LINE:COLUMN`, or `FILE:LINE`
+-- the number of a line; 0 is none
+abbrev pub line_text : ℕ → List ℕ
+line_text line = if nat_eq line 0 then [] else codes ":" ++ decimal line
+
+-- `FILE:LINE:COLUMN`, `FILE:LINE`, or `FILE` alone
 abbrev pub place_text : Place → Option ℕ → List ℕ
-place_text place column =
-    place.file ++ codes ":" ++ decimal place.line ++ column_text column
+place_text place column = place.file ++ line_text place.line ++ column_text column
 
 abbrev pub severity : Code → List ℕ
 severity code = if is_error code then codes "error" else codes "warning"

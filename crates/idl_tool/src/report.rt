@@ -2,7 +2,7 @@
 
 ghost use Rattle.std.specs.Prelude.{◌≡◌, ◌++◌, ◌<◌, IfOk, OnOk, map};
 ghost use Rattle.std.specs.Option.{option_copied};
-ghost use Rattle.idl_tool.specs.Report.{beginning, column_text, excerpt, gap_below, heading, hex_digit, line_byte, mark_below, more_text, place_text, report, saying, second_line, severity, shown_byte, shown_line, shown_token, token_in};
+ghost use Rattle.idl_tool.specs.Report.{beginning, column_text, excerpt, gap_below, heading, hex_digit, line_byte, line_text, mark_below, more_text, place_text, report, saying, second_line, severity, shown_byte, shown_line, shown_token, token_in};
 
 use idl_driver::idl_sources::Finding;
 use idl_explain::Words;
@@ -117,11 +117,21 @@ fn token_in(finding: &Finding) -> &[u8]
 fn push_place(place: &Place, column: Option<usize>, out: &mut Vec<u8>) -> Result<(), AllocError>
     ensures { OnOk result (out.new.items ≡ out.old.items ++ place_text place.now column) }
 {
-    let mut number = Buffer::new();
     out.extend_from_slice(place.file.as_bytes())?;
-    out.extend_from_slice(b":")?;
-    out.extend_from_slice(number.format(place.line).as_bytes())?;
+    push_line(place.line, out)?;
     push_column(column, out)
+}
+
+// Writes the number of a line, unless it is 0.
+fn push_line(line: u32, out: &mut Vec<u8>) -> Result<(), AllocError>
+    ensures { OnOk result (out.new.items ≡ out.old.items ++ line_text line) }
+{
+    if line == 0 {
+        return Ok(());
+    }
+    let mut number = Buffer::new();
+    out.extend_from_slice(b":")?;
+    out.extend_from_slice(number.format(line).as_bytes())
 }
 
 // Writes a column, where it is known: people count from 1.

@@ -3,7 +3,7 @@
 use super::support::are_given;
 use std::test::Fail;
 
-static ROWS: [&str; 8] = [
+static ROWS: [&str; 9] = [
     // The line, and marks below the token; of a sound file nothing is told.
     "idltool check shop.idl => shop.idl: #include \"money.idl\" | interface Shop { |     Money price(); |     Mony total(); \
      | }; ¶ money.idl: typedef long Money; => 1 out shop.idl:4:5: error: `Mony` isn't declared here or in a scope around \
@@ -20,6 +20,8 @@ static ROWS: [&str; 8] = [
     // A warning leaves the status 0.
     "idltool check w.idl => w.idl: interface F; => 0 out w.idl:1:11: warning: the interface `F` is declared forward and never \
      defined [W80] /interface F; /          ^ /",
+    // What isn't there has no line.
+    "idltool check z.idl => a.idl => 1 out z.idl: error: the file z.idl isn't found [E10] /",
     // A token that comes of a macro, and one that goes over joined lines, have no column.
     "idltool check a.idl => a.idl: #define T No | typedef T X; => 1 out a.idl:2: error: `No` isn't declared here or in a scope \
      around [E30] /typedef T X; /\nidltool check a.idl => a.idl: typedef N\\ | o X; => 1 out a.idl:1: error: `No` isn't \
