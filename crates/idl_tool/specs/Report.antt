@@ -103,8 +103,8 @@ abbrev pub more_text : ℕ → List ℕ
 more_text more =
     if nat_eq more 0 then [] else codes ", and " ++ decimal more ++ codes " more"
 
--- the line of a second place: `  near: TOKEN, FILE:LINE:COLUMN`
+-- the line of a second place: `FILE:LINE:COLUMN: note: near: TOKEN`
 abbrev pub second_line : Related → Option ℕ → List ℕ
 second_line second column =
-    codes "  " ++ reason_words second.reason ++ codes ": " ++ shown_token second.text
-    ++ codes ", " ++ place_text second.place column ++ ended (more_text second.more)
+    place_text second.place column ++ codes ": note: " ++ reason_words second.reason
+    ++ codes ": " ++ shown_token second.text ++ ended (more_text second.more)

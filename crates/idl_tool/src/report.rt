@@ -70,7 +70,7 @@ fn push_saying(finding: &Finding, words: Words, out: &mut Vec<u8>) -> Result<(),
     out.extend_from_slice(b"]\n")
 }
 
-/// Writes the line of a second place: `  near: TOKEN, FILE:LINE:COLUMN`, and how many more were found than are told.
+/// Writes the line of a second place: `FILE:LINE:COLUMN: note: near: TOKEN`, and how many more were found than are told.
 pub fn push_second(
     second: &Related,
     column: Option<usize>,
@@ -80,12 +80,11 @@ pub fn push_second(
         (out.new.items ≡ out.old.items ++ second_line second.now column) }
 {
     let token = shown_token(*out.allocator(), second.text.as_bytes())?;
-    out.extend_from_slice(b"  ")?;
+    push_place(&second.place, column, out)?;
+    out.extend_from_slice(b": note: ")?;
     out.extend_from_slice(second.reason.words())?;
     out.extend_from_slice(b": ")?;
     out.extend_from_slice(&token)?;
-    out.extend_from_slice(b", ")?;
-    push_place(&second.place, column, out)?;
     push_more(second.more, out)?;
     out.extend_from_slice(b"\n")
 }

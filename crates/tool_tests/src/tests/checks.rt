@@ -7,7 +7,7 @@ static ROWS: [&str; 9] = [
     // The line, and marks below the token; of a sound file nothing is told.
     "idltool check shop.idl => shop.idl: #include \"money.idl\" | interface Shop { |     Money price(); |     Mony total(); \
      | }; ¶ money.idl: typedef long Money; => 1 out shop.idl:4:5: error: `Mony` isn't declared here or in a scope around \
-     [E30] /    Mony total(); /    ^^^^ /  near: Money, money.idl:1:14 /\nidltool check a.idl => a.idl: typedef long T; => 0",
+     [E30] /    Mony total(); /    ^^^^ /money.idl:1:14: note: near: Money /\nidltool check a.idl => a.idl: typedef long T; => 0",
     // A finding of two roots is told once, where the first is.
     "idltool check a.idl b.idl => a.idl: #include \"h\" | typedef No A; ¶ b.idl: typedef No B; | #include \"h\" ¶ h: \
      typedef Non X; => 1 out h:1:9: error: `Non` isn't declared here or in a scope around [E30] /typedef Non X; /        \
@@ -40,8 +40,8 @@ static ROWS: [&str; 9] = [
     "idltool check a.idl => a.idl: interface A { typedef long T; }; | interface B { typedef long T; }; | interface C \
      { typedef long T; }; | interface D { typedef long T; }; | interface E : A, B, C, D { attribute T x; }; => 1 out \
      a.idl:5:38: error: `T` means different things in different bases [E31] /interface E : A, B, C, D { attribute T \
-     x; }; /                                     ^ /  declared: T, a.idl:1:28 /  declared: T, a.idl:2:28 /  \
-     declared: T, a.idl:3:28, and 1 more /",
+     x; }; /                                     ^ /a.idl:1:28: note: declared: T /a.idl:2:28: note: \
+     declared: T /a.idl:3:28: note: declared: T, and 1 more /",
 ];
 
 #[test]
