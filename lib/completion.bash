@@ -40,7 +40,7 @@ _idltool() {
                 -D | -U | -t) ;;
                 *)
                     case $word in
-                        -*) mapfile -t COMPREPLY < <(compgen -W '-D -U -I -t --generated --help' -- "$word") ;;
+                        -*) mapfile -t COMPREPLY < <(compgen -W '-D -U -I -t --generated --present --help' -- "$word") ;;
                         *) _idl_files "$word" ;;
                     esac
                     ;;

@@ -28,11 +28,14 @@ target_rule =
 abbrev pub generated_rule : Rule
 generated_rule = record (flag_rule (codes "generated")) { long = Some (codes "generated") }
 
--- `-D`, `-U`, `-I`, these two, and FILEs, of which there is one at least
+abbrev pub present_rule : Rule
+present_rule = record (flag_rule (codes "present")) { long = Some (codes "present") }
+
+-- `-D`, `-U`, `-I`, these three, and FILEs, of which there is one at least
 abbrev pub deps_shape : Shape
 deps_shape = record (new_shape (codes "deps")) {
   rules = option_rules
-      ++ target_rule ∷ generated_rule ∷ record file_rule { required = true } ∷ [];
+      ++ target_rule ∷ generated_rule ∷ present_rule ∷ record file_rule { required = true } ∷ [];
 }
 
 -- `-D`, `-U`, `-I`, and FILEs, of which there is one at least
@@ -107,6 +110,7 @@ pub record AreDepsOf (rows : List Row) (deps : Deps) : Type 0 where
   pub options : AreOptionsOf rows deps.options
   pub target : option_map (λ w. w.now) deps.target ≡ first_of (codes "target") rows
   pub generated : deps.has_generated ≡ stands (codes "generated") rows
+  pub present : deps.leaves_absent ≡ stands (codes "present") rows
 
 -- what is asked for of one of two files: the one that this argument names, with the directories of
 -- this option before those of `-I`

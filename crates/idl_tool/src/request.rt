@@ -6,7 +6,7 @@ ghost use Rattle.clap.specs.Words.{app_of, first_of, found_of, rows_of, rule_of,
 ghost use Rattle.clap.specs.declared.builder.command.Command.TheViews.{out-Command as fields_of};
 ghost use Rattle.idl_driver.specs.Parsed.{SaysWrong};
 ghost use Rattle.idl_driver.specs.Words.{file_rule};
-ghost use Rattle.idl_tool.specs.Words.{AreDepsOf, AreWrong, AreDiffOf, AreSideOf, IsRequestOf, bare, check_shape, deps_shape, diff_shape, lsp_shape, entered_in, explain_shape, faults_in, generated_rule, idltool, json_shape, side_rule, target_rule, version_rule, word_rule};
+ghost use Rattle.idl_tool.specs.Words.{AreDepsOf, AreWrong, AreDiffOf, AreSideOf, IsRequestOf, bare, check_shape, deps_shape, diff_shape, lsp_shape, entered_in, explain_shape, faults_in, generated_rule, idltool, json_shape, present_rule, side_rule, target_rule, version_rule, word_rule};
 
 use clap::{Arg, ArgAction, ArgMatches, Command};
 use idl_driver::{
@@ -23,6 +23,8 @@ pub struct Deps<'a> {
     pub target: Option<&'a str>,
     /// Whether a file that isn't there is one that another rule makes.
     pub has_generated: bool,
+    /// Whether a file that isn't there is left out.
+    pub leaves_absent: bool,
 }
 
 /// Which files are to be compared, and what each is compiled over.
@@ -154,6 +156,7 @@ fn deps_command<'a>(alloc: Global) -> Result<Command<'a>, AllocError>
     with_options(alloc, command)?
         .arg(target(alloc))?
         .arg(generated(alloc))?
+        .arg(present(alloc))?
         .arg(file(alloc))
 }
 
@@ -235,6 +238,16 @@ fn generated<'a>(alloc: Global) -> Arg<'a>
         .help("Takes each file that isn't there for one that another rule makes")
 }
 
+fn present<'a>(alloc: Global) -> Arg<'a>
+    ensures rule { rule_of result ≡ present_rule }
+    ensures global { result.global ≡ false }
+{
+    Arg::new(alloc, "present")
+        .long("present")
+        .action(ArgAction::Count)
+        .help("Leaves out each file that isn't there, as for ninja, CMake and Meson")
+}
+
 fn file<'a>(alloc: Global) -> Arg<'a>
     ensures rule { rule_of result ≡ record file_rule { required = true } }
     ensures global { result.global ≡ false }
@@ -297,6 +310,7 @@ fn deps_of<'a>(alloc: Global, matches: &ArgMatches<'a>) -> Result<Deps<'a>, Allo
         options: options_of(alloc, matches)?,
         target: matches.get_str("target"),
         has_generated: matches.get_count("generated") > 0,
+        leaves_absent: matches.get_count("present") > 0,
     })
 }
 
