@@ -13,9 +13,9 @@ use Rattle.idl_tool.specs.declared.request.Diff.{Diff}
 use Rattle.idl_tool.specs.declared.request.ToolRequest.{ToolRequest}
 use Rattle.idl_tool.specs.declared.request.ToolRequest.TheVariants as request
 
--- the word of `explain`, once at most
+-- words of `explain`
 abbrev pub word_rule : Rule
-word_rule = record (new_rule (codes "word")) { action = Some Set; value_names = 1 }
+word_rule = record (new_rule (codes "word")) { action = Some Append; value_names = 1 }
 
 abbrev pub explain_shape : Shape
 explain_shape = record (new_shape (codes "explain")) { rules = word_rule ∷ [] }
@@ -125,13 +125,13 @@ pub record AreDiffOf (rows : List Row) (diff : Diff) : Type 0 where
   pub old : AreSideOf (codes "old") (codes "old-directory") rows diff.old
   pub new : AreSideOf (codes "new") (codes "new-directory") rows diff.new
 
--- what words ask for: to show a text, to explain a word or all, to write rules, to check files, to
+-- what words ask for: to show a text, to explain words or all, to write rules, to check files, to
 -- write JSON, to tell what changes, or to serve an editor
 abbrev pub IsRequestOf : List Text → ToolRequest → Type 0
 IsRequestOf words (request.Show text) = Tells IsDisplay (faults_in words)
-IsRequestOf words (request.Explain word) =
+IsRequestOf words (request.Explain topics) =
     (rows : List Row) × Enters (codes "explain") words rows
-    × (option_map (λ w. w.now) word ≡ first_of (codes "word") rows)
+    × (map (λ w. w.now) topics.items ≡ values_of (codes "word") rows)
 IsRequestOf words (request.Deps deps) =
     (rows : List Row) × Enters (codes "deps") words rows × AreDepsOf rows deps
 IsRequestOf words (request.Check options) =

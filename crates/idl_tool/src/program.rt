@@ -120,8 +120,8 @@ fn fulfil<'a, L: Loader + PathLoader, S: Source, O: Sink, E: Sink, V: Service>(
             write_all(&mut devices.output, text.as_bytes())?;
             Ok(Status::Sound)
         }
-        ToolRequest::Explain(word) => {
-            explain(alloc, *word, &mut devices.output)?;
+        ToolRequest::Explain(words) => {
+            explain(alloc, words, &mut devices.output)?;
             Ok(Status::Sound)
         }
         ToolRequest::Deps(deps) => write_deps(alloc, deps, devices),

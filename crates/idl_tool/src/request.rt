@@ -41,8 +41,8 @@ pub struct Diff<'a> {
 pub enum ToolRequest<'a> {
     /// To show a text, which tells how the program is used or its version.
     Show(String),
-    /// To explain the code or the refusal that a word names, or all without one.
-    Explain(Option<&'a str>),
+    /// To explain the codes and refusals that words name, or all without a word.
+    Explain(Vec<&'a str>),
     /// To write rules of make.
     Deps(Deps<'a>),
     /// To tell what is found in files.
@@ -80,7 +80,7 @@ fn chosen<'a>(
     ensures wrong { IfErr result (SaysWrong (AreWrong (map (λ w. w.now) words.entry.now))) }
 {
     if let Some(explain) = matches.subcommand_matches("explain") {
-        return Ok(ToolRequest::Explain(explain.get_str("word")));
+        return Ok(ToolRequest::Explain(values_of(alloc, explain, "word")?));
     }
     if let Some(deps) = matches.subcommand_matches("deps") {
         return Ok(ToolRequest::Deps(deps_of(alloc, deps)?));
@@ -141,8 +141,8 @@ fn explain_command<'a>(alloc: Global) -> Result<Command<'a>, AllocError>
     ensures local { IfOk result (λ command. (fields_of command).has_globals ≡ false) }
 {
     Command::new(alloc, "explain")
-        .about("Explains the code of a row, or a refusal, with an example")
-        .override_usage("idltool explain [CODE|NUMBER]")
+        .about("Explains codes of rows, and refusals, with examples")
+        .override_usage("idltool explain [CODE|NUMBER]..")
         .arg(word(alloc))
 }
 
@@ -213,7 +213,7 @@ fn word<'a>(alloc: Global) -> Arg<'a>
 {
     Arg::new(alloc, "word")
         .value_name("CODE|NUMBER")
-        .action(ArgAction::Set)
+        .action(ArgAction::Append)
         .help("A code, as E35, or the number of a refusal; without it all are told, in a line each")
 }
 
