@@ -51,8 +51,9 @@ _idltool() {
                 -I) _idl_directories "$word" ;;
                 -D | -U) ;;
                 *)
-                    case $word in
-                        -*) mapfile -t COMPREPLY < <(compgen -W '-D -U -I --help' -- "$word") ;;
+                    case ${COMP_WORDS[1]}$word in
+                        check-*) mapfile -t COMPREPLY < <(compgen -W '-D -U -I --werror --help' -- "$word") ;;
+                        json-*) mapfile -t COMPREPLY < <(compgen -W '-D -U -I --help' -- "$word") ;;
                         *) _idl_files "$word" ;;
                     esac
                     ;;

@@ -27,7 +27,7 @@ IsDone told before after status (Show text) = IsShownText (string_bytes text) be
 IsDone told before after status (Explain words) =
     IsToldOf (map (λ w. w.now) words.items) before after status
 IsDone told before after status (Deps deps) = IsServed told deps before after status
-IsDone told before after status (Check options) = IsChecked told options before after status
+IsDone told before after status (Check check) = IsChecked told check before after status
 IsDone told before after status (Json options) = IsWritten told options before after status
 IsDone told before after status (Diff diff) = IsCompared told diff before after status
 -- what an editor is told is no affair of standard error

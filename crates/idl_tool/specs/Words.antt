@@ -8,6 +8,7 @@ use Rattle.clap.specs.declared.builder.action.ArgAction.TheVariants.{Append, Set
 use Rattle.idl_driver.specs.Parsed.{IsDisplay, IsRefusal, Tells}
 use Rattle.idl_driver.specs.Words.{AreOptionsOf, file_rule, flag_rule, option_rules, stands, values_of}
 use Rattle.idl_driver.specs.declared.options.Options.{Options}
+use Rattle.idl_tool.specs.declared.request.Check.{Check}
 use Rattle.idl_tool.specs.declared.request.Deps.{Deps}
 use Rattle.idl_tool.specs.declared.request.Diff.{Diff}
 use Rattle.idl_tool.specs.declared.request.ToolRequest.{ToolRequest}
@@ -38,13 +39,16 @@ deps_shape = record (new_shape (codes "deps")) {
       ++ target_rule ∷ generated_rule ∷ present_rule ∷ record file_rule { required = true } ∷ [];
 }
 
--- `-D`, `-U`, `-I`, and FILEs, of which there is one at least
+abbrev pub werror_rule : Rule
+werror_rule = record (flag_rule (codes "werror")) { long = Some (codes "werror") }
+
+-- `-D`, `-U`, `-I`, this one, and FILEs, of which there is one at least
 abbrev pub check_shape : Shape
 check_shape = record (new_shape (codes "check")) {
-  rules = option_rules ++ record file_rule { required = true } ∷ [];
+  rules = option_rules ++ werror_rule ∷ record file_rule { required = true } ∷ [];
 }
 
--- the same
+-- `-D`, `-U`, `-I`, and FILEs, of which there is one at least
 abbrev pub json_shape : Shape
 json_shape = record (new_shape (codes "json")) {
   rules = option_rules ++ record file_rule { required = true } ∷ [];
@@ -112,6 +116,10 @@ pub record AreDepsOf (rows : List Row) (deps : Deps) : Type 0 where
   pub generated : deps.has_generated ≡ stands (codes "generated") rows
   pub present : deps.leaves_absent ≡ stands (codes "present") rows
 
+pub record AreCheckOf (rows : List Row) (check : Check) : Type 0 where
+  pub options : AreOptionsOf rows check.options
+  pub warnings : check.counts_warnings ≡ stands (codes "werror") rows
+
 -- what is asked for of one of two files: the one that this argument names, with the directories of
 -- this option before those of `-I`
 pub record AreSideOf (file directory : Text) (rows : List Row) (options : Options) : Type 0 where
@@ -134,8 +142,8 @@ IsRequestOf words (request.Explain topics) =
     × (map (λ w. w.now) topics.items ≡ values_of (codes "word") rows)
 IsRequestOf words (request.Deps deps) =
     (rows : List Row) × Enters (codes "deps") words rows × AreDepsOf rows deps
-IsRequestOf words (request.Check options) =
-    (rows : List Row) × Enters (codes "check") words rows × AreOptionsOf rows options
+IsRequestOf words (request.Check check) =
+    (rows : List Row) × Enters (codes "check") words rows × AreCheckOf rows check
 IsRequestOf words (request.Json options) =
     (rows : List Row) × Enters (codes "json") words rows × AreOptionsOf rows options
 IsRequestOf words (request.Diff diff) =

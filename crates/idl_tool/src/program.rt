@@ -125,7 +125,7 @@ fn fulfil<'a, L: Loader + PathLoader, S: Source, O: Sink, E: Sink, V: Service>(
             Ok(Status::Sound)
         }
         ToolRequest::Deps(deps) => write_deps(alloc, deps, devices),
-        ToolRequest::Check(options) => check(alloc, options, devices),
+        ToolRequest::Check(asked) => check(alloc, asked, devices),
         ToolRequest::Json(options) => write_json(alloc, options, devices),
         ToolRequest::Diff(diff) => write_diff(alloc, diff, devices),
         ToolRequest::Serve => {

@@ -6,13 +6,22 @@ ghost use Rattle.clap.specs.Words.{app_of, first_of, found_of, rows_of, rule_of,
 ghost use Rattle.clap.specs.declared.builder.command.Command.TheViews.{out-Command as fields_of};
 ghost use Rattle.idl_driver.specs.Parsed.{SaysWrong};
 ghost use Rattle.idl_driver.specs.Words.{file_rule};
-ghost use Rattle.idl_tool.specs.Words.{AreDepsOf, AreWrong, AreDiffOf, AreSideOf, IsRequestOf, bare, check_shape, deps_shape, diff_shape, lsp_shape, entered_in, explain_shape, faults_in, generated_rule, idltool, json_shape, present_rule, side_rule, target_rule, version_rule, word_rule};
+ghost use Rattle.idl_tool.specs.Words.{AreCheckOf, AreDepsOf, AreWrong, AreDiffOf, AreSideOf, IsRequestOf, bare, check_shape, deps_shape, diff_shape, lsp_shape, entered_in, explain_shape, faults_in, generated_rule, idltool, json_shape, present_rule, side_rule, target_rule, version_rule, werror_rule, word_rule};
 
 use clap::{Arg, ArgAction, ArgMatches, Command};
 use idl_driver::{
     Options, ParsedWords, WordsFault, options_of, parse_words, values_of, with_options,
 };
 use std::alloc::{AllocError, Global};
+
+/// What is to be told of files, and how the program ends then.
+#[derive(Drop)]
+pub struct Check<'a> {
+    /// The files, and what they are compiled over.
+    pub options: Options<'a>,
+    /// Whether warnings count as errors do.
+    pub counts_warnings: bool,
+}
 
 /// Whose rules of make are to be written, and how.
 #[derive(Drop)]
@@ -46,7 +55,7 @@ pub enum ToolRequest<'a> {
     /// To write rules of make.
     Deps(Deps<'a>),
     /// To tell what is found in files.
-    Check(Options<'a>),
+    Check(Check<'a>),
     /// To write what is told of files as JSON.
     Json(Options<'a>),
     /// To tell what changes from one file to another.
@@ -86,7 +95,7 @@ fn chosen<'a>(
         return Ok(ToolRequest::Deps(deps_of(alloc, deps)?));
     }
     if let Some(check) = matches.subcommand_matches("check") {
-        return Ok(ToolRequest::Check(options_of(alloc, check)?));
+        return Ok(ToolRequest::Check(check_of(alloc, check)?));
     }
     if let Some(json) = matches.subcommand_matches("json") {
         return Ok(ToolRequest::Json(options_of(alloc, json)?));
@@ -167,7 +176,9 @@ fn check_command<'a>(alloc: Global) -> Result<Command<'a>, AllocError>
     let command = Command::new(alloc, "check")
         .about("Tells the errors and warnings of each FILE, with their lines")
         .override_usage("idltool check [OPTIONS] FILE..");
-    with_options(alloc, command)?.arg(file(alloc))
+    with_options(alloc, command)?
+        .arg(werror(alloc))?
+        .arg(file(alloc))
 }
 
 fn json_command<'a>(alloc: Global) -> Result<Command<'a>, AllocError>
@@ -248,6 +259,16 @@ fn present<'a>(alloc: Global) -> Arg<'a>
         .help("Leaves out each file that isn't there, as for ninja, CMake and Meson")
 }
 
+fn werror<'a>(alloc: Global) -> Arg<'a>
+    ensures rule { rule_of result ≡ werror_rule }
+    ensures global { result.global ≡ false }
+{
+    Arg::new(alloc, "werror")
+        .long("werror")
+        .action(ArgAction::Count)
+        .help("Ends with the status 1 where there are warnings, too")
+}
+
 fn file<'a>(alloc: Global) -> Arg<'a>
     ensures rule { rule_of result ≡ record file_rule { required = true } }
     ensures global { result.global ≡ false }
@@ -301,6 +322,15 @@ fn new_file<'a>(alloc: Global) -> Arg<'a>
         .required(true)
         .action(ArgAction::Set)
         .help("The file as it is")
+}
+
+fn check_of<'a>(alloc: Global, matches: &ArgMatches<'a>) -> Result<Check<'a>, AllocError>
+    ensures { IfOk result (AreCheckOf (rows_of (found_of matches.now))) }
+{
+    Ok(Check {
+        options: options_of(alloc, matches)?,
+        counts_warnings: matches.get_count("werror") > 0,
+    })
 }
 
 fn deps_of<'a>(alloc: Global, matches: &ArgMatches<'a>) -> Result<Deps<'a>, AllocError>

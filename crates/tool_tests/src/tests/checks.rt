@@ -3,7 +3,7 @@
 use super::support::are_given;
 use std::test::Fail;
 
-static ROWS: [&str; 9] = [
+static ROWS: [&str; 10] = [
     // The line, and marks below the token; of a sound file nothing is told.
     "idltool check shop.idl => shop.idl: #include \"money.idl\" | interface Shop { |     Money price(); |     Mony total(); \
      | }; ¶ money.idl: typedef long Money; => 1 out shop.idl:4:5: error: `Mony` isn't declared here or in a scope around \
@@ -20,6 +20,9 @@ static ROWS: [&str; 9] = [
     // A warning leaves the status 0.
     "idltool check w.idl => w.idl: interface F; => 0 out w.idl:1:11: warning: the interface `F` is declared forward and never \
      defined [W80] /interface F; /          ^ /",
+    // Where warnings count, it is 1.
+    "idltool check --werror w.idl => w.idl: interface F; => 1 out w.idl:1:11: warning: the interface `F` is declared forward \
+     and never defined [W80] /interface F; /          ^ /\nidltool check --werror a.idl => a.idl: typedef long T; => 0",
     // What isn't there has no line.
     "idltool check z.idl => a.idl => 1 out z.idl: error: the file z.idl isn't found [E10] /",
     // A token that comes of a macro, and one that goes over joined lines, have no column.
