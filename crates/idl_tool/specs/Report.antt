@@ -1,6 +1,7 @@
 -- The report of a finding: where it is and what it says, its line, and marks below its token.
-use Rattle.std.specs.Prelude.{ℕ, ◌+◌, ◌/◌, ◌%◌, ◌&&◌, List, [], ◌∷◌, ◌++◌, codes, decimal, map, nat_eq, nat_le, nat_lt, take, Option, None, Some, unwrap_or, if◌then◌else◌}
+use Rattle.std.specs.Prelude.{ℕ, ◌+◌, ◌/◌, ◌%◌, Bool, true, false, ◌&&◌, ◌||◌, not, List, [], ◌∷◌, ◌++◌, codes, decimal, drop, length, nat_eq, nat_le, nat_lt, take, Option, None, Some, unwrap_or, if◌then◌else◌}
 use Rattle.std.specs.List.{flat_map}
+use Rattle.bstr.specs.Utf8.{Decoded, decoded, pieces}
 use Rattle.idl_explain.specs.Explained.{ended, said}
 use Rattle.idl_explain.specs.declared.explanation.Words.{Words}
 use Rattle.idl_fault.specs.Code.{code_text, is_error}
@@ -14,44 +15,84 @@ use Rattle.idl_finding.specs.declared.finding.Finding.{Finding}
 abbrev pub hex_digit : ℕ → ℕ
 hex_digit n = if nat_lt n 10 then 48 + n else 87 + n
 
--- a byte as a terminal can show it: one that is none of 32 to 126 by its number
-abbrev pub shown_byte : ℕ → List ℕ
-shown_byte b =
-    if nat_le 32 b && nat_le b 126 then b ∷ []
-    else codes "\\x" ++ hex_digit (b / 16) ∷ hex_digit (b % 16) ∷ []
+-- a byte by its number
+abbrev pub numbered : ℕ → List ℕ
+numbered b = codes "\\x" ++ hex_digit (b / 16) ∷ hex_digit (b % 16) ∷ []
 
--- a token as a terminal can show it
-abbrev pub shown_token : List ℕ → List ℕ
-shown_token token = flat_map shown_byte token
-
--- a byte of a line: a tab stays, and what else is white is a blank
+-- in a line a tab stays, and what else is white is a blank
 abbrev pub line_byte : ℕ → List ℕ
 line_byte b =
-    if nat_eq b 9 then 9 ∷ []
-    else (if nat_le 11 b && nat_le b 13 then 32 ∷ [] else shown_byte b)
+    if nat_eq b 9 then 9 ∷ [] else (if nat_le 11 b && nat_le b 13 then 32 ∷ [] else numbered b)
 
--- bytes of a line
+abbrev pub other_byte : Bool → ℕ → List ℕ
+other_byte is_line b = if is_line then line_byte b else numbered b
+
+-- a character that no terminal shows, or that turns the direction of others: a control character, or
+-- one of Unicode's explicit marks of embeddings, overrides and isolates
+abbrev pub is_hidden : ℕ → Bool
+is_hidden c = nat_le c 31 || (nat_le 127 c && nat_le c 159)
+    || (nat_le 0x202A c && nat_le c 0x202E) || (nat_le 0x2066 c && nat_le c 0x2069)
+
+abbrev pub is_shown : Option ℕ → Bool
+is_shown None = false
+is_shown (Some c) = not (is_hidden c)
+
+-- a piece of a text, a character or bytes that are none: it goes out as it is, if it is shown
+abbrev pub shown_piece : Bool → Option ℕ → List ℕ → List ℕ
+shown_piece is_line char bytes =
+    if is_shown char then bytes else flat_map (other_byte is_line) bytes
+
+-- the first piece of a text
+abbrev pub shown_first : Bool → List ℕ → List ℕ
+shown_first is_line text =
+    shown_piece is_line (decoded text).char (take (decoded text).size text)
+
+abbrev pub shown_pieces : Bool → List Decoded → List ℕ → List ℕ
+shown_pieces is_line [] text = []
+shown_pieces is_line (piece ∷ pieces) text =
+    shown_piece is_line piece.char (take piece.size text)
+    ++ shown_pieces is_line pieces (drop piece.size text)
+
+-- a text as a terminal can show it
+abbrev pub shown_text : Bool → List ℕ → List ℕ
+shown_text is_line text = shown_pieces is_line (pieces text) text
+
 abbrev pub shown_line : List ℕ → List ℕ
-shown_line bytes = flat_map line_byte bytes
+shown_line line = shown_text true line
 
--- what is as wide as a byte that is shown, and shows nothing
-abbrev pub gap_below : ℕ → ℕ
-gap_below b = if nat_eq b 9 then 9 else 32
+abbrev pub shown_token : List ℕ → List ℕ
+shown_token token = shown_text false token
 
--- a mark
-abbrev pub mark_below : ℕ → ℕ
-mark_below b = 94
+-- a byte that goes on with a character
+abbrev pub goes_on : ℕ → Bool
+goes_on b = nat_le 128 b && nat_le b 191
 
--- below a line: a gap up to this column, and then a mark below each byte that is shown of the token
-abbrev pub marks : List ℕ → ℕ → List ℕ → List ℕ
-marks line column token =
-    map gap_below (shown_line (take column line)) ++ map mark_below (shown_line token)
+-- what is as wide as a character that is shown, and shows nothing
+abbrev pub gap_below : ℕ → List ℕ
+gap_below b = if goes_on b then [] else (if nat_eq b 9 then 9 ∷ [] else 32 ∷ [])
+
+-- a mark below a character
+abbrev pub mark_below : ℕ → List ℕ
+mark_below b = if goes_on b then [] else 94 ∷ []
+
+-- what is marked of a line: so many bytes from a column on, or the character that begins there, if
+-- that has more
+abbrev pub marked : List ℕ → ℕ → ℕ → List ℕ
+marked line column size =
+    let text = drop column line in
+    take (if nat_lt size (decoded text).size then (decoded text).size else size) text
+
+-- below a line: a gap up to this column, and then a mark below each character that is marked
+abbrev pub marks : List ℕ → ℕ → ℕ → List ℕ
+marks line column size =
+    flat_map gap_below (shown_line (take column line))
+    ++ flat_map mark_below (shown_line (marked line column size))
 
 -- a line, and marks below a token of which the column is known
 abbrev pub excerpt : List ℕ → Option ℕ → List ℕ → List ℕ
 excerpt line None token = ended (shown_line line)
 excerpt line (Some column) token =
-    ended (shown_line line) ++ ended (marks line column token)
+    ended (shown_line line) ++ ended (marks line column (length token))
 
 -- the excerpt of a line, if there is one
 abbrev pub excerpt_of : Option (List ℕ) → Option ℕ → List ℕ → List ℕ

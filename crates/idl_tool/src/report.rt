@@ -1,9 +1,11 @@
 //! The report of a finding: where it is and what it says, its line, and marks below its token.
 
-ghost use Rattle.std.specs.Prelude.{◌≡◌, ◌++◌, ◌<◌, IfOk, OnOk, map};
+ghost use Rattle.std.specs.Prelude.{◌≡◌, ◌++◌, ◌<◌, IfOk, OnOk, flat_map};
 ghost use Rattle.std.specs.Option.{option_copied};
-ghost use Rattle.idl_tool.specs.Report.{beginning, column_text, excerpt, gap_below, heading, hex_digit, line_byte, line_text, mark_below, more_text, place_text, report, saying, second_line, severity, shown_byte, shown_line, shown_token, token_in};
+ghost use Rattle.bstr.specs.Utf8.{decoded};
+ghost use Rattle.idl_tool.specs.Report.{beginning, column_text, excerpt, gap_below, heading, hex_digit, is_hidden, is_shown, line_byte, line_text, mark_below, marked, marks, more_text, numbered, other_byte, place_text, report, saying, second_line, severity, shown_first, shown_piece, shown_text, token_in};
 
+use bstr::decode_utf8;
 use idl_driver::idl_sources::Finding;
 use idl_explain::Words;
 use idl_fault::{Code, Place};
@@ -63,7 +65,7 @@ fn push_beginning(
 fn push_saying(finding: &Finding, words: Words, out: &mut Vec<u8>) -> Result<(), AllocError>
     ensures { OnOk result (out.new.items ≡ out.old.items ++ saying finding.now words) }
 {
-    let token = shown_token(*out.allocator(), token_in(finding))?;
+    let token = shown_text(*out.allocator(), token_in(finding), false)?;
     words.push(&token, out)?;
     out.extend_from_slice(b" [")?;
     out.extend_from_slice(&finding.code.text())?;
@@ -79,7 +81,7 @@ pub fn push_second(
     ensures { OnOk result
         (out.new.items ≡ out.old.items ++ second_line second.now column) }
 {
-    let token = shown_token(*out.allocator(), second.text.as_bytes())?;
+    let token = shown_text(*out.allocator(), second.text.as_bytes(), false)?;
     push_place(&second.place, column, out)?;
     out.extend_from_slice(b": note: ")?;
     out.extend_from_slice(second.reason.words())?;
@@ -165,67 +167,162 @@ fn push_excerpt(
     ensures { OnOk result
         (out.new.items ≡ out.old.items ++ excerpt line.now column token.now) }
 {
-    let shown = shown_line(*out.allocator(), line)?;
+    let shown = shown_text(*out.allocator(), line, true)?;
     out.extend_from_slice(&shown)?;
     out.extend_from_slice(b"\n")?;
     let Some(column) = column else {
         return Ok(());
     };
-    push_marks(line.get(..column).unwrap_or(line), token, out)?;
+    push_marks(line, column, token.len(), out)?;
     out.extend_from_slice(b"\n")
 }
 
-// Writes a gap below what stands before a token, and marks below the token.
-fn push_marks(before: &[u8], token: &[u8], out: &mut Vec<u8>) -> Result<(), AllocError>
-    ensures { OnOk result (out.new.items ≡ out.old.items
-        ++ map gap_below (shown_line before.now) ++ map mark_below (shown_line token.now)) }
+// Writes a gap below what stands before a column, and marks below so many bytes from there on.
+fn push_marks(
+    line: &[u8],
+    column: usize,
+    size: usize,
+    out: &mut Vec<u8>,
+) -> Result<(), AllocError>
+    ensures { OnOk result (out.new.items ≡ out.old.items ++ marks line.now column size) }
 {
-    let before = shown_line(*out.allocator(), before)?;
-    let token = shown_line(*out.allocator(), token)?;
+    let alloc = *out.allocator();
+    let before = shown_text(alloc, line.get(..column).unwrap_or(line), true)?;
+    let below = shown_text(alloc, marked(line, column, size), true)?;
     push_gap(&before, out)?;
-    push_carets(&token, out)
+    push_carets(&below, out)
 }
 
-// Writes what is as wide as these bytes, and shows nothing.
+// What is marked of a line: so many bytes from a column on, or the character that begins there, if that has more.
+fn marked(line: &[u8], column: usize, size: usize) -> &[u8]
+    ensures { result.now ≡ marked line.entry.now column size }
+{
+    let Some(text) = line.get(column..) else {
+        return b"";
+    };
+    let (_character, whole) = decode_utf8(text);
+    let size = if size < whole { whole } else { size };
+    text.get(..size).unwrap_or(text)
+}
+
+// Writes what is as wide as these characters, and shows nothing.
 fn push_gap(shown: &[u8], out: &mut Vec<u8>) -> Result<(), AllocError>
-    ensures { OnOk result (out.new.items ≡ out.old.items ++ map gap_below shown.now) }
+    ensures { OnOk result (out.new.items ≡ out.old.items ++ flat_map gap_below shown.now) }
 {
     'bytes: for b in shown {
-        out.push(if *b == b'\t' { b'\t' } else { b' ' })?;
+        push_gap_below(*b, out)?;
     }
     Ok(())
 }
 
-// Writes a mark below each of these bytes.
+fn push_gap_below(b: u8, out: &mut Vec<u8>) -> Result<(), AllocError>
+    ensures { OnOk result (out.new.items ≡ out.old.items ++ gap_below b) }
+{
+    match b {
+        128..=191 => Ok(()),
+        b'\t' => out.extend_from_slice(b"\t"),
+        _ => out.extend_from_slice(b" "),
+    }
+}
+
+// Writes a mark below each of these characters.
 fn push_carets(shown: &[u8], out: &mut Vec<u8>) -> Result<(), AllocError>
-    ensures { OnOk result (out.new.items ≡ out.old.items ++ map mark_below shown.now) }
+    ensures { OnOk result (out.new.items ≡ out.old.items ++ flat_map mark_below shown.now) }
 {
-    'bytes: for _ in shown {
-        out.push(b'^')?;
+    'bytes: for b in shown {
+        push_mark_below(*b, out)?;
     }
     Ok(())
 }
 
-// Bytes of a line as a terminal can show them.
-fn shown_line(alloc: Global, bytes: &[u8]) -> Result<Vec<u8>, AllocError>
-    ensures { IfOk result (λ shown. shown.items ≡ shown_line bytes.now) }
+fn push_mark_below(b: u8, out: &mut Vec<u8>) -> Result<(), AllocError>
+    ensures { OnOk result (out.new.items ≡ out.old.items ++ mark_below b) }
+{
+    match b {
+        128..=191 => Ok(()),
+        _ => out.extend_from_slice(b"^"),
+    }
+}
+
+// A line, or a token, as a terminal can show it.
+fn shown_text(alloc: Global, text: &[u8], is_line: bool) -> Result<Vec<u8>, AllocError>
+    ensures { IfOk result (λ shown. shown.items ≡ shown_text is_line text.now) }
 {
     let mut shown = Vec::new(alloc);
-    'bytes: for b in bytes {
-        push_line_byte(*b, &mut shown)?;
+    let mut at = 0;
+    'pieces: while at < text.len() {
+        let size = push_first(&text[at..], is_line, &mut shown)?;
+        at += size;
     }
     Ok(shown)
 }
 
-// A token as a terminal can show it.
-fn shown_token(alloc: Global, token: &[u8]) -> Result<Vec<u8>, AllocError>
-    ensures { IfOk result (λ shown. shown.items ≡ shown_token token.now) }
+// Writes what is shown of the first piece of a text, a character or bytes that are none, and answers how many bytes it has.
+fn push_first(text: &[u8], is_line: bool, out: &mut Vec<u8>) -> Result<usize, AllocError>
+    ensures shown { OnOk result
+        (out.new.items ≡ out.old.items ++ shown_first is_line text.now) }
+    ensures size { IfOk result (λ size. size ≡ (decoded text.now).size) }
 {
-    let mut shown = Vec::new(alloc);
-    'bytes: for b in token {
-        push_byte(*b, &mut shown)?;
+    let (character, size) = decode_utf8(text);
+    push_piece(character, text.get(..size).unwrap_or(text), is_line, out)?;
+    Ok(size)
+}
+
+// Writes what is shown of a piece of these bytes.
+fn push_piece(
+    character: Option<char>,
+    bytes: &[u8],
+    is_line: bool,
+    out: &mut Vec<u8>,
+) -> Result<(), AllocError>
+    ensures { OnOk result
+        (out.new.items ≡ out.old.items ++ shown_piece is_line character bytes.now) }
+{
+    if is_shown(character) {
+        return out.extend_from_slice(bytes);
     }
-    Ok(shown)
+    push_others(bytes, is_line, out)
+}
+
+// Whether a character is shown as it is.
+fn is_shown(character: Option<char>) -> bool
+    ensures { result ≡ is_shown character }
+{
+    match character {
+        Some(character) => !is_hidden(character),
+        None => false,
+    }
+}
+
+// Whether no terminal shows a character, or it turns the direction of others.
+fn is_hidden(character: char) -> bool
+    ensures { result ≡ is_hidden character }
+{
+    character <= '\u{1f}'
+        || ('\u{7f}' <= character && character <= '\u{9f}')
+        || ('\u{202a}' <= character && character <= '\u{202e}')
+        || ('\u{2066}' <= character && character <= '\u{2069}')
+}
+
+// Writes bytes that aren't shown as they are.
+fn push_others(bytes: &[u8], is_line: bool, out: &mut Vec<u8>) -> Result<(), AllocError>
+    ensures { OnOk result
+        (out.new.items ≡ out.old.items ++ flat_map (other_byte is_line) bytes.now) }
+{
+    'bytes: for b in bytes {
+        push_other(*b, is_line, out)?;
+    }
+    Ok(())
+}
+
+fn push_other(b: u8, is_line: bool, out: &mut Vec<u8>) -> Result<(), AllocError>
+    ensures { OnOk result (out.new.items ≡ out.old.items ++ other_byte is_line b) }
+{
+    if is_line {
+        push_line_byte(b, out)
+    } else {
+        push_number(b, out)
+    }
 }
 
 // Writes a byte of a line: a tab stays, and what else is white is a blank.
@@ -235,17 +332,14 @@ fn push_line_byte(b: u8, out: &mut Vec<u8>) -> Result<(), AllocError>
     match b {
         b'\t' => out.extend_from_slice(b"\t"),
         11..=13 => out.extend_from_slice(b" "),
-        _ => push_byte(b, out),
+        _ => push_number(b, out),
     }
 }
 
-// Writes a byte, or its number where a terminal can't show it.
-fn push_byte(b: u8, out: &mut Vec<u8>) -> Result<(), AllocError>
-    ensures { OnOk result (out.new.items ≡ out.old.items ++ shown_byte b) }
+// Writes the number of a byte.
+fn push_number(b: u8, out: &mut Vec<u8>) -> Result<(), AllocError>
+    ensures { OnOk result (out.new.items ≡ out.old.items ++ numbered b) }
 {
-    if 32 <= b && b <= 126 {
-        return out.extend_from_slice(&[b]);
-    }
     out.extend_from_slice(b"\\x")?;
     out.extend_from_slice(&[hex_digit(b / 16), hex_digit(b % 16)])
 }

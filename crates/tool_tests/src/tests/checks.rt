@@ -3,7 +3,7 @@
 use super::support::are_given;
 use std::test::Fail;
 
-static ROWS: [&str; 10] = [
+static ROWS: [&str; 11] = [
     // The line, and marks below the token; of a sound file nothing is told.
     "idltool check shop.idl => shop.idl: #include \"money.idl\" | interface Shop { |     Money price(); |     Mony total(); \
      | }; ¶ money.idl: typedef long Money; => 1 out shop.idl:4:5: error: `Mony` isn't declared here or in a scope around \
@@ -36,9 +36,13 @@ static ROWS: [&str; 10] = [
      around [E30] / typedef No B; typedef Non C; /                       ^^^ /",
     // A tab stays a tab, another white byte is a blank, and what no terminal can show goes out by its number.
     "idltool check a.idl => a.idl: \ttypedef\tNo X; // ¬. => 1 out a.idl:1:10: error: `No` isn't declared here or in a scope \
-     around [E30] /\ttypedef\tNo X; //  . /\t       \t^^ /\nidltool check a.idl => a.idl: /* \u{1b} */ typedef long ä; => 1 \
-     out a.idl:1:22: error: `\\xc3` begins no token of IDL [E01] //* \\x1b */ typedef long \\xc3\\xa4; /                        \
-     ^^^^ /",
+     around [E30] /\ttypedef\tNo X; //  . /\t       \t^^ /\nidltool check a.idl => a.idl: /* \u{1b}\u{202e} */ typedef No X; \
+     => 1 out a.idl:1:20: error: `No` isn't declared here or in a scope around [E30] //* \\x1b\\xe2\\x80\\xae */ typedef No \
+     X; /                               ^^ /",
+    // A character is shown, and has one mark; a byte of it that is a token of its own has its number.
+    "idltool check a.idl => a.idl: /* Grüße 😀 */ typedef No X; => 1 out a.idl:1:28: error: `No` isn't declared here or in a \
+     scope around [E30] //* Grüße 😀 */ typedef No X; /                      ^^ /\nidltool check a.idl => a.idl: typedef long \
+     ä; => 1 out a.idl:1:14: error: `\\xc3` begins no token of IDL [E01] /typedef long ä; /             ^ /",
     // Of several second places three are told, and how many more there are.
     "idltool check a.idl => a.idl: interface A { typedef long T; }; | interface B { typedef long T; }; | interface C \
      { typedef long T; }; | interface D { typedef long T; }; | interface E : A, B, C, D { attribute T x; }; => 1 out \
