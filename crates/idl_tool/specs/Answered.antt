@@ -39,7 +39,7 @@ AreAllListed before after =
     × ((topic : Topic) → Contains (topics_in explanations) topic)
     × (after ≡ before ++ lines_of explanations)
 
--- what words name is shown behind a text, with an empty line between; or without a word all is listed
+-- what words name is shown behind a text, with an empty line between; without a word all is listed
 abbrev pub AreExplained : List (List ℕ) → List ℕ → List ℕ → Type 0
 AreExplained [] before after = AreAllListed before after
 AreExplained (word ∷ words) before after =

@@ -27,8 +27,8 @@ line_byte b =
 abbrev pub other_byte : Bool → ℕ → List ℕ
 other_byte is_line b = if is_line then line_byte b else numbered b
 
--- a character that no terminal shows, or that turns the direction of others: a control character, or
--- one of Unicode's explicit marks of embeddings, overrides and isolates
+-- a character that no terminal shows, or that turns the direction of others: a control character,
+-- or one of Unicode's marks of embeddings, overrides and isolates
 abbrev pub is_hidden : ℕ → Bool
 is_hidden c = nat_le c 31 || (nat_le 127 c && nat_le c 159)
     || (nat_le 0x202A c && nat_le c 0x202E) || (nat_le 0x2066 c && nat_le c 0x2069)
