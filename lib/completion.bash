@@ -27,10 +27,11 @@ _idlc() {
 _idltool() {
     local word=${COMP_WORDS[COMP_CWORD]} before=${COMP_WORDS[COMP_CWORD - 1]}
     if [ "$COMP_CWORD" = 1 ]; then
-        mapfile -t COMPREPLY < <(compgen -W 'explain deps check json diff lsp --help --version' -- "$word")
+        mapfile -t COMPREPLY < <(compgen -W 'explain deps check json diff lsp help --help --version' -- "$word")
         return
     fi
     case ${COMP_WORDS[1]} in
+        help) mapfile -t COMPREPLY < <(compgen -W 'explain deps check json diff lsp' -- "$word") ;;
         explain)
             mapfile -t COMPREPLY < <(compgen -W "$(idltool explain 2>/dev/null | sed 's/^refused //; s/:.*//')" -- "${word^}")
             ;;

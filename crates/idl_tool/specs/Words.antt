@@ -76,12 +76,12 @@ diff_shape = record (new_shape (codes "diff")) {
 abbrev pub lsp_shape : Shape
 lsp_shape = new_shape (codes "lsp")
 
--- a program whose words are all its own, which has a version, and of which a subcommand is wanted
+-- a program whose words are all its own, which has a version, and of which a subcommand is wanted;
+-- `help` is one by itself
 abbrev pub bare : App
 bare = on_top (λ top. record top {
   no_binary_name = true;
   has_version = true;
-  disable_help_subcommand = true;
   subcommand_required = true;
   arg_required_else_help = true;
 }) (new_app (codes "idltool"))

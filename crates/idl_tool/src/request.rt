@@ -133,7 +133,6 @@ fn bare<'a>(alloc: Global) -> Command<'a>
 {
     Command::new(alloc, "idltool")
         .no_binary_name(true)
-        .disable_help_subcommand(true)
         .subcommand_required(true)
         .arg_required_else_help(true)
         .version("0.1.0")

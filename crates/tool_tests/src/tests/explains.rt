@@ -45,11 +45,11 @@ fn all_are_told_without_a_word(rt: HostRuntime) -> Result<(), Fail> {
 #[test]
 fn wrong_words_are_told(rt: HostRuntime) -> Result<(), Fail> {
     let wrong =
-        ", explain -l, deps, deps -t a.idl, check, check -d a.idl, E35, deps --session a.idl, json, diff a";
+        ", explain -l, help E35, deps, deps -t a.idl, check, check -d a.idl, E35, deps --session a.idl, json, diff a";
     for words in wrong.split(',') {
         tells_its_usage(rt.alloc(), words, "2 err ")?;
     }
-    for words in "--help, -h, explain -h, deps -h, check -h, json -h, diff -h".split(',') {
+    for words in "--help, -h, help, help check, explain -h, deps -h, check -h, json -h, diff -h".split(',') {
         tells_its_usage(rt.alloc(), words, "0 out ")?;
     }
     is_given(rt.alloc(), "idltool --version =>  => 0 out idltool 0.1.0 /")?;
