@@ -27,15 +27,18 @@ line_byte b =
 abbrev pub other_byte : Bool → ℕ → List ℕ
 other_byte is_line b = if is_line then line_byte b else numbered b
 
--- a character that no terminal shows, or that turns the direction of others: a control character,
--- or one of Unicode's marks of embeddings, overrides and isolates
-abbrev pub is_hidden : ℕ → Bool
-is_hidden c = nat_le c 31 || (nat_le 127 c && nat_le c 159)
-    || (nat_le 0x202A c && nat_le c 0x202E) || (nat_le 0x2066 c && nat_le c 0x2069)
+-- a control character
+abbrev pub is_control : ℕ → Bool
+is_control c = nat_le c 31 || (nat_le 127 c && nat_le c 159)
 
+-- a mark that turns the direction of text: Unicode's of embeddings, overrides and isolates
+abbrev pub is_turning : ℕ → Bool
+is_turning c = (nat_le 0x202A c && nat_le c 0x202E) || (nat_le 0x2066 c && nat_le c 0x2069)
+
+-- a character that is neither goes out as it is
 abbrev pub is_shown : Option ℕ → Bool
 is_shown None = false
-is_shown (Some c) = not (is_hidden c)
+is_shown (Some c) = not (is_control c || is_turning c)
 
 -- a piece of a text, a character or bytes that are none: it goes out as it is, if it is shown
 abbrev pub shown_piece : Bool → Option ℕ → List ℕ → List ℕ
