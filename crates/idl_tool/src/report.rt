@@ -199,8 +199,7 @@ fn marked(line: &[u8], column: usize, size: usize) -> &[u8]
 {
     let text = &line[column.min(line.len())..];
     let (_character, whole) = decode_utf8(text);
-    let size = if size < whole { whole } else { size };
-    text.get(..size).unwrap_or(text)
+    text.get(..size.max(whole)).unwrap_or(text)
 }
 
 // Writes what is as wide as these characters, and shows nothing.
