@@ -3,7 +3,7 @@
 ghost use Rattle.std.specs.Prelude.{◌≡◌, ◌++◌, ◌<◌, IfOk, OnOk, flat_map};
 ghost use Rattle.std.specs.Option.{option_copied};
 ghost use Rattle.bstr.specs.Utf8.{decoded};
-ghost use Rattle.idl_tool.specs.Report.{beginning, column_text, excerpt, gap_below, heading, hex_digit, is_control, is_shown, is_turning, line_byte, line_text, mark_below, marked, marks, more_text, numbered, other_byte, place_text, report, saying, second_line, severity, shown_first, shown_piece, shown_text, token_in};
+ghost use Rattle.idl_tool.specs.Report.{beginning, column_text, excerpt, gap_below, heading, hex_digit, is_bidi_control, is_shown, line_byte, line_text, mark_below, marked, marks, more_text, numbered, other_byte, place_text, report, saying, second_line, severity, shown_first, shown_piece, shown_text, token_in};
 
 use bstr::decode_utf8;
 use idl_driver::idl_sources::Finding;
@@ -199,8 +199,7 @@ fn marked(line: &[u8], column: usize, size: usize) -> &[u8]
 {
     let text = &line[column.min(line.len())..];
     let (_character, whole) = decode_utf8(text);
-    let size = if size < whole { whole } else { size };
-    text.get(..size).unwrap_or(text)
+    text.get(..size.max(whole)).unwrap_or(text)
 }
 
 // Writes what is as wide as these characters, and shows nothing.
@@ -287,22 +286,18 @@ fn is_shown(character: Option<char>) -> bool
     ensures { result ≡ is_shown character }
 {
     match character {
-        Some(character) => !(is_control(character) || is_turning(character)),
+        Some(character) => !(character.is_control() || is_bidi_control(character)),
         None => false,
     }
 }
 
-fn is_control(character: char) -> bool
-    ensures { result ≡ is_control character }
+// Whether a character is a mark of the direction of text.
+fn is_bidi_control(character: char) -> bool
+    ensures { result ≡ is_bidi_control character }
 {
-    character <= '\u{1f}' || ('\u{7f}' <= character && character <= '\u{9f}')
-}
-
-// Whether a character turns the direction of text.
-fn is_turning(character: char) -> bool
-    ensures { result ≡ is_turning character }
-{
-    ('\u{202a}' <= character && character <= '\u{202e}')
+    character == '\u{61c}'
+        || ('\u{200e}' <= character && character <= '\u{200f}')
+        || ('\u{202a}' <= character && character <= '\u{202e}')
         || ('\u{2066}' <= character && character <= '\u{2069}')
 }
 
