@@ -1,7 +1,7 @@
 -- The report of a finding: where it is and what it says, its line, and marks below its token.
 use Rattle.std.specs.Prelude.{ℕ, ◌+◌, ◌/◌, ◌%◌, Bool, true, false, ◌&&◌, ◌||◌, not, List, [], ◌∷◌, ◌++◌, codes, decimal, drop, length, max, min, nat_eq, nat_le, nat_lt, slice_range, take, Option, None, Some, unwrap_or, if◌then◌else◌}
 use Rattle.std.specs.Char.{is_control}
-use Rattle.std.specs.List.{flat_map}
+use Rattle.std.specs.List.{flat_map, list_any}
 use Rattle.bstr.specs.Utf8.{Decoded, decoded, pieces}
 use Rattle.idl_explain.specs.Explained.{ended, said}
 use Rattle.idl_explain.specs.declared.explanation.Words.{Words}
@@ -28,16 +28,16 @@ line_byte b =
 abbrev pub other_byte : Bool → ℕ → List ℕ
 other_byte is_line b = if is_line then line_byte b else numbered b
 
--- a mark of the direction of text: a character that has Unicode's property Bidi_Control
-abbrev pub is_bidi_control : ℕ → Bool
-is_bidi_control c =
-    nat_eq c 0x061C || (nat_le 0x200E c && nat_le c 0x200F) || (nat_le 0x202A c && nat_le c 0x202E)
-    || (nat_le 0x2066 c && nat_le c 0x2069)
+-- the marks of the direction of text: the characters that have Unicode's property Bidi_Control
+abbrev pub bidi_controls : List ℕ
+bidi_controls =
+    0x061C ∷ 0x200E ∷ 0x200F ∷ 0x202A ∷ 0x202B ∷ 0x202C ∷ 0x202D ∷ 0x202E
+    ∷ 0x2066 ∷ 0x2067 ∷ 0x2068 ∷ 0x2069 ∷ []
 
 -- a character goes out as it is, unless it is a control or such a mark
 abbrev pub is_shown : Option ℕ → Bool
 is_shown None = false
-is_shown (Some c) = not (is_control c || is_bidi_control c)
+is_shown (Some c) = not (is_control c || list_any (λ mark. nat_eq mark c) bidi_controls)
 
 -- a piece of a text, a character or bytes that are none: it goes out as it is, if it is shown
 abbrev pub shown_piece : Bool → Option ℕ → List ℕ → List ℕ
