@@ -14,11 +14,11 @@ pub returns-in_ok-explain-in-Explain-clause-done : goal.returns-in_ok-explain-in
 returns-in_ok-explain-in-Explain-clause-done g c =
     let before = g.O.Sink.written c.args.devices.now.output in
     let after = g.O.Sink.written c.explain.new.output in
-    record {
+    rw c.in-Explain.is (record {
       output = subst (λ (ws : List (Bor (List ℕ))). IsExplained (map (λ (w : Bor (List ℕ)). w.now) ws) before after) c.deref.ensures.value c.in_ok-explain-in-Explain.ensures.explained;
       errors = refl;
       sound = refl;
-    }
+    })
 
 pub returns-in-Check-clause-until : goal.returns-in-Check-clause-until
 returns-in-Check-clause-until g c = on_err c.check.result (writes-same _ _ c.check.ensures.kept)
