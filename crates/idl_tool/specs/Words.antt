@@ -10,12 +10,13 @@ use Rattle.idl_driver.specs.Words.{AreOptionsOf, file_rule, flag_rule, option_ru
 use Rattle.idl_driver.specs.declared.options.Options.{Options}
 use Rattle.idl_tool.specs.declared.request.Deps.{Deps}
 use Rattle.idl_tool.specs.declared.request.Diff.{Diff}
+use Rattle.idl_tool.specs.declared.request.Check.{Check}
 use Rattle.idl_tool.specs.declared.request.ToolRequest.{ToolRequest}
 use Rattle.idl_tool.specs.declared.request.ToolRequest.TheVariants as request
 
--- the word of `explain`, once at most
+-- words of `explain`
 abbrev pub word_rule : Rule
-word_rule = record (new_rule (codes "word")) { action = Some Set; value_names = 1 }
+word_rule = record (new_rule (codes "word")) { action = Some Append; value_names = 1 }
 
 abbrev pub explain_shape : Shape
 explain_shape = record (new_shape (codes "explain")) { rules = word_rule ∷ [] }
@@ -28,20 +29,26 @@ target_rule =
 abbrev pub generated_rule : Rule
 generated_rule = record (flag_rule (codes "generated")) { long = Some (codes "generated") }
 
--- `-D`, `-U`, `-I`, these two, and FILEs, of which there is one at least
+abbrev pub present_rule : Rule
+present_rule = record (flag_rule (codes "present")) { long = Some (codes "present") }
+
+-- `-D`, `-U`, `-I`, these three, and FILEs, of which there is one at least
 abbrev pub deps_shape : Shape
 deps_shape = record (new_shape (codes "deps")) {
   rules = option_rules
-      ++ target_rule ∷ generated_rule ∷ record file_rule { required = true } ∷ [];
+      ++ target_rule ∷ generated_rule ∷ present_rule ∷ record file_rule { required = true } ∷ [];
+}
+
+abbrev pub werror_rule : Rule
+werror_rule = record (flag_rule (codes "werror")) { long = Some (codes "werror") }
+
+-- `-D`, `-U`, `-I`, this one, and FILEs, of which there is one at least
+abbrev pub check_shape : Shape
+check_shape = record (new_shape (codes "check")) {
+  rules = option_rules ++ werror_rule ∷ record file_rule { required = true } ∷ [];
 }
 
 -- `-D`, `-U`, `-I`, and FILEs, of which there is one at least
-abbrev pub check_shape : Shape
-check_shape = record (new_shape (codes "check")) {
-  rules = option_rules ++ record file_rule { required = true } ∷ [];
-}
-
--- the same
 abbrev pub json_shape : Shape
 json_shape = record (new_shape (codes "json")) {
   rules = option_rules ++ record file_rule { required = true } ∷ [];
@@ -69,12 +76,12 @@ diff_shape = record (new_shape (codes "diff")) {
 abbrev pub lsp_shape : Shape
 lsp_shape = new_shape (codes "lsp")
 
--- a program whose words are all its own, which has a version, and of which a subcommand is wanted
+-- a program whose words are all its own, which has a version, and of which a subcommand is wanted;
+-- `help` is one by itself
 abbrev pub bare : App
 bare = on_top (λ top. record top {
   no_binary_name = true;
   has_version = true;
-  disable_help_subcommand = true;
   subcommand_required = true;
   arg_required_else_help = true;
 }) (new_app (codes "idltool"))
@@ -107,6 +114,11 @@ pub record AreDepsOf (rows : List Row) (deps : Deps) : Type 0 where
   pub options : AreOptionsOf rows deps.options
   pub target : option_map (λ w. w.now) deps.target ≡ first_of (codes "target") rows
   pub generated : deps.has_generated ≡ stands (codes "generated") rows
+  pub present : deps.leaves_absent ≡ stands (codes "present") rows
+
+pub record AreCheckOf (rows : List Row) (check : Check) : Type 0 where
+  pub options : AreOptionsOf rows check.options
+  pub warnings : check.counts_warnings ≡ stands (codes "werror") rows
 
 -- what is asked for of one of two files: the one that this argument names, with the directories of
 -- this option before those of `-I`
@@ -121,17 +133,17 @@ pub record AreDiffOf (rows : List Row) (diff : Diff) : Type 0 where
   pub old : AreSideOf (codes "old") (codes "old-directory") rows diff.old
   pub new : AreSideOf (codes "new") (codes "new-directory") rows diff.new
 
--- what words ask for: to show a text, to explain a word or all, to write rules, to check files, to
+-- what words ask for: to show a text, to explain words or all, to write rules, to check files, to
 -- write JSON, to tell what changes, or to serve an editor
 abbrev pub IsRequestOf : List Text → ToolRequest → Type 0
 IsRequestOf words (request.Show text) = Tells IsDisplay (faults_in words)
-IsRequestOf words (request.Explain word) =
+IsRequestOf words (request.Explain topics) =
     (rows : List Row) × Enters (codes "explain") words rows
-    × (option_map (λ w. w.now) word ≡ first_of (codes "word") rows)
+    × (map (λ w. w.now) topics.items ≡ values_of (codes "word") rows)
 IsRequestOf words (request.Deps deps) =
     (rows : List Row) × Enters (codes "deps") words rows × AreDepsOf rows deps
-IsRequestOf words (request.Check options) =
-    (rows : List Row) × Enters (codes "check") words rows × AreOptionsOf rows options
+IsRequestOf words (request.Check check) =
+    (rows : List Row) × Enters (codes "check") words rows × AreCheckOf rows check
 IsRequestOf words (request.Json options) =
     (rows : List Row) × Enters (codes "json") words rows × AreOptionsOf rows options
 IsRequestOf words (request.Diff diff) =

@@ -18,8 +18,8 @@ ghost use Rattle.idl_inputs.specs.Project.{Inputs};
 use crate::make_rules::rules_read_back;
 use idl_changes::nothing_breaks;
 
-/// Who reads the rules of roots finds what compiling the roots asks for: each file, in order, and whether it has to be there. This
-/// does nothing: it carries the law.
+/// Who reads the rules of roots finds what compiling the roots asks for, or what is there of it: each file, in order, and whether it has
+/// to be there. This does nothing: it carries the law.
 pub fn rules_tell_what_is_asked()
     ensures { (deps : Deps) (inputs : Inputs) (roots : List (List ℕ))
         → All IsMakeRule (flat_map (rules_in deps inputs) roots)

@@ -6,13 +6,22 @@ ghost use Rattle.clap.specs.Words.{app_of, first_of, found_of, rows_of, rule_of,
 ghost use Rattle.clap.specs.declared.builder.command.Command.TheViews.{out-Command as fields_of};
 ghost use Rattle.idl_driver.specs.Parsed.{SaysWrong};
 ghost use Rattle.idl_driver.specs.Words.{file_rule};
-ghost use Rattle.idl_tool.specs.Words.{AreDepsOf, AreWrong, AreDiffOf, AreSideOf, IsRequestOf, bare, check_shape, deps_shape, diff_shape, lsp_shape, entered_in, explain_shape, faults_in, generated_rule, idltool, json_shape, side_rule, target_rule, version_rule, word_rule};
+ghost use Rattle.idl_tool.specs.Words.{AreCheckOf, AreDepsOf, AreWrong, AreDiffOf, AreSideOf, IsRequestOf, bare, check_shape, deps_shape, diff_shape, lsp_shape, entered_in, explain_shape, faults_in, generated_rule, idltool, json_shape, present_rule, side_rule, target_rule, version_rule, werror_rule, word_rule};
 
 use clap::{Arg, ArgAction, ArgMatches, Command};
 use idl_driver::{
     Options, ParsedWords, WordsFault, options_of, parse_words, values_of, with_options,
 };
 use std::alloc::{AllocError, Global};
+
+/// What is to be told of files, and how the program ends then.
+#[derive(Drop)]
+pub struct Check<'a> {
+    /// The files, and what they are compiled over.
+    pub options: Options<'a>,
+    /// Whether warnings count as errors do.
+    pub counts_warnings: bool,
+}
 
 /// Whose rules of make are to be written, and how.
 #[derive(Drop)]
@@ -23,6 +32,8 @@ pub struct Deps<'a> {
     pub target: Option<&'a str>,
     /// Whether a file that isn't there is one that another rule makes.
     pub has_generated: bool,
+    /// Whether a file that isn't there is left out.
+    pub leaves_absent: bool,
 }
 
 /// Which files are to be compared, and what each is compiled over.
@@ -39,12 +50,12 @@ pub struct Diff<'a> {
 pub enum ToolRequest<'a> {
     /// To show a text, which tells how the program is used or its version.
     Show(String),
-    /// To explain the code or the refusal that a word names, or all without one.
-    Explain(Option<&'a str>),
+    /// To explain the codes and refusals that words name, or all without a word.
+    Explain(Vec<&'a str>),
     /// To write rules of make.
     Deps(Deps<'a>),
     /// To tell what is found in files.
-    Check(Options<'a>),
+    Check(Check<'a>),
     /// To write what is told of files as JSON.
     Json(Options<'a>),
     /// To tell what changes from one file to another.
@@ -78,13 +89,13 @@ fn chosen<'a>(
     ensures wrong { IfErr result (SaysWrong (AreWrong (map (λ w. w.now) words.entry.now))) }
 {
     if let Some(explain) = matches.subcommand_matches("explain") {
-        return Ok(ToolRequest::Explain(explain.get_str("word")));
+        return Ok(ToolRequest::Explain(values_of(alloc, explain, "word")?));
     }
     if let Some(deps) = matches.subcommand_matches("deps") {
         return Ok(ToolRequest::Deps(deps_of(alloc, deps)?));
     }
     if let Some(check) = matches.subcommand_matches("check") {
-        return Ok(ToolRequest::Check(options_of(alloc, check)?));
+        return Ok(ToolRequest::Check(check_of(alloc, check)?));
     }
     if let Some(json) = matches.subcommand_matches("json") {
         return Ok(ToolRequest::Json(options_of(alloc, json)?));
@@ -122,7 +133,6 @@ fn bare<'a>(alloc: Global) -> Command<'a>
 {
     Command::new(alloc, "idltool")
         .no_binary_name(true)
-        .disable_help_subcommand(true)
         .subcommand_required(true)
         .arg_required_else_help(true)
         .version("0.1.0")
@@ -139,8 +149,8 @@ fn explain_command<'a>(alloc: Global) -> Result<Command<'a>, AllocError>
     ensures local { IfOk result (λ command. (fields_of command).has_globals ≡ false) }
 {
     Command::new(alloc, "explain")
-        .about("Explains the code of a row, or a refusal, with an example")
-        .override_usage("idltool explain [CODE|NUMBER]")
+        .about("Explains codes of rows, and refusals, with examples")
+        .override_usage("idltool explain [CODE|NUMBER]..")
         .arg(word(alloc))
 }
 
@@ -154,6 +164,7 @@ fn deps_command<'a>(alloc: Global) -> Result<Command<'a>, AllocError>
     with_options(alloc, command)?
         .arg(target(alloc))?
         .arg(generated(alloc))?
+        .arg(present(alloc))?
         .arg(file(alloc))
 }
 
@@ -164,7 +175,9 @@ fn check_command<'a>(alloc: Global) -> Result<Command<'a>, AllocError>
     let command = Command::new(alloc, "check")
         .about("Tells the errors and warnings of each FILE, with their lines")
         .override_usage("idltool check [OPTIONS] FILE..");
-    with_options(alloc, command)?.arg(file(alloc))
+    with_options(alloc, command)?
+        .arg(werror(alloc))?
+        .arg(file(alloc))
 }
 
 fn json_command<'a>(alloc: Global) -> Result<Command<'a>, AllocError>
@@ -210,7 +223,7 @@ fn word<'a>(alloc: Global) -> Arg<'a>
 {
     Arg::new(alloc, "word")
         .value_name("CODE|NUMBER")
-        .action(ArgAction::Set)
+        .action(ArgAction::Append)
         .help("A code, as E35, or the number of a refusal; without it all are told, in a line each")
 }
 
@@ -233,6 +246,26 @@ fn generated<'a>(alloc: Global) -> Arg<'a>
         .long("generated")
         .action(ArgAction::Count)
         .help("Takes each file that isn't there for one that another rule makes")
+}
+
+fn present<'a>(alloc: Global) -> Arg<'a>
+    ensures rule { rule_of result ≡ present_rule }
+    ensures global { result.global ≡ false }
+{
+    Arg::new(alloc, "present")
+        .long("present")
+        .action(ArgAction::Count)
+        .help("Leaves out each file that isn't there, as for ninja, CMake and Meson")
+}
+
+fn werror<'a>(alloc: Global) -> Arg<'a>
+    ensures rule { rule_of result ≡ werror_rule }
+    ensures global { result.global ≡ false }
+{
+    Arg::new(alloc, "werror")
+        .long("werror")
+        .action(ArgAction::Count)
+        .help("Ends with the status 1 where there are warnings, too")
 }
 
 fn file<'a>(alloc: Global) -> Arg<'a>
@@ -290,6 +323,15 @@ fn new_file<'a>(alloc: Global) -> Arg<'a>
         .help("The file as it is")
 }
 
+fn check_of<'a>(alloc: Global, matches: &ArgMatches<'a>) -> Result<Check<'a>, AllocError>
+    ensures { IfOk result (AreCheckOf (rows_of (found_of matches.now))) }
+{
+    Ok(Check {
+        options: options_of(alloc, matches)?,
+        counts_warnings: matches.get_count("werror") > 0,
+    })
+}
+
 fn deps_of<'a>(alloc: Global, matches: &ArgMatches<'a>) -> Result<Deps<'a>, AllocError>
     ensures { IfOk result (AreDepsOf (rows_of (found_of matches.now))) }
 {
@@ -297,6 +339,7 @@ fn deps_of<'a>(alloc: Global, matches: &ArgMatches<'a>) -> Result<Deps<'a>, Allo
         options: options_of(alloc, matches)?,
         target: matches.get_str("target"),
         has_generated: matches.get_count("generated") > 0,
+        leaves_absent: matches.get_count("present") > 0,
     })
 }
 
