@@ -1,15 +1,18 @@
 //! What is found, as an editor is told.
 
-ghost use Rattle.std.specs.Prelude.{◌≡◌, ◌<◌, [], IfOk, length};
+ghost use Rattle.std.specs.Prelude.{◌≡◌, ◌<◌, ◌++◌, [], IfOk, OnOk, length, map, take};
+ghost use Rattle.std.specs.List.{AllZip};
 ghost use Rattle.serde_json.specs.View.{view};
-ghost use Rattle.idl_server.specs.Diagnostics.{AreDiagnostics, finding_range};
+ghost use Rattle.idl_editor.specs.told.Found.{findings_in, most_told};
+ghost use Rattle.idl_server.specs.Diagnostics.{AreDiagnostics, IsToldOf, finding_line, finding_range, rest_told};
 
 use crate::found::found_in;
 use crate::places::{LocatedToken, line_range, lines_of, range_of};
 use crate::workspace::Workspace;
 use idl_base::Seq;
 use idl_editor::documents::uri_for;
-use idl_editor::told::{SecondWords, diagnostic_value, message_of, second_value};
+use idl_editor::told::{MOST_RELATED, MOST_TOLD, RootFinding, SecondWords};
+use idl_editor::told::{diagnostic_value, first_told, message_of, more_value, second_value};
 use idl_editor::{Encoding, Range};
 use idl_project::{Finding, Session, related_in};
 use idl_related::Related;
@@ -36,26 +39,51 @@ fn related_of(root: &RootRelated, index: usize) -> &[Related] {
 }
 
 impl Workspace {
-    /// What is found in a file, as it is told.
+    /// What is found in a file, as it is told: the first findings, and how many more there are.
     pub fn diagnostics_in(&self, name: &Name) -> Result<Value, AllocError>
         ensures { IfOk result (λ value. AreDiagnostics self.now.encoding
             self.now.session.project name.now (view value)) }
     {
-        let alloc = self.session.allocator();
         let found = found_in(&self.session, name)?;
-        let mut roots = Vec::new(alloc);
         let held = found.as_slice();
+        let mut list = self.first_values(held)?;
+        push_rest(&self.session, self.encoding, held, &mut list)?;
+        Ok(Value::Array(list))
+    }
+
+    // The first of these findings, as they are told.
+    fn first_values(&self, found: &[RootFinding<'_>]) -> Result<Vec<Value>, AllocError>
+        ensures { IfOk result (λ list.
+            AllZip (IsToldOf self.now.encoding self.now.session.project)
+            (take most_told (findings_in found.now)) (map view list.items)) }
+    {
+        let alloc = self.session.allocator();
+        let mut roots = Vec::new(alloc);
+        let held = first_told(found);
         let mut list = Vec::with_capacity(alloc, held.len())?;
         'each: for index in 0..held.len() {
             let one = held[index];
-            let at = self.place_of_related(&mut roots, one.root)?;
+            let related = self.seconds_of(&mut roots, index, one)?;
             let message = message_of(alloc, one.finding)?;
             let said = message.as_slice();
-            let related = self.related_value(related_of(&roots[at], one.index))?;
             let range = finding_range(&self.session, self.encoding, one.finding);
             list.push(diagnostic_value(alloc, range, one.finding, said, related)?)?;
         }
-        Ok(Value::Array(list))
+        Ok(list)
+    }
+
+    // The second places of the finding of this number, as they are told: of many findings those of the first ones.
+    fn seconds_of(
+        &self,
+        roots: &mut Vec<RootRelated>,
+        number: usize,
+        one: RootFinding<'_>,
+    ) -> Result<Value, AllocError> {
+        if number >= MOST_RELATED {
+            return Ok(Value::Array(Vec::new(self.session.allocator())));
+        }
+        let at = self.place_of_related(roots, one.root)?;
+        self.related_value(related_of(&roots[at], one.index))
     }
 
     // At which place the second places of a root are, which are put there if they aren't.
@@ -103,6 +131,25 @@ impl Workspace {
     }
 }
 
+// Puts in how many more are found than are told, if any are.
+fn push_rest(
+    session: &Session,
+    encoding: Encoding,
+    found: &[RootFinding<'_>],
+    list: &mut Vec<Value>,
+) -> Result<(), AllocError>
+    ensures { OnOk result (map view list.new.items ≡ map view list.old.items
+        ++ rest_told encoding session.now.project (findings_in found.now)) }
+{
+    if found.len() <= MOST_TOLD {
+        return Ok(());
+    }
+    let last = found[MOST_TOLD - 1].finding;
+    let range = finding_line(session, encoding, last);
+    let more = more_value(session.allocator(), range, found.len() - MOST_TOLD)?;
+    Ok(list.push(more)?)
+}
+
 // The range of what a finding is about.
 fn finding_range(session: &Session, encoding: Encoding, finding: &Finding) -> Range
     ensures { result ≡ finding_range encoding session.now.project finding.now }
@@ -116,9 +163,14 @@ fn finding_range(session: &Session, encoding: Encoding, finding: &Finding) -> Ra
             };
             range_of(session, encoding, token)
         }
-        None => {
-            let lines = lines_of(session, &finding.place);
-            line_range(encoding, lines, finding.place.line)
-        }
+        None => finding_line(session, encoding, finding),
     }
+}
+
+// The range of the line on which a finding stands.
+fn finding_line(session: &Session, encoding: Encoding, finding: &Finding) -> Range
+    ensures { result ≡ finding_line encoding session.now.project finding.now }
+{
+    let lines = lines_of(session, &finding.place);
+    line_range(encoding, lines, finding.place.line)
 }

@@ -2,7 +2,7 @@
 
 ghost use Rattle.std.specs.Prelude.{◌≡◌, [], IfOk, unwrap_or};
 ghost use Rattle.serde_json.specs.View.{view};
-ghost use Rattle.idl_editor.specs.told.Diagnostics.{IsSaid, diagnostic_json, severity};
+ghost use Rattle.idl_editor.specs.told.Diagnostics.{IsSaid, diagnostic_json, more_json, more_text, severity};
 
 use crate::change::Range;
 use crate::told::ranges::{location_value, range_value};
@@ -13,6 +13,9 @@ use idl_finding::Finding;
 use itoa::Buffer;
 use serde_json::{Value, json};
 use std::alloc::{AllocError, Global};
+
+// The number of what is no error and no warning.
+const INFORMATION: u8 = 3;
 
 /// A second place, as it is told: why it is, its token, and how many more were found than are told.
 #[derive(Clone, Copy)]
@@ -55,6 +58,30 @@ pub fn diagnostic_value(
         "severity": severity(finding.code),
         "source": "idltool",
     })
+}
+
+/// How many findings of a file aren't told, at a range.
+pub fn more_value(alloc: Global, range: Range, count: usize) -> Result<Value, AllocError>
+    ensures { IfOk result (λ value. view value ≡ more_json range count) }
+{
+    let text = more_text(alloc, count)?;
+    json!(in alloc; {
+        "message": shown_value(alloc, &text)?,
+        "range": range_value(alloc, range)?,
+        "severity": INFORMATION,
+        "source": "idltool",
+    })
+}
+
+// What is told of so many findings.
+fn more_text(alloc: Global, count: usize) -> Result<Vec<u8>, AllocError>
+    ensures { IfOk result (λ text. text.items ≡ more_text count) }
+{
+    let mut number = Buffer::new();
+    let mut text = Vec::from_slice(alloc, b".. and ")?;
+    text.extend_from_slice(number.format(count).as_bytes())?;
+    text.extend_from_slice(b" more in this file")?;
+    Ok(text)
 }
 
 /// What a finding says.
