@@ -34,7 +34,8 @@ static SCRIPTS: [&str; 4] = [
 {"method":"textDocument/didOpen","params":{"textDocument":{"uri":"file:///p/%c3%bc.idl",
     "text":"#include \"b.idl\"\n\r/* é😀 */ module M { struct S { Mony x; }; };\n"}}}
 ={"jsonrpc":"2.0","method":"textDocument/publishDiagnostics","params":{"diagnostics":[{"code":"E30",
-    "message":"`Mony` isn't declared here or in a scope around",
+    "message":"`Mony` isn't declared here or in a scope around\n
+    Look at the spelling, at a missing include, and at rows above: a declaration with an error declares nothing. Names are declared before use.",
     "range":{"end":{"character":36,"line":2},"start":{"character":32,"line":2}},
     "relatedInformation":[{"location":{"range":{"end":{"character":18,"line":0},"start":{"character":13,"line":0}},
     "uri":"file:///p/b.idl"},"message":"near: Money"}],"severity":1,"source":"idltool"}],"uri":"file:///p/%c3%bc.idl"}}
@@ -73,7 +74,8 @@ static SCRIPTS: [&str; 4] = [
 {"method":"textDocument/didChange","params":{"textDocument":{"uri":"file:///p/q/a.idl"},"contentChanges":[
     {"text":"/* é😀 */ interface F;\n"}]}}
 ={"jsonrpc":"2.0","method":"textDocument/publishDiagnostics","params":{"diagnostics":[{"code":"W80",
-    "message":"the interface `F` is declared forward and never defined",
+    "message":"the interface `F` is declared forward and never defined\n
+    It may stay so: no code can call it through this file. Include the file that defines it.",
     "range":{"end":{"character":24,"line":0},"start":{"character":23,"line":0}},"relatedInformation":[],"severity":2,
     "source":"idltool"}],"uri":"file:///p/q/a.idl"}}
 {"method":"textDocument/didClose","params":{"textDocument":{"uri":"file:///p/q/a.idl"}}}
@@ -87,13 +89,16 @@ static SCRIPTS: [&str; 4] = [
 {"method":"textDocument/didOpen","params":{"textDocument":{"uri":"file:///p/a.idl",
     "text":"#include \"b.idl\"\nconst char C = 'é';\ntypedef Money X;\n"}}}
 ={"jsonrpc":"2.0","method":"textDocument/publishDiagnostics","params":{"diagnostics":[{"code":"E03",
-    "message":"'é' isn't exactly one character","range":{"end":{"character":18,"line":1},"start":{"character":15,"line":1}},
+    "message":"'é' isn't exactly one character\n
+    A text of more characters is a string and stands in double quotes.","range":{"end":{"character":18,"line":1},"start":{"character":15,"line":1}},
     "relatedInformation":[],"severity":1,"source":"idltool"}],"uri":"file:///p/a.idl"}}
 {"method":"textDocument/didOpen","params":{"textDocument":{"uri":"file:///p/inc/b.idl","text":"typedef long Cash;\n"}}}
 ={"jsonrpc":"2.0","method":"textDocument/publishDiagnostics","params":{"diagnostics":[{"code":"E03",
-    "message":"'é' isn't exactly one character","range":{"end":{"character":18,"line":1},"start":{"character":15,"line":1}},
+    "message":"'é' isn't exactly one character\n
+    A text of more characters is a string and stands in double quotes.","range":{"end":{"character":18,"line":1},"start":{"character":15,"line":1}},
     "relatedInformation":[],"severity":1,"source":"idltool"},{"code":"E30",
-    "message":"`Money` isn't declared here or in a scope around",
+    "message":"`Money` isn't declared here or in a scope around\n
+    Look at the spelling, at a missing include, and at rows above: a declaration with an error declares nothing. Names are declared before use.",
     "range":{"end":{"character":13,"line":2},"start":{"character":8,"line":2}},"relatedInformation":[],"severity":1,
     "source":"idltool"}],"uri":"file:///p/a.idl"}}
 {"id":2,"method":"shutdown"}
@@ -109,7 +114,8 @@ static SCRIPTS: [&str; 4] = [
     "text":"interface A { typedef long T; };\ninterface B { typedef long T; };\ninterface C { typedef long T; };\n
     interface D { typedef long T; };\ninterface E : A, B, C, D { attribute T x; };\n"}}}
 ={"jsonrpc":"2.0","method":"textDocument/publishDiagnostics","params":{"diagnostics":[{"code":"E31",
-    "message":"`T` means different things in different bases",
+    "message":"`T` means different things in different bases\n
+    Say which one is meant: A::T or B::T.",
     "range":{"end":{"character":38,"line":4},"start":{"character":37,"line":4}},"relatedInformation":[
     {"location":{"range":{"end":{"character":28,"line":0},"start":{"character":27,"line":0}},
     "uri":"file:///p/a.idl"},"message":"declared: T"},
