@@ -8,12 +8,12 @@ ghost use Rattle.idl_editor.specs.declared.messages.method.Method.TheVariants.{D
 ghost use Rattle.idl_loader.specs.Holding.{Holding};
 ghost use Rattle.idl_editor.specs.documents.Documents.{HaveTexts, open_after_told, texts_of};
 ghost use Rattle.idl_server.specs.Documents.{OnlyRefusedAreBehind};
-ghost use Rattle.idl_server.specs.Files.{AreFiled, StaysSet, told_by};
+ghost use Rattle.idl_server.specs.Files.{AreFiled, IsKept, StaysSet, told_by};
 ghost use Rattle.idl_editor.specs.documents.Notices.{told_by_notice};
 ghost use Rattle.idl_server.specs.Roots.{AreRooted};
 
 use crate::workspace::Workspace;
-use idl_editor::documents::{changes_told, name_for, name_in};
+use idl_editor::documents::{RefusedReason, changes_told, name_for, name_in, push_reason};
 use idl_editor::messages::{Method, items_at, opened_text, text_at, uri_of};
 use idl_loader::PathLoader;
 use idl_source::{Line, Name};
@@ -22,7 +22,7 @@ use serde_json::Value;
 use std::alloc::AllocError;
 
 impl Workspace {
-    /// Takes in what a notice tells of documents and files. One that makes no sense is passed over.
+    /// Takes in what a notice tells of documents and files. One that makes no sense is passed over, and of a change it is kept to be shown.
     pub fn take_told<L: PathLoader>(
         &mut self,
         loader: &mut L,
@@ -88,8 +88,18 @@ impl Workspace {
         };
         match changes_told(self.session.allocator(), params)? {
             Some(changes) => self.change_document(&name, &changes),
-            None => Ok(()),
+            None => self.keep_bad_change(&name),
         }
+    }
+
+    // Keeps, to show it, that a change of an open document makes no sense.
+    fn keep_bad_change(&mut self, name: &Name) -> Result<(), AllocError>
+        ensures { IsKept self.old self.new }
+    {
+        if !self.documents.contains_key(name) {
+            return Ok(());
+        }
+        push_reason(&mut self.refused, name.as_bytes(), RefusedReason::BadChange)
     }
 
     // A document is closed.

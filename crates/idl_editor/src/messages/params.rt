@@ -58,6 +58,7 @@ pub fn change_of(value: &Value) -> Option<ContentChange<'_>>
     let text = text_at(value, "text")?;
     let range = match value.get("range") {
         None => None,
+        Some(range) if range.is_null() => None,
         Some(range) => Some(range_of(range)?),
     };
     Some(ContentChange {
