@@ -6,7 +6,7 @@ ghost use Rattle.clap.specs.Words.{app_of, first_of, found_of, rows_of, rule_of,
 ghost use Rattle.clap.specs.declared.builder.command.Command.TheViews.{out-Command as fields_of};
 ghost use Rattle.idl_driver.specs.Parsed.{SaysWrong};
 ghost use Rattle.idl_driver.specs.Words.{file_rule};
-ghost use Rattle.idl_tool.specs.Words.{AreDepsOf, AreWrong, AreDiffOf, AreSideOf, IsRequestOf, bare, check_shape, deps_shape, diff_shape, lsp_shape, entered_in, explain_shape, faults_in, generated_rule, idltool, json_shape, side_rule, target_rule, version_rule, word_rule};
+ghost use Rattle.idl_tool.specs.Words.{AreDepsOf, AreWrong, AreDiffOf, AreSideOf, IsRequestOf, bare, check_shape, deps_shape, diff_shape, lsp_shape, entered_in, explain_shape, faults_in, generated_rule, idltool, json_shape, side_rule, stdio_rule, target_rule, version_rule, word_rule};
 
 use clap::{Arg, ArgAction, ArgMatches, Command};
 use idl_driver::{
@@ -197,11 +197,10 @@ fn lsp_command<'a>(alloc: Global) -> Result<Command<'a>, AllocError>
     ensures shape { IfOk result (λ command. shape_of command ≡ lsp_shape) }
     ensures local { IfOk result (λ command. (fields_of command).has_globals ≡ false) }
 {
-    Ok(
-        Command::new(alloc, "lsp")
-            .about("Serves an editor over standard input and output, as a language server")
-            .override_usage("idltool lsp"),
-    )
+    Command::new(alloc, "lsp")
+        .about("Serves an editor over standard input and output, as a language server")
+        .override_usage("idltool lsp [--stdio]")
+        .arg(stdio(alloc))
 }
 
 fn word<'a>(alloc: Global) -> Arg<'a>
@@ -233,6 +232,16 @@ fn generated<'a>(alloc: Global) -> Arg<'a>
         .long("generated")
         .action(ArgAction::Count)
         .help("Takes each file that isn't there for one that another rule makes")
+}
+
+fn stdio<'a>(alloc: Global) -> Arg<'a>
+    ensures rule { rule_of result ≡ stdio_rule }
+    ensures global { result.global ≡ false }
+{
+    Arg::new(alloc, "stdio")
+        .long("stdio")
+        .action(ArgAction::Count)
+        .help("Changes nothing: some clients add it")
 }
 
 fn file<'a>(alloc: Global) -> Arg<'a>
