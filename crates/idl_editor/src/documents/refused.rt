@@ -13,9 +13,31 @@ pub enum RefusedReason {
     Refusal(Refusal),
     /// A change of a document makes no sense: its text stays as it was.
     BadChange,
+    /// An option is no list of texts, or has something else in it.
+    NoTexts,
+    /// The options are no object.
+    NoObject,
 }
 
-/// An edit of the session, or a change of a document, that wasn't done.
+impl RefusedReason {
+    // What is said of it. Of a refusal that is the line about it, without its end.
+    fn push(self, text: &mut Vec<u8>) -> Result<(), AllocError> {
+        match self {
+            RefusedReason::Refusal(refusal) => push_refusal(refusal, text),
+            RefusedReason::BadChange => {
+                text.extend_from_slice(b"a change makes no sense, so the text stays as it was")
+            }
+            RefusedReason::NoTexts => {
+                text.extend_from_slice(b"a list of texts is wanted, and what is none is left out")
+            }
+            RefusedReason::NoObject => {
+                text.extend_from_slice(b"an object is wanted, and what is none is left out")
+            }
+        }
+    }
+}
+
+/// An edit of the session, a change of a document, or an option of an editor, that wasn't done.
 #[derive(Drop)]
 pub struct RefusedEdit {
     pub subject: Vec<u8>,
@@ -50,12 +72,7 @@ pub fn shown_params(alloc: Global, refused: &RefusedEdit) -> Result<Value, Alloc
 fn shown_message(alloc: Global, refused: &RefusedEdit) -> Result<Value, AllocError> {
     let mut text = Vec::from_slice(alloc, &refused.subject)?;
     text.extend_from_slice(b": ")?;
-    match refused.reason {
-        RefusedReason::Refusal(refusal) => push_refusal(refusal, &mut text)?,
-        RefusedReason::BadChange => {
-            text.extend_from_slice(b"a change makes no sense, so the text stays as it was")?;
-        }
-    }
+    refused.reason.push(&mut text)?;
     shown_value(alloc, &text)
 }
 

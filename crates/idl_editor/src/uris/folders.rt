@@ -57,6 +57,13 @@ impl Folders {
         }
     }
 
+    /// The folders, in the order in which they were added.
+    pub fn as_slice(&self) -> &[Folder]
+        ensures { result.now ≡ self.now }
+    {
+        self.folders.as_slice()
+    }
+
     /// Adds a folder at this path, with what the names of its files begin with, unless that begins the names of another one, or
     /// another one's begin it, or it begins with `/`. Tells whether it was added.
     pub fn add(&mut self, path: &[u8], front: &[u8]) -> Result<bool, AllocError>
@@ -146,6 +153,13 @@ impl Folders {
 }
 
 impl Folder {
+    /// What the names of its files begin with.
+    pub fn front(&self) -> &[u8]
+        ensures { result.now ≡ self.now.front }
+    {
+        &self.front
+    }
+
     // Puts in the name of the file at a path, if that is in the folder, and tells so.
     fn push_name(&self, path: &[u8], name: &mut Vec<u8>) -> Result<bool, AllocError>
         ensures { IfOk result (λ is_in. MatchOption (name_in self.now path.now)

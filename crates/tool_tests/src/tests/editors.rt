@@ -22,7 +22,7 @@ fn is_served(alloc: Global, text: &str, input: &str, code: u8, want: &str) -> Re
 }
 
 // A status, files, messages, and behind a `=` what is written. A line that begins with blanks goes on with the one before it.
-static SCRIPTS: [&str; 4] = [
+static SCRIPTS: [&str; 5] = [
     // A document is opened beside a header of the disk, in units of UTF-16, mended, and asked about.
     r##"0 /p/b.idl: typedef long Money;
 {"id":1,"method":"textDocument/hover"}
@@ -128,6 +128,20 @@ static SCRIPTS: [&str; 4] = [
     "uri":"file:///p/a.idl"},"message":"declared: T"},
     {"location":{"range":{"end":{"character":28,"line":2},"start":{"character":27,"line":2}},
     "uri":"file:///p/a.idl"},"message":"declared: T, and 1 more"}],"severity":1,"source":"idltool"}],"uri":"file:///p/a.idl"}}"##,
+    // A directory counts from each folder, and what is no list of texts is told.
+    r##"1 /w/q/inc/b.idl: typedef long Money;
+{"id":1,"method":"initialize","params":{"workspaceFolders":[{"uri":"file:///w/p"},{"uri":"file:///w/q"}],
+    "initializationOptions":{"search":["inc",7],"define":"X"}}}
+={"id":1,"jsonrpc":"2.0","result":{"capabilities":{"definitionProvider":true,"documentSymbolProvider":true,"hoverProvider":true,
+    "positionEncoding":"utf-16","textDocumentSync":{"change":2,"openClose":true,"save":true}},
+    "serverInfo":{"name":"idltool","version":"0.1.0"}}}
+={"jsonrpc":"2.0","method":"window/showMessage","params":{"message":"define: a list of texts is wanted, and what is none is left out",
+    "type":1}}
+={"jsonrpc":"2.0","method":"window/showMessage","params":{"message":"search: a list of texts is wanted, and what is none is left out",
+    "type":1}}
+{"method":"textDocument/didOpen","params":{"textDocument":{"uri":"file:///w/q/a.idl","text":"#include \"b.idl\"\ntypedef Money T;\n"}}}
+{"id":2,"method":"textDocument/definition","params":{"textDocument":{"uri":"file:///w/q/a.idl"},"position":{"line":1,"character":9}}}
+={"id":2,"jsonrpc":"2.0","result":{"range":{"end":{"character":18,"line":0},"start":{"character":13,"line":0}},"uri":"file:///w/q/inc/b.idl"}}"##,
 ];
 
 #[test]
