@@ -7,9 +7,15 @@ use crate::documents::{RefusedEdit, RefusedReason, push_reason, push_refused};
 use crate::messages::{items_at, text_at};
 use crate::uris::{Folders, path_of};
 use idl_source::path::{directory_at, is_rooted};
-use idl_source::{Directory, Name, Refusal};
+use idl_source::{Directory, MAX_NAME, Name, Refusal};
 use serde_json::{Value, json};
 use std::alloc::{AllocError, Global};
+
+// What leads from a folder to the one around it.
+const STEP_UP: &[u8] = b"../";
+
+// So many steps up a name has at most.
+const MOST_STEPS: usize = MAX_NAME / 3;
 
 /// What the server can do.
 pub fn abilities(alloc: Global, encoding: Encoding) -> Result<Value, AllocError> {
@@ -35,7 +41,8 @@ fn capabilities(alloc: Global, encoding: Encoding) -> Result<Value, AllocError> 
     })
 }
 
-/// Adds the folders of the workspace: names in the only one begin with nothing, and of several with the folder's own.
+/// Adds the folders of the workspace. Names in the only one begin with nothing, and names around it with steps up, as includes have
+/// them; of several they begin with the folder's own name.
 pub fn add_folders(alloc: Global, folders: &mut Folders, params: &Value) -> Result<(), AllocError> {
     match items_at(params, "workspaceFolders") {
         [] => add_only(alloc, folders, text_at(params, "rootUri")),
@@ -49,8 +56,25 @@ fn add_only(alloc: Global, folders: &mut Folders, uri: Option<&str>) -> Result<(
     let Some(uri) = uri else {
         return Ok(());
     };
-    if let Some(path) = path_of(alloc, uri.as_bytes())? {
-        folders.add(without_slash(&path), b"")?;
+    let Some(path) = path_of(alloc, uri.as_bytes())? else {
+        return Ok(());
+    };
+    let path = without_slash(&path);
+    folders.add(path, b"")?;
+    add_around(alloc, folders, path)
+}
+
+// Adds the folders around a folder, from within outward, as far as a name can lead.
+fn add_around(alloc: Global, folders: &mut Folders, folder: &[u8]) -> Result<(), AllocError> {
+    let mut front = Vec::new(alloc);
+    let mut path = folder;
+    'around: for _ in 0..MOST_STEPS {
+        let Some(place) = memchr::memrchr(b'/', path) else {
+            return Ok(());
+        };
+        path = &path[..place];
+        front.extend_from_slice(STEP_UP)?;
+        folders.add(path, &front)?;
     }
     Ok(())
 }
@@ -171,6 +195,10 @@ fn push_named(
     }
     let mut is_one = true;
     'folders: for folder in folders.as_slice() {
+        // One around the only folder isn't the editor's.
+        if folder.front().starts_with(STEP_UP) {
+            continue;
+        }
         let mut path = Vec::from_slice(alloc, folder.front())?;
         path.extend_from_slice(word)?;
         if !push_if(directory_at(&path), directories)? {

@@ -22,7 +22,7 @@ fn is_served(alloc: Global, text: &str, input: &str, code: u8, want: &str) -> Re
 }
 
 // A status, files, messages, and behind a `=` what is written. A line that begins with blanks goes on with the one before it.
-static SCRIPTS: [&str; 5] = [
+static SCRIPTS: [&str; 6] = [
     // A document is opened beside a header of the disk, in units of UTF-16, mended, and asked about.
     r##"0 /p/b.idl: typedef long Money;
 {"id":1,"method":"textDocument/hover"}
@@ -142,6 +142,21 @@ static SCRIPTS: [&str; 5] = [
 {"method":"textDocument/didOpen","params":{"textDocument":{"uri":"file:///w/q/a.idl","text":"#include \"b.idl\"\ntypedef Money T;\n"}}}
 {"id":2,"method":"textDocument/definition","params":{"textDocument":{"uri":"file:///w/q/a.idl"},"position":{"line":1,"character":9}}}
 ={"id":2,"jsonrpc":"2.0","result":{"range":{"end":{"character":18,"line":0},"start":{"character":13,"line":0}},"uri":"file:///w/q/inc/b.idl"}}"##,
+    // A file beside the only folder is what an include of it finds, and has a plain path.
+    r##"1 /w/c/b.idl: typedef long Money;
+{"id":1,"method":"initialize","params":{"rootUri":"file:///w/p"}}
+={"id":1,"jsonrpc":"2.0","result":{"capabilities":{"definitionProvider":true,"documentSymbolProvider":true,"hoverProvider":true,
+    "positionEncoding":"utf-16","textDocumentSync":{"change":2,"openClose":true,"save":true}},
+    "serverInfo":{"name":"idltool","version":"0.1.0"}}}
+{"method":"textDocument/didOpen","params":{"textDocument":{"uri":"file:///w/p/a.idl","text":"#include \"../c/b.idl\"\ntypedef Money T;\n"}}}
+{"id":2,"method":"textDocument/definition","params":{"textDocument":{"uri":"file:///w/p/a.idl"},"position":{"line":1,"character":9}}}
+={"id":2,"jsonrpc":"2.0","result":{"range":{"end":{"character":18,"line":0},"start":{"character":13,"line":0}},"uri":"file:///w/c/b.idl"}}
+{"method":"textDocument/didOpen","params":{"textDocument":{"uri":"file:///w/c/b.idl","text":"interface Money;\n"}}}
+={"jsonrpc":"2.0","method":"textDocument/publishDiagnostics","params":{"diagnostics":[{"code":"W80",
+    "message":"the interface `Money` is declared forward and never defined\n
+    It may stay so: no code can call it through this file. Include the file that defines it.",
+    "range":{"end":{"character":15,"line":0},"start":{"character":10,"line":0}},"relatedInformation":[],"severity":2,
+    "source":"idltool"}],"uri":"file:///w/c/b.idl"}}"##,
 ];
 
 #[test]
