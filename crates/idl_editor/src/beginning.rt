@@ -130,12 +130,12 @@ pub fn texts_in<'a>(
     refused: &mut Vec<RefusedEdit>,
     options: &'a Value,
     key: &str,
-) -> Result<Vec<&'a str>, AllocError> {
+) -> Result<Vec<&'a [u8]>, AllocError> {
     let mut texts = Vec::new(alloc);
     let mut is_bad = is_no_list(options.get(key));
     'items: for item in items_at(options, key) {
         match item.as_str() {
-            Some(text) => texts.push(text)?,
+            Some(text) => texts.push(text.as_bytes())?,
             None => is_bad = true,
         }
     }
@@ -169,12 +169,12 @@ pub fn directories_in(
     alloc: Global,
     folders: &Folders,
     refused: &mut Vec<RefusedEdit>,
-    words: &[&str],
+    words: &[&[u8]],
 ) -> Result<Vec<Directory>, AllocError> {
     let mut directories = Vec::new(alloc);
     'words: for word in words {
-        if !push_named(folders, word.as_bytes(), &mut directories)? {
-            push_refused(refused, word.as_bytes(), Refusal::BadName)?;
+        if !push_named(folders, *word, &mut directories)? {
+            push_refused(refused, *word, Refusal::BadName)?;
         }
     }
     Ok(directories)

@@ -37,11 +37,11 @@ impl Workspace {
     }
 
     // Defines macros, each by `NAME` or `NAME=BODY`.
-    fn define_all(&mut self, words: &[&str]) -> Result<(), AllocError>
+    fn define_all(&mut self, words: &[&[u8]]) -> Result<(), AllocError>
         ensures { OnlySets self.old self.new }
     {
         'words: for word in words {
-            self.define(word.as_bytes())?;
+            self.define(*word)?;
         }
         Ok(())
     }
@@ -65,7 +65,7 @@ impl Workspace {
     }
 
     // Has included files searched in these directories.
-    fn search_all(&mut self, words: &[&str]) -> Result<(), AllocError>
+    fn search_all(&mut self, words: &[&[u8]]) -> Result<(), AllocError>
         ensures { OnlySets self.old self.new }
     {
         let alloc = self.session.allocator();

@@ -55,7 +55,7 @@ impl Workspace {
     fn first_values(&self, found: &[RootFinding<'_>]) -> Result<Vec<Value>, AllocError>
         ensures { IfOk result (λ list.
             AllZip (IsToldOf self.now.encoding self.now.session.project)
-            (take most_told (findings_in found.now)) (map view list.items)) }
+            (take most_told (findings_in found.entry.now)) (map view list.items)) }
     {
         let alloc = self.session.allocator();
         let mut roots = Vec::new(alloc);
@@ -139,7 +139,7 @@ fn push_rest(
     list: &mut Vec<Value>,
 ) -> Result<(), AllocError>
     ensures { OnOk result (map view list.new.items ≡ map view list.old.items
-        ++ rest_told encoding session.now.project (findings_in found.now)) }
+        ++ rest_told encoding session.now.project (findings_in found.entry.now)) }
 {
     if found.len() <= MOST_TOLD {
         return Ok(());

@@ -80,7 +80,7 @@ fn shown_message(alloc: Global, refused: &RefusedEdit) -> Result<Value, AllocErr
 fn push_refusal(refusal: Refusal, text: &mut Vec<u8>) -> Result<(), AllocError> {
     explanation_of(Topic::Refusal(refusal)).push_headline(b"", text)?;
     if text.last() == Some(&b'\n') {
-        text.truncate(text.len() - 1);
+        text.pop();
     }
     Ok(())
 }

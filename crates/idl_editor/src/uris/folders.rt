@@ -158,7 +158,7 @@ impl Folder {
     pub fn front(&self) -> &[u8]
         ensures { result.now ≡ self.now.front }
     {
-        &self.front
+        self.front.as_slice()
     }
 
     // What stands in a name behind the front, if it is the name of a file in the folder.
