@@ -9,5 +9,5 @@ mod refused;
 
 pub use changes::{changes_told, text_after_all};
 pub use document::{Document, set_behind, set_text};
-pub use naming::{name_for, name_in, uri_for};
+pub use naming::{name_for, name_in, uri_for, version_for};
 pub use refused::{RefusedEdit, RefusedReason, push_reason, push_refused, shown_params};

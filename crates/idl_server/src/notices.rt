@@ -14,7 +14,7 @@ ghost use Rattle.idl_server.specs.Roots.{AreRooted};
 
 use crate::workspace::Workspace;
 use idl_editor::documents::{RefusedReason, changes_told, name_for, name_in, push_reason};
-use idl_editor::messages::{Method, items_at, opened_text, text_at, uri_of};
+use idl_editor::messages::{Method, items_at, opened_text, text_at, uri_of, version_of};
 use idl_loader::PathLoader;
 use idl_source::{Line, Name};
 use indexmap::IndexSet;
@@ -66,7 +66,7 @@ impl Workspace {
             return Ok(());
         };
         match name_for(self.session.allocator(), &self.folders, uri)? {
-            Some(name) => self.open_document(&name, uri, text),
+            Some(name) => self.open_document(&name, uri, version_of(params), text),
             None => Ok(()),
         }
     }
@@ -87,7 +87,7 @@ impl Workspace {
             return Ok(());
         };
         match changes_told(self.session.allocator(), params)? {
-            Some(changes) => self.change_document(&name, &changes),
+            Some(changes) => self.change_document(&name, version_of(params), &changes),
             None => self.keep_bad_change(&name),
         }
     }

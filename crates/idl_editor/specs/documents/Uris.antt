@@ -10,6 +10,11 @@ use Rattle.idl_editor.specs.declared.documents.document.Document.{Document}
 abbrev pub name_for : List FolderNamed → List ℕ → Option (List ℕ)
 name_for folders uri = option_and_then (λ path. named (name_of folders path)) (path_of uri)
 
+-- the version of one of these documents
+abbrev pub version_among : List (List ℕ × Document) → List ℕ → Option ℕ
+version_among documents name =
+    option_and_then (λ document. document.version) (lookup (bytes_eq name) documents)
+
 -- the URI of a file: the editor's own of one of these documents, and else that of its path
 abbrev pub uri_among : List (List ℕ × Document) → List FolderNamed → List ℕ → List ℕ
 uri_among documents folders name =

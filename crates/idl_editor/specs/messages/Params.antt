@@ -11,6 +11,10 @@ use Rattle.idl_editor.specs.messages.Fields.{number_at, text_at}
 abbrev pub uri_in : Data → Option (List ℕ)
 uri_in params = option_and_then (text_at (codes "uri")) (get (codes "textDocument") params)
 
+-- its version
+abbrev pub version_in : Data → Option ℕ
+version_in params = option_and_then (number_at (codes "version")) (get (codes "textDocument") params)
+
 -- what is made of two that are there
 abbrev pub both : {A B C : Type 0} → (A → B → C) → Option A → Option B → Option C
 both f a b = option_and_then (λ x. option_map (f x) b) a

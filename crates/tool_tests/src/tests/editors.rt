@@ -142,7 +142,7 @@ static SCRIPTS: [&str; 6] = [
 {"method":"textDocument/didOpen","params":{"textDocument":{"uri":"file:///w/q/a.idl","text":"#include \"b.idl\"\ntypedef Money T;\n"}}}
 {"id":2,"method":"textDocument/definition","params":{"textDocument":{"uri":"file:///w/q/a.idl"},"position":{"line":1,"character":9}}}
 ={"id":2,"jsonrpc":"2.0","result":{"range":{"end":{"character":18,"line":0},"start":{"character":13,"line":0}},"uri":"file:///w/q/inc/b.idl"}}"##,
-    // A file beside the only folder is what an include of it finds, and has a plain path.
+    // A file beside the only folder is what an include of it finds, and has a plain path. What is found is told with the version.
     r##"1 /w/c/b.idl: typedef long Money;
 {"id":1,"method":"initialize","params":{"rootUri":"file:///w/p"}}
 ={"id":1,"jsonrpc":"2.0","result":{"capabilities":{"definitionProvider":true,"documentSymbolProvider":true,"hoverProvider":true,
@@ -151,12 +151,18 @@ static SCRIPTS: [&str; 6] = [
 {"method":"textDocument/didOpen","params":{"textDocument":{"uri":"file:///w/p/a.idl","text":"#include \"../c/b.idl\"\ntypedef Money T;\n"}}}
 {"id":2,"method":"textDocument/definition","params":{"textDocument":{"uri":"file:///w/p/a.idl"},"position":{"line":1,"character":9}}}
 ={"id":2,"jsonrpc":"2.0","result":{"range":{"end":{"character":18,"line":0},"start":{"character":13,"line":0}},"uri":"file:///w/c/b.idl"}}
-{"method":"textDocument/didOpen","params":{"textDocument":{"uri":"file:///w/c/b.idl","text":"interface Money;\n"}}}
+{"method":"textDocument/didOpen","params":{"textDocument":{"uri":"file:///w/c/b.idl","version":3,"text":"interface Money;\n"}}}
 ={"jsonrpc":"2.0","method":"textDocument/publishDiagnostics","params":{"diagnostics":[{"code":"W80",
     "message":"the interface `Money` is declared forward and never defined\n
     It may stay so: no code can call it through this file. Include the file that defines it.",
     "range":{"end":{"character":15,"line":0},"start":{"character":10,"line":0}},"relatedInformation":[],"severity":2,
-    "source":"idltool"}],"uri":"file:///w/c/b.idl"}}"##,
+    "source":"idltool"}],"uri":"file:///w/c/b.idl","version":3}}
+{"method":"textDocument/didChange","params":{"textDocument":{"uri":"file:///w/c/b.idl","version":4},"contentChanges":[{"text":"\ninterface Money;\n"}]}}
+={"jsonrpc":"2.0","method":"textDocument/publishDiagnostics","params":{"diagnostics":[{"code":"W80",
+    "message":"the interface `Money` is declared forward and never defined\n
+    It may stay so: no code can call it through this file. Include the file that defines it.",
+    "range":{"end":{"character":15,"line":1},"start":{"character":10,"line":1}},"relatedInformation":[],"severity":2,
+    "source":"idltool"}],"uri":"file:///w/c/b.idl","version":4}}"##,
 ];
 
 #[test]
