@@ -1,6 +1,6 @@
 -- Findings in the order of lines, each once.
 use Rattle.std.proofs.Common.{◌≡◌, ◌∙◌, ◌+◌, ◌<◌, ◌≤◌, ◌&&◌, ◌||◌, ◌==◌, ℕ, zero, suc, Bool, true, false, cond, not, List, [], ◌∷◌, ◌++◌, None, Less, Equal, Greater, nat_cmp, is_lt, nat_eq, nat_lt, filter, length, get_or, map, take, ap, arith, refl, sym, tests}
-use Rattle.std.proofs.lemmas.Bool.{false≢true}
+use Rattle.std.proofs.lemmas.Bool.{not-false, not-true}
 use Rattle.std.proofs.lemmas.List.{map-append, take_more}
 use Rattle.std.proofs.lemmas.List.Sums.{fold-append}
 use Rattle.std.specs.List.{list_any}
@@ -32,14 +32,6 @@ same-key x f =
 any-key : (x : Finding) (fs : List Finding) → list_any (ghosts.eq (key_of x)) (map key_of fs) ≡ list_any (is_same x) fs
 any-key x [] = refl
 any-key x (f ∷ fs) = λ i. same-key x f i || any-key x fs i
-
-not-true : (b : Bool) → not b ≡ true → b ≡ false
-not-true true h = absurd (false≢true h)
-not-true false h = refl
-
-not-false : (b : Bool) → not b ≡ false → b ≡ true
-not-false true h = refl
-not-false false h = absurd (false≢true (sym h))
 
 module _ (found : List RootFinding) (i : ℕ) (one : RootFinding) (once : List RootFinding) (keys : List FindingKey) (key : FindingKey) (b : Bool)
     (within : i < length found) (is : one ≡ get_or found i one) (are : keys ≡ map key_of (findings_in once)) (so : findings_in once ≡ each_once (findings_in (take i found)))

@@ -1,6 +1,6 @@
 -- What is told of findings, one after another.
-use Rattle.std.proofs.Common.{◌≡◌, ◌∙◌, ◌+◌, ◌-◌, ◌<◌, ◌≤◌, ◌++◌, ◌∷◌, [], ℕ, false, List, None, Some, ap, arith, get_or, length, map, subst, sym, take, tests}
-use Rattle.std.proofs.lemmas.Bool.{cond-false, cond-true, le-leb}
+use Rattle.std.proofs.Common.{◌≡◌, ◌∙◌, ◌+◌, ◌-◌, ◌<◌, ◌≤◌, ◌++◌, ◌∷◌, [], ℕ, false, List, None, Some, ap, arith, get_or, length, map, subst, sym, take}
+use Rattle.std.proofs.lemmas.Bool.{cond-false, cond-true, le-leb, lt-leb}
 use Rattle.std.proofs.lemmas.List.{length-map, map-append, take_more}
 use Rattle.std.proofs.lemmas.Option.{slice_get-get_or, slice_get-map}
 use Rattle.std.specs.List.{AllZip, slice_get}
@@ -48,7 +48,7 @@ module _ (encoding : Encoding) (project : Project) (found : List RootFinding) wh
   pub rest-some : (last : RootFinding) → 1000 < length found → last ≡ get_or found 999 last
       → rest_told encoding project (findings_in found) ≡ more_json (finding_line encoding project last.finding.now) (length found - 1000) ∷ []
   rest-some last many is =
-      let more : nat_le (length found) 1000 ≡ false = grind (arith, tests) in
+      let more : nat_le (length found) 1000 ≡ false = lt-leb (length found) 1000 many in
       let there : slice_get found 999 ≡ Some last = slice_get-get_or found 999 last (omega (arith, many)) ∙ ap (λ (r : RootFinding). Some r) (sym is) in
       let slot : slice_get (findings_in found) 999 ≡ Some last.finding.now =
       slice_get-map (λ (r : RootFinding). r.finding.now) found 999 ∙ ap (option_map (λ (r : RootFinding). r.finding.now)) there in
