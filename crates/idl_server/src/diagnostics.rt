@@ -5,9 +5,10 @@ ghost use Rattle.std.specs.List.{AllZip};
 ghost use Rattle.serde_json.specs.View.{view};
 ghost use Rattle.idl_editor.specs.told.Found.{findings_in, most_told};
 ghost use Rattle.idl_server.specs.Diagnostics.{AreDiagnostics, IsToldOf, finding_line, finding_range, rest_told};
+ghost use Rattle.idl_server.specs.Places.{lines_of};
 
 use crate::found::found_in;
-use crate::places::{LocatedToken, line_range, lines_of, range_of};
+use crate::places::{CountedLines, LocatedToken, lines_named, lines_of, range_of, token_range};
 use crate::workspace::Workspace;
 use idl_base::Seq;
 use idl_editor::documents::uri_for;
@@ -46,18 +47,23 @@ impl Workspace {
     {
         let found = found_in(&self.session, name)?;
         let held = found.as_slice();
-        let mut list = self.first_values(held)?;
+        let mut list = self.first_values(name, held)?;
         push_rest(&self.session, self.encoding, held, &mut list)?;
         Ok(Value::Array(list))
     }
 
-    // The first of these findings, as they are told.
-    fn first_values(&self, found: &[RootFinding<'_>]) -> Result<Vec<Value>, AllocError>
+    // The first of these findings in a file, as they are told.
+    fn first_values(
+        &self,
+        name: &Name,
+        found: &[RootFinding<'_>],
+    ) -> Result<Vec<Value>, AllocError>
         ensures { IfOk result (λ list.
             AllZip (IsToldOf self.now.encoding self.now.session.project)
             (take most_told (findings_in found.entry.now)) (map view list.items)) }
     {
         let alloc = self.session.allocator();
+        let lines = CountedLines::new(alloc, lines_named(&self.session, name.as_bytes()))?;
         let mut roots = Vec::new(alloc);
         let held = first_told(found);
         let mut list = Vec::with_capacity(alloc, held.len())?;
@@ -66,10 +72,23 @@ impl Workspace {
             let related = self.seconds_of(&mut roots, index, one)?;
             let message = message_of(alloc, one.finding)?;
             let said = message.as_slice();
-            let range = finding_range(&self.session, self.encoding, one.finding);
+            let range = self.range_by(&lines, name, one.finding);
             list.push(diagnostic_value(alloc, range, one.finding, said, related)?)?;
         }
         Ok(list)
+    }
+
+    // The range of what a finding is about, by the lines of a file, if it is in that.
+    fn range_by(&self, lines: &CountedLines<'_>, name: &Name, finding: &Finding) -> Range
+        requires { lines.now ≡ lines_of self.now.session.project name.now }
+        ensures { result ≡ finding_range self.now.encoding self.now.session.project finding.now }
+    {
+        if finding.place.file.as_bytes() == name.as_bytes() {
+            return finding_range(&self.session, self.encoding, finding, lines);
+        }
+        let own = lines_of(&self.session, &finding.place);
+        let own = CountedLines::uncounted(self.session.allocator(), own);
+        finding_range(&self.session, self.encoding, finding, &own)
     }
 
     // The second places of the finding of this number, as they are told: of many findings those of the first ones.
@@ -150,8 +169,14 @@ fn push_rest(
     Ok(list.push(more)?)
 }
 
-// The range of what a finding is about.
-fn finding_range(session: &Session, encoding: Encoding, finding: &Finding) -> Range
+// The range of what a finding is about, by the lines of its file.
+fn finding_range(
+    session: &Session,
+    encoding: Encoding,
+    finding: &Finding,
+    lines: &CountedLines<'_>,
+) -> Range
+    requires { lines.now ≡ lines_of session.now.project finding.now.place.file }
     ensures { result ≡ finding_range encoding session.now.project finding.now }
 {
     match &finding.text {
@@ -161,9 +186,9 @@ fn finding_range(session: &Session, encoding: Encoding, finding: &Finding) -> Ra
                 number: finding.number,
                 text: text.as_bytes(),
             };
-            range_of(session, encoding, token)
+            token_range(session, encoding, token, lines)
         }
-        None => finding_line(session, encoding, finding),
+        None => lines.line(encoding, finding.place.line),
     }
 }
 
@@ -172,5 +197,6 @@ fn finding_line(session: &Session, encoding: Encoding, finding: &Finding) -> Ran
     ensures { result ≡ finding_line encoding session.now.project finding.now }
 {
     let lines = lines_of(session, &finding.place);
-    line_range(encoding, lines, finding.place.line)
+    let lines = CountedLines::uncounted(session.allocator(), lines);
+    lines.line(encoding, finding.place.line)
 }
