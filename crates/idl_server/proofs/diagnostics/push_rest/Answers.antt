@@ -7,10 +7,10 @@ use Rattle.idl_editor.specs.told.Diagnostics.{more_json}
 use Rattle.idl_server.proofs.DiagnosticLemmas.{rest-none, rest-some}
 use Rattle.idl_server.proofs.diagnostics.push_rest.Goals as goal
 
-pub returns-then-branch : goal.returns-then-branch
-returns-then-branch c =
+pub returns-then-found-le-MOST_TOLD : goal.returns-then-found-le-MOST_TOLD
+returns-then-found-le-MOST_TOLD c =
     let list = map view c.args.list.now.items in
-    sym (append-nil list) ∙ ap (λ (rest : List Data). list ++ rest) (sym (rest-none c.args.encoding c.args.session.now.project c.args.found.now c.if-branch.true))
+    sym (append-nil list) ∙ ap (λ (rest : List Data). list ++ rest) (sym (rest-none c.args.encoding c.args.session.now.project c.args.found.now c.if-found-le-MOST_TOLD.true))
 
 pub returns : goal.returns
 returns c =
@@ -18,4 +18,4 @@ returns c =
     let told : view c.in_ok-more.more ≡ more_json _ _ = c.in_ok-more.ensures ∙ ap (λ (range : Range). more_json range _) c.finding_line-range.ensures in
     ap (map view) c.in_ok-push.ensures.items ∙ map-append view c.args.list.now.items (c.in_ok-more.more ∷ [])
     ∙ ap (λ (json : Data). list ++ json ∷ []) told
-    ∙ ap (λ (rest : List Data). list ++ rest) (sym (rest-some c.args.encoding c.args.session.now.project c.args.found.now _ (omega (arith, c.if-branch.false)) c.index-last.is))
+    ∙ ap (λ (rest : List Data). list ++ rest) (sym (rest-some c.args.encoding c.args.session.now.project c.args.found.now _ (omega (arith, c.if-found-le-MOST_TOLD.false)) c.index-last.is))
