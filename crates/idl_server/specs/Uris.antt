@@ -7,6 +7,6 @@ use Rattle.idl_server.specs.declared.workspace.Workspace.{Workspace}
 abbrev pub uri_for : Workspace → List ℕ → List ℕ
 uri_for w name = uri_among w.documents.entries w.folders name
 
--- the version of a document that is open
+-- the version of a document that is open, and of which the session has the text
 abbrev pub version_for : Workspace → List ℕ → Option ℕ
 version_for w name = version_among w.documents.entries name

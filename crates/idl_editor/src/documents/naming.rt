@@ -52,12 +52,12 @@ pub fn uri_for(
     }
 }
 
-/// The version of a document that is open, if the editor told one.
+/// The version of a document that is open and that the session has, if the editor told one.
 pub fn version_for(documents: &IndexMap<Name, Document>, name: &Name) -> Option<u64>
     ensures { result ≡ version_among documents.now.entries name.now }
 {
     match documents.get(name) {
-        Some(document) => document.version,
-        None => None,
+        Some(document) if !document.is_behind => document.version,
+        _ => None,
     }
 }
