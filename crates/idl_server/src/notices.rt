@@ -1,6 +1,6 @@
 //! What an editor tells: documents that are opened, changed, saved and closed, and files that became others.
 
-ghost use Rattle.std.specs.Prelude.{◌≡◌, ℕ, All, List, IfOk, None, OnOk};
+ghost use Rattle.std.specs.Prelude.{◌≡◌, ℕ, All, List, IfOk, IsSome, None, OnOk};
 ghost use Rattle.std.specs.Map.{lookup};
 ghost use Rattle.std.specs.Str.{bytes_eq};
 ghost use Rattle.serde_json.specs.View.{view};
@@ -9,7 +9,9 @@ ghost use Rattle.idl_loader.specs.Holding.{Holding};
 ghost use Rattle.idl_editor.specs.documents.Documents.{HaveTexts, open_after_told, texts_of};
 ghost use Rattle.idl_server.specs.Documents.{OnlyRefusedAreBehind};
 ghost use Rattle.idl_server.specs.Files.{AreFiled, IsKept, StaysSet, told_by};
+ghost use Rattle.idl_editor.specs.declared.documents.refused.RefusedReason.TheVariants.{BadChange};
 ghost use Rattle.idl_editor.specs.documents.Notices.{told_by_notice};
+ghost use Rattle.idl_editor.specs.documents.Refused.{IsAdded};
 ghost use Rattle.idl_server.specs.Roots.{AreRooted};
 
 use crate::workspace::Workspace;
@@ -94,7 +96,10 @@ impl Workspace {
 
     // Keeps, to show it, that a change of an open document makes no sense.
     fn keep_bad_change(&mut self, name: &Name) -> Result<(), AllocError>
-        ensures { IsKept self.old self.new }
+        ensures kept { IsKept self.old self.new }
+        ensures told { IsSome (lookup (bytes_eq name.now) self.old.documents.entries)
+            → OnOk result (IsAdded name.now BadChange
+            self.old.refused.items self.new.refused.items) }
     {
         if !self.documents.contains_key(name) {
             return Ok(());

@@ -1,5 +1,9 @@
 //! What an editor wants and isn't done, and what is shown of it.
 
+ghost use Rattle.std.specs.Prelude.{OnOk};
+ghost use Rattle.idl_editor.specs.documents.Refused.{IsAdded};
+ghost use Rattle.idl_editor.specs.declared.documents.refused.RefusedReason.TheVariants as reasons;
+
 use crate::told::shown_value;
 use idl_explain::{Topic, explanation_of};
 use idl_source::Refusal;
@@ -49,7 +53,10 @@ pub fn push_refused(
     refused: &mut Vec<RefusedEdit>,
     subject: &[u8],
     refusal: Refusal,
-) -> Result<(), AllocError> {
+) -> Result<(), AllocError>
+    ensures { OnOk result (IsAdded subject.now (reasons.Refusal refusal)
+        refused.old.items refused.new.items) }
+{
     push_reason(refused, subject, RefusedReason::Refusal(refusal))
 }
 
@@ -58,7 +65,9 @@ pub fn push_reason(
     refused: &mut Vec<RefusedEdit>,
     subject: &[u8],
     reason: RefusedReason,
-) -> Result<(), AllocError> {
+) -> Result<(), AllocError>
+    ensures { OnOk result (IsAdded subject.now reason refused.old.items refused.new.items) }
+{
     let subject = Vec::from_slice(*refused.allocator(), subject)?;
     Ok(refused.push(RefusedEdit { subject, reason })?)
 }

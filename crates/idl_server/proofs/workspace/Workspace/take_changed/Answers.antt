@@ -26,21 +26,21 @@ returns-in-Some-2-clause-held c =
     on_ok_both c.change_document.result (λ (b : StaysBeside _ _ _) held. held-beside _ _ _ _ b.documents held) c.change_document.ensures.beside c.change_document.ensures.held
 
 pub returns-in-None-clause-set : goal.returns-in-None-clause-set
-returns-in-None-clause-set c = on_ok c.keep_bad_change.result (set-kept _ _ c.keep_bad_change.ensures)
+returns-in-None-clause-set c = on_ok c.keep_bad_change.result (set-kept _ _ c.keep_bad_change.ensures.kept)
 
 pub returns-in-None-clause-filed : goal.returns-in-None-clause-filed
-returns-in-None-clause-filed c = λ told are. on_ok c.keep_bad_change.result (all-kept told _ _ c.keep_bad_change.ensures are)
+returns-in-None-clause-filed c = λ told are. on_ok c.keep_bad_change.result (all-kept told _ _ c.keep_bad_change.ensures.kept are)
 
 pub returns-in-None-clause-rooted : goal.returns-in-None-clause-rooted
-returns-in-None-clause-rooted c = λ are. on_ok c.keep_bad_change.result (rooted-kept _ _ c.keep_bad_change.ensures are)
+returns-in-None-clause-rooted c = λ are. on_ok c.keep_bad_change.result (rooted-kept _ _ c.keep_bad_change.ensures.kept are)
 
 pub returns-in-None-clause-texts : goal.returns-in-None-clause-texts
 returns-in-None-clause-texts c =
     let old = c.args.self.now in
     let told = name_in old.folders (view c.args.params.now) in
     on_ok c.keep_bad_change.result
-    (texts-kept old.encoding _ _ _ (λ i. (c.keep_bad_change.ensures.documents i).entries) (ap (both Changed told) (sym c.in-None.ensures) ∙ both-lost Changed told))
+    (texts-kept old.encoding _ _ _ (λ i. (c.keep_bad_change.ensures.kept.documents i).entries) (ap (both Changed told) (sym c.in-None.ensures) ∙ both-lost Changed told))
 
 pub returns-in-None-clause-held : goal.returns-in-None-clause-held
 returns-in-None-clause-held c =
-    on_ok c.keep_bad_change.result (held-same c.args.self.now.session.project _ _ (λ i. (c.keep_bad_change.ensures.documents i).entries))
+    on_ok c.keep_bad_change.result (held-same c.args.self.now.session.project _ _ (λ i. (c.keep_bad_change.ensures.kept.documents i).entries))
