@@ -69,7 +69,7 @@ fn put_if_in<'a>(
         else findings_in found.old.items)) }
 {
     if one.finding.place.file.as_bytes() == name.as_bytes() {
-        found.push(one)?;
+        return Ok(found.push(one)?);
     }
     Ok(())
 }
