@@ -12,8 +12,10 @@ use crate::places::{CountedLines, LocatedToken, lines_named, lines_of, range_of,
 use crate::workspace::Workspace;
 use idl_base::Seq;
 use idl_editor::documents::uri_for;
-use idl_editor::told::{MOST_RELATED, MOST_TOLD, RootFinding, SecondWords};
-use idl_editor::told::{diagnostic_value, first_told, message_of, more_value, second_value};
+use idl_editor::told::{
+    MOST_RELATED, MOST_TOLD, RootFinding, SecondWords, diagnostic_value, first_told, message_of,
+    more_value, second_value,
+};
 use idl_editor::{Encoding, Range};
 use idl_project::{Finding, Session, related_in};
 use idl_related::Related;
