@@ -4,11 +4,11 @@ ghost use Rattle.std.specs.Prelude.{◌≡◌, ◌<◌, ◌++◌, [], IfOk, OnOk
 ghost use Rattle.std.specs.List.{AllZip};
 ghost use Rattle.serde_json.specs.View.{view};
 ghost use Rattle.idl_editor.specs.told.Found.{findings_in, most_told};
-ghost use Rattle.idl_server.specs.Diagnostics.{AreDiagnostics, IsToldOf, finding_line, finding_range, rest_told};
-ghost use Rattle.idl_server.specs.Places.{lines_of};
+ghost use Rattle.idl_server.specs.Diagnostics.{AreDiagnostics, IsToldOf, finding_range, rest_told};
+ghost use Rattle.idl_server.specs.Places.{IsOfProject};
 
 use crate::found::found_in;
-use crate::places::{CountedLines, LocatedToken, lines_named, lines_of, range_of, token_range};
+use crate::places::{CountedFile, LocatedToken, line_near, line_of, range_near, range_of};
 use crate::workspace::Workspace;
 use idl_base::Seq;
 use idl_editor::documents::uri_for;
@@ -65,7 +65,7 @@ impl Workspace {
             (take most_told (findings_in found.entry.now)) (map view list.items)) }
     {
         let alloc = self.session.allocator();
-        let lines = CountedLines::new(alloc, lines_named(&self.session, name.as_bytes()))?;
+        let file = CountedFile::new(&self.session, name)?;
         let mut roots = Vec::new(alloc);
         let held = first_told(found);
         let mut list = Vec::with_capacity(alloc, held.len())?;
@@ -74,23 +74,10 @@ impl Workspace {
             let related = self.seconds_of(&mut roots, index, one)?;
             let message = message_of(alloc, one.finding)?;
             let said = message.as_slice();
-            let range = self.range_by(&lines, name, one.finding);
+            let range = finding_range(&self.session, self.encoding, one.finding, &file);
             list.push(diagnostic_value(alloc, range, one.finding, said, related)?)?;
         }
         Ok(list)
-    }
-
-    // The range of what a finding is about, by the lines of a file, if it is in that.
-    fn range_by(&self, lines: &CountedLines<'_>, name: &Name, finding: &Finding) -> Range
-        requires { lines.now ≡ lines_of self.now.session.project name.now }
-        ensures { result ≡ finding_range self.now.encoding self.now.session.project finding.now }
-    {
-        if finding.place.file.as_bytes() == name.as_bytes() {
-            return finding_range(&self.session, self.encoding, finding, lines);
-        }
-        let own = lines_of(&self.session, &finding.place);
-        let own = CountedLines::uncounted(self.session.allocator(), own);
-        finding_range(&self.session, self.encoding, finding, &own)
     }
 
     // The second places of the finding of this number, as they are told: of many findings those of the first ones.
@@ -166,19 +153,19 @@ fn push_rest(
         return Ok(());
     }
     let last = found[MOST_TOLD - 1].finding;
-    let range = finding_line(session, encoding, last);
+    let range = line_of(session, encoding, &last.place);
     let more = more_value(session.allocator(), range, found.len() - MOST_TOLD)?;
     Ok(list.push(more)?)
 }
 
-// The range of what a finding is about, by the lines of its file.
+// The range of what a finding is about, by the lines of a file, if it is in that.
 fn finding_range(
     session: &Session,
     encoding: Encoding,
     finding: &Finding,
-    lines: &CountedLines<'_>,
+    file: &CountedFile<'_>,
 ) -> Range
-    requires { lines.now ≡ lines_of session.now.project finding.now.place.file }
+    requires { IsOfProject session.now.project file.now }
     ensures { result ≡ finding_range encoding session.now.project finding.now }
 {
     match &finding.text {
@@ -188,17 +175,8 @@ fn finding_range(
                 number: finding.number,
                 text: text.as_bytes(),
             };
-            token_range(session, encoding, token, lines)
+            range_near(session, encoding, token, file)
         }
-        None => lines.line(encoding, finding.place.line),
+        None => line_near(session, encoding, &finding.place, file),
     }
-}
-
-// The range of the line on which a finding stands.
-fn finding_line(session: &Session, encoding: Encoding, finding: &Finding) -> Range
-    ensures { result ≡ finding_line encoding session.now.project finding.now }
-{
-    let lines = lines_of(session, &finding.place);
-    let lines = CountedLines::uncounted(session.allocator(), lines);
-    lines.line(encoding, finding.place.line)
 }

@@ -1,16 +1,16 @@
 //! Places in files of a session as positions of an editor.
 
-ghost use Rattle.std.specs.Prelude.{◌≡◌, ◌+◌, ◌*◌, ◌<◌, ◌≤◌, IfOk, length, take};
+ghost use Rattle.std.specs.Prelude.{◌≡◌, ◌+◌, ◌*◌, ◌<◌, ◌≤◌, IfOk, IfSome, length, take};
 ghost use Rattle.std.specs.List.{sum_by};
 ghost use Rattle.idl_source.specs.Limits.{longest_line, most_lines};
 ghost use Rattle.idl_inputs.specs.WithinLimits.{IsAllowedFile};
 ghost use Rattle.idl_editor.specs.Places.{line_range, position_in, returns};
-ghost use Rattle.idl_server.specs.Places.{lines_of, range_of};
+ghost use Rattle.idl_server.specs.Places.{IsOfProject, lines_of, range_of};
 
 use idl_editor::{Encoding, Position, Range, position_behind, returns_in};
 use idl_fault::Place;
 use idl_project::{Session, SitedToken};
-use idl_source::Line;
+use idl_source::{Line, Name};
 use std::alloc::{AllocError, Global};
 use std::marker::Model;
 
@@ -47,8 +47,25 @@ pub(crate) fn range_of(session: &Session, encoding: Encoding, token: LocatedToke
     token_range(session, encoding, token, &lines)
 }
 
-/// The same by the lines of its file.
-pub(crate) fn token_range(
+/// The same by the lines of a file, if it is in that.
+pub(crate) fn range_near(
+    session: &Session,
+    encoding: Encoding,
+    token: LocatedToken<'_>,
+    file: &CountedFile<'_>,
+) -> Range
+    requires { IsOfProject session.now.project file.now }
+    ensures { result ≡ range_of encoding session.now.project
+        token.entry.place.now token.entry.number token.entry.text.now }
+{
+    match file.lines_at(token.place) {
+        Some(lines) => token_range(session, encoding, token, lines),
+        None => range_of(session, encoding, token),
+    }
+}
+
+// The same by the lines of its file.
+fn token_range(
     session: &Session,
     encoding: Encoding,
     token: LocatedToken<'_>,
@@ -67,16 +84,43 @@ pub(crate) fn token_range(
     }
 }
 
-/// The lines of the file in which a place is.
-pub(crate) fn lines_of<'a>(session: &'a Session, place: &Place) -> &'a [Line]
+/// The range of the line of a place.
+pub(crate) fn line_of(session: &Session, encoding: Encoding, place: &Place) -> Range
+    ensures { result ≡ line_range encoding (lines_of session.now.project place.now.file)
+        place.now.line }
+{
+    let lines = lines_of(session, place);
+    let lines = CountedLines::uncounted(session.allocator(), lines);
+    lines.line(encoding, place.line)
+}
+
+/// The same by the lines of a file, if it is in that.
+pub(crate) fn line_near(
+    session: &Session,
+    encoding: Encoding,
+    place: &Place,
+    file: &CountedFile<'_>,
+) -> Range
+    requires { IsOfProject session.now.project file.now }
+    ensures { result ≡ line_range encoding (lines_of session.now.project place.now.file)
+        place.now.line }
+{
+    match file.lines_at(place) {
+        Some(lines) => lines.line(encoding, place.line),
+        None => line_of(session, encoding, place),
+    }
+}
+
+// The lines of the file in which a place is.
+fn lines_of<'a>(session: &'a Session, place: &Place) -> &'a [Line]
     ensures lines { result.now ≡ lines_of session.now.project place.now.file }
     ensures allowed { IsAllowedFile result.now }
 {
     lines_named(session, place.file.as_bytes())
 }
 
-/// The lines of the file of this name.
-pub(crate) fn lines_named<'a>(session: &'a Session, name: &[u8]) -> &'a [Line]
+// The lines of the file of this name.
+fn lines_named<'a>(session: &'a Session, name: &[u8]) -> &'a [Line]
     ensures lines { result.now ≡ lines_of session.now.project name.now }
     ensures allowed { IsAllowedFile result.now }
 {
@@ -87,10 +131,39 @@ pub(crate) fn lines_named<'a>(session: &'a Session, name: &[u8]) -> &'a [Line]
     }
 }
 
-/// The lines of a file, and where these were counted the carriage returns before each: to an editor one that is left in a line ends
-/// a line. To every contract it is the lines.
+/// A file of which many places are asked for.
 #[derive(Drop)]
-pub(crate) struct CountedLines<'a> {
+pub(crate) struct CountedFile<'a> {
+    name: &'a Name,
+    lines: CountedLines<'a>,
+}
+
+impl<'a> CountedFile<'a> {
+    /// The file of this name, or one without lines.
+    pub fn new(session: &'a Session, name: &'a Name) -> Result<CountedFile<'a>, AllocError>
+        ensures { IfOk result (IsOfProject session.now.project) }
+    {
+        let lines = lines_named(session, name.as_bytes());
+        let lines = CountedLines::new(session.allocator(), lines)?;
+        Ok(CountedFile { name, lines })
+    }
+
+    // Its lines, if a place is in it.
+    fn lines_at(&self, place: &Place) -> Option<&CountedLines<'a>>
+        ensures { IfSome result (λ lines. (place.now.file ≡ self.now.name.now)
+            × (lines.now ≡ self.now.lines)) }
+    {
+        if place.file.as_bytes() == self.name.as_bytes() {
+            return Some(&self.lines);
+        }
+        None
+    }
+}
+
+// The lines of a file, and where these were counted the carriage returns before each: to an editor one that is left in a line ends a
+// line. To every contract it is the lines.
+#[derive(Drop)]
+struct CountedLines<'a> {
     lines: &'a [Line],
     // Those before the first lines.
     counts: Vec<usize>,
@@ -110,8 +183,8 @@ impl<'a> Model for CountedLines<'a> {
 }
 
 impl<'a> CountedLines<'a> {
-    /// Before any is counted: who asks for a place goes through the lines before it. It takes no memory.
-    pub fn uncounted(alloc: Global, lines: &'a [Line]) -> CountedLines<'a>
+    // Before any is counted: who asks for a place goes through the lines before it. It takes no memory.
+    fn uncounted(alloc: Global, lines: &'a [Line]) -> CountedLines<'a>
         requires { IsAllowedFile lines.now }
         ensures { result ≡ lines.now }
     {
@@ -119,8 +192,8 @@ impl<'a> CountedLines<'a> {
         CountedLines { lines, counts }
     }
 
-    /// For who asks for many places: all are counted.
-    pub fn new(alloc: Global, lines: &'a [Line]) -> Result<CountedLines<'a>, AllocError>
+    // For who asks for many places: all are counted.
+    fn new(alloc: Global, lines: &'a [Line]) -> Result<CountedLines<'a>, AllocError>
         requires { IsAllowedFile lines.now }
         ensures { IfOk result (λ counted. counted ≡ lines.now) }
     {
@@ -140,16 +213,16 @@ impl<'a> CountedLines<'a> {
         let _lines = &self.lines;
     }
 
-    /// The range of a line, by its number from 1 on.
-    pub fn line(&self, encoding: Encoding, number: u32) -> Range
+    // The range of a line, by its number from 1 on.
+    fn line(&self, encoding: Encoding, number: u32) -> Range
         ensures { result ≡ line_range encoding self.now number }
     {
         self.keeps_form();
         self.between(encoding, number, (0, usize::MAX))
     }
 
-    /// From behind so many bytes of a line up to behind so many.
-    pub fn between(&self, encoding: Encoding, number: u32, columns: (usize, usize)) -> Range
+    // From behind so many bytes of a line up to behind so many.
+    fn between(&self, encoding: Encoding, number: u32, columns: (usize, usize)) -> Range
         ensures start { result.start ≡ position_in encoding self.now number columns.0 }
         ensures end { result.end ≡ position_in encoding self.now number columns.1 }
     {

@@ -17,8 +17,8 @@ each-preserved c =
     let related = view c.in_ok-related.related in
     let is =
     c.in_ok-diagnostic_value.ensures
-    ∙ ap (λ (said : List ℕ). diagnostic_json finding c.range_by-range.result said related) c.as_slice-said.ensures.value
-    ∙ ap (λ (range : Range). diagnostic_json finding range message related) c.range_by-range.ensures
+    ∙ ap (λ (said : List ℕ). diagnostic_json finding c.finding_range-range.result said related) c.as_slice-said.ensures.value
+    ∙ ap (λ (range : Range). diagnostic_json finding range message related) c.finding_range-range.ensures
     in
     zip-found (IsToldOf c.args.self.now.encoding c.args.self.now.session.project) c.first_told-held.result.now c.each.index c.index-held-index.result c.each.list.items c.push.new.self.items
     c.in_ok-diagnostic_value.field-0 c.each-test.true c.index-held-index.is c.in_ok-push.ensures.items c.each.invariant (related, (message, c.in_ok-message.ensures, is))
