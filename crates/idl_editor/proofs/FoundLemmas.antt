@@ -23,9 +23,8 @@ same-key : (x f : Finding) → ghosts.eq (key_of x) (key_of f) ≡ is_same x f
 same-key x f =
     nested (nat_eq x.place.line f.place.line) (nat_eq (number_of x.code) (number_of f.code)) (option_eq bytes_eq x.text f.text) (option_eq nat_eq x.number f.number)
   where
-    nested : (a b c d : Bool) → ((a && b) && c) && d ≡ (a && b) && (c && d)
-    nested true true true d = refl
-    nested true true false d = refl
+    nested : (a b c d : Bool) → a && (b && (c && d)) ≡ (a && b) && (c && d)
+    nested true true c d = refl
     nested true false c d = refl
     nested false b c d = refl
 
