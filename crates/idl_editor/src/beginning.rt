@@ -209,10 +209,7 @@ fn push_named(
 }
 
 // Puts in a directory, if there is one, and tells so.
-fn push_if(
-    found: Option<Directory>,
-    directories: &mut Vec<Directory>,
-) -> Result<bool, AllocError> {
+fn push_if(found: Option<Directory>, directories: &mut Vec<Directory>) -> Result<bool, AllocError> {
     match found {
         Some(directory) => {
             directories.push(directory)?;

@@ -55,11 +55,7 @@ impl Workspace {
     }
 
     // The first of these findings in a file, as they are told.
-    fn first_values(
-        &self,
-        name: &Name,
-        found: &[RootFinding<'_>],
-    ) -> Result<Vec<Value>, AllocError>
+    fn first_values(&self, name: &Name, found: &[RootFinding<'_>]) -> Result<Vec<Value>, AllocError>
         ensures { IfOk result (λ list.
             AllZip (IsToldOf self.now.encoding self.now.session.project)
             (take most_told (findings_in found.entry.now)) (map view list.items)) }

@@ -18,9 +18,7 @@ pub fn found_params(
         view value ≡ found_json (string_bytes uri) version (view list)) }
 {
     match version {
-        Some(version) => {
-            json!(in alloc; {"diagnostics": list, "uri": uri, "version": version})
-        }
+        Some(version) => { json!(in alloc; {"diagnostics": list, "uri": uri, "version": version}) }
         None => json!(in alloc; {"diagnostics": list, "uri": uri}),
     }
 }
