@@ -148,9 +148,10 @@ fn push_rest(
     if found.len() <= MOST_TOLD {
         return Ok(());
     }
-    let last = found[MOST_TOLD - 1].finding;
-    let range = line_of(session, encoding, &last.place);
-    let more = more_value(session.allocator(), range, found.len() - MOST_TOLD)?;
+    let at = MOST_TOLD - 1;
+    let left = found.len() - MOST_TOLD;
+    let range = line_of(session, encoding, &found[at].finding.place);
+    let more = more_value(session.allocator(), range, left)?;
     Ok(list.push(more)?)
 }
 

@@ -12,10 +12,16 @@ returns-then-found-le-MOST_TOLD c =
     let list = map view c.args.list.now.items in
     sym (append-nil list) ∙ ap (λ (rest : List Data). list ++ rest) (sym (rest-none c.args.encoding c.args.session.now.project c.args.found.now c.if-found-le-MOST_TOLD.true))
 
+pub overflow_sub-left : goal.overflow_sub-left
+overflow_sub-left c = omega (arith, c.if-found-le-MOST_TOLD.false)
+
+pub bounds-found-at : goal.bounds-found-at
+bounds-found-at c = omega (arith, c.if-found-le-MOST_TOLD.false)
+
 pub returns : goal.returns
 returns c =
     let list = map view c.args.list.now.items in
     let told : view c.in_ok-more.more ≡ more_json _ _ = c.in_ok-more.ensures ∙ ap (λ (range : Range). more_json range _) c.line_of-range.ensures in
     ap (map view) c.in_ok-push.ensures.items ∙ map-append view c.args.list.now.items (c.in_ok-more.more ∷ [])
     ∙ ap (λ (json : Data). list ++ json ∷ []) told
-    ∙ ap (λ (rest : List Data). list ++ rest) (sym (rest-some c.args.encoding c.args.session.now.project c.args.found.now _ (omega (arith, c.if-found-le-MOST_TOLD.false)) c.index-last.is))
+    ∙ ap (λ (rest : List Data). list ++ rest) (sym (rest-some c.args.encoding c.args.session.now.project c.args.found.now _ (omega (arith, c.if-found-le-MOST_TOLD.false)) c.index-found-at.is))
