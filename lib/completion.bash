@@ -35,6 +35,9 @@ _idltool() {
         explain)
             mapfile -t COMPREPLY < <(compgen -W "$(idltool explain 2>/dev/null | sed 's/^refused //; s/:.*//')" -- "${word^}")
             ;;
+        lsp)
+            mapfile -t COMPREPLY < <(compgen -W '--stdio --help' -- "$word")
+            ;;
         deps)
             case $before in
                 -I) _idl_directories "$word" ;;

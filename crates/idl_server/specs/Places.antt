@@ -1,12 +1,15 @@
 -- Places in files of a project as positions of an editor.
-use Rattle.std.specs.Prelude.{ℕ, List, [], Option, length, unwrap_or}
+use Rattle.std.specs.Prelude.{◌≡◌, ◌≤◌, ◌*◌, ℕ, List, [], Option, Some, length, slice_get, take, unwrap_or}
 use Rattle.std.specs.FinMap as finite
-use Rattle.idl_editor.specs.Places.{range_in}
+use Rattle.std.specs.List.{sum_by}
+use Rattle.idl_source.specs.Limits.{longest_line}
+use Rattle.idl_editor.specs.Places.{range_in, returns}
 use Rattle.idl_editor.specs.declared.change.Range.{Range}
 use Rattle.idl_editor.specs.declared.column.Encoding.{Encoding}
 use Rattle.idl_fault.specs.declared.place.Place.{Place}
 use Rattle.idl_inputs.specs.Columns.{column_of}
 use Rattle.idl_inputs.specs.Project.{Project}
+use Rattle.idl_server.specs.declared.places.CountedFile.{CountedFile}
 
 -- the lines of a file, and of one that isn't there none
 abbrev pub lines_of : Project → List ℕ → List (List ℕ)
@@ -17,3 +20,13 @@ abbrev pub range_of : Encoding → Project → Place → Option ℕ → List ℕ
 range_of encoding project place number text =
     range_in encoding (lines_of project place.file) place.line
     (column_of project place number text) (length text)
+
+-- for each of the first lines of a file, how many carriage returns are before it
+abbrev pub AreCounts : List (List ℕ) → List ℕ → Type 0
+AreCounts lines counts =
+    (index count : ℕ) → slice_get counts index ≡ Some count
+    → (count ≡ sum_by returns (take index lines)) × (count ≤ longest_line * length lines)
+
+-- a file has the lines that a project has under its name
+abbrev pub IsOfProject : Project → CountedFile → Type 0
+IsOfProject project file = file.lines ≡ lines_of project file.name.now

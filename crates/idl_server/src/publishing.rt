@@ -6,7 +6,7 @@ ghost use Rattle.idl_editor.specs.messages.Said.{said_by};
 ghost use Rattle.idl_server.specs.Published.{ArePublished};
 
 use crate::workspace::Workspace;
-use idl_editor::documents::uri_for;
+use idl_editor::documents::{uri_for, version_for};
 use idl_editor::messages::Outbox;
 use idl_editor::told::found_params;
 use idl_project::Finding;
@@ -110,7 +110,8 @@ impl PublishedDiagnostics {
             return Ok(());
         }
         let uri = uri_for(&workspace.documents, &workspace.folders, name)?;
-        let params = found_params(out.alloc(), uri, list)?;
+        let version = version_for(&workspace.documents, name);
+        let params = found_params(out.alloc(), uri, version, list)?;
         out.tell("textDocument/publishDiagnostics", &params)?;
         self.texts.insert(name.copied(), text)?;
         Ok(())

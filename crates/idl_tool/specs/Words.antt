@@ -72,9 +72,12 @@ diff_shape = record (new_shape (codes "diff")) {
       ∷ version_rule (codes "old") ∷ version_rule (codes "new") ∷ [];
 }
 
--- no words of its own
+-- `--stdio`, which changes nothing
+abbrev pub stdio_rule : Rule
+stdio_rule = record (flag_rule (codes "stdio")) { long = Some (codes "stdio") }
+
 abbrev pub lsp_shape : Shape
-lsp_shape = new_shape (codes "lsp")
+lsp_shape = record (new_shape (codes "lsp")) { rules = stdio_rule ∷ [] }
 
 -- a program whose words are all its own, which has a version, and of which a subcommand is wanted;
 -- `help` is one by itself

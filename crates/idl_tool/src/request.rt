@@ -6,7 +6,7 @@ ghost use Rattle.clap.specs.Words.{app_of, first_of, found_of, rows_of, rule_of,
 ghost use Rattle.clap.specs.declared.builder.command.Command.TheViews.{out-Command as fields_of};
 ghost use Rattle.idl_driver.specs.Parsed.{SaysWrong};
 ghost use Rattle.idl_driver.specs.Words.{file_rule};
-ghost use Rattle.idl_tool.specs.Words.{AreCheckOf, AreDepsOf, AreWrong, AreDiffOf, AreSideOf, IsRequestOf, bare, check_shape, deps_shape, diff_shape, lsp_shape, entered_in, explain_shape, faults_in, generated_rule, idltool, json_shape, present_rule, side_rule, target_rule, version_rule, werror_rule, word_rule};
+ghost use Rattle.idl_tool.specs.Words.{AreCheckOf, AreDepsOf, AreWrong, AreDiffOf, AreSideOf, IsRequestOf, bare, check_shape, deps_shape, diff_shape, lsp_shape, entered_in, explain_shape, faults_in, generated_rule, idltool, json_shape, present_rule, side_rule, stdio_rule, target_rule, version_rule, werror_rule, word_rule};
 
 use clap::{Arg, ArgAction, ArgMatches, Command};
 use idl_driver::{
@@ -210,11 +210,10 @@ fn lsp_command<'a>(alloc: Global) -> Result<Command<'a>, AllocError>
     ensures shape { IfOk result (λ command. shape_of command ≡ lsp_shape) }
     ensures local { IfOk result (λ command. (fields_of command).has_globals ≡ false) }
 {
-    Ok(
-        Command::new(alloc, "lsp")
-            .about("Serves an editor over standard input and output, as a language server")
-            .override_usage("idltool lsp"),
-    )
+    Command::new(alloc, "lsp")
+        .about("Serves an editor over standard input and output, as a language server")
+        .override_usage("idltool lsp [--stdio]")
+        .arg(stdio(alloc))
 }
 
 fn word<'a>(alloc: Global) -> Arg<'a>
@@ -266,6 +265,16 @@ fn werror<'a>(alloc: Global) -> Arg<'a>
         .long("werror")
         .action(ArgAction::Count)
         .help("Ends with the status 1 where there are warnings, too")
+}
+
+fn stdio<'a>(alloc: Global) -> Arg<'a>
+    ensures rule { rule_of result ≡ stdio_rule }
+    ensures global { result.global ≡ false }
+{
+    Arg::new(alloc, "stdio")
+        .long("stdio")
+        .action(ArgAction::Count)
+        .help("Changes nothing: some clients add it")
 }
 
 fn file<'a>(alloc: Global) -> Arg<'a>

@@ -45,17 +45,18 @@ fn all_are_told_without_a_word(rt: HostRuntime) -> Result<(), Fail> {
 #[test]
 fn wrong_words_are_told(rt: HostRuntime) -> Result<(), Fail> {
     let wrong =
-        ", explain -l, help E35, deps, deps -t a.idl, check, check -d a.idl, E35, deps --session a.idl, json, diff a";
+        ", explain -l, lsp --pipe, help E35, deps, deps -t a.idl, check, check -d a.idl, E35, deps --session a.idl, json, diff a";
     for words in wrong.split(',') {
         tells_its_usage(rt.alloc(), words, "2 err ")?;
     }
-    let shown = "--help, -h, help, help check, explain -h, deps -h, check -h, json -h, diff -h";
+    let shown = "--help, -h, help, help check, explain -h, deps -h, check -h, json -h, diff -h, lsp -h";
     for words in shown.split(',') {
         tells_its_usage(rt.alloc(), words, "0 out ")?;
     }
     is_given(rt.alloc(), "idltool --version =>  => 0 out idltool 0.1.0 /")?;
     // An editor is served by what is handed in, which ends the program.
-    is_given(rt.alloc(), "idltool lsp =>  => 1")
+    is_given(rt.alloc(), "idltool lsp =>  => 1")?;
+    is_given(rt.alloc(), "idltool lsp --stdio =>  => 1")
 }
 
 // What is given begins so, and tells how the program is used.

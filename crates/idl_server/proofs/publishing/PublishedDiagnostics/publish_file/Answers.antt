@@ -10,4 +10,4 @@ pub returns : goal.returns
 returns c =
     let w = c.args.workspace.now in
     one-published w (said_by c.args.out.now) (said_by c.tell.new.self) _ c.in_ok-tell.ensures
-    (found-published w c.args.name.now _ (view c.in_ok-list.list) (view c.in_ok-params.params) c.in_ok-params.ensures c.in_ok-uri.ensures c.in_ok-list.ensures)
+    (found-published w c.args.name.now _ _ (view c.in_ok-list.list) (view c.in_ok-params.params) c.in_ok-params.ensures c.in_ok-uri.ensures c.version_for-version.ensures c.in_ok-list.ensures)

@@ -3,7 +3,7 @@ use Rattle.std.specs.List.{AllZip}
 use Rattle.serde_json.specs.View.{view}
 use Rattle.idl_server.specs.Diagnostics.{IsToldOf}
 use Rattle.idl_editor.specs.told.Found.{findings_in}
-use Rattle.idl_server.proofs.workspace.Workspace.diagnostics_in.Given as goal
+use Rattle.idl_server.proofs.workspace.Workspace.first_values.Given as goal
 
 -- those of the findings before
 abbrev pub invariant-each : goal.invariant-each

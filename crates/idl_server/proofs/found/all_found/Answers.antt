@@ -1,7 +1,7 @@
 use Rattle.std.proofs.Common.{arith}
 use Rattle.idl_editor.specs.told.Found.{findings_in}
 use Rattle.idl_server.proofs.FoundLemmas.{roots-end, roots-past, roots-step}
-use Rattle.idl_server.proofs.found.found_in.Goals as goal
+use Rattle.idl_server.proofs.found.all_found.Goals as goal
 
 pub returns-in_default : goal.returns-in_default
 returns-in_default c = roots-end c.args.session.now.project c.args.name.now c.roots.root (findings_in c.roots.found.items) c.in_default.ensures c.roots.invariant
