@@ -28,8 +28,8 @@ AsksThrough answers n bases k =
     (b : List (List ℕ)) × Enters answers n bases b
     × ((k ≡ Declared n b) ⊎ ((own_at answers n b ≡ None) × (k ≡ entity_key b)))
 
--- in one scope: what it declares the name as; one that may have bases itself, too, and through these
--- where it doesn't declare the name
+-- in one scope: what it declares the name as; one that may have bases itself, too, and through
+-- these where it doesn't declare the name
 abbrev pub AsksIn : (Key → Option Answer) → Kind → List (List ℕ) → List ℕ → Key → Type 0
 AsksIn answers kind path n k =
     (k ≡ Declared n path)
@@ -61,5 +61,6 @@ AsksName answers cursor name zero k =
     AsksOutward answers (searched name.is_global cursor) (folded name.first) k
 AsksName answers cursor name (suc part) k =
     (e : Entity)
-    × Judges (FirstHas answers (searched name.is_global cursor) (folded name.first)) name.first (Ok e)
+    × Judges (FirstHas answers (searched name.is_global cursor) (folded name.first)) name.first
+    (Ok e)
     × AsksFurther answers e name.rest part k
