@@ -1,3 +1,4 @@
+mod AlikeLaws
 mod CutAsks
 mod FactLaws
 mod IdLaws

@@ -281,7 +281,7 @@ module _ (facts : List UnitFacts) (turns : ℕ) (enough_for : turns_for facts �
       back (inl same) = inl (sym same)
       back (inr a) = inr (told.1 a)
 
-  unit-in : (text : UnitText) → IsIn k (asked (verdict turns text) bank) ↔ AsksUnit turns facts text (outcome (verdict turns text) bank) k
+  pub unit-in : (text : UnitText) → IsIn k (asked (verdict turns text) bank) ↔ AsksUnit turns facts text (outcome (verdict turns text) bank) k
   unfolding verdict
   unit-in (unit.Tokens tokens) =
       let scopes = scopes_in (bank Cursor) in

@@ -3,7 +3,7 @@
 //! Each function does nothing: it carries its laws as clauses. `names` and `units` hold of any facts, where a look-up may take as many
 //! turns as these need.
 
-ghost use Rattle.std.specs.Prelude.{◌↔◌, ◌≤◌, ℕ, List, Option, Contains};
+ghost use Rattle.std.specs.Prelude.{◌≡◌, ◌↔◌, ◌≤◌, ℕ, Bool, List, Option, Contains, true};
 ghost use Rattle.idl_asked.specs.Entries.{AsksEntry};
 ghost use Rattle.idl_asked.specs.Ids.{AsksId};
 ghost use Rattle.idl_asked.specs.Names.{AsksIn, AsksName, AsksThrough};
@@ -17,6 +17,7 @@ ghost use Rattle.idl_env.specs.declared.additions.addition.Addition.{Addition};
 ghost use Rattle.idl_env.specs.declared.answering.answer.Answer.{Answer};
 ghost use Rattle.idl_env.specs.declared.answering.answer.Scope.{Scope};
 ghost use Rattle.idl_env.specs.declared.keys.key.Key.{Key};
+ghost use Rattle.idl_memo.specs.Fresh.{Place, is_alike};
 ghost use Rattle.idl_memo.specs.Query.{asked, outcome};
 ghost use Rattle.idl_repo.specs.Entry.{entry};
 ghost use Rattle.idl_scope.specs.Known.{known};
@@ -62,4 +63,25 @@ pub fn units()
         → turns_for facts ≤ turns
         → Contains (asked (verdict turns text) (answers facts)) k
         ↔ AsksUnit turns facts text (outcome (verdict turns text) (answers facts)) k }
+{}
+
+/// A known task of a unit, and one of an entry, is alike at a place that has its text, by any test of texts and answers, and where each
+/// key of the table is answered as it was.
+pub fn alike()
+    ensures units { (facts : List UnitFacts) (turns : ℕ) (text : UnitText)
+        (here : Place Key (Option Answer) UnitText) (text_eq : UnitText → UnitText → Bool)
+        (answer_eq : Option Answer → Option Answer → Bool)
+        → turns_for facts ≤ turns
+        → (is_alike text_eq answer_eq (verdict turns) here (text, answers facts) ≡ true)
+        ↔ ((text_eq here.0 text ≡ true)
+        × ((k : Key)
+        → AsksUnit turns facts text (outcome (verdict turns text) (answers facts)) k
+        → answer_eq (here.1 k) (answers facts k) ≡ true)) }
+    ensures entries { (path : List (List ℕ)) (bank : Key → Option Answer)
+        (here : Place Key (Option Answer) (List (List ℕ)))
+        (text_eq : List (List ℕ) → List (List ℕ) → Bool)
+        (answer_eq : Option Answer → Option Answer → Bool)
+        → (is_alike text_eq answer_eq entry here (path, bank) ≡ true)
+        ↔ ((text_eq here.0 path ≡ true)
+        × ((k : Key) → AsksEntry bank path k → answer_eq (here.1 k) (bank k) ≡ true)) }
 {}

@@ -7,4 +7,4 @@
 
 mod laws;
 
-pub use laws::{entries, ids, names, units};
+pub use laws::{alike, entries, ids, names, units};
