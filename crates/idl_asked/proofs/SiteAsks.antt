@@ -166,11 +166,14 @@ module _ (facts : List UnitFacts) (w : Walk) (turns : ℕ) (h : HasTurnsFor fact
       (Ask key.Prefix (λ answer. and_then (id_before there) (λ before. Done (Some (record { prefix = prefix_in answer; before = before })))))
       (Done None)
 
+  abbrev told_ids : Option Identity → Option Ids
+  told_ids before = Some (record { prefix = prefix_in (bank key.Prefix); before = before })
+
   ids-asks : (there : Option Entity) → IsIn k (asked (ids_of there e) bank) ↔ Ided there
   ids-asks there = (by_kind (has_id e.kind) refl, λ a. of_kind (has_id e.kind) a.0 a.1)
     where
-      same_end : asked (and_then (id_before there) (λ before. Done (Some (record { prefix = prefix_in (bank key.Prefix); before = before })))) bank ≡ asked (id_before there) bank
-      same_end = asks-end (id_before there) (λ before. Some (record { prefix = prefix_in (bank key.Prefix); before = before })) bank
+      same_end : asked (and_then (id_before there) (λ before. Done (told_ids before))) bank ≡ asked (id_before there) bank
+      same_end = asks-end (id_before there) told_ids bank
 
       by_kind : (b : Bool) → has_id e.kind ≡ b → IsIn k (asked (ids_by there b) bank) → Ided there
       by_kind true is (inl same) = (is, inl (sym same))

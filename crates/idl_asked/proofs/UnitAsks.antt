@@ -78,7 +78,7 @@ module _ (bank : Key → Option Answer) (tokens : List Token) (k : Key) where
       by_kind : (o : Option Kind) (b : Bool) → Opening bank (refused_by fault o (step_by o b)) k
       by_kind None true = (λ i. i, λ a. a)
       by_kind None false = (λ i. i, λ a. a)
-      by_kind (Some kind) b = (nameless, λ a. inl (sym a))
+      by_kind (Some kind) b = (λ i. nameless i, λ a. inl (sym a))
 
   refused-fault : (fault : Fault) → (outcome (refused tokens fault) bank).fault ≡ Some fault
   refused-fault fault = by_kind (opened_kind tokens) (faulty_step tokens)
@@ -99,8 +99,8 @@ module _ (bank : Key → Option Answer) (tokens : List Token) (k : Key) where
 
     sound-opens : (t : Tree) (w : Walk) → Opening bank (asking_by t w) k
     sound-opens tree.Closing w = (λ i. i, λ a. a)
-    sound-opens (tree.Module name) w = (one_key, λ a. inl (sym a))
-    sound-opens (tree.Interface i) w = (one_key, λ a. inl (sym a))
+    sound-opens (tree.Module name) w = (λ i. one_key i, λ a. inl (sym a))
+    sound-opens (tree.Interface i) w = (λ i. one_key i, λ a. inl (sym a))
     sound-opens other w = (λ i. i, λ a. a)
 
     sound-fault : (t : Tree) (w : Walk) → (outcome (asking_by t w) bank).fault ≡ None
