@@ -143,14 +143,14 @@ module _ (facts : List UnitFacts) (turns : ℕ) (enough_for : turns_for facts �
     )
 
     pub cut-site : is_known (w.at + 1) w ≡ true → SiteTable facts turns enough_for limit (item.Uses way name) w
-    cut-site known k = both-by (ap (λ q. asked q bank) (looked-cut known)) (cut-counts k name.is_global name.rest refl refl)
+    cut-site known k = both-by (ap (λ (q : Lookup Visit). asked q bank) (looked-cut known)) (cut-counts k name.is_global name.rest refl refl)
 
   -- ---- behind the name
 
   -- the walk is past its first token, and in no expression
   pub looked-past : is_known (w.at + 1) w ≡ true → (w.at < (looked turns bank (item.Uses way name) w).after.at) × ((looked turns bank (item.Uses way name) w).after.values.begin ≡ w.values.begin)
   looked-past known =
-      subst (λ q. (w.at < (outcome q bank).after.at) × ((outcome q bank).after.values.begin ≡ w.values.begin)) (sym (looked-cut known))
+      subst (λ (q : Lookup Visit). (w.at < (outcome q bank).after.at) × ((outcome q bank).after.values.begin ≡ w.values.begin)) (sym (looked-cut known))
       (cut-past turns bank way name w name.is_global name.rest)
 
   visited-past : (w.at < (visited turns bank (item.Uses way name) w).after.at) × ((visited turns bank (item.Uses way name) w).after.values.begin ≡ w.values.begin)

@@ -73,7 +73,7 @@ module _ (places : List (List (List ℕ))) (bank : Key → Option Answer) (g : A
       let e = a.0 in
       let P : ℕ → Type 0 = λ q. suc p ≤ q in
       let inside = (outcome (first_part turns cursor name) bank).1 in
-      let first : (outcome (first_part turns cursor name) bank).0 ≡ Ok e = ap (λ d. d.0) (first-is places bank g turns enough cursor name) ∙ ap (placed 0) (first-Ok places bank g turns enough cursor name e a.1) in
+      let first : (outcome (first_part turns cursor name) bank).0 ≡ Ok e = ap (λ (d : Result Entity NameFault × ℕ). d.0) (first-is places bank g turns enough cursor name) ∙ ap (placed 0) (first-Ok places bank g turns enough cursor name e a.1) in
       let is : outcome (denoted turns cursor name) bank ≡ found_as (reach_of name cursor inside e) (outcome (further turns 0 e name.rest) bank) =
           outcome-and_then (first_part turns cursor name) (λ r. from_first turns bank cursor name r.1 r.0) bank
           ∙ ap (λ r. outcome (from_first turns bank cursor name inside r) bank) first

@@ -107,7 +107,7 @@ module _ (facts : List UnitFacts) (turns : ℕ) (enough_for : turns_for facts �
       let u = after site w in
       let p : IsPlaced site w (visited turns (answers facts) site w) = visit-placed turns (answers facts) site w in
       let past : u.at ≡ w.at + item_length site = p.passes in
-      let next : next_of facts turns enough_for site w ≡ u = ap (λ q. noted_in (outcome q (answers facts)) w.fault) same in
+      let next : next_of facts turns enough_for site w ≡ u = ap (λ (q : Lookup Visit). noted_in (outcome q (answers facts)) w.fault) same in
       goes-table facts turns enough_for site sites w is (whole-site facts turns enough_for (limit_of facts turns enough_for (site ∷ sites) w) site w same within)
       (whole-rest facts turns enough_for site sites w is same
       (subst (λ x. Table sites x) (sym next) (goes u (below-next site w near) (omega (arith, past)) refl (λ b some. above-next site w above))))

@@ -244,7 +244,7 @@ module _ (facts : List UnitFacts) (turns : ℕ) (enough_for : turns_for facts �
   whole-rest site sites w is same more k =
       let v = visited turns bank site w in
       let fault = noted w.fault v.faults in
-      let next : next_of site w ≡ with_fault fault v.after = ap (λ q. noted_in (outcome q bank) w.fault) same in
+      let next : next_of site w ≡ with_fault fault v.after = ap (λ (q : Lookup Visit). noted_in (outcome q bank) w.fault) same in
       let apart = sites-apart (limit_of (site ∷ sites) w) fault sites v.after k in
       let limit = goes-fault site sites w is in
       (
@@ -255,7 +255,7 @@ module _ (facts : List UnitFacts) (turns : ℕ) (enough_for : turns_for facts �
   pub whole-site : (limit : Option Fault) (site : Item) (w : Walk) → looked_at turns site w ≡ visit turns site w → ((token : ℕ) (k : Key) → AsksAt (seen w.own facts) site w token k → IsNotPast limit token) → SiteTable limit site w
   whole-site limit site w same within k =
       let all = visit-asks facts turns enough_for site w k in
-      let one : asked (looked_at turns site w) bank ≡ asked (visit turns site w) bank = ap (λ q. asked q bank) same in
+      let one : asked (looked_at turns site w) bank ≡ asked (visit turns site w) bank = ap (λ (q : Lookup Visit). asked q bank) same in
       (
         λ i. let a = all.0 (subst (IsIn k) one i) in (a.0, a.1, within a.0 k a.1),
         λ a. subst (IsIn k) (sym one) (all.1 (a.0, a.1)),
