@@ -173,8 +173,7 @@ module _ (facts : List UnitFacts) (turns : ℕ) (enough_for : turns_for facts �
       let at_whole : begin_of (visited turns bank (item.Uses way name) w).after ≡ (visited turns bank (item.Uses way name) w).after.at = begin-none (visited turns bank (item.Uses way name) w).after (whole.1 ∙ none) in
       let far = past.0 in
       let far_whole = whole.0 in
-      let limit = goes-fault facts turns enough_for (item.Uses way name) sites w over in
-      (
+      let limit = goes-fault facts turns enough_for (item.Uses way name) sites w over in (
         λ i. absurd (none-behind facts turns enough_for (limit_of facts turns enough_for sites next) g (sym limit ∙ is) sites next (omega (arith, there, at_next, far)) k ((more k).0 i)),
         λ a. absurd (none-behind facts turns enough_for (limit_of facts turns enough_for (item.Uses way name ∷ sites) w) g is sites (visited turns bank (item.Uses way name) w).after (omega (arith, there, at_whole, far_whole)) k a),
       )

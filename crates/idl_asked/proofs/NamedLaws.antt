@@ -92,11 +92,11 @@ module _ {A : Type 0} (bank : Key → Option Answer) (q r : Lookup A) where
   same-asks same k i =
       let log = (run key_eq r bank []).1 in
       let whole : Contains (map (λ e. e.0) (run key_eq q bank []).1) k =
-          All-contains (Contains (map (λ e. e.0) (run key_eq q bank []).1)) (asked q bank) k (IsLogOf-run key_eq key_equiv.refl same_key q bank).whole (Contains-IsIn k (asked q bank) i) in
+      All-contains (Contains (map (λ e. e.0) (run key_eq q bank []).1)) (asked q bank) k (IsLogOf-run key_eq key_equiv.refl same_key q bank).whole (Contains-IsIn k (asked q bank) i) in
       let noted : IsIn k (map (λ e. e.0) log) = subst (λ (p : A × List (Key × Option Answer)). IsIn k (map (λ e. e.0) p.1)) same (IsIn-Contains k (map (λ e. e.0) (run key_eq q bank []).1) whole) in
       let there = entry_of log k noted in
       let asked_there : Contains (asked r bank) there.0.0 =
-          All-contains (λ e. Contains (asked r bank) e.0) log there.0 (IsLogOf-run key_eq key_equiv.refl same_key r bank).within (Contains-IsIn there.0 log there.1) in
+      All-contains (λ e. Contains (asked r bank) e.0) log there.0 (IsLogOf-run key_eq key_equiv.refl same_key r bank).within (Contains-IsIn there.0 log there.1) in
       subst (λ j. IsIn j (asked r bank)) there.2 (IsIn-Contains there.0.0 (asked r bank) asked_there)
 
 -- ---- behind typedefs

@@ -61,8 +61,8 @@ module _ (places : List (List (List ℕ))) (bank : Key → Option Answer) (g : A
       let there = has turns e.kind e.path (folded name) in
       let f = a.1 in
       let is : outcome (part_and_on places bank g turns enough (part + 1) e name names) bank ≡ outcome (further turns (part + 1) f names) bank =
-          outcome-and_then (part_of (part + 1) name there) (behind turns bank (part + 1) names) bank
-          ∙ ap (λ r. outcome (behind turns bank (part + 1) names r) bank) (part-is places bank g turns enough (part + 1) e name ∙ ap (placed (part + 1)) (part-Ok places bank g turns enough e name f a.2)) in
+      outcome-and_then (part_of (part + 1) name there) (behind turns bank (part + 1) names) bank
+      ∙ ap (λ r. outcome (behind turns bank (part + 1) names r) bank) (part-is places bank g turns enough (part + 1) e name ∙ ap (placed (part + 1)) (part-Ok places bank g turns enough e name f a.2)) in
       scope-till P part e name names a.0
       (subst (StandsAt P) (sym is)
       (stands-weaker (λ q. part + 1 + 1 + p ≤ q) P (λ q le. omega (arith, le)) (outcome (further turns (part + 1) f names) bank) (further-till (part + 1) f names p k a.3)))
@@ -75,9 +75,9 @@ module _ (places : List (List (List ℕ))) (bank : Key → Option Answer) (g : A
       let inside = (outcome (first_part turns cursor name) bank).1 in
       let first : (outcome (first_part turns cursor name) bank).0 ≡ Ok e = ap (λ (d : Result Entity NameFault × ℕ). d.0) (first-is places bank g turns enough cursor name) ∙ ap (placed 0) (first-Ok places bank g turns enough cursor name e a.1) in
       let is : outcome (denoted turns cursor name) bank ≡ found_as (reach_of name cursor inside e) (outcome (further turns 0 e name.rest) bank) =
-          outcome-and_then (first_part turns cursor name) (λ r. from_first turns bank cursor name r.1 r.0) bank
-          ∙ ap (λ r. outcome (from_first turns bank cursor name inside r) bank) first
-          ∙ outcome-and_then (further turns 0 e name.rest) (λ last. Done (found_as (reach_of name cursor inside e) last)) bank in
+      outcome-and_then (first_part turns cursor name) (λ r. from_first turns bank cursor name r.1 r.0) bank
+      ∙ ap (λ r. outcome (from_first turns bank cursor name inside r) bank) first
+      ∙ outcome-and_then (further turns 0 e name.rest) (λ last. Done (found_as (reach_of name cursor inside e) last)) bank in
       subst (StandsAt P) (sym is)
       (found_as-at P (reach_of name cursor inside e) (outcome (further turns 0 e name.rest) bank)
       (stands-weaker (λ q. 0 + 1 + p ≤ q) P (λ q le. omega (arith, le)) (outcome (further turns 0 e name.rest) bank) (further-till 0 e name.rest p k a.2)))

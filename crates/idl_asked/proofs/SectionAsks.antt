@@ -143,10 +143,10 @@ module _ (facts : List UnitFacts) (turns : ℕ) (enough_for : turns_for facts �
       by_fault (Some f) is = absurd (let le = near f is in let lt = known-not w.fault w.values.begin (w.at + 1) h none f is in omega (arith, le, lt))
 
   uses-step : (way : Use) (name : ScopedName) (sites : List Item) (w : Walk) → is_over w ≡ false → Below w.at w.fault → Open w → Goes (item.Uses way name) sites w → Table (item.Uses way name ∷ sites) w
-  uses-step way name sites w is near open goes = by_open open
+  uses-step way name sites w is near unbroken goes = by_open unbroken
     where
       above : Above (begin_of w) w.fault
-      above = above-now w is open
+      above = above-now w is unbroken
 
       limit-at : Above (begin_of w) (limit_of facts turns enough_for (item.Uses way name ∷ sites) w)
       limit-at = limit-above facts turns enough_for (item.Uses way name) sites w above
@@ -195,18 +195,18 @@ module _ (facts : List UnitFacts) (turns : ℕ) (enough_for : turns_for facts �
   declared-within way name limit w (inr o) above token k a = inside-within facts turns enough_for limit (item.Declares way name) w o.0 o.1 above token k a
 
   on-step : (site : Item) (sites : List Item) (w : Walk) → is_over w ≡ false → Below w.at w.fault → Open w → Goes site sites w → Table (site ∷ sites) w
-  on-step (item.Uses way name) sites w is near open goes = uses-step way name sites w is near open goes
-  on-step (item.Declares way name) sites w is near open goes =
-      whole-step (item.Declares way name) sites w is refl near (above-now w is open)
-      (declared-within way name (limit_of facts turns enough_for (item.Declares way name ∷ sites) w) w open (limit-above facts turns enough_for (item.Declares way name) sites w (above-now w is open))) goes
-  on-step other sites w is near open goes = whole-step other sites w is refl near (above-now w is open) (λ token k a. absurd a) goes
+  on-step (item.Uses way name) sites w is near unbroken goes = uses-step way name sites w is near unbroken goes
+  on-step (item.Declares way name) sites w is near unbroken goes =
+      whole-step (item.Declares way name) sites w is refl near (above-now w is unbroken)
+      (declared-within way name (limit_of facts turns enough_for (item.Declares way name ∷ sites) w) w unbroken (limit-above facts turns enough_for (item.Declares way name) sites w (above-now w is unbroken))) goes
+  on-step other sites w is near unbroken goes = whole-step other sites w is refl near (above-now w is unbroken) (λ token k a. absurd a) goes
 
   step : (site : Item) (sites : List Item) (w : Walk) → Below w.at w.fault → Open w → Goes site sites w → Table (site ∷ sites) w
-  step site sites w near open goes = by_over (either (is_over w))
+  step site sites w near unbroken goes = by_over (either (is_over w))
     where
       by_over : (is_over w ≡ true) ⊎ (is_over w ≡ false) → Table (site ∷ sites) w
       by_over (inl over) = over-table facts turns enough_for site sites w over
-      by_over (inr is) = on-step site sites w is near open goes
+      by_over (inr is) = on-step site sites w is near unbroken goes
 
   -- ---- sections
 
@@ -219,11 +219,11 @@ module _ (facts : List UnitFacts) (turns : ℕ) (enough_for : turns_for facts �
 
   singles : (front sites : List Item) → All (λ x. is_single x ≡ true) front → (w : Walk) → Below w.at w.fault → Open w
       → ((u : Walk) → Below u.at u.fault → Open u → u.values.begin ≡ w.values.begin → Table sites u) → Table (front ++ sites) w
-  singles [] sites all w near open more = more w near open refl
-  singles (x ∷ front) sites all w near open more =
+  singles [] sites all w near unbroken more = more w near unbroken refl
+  singles (x ∷ front) sites all w near unbroken more =
       let begins = single-begins turns bank x w (All-head (λ x. is_single x ≡ true) x front all) in
-      step x (front ++ sites) w near open
-      (λ u near_u le same above. singles front sites (All-tail (λ x. is_single x ≡ true) x front all) u near_u (open-next w u open le (same ∙ begins) above)
+      step x (front ++ sites) w near unbroken
+      (λ u near_u le same above. singles front sites (All-tail (λ x. is_single x ≡ true) x front all) u near_u (open-next w u unbroken le (same ∙ begins) above)
       (λ t near_t open_t back. more t near_t open_t (back ∙ same ∙ begins)))
 
   begins-step : (sites : List Item) (w : Walk) → Below w.at w.fault → w.values.begin ≡ None → ((u : Walk) → Below u.at u.fault → Open u → Table sites u) → Table (item.ValueBegins ∷ sites) w
@@ -234,7 +234,7 @@ module _ (facts : List UnitFacts) (turns : ℕ) (enough_for : turns_for facts �
 
   ends-step : (way : Purpose) (e : Expression) (sites : List Item) (w : Walk) → Below w.at w.fault → Open w → ((u : Walk) → Below u.at u.fault → u.values.begin ≡ None → Table sites u) → Table (item.ValueEnds way e ∷ sites) w
   unfolding visit
-  ends-step way e sites w near open more = step (item.ValueEnds way e) sites w near open (λ u near_u le same above. more u near_u (same ∙ value-none w way (outcome_at w way e)))
+  ends-step way e sites w near unbroken more = step (item.ValueEnds way e) sites w near unbroken (λ u near_u le same above. more u near_u (same ∙ value-none w way (outcome_at w way e)))
 
   sections-table : (sections : List Section) → All IsFormed sections → (w : Walk) → Below w.at w.fault → w.values.begin ≡ None → Table (flat_map section_sites sections) w
   sections-table [] formed w near none = ends-table facts turns enough_for w

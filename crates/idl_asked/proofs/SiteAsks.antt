@@ -302,7 +302,7 @@ module _ (facts : List UnitFacts) (turns : ℕ) (enough_for : turns_for facts �
   declared-asks w way name k (Some s) is i =
       let e = entity_of w.written way name s.path in
       let same : asked (declared_by way name w (Some s)) (answers facts) ≡ asked (standing (turns_at turns w) s e) (seen w.own facts) =
-          asks-end (under w.own (standing (turns_at turns w) s e)) (λ there. declared_visit w way s e there) (answers facts) ∙ asked-under w.own (answers facts) (standing (turns_at turns w) s e) in
+      asks-end (under w.own (standing (turns_at turns w) s e)) (λ there. declared_visit w way s e there) (answers facts) ∙ asked-under w.own (answers facts) (standing (turns_at turns w) s e) in
       (counted_at w w.at, (s, is, (standing-asks facts w (turns_at turns w) (turns_here w) s e k).0 (subst (IsIn k) same i), refl))
 
   asks-declared : (w : Walk) (way : Declaration) (name : List ℕ) (k : Key) (s : Scope) → first w.cursor ≡ Some s → AsksDeclared (seen w.own facts) s (entity_of w.written way name s.path) k
@@ -310,7 +310,7 @@ module _ (facts : List UnitFacts) (turns : ℕ) (enough_for : turns_for facts �
   asks-declared w way name k s is a =
       let e = entity_of w.written way name s.path in
       let same : asked (declared_by way name w (Some s)) (answers facts) ≡ asked (standing (turns_at turns w) s e) (seen w.own facts) =
-          asks-end (under w.own (standing (turns_at turns w) s e)) (λ there. declared_visit w way s e there) (answers facts) ∙ asked-under w.own (answers facts) (standing (turns_at turns w) s e) in
+      asks-end (under w.own (standing (turns_at turns w) s e)) (λ there. declared_visit w way s e there) (answers facts) ∙ asked-under w.own (answers facts) (standing (turns_at turns w) s e) in
       subst (λ o. IsIn k (asked (declared_by way name w o) (answers facts))) (sym is)
       (subst (IsIn k) (sym same) ((standing-asks facts w (turns_at turns w) (turns_here w) s e k).1 a))
 

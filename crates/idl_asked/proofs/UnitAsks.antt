@@ -168,8 +168,7 @@ module _ (facts : List UnitFacts) (turns : ℕ) (enough_for : turns_for facts �
         sited : IsIn k (asked (walk turns (items (unit_parts t)) (placed_walk scopes t)) bank) ↔ AsksSites turns facts (outcome (by_names turns tokens scopes t) bank).fault (items (unit_parts t)) (first_walk scopes) k
         sited =
             let table = tree-table facts turns enough_for scopes t k in
-            let apart = sites-apart facts turns enough_for (outcome (by_names turns tokens scopes t) bank).fault (least_fault (place_faults t scopes)) (items (unit_parts t)) (first_walk scopes) k in
-            (
+            let apart = sites-apart facts turns enough_for (outcome (by_names turns tokens scopes t) bank).fault (least_fault (place_faults t scopes)) (items (unit_parts t)) (first_walk scopes) k in (
               λ i. apart.0 (subst (λ o. AsksSites turns facts o (items (unit_parts t)) (placed_walk scopes t) k) fault_is (table.0 i)),
               λ a. table.1 (subst (λ o. AsksSites turns facts o (items (unit_parts t)) (placed_walk scopes t) k) (sym fault_is) (apart.1 a)),
             )

@@ -200,8 +200,7 @@ module _ (facts : List UnitFacts) (turns : ℕ) (enough_for : turns_for facts �
   pub over-table : (site : Item) (sites : List Item) (w : Walk) → is_over w ≡ true → IsTable (site ∷ sites) w
   over-table site sites w is k =
       let known = known-so w.fault w.values.begin w.at is in
-      let before : known.0.index < begin_of w = subst (λ n. known.0.index < n) (sym (begin-none w known.3)) known.2 in
-      (
+      let before : known.0.index < begin_of w = subst (λ n. known.0.index < n) (sym (begin-none w known.3)) known.2 in (
         λ i. absurd (subst (IsIn k) (over-asks site sites w is) i),
         λ a. absurd (none-behind (limit_of (site ∷ sites) w) known.0 (over-fault site sites w is ∙ known.1) (site ∷ sites) w before k a),
       )
@@ -246,8 +245,7 @@ module _ (facts : List UnitFacts) (turns : ℕ) (enough_for : turns_for facts �
       let fault = noted w.fault v.faults in
       let next : next_of site w ≡ with_fault fault v.after = ap (λ (q : Lookup Visit). noted_in (outcome q bank) w.fault) same in
       let apart = sites-apart (limit_of (site ∷ sites) w) fault sites v.after k in
-      let limit = goes-fault site sites w is in
-      (
+      let limit = goes-fault site sites w is in (
         λ i. apart.0 (subst (λ u. AsksSites turns facts (limit_of (site ∷ sites) w) sites u k) next (subst (λ o. AsksSites turns facts o sites (next_of site w) k) (sym limit) ((more k).0 i))),
         λ a. (more k).1 (subst (λ o. AsksSites turns facts o sites (next_of site w) k) limit (subst (λ u. AsksSites turns facts (limit_of (site ∷ sites) w) sites u k) (sym next) (apart.1 a))),
       )
@@ -255,8 +253,7 @@ module _ (facts : List UnitFacts) (turns : ℕ) (enough_for : turns_for facts �
   pub whole-site : (limit : Option Fault) (site : Item) (w : Walk) → looked_at turns site w ≡ visit turns site w → ((token : ℕ) (k : Key) → AsksAt (seen w.own facts) site w token k → IsNotPast limit token) → SiteTable limit site w
   whole-site limit site w same within k =
       let all = visit-asks facts turns enough_for site w k in
-      let one : asked (looked_at turns site w) bank ≡ asked (visit turns site w) bank = ap (λ (q : Lookup Visit). asked q bank) same in
-      (
+      let one : asked (looked_at turns site w) bank ≡ asked (visit turns site w) bank = ap (λ (q : Lookup Visit). asked q bank) same in (
         λ i. let a = all.0 (subst (IsIn k) one i) in (a.0, a.1, within a.0 k a.1),
         λ a. subst (IsIn k) (sym one) (all.1 (a.0, a.1)),
       )
@@ -330,7 +327,7 @@ module _ (facts : List UnitFacts) (turns : ℕ) (enough_for : turns_for facts �
       let passes = p.passes in
       let behind : last_at w.at name + 1 ≡ w.at + item_length (item.Uses way name) = behind_name w.at name in
       let later : All (IsFrom (part_at w.at name from)) (visit_faults turns bank sites v.after) =
-          All-weaker (IsFrom (begin_of v.after)) (IsFrom (part_at w.at name from)) (λ g le_g. omega (arith, le_g, start, passes, behind, le)) (visit_faults turns bank sites v.after) (faults-from turns bank sites v.after) in
+      All-weaker (IsFrom (begin_of v.after)) (IsFrom (part_at w.at name from)) (λ g le_g. omega (arith, le_g, start, passes, behind, le)) (visit_faults turns bank sites v.after) (faults-from turns bank sites v.after) in
       noted-holds (IsFrom (part_at w.at name from)) w.fault (visit_faults turns bank (item.Uses way name ∷ sites) w) (λ g known. absurd (let no : None ≡ Some g = sym clear ∙ known in cc))
       (All-append (IsFrom (part_at w.at name from)) v.faults (visit_faults turns bank sites v.after) here later) f
       (sym (walk-noted turns bank (item.Uses way name ∷ sites) w) ∙ is)
