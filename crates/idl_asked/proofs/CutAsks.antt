@@ -111,7 +111,7 @@ module _ (facts : List UnitFacts) (turns : ℕ) (enough_for : turns_for facts �
 
     head-asks : (k : Key) → IsIn k (asked (and_then head (λ r. Done (head_visit name w r))) bank) ↔ ((part : ℕ) × AsksName (seen w.own facts) w.cursor (head_of name) part k)
     head-asks k =
-        both-by (asks-end head (λ r. head_visit name w r) bank)
+        both-by k (asks-end head (λ r. head_visit name w r) bank)
         (q-asks facts w.own (turns_at turns w) (turns_here facts turns enough_for w) w.cursor (head_of name) head
         (asked-under w.own bank (denoted (turns_at turns w) w.cursor (head_of name))) (outcome-under w.own bank (denoted (turns_at turns w) w.cursor (head_of name))) k)
 
@@ -143,7 +143,7 @@ module _ (facts : List UnitFacts) (turns : ℕ) (enough_for : turns_for facts �
     )
 
     pub cut-site : is_known (w.at + 1) w ≡ true → SiteTable facts turns enough_for limit (item.Uses way name) w
-    cut-site known k = both-by (ap (λ (q : Lookup Visit). asked q bank) (looked-cut known)) (cut-counts k name.is_global name.rest refl refl)
+    cut-site known k = both-by k (ap (λ (q : Lookup Visit). asked q bank) (looked-cut known)) (cut-counts k name.is_global name.rest refl refl)
 
   -- ---- behind the name
 

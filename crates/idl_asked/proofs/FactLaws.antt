@@ -24,8 +24,8 @@ use Rattle.idl_scope.specs.Lookup.{denoted, has, reached}
 use Rattle.idl_scope.specs.Meaning.{bases_at, seen}
 
 -- membership by places for that by recursion
-pub among : {K : Type 0} {ks : List K} {k : K} {Asks : Type 0} → IsIn k ks ↔ Asks → Contains ks k ↔ Asks
-among {ks = ks} {k = k} all = (λ c. all.0 (IsIn-Contains k ks c), λ a. Contains-IsIn k ks (all.1 a))
+pub among : {K : Type 0} (ks : List K) (k : K) {Asks : Type 0} → IsIn k ks ↔ Asks → Contains ks k ↔ Asks
+among ks k all = (λ c. all.0 (IsIn-Contains k ks c), λ a. Contains-IsIn k ks (all.1 a))
 
 -- the bases that facts and additions name
 abbrev pub places : List UnitFacts → List Addition → List (List (List ℕ))
@@ -41,18 +41,18 @@ enough facts own turns h = let l = length-append (bases_named facts) (bases_amon
 
 pub through-asked : (facts : List UnitFacts) (own : List Addition) (turns : ℕ) → HasTurnsFor facts own turns → (path : List (List ℕ)) (n : List ℕ) (k : Key)
     → Contains (asked (reached turns n (bases_at (seen own facts) path)) (seen own facts)) k ↔ AsksThrough (seen own facts) n (bases_at (seen own facts) path) k
-through-asked facts own turns h path n k = among (reached-asks (places facts own) (seen own facts) (seen-grounded facts own) turns (enough facts own turns h) n path k)
+through-asked facts own turns h path n k = among (asked (reached turns n (bases_at (seen own facts) path)) (seen own facts)) k (reached-asks (places facts own) (seen own facts) (seen-grounded facts own) turns (enough facts own turns h) n path k)
 
 pub scope-asked : (facts : List UnitFacts) (own : List Addition) (turns : ℕ) → HasTurnsFor facts own turns → (kind : Kind) (path : List (List ℕ)) (n : List ℕ) (k : Key)
     → Contains (asked (has turns kind path n) (seen own facts)) k ↔ AsksIn (seen own facts) kind path n k
-scope-asked facts own turns h kind path n k = among (has-asks (places facts own) (seen own facts) (seen-grounded facts own) turns (enough facts own turns h) kind path n k)
+scope-asked facts own turns h kind path n k = among (asked (has turns kind path n) (seen own facts)) k (has-asks (places facts own) (seen own facts) (seen-grounded facts own) turns (enough facts own turns h) kind path n k)
 
 pub name-asked : (facts : List UnitFacts) (own : List Addition) (turns : ℕ) → HasTurnsFor facts own turns → (cursor : List Scope) (name : ScopedName) (k : Key)
     → Contains (asked (denoted turns cursor name) (seen own facts)) k ↔ ((part : ℕ) × AsksName (seen own facts) cursor name part k)
-name-asked facts own turns h cursor name k = among (denoted-asks (places facts own) (seen own facts) (seen-grounded facts own) turns (enough facts own turns h) cursor name k)
+name-asked facts own turns h cursor name k = among (asked (denoted turns cursor name) (seen own facts)) k (denoted-asks (places facts own) (seen own facts) (seen-grounded facts own) turns (enough facts own turns h) cursor name k)
 
 pub id-asked : (path : List (List ℕ)) (bank : Key → Option Answer) (k : Key) → Contains (asked (known path) bank) k ↔ AsksId bank path k
-id-asked path bank k = among (known-asks bank path k)
+id-asked path bank k = among (asked (known path) bank) k (known-asks bank path k)
 
 pub entry-asked : (path : List (List ℕ)) (bank : Key → Option Answer) (k : Key) → Contains (asked (entry path) bank) k ↔ AsksEntry bank path k
-entry-asked path bank k = among (entry-asks bank path k)
+entry-asked path bank k = among (asked (entry path) bank) k (entry-asks bank path k)

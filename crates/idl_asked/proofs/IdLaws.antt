@@ -118,7 +118,7 @@ module _ (bank : Key → Option Answer) where
     where
       by_answer : (o : Option Entity) → entity_in (bank (entity_key path)) ≡ o → IsIn k (asked (entry_in o) bank) → AsksEntry bank path k
       by_answer None is i = absurd i
-      by_answer (Some e) is i = inr (e, is, (written-asks [] (row_pieces e) k).0 (subst (IsIn k) (declared-asks e) i))
+      by_answer (Some e) is i = let t = (written-asks [] (row_pieces e) k).0 (subst (IsIn k) (declared-asks e) i) in inr (e, is, t.0, t.1, t.2)
 
       there : IsIn k (entity_key path ∷ asked (entry_in (entity_in (bank (entity_key path)))) bank) → AsksEntry bank path k
       there (inl e) = inl (sym e)

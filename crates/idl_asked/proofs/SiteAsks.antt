@@ -57,8 +57,8 @@ use Rattle.idl_tree.specs.NameParts.{last_at}
 use Rattle.idl_unit.specs.TokenRules.{fault_at, first}
 
 -- a fact of two that are one, from one to the other
-pub both-by : {ks ls : List Key} {k : Key} {Asks : Type 0} → ks ≡ ls → IsIn k ls ↔ Asks → IsIn k ks ↔ Asks
-both-by {k = k} same all = (λ i. all.0 (subst (IsIn k) same i), λ a. subst (IsIn k) (sym same) (all.1 a))
+pub both-by : {ks ls : List Key} (k : Key) {Asks : Type 0} → ks ≡ ls → IsIn k ls ↔ Asks → IsIn k ks ↔ Asks
+both-by k same all = (λ i. all.0 (subst (IsIn k) same i), λ a. subst (IsIn k) (sym same) (all.1 a))
 
 -- ---- what is said of an id or a scope
 
@@ -70,7 +70,7 @@ module _ (bank : Key → Option Answer) (e : Entity) (k : Key) where
   about-asks at change = (by_kind (has_id e.kind) refl, λ a. of_kind (has_id e.kind) a.0 a.1)
     where
       known_so : IsIn k (asked (and_then (known e.path) (λ d. Done (identify at change d))) bank) ↔ AsksId bank e.path k
-      known_so = both-by (asks-end (known e.path) (identify at change) bank) (known-asks bank e.path k)
+      known_so = both-by k (asks-end (known e.path) (identify at change) bank) (known-asks bank e.path k)
 
       by_kind : (b : Bool) → has_id e.kind ≡ b
           → IsIn k (asked (cond b (and_then (known e.path) (λ d. Done (identify at change d))) (Done (refused_for (fault_at at NoRepositoryId ∷ [])))) bank) → (has_id e.kind ≡ true) × AsksId bank e.path k
@@ -82,25 +82,28 @@ module _ (bank : Key → Option Answer) (e : Entity) (k : Key) where
       of_kind true is a = known_so.1 a
       of_kind false is a = absurd (let no : false ≡ true = is in cc)
 
+  abbrev scoped : ℕ → List ℕ → Bool → Lookup Said
+  scoped at prefix b = cond b (Ask (Typeprefix e.path) (λ answer. Done (prefixed_at at prefix e.path answer))) (Done (refused_for (fault_at at NoScope ∷ [])))
+
   scope-asks : (at : ℕ) (prefix : List ℕ) → IsIn k (asked (about_scope at prefix e) bank) ↔ ((is_scope e.kind ≡ true) × (k ≡ Typeprefix e.path))
   scope-asks at prefix = (by_kind (is_scope e.kind) refl, λ a. of_kind (is_scope e.kind) a.0 a.1)
     where
       by_kind : (b : Bool) → is_scope e.kind ≡ b
-          → IsIn k (asked (cond b (Ask (Typeprefix e.path) (λ answer. Done (prefixed_at at prefix e.path answer))) (Done (refused_for (fault_at at NoScope ∷ [])))) bank) → (is_scope e.kind ≡ true) × (k ≡ Typeprefix e.path)
+          → IsIn k (asked (scoped at prefix b) bank) → (is_scope e.kind ≡ true) × (k ≡ Typeprefix e.path)
       by_kind true is (inl same) = (is, sym same)
       by_kind true is (inr f) = absurd f
       by_kind false is i = absurd i
 
       of_kind : (b : Bool) → b ≡ true → k ≡ Typeprefix e.path
-          → IsIn k (asked (cond b (Ask (Typeprefix e.path) (λ answer. Done (prefixed_at at prefix e.path answer))) (Done (refused_for (fault_at at NoScope ∷ [])))) bank)
+          → IsIn k (asked (scoped at prefix b) bank)
       of_kind true is a = inl (sym a)
       of_kind false is a = absurd (let no : false ≡ true = is in cc)
 
   remark-id : (at : ℕ) (t : List ℕ) → IsIn k (asked (remark text.Id at t e) bank) ↔ AsksUsed bank AsIdentified e k
-  remark-id at t = both-by (asks-end (said_by_text text.Id at t e) (λ s. unless (is_bad_text text.Id t) s) bank) (about-asks at (Id t))
+  remark-id at t = both-by k (asks-end (said_by_text text.Id at t e) (λ s. unless (is_bad_text text.Id t) s) bank) (about-asks at (Id t))
 
   remark-prefix : (at : ℕ) (t : List ℕ) → IsIn k (asked (remark text.Prefix at t e) bank) ↔ AsksUsed bank AsPrefixed e k
-  remark-prefix at t = both-by (asks-end (said_by_text text.Prefix at t e) (λ s. unless (is_bad_text text.Prefix t) s) bank) (scope-asks at t)
+  remark-prefix at t = both-by k (asks-end (said_by_text text.Prefix at t e) (λ s. unless (is_bad_text text.Prefix t) s) bank) (scope-asks at t)
 
 -- ---- what stands under a declared name
 
@@ -252,7 +255,7 @@ module _ (facts : List UnitFacts) (turns : ℕ) (enough_for : turns_for facts �
       (λ e j. AsksUsed (seen w.own facts) way e j)
       (λ found. and_then (under w.own (looked_through (turns_at turns w) way found.entity)) (λ behind. Done (used_visit w way name found behind)))
       (λ fault. Done (unfound_visit w way name fault))
-      (λ found j. both-by (asks-end (under w.own (looked_through (turns_at turns w) way found.entity)) (λ behind. used_visit w way name found behind) (answers facts)) (through-asks w way none found.entity j))
+      (λ found j. both-by j (asks-end (under w.own (looked_through (turns_at turns w) way found.entity)) (λ behind. used_visit w way name found behind) (answers facts)) (through-asks w way none found.entity j))
       (λ fault j i. i) k
 
   spoken-asks : (w : Walk) (way : Use) (p : TextPurpose) (name : ScopedName)
@@ -265,7 +268,7 @@ module _ (facts : List UnitFacts) (turns : ℕ) (enough_for : turns_for facts �
       (λ e j. AsksUsed (seen w.own facts) way e j)
       (λ found. and_then (under w.own (remark p (last_at w.at name) w.text found.entity)) (λ s. Done (spoken_visit w name found s)))
       (λ fault. Done (unspoken_visit w name fault))
-      (λ found j. both-by
+      (λ found j. both-by j
       (asks-end (under w.own (remark p (last_at w.at name) w.text found.entity)) (λ s. spoken_visit w name found s) (answers facts)
       ∙ asked-under w.own (answers facts) (remark p (last_at w.at name) w.text found.entity))
       (said (last_at w.at name) w.text found.entity j))

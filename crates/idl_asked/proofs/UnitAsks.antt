@@ -143,11 +143,11 @@ module _ (facts : List UnitFacts) (turns : ℕ) (enough_for : turns_for facts �
 
     -- a unit without tree
     refused-told : (fault : Fault) → (((t : Tree) → first_faults tokens scopes ≡ [] → lexemes tokens ≡ spell t → ⊥)) → Told (refused tokens fault)
-    refused-told fault no = (λ i. inl ((refused-opens bank tokens k fault).0 i), back)
+    refused-told fault clash = (λ i. inl ((refused-opens bank tokens k fault).0 i), back)
       where
         back : AsksStep (outcome (refused tokens fault) bank).writes.step k ⊎ Sited (outcome (refused tokens fault) bank).fault → IsIn k (asked (refused tokens fault) bank)
         back (inl a) = (refused-opens bank tokens k fault).1 a
-        back (inr a) = absurd (no a.1 a.0 a.2)
+        back (inr a) = absurd (clash a.1 a.0 a.2)
 
     ok_tree : (t u : Tree) → ◌≡◌ {A = Result Tree ℕ} (Ok t) (Ok u) → t ≡ u
     ok_tree t u h = cc
@@ -223,7 +223,7 @@ module _ (facts : List UnitFacts) (turns : ℕ) (enough_for : turns_for facts �
 
   said-told : (scopes : List Scope) (p : Pragma) → IsIn k (asked (said_by turns scopes (Some p)) bank) ↔ AsksPragma bank scopes p k
   said-told scopes (pragma.Prefix text) = (λ i. i, λ a. a)
-  said-told scopes (pragma.Id name text) = both-by (asks-end (about 2 turns scopes name (Id text)) (λ s. with_faults (text_faults (last_at 2 name + 1) text) s) bank) (about-told 2 scopes name (Id text))
+  said-told scopes (pragma.Id name text) = both-by k (asks-end (about 2 turns scopes name (Id text)) (λ s. with_faults (text_faults (last_at 2 name + 1) text) s) bank) (about-told 2 scopes name (Id text))
   said-told scopes (pragma.Version name major minor) = about-told 2 scopes name (Version major minor)
 
   module _ (tokens : List Token) (inside : Bool) (scopes : List Scope) where
@@ -244,7 +244,7 @@ module _ (facts : List UnitFacts) (turns : ℕ) (enough_for : turns_for facts �
     )
 
     by-faults : (fs : List Fault) → pragma_faults tokens inside ≡ fs → IsIn k (asked (spoken_by (least_fault fs)) bank) ↔ Spoken
-    by-faults [] is = both-by (asks-end (said_by turns scopes (pragma_of tokens)) (λ s. pragma_verdict s) bank) (said-spoken is (pragma_of tokens) refl)
+    by-faults [] is = both-by k (asks-end (said_by turns scopes (pragma_of tokens)) (λ s. pragma_verdict s) bank) (said-spoken is (pragma_of tokens) refl)
     by-faults (f ∷ fs) is = (λ i. absurd i, λ a. absurd (let no : f ∷ fs ≡ [] = sym is ∙ a.0 in cc))
 
     pragma-told : IsIn k (asked (pragma_judged turns tokens inside scopes) bank) ↔ Spoken
@@ -291,4 +291,4 @@ module _ (facts : List UnitFacts) (turns : ℕ) (enough_for : turns_for facts �
 
 pub unit-asked : (facts : List UnitFacts) (turns : ℕ) (text : UnitText) (k : Key) → turns_for facts ≤ turns
     → Contains (asked (verdict turns text) (answers facts)) k ↔ AsksUnit turns facts text (outcome (verdict turns text) (answers facts)) k
-unit-asked facts turns text k enough_for = among (unit-in facts turns enough_for k text)
+unit-asked facts turns text k enough_for = among (asked (verdict turns text) (answers facts)) k (unit-in facts turns enough_for k text)

@@ -92,8 +92,8 @@ known-not None None at h none f is = absurd (let no : None ≡ Some f = is in cc
 known-not (Some g) None at h none f is = by_test (nat_lt g.index at) refl h
   where
     by_test : (t : Bool) → nat_lt g.index at ≡ t → (t && true) ≡ false → at ≤ f.index
-    by_test true lt no = absurd (let both : true ≡ false = no in cc)
-    by_test false lt no = let same : g ≡ f = cc in let le = ltb-false g.index at lt in subst (λ (x : Fault). at ≤ x.index) same (omega (arith, le))
+    by_test true lt clash = absurd (let both : true ≡ false = clash in cc)
+    by_test false lt clash = let same : g ≡ f = cc in let le = ltb-false g.index at lt in subst (λ (x : Fault). at ≤ x.index) same (omega (arith, le))
 
 -- ---- the token at which a question counts
 
@@ -156,18 +156,15 @@ module _ (facts : List UnitFacts) (turns : ℕ) (enough_for : turns_for facts �
 
   pub sites-apart : (limit o : Option Fault) (sites : List Item) (w : Walk) (k : Key) → AsksSites turns facts limit sites (with_fault o w) k ↔ AsksSites turns facts limit sites w k
   sites-apart limit o [] w k = (λ a. a, λ a. a)
-  sites-apart limit o (site ∷ sites) w k = (there, back)
+  sites-apart limit o (site ∷ sites) w k = let rest = sites-apart limit o sites (visited turns bank site w).after k in (there rest, back rest)
     where
-      rest : AsksSites turns facts limit sites (with_fault o (visited turns bank site w).after) k ↔ AsksSites turns facts limit sites (visited turns bank site w).after k
-      rest = sites-apart limit o sites (visited turns bank site w).after k
+      there : (AsksSites turns facts limit sites (with_fault o (visited turns bank site w).after) k ↔ AsksSites turns facts limit sites (visited turns bank site w).after k) → AsksSites turns facts limit (site ∷ sites) (with_fault o w) k → AsksSites turns facts limit (site ∷ sites) w k
+      there rest (inl a) = inl (a.0, (at-apart o site w a.0 k).0 a.1, a.2)
+      there rest (inr a) = inr (rest.0 (subst (λ (v : Visit). AsksSites turns facts limit sites v.after k) (visit-apart turns bank o site w) a))
 
-      there : AsksSites turns facts limit (site ∷ sites) (with_fault o w) k → AsksSites turns facts limit (site ∷ sites) w k
-      there (inl a) = inl (a.0, (at-apart o site w a.0 k).0 a.1, a.2)
-      there (inr a) = inr (rest.0 (subst (λ (v : Visit). AsksSites turns facts limit sites v.after k) (visit-apart turns bank o site w) a))
-
-      back : AsksSites turns facts limit (site ∷ sites) w k → AsksSites turns facts limit (site ∷ sites) (with_fault o w) k
-      back (inl a) = inl (a.0, (at-apart o site w a.0 k).1 a.1, a.2)
-      back (inr a) = inr (subst (λ (v : Visit). AsksSites turns facts limit sites v.after k) (sym (visit-apart turns bank o site w)) (rest.1 a))
+      back : (AsksSites turns facts limit sites (with_fault o (visited turns bank site w).after) k ↔ AsksSites turns facts limit sites (visited turns bank site w).after k) → AsksSites turns facts limit (site ∷ sites) w k → AsksSites turns facts limit (site ∷ sites) (with_fault o w) k
+      back rest (inl a) = inl (a.0, (at-apart o site w a.0 k).1 a.1, a.2)
+      back rest (inr a) = inr (subst (λ (v : Visit). AsksSites turns facts limit sites v.after k) (sym (visit-apart turns bank o site w)) (rest.1 a))
 
   -- ---- a walk and the table
 
