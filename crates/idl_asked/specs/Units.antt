@@ -1,6 +1,6 @@
 -- What a unit asks, as the table of LANGUAGE tells it: which keys, in no order. Sites stand behind
 -- what those before them come to, whatever is wrong there.
-use Rattle.std.specs.Prelude.{◌≡◌, ◌⊎◌, ◌≤◌, ℕ, if◌then◌else◌, MatchBool, true, List, [], ◌∷◌, Option, None, Some, Ok, is_some, length}
+use Rattle.std.specs.Prelude.{◌≡◌, ◌⊎◌, ◌≤◌, ℕ, if◌then◌else◌, true, List, [], ◌∷◌, Option, None, Some, Ok, is_some, length}
 use Rattle.idl_asked.specs.Ids.{AsksId}
 use Rattle.idl_asked.specs.Names.{AsksName, AsksThrough}
 use Rattle.idl_check_laws.specs.idl_check.ids.Remarks.{purpose_of}
