@@ -10,7 +10,7 @@ pub static BAD_TOKEN: Explanation = Explanation {
     words: Words::Around("`", "` begins no token of IDL"),
     example: "typedef long @X;",
     mended: "typedef long X;",
-    hint: "Take the byte out. Annotations (`@key`) are left out; `?`, `!`, `#`, `.` are marks of the preprocessor alone; a `_` stands before a letter. A byte order mark goes out of files, and stays in a `put`.",
+    hint: "Take the byte out. Annotations (`@key`) are left out; `?`, `!`, `#`, `.` are marks of the preprocessor alone; a `_` stands before a letter.",
 };
 
 pub static UNCLOSED_LITERAL: Explanation = Explanation {

@@ -1,4 +1,4 @@
-use Rattle.std.proofs.Common.{◌≡◌, ◌∙◌, ◌++◌, ◌-◌, ℕ, List, ap, append_assoc, arith, flat_map, length, min, take, true}
+use Rattle.std.proofs.Common.{◌≡◌, ◌∙◌, ◌++◌, ℕ, List, ap, append_assoc, arith, flat_map, length, min, take, true}
 use Rattle.std.proofs.lemmas.List.{take_min}
 use Rattle.std.proofs.lemmas.Result.{on_ok_weaker}
 use Rattle.idl_tool.specs.Report.{gap_below, mark_below, marked, shown_text}
@@ -9,8 +9,8 @@ returns c =
     let line = c.args.line.now in
     let column = c.args.column in
     let out = c.args.out.now.items in
-    let end : c.min-end.result - 0 ≡ min column (length line) = omega (arith, c.min-end.ensures) in
-    let bytes : take (c.min-end.result - 0) line ≡ take column line = ap (λ n. take n line) end ∙ take_min column line in
+    let end : c.min-end.result ≡ min column (length line) = omega (arith, c.min-end.ensures) in
+    let bytes : take c.min-end.result line ≡ take column line = ap (λ n. take n line) end ∙ take_min column line in
     let before = c.deref.ensures.value ∙ c.in_ok-before.ensures ∙ ap (shown_text true) bytes in
     let below = c.deref-2.ensures.value ∙ c.in_ok-below.ensures ∙ ap (shown_text true) c.marked.ensures in
     let gap = flat_map gap_below (shown_text true (take column line)) in
