@@ -5,7 +5,7 @@ ghost use Rattle.std.specs.List.{sum_by};
 ghost use Rattle.idl_source.specs.Limits.{longest_line, most_lines};
 ghost use Rattle.idl_inputs.specs.WithinLimits.{IsAllowedFile};
 ghost use Rattle.idl_editor.specs.Places.{line_range, position_in, returns};
-ghost use Rattle.idl_server.specs.Places.{IsOfProject, lines_of, range_of};
+ghost use Rattle.idl_server.specs.Places.{lines_of, range_of};
 
 use idl_editor::{Encoding, Position, Range, position_behind, returns_in};
 use idl_fault::Place;
@@ -54,7 +54,7 @@ pub(crate) fn range_near(
     token: LocatedToken<'_>,
     file: &CountedFile<'_>,
 ) -> Range
-    requires { IsOfProject session.now.project file.now }
+    requires { file.now.lines ≡ lines_of session.now.project file.now.name.now }
     ensures { result ≡ range_of encoding session.now.project
         token.entry.place.now token.entry.number token.entry.text.now }
 {
@@ -101,7 +101,7 @@ pub(crate) fn line_near(
     place: &Place,
     file: &CountedFile<'_>,
 ) -> Range
-    requires { IsOfProject session.now.project file.now }
+    requires { file.now.lines ≡ lines_of session.now.project file.now.name.now }
     ensures { result ≡ line_range encoding (lines_of session.now.project place.now.file)
         place.now.line }
 {
@@ -141,7 +141,8 @@ pub(crate) struct CountedFile<'a> {
 impl<'a> CountedFile<'a> {
     /// The file of this name, or one without lines.
     pub fn new(session: &'a Session, name: &'a Name) -> Result<CountedFile<'a>, AllocError>
-        ensures { IfOk result (IsOfProject session.now.project) }
+        ensures { IfOk result (λ file.
+            file.lines ≡ lines_of session.now.project file.name.now) }
     {
         let lines = lines_named(session, name.as_bytes());
         let lines = CountedLines::new(session.allocator(), lines)?;
