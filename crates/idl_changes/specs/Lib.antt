@@ -1,5 +1,14 @@
-pub mod Wire
-pub mod Joined
-pub mod Numbered
+pub mod Keys
+pub mod Listing
+pub mod Plain
+pub mod Offered
+pub mod Partners
+pub mod Matched
+pub mod Rows
+pub mod Spelled
 pub mod Differences
 pub mod Changes
+pub mod Layout
+pub mod Speaks
+pub mod Tables
+pub mod Laws

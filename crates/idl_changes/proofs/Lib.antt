@@ -1,6 +1,0 @@
-pub mod AllLemmas
-pub mod ChangeLemmas
-pub mod DifferenceLemmas
-pub mod JoinedLemmas
-pub mod SameLemmas
-pub mod SetLemmas

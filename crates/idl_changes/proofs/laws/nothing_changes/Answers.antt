@@ -1,5 +1,0 @@
-use Rattle.idl_changes.proofs.SameLemmas.{changes-own}
-use Rattle.idl_changes.proofs.laws.nothing_changes.Goals as goal
-
-pub returns : goal.returns
-returns c = changes-own
