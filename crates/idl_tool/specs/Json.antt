@@ -53,10 +53,6 @@ located_in files (finding, related) = record {
   related = map (second_at files) related;
 }
 
--- the trees of what a root declares
-abbrev pub trees_of : Inputs → List ℕ → List RowTree
-trees_of inputs root = map (λ entry. entry.tree) (details_over (bank_of inputs) root).entries
-
 -- where a name of a root is declared, over these files
 abbrev pub declared_in : Texts → List ℕ → DeclaredPlace → NamePlace
 declared_in files root declared = record {
