@@ -7,13 +7,13 @@ use Rattle.std.proofs.lemmas.List.Elements.{All-cons, All-head, All-nil, Contain
 use Rattle.idl_changes.specs.Changes.{IsKept, IsThere, NoneBreaks, NoneNames, changes, told_change, told_new, told_old}
 use Rattle.idl_changes.specs.Differences.{changed, details_differences, differences, kind_differences, text_differences}
 use Rattle.idl_changes.specs.Joined.{joined, joined_behind, of_id, partner}
-use Rattle.idl_changes.specs.Wire.{nameless_parameter, ordered_details}
+use Rattle.idl_changes.specs.Wire.{nameless_parameter, pathless_parameter}
 use Rattle.idl_changes.specs.declared.change.Change.{Change}
 use Rattle.idl_changes.specs.declared.change.Difference.{Difference}
 use Rattle.idl_changes.specs.declared.change.Weight.{Weight}
 use Rattle.idl_changes.specs.declared.change.Weight.TheVariants.{Breaks, Names}
 use Rattle.idl_changes.proofs.AllLemmas.{All-back, All-front, All-unmap}
-use Rattle.idl_changes.proofs.DifferenceLemmas.{Bars, same-details, same-nameless, same-parameter, same-text, with-own}
+use Rattle.idl_changes.proofs.DifferenceLemmas.{Bars, same-details, same-nameless, same-parameter, same-text}
 use Rattle.idl_repo.specs.declared.details.row_tree.RowTree.{RowTree}
 use Rattle.idl_entity.specs.Kind.{kind_eq, same_kind}
 use Rattle.idl_repo.specs.Row.{kind_word}
@@ -100,8 +100,7 @@ is-there others tree other there same_id all =
     let paths = text_differences Names (codes "path") tree.path other.path in
     let path = same-text plain bars-breaks Names bars-names (codes "path") tree.path other.path (All-front plain paths (kind_differences tree other) all) in
     let kinds = same-kind plain bars-breaks tree other (kind_eq tree.kind other.kind) refl (All-back plain paths (kind_differences tree other) all) in
-    let own = same-details plain bars-breaks (λ p. p) (same-parameter plain bars-breaks bars-names) tree.details other.details kinds.1 in
-    let details : ordered_details tree.details ≡ ordered_details other.details = sym (with-own (ordered_details tree.details)) ∙ own ∙ with-own (ordered_details other.details) in
+    let details = same-details plain bars-breaks pathless_parameter (same-parameter plain bars-breaks bars-names) tree.details other.details kinds.1 in
     (other, there, λ i. record { kind = sym kinds.0 i; path = sym path i; id = sym same_id i; details = sym details i })
 
 pub all-there : (old new : List RowTree) → NoneBreaks (changes old new) → NoneNames (changes old new) → All (IsThere new) old

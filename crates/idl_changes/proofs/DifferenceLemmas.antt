@@ -1,19 +1,21 @@
 -- Where no difference is told, trees are the same.
 use Rattle.std.proofs.Common.{◌≡◌, ◌∙◌, ◌++◌, ◌∷◌, [], ℕ, ◌+◌, ◌&&◌, All, Bool, List, Option, ap, codes, false, if◌then◌else◌, map, nat_eq, refl, sym, true}
 use Rattle.std.specs.Bool.{beq}
-use Rattle.std.specs.Cmp.Lexicographic.{bytes_decides}
+use Rattle.std.specs.Cmp.Lexicographic.{bytes_decides, pointwise}
 use Rattle.std.specs.Option.{option_eq}
 use Rattle.std.specs.Str.{bytes_eq}
 use Rattle.std.proofs.lemmas.List.Elements.{All-head}
 use Rattle.idl_changes.proofs.AllLemmas.{All-back, All-front}
-use Rattle.idl_base.specs.Exact.{both, same_bool, same_number, same_option}
-use Rattle.idl_changes.specs.Differences.{added, attribute_differences, case_differences, constant_differences, declared_differences, default_differences, details_differences, direction_differences, flag_differences, gone, item_part, label_differences, lacked, list_differences, member_differences, members_differences, name_of_case, name_of_member, name_of_parameter, names_differences, operation_differences, option_differences, own_name, parameter_differences, parts_differences, set_differences, text_differences, type_code_differences, type_differences, union_differences}
-use Rattle.idl_changes.specs.Wire.{nameless_parameter, ordered, ordered_attribute, ordered_bases, ordered_details, ordered_operation, with_parameters}
+use Rattle.idl_base.specs.Exact.{both, same_bool, same_list, same_number, same_option}
+use Rattle.idl_changes.specs.Differences.{added, attribute_differences, case_differences, constant_differences, declared_differences, default_differences, details_differences, direction_differences, element_eq_by_id, flag_differences, gone, item_part, label_differences, lacked, list_differences, member_differences, members_differences, name_of_case, name_of_member, name_of_parameter, names_differences, operation_differences, option_differences, own_name, parameter_differences, parts_differences, set_differences, text_differences, type_code_differences, type_differences, type_eq_by_id, union_differences}
+use Rattle.idl_changes.specs.Wire.{by_id, ids_of, in_set, nameless_parameter, ordered, ordered_attribute, ordered_bases, ordered_constant, ordered_details, ordered_operation, pathless_case, pathless_code, pathless_element, pathless_member, pathless_parameter, pathless_parts, pathless_type, pathless_union, with_parameters}
 use Rattle.idl_changes.specs.declared.change.Difference.{Difference}
 use Rattle.idl_changes.specs.declared.change.Weight.{Weight}
 use Rattle.idl_changes.specs.declared.change.Weight.TheVariants.{Breaks, Names}
 use Rattle.idl_changes.proofs.SetLemmas.{one-set}
-use Rattle.idl_repo.specs.details.Same.{same_type_tree, type_tree_eq}
+use Rattle.idl_entity.specs.DataType.{layer_eq, same_layer}
+use Rattle.idl_repo.specs.details.Same.{same_element_tree}
+use Rattle.idl_repo.specs.declared.details.reference.Reference.{Reference}
 use Rattle.idl_repo.specs.declared.details.row_tree.AttributeTree.{AttributeTree}
 use Rattle.idl_repo.specs.declared.details.row_tree.ConstantTree.{ConstantTree}
 use Rattle.idl_repo.specs.declared.details.row_tree.DeclaredType.{DeclaredType}
@@ -27,6 +29,8 @@ use Rattle.idl_repo.specs.declared.details.type_code_tree.TypeCodeParts.{TypeCod
 use Rattle.idl_repo.specs.declared.details.type_code_tree.TypeCodeParts.TheVariants as parts
 use Rattle.idl_repo.specs.declared.details.type_code_tree.TypeCodeTree.{TypeCodeTree}
 use Rattle.idl_repo.specs.declared.details.type_code_tree.UnionTree.{UnionTree}
+use Rattle.idl_repo.specs.declared.details.type_tree.ElementTree.{ElementTree}
+use Rattle.idl_repo.specs.declared.details.type_tree.ElementTree.TheVariants as tree
 use Rattle.idl_repo.specs.declared.details.type_tree.LayeredType.{LayeredType}
 
 -- a test that bars differences of a weight
@@ -43,15 +47,17 @@ map-own : {X : Type 0} (xs : List X) → map (λ x. x) xs ≡ xs
 map-own [] = refl
 map-own (x ∷ xs) = ap (λ l. x ∷ l) (map-own xs)
 
--- with nothing done to each parameter
-pub with-own : (d : RowDetails) → with_parameters (λ p. p) d ≡ d
-with-own row.Nothing = refl
-with-own (row.Type t) = refl
-with-own (row.Constant c) = refl
-with-own (row.Attribute a) = refl
-with-own (row.Operation o) =
-    let own = map-own o.parameters in
-    λ i. row.Operation (record o { parameters = own i })
+-- types that are one but for paths of what they refer to
+one-element : (e f : ElementTree) → element_eq_by_id e f ≡ true → pathless_element e ≡ pathless_element f
+one-element (tree.Named r) (tree.Named s) h = ap (λ (id : List ℕ). tree.Named (by_id id)) ((bytes_decides r.id s.id).0 h)
+one-element e f h = ap pathless_element (same_element_tree e f h)
+
+one-type : (t u : LayeredType) → type_eq_by_id t u ≡ true → pathless_type t ≡ pathless_type u
+one-type t u h =
+    let a = both (element_eq_by_id t.element u.element) (pointwise layer_eq t.layers u.layers) h in
+    let element = one-element t.element u.element a.0 in
+    let layers = same_list layer_eq same_layer t.layers u.layers a.1 in
+    λ i. record { element = element i; layers = layers i }
 
 module _ (P : Difference → Type 0) (bars : Bars P Breaks) where
   pub same-text : (weight : Weight) → Bars P weight → (part a b : List ℕ) → All P (text_differences weight part a b) → a ≡ b
@@ -63,8 +69,8 @@ module _ (P : Difference → Type 0) (bars : Bars P Breaks) where
   same-flag : (part : List ℕ) (a b : Bool) → All P (flag_differences part a b) → a ≡ b
   same-flag part a b all = same_bool a b (unless P Breaks bars (beq a b) _ all)
 
-  same-type : (part : List ℕ) (a b : LayeredType) → All P (type_differences part a b) → a ≡ b
-  same-type part a b all = same_type_tree a b (unless P Breaks bars (type_tree_eq a b) _ all)
+  same-type : (part : List ℕ) (a b : LayeredType) → All P (type_differences part a b) → pathless_type a ≡ pathless_type b
+  same-type part a b all = one-type a b (unless P Breaks bars (type_eq_by_id a b) _ all)
 
   same-default : (a b : Option ℕ) → All P (default_differences a b) → a ≡ b
   same-default a b all = same_option nat_eq same_number a b (unless P Breaks bars (option_eq nat_eq a b) _ all)
@@ -77,11 +83,14 @@ module _ (P : Difference → Type 0) (bars : Bars P Breaks) where
   no-added part [] all = refl
   no-added part (id ∷ ids) all = absurd (bars _ (All-head P (added part id) (map (added part) ids) all))
 
-  same-set : (part : List ℕ) (a b : List (List ℕ)) → All P (set_differences part a b) → ordered a ≡ ordered b
-  same-set part a b all =
+  same-ids : (part : List ℕ) (a b : List (List ℕ)) → All P (map (gone part) (lacked (ordered a) (ordered b)) ++ map (added part) (lacked (ordered b) (ordered a))) → ordered a ≡ ordered b
+  same-ids part a b all =
       let goes = map (gone part) (lacked (ordered a) (ordered b)) in
       let comes = map (added part) (lacked (ordered b) (ordered a)) in
       one-set a b (no-gone part (lacked (ordered a) (ordered b)) (All-front P goes comes all)) (no-added part (lacked (ordered b) (ordered a)) (All-back P goes comes all))
+
+  same-set : (part : List ℕ) (a b : List Reference) → All P (set_differences part a b) → in_set a ≡ in_set b
+  same-set part a b all = ap (map by_id) (same-ids part (ids_of a) (ids_of b) all)
 
   -- lists whose items are the same, seen by f
   module _ {X Y : Type 0} (name : X → List ℕ) (told : List ℕ → X → X → List Difference) (f : X → Y) (same : (part : List ℕ) (x y : X) → All P (told part x y) → f x ≡ f y) where
@@ -103,7 +112,7 @@ module _ (P : Difference → Type 0) (bars : Bars P Breaks) where
   same-name : (part a b : List ℕ) → All P (names_differences part a b) → a ≡ b
   same-name part a b all = same-text Breaks bars part a b all
 
-  same-member : (part : List ℕ) (m n : MemberTree) → All P (member_differences part m n) → m ≡ n
+  same-member : (part : List ℕ) (m n : MemberTree) → All P (member_differences part m n) → pathless_member m ≡ pathless_member n
   unfolding member_differences
   same-member part m n all =
       let names = text_differences Breaks (codes "name of " ++ part) m.name n.name in
@@ -112,7 +121,7 @@ module _ (P : Difference → Type 0) (bars : Bars P Breaks) where
       let data_type = same-type (codes "type of " ++ part) m.data_type n.data_type (All-back P names types all) in
       λ i. record { name = name i; data_type = data_type i }
 
-  same-case : (part : List ℕ) (c d : CaseTree) → All P (case_differences part c d) → c ≡ d
+  same-case : (part : List ℕ) (c d : CaseTree) → All P (case_differences part c d) → pathless_case c ≡ pathless_case d
   unfolding label_differences
   same-case part c d all =
       let labels = option_differences (codes "label of " ++ part) (codes "default") c.label d.label in
@@ -121,10 +130,10 @@ module _ (P : Difference → Type 0) (bars : Bars P Breaks) where
       let member = same-member part c.member d.member (All-back P labels members all) in
       λ i. record { label = label i; member = member i }
 
-  same-members : (ms ns : List MemberTree) → All P (members_differences ms ns) → ms ≡ ns
-  same-members ms ns all = same-items name_of_member member_differences same-member (codes "member") 1 ms ns all
+  same-members : (ms ns : List MemberTree) → All P (members_differences ms ns) → map pathless_member ms ≡ map pathless_member ns
+  same-members ms ns all = same-list name_of_member member_differences pathless_member same-member (codes "member") 1 ms ns all
 
-  same-union : (u v : UnionTree) → All P (union_differences u v) → u ≡ v
+  same-union : (u v : UnionTree) → All P (union_differences u v) → pathless_union u ≡ pathless_union v
   same-union u v all =
       let types = type_differences (codes "discriminator") u.discriminator v.discriminator in
       let defaults = default_differences u.default v.default in
@@ -132,10 +141,10 @@ module _ (P : Difference → Type 0) (bars : Bars P Breaks) where
       let front = All-front P (types ++ defaults) cases all in
       let discriminator = same-type (codes "discriminator") u.discriminator v.discriminator (All-front P types defaults front) in
       let default = same-default u.default v.default (All-back P types defaults front) in
-      let every = same-items name_of_case case_differences same-case (codes "case") 1 u.cases v.cases (All-back P (types ++ defaults) cases all) in
+      let every = same-list name_of_case case_differences pathless_case same-case (codes "case") 1 u.cases v.cases (All-back P (types ++ defaults) cases all) in
       λ i. record { discriminator = discriminator i; default = default i; cases = every i }
 
-  same-parts : (p q : TypeCodeParts) → All P (parts_differences p q) → p ≡ q
+  same-parts : (p q : TypeCodeParts) → All P (parts_differences p q) → pathless_parts p ≡ pathless_parts q
   same-parts parts.ObjectReference parts.ObjectReference all = refl
   same-parts parts.LocalInterface parts.LocalInterface all = refl
   same-parts parts.Native parts.Native all = refl
@@ -147,7 +156,7 @@ module _ (P : Difference → Type 0) (bars : Bars P Breaks) where
   same-parts (parts.Alias t) (parts.Alias u) all = ap parts.Alias (same-type (codes "type") t u all)
   same-parts p q all = absurd (bars _ (All-head P _ [] all))
 
-  same-type-code : (c d : TypeCodeTree) → All P (type_code_differences c d) → c ≡ d
+  same-type-code : (c d : TypeCodeTree) → All P (type_code_differences c d) → pathless_code c ≡ pathless_code d
   same-type-code c d all =
       let ids = text_differences Breaks (codes "id in the TypeCode") c.id d.id in
       let names = text_differences Breaks (codes "name in the TypeCode") c.name d.name in
@@ -166,7 +175,7 @@ module _ (P : Difference → Type 0) (bars : Bars P Breaks) where
       let bases = same-set (codes "base") t.bases u.bases (All-back P codes_told bases_told all) in
       λ i. record { code = code i; bases = bases i }
 
-  same-constant : (c d : ConstantTree) → All P (constant_differences c d) → c ≡ d
+  same-constant : (c d : ConstantTree) → All P (constant_differences c d) → ordered_constant c ≡ ordered_constant d
   same-constant c d all =
       let types = type_differences (codes "type") c.data_type d.data_type in
       let values = option_differences (codes "value") [] c.value d.value in
@@ -230,7 +239,7 @@ module _ (P : Difference → Type 0) (bars : Bars P Breaks) where
       λ i. record { goes_in = goes_in i; comes_out = comes_out i; member = record { name = []; data_type = data_type i } }
 
   -- parameters, where differences of names are barred too
-  pub same-parameter : Bars P Names → (part : List ℕ) (p q : ParameterTree) → All P (parameter_differences part p q) → p ≡ q
+  pub same-parameter : Bars P Names → (part : List ℕ) (p q : ParameterTree) → All P (parameter_differences part p q) → pathless_parameter p ≡ pathless_parameter q
   same-parameter bar part p q all =
       let front = direction_differences (codes "direction of " ++ part) p q ++ type_differences (codes "type of " ++ part) p.member.data_type q.member.data_type in
       let names = text_differences Names (codes "name of " ++ part) p.member.name q.member.name in

@@ -2,12 +2,12 @@
 use Rattle.std.proofs.Common.{◌≡◌, ◌∙◌, ◌++◌, ◌∷◌, [], ℕ, ◌+◌, ◌&&◌, Bool, List, None, Option, Some, ap, ap₂, append_assoc, codes, cond, false, flat_map, if◌then◌else◌, length, map, nat_eq, refl, sym, true}
 use Rattle.std.specs.Bool.{beq}
 use Rattle.std.specs.Cmp.{nat_eq_equiv}
-use Rattle.std.specs.Cmp.Lexicographic.{bytes_decides}
+use Rattle.std.specs.Cmp.Lexicographic.{bytes_decides, pointwise}
 use Rattle.std.specs.List.{slice_get}
 use Rattle.std.specs.Str.{bytes_eq}
 use Rattle.std.proofs.lemmas.List.Elements.{filter-append}
 use Rattle.idl_changes.specs.Changes.{changes, told_change, told_new, told_old}
-use Rattle.idl_changes.specs.Differences.{case_differences, changed, default_differences, details_differences, differences, direction_differences, flag_differences, kind_differences, label_differences, list_differences, member_differences, members_differences, name_of_case, name_of_member, name_of_parameter, names_differences, option_differences, own_name, parameter_differences, parts_differences, text_differences, type_code_differences, type_differences, union_differences}
+use Rattle.idl_changes.specs.Differences.{case_differences, changed, default_differences, details_differences, differences, direction_differences, element_eq_by_id, flag_differences, kind_differences, label_differences, list_differences, member_differences, members_differences, name_of_case, name_of_member, name_of_parameter, names_differences, option_differences, own_name, parameter_differences, parts_differences, text_differences, type_code_differences, type_differences, type_eq_by_id, union_differences}
 use Rattle.idl_changes.specs.Joined.{joined_behind, of_id, partner}
 use Rattle.idl_changes.specs.declared.change.Change.{Change}
 use Rattle.idl_changes.specs.declared.change.Difference.{Difference}
@@ -15,7 +15,9 @@ use Rattle.idl_changes.specs.declared.change.Weight.{Weight}
 use Rattle.idl_changes.specs.declared.change.Weight.TheVariants.{Breaks, Names}
 use Rattle.idl_changes.proofs.SetLemmas.{set_differences-none}
 use Rattle.idl_repo.specs.contracts.details.type_tree.LayeredTypeEq.TheImpl.Laws.{laws-law as type_tree_equiv}
-use Rattle.idl_repo.specs.details.Same.{type_tree_eq}
+use Rattle.idl_base.specs.Exact.{both}
+use Rattle.idl_entity.specs.DataType.{layer_eq}
+use Rattle.idl_repo.specs.details.Same.{element_tree_eq, type_tree_eq}
 use Rattle.idl_repo.specs.declared.details.row_tree.ParameterTree.{ParameterTree}
 use Rattle.idl_repo.specs.declared.details.row_tree.RowDetails.{RowDetails}
 use Rattle.idl_repo.specs.declared.details.row_tree.RowDetails.TheVariants as row
@@ -26,6 +28,8 @@ use Rattle.idl_repo.specs.declared.details.type_code_tree.TypeCodeParts.{TypeCod
 use Rattle.idl_repo.specs.declared.details.type_code_tree.TypeCodeParts.TheVariants as parts
 use Rattle.idl_repo.specs.declared.details.type_code_tree.TypeCodeTree.{TypeCodeTree}
 use Rattle.idl_repo.specs.declared.details.type_code_tree.UnionTree.{UnionTree}
+use Rattle.idl_repo.specs.declared.details.type_tree.ElementTree.{ElementTree}
+use Rattle.idl_repo.specs.declared.details.type_tree.ElementTree.TheVariants as tree
 use Rattle.idl_repo.specs.declared.details.type_tree.LayeredType.{LayeredType}
 use Rattle.idl_entity.specs.Kind.{kind_number}
 use Rattle.idl_repo.specs.Row.{kind_word}
@@ -50,8 +54,18 @@ beq-own false = refl
 no-flag : (part : List ℕ) (a : Bool) → flag_differences part a a ≡ []
 no-flag part a = none-unless (beq a a) _ (beq-own a)
 
+own-element : (e : ElementTree) → element_tree_eq e e ≡ true → element_eq_by_id e e ≡ true
+own-element (tree.Named r) h = (bytes_decides r.id r.id).1 refl
+own-element e h = h
+
+own-type : (t : LayeredType) → type_eq_by_id t t ≡ true
+own-type t =
+    let whole : type_tree_eq t t ≡ true = type_tree_equiv.refl t in
+    let own = both (element_tree_eq t.element t.element) (pointwise layer_eq t.layers t.layers) whole in
+    ap₂ (λ (a b : Bool). a && b) (own-element t.element own.0) own.1
+
 no-type : (part : List ℕ) (t : LayeredType) → type_differences part t t ≡ []
-no-type part t = none-unless (type_tree_eq t t) _ (type_tree_equiv.refl t)
+no-type part t = none-unless (type_eq_by_id t t) _ (own-type t)
 
 no-default : (a : Option ℕ) → default_differences a a ≡ []
 no-default None = refl

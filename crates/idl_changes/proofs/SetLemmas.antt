@@ -11,7 +11,8 @@ use Rattle.std.specs.declared.cmp.Ordering.TheVariants.{Less, Equal, Greater}
 use Rattle.std.proofs.lemmas.List.Folds.{list_any-append}
 use Rattle.std.proofs.lemmas.Map.Lookups.{btree_set_from_contains, exact_bytes}
 use Rattle.idl_changes.specs.Differences.{added, gone, lacked, set_differences}
-use Rattle.idl_changes.specs.Wire.{ordered}
+use Rattle.idl_changes.specs.Wire.{ids_of, ordered}
+use Rattle.idl_repo.specs.declared.details.reference.Reference.{Reference}
 
 abbrev Ids : Type 0
 Ids = List (List ℕ)
@@ -115,6 +116,6 @@ lacked-within before (id ∷ ids) others is =
 pub lacked-none : (ids : Ids) → lacked ids ids ≡ []
 lacked-none ids = lacked-within [] ids ids refl
 
-pub set_differences-none : (part : List ℕ) (ids : Ids) → set_differences part ids ids ≡ []
-set_differences-none part ids =
-    ap (λ (l : Ids). map (gone part) l ++ map (added part) l) (lacked-none (ordered ids))
+pub set_differences-none : (part : List ℕ) (rs : List Reference) → set_differences part rs rs ≡ []
+set_differences-none part rs =
+    ap (λ (l : Ids). map (gone part) l ++ map (added part) l) (lacked-none (ordered (ids_of rs)))

@@ -57,6 +57,7 @@ abbrev pub IsKept : List RowTree → RowTree → Type 0
 IsKept trees tree = (same : RowTree) × Contains trees same × (same.id ≡ tree.id)
     × (same.kind ≡ tree.kind) × (wire_form same ≡ wire_form tree)
 
--- one of these is the same entry but for the order of its bases and exceptions
+-- one of these is the same entry but for the order of its bases and exceptions, and paths of what it
+-- refers to
 abbrev pub IsThere : List RowTree → RowTree → Type 0
 IsThere trees tree = (same : RowTree) × Contains trees same × (in_order same ≡ in_order tree)

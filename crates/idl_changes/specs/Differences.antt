@@ -2,13 +2,14 @@
 use Rattle.std.specs.Prelude.{ℕ, ◌+◌, Bool, true, false, not, ◌&&◌, List, [], ◌∷◌, ◌++◌, codes, decimal, filter, map, Option, None, Some, nat_eq, if◌then◌else◌}
 use Rattle.std.specs.BTreeMap.{is_at}
 use Rattle.std.specs.Bool.{beq}
-use Rattle.std.specs.Cmp.Lexicographic.{slice_cmp}
+use Rattle.std.specs.Cmp.Lexicographic.{pointwise, slice_cmp}
 use Rattle.std.specs.List.{list_any}
 use Rattle.std.specs.Option.{option_eq, unwrap_or}
 use Rattle.std.specs.Ordering.{nat_cmp}
 use Rattle.std.specs.Str.{bytes_eq}
 use Rattle.idl_repo.specs.details.Print.{parts_kind, type_text}
-use Rattle.idl_repo.specs.details.Same.{type_tree_eq}
+use Rattle.idl_repo.specs.details.Same.{element_tree_eq}
+use Rattle.idl_repo.specs.declared.details.reference.Reference.{Reference}
 use Rattle.idl_repo.specs.declared.details.row_tree.AttributeTree.{AttributeTree}
 use Rattle.idl_repo.specs.declared.details.row_tree.ConstantTree.{ConstantTree}
 use Rattle.idl_repo.specs.declared.details.row_tree.DeclaredType.{DeclaredType}
@@ -23,11 +24,14 @@ use Rattle.idl_repo.specs.declared.details.type_code_tree.TypeCodeParts.{TypeCod
 use Rattle.idl_repo.specs.declared.details.type_code_tree.TypeCodeParts.TheVariants as parts
 use Rattle.idl_repo.specs.declared.details.type_code_tree.TypeCodeTree.{TypeCodeTree}
 use Rattle.idl_repo.specs.declared.details.type_code_tree.UnionTree.{UnionTree}
+use Rattle.idl_repo.specs.declared.details.type_tree.ElementTree.{ElementTree}
+use Rattle.idl_repo.specs.declared.details.type_tree.ElementTree.TheVariants as tree
 use Rattle.idl_repo.specs.declared.details.type_tree.LayeredType.{LayeredType}
-use Rattle.idl_changes.specs.Wire.{ordered}
+use Rattle.idl_changes.specs.Wire.{ids_of, ordered}
 use Rattle.idl_changes.specs.declared.change.Difference.{Difference}
 use Rattle.idl_changes.specs.declared.change.Weight.{Weight}
 use Rattle.idl_changes.specs.declared.change.Weight.TheVariants.{Breaks, Names}
+use Rattle.idl_entity.specs.DataType.{layer_eq}
 use Rattle.idl_entity.specs.Kind.{kind_eq}
 use Rattle.idl_repo.specs.Row.{direction_word, kind_word}
 use Rattle.idl_repo.specs.TypeCode.{code_word, default_word}
@@ -66,10 +70,18 @@ abbrev pub flag_differences : List ℕ → Bool → Bool → List Difference
 flag_differences part old new =
     if beq old new then [] else changed Breaks part (yes_or_no old) (yes_or_no new) ∷ []
 
+-- whether two types are one, where what they refer to is its id
+abbrev pub element_eq_by_id : ElementTree → ElementTree → Bool
+element_eq_by_id (tree.Named r) (tree.Named s) = bytes_eq r.id s.id
+element_eq_by_id e f = element_tree_eq e f
+
+abbrev pub type_eq_by_id : LayeredType → LayeredType → Bool
+type_eq_by_id t u = element_eq_by_id t.element u.element && pointwise layer_eq t.layers u.layers
+
 -- a type: one that is named is told by its id, and a change of what has that id is told there
 abbrev pub type_differences : List ℕ → LayeredType → LayeredType → List Difference
 type_differences part old new =
-    if type_tree_eq old new
+    if type_eq_by_id old new
     then []
     else changed Breaks part (type_text old) (type_text new) ∷ []
 
@@ -78,10 +90,10 @@ abbrev pub lacked : List (List ℕ) → List (List ℕ) → List (List ℕ)
 lacked ids others =
     filter (λ id. not (list_any (is_at (slice_cmp nat_cmp id)) others)) ids
 
-abbrev pub set_differences : List ℕ → List (List ℕ) → List (List ℕ) → List Difference
+abbrev pub set_differences : List ℕ → List Reference → List Reference → List Difference
 set_differences part old new =
-    map (gone part) (lacked (ordered old) (ordered new))
-    ++ map (added part) (lacked (ordered new) (ordered old))
+    map (gone part) (lacked (ordered (ids_of old)) (ordered (ids_of new)))
+    ++ map (added part) (lacked (ordered (ids_of new)) (ordered (ids_of old)))
 
 -- an item of a list by its number, as `member 2`
 abbrev pub item_part : List ℕ → ℕ → List ℕ

@@ -11,7 +11,7 @@ pub fn nothing_breaks()
 {}
 
 /// Where besides no change is one of names, each old entry is in the new listing as it was, but for the order of its bases and of
-/// the exceptions that it raises. This does nothing: it carries the law.
+/// the exceptions that it raises, and for paths of what it refers to. This does nothing: it carries the law.
 pub fn nothing_is_renamed()
     ensures { (old new : List RowTree)
         → NoneBreaks (changes old new) → NoneNames (changes old new) → All (IsThere new) old }

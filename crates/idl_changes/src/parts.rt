@@ -1,11 +1,11 @@
 //! Parts of entries that have no parts.
 
 ghost use Rattle.std.specs.Prelude.{◌≡◌, ◌++◌, ◌∷◌, [], OnOk, unwrap_or};
-ghost use Rattle.idl_changes.specs.Differences.{added, changed, default_differences, flag_differences, gone, option_differences, text_differences, type_differences, yes_or_no};
+ghost use Rattle.idl_changes.specs.Differences.{added, changed, default_differences, element_eq_by_id, flag_differences, gone, option_differences, text_differences, type_differences, type_eq_by_id, yes_or_no};
 
 use crate::change::{Difference, Weight};
 use idl_base::{Bytes, Text};
-use idl_repo::details::{LayeredType, push_type};
+use idl_repo::details::{ElementTree, LayeredType, push_type};
 use idl_repo::push_default;
 use std::alloc::AllocError;
 
@@ -134,7 +134,7 @@ pub fn compare_types(
     ensures { OnOk result (out.new.items
         ≡ out.old.items ++ type_differences part.now old.now new.now) }
 {
-    if *old == *new {
+    if is_same_type(old, new) {
         return Ok(());
     }
     let mut was = Vec::new(*out.allocator());
@@ -142,6 +142,23 @@ pub fn compare_types(
     let mut is = Vec::new(*out.allocator());
     push_type(&mut is, new)?;
     push_changed(Weight::Breaks, part, (was.as_slice(), is.as_slice()), out)
+}
+
+// Whether two types are one, where what they refer to is its id.
+fn is_same_type(old: &LayeredType, new: &LayeredType) -> bool
+    ensures { result ≡ type_eq_by_id old.now new.now }
+{
+    is_same_element(&old.element, &new.element) && old.layers == new.layers
+}
+
+// Whether what they are of is one.
+fn is_same_element(old: &ElementTree, new: &ElementTree) -> bool
+    ensures { result ≡ element_eq_by_id old.now new.now }
+{
+    match (old, new) {
+        (ElementTree::Named(old), ElementTree::Named(new)) => old.id == new.id,
+        _ => *old == *new,
+    }
 }
 
 /// Compares the number of a union's case of `default`.

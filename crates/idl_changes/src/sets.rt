@@ -2,19 +2,20 @@
 
 ghost use Rattle.std.specs.Prelude.{◌≡◌, ◌++◌, IfOk, OnOk, map};
 ghost use Rattle.idl_changes.specs.Differences.{added, gone, lacked, set_differences};
-ghost use Rattle.idl_changes.specs.Wire.{ordered};
+ghost use Rattle.idl_changes.specs.Wire.{ids_of, ordered};
 
 use crate::change::Difference;
 use crate::parts::{push_added, push_gone};
 use idl_base::Bytes;
+use idl_repo::details::Reference;
 use std::alloc::{AllocError, Global};
 use std::collections::BTreeSet;
 
-/// Compares sets of ids.
+/// Compares sets of references by their ids.
 pub fn compare_sets(
     part: &[u8],
-    old: &[Bytes],
-    new: &[Bytes],
+    old: &[Reference],
+    new: &[Reference],
     out: &mut Vec<Difference>,
 ) -> Result<(), AllocError>
     ensures { OnOk result (out.new.items
@@ -26,13 +27,13 @@ pub fn compare_sets(
     push_all_added(part, &old, &new, out)
 }
 
-// These ids in order, each once.
-fn set_of(alloc: Global, ids: &[Bytes]) -> Result<BTreeSet<Bytes>, AllocError>
-    ensures { IfOk result (λ set. set.keys ≡ ordered ids.now) }
+// The ids of these in order, each once.
+fn set_of(alloc: Global, references: &[Reference]) -> Result<BTreeSet<Bytes>, AllocError>
+    ensures { IfOk result (λ set. set.keys ≡ ordered (ids_of references.now)) }
 {
     let mut set = BTreeSet::new(alloc);
-    for id in ids {
-        set.insert(id.clone()?)?;
+    for reference in references {
+        set.insert(reference.id.clone()?)?;
     }
     Ok(set)
 }
