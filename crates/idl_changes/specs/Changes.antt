@@ -1,7 +1,7 @@
 -- The changes from one listing to another in order, and the row of each.
-use Rattle.std.specs.Prelude.{ℕ, List, [], ◌∷◌, ◌++◌, codes, decimal, filter_map, flat_map, map, Option, None, Some, slice_get, if◌then◌else◌}
+use Rattle.std.specs.Prelude.{ℕ, List, [], ◌∷◌, ◌++◌, codes, decimal, flat_map, map, Option, None, Some, slice_get, if◌then◌else◌}
 use Rattle.std.specs.List.{enumerate_from, join_by}
-use Rattle.std.specs.Option.{option_map_or, option_or}
+use Rattle.std.specs.Option.{option_map_or}
 use Rattle.idl_changes.specs.Differences.{added_differences, differences, gone_differences}
 use Rattle.idl_changes.specs.Partners.{partner}
 use Rattle.idl_changes.specs.declared.change.Change.{Change}

@@ -1,5 +1,5 @@
 -- What the changes from one listing to another say of the two, by their weights.
-use Rattle.std.specs.Prelude.{◌≡◌, ℕ, Bool, false, true, List, All, Option, Some, slice_get}
+use Rattle.std.specs.Prelude.{◌≡◌, ℕ, Bool, false, true, List, All, Some, slice_get}
 use Rattle.idl_changes.specs.Listing.{is_called, is_interface, name_at}
 use Rattle.idl_changes.specs.Offered.{is_offered, offers}
 use Rattle.idl_changes.specs.Partners.{joined}

@@ -1,5 +1,5 @@
 -- Which items of two lists with names belong together.
-use Rattle.std.specs.Prelude.{ℕ, suc, Bool, true, false, List, [], ◌∷◌, ◌&&◌, Option, None, Some, length, map, nat_eq, nat_lt, not, position, slice_get, if◌then◌else◌}
+use Rattle.std.specs.Prelude.{ℕ, suc, Bool, true, List, [], ◌∷◌, ◌&&◌, Option, None, Some, length, map, nat_eq, nat_lt, not, position, slice_get, if◌then◌else◌}
 use Rattle.std.specs.List.{enumerate_from, list_any}
 use Rattle.std.specs.Option.{option_eq, option_or}
 use Rattle.std.specs.Str.{bytes_eq}

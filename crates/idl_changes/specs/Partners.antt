@@ -2,7 +2,6 @@
 use Rattle.std.specs.Prelude.{ℕ, Bool, ◌&&◌, ◌||◌, List, Option, None, Some, false, is_none, is_some, nat_eq, slice_get, if◌then◌else◌}
 use Rattle.std.specs.Cmp.Lexicographic.{pointwise}
 use Rattle.std.specs.Option.{option_and_then, option_eq, option_map_or, option_or}
-use Rattle.std.specs.Str.{bytes_eq}
 use Rattle.idl_changes.specs.Listing.{by_id, interface_of, is_called, name_of, place_of}
 use Rattle.idl_changes.specs.Offered.{offered}
 use Rattle.idl_changes.specs.Plain.{plain}

@@ -1,7 +1,7 @@
 -- What programs that are built from two listings say to each other: each type of the old one is
 -- laid out alike in the new one, and each request that can be made of an old interface is taken by
 -- the new one as it was meant.
-use Rattle.std.specs.Prelude.{◌≡◌, ℕ, ◌<◌, Bool, true, false, List, [], ◌∷◌, ◌++◌, All, Contains, codes, map, Option, Some, slice_get, if◌then◌else◌}
+use Rattle.std.specs.Prelude.{◌≡◌, ℕ, ◌<◌, Bool, true, false, List, [], ◌∷◌, ◌++◌, All, Contains, codes, map, Some, slice_get, if◌then◌else◌}
 use Rattle.std.specs.Option.{option_map_or}
 use Rattle.idl_changes.specs.Layout.{Layout, Nothing, Passed, Word, layout, reference_layout, value}
 use Rattle.idl_changes.specs.Listing.{alias_at, by_id, is_interface, is_local, is_local_at, is_sent_kind, name_at, name_of}

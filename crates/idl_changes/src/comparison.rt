@@ -1,6 +1,6 @@
 //! The changes from one listing to another.
 
-ghost use Rattle.std.specs.Prelude.{◌≡◌, ◌++◌, IfOk, None, OnOk, Some, flat_map, map};
+ghost use Rattle.std.specs.Prelude.{◌≡◌, ◌++◌, IfOk, OnOk, flat_map, map};
 ghost use Rattle.std.specs.List.{enumerate_from};
 ghost use Rattle.idl_changes.specs.Changes.{change_at, changes, told_new, told_old, told_with};
 

@@ -1,7 +1,7 @@
 //! What entries that belong together tell behind their ids.
 
 ghost use Rattle.std.specs.Prelude.{◌≡◌, ◌++◌, OnOk};
-ghost use Rattle.idl_changes.specs.Differences.{attribute_differences, constant_differences, declared_differences, details_differences, members_differences, operation_differences, parts_differences, readonly_line, set_differences};
+ghost use Rattle.idl_changes.specs.Differences.{attribute_differences, constant_differences, declared_differences, details_differences, members_differences, operation_differences, readonly_line, set_differences};
 
 use crate::change::Difference;
 use crate::lists::{Lists, compare_lists};

@@ -36,11 +36,20 @@ pub trait ListItem: Named {
 }
 
 /// Two lists of items, the old one first.
-#[derive(Drop)]
 pub struct Lists<'a, T> {
     pub item: Item,
     pub before: &'a [T],
     pub after: &'a [T],
+}
+
+impl<'a, T> Drop for Lists<'a, T> {
+    fn drop(self) {
+        let Lists {
+            item: _item,
+            before: _before,
+            after: _after,
+        } = self;
+    }
 }
 
 /// Compares lists.
@@ -72,15 +81,33 @@ fn compare_items<T: ListItem>(
         (T.both sides.now.0 sides.now.1) lists.now.after.now p.0 p.1.0 p.1.1)
         (enumerate_from 0 (zip lists.now.before.now found.now))) }
 {
-    for (place, (item, partner)) in lists.before.iter().zip(found).enumerate() {
-        match partner {
-            Some(partner) => {
-                compare_pair(sides, (lists.item, place), (item, lists.after.get(*partner)), out)?;
-            }
-            None => push_item(Line::ItemGone(lists.item), (lists.item, item), Turn::Gone, out)?,
+    for (place, partner) in found.iter().enumerate() {
+        if let Some(item) = lists.before.get(place) {
+            compare_item(sides, lists, (place, item, *partner), out)?;
         }
     }
     Ok(())
+}
+
+// Compares an item at a place with the one to which it belongs, if there is one.
+fn compare_item<T: ListItem>(
+    sides: &Sides<'_>,
+    lists: &Lists<'_, T>,
+    at: (usize, &T, Option<usize>),
+    out: &mut Vec<Difference>,
+) -> Result<(), AllocError>
+    ensures { OnOk result (out.new.items ≡ out.old.items
+        ++ item_differences lists.now.item T.name_of (T.both sides.now.0 sides.now.1)
+        lists.now.after.now at.entry.0 at.entry.1.now at.entry.2) }
+{
+    let (place, item, partner) = at;
+    match partner {
+        Some(partner) => {
+            let pair = (item, lists.after.get(partner));
+            compare_pair(sides, (lists.item, place), pair, out)
+        }
+        None => push_item(Line::ItemGone(lists.item), (lists.item, item), Turn::Gone, out),
+    }
 }
 
 // Compares an item at a place with the one to which it belongs.
@@ -157,8 +184,8 @@ fn push_new_items<T: Named>(
         (enumerate_from 0 lists.now.after.now)) }
 {
     let marks = marked(*out.allocator(), found, lists.after.len())?;
-    for (place, (item, is_matched)) in lists.after.iter().zip(&marks).enumerate() {
-        if !*is_matched {
+    for (place, item) in lists.after.iter().enumerate() {
+        if !marks[place] {
             let line = Line::ItemNew(lists.item);
             push_item(line, (lists.item, item), Turn::NewAt(place + 1), out)?;
         }

@@ -45,10 +45,12 @@ fn ancestors(
 {
     let mut found = Vec::new(alloc);
     let mut among = BTreeSet::new(alloc);
-    add_bases(listing, place, &mut among)?;
-    while let Some(next) = among.pop_last() {
-        found.push(next)?;
-        add_bases(listing, next, &mut among)?;
+    let mut bound = place;
+    add_bases(listing, bound, &mut among)?;
+    while let Some(last) = among.pop_last() {
+        bound = last;
+        found.push(bound)?;
+        add_bases(listing, bound, &mut among)?;
     }
     Ok(Seq::from_vec(found))
 }

@@ -3,7 +3,6 @@ use Rattle.std.specs.Prelude.{◌≡◌, ℕ, Bool, List, [], map, slice_get, if
 use Rattle.std.specs.List.{AllZip, concat, zip}
 use Rattle.std.specs.Option.{option_map}
 use Rattle.std.specs.Str.{bytes_eq}
-use Rattle.idl_repo.specs.declared.details.row_tree.RowTree.{RowTree}
 use Rattle.idl_json.specs.Diagnostic.{Located, Second}
 use Rattle.idl_json.specs.Listed.{LocatedRow, NamePlace}
 use Rattle.idl_json.specs.Root.{IsRootLine, Root}
