@@ -138,6 +138,10 @@ no_differences x y = []
 abbrev pub id_line : Kind → Line
 id_line k = if is_sent_kind k then line.SentId else line.OtherId
 
+-- and what is gone that has one
+abbrev pub gone_line : Kind → Line
+gone_line k = if is_sent_kind k then line.SentGone else line.UnsentGone
+
 -- a reference by its path
 abbrev pub path_of : Reference → List ℕ
 path_of r = r.path
@@ -403,9 +407,6 @@ module _ (old new : List RowTree) where
       if is_own_offer old o i e && is_some (joined old new o)
       then as_called e (told line.CalledGone [] turn.Gone)
       else []
-
-  abbrev pub gone_line : Kind → Line
-  gone_line k = if is_sent_kind k then line.SentGone else line.UnsentGone
 
   unfoldable pub gone_differences : ℕ → RowTree → List Difference
   gone_differences i e =

@@ -14,9 +14,19 @@ use Rattle.idl_repo.specs.declared.details.type_code_tree.TypeCodeParts.{TypeCod
 use Rattle.idl_repo.specs.declared.details.type_code_tree.TypeCodeParts.TheVariants as parts
 use Rattle.idl_repo.specs.declared.details.type_tree.LayeredType.{LayeredType}
 
--- the place of the entry to which a path leads: of several that have it, the first
+-- operations and attributes are called
+abbrev pub is_called_kind : Kind → Bool
+is_called_kind kind.Operation = true
+is_called_kind kind.Attribute = true
+is_called_kind other = false
+
+abbrev pub is_called : RowTree → Bool
+is_called e = is_called_kind e.kind
+
+-- the place of the entry to which a path leads: of several that have it, the first. None leads to
+-- what is called
 unfoldable pub place_of : List RowTree → List ℕ → Option ℕ
-place_of L path = position (λ e. bytes_eq path e.path) L
+place_of L path = position (λ e. not (is_called e) && bytes_eq path e.path) L
 
 -- the places of the entries that pass a test
 abbrev pub places_where : (RowTree → Bool) → List RowTree → List ℕ
@@ -29,15 +39,6 @@ name_of path = fold (λ name byte. if nat_eq byte 58 then [] else name ++ byte �
 
 unfoldable pub scope_of : List ℕ → List ℕ
 scope_of path = take (length path - length (name_of path) - 2) path
-
--- operations and attributes are called
-abbrev pub is_called_kind : Kind → Bool
-is_called_kind kind.Operation = true
-is_called_kind kind.Attribute = true
-is_called_kind other = false
-
-abbrev pub is_called : RowTree → Bool
-is_called e = is_called_kind e.kind
 
 -- what has an id that goes over the wire
 abbrev pub is_sent_kind : Kind → Bool

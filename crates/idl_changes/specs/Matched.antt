@@ -1,5 +1,5 @@
 -- Which items of two lists with names belong together.
-use Rattle.std.specs.Prelude.{ℕ, suc, Bool, true, List, [], ◌∷◌, ◌&&◌, Option, None, Some, length, map, nat_eq, nat_lt, not, position, slice_get, if◌then◌else◌}
+use Rattle.std.specs.Prelude.{ℕ, ◌+◌, Bool, true, List, [], ◌∷◌, ◌&&◌, Option, None, Some, length, map, nat_eq, nat_lt, not, position, slice_get, if◌then◌else◌}
 use Rattle.std.specs.List.{enumerate_from, list_any}
 use Rattle.std.specs.Option.{option_eq, option_or}
 use Rattle.std.specs.Str.{bytes_eq}
@@ -34,7 +34,7 @@ is_matched found k = list_any (λ place. option_eq nat_eq place (Some k)) found
 abbrev pub in_order_from : ℕ → List (Option ℕ) → Bool
 in_order_from n [] = true
 in_order_from n (None ∷ found) = in_order_from n found
-in_order_from n (Some k ∷ found) = not (nat_lt k n) && in_order_from (suc k) found
+in_order_from n (Some k ∷ found) = not (nat_lt k n) && in_order_from (k + 1) found
 
 unfoldable pub in_order : List (Option ℕ) → Bool
 in_order found = in_order_from 0 found

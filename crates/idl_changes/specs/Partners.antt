@@ -36,6 +36,10 @@ joined old new i =
     (λ e. if is_called e then None else option_or (by_id old new i e) (by_path old new i e))
     (slice_get old i)
 
+-- whether that is at this place
+abbrev pub is_partner : (old new : List RowTree) → ℕ → Option ℕ → Bool
+is_partner old new i place = is_some place && option_eq nat_eq (joined old new i) place
+
 -- whether an interface offers an entry under its name
 abbrev pub is_own_offer : List RowTree → (o i : ℕ) → RowTree → Bool
 is_own_offer L o i e = option_eq nat_eq (offered L o (name_of e.path)) (Some i)
@@ -55,10 +59,6 @@ partner old new i =
     option_and_then
     (λ e. if is_called e then called_partner old new i e else joined old new i)
     (slice_get old i)
-
--- whether it is at this place
-abbrev pub is_partner : (old new : List RowTree) → ℕ → Option ℕ → Bool
-is_partner old new i place = is_some place && option_eq nat_eq (partner old new i) place
 
 -- references are the same where the entry of the one is the partner of the other's
 unfoldable pub is_same_reference : (old new : List RowTree) → Reference → Reference → Bool

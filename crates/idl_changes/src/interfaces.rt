@@ -49,7 +49,7 @@ fn push_gone_bases(
 {
     let inherited = set_of(*out.allocator(), sides.after().ancestors(places.1))?;
     for base in sides.before().ancestors(places.0) {
-        if !is_among(sides.partner(*base), &inherited) {
+        if !is_among(sides.joined(*base), &inherited) {
             push_base(Line::BaseGone, (sides.before(), *base), Turn::Gone, out)?;
         }
     }
@@ -67,7 +67,7 @@ fn push_new_bases(
 {
     let mut goes_on = BTreeSet::new(*out.allocator());
     for base in sides.before().ancestors(places.0) {
-        if let Some(partner) = sides.partner(*base) {
+        if let Some(partner) = sides.joined(*base) {
             goes_on.insert(partner)?;
         }
     }

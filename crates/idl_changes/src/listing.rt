@@ -13,7 +13,7 @@ use std::marker::Model;
 /// The entries of a listing in order. To every contract it is the list of them.
 pub struct Listing<'a> {
     trees: &'a [&'a RowTree],
-    // The place to which each path leads.
+    // The place to which each path leads, but those of what is called.
     places: Map<Bytes, usize>,
 }
 
@@ -46,7 +46,7 @@ impl<'a> Listing<'a> {
     {
         let mut places = Map::new(alloc)?;
         for (place, tree) in trees.iter().enumerate() {
-            if places.get(&tree.path).is_none() {
+            if !is_called(tree) && places.get(&tree.path).is_none() {
                 places.insert(tree.path.clone()?, place)?;
             }
         }

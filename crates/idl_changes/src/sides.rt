@@ -107,11 +107,11 @@ impl<'a> Sides<'a> {
         *self.back.get(place)?
     }
 
-    /// Whether an entry of the old listing belongs to the one at this place, where there is one.
+    /// Whether an entry of the old listing that isn't called belongs to the one at this place, where there is one.
     pub fn is_partner(&self, place: usize, other: Option<usize>) -> bool
         ensures { result ≡ is_partner self.now.0 self.now.1 place other }
     {
-        other.is_some() && self.partner(place) == other
+        other.is_some() && self.joined(place) == other
     }
 
     /// Whether references are the same.
