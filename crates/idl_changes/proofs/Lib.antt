@@ -1,2 +1,9 @@
+mod AllLemmas
+mod HasLemmas
 mod EntryLemmas
 mod NothingLemmas
+mod InheritLemmas
+mod JoinedLemmas
+mod WeightLemmas
+mod ServantLemmas
+mod ClientLemmas

@@ -1,5 +1,5 @@
 -- Of a listing and itself no change is told.
-use Rattle.std.proofs.Common.{◌≡◌, ◌∙◌, ◌+◌, ◌++◌, ◌∷◌, ◌&&◌, ◌||◌, ◌<◌, ◌≤◌, ◌⊎◌, [], ℕ, zero, suc, Bool, List, None, Option, Some, add-zero, append_assoc, ap, ap₂, arith, codes, cond, false, filter, filter_map, find, flat_map, if◌then◌else◌, inl, inr, is_none, is_some, length, map, nat_eq, nat_lt, not, position, refl, sym, take, true}
+use Rattle.std.proofs.Common.{◌≡◌, ◌∙◌, ◌+◌, ◌++◌, ◌∷◌, ◌&&◌, ◌||◌, ◌<◌, ◌≤◌, [], ℕ, zero, suc, Bool, List, None, Option, Some, add-zero, append_assoc, ap, ap₂, arith, codes, cond, false, filter, filter_map, find, flat_map, if◌then◌else◌, inl, inr, is_none, is_some, length, map, nat_eq, nat_lt, not, position, refl, sym, take, true}
 use Rattle.std.specs.Bool.{beq}
 use Rattle.std.specs.Cmp.{nat_eq_equiv}
 use Rattle.std.specs.Cmp.Lexicographic.{bytes_decides, pointwise}
@@ -11,7 +11,7 @@ use Rattle.std.proofs.lemmas.List.{length-map}
 use Rattle.std.proofs.lemmas.Option.{same_Some, slice_get_within}
 use Rattle.idl_base.specs.Exact.{both, same_number, same_option}
 use Rattle.idl_changes.specs.Changes.{change_at, changes, told_new, told_old, told_with}
-use Rattle.idl_changes.specs.Differences.{added_differences, as_called, base_differences, base_line, body_differences, called_gone, called_new, case_differences, changed, context_differences, details_differences, differences, direction_differences, entry_differences, flag_differences, gone_bases, gone_differences, gone_line, interface_differences, is_called_locally, item_differences, kind_differences, list_differences, matched_differences, member_differences, name_of_member, name_of_parameter, new_bases, new_differences, no_differences, order_differences, own_name, pair_differences, parameter_differences, parts_differences, reference_differences, selection_differences, text_differences, told, type_differences, union_differences, value_differences, yes_or_no}
+use Rattle.idl_changes.specs.Differences.{added_differences, as_called, base_differences, base_line, body_differences, called_gone, called_new, case_differences, changed, context_differences, details_differences, differences, direction_differences, entry_differences, flag_differences, gone_bases, gone_differences, gone_line, interface_differences, is_called_locally, item_differences, kind_differences, list_differences, matched_differences, member_differences, name_of_member, name_of_parameter, new_bases, new_differences, no_differences, order_differences, own_name, parameter_differences, parts_differences, reference_differences, selection_differences, text_differences, told, type_differences, union_differences, value_differences, yes_or_no}
 use Rattle.idl_changes.specs.Listing.{bases_at, interface_at, interface_of, is_called, is_interface, is_local, name_at, name_of, path_at, place_of, places_where, scope_of}
 use Rattle.idl_changes.specs.Matched.{in_order, in_order_from, is_matched, matched, matches, renamed}
 use Rattle.idl_changes.specs.Offered.{ancestors, base_places, called_in, inherited_before, is_offered, offered, offers}
@@ -26,6 +26,7 @@ use Rattle.idl_changes.specs.declared.rows.Item.{Item}
 use Rattle.idl_changes.specs.declared.rows.Item.TheVariants.{Enumerator, Member, Parameter}
 use Rattle.idl_changes.specs.declared.rows.Line.{Line}
 use Rattle.idl_changes.specs.declared.rows.Line.TheVariants as line
+use Rattle.idl_changes.proofs.HasLemmas.{has-appended, has-either}
 use Rattle.idl_changes.proofs.EntryLemmas.{interface-found, interface-uncalled, none-told, own-joined, own-place, place-found}
 use Rattle.idl_repo.specs.contracts.details.type_tree.ElementTreeEq.TheImpl.Laws.{laws-law as element_equiv}
 use Rattle.idl_repo.specs.contracts.details.type_tree.LayeredTypeEq.TheImpl.Laws.{laws-law as type_equiv}
@@ -132,14 +133,16 @@ own-matches names = own-matched names names 0 (λ i name is. (let e : 0 + i ≡ 
 
 own-is_matched : (m n k : ℕ) → m ≤ k → k < m + n → list_any (λ (place : Option ℕ). option_eq nat_eq place (Some k)) (map (λ (j : ℕ). Some j) (range_with_len m n)) ≡ true
 own-is_matched m zero k low high = absurd (omega (arith, low, high))
-own-is_matched m (suc n) k low high = by (nat_eq m k) refl
+own-is_matched m (suc n) k low high = by (nat_eq m k) refl (own-is_matched (m + 1) n k)
   where
-    by : (b : Bool) → nat_eq m k ≡ b → (b || list_any (λ (place : Option ℕ). option_eq nat_eq place (Some k)) (map (λ (j : ℕ). Some j) (range_with_len (m + 1) n))) ≡ true
-    by true is = refl
-    by false is =
+    by : (b : Bool) → nat_eq m k ≡ b
+        → (m + 1 ≤ k → k < m + 1 + n → list_any (λ (place : Option ℕ). option_eq nat_eq place (Some k)) (map (λ (j : ℕ). Some j) (range_with_len (m + 1) n)) ≡ true)
+        → (b || list_any (λ (place : Option ℕ). option_eq nat_eq place (Some k)) (map (λ (j : ℕ). Some j) (range_with_len (m + 1) n))) ≡ true
+    by true is rest = refl
+    by false is rest =
         let above : m + 1 ≤ k = grind (arith, nat_tests, is, low) in
         let below : k < m + 1 + n = omega (arith, high) in
-        own-is_matched (m + 1) n k above below
+        rest above below
 
 own-in_order : (m n : ℕ) → in_order_from m (map (λ (j : ℕ). Some j) (range_with_len m n)) ≡ true
 own-in_order m zero = refl
@@ -150,13 +153,13 @@ own-in_order m (suc n) =
 -- what is told of items and themselves
 module _ {X : Type 0} (item : Item) (name : X → List ℕ) (both_told : X → X → List Difference) (none : (x : X) → both_told x x ≡ []) where
   no-items : (all xs : List X) (n : ℕ) → ((i : ℕ) (x : X) → slice_get xs i ≡ Some x → slice_get all (n + i) ≡ Some x)
-      → flat_map (λ (p : ℕ × (X × Option ℕ)). item_differences item name both_told all p.0 p.1.0 p.1.1)
+      → flat_map (λ (p : ℕ × (X × Option ℕ)). item_differences item name both_told p.0 p.1.0 (option_and_then (slice_get all) p.1.1))
       (enumerate_from n (zip xs (map (λ (j : ℕ). Some j) (range_with_len n (length xs))))) ≡ []
   no-items all [] n at = refl
   no-items all (x ∷ xs) n at =
       let there : slice_get all n ≡ Some x = ap (slice_get all) (sym (add-zero n)) ∙ at 0 x refl in
-      let first : item_differences item name both_told all n x (Some n) ≡ [] =
-      ap (pair_differences item name both_told n x) there ∙ none-both _ _ (no-text (line.ItemName item) _ (name x)) (none x)
+      let first : item_differences item name both_told n x (slice_get all n) ≡ [] =
+      ap (item_differences item name both_told n x) there ∙ none-both _ _ (no-text (line.ItemName item) _ (name x)) (none x)
       in
       let next : (i : ℕ) (y : X) → slice_get xs i ≡ Some y → slice_get all (n + 1 + i) ≡ Some y =
       λ i y is. (let e : n + 1 + i ≡ n + suc i = omega arith in ap (slice_get all) e ∙ at (suc i) y is)
@@ -295,44 +298,37 @@ module _ (L : List RowTree) where
   -- what is inherited belongs to itself: it is interfaces
   own-base : (rs : List Reference) (n : ℕ) → list_any (nat_eq n) (filter_map (λ (r : Reference). interface_at L r.path) rs) ≡ true → joined L L n ≡ Some n
   own-base [] n is = cc
-  own-base (r ∷ rs) n is = by (interface_at L r.path) refl is
+  own-base (r ∷ rs) n is = by (interface_at L r.path) refl (own-base rs n) is
     where
       by : (found : Option ℕ) → interface_at L r.path ≡ found
+          → (list_any (nat_eq n) (filter_map (λ (r : Reference). interface_at L r.path) rs) ≡ true → joined L L n ≡ Some n)
           → list_any (nat_eq n) (cons_option found (filter_map (λ (r : Reference). interface_at L r.path) rs)) ≡ true → joined L L n ≡ Some n
-      by None e h = own-base rs n h
-      by (Some k) e h = or (nat_eq n k) refl h
-        where
-          or : (b : Bool) → nat_eq n k ≡ b → (b || list_any (nat_eq n) (filter_map (λ (r : Reference). interface_at L r.path) rs)) ≡ true → joined L L n ≡ Some n
-          or true is h =
-              let at = interface-found L r.path k e in
-              let same = same_number n k is in
-              ap (joined L L) same ∙ own-joined L k at.0 at.1 (interface-uncalled at.0 at.2) ∙ ap Some (sym same)
-          or false is h = own-base rs n h
-
-  any-appended : (test : ℕ → Bool) (xs ys : List ℕ) → list_any test (xs ++ ys) ≡ true → (list_any test xs ≡ true) ⊎ (list_any test ys ≡ true)
-  any-appended test [] ys is = inr is
-  any-appended test (x ∷ xs) ys is = by (test x) (any-appended test xs ys) is
-    where
-      by : (b : Bool) → (list_any test (xs ++ ys) ≡ true → (list_any test xs ≡ true) ⊎ (list_any test ys ≡ true))
-          → (b || list_any test (xs ++ ys)) ≡ true → ((b || list_any test xs) ≡ true) ⊎ (list_any test ys ≡ true)
-      by true rest h = inl refl
-      by false rest h = rest h
+      by None e rest h = rest h
+      by (Some k) e rest h =
+          let at = interface-found L r.path k e in
+          elim (has-either k n (filter_map (λ (r : Reference). interface_at L r.path) rs) h) [
+            | inl same ↦ ap (joined L L) same ∙ own-joined L k at.0 at.1 (interface-uncalled at.0 at.2) ∙ ap Some (sym same)
+            | inr there ↦ rest there
+          ]
 
   own-inherited : (z : ℕ) (among : List ℕ) → ((n : ℕ) → list_any (nat_eq n) among ≡ true → joined L L n ≡ Some n)
       → (n : ℕ) → list_any (nat_eq n) (inherited_before L z among) ≡ true → joined L L n ≡ Some n
   own-inherited zero among own n is = cc
-  own-inherited (suc z) among own n is = by (list_any (nat_eq z) among) refl is
+  own-inherited (suc z) among own n is =
+      let more : (m : ℕ) → list_any (nat_eq m) (among ++ base_places L z) ≡ true → joined L L m ≡ Some m =
+      λ m h. (elim (has-appended m among (base_places L z) h) [ inl a ↦ own m a | inr b ↦ own-base (bases_at L z) m b ])
+      in
+      by (list_any (nat_eq z) among) refl (own-inherited z among own n) (own-inherited z (among ++ base_places L z) more n) is
     where
-      more : (m : ℕ) → list_any (nat_eq m) (among ++ base_places L z) ≡ true → joined L L m ≡ Some m
-      more m h = elim (any-appended (nat_eq m) among (base_places L z) h) [ inl a ↦ own m a | inr b ↦ own-base (bases_at L z) m b ]
       by : (b : Bool) → list_any (nat_eq z) among ≡ b
+          → (list_any (nat_eq n) (inherited_before L z among) ≡ true → joined L L n ≡ Some n)
+          → (list_any (nat_eq n) (inherited_before L z (among ++ base_places L z)) ≡ true → joined L L n ≡ Some n)
           → list_any (nat_eq n) (if b then z ∷ inherited_before L z (among ++ base_places L z) else inherited_before L z among) ≡ true → joined L L n ≡ Some n
-      by false e h = own-inherited z among own n h
-      by true e h = or (nat_eq n z) refl h
-        where
-          or : (b : Bool) → nat_eq n z ≡ b → (b || list_any (nat_eq n) (inherited_before L z (among ++ base_places L z))) ≡ true → joined L L n ≡ Some n
-          or true is h = let same = same_number n z is in ap (joined L L) same ∙ own z e ∙ ap Some (sym same)
-          or false is h = own-inherited z (among ++ base_places L z) more n h
+      by false e others with_bases h = others h
+      by true e others with_bases h = elim (has-either z n (inherited_before L z (among ++ base_places L z)) h) [
+        | inl same ↦ ap (joined L L) same ∙ own z e ∙ ap Some (sym same)
+        | inr there ↦ with_bases there
+      ]
 
   own-ancestor : (i m : ℕ) (front back : List ℕ) → ancestors L i ≡ front ++ m ∷ back → joined L L m ≡ Some m
   unfolding ancestors

@@ -1,5 +1,5 @@
 -- The changes from one listing to another in order, and the row of each.
-use Rattle.std.specs.Prelude.{ℕ, List, [], ◌∷◌, ◌++◌, codes, decimal, flat_map, map, Option, None, Some, slice_get, if◌then◌else◌}
+use Rattle.std.specs.Prelude.{ℕ, Bool, List, [], ◌∷◌, ◌++◌, codes, decimal, flat_map, map, Option, None, Some, slice_get, if◌then◌else◌}
 use Rattle.std.specs.List.{enumerate_from, join_by}
 use Rattle.std.specs.Option.{option_map_or}
 use Rattle.idl_changes.specs.Differences.{added_differences, differences, gone_differences}
@@ -51,13 +51,15 @@ turn_text part (turn.NewAt n) = part_text part ++ (codes "is new, number " ++ de
 turn_text part (turn.Changed was is) = part ++ (codes ", " ++ (was ++ (codes " -> " ++ is)))
 
 -- [WEIGHT,WEIGHT..]
+abbrev pub name_if : Bool → List ℕ → List (List ℕ)
+name_if stands name = if stands then name ∷ [] else []
+
 abbrev pub weight_names : Weights → List (List ℕ)
 weight_names w =
-    (if w.wire then codes "wire" ∷ [] else [])
-    ++ ((if w.client then codes "client" ∷ [] else [])
-    ++ ((if w.servant then codes "servant" ∷ [] else [])
-    ++ ((if w.names then codes "names" ∷ [] else [])
-    ++ (if w.added then codes "new" ∷ [] else []))))
+    name_if w.wire (codes "wire")
+    ++ (name_if w.client (codes "client")
+    ++ (name_if w.servant (codes "servant")
+    ++ (name_if w.names (codes "names") ++ name_if w.added (codes "new"))))
 
 unfoldable pub weights_text : Weights → List ℕ
 weights_text w = codes "[" ++ (join_by (λ t. t) (codes ",") (weight_names w) ++ codes "]")

@@ -101,19 +101,16 @@ order_differences item name found xs ys =
 
 -- items of two lists with names; `both` tells how those differ that belong together
 module _ {X : Type 0} (item : Item) (name : X → List ℕ) (both : X → X → List Difference) where
-  -- what is told of an item, and of the one to which it belongs
-  abbrev pub pair_differences : ℕ → X → Option X → List Difference
-  pair_differences n x None = []
-  pair_differences n x (Some y) = name_differences item n (name x) (name y) ++ both x y
-
-  abbrev pub item_differences : List X → ℕ → X → Option ℕ → List Difference
-  item_differences ys n x None = told (line.ItemGone item) (item_part item (name x)) turn.Gone
-  item_differences ys n x (Some k) = pair_differences n x (slice_get ys k)
+  -- what is told of an item, and of the one to which it belongs, if there is one
+  abbrev pub item_differences : ℕ → X → Option X → List Difference
+  item_differences n x None = told (line.ItemGone item) (item_part item (name x)) turn.Gone
+  item_differences n x (Some y) = name_differences item n (name x) (name y) ++ both x y
 
   -- each old item beside the place of the one to which it belongs, each new one, the order
   abbrev pub matched_differences : List (Option ℕ) → List X → List X → List Difference
   matched_differences found xs ys =
-      flat_map (λ p. item_differences ys p.0 p.1.0 p.1.1) (enumerate_from 0 (zip xs found))
+      flat_map (λ p. item_differences p.0 p.1.0 (option_and_then (slice_get ys) p.1.1))
+      (enumerate_from 0 (zip xs found))
       ++ (flat_map (λ p. new_differences item name found p.0 p.1) (enumerate_from 0 ys)
       ++ order_differences item name found xs ys)
 

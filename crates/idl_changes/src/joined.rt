@@ -61,8 +61,7 @@ fn by_path(
     place: usize,
     back: &[Option<usize>],
 ) -> Option<usize>
-    requires { back.now
-        ≡ each (by_id listings.entry.1.now listings.entry.0.now) listings.entry.1.now }
+    requires { back.now ≡ each (by_id listings.1.now listings.0.now) listings.1.now }
     ensures { result ≡ option_and_then
         (λ e. if is_called e then None
         else by_path listings.entry.0.now listings.entry.1.now place e)

@@ -1,8 +1,8 @@
 //! Parts of entries that are lists with names.
 
-ghost use Rattle.std.specs.Prelude.{◌≡◌, ◌++◌, IfOk, OnOk, flat_map, option_copied};
+ghost use Rattle.std.specs.Prelude.{◌≡◌, ◌++◌, IfOk, OnOk, flat_map, option_and_then, option_copied, slice_get};
 ghost use Rattle.std.specs.List.{enumerate_from, zip};
-ghost use Rattle.idl_changes.specs.Differences.{direction_differences, item_differences, item_part, list_differences, name_differences, new_differences, order_differences, pair_differences, told};
+ghost use Rattle.idl_changes.specs.Differences.{direction_differences, item_differences, item_part, list_differences, name_differences, new_differences, order_differences, told};
 
 use crate::change::{Difference, Turn};
 use crate::matched::{Named, in_order, marked, matches};
@@ -78,54 +78,45 @@ fn compare_items<T: ListItem>(
 ) -> Result<(), AllocError>
     ensures { OnOk result (out.new.items ≡ out.old.items
         ++ flat_map (λ p. item_differences lists.now.item T.name_of
-        (T.both sides.now.0 sides.now.1) lists.now.after.now p.0 p.1.0 p.1.1)
+        (T.both sides.now.0 sides.now.1) p.0 p.1.0
+        (option_and_then (slice_get lists.now.after.now) p.1.1))
         (enumerate_from 0 (zip lists.now.before.now found.now))) }
 {
     for (place, partner) in found.iter().enumerate() {
         if let Some(item) = lists.before.get(place) {
-            compare_item(sides, lists, (place, item, *partner), out)?;
+            let other = at_place(lists.after, *partner);
+            compare_item(sides, (lists.item, place), (item, other), out)?;
         }
     }
     Ok(())
 }
 
-// Compares an item at a place with the one to which it belongs, if there is one.
-fn compare_item<T: ListItem>(
-    sides: &Sides<'_>,
-    lists: &Lists<'_, T>,
-    at: (usize, &T, Option<usize>),
-    out: &mut Vec<Difference>,
-) -> Result<(), AllocError>
-    ensures { OnOk result (out.new.items ≡ out.old.items
-        ++ item_differences lists.now.item T.name_of (T.both sides.now.0 sides.now.1)
-        lists.now.after.now at.entry.0 at.entry.1.now at.entry.2) }
+// The item at a place, if there is one.
+fn at_place<T>(items: &[T], place: Option<usize>) -> Option<&T>
+    ensures { option_copied result ≡ option_and_then (slice_get items.now) place }
 {
-    let (place, item, partner) = at;
-    match partner {
-        Some(partner) => {
-            let pair = (item, lists.after.get(partner));
-            compare_pair(sides, (lists.item, place), pair, out)
-        }
-        None => push_item(Line::ItemGone(lists.item), (lists.item, item), Turn::Gone, out),
-    }
+    items.get(place?)
 }
 
-// Compares an item at a place with the one to which it belongs.
-fn compare_pair<T: ListItem>(
+// Compares an item at a place with the one to which it belongs, if there is one.
+fn compare_item<T: ListItem>(
     sides: &Sides<'_>,
     at: (Item, usize),
     pair: (&T, Option<&T>),
     out: &mut Vec<Difference>,
 ) -> Result<(), AllocError>
     ensures { OnOk result (out.new.items ≡ out.old.items
-        ++ pair_differences at.0 T.name_of (T.both sides.now.0 sides.now.1) at.1
+        ++ item_differences at.0 T.name_of (T.both sides.now.0 sides.now.1) at.1
         pair.entry.0.now (option_copied pair.entry.1)) }
 {
-    let (old, Some(new)) = pair else {
-        return Ok(());
-    };
-    compare_names(at, (old.name(), new.name()), out)?;
-    old.compare(new, sides, out)
+    let (item, other) = pair;
+    match other {
+        Some(other) => {
+            compare_names(at, (item.name(), other.name()), out)?;
+            item.compare(other, sides, out)
+        }
+        None => push_item(Line::ItemGone(at.0), (at.0, item), Turn::Gone, out),
+    }
 }
 
 // Compares the names of items at a place.

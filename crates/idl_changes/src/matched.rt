@@ -92,8 +92,8 @@ fn matched<T: Named>(
     places: (&Map<Bytes, usize>, &Map<Bytes, usize>),
     place: usize,
 ) -> Option<usize>
-    requires old { AreFirst (map T.name_of lists.entry.0.now) places.entry.0.now }
-    requires new { AreFirst (map T.name_of lists.entry.1.now) places.entry.1.now }
+    requires before { AreFirst (map T.name_of lists.0.now) places.0.now }
+    requires after { AreFirst (map T.name_of lists.1.now) places.1.now }
     ensures { result ≡ option_and_then
         (λ name. matched (map T.name_of lists.entry.0.now) (map T.name_of lists.entry.1.now) place
         name) (slice_get (map T.name_of lists.entry.0.now) place) }

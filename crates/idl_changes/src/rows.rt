@@ -96,7 +96,7 @@ pub fn weights_of(line: Line) -> Weights
 
 // Of an item that is new, or in another order.
 fn weights_of_more(item: Item) -> Weights
-    ensures new { result ≡ weights_of (Line.ItemNew item) }
+    ensures more { result ≡ weights_of (Line.ItemNew item) }
     ensures order { result ≡ weights_of (Line.ItemOrder item) }
 {
     match item {

@@ -1,6 +1,8 @@
 //! A listing with what is looked up in it often, each worked out once.
 
-ghost use Rattle.std.specs.Prelude.{◌≡◌, IfOk, map};
+ghost use Rattle.std.specs.Prelude.{◌≡◌, [], IfOk, map};
+ghost use Rattle.std.specs.Option.{option_map_or};
+ghost use Rattle.idl_changes.specs.Listing.{enumerators_at};
 ghost use Rattle.idl_changes.specs.Offered.{ancestors, called_in, offered};
 ghost use Rattle.idl_changes.specs.Plain.{enumerators, plain};
 
@@ -91,12 +93,20 @@ impl<'a> Side<'a> {
         ensures { IfOk result (λ names. names.now ≡ enumerators self.now data_type.now) }
     {
         let plain = self.plain(data_type)?;
-        let Some(place) = named_by(&self.listing, &plain.element) else {
-            return Ok(&[]);
+        let place = named_by(&self.listing, &plain.element);
+        Ok(self.enumerators_at(place))
+    }
+
+    // Those of the entry at a place, if it is an enum.
+    fn enumerators_at(&self, place: Option<usize>) -> &[Bytes]
+        ensures { result.now ≡ option_map_or (enumerators_at self.now) place [] }
+    {
+        let Some(place) = place else {
+            return &[];
         };
         match self.listing.entry(place) {
-            Some(entry) => Ok(enumerators_of(entry)),
-            None => Ok(&[]),
+            Some(entry) => enumerators_of(entry),
+            None => &[],
         }
     }
 

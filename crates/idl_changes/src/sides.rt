@@ -164,8 +164,7 @@ fn called_partner(
     place: usize,
     entry: &RowTree,
 ) -> Result<Option<usize>, AllocError>
-    requires { known.now
-        ≡ each (λ i e. joined sides.entry.0.now sides.entry.1.now i) sides.entry.0.now }
+    requires { known.now ≡ each (λ i e. joined sides.0.now sides.1.now i) sides.0.now }
     ensures { IfOk result (λ found.
         found ≡ called_partner sides.entry.0.now sides.entry.1.now place entry.now) }
 {

@@ -1,7 +1,7 @@
 //! The rows of changes, each written from its data.
 
 ghost use Rattle.std.specs.Prelude.{◌≡◌, ◌++◌, IfOk, OnOk, map, option_copied};
-ghost use Rattle.idl_changes.specs.Changes.{difference_text, entry_in, part_text, row_text, turn_text, weight_names, weights_text};
+ghost use Rattle.idl_changes.specs.Changes.{difference_text, entry_in, name_if, part_text, row_text, turn_text, weight_names, weights_text};
 
 use crate::change::{Change, Difference, Turn};
 use crate::rows::Weights;
@@ -113,21 +113,26 @@ fn push_weights(text: &mut Vec<u8>, weights: Weights) -> Result<(), AllocError>
 pub fn weight_names(alloc: Global, weights: Weights) -> Result<Vec<&'static [u8]>, AllocError>
     ensures { IfOk result (λ names. map (λ name. name.now) names.items ≡ weight_names weights) }
 {
-    let mut names: Vec<&'static [u8]> = Vec::new(alloc);
-    if weights.wire {
-        names.push(b"wire")?;
-    }
-    if weights.client {
-        names.push(b"client")?;
-    }
-    if weights.servant {
-        names.push(b"servant")?;
-    }
-    if weights.names {
-        names.push(b"names")?;
-    }
-    if weights.added {
-        names.push(b"new")?;
-    }
+    let mut names = Vec::new(alloc);
+    push_name(&mut names, weights.wire, b"wire")?;
+    push_name(&mut names, weights.client, b"client")?;
+    push_name(&mut names, weights.servant, b"servant")?;
+    push_name(&mut names, weights.names, b"names")?;
+    push_name(&mut names, weights.added, b"new")?;
     Ok(names)
+}
+
+// Puts a name behind others, if it is to stand there.
+fn push_name(
+    names: &mut Vec<&'static [u8]>,
+    stands: bool,
+    name: &'static [u8],
+) -> Result<(), AllocError>
+    ensures { OnOk result (map (λ name. name.now) names.new.items
+        ≡ map (λ name. name.now) names.old.items ++ name_if stands name.now) }
+{
+    if stands {
+        names.push(name)?;
+    }
+    Ok(())
 }
