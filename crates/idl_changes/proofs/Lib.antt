@@ -7,3 +7,7 @@ mod JoinedLemmas
 mod WeightLemmas
 mod ServantLemmas
 mod ClientLemmas
+mod PlainLemmas
+mod MatchLemmas
+mod LayoutLemmas
+mod SpeakLemmas

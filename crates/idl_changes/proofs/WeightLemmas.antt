@@ -197,15 +197,19 @@ module _ (weight : Weights → Bool) where
         (lacks-front (text_differences (id_line e.kind) (codes "id") e.id f.id) (path_differences old new e f ++ kind_differences old new i k e f) all)
 
     -- what an interface inherits goes on, where a base that is gone has the weight
+    pub ancestor-goes : weight (weights_of line.BaseGone) ≡ true → (i k : ℕ) → Lacks weight (gone_bases old new i k)
+        → (m : ℕ) → Has (ancestors old i) m → (p : ℕ) × (joined old new m ≡ Some p) × Has (ancestors new k) p
+    ancestor-goes has i k gone m above =
+        let test = λ (n : ℕ). is_partner old new m (Some n) in
+        let one = All-each (λ (d : Difference). weight d.weights ≡ false)
+        (λ (n : ℕ). if list_any (λ (q : ℕ). is_partner old new n (Some q)) (ancestors new k) then [] else told line.BaseGone (codes "base " ++ path_at old n) turn.Gone) (ancestors old i) m above gone
+        in
+        let some = one-passes test (ancestors new k) (lacks-unless (list_any test (ancestors new k)) line.BaseGone (codes "base " ++ path_at old m) turn.Gone has one) in
+        (some.0, same_option nat_eq same_number (joined old new m) (Some some.0) some.2, some.1)
+
     pub base-goes : weight (weights_of line.BaseGone) ≡ true → (i k : ℕ) → joined old new i ≡ Some k → Lacks weight (gone_bases old new i k)
         → (m : ℕ) → Has (inherits old i) m → (p : ℕ) × (joined old new m ≡ Some p) × Has (inherits new k) p
     base-goes has i k is gone m within = elim (has-either i m (ancestors old i) within) [
       | inl e ↦ (k, ap (joined old new) e ∙ is, has-first k (ancestors new k))
-      | inr above ↦
-          let test = λ (n : ℕ). is_partner old new m (Some n) in
-          let one = All-each (λ (d : Difference). weight d.weights ≡ false)
-          (λ (n : ℕ). if list_any (λ (q : ℕ). is_partner old new n (Some q)) (ancestors new k) then [] else told line.BaseGone (codes "base " ++ path_at old n) turn.Gone) (ancestors old i) m above gone
-          in
-          let some = one-passes test (ancestors new k) (lacks-unless (list_any test (ancestors new k)) line.BaseGone (codes "base " ++ path_at old m) turn.Gone has one) in
-          (some.0, same_option nat_eq same_number (joined old new m) (Some some.0) some.2, has-rest k some.0 (ancestors new k) some.1)
+      | inr above ↦ let goes = ancestor-goes has i k gone m above in (goes.0, goes.1, has-rest k goes.0 (ancestors new k) goes.2)
     ]
