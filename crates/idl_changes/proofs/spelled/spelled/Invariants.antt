@@ -1,4 +1,4 @@
-use Rattle.std.proofs.Common.{◌≡◌, drop}
+use Rattle.std.proofs.Common.{◌≡◌, [], drop}
 use Rattle.idl_changes.specs.Spelled.{element_spelled, layers_spelled}
 use Rattle.idl_changes.proofs.spelled.spelled.Given as goal
 
