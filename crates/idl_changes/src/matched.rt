@@ -125,7 +125,7 @@ pub fn marked(
         marks.items ≡ map (is_matched found.now) (range_with_len 0 count)) }
 {
     let mut marks = Vec::with_capacity(alloc, count)?;
-    for _place in 0..count {
+    for _item in 0..count {
         marks.push(false)?;
     }
     for place in found {

@@ -82,7 +82,7 @@ pub fn all_called(alloc: Global, listing: &Listing<'_>) -> Result<Vec<Seq<usize>
         all.items ≡ each (λ i e. called_in listing.now i) listing.now) }
 {
     let mut all = Vec::with_capacity(alloc, listing.len())?;
-    for _place in 0..listing.len() {
+    for _entry in 0..listing.len() {
         all.push(Seq::new(alloc))?;
     }
     for (place, tree) in listing.trees().iter().enumerate() {
