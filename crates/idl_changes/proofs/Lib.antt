@@ -11,3 +11,4 @@ mod PlainLemmas
 mod MatchLemmas
 mod LayoutLemmas
 mod SpeakLemmas
+mod TableLemmas
