@@ -10,5 +10,6 @@ mod ClientLemmas
 mod PlainLemmas
 mod MatchLemmas
 mod LayoutLemmas
+mod SentLemmas
 mod SpeakLemmas
 mod TableLemmas
