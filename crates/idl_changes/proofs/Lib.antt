@@ -1,8 +1,11 @@
 mod AllLemmas
+mod TableLemmas
 mod HasLemmas
 mod EntryLemmas
 mod NothingLemmas
 mod InheritLemmas
+mod AncestorLemmas
+mod OfferLemmas
 mod JoinedLemmas
 mod WeightLemmas
 mod ServantLemmas
@@ -12,4 +15,3 @@ mod MatchLemmas
 mod LayoutLemmas
 mod SentLemmas
 mod SpeakLemmas
-mod TableLemmas

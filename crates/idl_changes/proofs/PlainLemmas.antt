@@ -1,14 +1,17 @@
 -- Types without aliases: what is no alias stays, and an alias is what it names, with the layers around it.
-use Rattle.std.proofs.Common.{◌≡◌, ◌≢◌, ◌∙◌, ◌<◌, ℕ, zero, suc, Bool, List, None, Option, Some, ap, append_assoc, arith, false, if◌then◌else◌, length, nat_eq, refl, sym, true}
+use Rattle.std.proofs.Common.{◌≡◌, ◌≢◌, ◌∙◌, ◌<◌, ◌≤◌, ℕ, zero, suc, Bool, List, None, Option, Some, ap, append_assoc, arith, false, if◌then◌else◌, length, nat_eq, nat_lt, refl, sym, take, true}
 use Rattle.std.specs.List.{slice_get}
-use Rattle.std.specs.Option.{option_and_then, option_eq, option_map_or}
+use Rattle.std.specs.Option.{option_and_then, option_eq, option_map, option_map_or}
 use Rattle.std.specs.Cmp.{nat_eq_equiv}
 use Rattle.std.proofs.lemmas.Bool.{false≢true}
+use Rattle.std.proofs.lemmas.Bool.Decides.{nat_tests}
 use Rattle.std.proofs.lemmas.Option.{same_Some, slice_get_within}
 use Rattle.idl_base.specs.Exact.{same_number, same_option}
 use Rattle.idl_changes.specs.Listing.{alias_at, alias_of}
 use Rattle.idl_changes.specs.Plain.{around, named_by, opened, opened_before, plain}
 use Rattle.idl_changes.specs.Speaks.{IsDeclared}
+use Rattle.idl_changes.specs.Tables.{each, plain_alias}
+use Rattle.idl_changes.proofs.TableLemmas.{slice_get-each, take-past, take-within}
 use Rattle.idl_repo.specs.declared.details.row_tree.RowTree.{RowTree}
 use Rattle.idl_repo.specs.declared.details.type_tree.LayeredType.{LayeredType}
 
@@ -76,6 +79,46 @@ module _ (L : List RowTree) where
   opened_before-around : (z : ℕ) (t u : LayeredType) → opened_before L z (around t u) ≡ around t (opened_before L z u)
   opened_before-around zero t u = refl
   opened_before-around (suc z) t u = ap (opened_before L z) (opened-around z t u) ∙ opened_before-around z t (opened L z u)
+
+  -- one that names what stands at a place or behind it
+  opened_before-past : (z j : ℕ) (t : LayeredType) → named_by L t.element ≡ Some j → z ≤ j → opened_before L z t ≡ t
+  opened_before-past zero j t names past = refl
+  opened_before-past (suc z) j t names past =
+      let other : j ≢ z = λ same. omega (arith, past, same) in
+      let below : z ≤ j = omega (arith, past) in
+      ap (opened_before L z) (opened-elsewhere z j t names other) ∙ opened_before-past z j t names below
+
+  -- a type by the plain types of the aliases that stand before a place
+  pub opened-among : (z : ℕ) (t : LayeredType) → opened_before L z t
+      ≡ option_map_or (around t)
+      (option_and_then (λ (n : ℕ). option_and_then (λ (plain : Option LayeredType). plain) (slice_get (take z (each (plain_alias L) L)) n)) (named_by L t.element)) t
+  opened-among z t = by (named_by L t.element) refl
+    where
+      of-alias : (n : ℕ) → named_by L t.element ≡ Some n → n < z → (found : Option LayeredType) → alias_at L n ≡ found
+          → opened_before L z t ≡ option_map_or (around t) (option_map (opened_before L n) found) t
+      of-alias n e within None is = opened_before-none z t (λ m same. ap (alias_at L) (sym (same_Some n m (sym e ∙ same))) ∙ is)
+      of-alias n e within (Some u) is = opened_before-there z n t u e is within ∙ opened_before-around n t u
+      there : (n : ℕ) → named_by L t.element ≡ Some n → n < z → (entry : Option RowTree) → slice_get L n ≡ entry
+          → opened_before L z t ≡ option_map_or (around t) (option_and_then (λ (plain : Option LayeredType). plain) (option_map (plain_alias L n) entry)) t
+      there n e within None at = of-alias n e within None (ap (option_and_then alias_of) at)
+      there n e within (Some f) at = of-alias n e within (alias_of f) (ap (option_and_then alias_of) at)
+      place : (n : ℕ) → named_by L t.element ≡ Some n → (b : Bool) → nat_lt n z ≡ b
+          → opened_before L z t ≡ option_map_or (around t) (option_and_then (λ (plain : Option LayeredType). plain) (slice_get (take z (each (plain_alias L) L)) n)) t
+      place n e true lt =
+          let within : n < z = grind (arith, nat_tests, lt) in
+          let found = take-within (each (plain_alias L) L) z n within ∙ slice_get-each (plain_alias L) L n in
+          there n e within (slice_get L n) refl
+          ∙ sym (ap (λ (o : Option (Option LayeredType)). option_map_or (around t) (option_and_then (λ (plain : Option LayeredType). plain) o) t) found)
+      place n e false lt =
+          let past : z ≤ n = grind (arith, nat_tests, lt) in
+          let none = take-past (each (plain_alias L) L) z n past in
+          opened_before-past z n t e past
+          ∙ sym (ap (λ (o : Option (Option LayeredType)). option_map_or (around t) (option_and_then (λ (plain : Option LayeredType). plain) o) t) none)
+      by : (found : Option ℕ) → named_by L t.element ≡ found → opened_before L z t
+          ≡ option_map_or (around t)
+          (option_and_then (λ (n : ℕ). option_and_then (λ (plain : Option LayeredType). plain) (slice_get (take z (each (plain_alias L) L)) n)) found) t
+      by None e = opened_before-none z t (λ n at. let no = sym e ∙ at in cc)
+      by (Some n) e = place n e (nat_lt n z) refl
 
   pub alias-within : (j : ℕ) (u : LayeredType) → alias_at L j ≡ Some u → j < length L
   alias-within j u is = by (slice_get L j) refl is

@@ -1,5 +1,5 @@
 -- Tables of what is looked up often, with one entry more than before.
-use Rattle.std.proofs.Common.{◌≡◌, ◌∙◌, ◌+◌, ◌≤◌, ◌++◌, ◌∷◌, ◌&&◌, [], ℕ, zero, suc, Bool, List, None, Option, Some, ap, ap₂, append-nil, arith, cond, false, filter, get_or, if◌then◌else◌, length, map, nat_eq, nat_lt, not, position, refl, sym, take, true, unwrap_or}
+use Rattle.std.proofs.Common.{◌≡◌, ◌∙◌, ◌+◌, ◌<◌, ◌≤◌, ◌++◌, ◌∷◌, ◌&&◌, [], ℕ, zero, suc, Bool, List, None, Option, Some, ap, ap₂, append-nil, arith, cond, false, filter, get_or, if◌then◌else◌, length, map, nat_eq, nat_lt, not, position, refl, sym, take, true, unwrap_or}
 use Rattle.std.specs.Cmp.Lexicographic.{bytes_decides}
 use Rattle.std.specs.List.{enumerate_from, position_or_len, slice_get}
 use Rattle.std.specs.Map.{lookup}
@@ -38,6 +38,19 @@ each-next {Y} f L i e at =
     let read = slice_get-get_or (each f L) i (f i e) within in
     let item : get_or (each f L) i (f i e) ≡ f i e = same_Some (get_or (each f L) i (f i e)) (f i e) (sym read ∙ there) in
     take_more (each f L) i (f i e) within ∙ ap (λ (y : Y). take i (each f L) ++ y ∷ []) item
+
+-- those so far by their places
+pub take-within : {X : Type 0} (xs : List X) (z n : ℕ) → n < z → slice_get (take z xs) n ≡ slice_get xs n
+take-within xs zero n within = absurd (omega (arith, within))
+take-within [] (suc z) n within = refl
+take-within (x ∷ xs) (suc z) zero within = refl
+take-within (x ∷ xs) (suc z) (suc n) within = let below : n < z = omega (arith, within) in take-within xs z n below
+
+pub take-past : {X : Type 0} (xs : List X) (z n : ℕ) → z ≤ n → slice_get (take z xs) n ≡ None
+take-past xs zero n past = refl
+take-past [] (suc z) n past = refl
+take-past (x ∷ xs) (suc z) zero past = absurd (omega (arith, past))
+take-past (x ∷ xs) (suc z) (suc n) past = let beyond : z ≤ n = omega (arith, past) in take-past xs z n beyond
 
 -- ---- the first place of what passes a test
 
