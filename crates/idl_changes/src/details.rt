@@ -40,7 +40,11 @@ pub fn compare_details(
         (RowDetails::Operation(old), RowDetails::Operation(new)) => {
             compare_operations(sides, old, new, out)
         }
-        _ => push_changed(Line::Kind, b"row", (b"old", b"new"), out),
+        _ => {
+            let was: &[u8] = b"old";
+            let is: &[u8] = b"new";
+            push_changed(Line::Kind, b"row", (was, is), out)
+        }
     }
 }
 
