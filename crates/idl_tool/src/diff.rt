@@ -179,8 +179,9 @@ fn all_rows<'d>(
 {
     let mut columns = sources.columns();
     let mut rows = Vec::new(sources.allocator());
-    'roots: for (root, details) in roots.iter().zip(all) {
-        let listed = rows_of(&mut columns, root, details.entries.as_slice())?;
+    'roots: for index in 0..roots.len() {
+        let entries = all[index].entries.as_slice();
+        let listed = rows_of(&mut columns, &roots[index], entries)?;
         rows.extend_from_slice(&listed)?;
     }
     Ok(rows)

@@ -6,6 +6,6 @@ use Rattle.idl_tool.proofs.diff.all_rows.Given as goal
 -- those so far
 abbrev pub invariant-roots : goal.invariant-roots
 invariant-roots l = record {
-  rows : map row_of l.rows.items ≡ all_rows l.sources (take l.root-index l.roots);
+  rows : map row_of l.rows.items ≡ all_rows l.sources (take l.index l.roots);
   same : l.columns ≡ l.initial.columns;
 }
