@@ -8,6 +8,7 @@ pub mod Rows
 pub mod Spelled
 pub mod Differences
 pub mod Changes
+pub mod Chosen
 pub mod Layout
 pub mod Speaks
 pub mod Tables

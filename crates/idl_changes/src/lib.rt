@@ -5,10 +5,12 @@
 //! `listing.rt`, `plain.rt` and `offered.rt` look things up in one listing, each worked out once (`side.rt`). `joined.rt` and
 //! `sides.rt` say which entries belong together: by ids, and what is called by names. `rows.rt` has the table of what counts for
 //! whom. `parts.rt`, `types.rt`, `lists.rt`, `sets.rt`, `unions.rt` and `interfaces.rt` compare parts of entries, `details.rt` and
-//! `entries.rt` whole ones. `text.rt` writes rows. Laws say what it means that no change has a weight.
+//! `entries.rt` whole ones. `text.rt` writes rows, and `chosen.rt` reads which weights a text
+//! names. Laws say what it means that no change has a weight.
 #![tactic(auto)]
 
 mod change;
+mod chosen;
 mod comparison;
 mod details;
 mod entries;

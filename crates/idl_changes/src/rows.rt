@@ -152,7 +152,8 @@ fn everyone() -> Weights
     }
 }
 
-fn callers() -> Weights
+/// Those of callers: on the wire, and for clients.
+pub fn callers() -> Weights
     ensures { result ≡ callers }
 {
     Weights {
@@ -206,8 +207,8 @@ fn added_alone() -> Weights
     }
 }
 
-// What counts for nobody.
-fn nobody() -> Weights
+/// Those of what counts for nobody.
+pub fn nobody() -> Weights
     ensures { result ≡ nobody }
 {
     Weights {

@@ -1,10 +1,12 @@
 -- Two versions, and what is told of them.
-use Rattle.std.proofs.Common.{◌≡◌, ◌||◌, ◌∷◌, [], ℕ, Bool, List, None, Option, Some, ap, ap₂, false, if◌then◌else◌, refl, sym, true}
+use Rattle.std.proofs.Common.{◌≡◌, ◌&&◌, ◌||◌, ◌∷◌, [], ℕ, Bool, List, None, Option, Some, ap, ap₂, false, if◌then◌else◌, refl, sym, true}
 use Rattle.std.proofs.lemmas.Bool.{or_parts}
 use Rattle.std.proofs.lemmas.List.{append-nil}
 use Rattle.std.proofs.lemmas.List.Elements.{All-cons, All-nil}
+use Rattle.idl_changes.specs.Chosen.{meets}
 use Rattle.idl_changes.specs.Laws.{NoneHas}
 use Rattle.idl_changes.specs.declared.change.Change.{Change}
+use Rattle.idl_changes.specs.declared.rows.Weights.{Weights}
 use Rattle.idl_source.specs.devices.Device.{append}
 use Rattle.idl_driver.specs.Compilations.{IsCompilation, HasCompiled}
 use Rattle.idl_loader.specs.Holding.{Holding}
@@ -12,7 +14,7 @@ use Rattle.idl_driver.specs.Rows.{are_faulty}
 use Rattle.idl_driver.specs.declared.options.Options.{Options}
 use Rattle.idl_driver.specs.declared.compilation.Compilation.{Compilation}
 use Rattle.idl_loader.specs.declared.status.Status.TheVariants.{Failed, Faulty, Sound}
-use Rattle.idl_tool.specs.Compared.{IsVersion, Version, are_failing, ending_by, ending_of, has_error, is_failing, lines_between, seen, shown_between}
+use Rattle.idl_tool.specs.Compared.{IsVersion, Version, are_failing, ending_by, ending_of, has_error, lines_between, seen, shown_between}
 use Rattle.idl_tool.proofs.DepsLemmas.{ending-of}
 
 -- what options ask for, compiled, is the version that they ask for
@@ -31,26 +33,32 @@ append-none None = refl
 append-none (Some bytes) = ap Some (sym (append-nil bytes))
 
 -- of versions with an error nothing is shown
-pub shown-none : (old new : Version) → has_error old new ≡ true → (shown_between old new ≡ []) × (ending_of old new ≡ Failed)
-shown-none old new is = (
-  ap (λ (b : Bool). if b then [] else lines_between old new) is,
-  ap (λ (b : Bool). if b then Failed else ending_by old new) is,
+pub shown-none : (fails : Weights) (old new : Version) → has_error old new ≡ true → (shown_between fails old new ≡ []) × (ending_of fails old new ≡ Failed)
+shown-none fails old new is = (
+  ap (λ (b : Bool). if b then [] else lines_between fails old new) is,
+  ap (λ (b : Bool). if b then Failed else ending_by fails old new) is,
 )
 
 -- and of others the changes
-pub shown-all : (old new : Version) → has_error old new ≡ false → (shown_between old new ≡ lines_between old new) × (ending_of old new ≡ ending_by old new)
-shown-all old new is = (
-  ap (λ (b : Bool). if b then [] else lines_between old new) is,
-  ap (λ (b : Bool). if b then Failed else ending_by old new) is,
+pub shown-all : (fails : Weights) (old new : Version) → has_error old new ≡ false
+    → (shown_between fails old new ≡ lines_between fails old new) × (ending_of fails old new ≡ ending_by fails old new)
+shown-all fails old new is = (
+  ap (λ (b : Bool). if b then [] else lines_between fails old new) is,
+  ap (λ (b : Bool). if b then Failed else ending_by fails old new) is,
 )
 
--- of changes none of which is an error none counts on the wire
-pub none-failing : (told : List Change) → are_failing told ≡ false → NoneHas (λ w. w.wire) told
-none-failing [] is = All-nil (λ (c : Change). c.difference.weights.wire ≡ false)
-none-failing (change ∷ rest) is =
-    let parts = or_parts (is_failing change.difference.weights) (are_failing rest) is in
-    let own = or_parts change.difference.weights.wire change.difference.weights.client parts.0 in
-    All-cons (λ (c : Change). c.difference.weights.wire ≡ false) change rest own.0 (none-failing rest parts.1)
+-- of changes none of which is an error none counts on the wire, where that would be one
+pub none-failing : (fails : Weights) → fails.wire ≡ true → (told : List Change) → are_failing fails told ≡ false → NoneHas (λ w. w.wire) told
+none-failing fails wire [] is = All-nil (λ (c : Change). c.difference.weights.wire ≡ false)
+none-failing fails wire (change ∷ rest) is =
+    let parts = or_parts (meets change.difference.weights fails) (are_failing fails rest) is in
+    let own = unmet change.difference.weights.wire fails.wire _ wire parts.0 in
+    All-cons (λ (c : Change). c.difference.weights.wire ≡ false) change rest own (none-failing fails wire rest parts.1)
+  where
+    unmet : (a b more : Bool) → b ≡ true → ((a && b) || more) ≡ false → a ≡ false
+    unmet true true more e h = cc
+    unmet false b more e h = refl
+    unmet true false more e h = cc
 
 -- none is an error where the program ends soundly
 pub sound-none : (faulty failing : Bool) → (if faulty then Failed else if failing then Faulty else Sound) ≡ Sound → failing ≡ false

@@ -3,6 +3,7 @@ use Rattle.std.specs.Prelude.{◌≡◌, ℕ, Bool, ◌||◌, List, [], ◌++◌
 use Rattle.std.specs.List.{list_any}
 use Rattle.std.specs.Option.{option_and_then, option_map_or}
 use Rattle.idl_changes.specs.Changes.{changes, row_text}
+use Rattle.idl_changes.specs.Chosen.{meets}
 use Rattle.idl_changes.specs.Speaks.{IsDeclared, Speaks}
 use Rattle.idl_changes.specs.declared.change.Change.{Change}
 use Rattle.idl_changes.specs.declared.rows.Weights.{Weights}
@@ -47,28 +48,26 @@ shown_place old new change =
     elim change.after
     [ None ↦ option_and_then (place_at old) change.before | Some k ↦ place_at new k ]
 
--- FILE:LINE:COLUMN: error: ROW, or note: a change is an error that counts on the wire or for clients
+-- FILE:LINE:COLUMN: error: ROW, or note: a change is an error that has one of these weights
 abbrev pub place_before : Option NamePlace → List ℕ
 place_before place = option_map_or (λ p. place_text p.place p.column ++ codes ": ") place []
 
-abbrev pub is_failing : Weights → Bool
-is_failing weights = weights.wire || weights.client
+abbrev pub grade : (fails weights : Weights) → List ℕ
+grade fails weights = if meets weights fails then codes "error: " else codes "note: "
 
-abbrev pub grade : Weights → List ℕ
-grade weights = if is_failing weights then codes "error: " else codes "note: "
-
-abbrev pub change_line : (old new : List LocatedRow) → Change → List ℕ
-change_line old new change =
+abbrev pub change_line : Weights → (old new : List LocatedRow) → Change → List ℕ
+change_line fails old new change =
     place_before (shown_place old new change)
-    ++ (grade change.difference.weights ++ row_text (trees_of old) (trees_of new) change)
+    ++ (grade fails change.difference.weights ++ row_text (trees_of old) (trees_of new) change)
 
 -- changes, each on a line of its own
-abbrev pub change_lines : (old new : List LocatedRow) → List Change → List ℕ
-change_lines old new told = flat_map (λ change. whole_line (change_line old new change)) told
+abbrev pub change_lines : Weights → (old new : List LocatedRow) → List Change → List ℕ
+change_lines fails old new told =
+    flat_map (λ change. whole_line (change_line fails old new change)) told
 
 -- one of these changes is an error
-abbrev pub are_failing : List Change → Bool
-are_failing told = list_any (λ change. is_failing change.difference.weights) told
+abbrev pub are_failing : Weights → List Change → Bool
+are_failing fails told = list_any (λ change. meets change.difference.weights fails) told
 
 -- a version of a file, and what it is compiled over
 pub record Version : Type 0 where
@@ -94,30 +93,33 @@ has_error old new = is_faulty old.inputs old.roots || is_faulty new.inputs new.r
 abbrev pub listed_in : Version → List LocatedRow
 listed_in version = all_rows version.inputs version.roots
 
--- the lines of the changes from one to the other
-abbrev pub lines_between : Version → Version → List ℕ
-lines_between old new =
-    change_lines (listed_in old) (listed_in new) (changes_of (listed_in old) (listed_in new))
+-- two versions, where a change is an error that has one of these weights
+module _ (fails : Weights) (old new : Version) where
+  -- the lines of the changes from one to the other
+  abbrev pub lines_between : List ℕ
+  lines_between =
+      change_lines fails (listed_in old) (listed_in new)
+      (changes_of (listed_in old) (listed_in new))
 
--- what goes out: nothing where one of them has an error
-abbrev pub shown_between : Version → Version → List ℕ
-shown_between old new = if has_error old new then [] else lines_between old new
+  -- what goes out: nothing where one of them has an error
+  abbrev pub shown_between : List ℕ
+  shown_between = if has_error old new then [] else lines_between
 
-abbrev pub ending_by : Version → Version → Status
-ending_by old new =
-    if are_failing (changes_of (listed_in old) (listed_in new)) then Faulty else Sound
+  abbrev pub ending_by : Status
+  ending_by =
+      if are_failing fails (changes_of (listed_in old) (listed_in new)) then Faulty else Sound
 
-abbrev pub ending_of : Version → Version → Status
-ending_of old new = if has_error old new then Failed else ending_by old new
+  abbrev pub ending_of : Status
+  ending_of = if has_error old new then Failed else ending_by
 
 -- what went out of two versions, and how the program ends
-pub record AreCompared (old new : Version) (before after : Written) (status : Status)
-    : Type 0 where
+pub record AreCompared (fails : Weights) (old new : Version) (before after : Written)
+    (status : Status) : Type 0 where
   pub errors : after.errors
       ≡ append (append before.errors (lines_of (errors_in old.inputs) old.roots))
       (lines_of (errors_in new.inputs) new.roots)
-  pub output : after.output ≡ append before.output (shown_between old new)
-  pub ending : status ≡ ending_of old new
+  pub output : after.output ≡ append before.output (shown_between fails old new)
+  pub ending : status ≡ ending_of fails old new
 
 -- programs that are built from two versions speak with each other, if these are declared as IDL asks
 -- for
@@ -133,4 +135,4 @@ pub record IsCompared (told : List ℕ → Holding) (diff : Diff) (before after 
   pub new : Version
   pub old_is : IsVersion told diff.old old
   pub new_is : IsVersion told diff.new new
-  pub compared : AreCompared old new before after status
+  pub compared : AreCompared diff.fails old new before after status

@@ -9,7 +9,7 @@ ghost use Rattle.idl_driver.specs.Compilations.{HasCompiled};
 ghost use Rattle.idl_driver.specs.Rows.{are_faulty};
 ghost use Rattle.idl_driver.specs.Written.{WritesSome};
 ghost use Rattle.idl_json.specs.Listed.{row_of};
-ghost use Rattle.idl_tool.specs.Compared.{IsCompared, all_rows, are_failing, change_lines, changes_of, ending_by, ending_of, grade, has_error, is_failing, lines_between, place_before, seen, shown_between, shown_place, trees_of};
+ghost use Rattle.idl_tool.specs.Compared.{IsCompared, all_rows, are_failing, change_lines, changes_of, ending_by, ending_of, grade, has_error, lines_between, place_before, seen, shown_between, shown_place, trees_of};
 
 use crate::check::status_of;
 use crate::deps::tell_errors;
@@ -53,7 +53,7 @@ pub fn write_diff<'a, L: Loader, S, O: Sink, E: Sink>(
     let new = compile_files(alloc, &diff.new, &mut devices.loader)?;
     tell_errors(&old.compiled, &mut devices.errors)?;
     tell_errors(&new.compiled, &mut devices.errors)?;
-    let status = write_between(alloc, &old, &new, &mut devices.output)?;
+    let status = write_between(diff.fails, &old, &new, &mut devices.output)?;
     // The program ends here, and all memory goes back at once.
     forget((old, new));
     Ok(status)
@@ -61,7 +61,7 @@ pub fn write_diff<'a, L: Loader, S, O: Sink, E: Sink>(
 
 // Writes the changes from one version to another, unless one of them has an error.
 fn write_between<'a, K: Sink>(
-    alloc: Global,
+    fails: Weights,
     old: &Compilation,
     new: &Compilation,
     output: &mut K,
@@ -71,14 +71,15 @@ fn write_between<'a, K: Sink>(
     requires counts { K.failures output.old < 2 ^ 64 - 1 }
 
     ensures written { OnOk result (K.written output.new
-        ≡ append (K.written output.old) (shown_between (seen old.now) (seen new.now))) }
-    ensures status { IfOk result (λ status. status ≡ ending_of (seen old.now) (seen new.now)) }
+        ≡ append (K.written output.old) (shown_between fails (seen old.now) (seen new.now))) }
+    ensures status { IfOk result (λ status.
+        status ≡ ending_of fails (seen old.now) (seen new.now)) }
     ensures well { OnOk result (K.failures output.new ≡ K.failures output.old) }
 {
     if has_error(old, new) {
         return Ok(Status::Failed);
     }
-    write_changes(alloc, old, new, output)
+    write_changes(fails, old, new, output)
 }
 
 // Whether one of two versions has an error.
@@ -104,7 +105,7 @@ fn are_faulty(compiled: &[CompiledRoot]) -> bool
 
 // Writes the changes from one version to another.
 fn write_changes<'a, K: Sink>(
-    alloc: Global,
+    fails: Weights,
     old: &Compilation,
     new: &Compilation,
     output: &mut K,
@@ -112,15 +113,16 @@ fn write_changes<'a, K: Sink>(
     requires counts { K.failures output.old < 2 ^ 64 - 1 }
 
     ensures written { OnOk result (K.written output.new
-        ≡ append (K.written output.old) (lines_between (seen old.now) (seen new.now))) }
-    ensures status { IfOk result (λ status. status ≡ ending_by (seen old.now) (seen new.now)) }
+        ≡ append (K.written output.old) (lines_between fails (seen old.now) (seen new.now))) }
+    ensures status { IfOk result (λ status.
+        status ≡ ending_by fails (seen old.now) (seen new.now)) }
     ensures well { OnOk result (K.failures output.new ≡ K.failures output.old) }
 {
     let before = details_of(&old.sources, old.roots.as_slice())?;
     let after = details_of(&new.sources, new.roots.as_slice())?;
     let was = all_rows(&old.sources, old.roots.as_slice(), &before)?;
     let is = all_rows(&new.sources, new.roots.as_slice(), &after)?;
-    let (text, status) = told_between(alloc, &was, &is)?;
+    let (text, status) = told_between(old.sources.allocator(), fails, &was, &is)?;
     write_all(output, &text)?;
     Ok(status)
 }
@@ -128,14 +130,15 @@ fn write_changes<'a, K: Sink>(
 // The lines of the changes from one listing to another, and how the program ends by them.
 fn told_between(
     alloc: Global,
+    fails: Weights,
     old: &[ListedRow<'_>],
     new: &[ListedRow<'_>],
 ) -> Result<(Vec<u8>, Status), AllocError>
     ensures lines { IfOk result (λ told. told.0.items
-        ≡ change_lines (map row_of old.now) (map row_of new.now)
+        ≡ change_lines fails (map row_of old.now) (map row_of new.now)
         (changes_of (map row_of old.now) (map row_of new.now))) }
     ensures status { IfOk result (λ told. told.1
-        ≡ (if are_failing (changes_of (map row_of old.now) (map row_of new.now))
+        ≡ (if are_failing fails (changes_of (map row_of old.now) (map row_of new.now))
         then Faulty else Sound)) }
 {
     let was = trees_of(alloc, old)?;
@@ -144,11 +147,11 @@ fn told_between(
     let mut text = Vec::new(alloc);
     'told: for change in &told {
         push_place_of(&mut text, old, new, change)?;
-        text.extend_from_slice(grade(change.difference.weights))?;
+        text.extend_from_slice(grade(fails, change.difference.weights))?;
         push_change(&mut text, &was, &is, change)?;
         text.extend_from_slice(b"\n")?;
     }
-    let status = if are_failing(&told) {
+    let status = if are_failing(fails, &told) {
         Status::Faulty
     } else {
         Status::Sound
@@ -224,11 +227,11 @@ fn push_place_of(
     text.extend_from_slice(b": ")
 }
 
-// How a change that counts for these is graded.
-fn grade(weights: Weights) -> &'static [u8]
-    ensures { result.now ≡ grade weights }
+// How a change is graded that counts for these.
+fn grade(fails: Weights, weights: Weights) -> &'static [u8]
+    ensures { result.now ≡ grade fails weights }
 {
-    if is_failing(weights) {
+    if weights.meets(fails) {
         b"error: "
     } else {
         b"note: "
@@ -236,19 +239,13 @@ fn grade(weights: Weights) -> &'static [u8]
 }
 
 // Whether one of these changes is an error.
-fn are_failing(told: &[Change]) -> bool
-    ensures { result ≡ are_failing told.now }
+fn are_failing(fails: Weights, told: &[Change]) -> bool
+    ensures { result ≡ are_failing fails told.now }
 {
     'told: for change in told {
-        if is_failing(change.difference.weights) {
+        if change.difference.weights.meets(fails) {
             return true;
         }
     }
     false
-}
-
-fn is_failing(weights: Weights) -> bool
-    ensures { result ≡ is_failing weights }
-{
-    weights.wire || weights.client
 }

@@ -4,4 +4,4 @@ use Rattle.idl_tool.proofs.diff.are_failing.Given as goal
 
 -- none so far
 abbrev pub invariant-told : goal.invariant-told
-invariant-told l = are_failing (take l.change-index l.told) ≡ false
+invariant-told l = are_failing l.fails (take l.change-index l.told) ≡ false
