@@ -110,10 +110,13 @@ clients-find old new none = record {
       let back = joined-back old new i k goes.1 in
       let all = lacks-joined client old new none i k e back.0 at other goes.1 back.1 in
       let body = (lacks-kind client old new none refl i k e back.0 all).1 in
-      let bases = lacks-front client (gone_bases old new i k) (new_bases old new i k) (lacks-interface client old new none refl i k e back.0 is body).1 in
-      (k, goes.1, all-has (λ (g : ℕ). is_offered new k (name_at old g) ≡ true) (offers old i)
-      (λ g within.
-          (let from = offers-from old i g within in
-          let base = base-goes client old new none refl i k goes.1 bases from.0 from.1 in
-          of-base old new none k from.0 base.0 g base.1 base.2 from.2))));
+      let bases = lacks-front client (gone_bases old new i k) (new_bases old new i k) (lacks-interface client old new none refl i k e back.0 is body).1 in (
+        k,
+        goes.1,
+        all-has (λ (g : ℕ). is_offered new k (name_at old g) ≡ true) (offers old i)
+            (λ g within.
+            (let from = offers-from old i g within in
+            let base = base-goes client old new none refl i k goes.1 bases from.0 from.1 in
+            of-base old new none k from.0 base.0 g base.1 base.2 from.2)),
+      ));
 }

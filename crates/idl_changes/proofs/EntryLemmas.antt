@@ -47,10 +47,12 @@ interface-found L path i is = by (place_of L path) is
         → (e : RowTree) × (slice_get L i ≡ Some e) × (is_interface e ≡ true)
     test n f true e at h = (f, ap (slice_get L) (sym (same_Some n i h)) ∙ at, e)
     test n f false e at h = cc
+
     found : (n : ℕ) (entry : Option RowTree) → slice_get L n ≡ entry → (if option_map_or is_interface entry false then Some n else None) ≡ Some i
         → (e : RowTree) × (slice_get L i ≡ Some e) × (is_interface e ≡ true)
     found n None at h = cc
     found n (Some f) at h = test n f (is_interface f) refl at h
+
     by : (place : Option ℕ) → option_and_then (λ (n : ℕ). if option_map_or is_interface (slice_get L n) false then Some n else None) place ≡ Some i
         → (e : RowTree) × (slice_get L i ≡ Some e) × (is_interface e ≡ true)
     by None h = cc

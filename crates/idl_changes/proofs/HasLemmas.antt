@@ -152,6 +152,7 @@ passing-place {X} test n (x ∷ xs) m k at = by (test x) refl m (λ j h. passing
         counted : (c : Bool) (i : ℕ) → cond c (suc (length (filter test (take i xs)))) (length (filter test (take i xs))) ≡ length (cond c (x ∷ filter test (take i xs)) (filter test (take i xs)))
         counted true i = refl
         counted false i = refl
+
     by : (b : Bool) → test x ≡ b → (j : ℕ)
         → ((l : ℕ) → slice_get (map (λ (p : ℕ × X). p.0) (filter (λ (p : ℕ × X). test p.1) (enumerate_from (n + 1) xs))) l ≡ Some k → PassesAt test (n + 1) xs l k)
         → slice_get (map (λ (p : ℕ × X). p.0) (cond b ((n, x) ∷ filter (λ (p : ℕ × X). test p.1) (enumerate_from (n + 1) xs)) (filter (λ (p : ℕ × X). test p.1) (enumerate_from (n + 1) xs)))) j ≡ Some k

@@ -47,6 +47,7 @@ module _ (L : List RowTree) where
       own e =
           more-inherited z (base_places L z) (among ++ base_places L z) (λ k h. has-back k among (base_places L z) h) m
           (subst (λ (k : ℕ). Has (inherited_before L k (base_places L k)) m) e above)
+
       by : (b : Bool)
           → (Has (inherited_before L z (among ++ base_places L z)) n → Has (inherited_before L z (among ++ base_places L z)) m)
           → (Has (inherited_before L z among) n → Has (inherited_before L z among) m)

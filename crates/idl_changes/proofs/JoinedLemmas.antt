@@ -35,6 +35,7 @@ joined-from old new i k is = by (slice_get old i) refl is
         → (if b then None else option_or (by_id old new i e) (by_path old new i e)) ≡ Some k → (f : RowTree) × (slice_get old i ≡ Some f) × (is_called f ≡ false)
     test e true c at h = cc
     test e false c at h = (e, at, c)
+
     by : (entry : Option RowTree) → slice_get old i ≡ entry
         → option_and_then (λ (f : RowTree). if is_called f then None else option_or (by_id old new i f) (by_path old new i f)) entry ≡ Some k
         → (f : RowTree) × (slice_get old i ≡ Some f) × (is_called f ≡ false)
@@ -83,6 +84,7 @@ by_path-says old new i k e is = by (place_of new e.path) refl is
         let outer = both (option_eq nat_eq (place_of old e.path) (Some i) && is_of_kind new n e) (is_left new old n) c in
         let inner = both (option_eq nat_eq (place_of old e.path) (Some i)) (is_of_kind new n e) outer.0 in
         (at ∙ ap Some same, same_option nat_eq same_number (place_of old e.path) (Some i) inner.0, subst (λ (m : ℕ). is_of_kind new m e ≡ true) same inner.1, subst (λ (m : ℕ). is_left new old m ≡ true) same outer.1)
+
     by : (place : Option ℕ) → place_of new e.path ≡ place
         → option_and_then (λ (n : ℕ). if (option_eq nat_eq (place_of old e.path) (Some i) && is_of_kind new n e) && is_left new old n then Some n else None) place ≡ Some k
         → (place_of new e.path ≡ Some k) × (place_of old e.path ≡ Some i) × (is_of_kind new k e ≡ true) × (is_left new old k ≡ true)

@@ -109,18 +109,20 @@ module _ (old new : List RowTree) (was is : ℕ → Layout) (alike : (i k : ℕ)
     none-alike t u no_old no_new same =
         let parts = written-parts t u same in
         let p = plain-none old t no_old in
-        let q = plain-none new u no_new in
-        (ap (λ (v : LayeredType). v.layers) p ∙ parts.1 ∙ sym (ap (λ (v : LayeredType). v.layers) q),
-        ap (λ (v : LayeredType). element_layout old was v.element) p ∙ element-alike t.element u.element parts.0 ∙ sym (ap (λ (v : LayeredType). element_layout new is v.element) q))
+        let q = plain-none new u no_new in (
+          ap (λ (v : LayeredType). v.layers) p ∙ parts.1 ∙ sym (ap (λ (v : LayeredType). v.layers) q),
+          ap (λ (v : LayeredType). element_layout old was v.element) p ∙ element-alike t.element u.element parts.0 ∙ sym (ap (λ (v : LayeredType). element_layout new is v.element) q),
+        )
 
     -- both name aliases whose own types are alike
     alias-alike : (i k : ℕ) (t u v w : LayeredType) → named_by old t.element ≡ Some i → named_by new u.element ≡ Some k → alias_at old i ≡ Some v → alias_at new k ≡ Some w
         → t.layers ≡ u.layers → Alike v w → Alike t u
     alias-alike i k t u v w names_old names_new here there layers own =
         let p = plain-alias old first i t v names_old here in
-        let q = plain-alias new second k u w names_new there in
-        (ap (λ (x : LayeredType). x.layers) p ∙ ap₂ (λ (a b : List Layer). a ++ b) own.0 layers ∙ sym (ap (λ (x : LayeredType). x.layers) q),
-        ap (λ (x : LayeredType). element_layout old was x.element) p ∙ own.1 ∙ sym (ap (λ (x : LayeredType). element_layout new is x.element) q))
+        let q = plain-alias new second k u w names_new there in (
+          ap (λ (x : LayeredType). x.layers) p ∙ ap₂ (λ (a b : List Layer). a ++ b) own.0 layers ∙ sym (ap (λ (x : LayeredType). x.layers) q),
+          ap (λ (x : LayeredType). element_layout old was x.element) p ∙ own.1 ∙ sym (ap (λ (x : LayeredType). element_layout new is x.element) q),
+        )
 
     -- of two that are written the same what they name belongs together, if the old one names an entry
     names-joined : (t u : LayeredType) → is_written old new t u ≡ true → (i : ℕ) → named_by old t.element ≡ Some i → (k : ℕ) × (named_by new u.element ≡ Some k) × (joined old new i ≡ Some k)
@@ -141,6 +143,7 @@ module _ (old new : List RowTree) (was is : ℕ → Layout) (alike : (i k : ℕ)
                 → (k : ℕ) × (place_of new s.path ≡ Some k) × (joined old new i ≡ Some k)
             some None e is one = absurd (false≢true (sym (ap is_some e) ∙ is))
             some (Some k) e is one = (k, e, one ∙ e)
+
         by : (x y : ElementTree) → is_same_element old new x y ≡ true → named_by old x ≡ Some i → (k : ℕ) × (named_by new y ≡ Some k) × (joined old new i ≡ Some k)
         by (tree.Named r) (tree.Named s) h at = place r s (place_of new s.path) refl h at
         by (tree.Named r) tree.Void h at = let no = same_element_tree (tree.Named r) tree.Void h in cc
@@ -158,6 +161,7 @@ module _ (old new : List RowTree) (was is : ℕ → Layout) (alike : (i k : ℕ)
         none : (o : Option ℕ) → is_none o ≡ true → o ≡ None
         none None h = refl
         none (Some k) h = cc
+
         by : (x y : ElementTree) → is_same_element old new x y ≡ true → named_by old x ≡ None → named_by new y ≡ None
         by (tree.Named r) (tree.Named s) h at =
             let there : (is_none (place_of new s.path) && reference_eq r s) ≡ true =
@@ -243,6 +247,7 @@ module _ (old new : List RowTree) (was is : ℕ → Layout) (alike : (i k : ℕ)
             → layout old was t ≡ layout new is u
         line-of true e h = sent-alike t u e
         line-of false e h = absurd (lacks-none wire line.Type part (turn.Changed (spelled t) (spelled u)) refl h)
+
         by : (b : Bool) → is_written old new t u ≡ b
             → Lacks wire (if b then [] else changed (type_line old new t u) part (spelled t) (spelled u)) → layout old was t ≡ layout new is u
         by true e h = sent-alike t u (ap (λ (b : Bool). b || is_written old new (plain old t) (plain new u)) e)

@@ -74,6 +74,7 @@ all-in-place n m (Some j ∷ found) below order taken =
         let parts = both (not (nat_lt j n)) (in_order_from (j + 1) found) order in
         let above : n ≤ j = grind (arith, nat_tests, parts.0) in
         absurd (omega (arith, more, above))
+
     later : (b : Bool) (k : ℕ) → nat_eq j k ≡ b → j ≡ n → n + 1 ≤ k → (b || list_any (λ (place : Option ℕ). option_eq nat_eq place (Some k)) found) ≡ true → Taken found k
     later true k e here low h = let same = same_number j k e in absurd (omega (arith, same, here, low))
     later false k e here low h = h
@@ -150,9 +151,11 @@ module _ {X : Type 0} (weight : Weights → Bool) (item : Item) (name : X → Li
   parts-lack : Lacks weight Items × Lacks weight News × Lacks weight (order_differences item name Found xs ys)
   unfolding list_differences matches Items News Found
   parts-lack =
-      let rest = lacks-back weight Items (News ++ order_differences item name Found xs ys) all in
-      (lacks-front weight Items (News ++ order_differences item name Found xs ys) all, lacks-front weight News (order_differences item name Found xs ys) rest,
-      lacks-back weight News (order_differences item name Found xs ys) rest)
+      let rest = lacks-back weight Items (News ++ order_differences item name Found xs ys) all in (
+        lacks-front weight Items (News ++ order_differences item name Found xs ys) all,
+        lacks-front weight News (order_differences item name Found xs ys) rest,
+        lacks-back weight News (order_differences item name Found xs ys) rest,
+      )
 
   -- each old one belongs to one, and nothing is told of the two
   old-one : (i : ℕ) (x : X) (o : Option ℕ) → slice_get xs i ≡ Some x → slice_get Found i ≡ Some o
@@ -169,6 +172,7 @@ module _ {X : Type 0} (weight : Weights → Bool) (item : Item) (name : X → Li
           → (j : ℕ) × (y : X) × (o ≡ Some j) × (slice_get ys j ≡ Some y) × Lacks weight (both_told x y)
       pair k same None is told = absurd (lacks-none weight (line.ItemGone item) (item_part item (name x)) turn.Gone gone told)
       pair k same (Some y) is told = (k, y, same, is, lacks-back weight (name_differences item i (name x) (name y)) (both_told x y) told)
+
       by : (p : Option ℕ) → o ≡ p → Lacks weight (item_differences item name both_told i x (option_and_then (slice_get ys) p))
           → (j : ℕ) × (y : X) × (o ≡ Some j) × (slice_get ys j ≡ Some y) × Lacks weight (both_told x y)
       by None same told = absurd (lacks-none weight (line.ItemGone item) (item_part item (name x)) turn.Gone gone told)
@@ -208,6 +212,7 @@ module _ {X : Type 0} (weight : Weights → Bool) (item : Item) (name : X → Li
     where
       f : ℕ × List ℕ → Option ℕ
       f p = matched (map name xs) (map name ys) p.0 p.1
+
       by : (first : Option X) → slice_get xs k ≡ first → Paired (λ (x y : X). Lacks weight (both_told x y)) first (slice_get ys k)
       by None is =
           let none = found-none name f 0 k xs is in

@@ -174,10 +174,10 @@ module _ {X : Type 0} (item : Item) (name : X → List ℕ) (both_told : X → X
       let zero-more : (i : ℕ) (x : X) → slice_get xs i ≡ Some x → slice_get xs (0 + i) ≡ Some x = λ i x at. (let e : 0 + i ≡ i = omega arith in ap (slice_get xs) e ∙ at) in
       let items = no-items xs xs 0 zero-more in
       let news = none-told (new_differences item name places) 0 xs (λ i m x m-is at.
-          (let within = slice_get_within xs i x at in
-          let low : 0 ≤ m = omega arith in
-          let high : m < 0 + length xs = omega (arith, within, m-is) in
-          none-unless (is_matched places m) _ (own-is_matched 0 (length xs) m low high)))
+      (let within = slice_get_within xs i x at in
+      let low : 0 ≤ m = omega arith in
+      let high : m < 0 + length xs = omega (arith, within, m-is) in
+      none-unless (is_matched places m) _ (own-is_matched 0 (length xs) m low high)))
       in
       let order : order_differences item name places xs xs ≡ [] = none-unless (in_order places) _ (own-in_order 0 (length xs)) in
       ap (λ (f : List (Option ℕ)). matched_differences item name both_told f xs xs) is ∙ none-both _ _ items (none-both _ _ news order)
@@ -262,21 +262,25 @@ module _ (L : List RowTree) where
     where
       names : List (List ℕ)
       names = enumerators L u.discriminator
+
       one : (text : List ℕ) (label : NumberedText)
           → selection_differences L L line.CaseGone line.CaseNew (codes "case " ++ text) (selected (enumerators L u.discriminator) u.cases label)
           (selected (enumerators L u.discriminator) u.cases label) ≡ []
       one text label = no-selection line.CaseGone line.CaseNew (codes "case " ++ text) (selected (enumerators L u.discriminator) u.cases label)
+
       old-by : (text : Option (List ℕ))
           → option_map_or (λ (t : List ℕ). selection_differences L L line.CaseGone line.CaseNew (codes "case " ++ t)
           (selected (enumerators L u.discriminator) u.cases (label_of (enumerators L u.discriminator) t))
           (selected (enumerators L u.discriminator) u.cases (label_of (enumerators L u.discriminator) t))) text [] ≡ []
       old-by None = refl
       old-by (Some text) = one text (label_of (enumerators L u.discriminator) text)
+
       old-none : (c : CaseTree)
           → option_map_or (λ (t : List ℕ). selection_differences L L line.CaseGone line.CaseNew (codes "case " ++ t)
           (selected (enumerators L u.discriminator) u.cases (label_of (enumerators L u.discriminator) t))
           (selected (enumerators L u.discriminator) u.cases (label_of (enumerators L u.discriminator) t))) c.label [] ≡ []
       old-none c = old-by c.label
+
       new-by : (text : Option (List ℕ))
           → option_map_or (λ (t : List ℕ). if is_some (labelled (enumerators L u.discriminator) u.cases (label_of (enumerators L u.discriminator) t))
           then []
@@ -287,6 +291,7 @@ module _ (L : List RowTree) where
       new-by (Some text) =
           none-either (is_some (labelled (enumerators L u.discriminator) u.cases (label_of (enumerators L u.discriminator) text))) _
           (one text (label_of (enumerators L u.discriminator) text))
+
       new-none : (c : CaseTree)
           → option_map_or (λ (t : List ℕ). if is_some (labelled (enumerators L u.discriminator) u.cases (label_of (enumerators L u.discriminator) t))
           then []
@@ -475,6 +480,7 @@ module _ (L : List RowTree) where
           let there = interface-found L (scope_of f.path) o is in
           let itself = own-joined L o there.0 there.1 (interface-uncalled there.0 there.2) in
           ap (λ (j : Option ℕ). option_map_or (called_new L L f) j []) itself ∙ none-unless (is_offered L o (name_of f.path)) _ (own-offered o k f at h is)
+
       by : (b : Bool) → is_called f ≡ b
           → (if b then option_map_or (called_new L L f) (option_and_then (joined L L) (interface_of L f)) []
           else (if is_some (joined L L k) then [] else told line.EntryNew [] turn.New)) ≡ []

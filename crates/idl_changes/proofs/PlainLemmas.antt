@@ -98,10 +98,12 @@ module _ (L : List RowTree) where
           → opened_before L z t ≡ option_map_or (around t) (option_map (opened_before L n) found) t
       of-alias n e within None is = opened_before-none z t (λ m same. ap (alias_at L) (sym (same_Some n m (sym e ∙ same))) ∙ is)
       of-alias n e within (Some u) is = opened_before-there z n t u e is within ∙ opened_before-around n t u
+
       there : (n : ℕ) → named_by L t.element ≡ Some n → n < z → (entry : Option RowTree) → slice_get L n ≡ entry
           → opened_before L z t ≡ option_map_or (around t) (option_and_then (λ (plain : Option LayeredType). plain) (option_map (plain_alias L n) entry)) t
       there n e within None at = of-alias n e within None (ap (option_and_then alias_of) at)
       there n e within (Some f) at = of-alias n e within (alias_of f) (ap (option_and_then alias_of) at)
+
       place : (n : ℕ) → named_by L t.element ≡ Some n → (b : Bool) → nat_lt n z ≡ b
           → opened_before L z t ≡ option_map_or (around t) (option_and_then (λ (plain : Option LayeredType). plain) (slice_get (take z (each (plain_alias L) L)) n)) t
       place n e true lt =
@@ -114,6 +116,7 @@ module _ (L : List RowTree) where
           let none = take-past (each (plain_alias L) L) z n past in
           opened_before-past z n t e past
           ∙ sym (ap (λ (o : Option (Option LayeredType)). option_map_or (around t) (option_and_then (λ (plain : Option LayeredType). plain) o) t) none)
+
       by : (found : Option ℕ) → named_by L t.element ≡ found → opened_before L z t
           ≡ option_map_or (around t)
           (option_and_then (λ (n : ℕ). option_and_then (λ (plain : Option LayeredType). plain) (slice_get (take z (each (plain_alias L) L)) n)) found) t
@@ -137,11 +140,13 @@ module _ (L : List RowTree) where
         none found e h =
             let names : NamesNone u = λ n at. h n (sym e ∙ at) in
             opened_before-none j u names ∙ sym (opened_before-none (length L) u names)
+
         at : (n : ℕ) → named_by L u.element ≡ Some n → (v : Option LayeredType) → alias_at L n ≡ v → opened_before L j u ≡ opened_before L (length L) u
         at n names None other = none (Some n) names (λ m same. ap (alias_at L) (sym (same_Some n m same)) ∙ other)
         at n names (Some v) there =
             let below = declared.aliases j n u v is names there in
             opened_before-there j n u v names there below ∙ sym (opened_before-there (length L) n u v names there (alias-within n v there))
+
         by : (found : Option ℕ) → named_by L u.element ≡ found → opened_before L j u ≡ opened_before L (length L) u
         by None e = none None e (λ n same. cc)
         by (Some n) e = at n e (alias_at L n) refl

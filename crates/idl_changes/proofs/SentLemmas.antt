@@ -59,6 +59,7 @@ module _ (old new : List RowTree) where
       line-of : (b : Bool) → Lacks wire (changed (if b then (if nat_eq (length (plain old t).layers) 0 then line.AliasedType else line.LayeredType) else line.Type) part (spelled t) (spelled u)) → b ≡ true
       line-of true h = refl
       line-of false h = absurd (lacks-none wire line.Type part (turn.Changed (spelled t) (spelled u)) refl h)
+
       by : (b : Bool) → is_written old new t u ≡ b → Lacks wire (if b then [] else changed (type_line old new t u) part (spelled t) (spelled u))
           → (is_written old new t u || is_written old new (plain old t) (plain new u)) ≡ true
       by true e h = ap (λ (b : Bool). b || is_written old new (plain old t) (plain new u)) e

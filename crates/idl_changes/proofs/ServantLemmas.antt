@@ -69,8 +69,8 @@ servants-serve old new none i k e at is joins =
     let bases = lacks-back servant (gone_bases old new i k) (new_bases old new i k) (lacks-interface servant old new none refl i k e back.0 is body).1 in
     all-has (λ (h : ℕ). is_offered old i (name_at new h) ≡ true) (offers new k)
     (λ h within.
-        (let from = offers-from new k h within in
-        elim (has-either k from.0 (ancestors new k) from.1) [
-          | inl same ↦ of-partner old new none h from.0 i (joins ∙ ap Some (sym same)) from.2
-          | inr above ↦ of-base old new none i k from.0 h bases above from.2
-        ]))
+    (let from = offers-from new k h within in
+    elim (has-either k from.0 (ancestors new k) from.1) [
+      | inl same ↦ of-partner old new none h from.0 i (joins ∙ ap Some (sym same)) from.2
+      | inr above ↦ of-base old new none i k from.0 h bases above from.2
+    ]))

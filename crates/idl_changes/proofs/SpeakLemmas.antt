@@ -64,6 +64,7 @@ module _ (old new : List RowTree) (first : IsDeclared old) (second : IsDeclared 
       where
         same : kind_eq f.kind kind.Alias ≡ kind_eq e.kind kind.Alias
         same = ap (λ (j : Kind). kind_eq j kind.Alias) (sym kinds.0)
+
         by : (b : Bool) → kind_eq e.kind kind.Alias ≡ b → AreSent old new (alias_of e) (alias_of f)
         by false h =
             subst (λ (b : Bool). AreSent old new (if b then option_and_then alias_in (type_code_of e.details) else None) (alias_of f)) (sym h)
@@ -81,10 +82,13 @@ module _ (old new : List RowTree) (first : IsDeclared old) (second : IsDeclared 
       where
         interface_same : is_interface f ≡ is_interface e
         interface_same = ap (λ (j : Kind). kind_eq j kind.Interface) (sym kinds.0)
+
         sent_same : is_sent_kind f.kind ≡ is_sent_kind e.kind
         sent_same = ap is_sent_kind (sym kinds.0)
+
         new-layout : Bool → Bool → Layout
         new-layout a b = if a then Interface f.id (is_local f) else if b then details_layout new now f.id f.details else Unknown
+
         by : (a : Bool) → is_interface e ≡ a → (b : Bool) → is_sent_kind e.kind ≡ b
             → (if is_interface e then Interface e.id (is_local e) else if is_sent_kind e.kind then details_layout old was e.id e.details else Unknown)
             ≡ (if is_interface f then Interface f.id (is_local f) else if is_sent_kind f.kind then details_layout new now f.id f.details else Unknown)
@@ -247,8 +251,10 @@ module _ (old new : List RowTree) (first : IsDeclared old) (second : IsDeclared 
     module _ (name : List ℕ) (a b : AttributeTree) (all : Lacks wire (details_differences old new (row.Attribute a) (row.Attribute b))) where
       Types : List Difference
       Types = type_differences old new (codes "type") a.data_type b.data_type
+
       Flags : List Difference
       Flags = flag_differences (readonly_line a.is_readonly) (codes "readonly") a.is_readonly b.is_readonly
+
       Gets : List Difference
       Gets = reference_differences old new (codes "exception of get") a.raised b.raised
 
@@ -296,6 +302,7 @@ module _ (old new : List RowTree) (first : IsDeclared old) (second : IsDeclared 
         where
           P : List Request → Request → Type 0
           P taken said = (t : Request) × Contains taken t × Takes said t
+
           by : (x : Bool) → a.is_readonly ≡ x → (y : Bool) → b.is_readonly ≡ y
               → All (λ said. (t : Request) × Contains (get_request new n name b ∷ (if b.is_readonly then [] else set_request new n name b ∷ [])) t × Takes said t)
               (get_request old n name a ∷ (if a.is_readonly then [] else set_request old n name a ∷ []))
@@ -402,13 +409,15 @@ module _ (old new : List RowTree) (first : IsDeclared old) (second : IsDeclared 
             let body = (lacks-kind wire old new none refl g h c f.0 all).1 in
             let details = subst (λ (b : Bool). Lacks wire (if b then interface_differences old new g h c f.0 else details_differences old new c.details f.0.details)) (called-uninterface c called) body in
             let names : name_of c.path ≡ name_of f.0.path = its.1 ∙ name_at-is new h f.0 f.1 in
-            let up = is_offered-up new k p (name_of c.path) within (ap is_some offer_new) in
-            (h, same-offer (offered new k (name_of c.path)) refl up its named,
-            λ n.
-                (subst (λ (o : Option RowTree). All (λ said. (t : Request) × Contains (option_map_or (λ (x : RowTree). requests_of new n (name_of x.path) x.details) o []) t × Takes said t) (requests old n g)) (sym f.1)
-                (subst (λ (o : Option RowTree). All (λ said. (t : Request) × Contains (requests_of new n (name_of f.0.path) f.0.details) t × Takes said t) (option_map_or (λ (x : RowTree). requests_of old n (name_of x.path) x.details) o [])) (sym here)
-                (subst (λ (w : List ℕ). All (λ said. (t : Request) × Contains (requests_of new n w f.0.details) t × Takes said t) (requests_of old n (name_of c.path) c.details)) names
-                (details-taken n (name_of c.path) c.details f.0.details details)))))
+            let up = is_offered-up new k p (name_of c.path) within (ap is_some offer_new) in (
+              h,
+              same-offer (offered new k (name_of c.path)) refl up its named,
+              λ n.
+                  (subst (λ (o : Option RowTree). All (λ said. (t : Request) × Contains (option_map_or (λ (x : RowTree). requests_of new n (name_of x.path) x.details) o []) t × Takes said t) (requests old n g)) (sym f.1)
+                  (subst (λ (o : Option RowTree). All (λ said. (t : Request) × Contains (requests_of new n (name_of f.0.path) f.0.details) t × Takes said t) (option_map_or (λ (x : RowTree). requests_of old n (name_of x.path) x.details) o [])) (sym here)
+                  (subst (λ (w : List ℕ). All (λ said. (t : Request) × Contains (requests_of new n w f.0.details) t × Takes said t) (requests_of old n (name_of c.path) c.details)) names
+                  (details-taken n (name_of c.path) c.details f.0.details details)))),
+            )
           where
             same-offer : (found : Option ℕ) → offered new k (name_of c.path) ≡ found → is_some (offered new k (name_of c.path)) ≡ true
                 → Has (offers new p) h × (name_of c.path ≡ name_at new h) → name ≡ name_of c.path → offered new k name ≡ Some h

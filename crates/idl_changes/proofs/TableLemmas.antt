@@ -66,6 +66,7 @@ position-cons test x xs = by (test x)
     past n false e =
         let beyond : nat_lt (1 + n) (length (x ∷ xs)) ≡ false = grind (arith, nat_tests, e) in
         ap (λ (c : Bool). cond c (Some (1 + n)) None) beyond
+
     by : (b : Bool) → cond (nat_lt (cond (not b) (1 + position_or_len test xs) 0) (length (x ∷ xs))) (Some (cond (not b) (1 + position_or_len test xs) 0)) None
         ≡ (if b then Some 0 else option_map (λ (k : ℕ). k + 1) (position test xs))
     by true =
@@ -157,10 +158,12 @@ where-from test n (x ∷ xs) e = by (test x)
   where
     place : n + 1 + length xs ≡ n + length (x ∷ xs)
     place = omega arith
+
     rest : map (λ (p : ℕ × RowTree). p.0) (filter (λ (p : ℕ × RowTree). test p.1) (enumerate_from (n + 1) (xs ++ e ∷ [])))
         ≡ map (λ (p : ℕ × RowTree). p.0) (filter (λ (p : ℕ × RowTree). test p.1) (enumerate_from (n + 1) xs)) ++ (if test e then (n + length (x ∷ xs)) ∷ [] else [])
     rest = where-from test (n + 1) xs e
         ∙ ap (λ (k : ℕ). map (λ (p : ℕ × RowTree). p.0) (filter (λ (p : ℕ × RowTree). test p.1) (enumerate_from (n + 1) xs)) ++ (if test e then k ∷ [] else [])) place
+
     by : (b : Bool)
         → map (λ (p : ℕ × RowTree). p.0) (cond b ((n, x) ∷ filter (λ (p : ℕ × RowTree). test p.1) (enumerate_from (n + 1) (xs ++ e ∷ []))) (filter (λ (p : ℕ × RowTree). test p.1) (enumerate_from (n + 1) (xs ++ e ∷ []))))
         ≡ map (λ (p : ℕ × RowTree). p.0) (cond b ((n, x) ∷ filter (λ (p : ℕ × RowTree). test p.1) (enumerate_from (n + 1) xs)) (filter (λ (p : ℕ × RowTree). test p.1) (enumerate_from (n + 1) xs)))

@@ -25,9 +25,10 @@ module _ (old new : List RowTree) where
 
   abbrev pub told_old : ℕ → RowTree → List Change
   told_old i e =
-      elim (partner old new i)
-      [ None ↦ map (change_at (Some i) None) (gone_differences old new i e)
-      | Some k ↦ told_with i e k ]
+      elim (partner old new i) [
+        | None ↦ map (change_at (Some i) None) (gone_differences old new i e)
+        | Some k ↦ told_with i e k
+      ]
 
   -- what is told of an entry of the new listing that is new
   abbrev pub told_new : ℕ → RowTree → List Change

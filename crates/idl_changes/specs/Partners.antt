@@ -63,9 +63,10 @@ partner old new i =
 -- references are the same where the entry of the one is the partner of the other's
 unfoldable pub is_same_reference : (old new : List RowTree) → Reference → Reference → Bool
 is_same_reference old new r s =
-    elim (place_of old r.path)
-    [ None ↦ is_none (place_of new s.path) && reference_eq r s
-    | Some i ↦ is_partner old new i (place_of new s.path) ]
+    elim (place_of old r.path) [
+      | None ↦ is_none (place_of new s.path) && reference_eq r s
+      | Some i ↦ is_partner old new i (place_of new s.path)
+    ]
 
 abbrev pub is_same_element : (old new : List RowTree) → ElementTree → ElementTree → Bool
 is_same_element old new (tree.Named r) (tree.Named s) = is_same_reference old new r s

@@ -126,7 +126,9 @@ fn key_of(
     ensures called { IfOk result (λ key. IsTrue (is_called entry.now)
         → (key ≡ None) × (counts.new ≡ counts.old)) }
     ensures key { IfOk result (λ key. IsFalse (is_called entry.now) → key ≡ Some (record {
-        text = entry.now.id; number = unwrap_or (lookup (bytes_eq entry.now.id) counts.old) 0 })) }
+      text = entry.now.id;
+      number = unwrap_or (lookup (bytes_eq entry.now.id) counts.old) 0;
+    })) }
     ensures counted { IfOk result (λ key. IsFalse (is_called entry.now) → (id : List ℕ)
         → lookup (bytes_eq id) counts.new
         ≡ (if bytes_eq id entry.now.id

@@ -157,7 +157,8 @@ pub fn is_sent_kind(kind: Kind) -> bool
     ensures { result ≡ is_sent_kind kind }
 {
     match kind {
-        Kind::Interface | Kind::Structure | Kind::Union | Kind::Enumeration | Kind::Exception => true,
+        Kind::Interface | Kind::Structure | Kind::Union | Kind::Enumeration | Kind::Exception =>
+            true,
         _ => false,
     }
 }

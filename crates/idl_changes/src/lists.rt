@@ -299,7 +299,11 @@ fn compare_directions(
     if old.goes_in == new.goes_in && old.comes_out == new.comes_out {
         return Ok(());
     }
-    let part = part_of(*out.allocator(), b"direction of parameter ", &old.member.name)?;
+    let part = part_of(
+        *out.allocator(),
+        b"direction of parameter ",
+        &old.member.name,
+    )?;
     let was = direction_word(old.goes_in, old.comes_out);
     let is = direction_word(new.goes_in, new.comes_out);
     push_changed(Line::Direction, &part, (was, is), out)

@@ -101,7 +101,9 @@ fn matched<T: Named>(
     let (old, new) = lists;
     let item = old.get(place)?;
     let there = new.get(place);
-    if let Some(other) = there && *other.name() == *item.name() {
+    if let Some(other) = there
+        && *other.name() == *item.name()
+    {
         return Some(place);
     }
     if let Some(found) = places.1.get(item.name()) {
@@ -116,11 +118,7 @@ fn matched<T: Named>(
 }
 
 /// Which of so many new items belong to an old one.
-pub fn marked(
-    alloc: Global,
-    found: &[Option<usize>],
-    count: usize,
-) -> Result<Vec<bool>, AllocError>
+pub fn marked(alloc: Global, found: &[Option<usize>], count: usize) -> Result<Vec<bool>, AllocError>
     ensures { IfOk result (λ marks.
         marks.items ≡ map (is_matched found.now) (range_with_len 0 count)) }
 {
@@ -129,7 +127,9 @@ pub fn marked(
         marks.push(false)?;
     }
     for place in found {
-        if let Some(place) = place && let Some(mark) = marks.get_mut(*place) {
+        if let Some(place) = place
+            && let Some(mark) = marks.get_mut(*place)
+        {
             *mark = true;
         }
     }

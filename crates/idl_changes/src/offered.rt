@@ -20,10 +20,7 @@ use std::alloc::{AllocError, Global};
 use std::collections::BTreeSet;
 
 /// What each entry inherits: an interface its bases, and what they do.
-pub fn all_ancestors(
-    alloc: Global,
-    listing: &Listing<'_>,
-) -> Result<Vec<Seq<usize>>, AllocError>
+pub fn all_ancestors(alloc: Global, listing: &Listing<'_>) -> Result<Vec<Seq<usize>>, AllocError>
     ensures { IfOk result (λ all.
         all.items ≡ each (λ i e. ancestors listing.now i) listing.now) }
 {
@@ -36,11 +33,7 @@ pub fn all_ancestors(
 
 // What the entry at a place inherits, from the last that stands before it to the first.
 #[tactic(auto, unfolding(crate::specs::Offered::ancestors))]
-fn ancestors(
-    alloc: Global,
-    listing: &Listing<'_>,
-    place: usize,
-) -> Result<Seq<usize>, AllocError>
+fn ancestors(alloc: Global, listing: &Listing<'_>, place: usize) -> Result<Seq<usize>, AllocError>
     ensures { IfOk result (λ found. found ≡ ancestors listing.now place) }
 {
     let mut found = Vec::new(alloc);
@@ -69,7 +62,9 @@ fn add_bases(
         return Ok(());
     };
     for base in bases_of(entry) {
-        if let Some(at) = listing.interface_at(&base.path) && at < place {
+        if let Some(at) = listing.interface_at(&base.path)
+            && at < place
+        {
             among.insert(at)?;
         }
     }
@@ -155,7 +150,14 @@ fn offer_all(
     for place in called {
         if let Some(entry) = listing.entry(*place) {
             let text = name_of(&entry.path)?;
-            offer(NumberedText { text, number: interface }, *place, offers)?;
+            offer(
+                NumberedText {
+                    text,
+                    number: interface,
+                },
+                *place,
+                offers,
+            )?;
         }
     }
     Ok(())

@@ -122,7 +122,12 @@ pub fn compare_contexts(
     }
     let was = in_a_row(*out.allocator(), old)?;
     let is = in_a_row(*out.allocator(), new)?;
-    push_changed(Line::Context, b"context", (was.as_slice(), is.as_slice()), out)
+    push_changed(
+        Line::Context,
+        b"context",
+        (was.as_slice(), is.as_slice()),
+        out,
+    )
 }
 
 /// Names in a row, or `none`.

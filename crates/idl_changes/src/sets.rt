@@ -41,7 +41,10 @@ fn push_all_gone(
 {
     let (old, new) = references;
     for reference in old {
-        if !new.iter().any(|other| sides.is_same_reference(reference, other)) {
+        if !new
+            .iter()
+            .any(|other| sides.is_same_reference(reference, other))
+        {
             push_reference(Line::ExceptionGone, (part, reference), Turn::Gone, out)?;
         }
     }
@@ -60,7 +63,10 @@ fn push_all_new(
 {
     let (old, new) = references;
     for reference in new {
-        if !old.iter().any(|other| sides.is_same_reference(other, reference)) {
+        if !old
+            .iter()
+            .any(|other| sides.is_same_reference(other, reference))
+        {
             push_reference(Line::ExceptionNew, (part, reference), Turn::New, out)?;
         }
     }
@@ -98,7 +104,12 @@ pub fn compare_bases(
     }
     let was = in_a_row(*out.allocator(), old)?;
     let is = in_a_row(*out.allocator(), new)?;
-    push_changed(Line::StructBase, b"base", (was.as_slice(), is.as_slice()), out)
+    push_changed(
+        Line::StructBase,
+        b"base",
+        (was.as_slice(), is.as_slice()),
+        out,
+    )
 }
 
 // Whether references are the same, one after another.

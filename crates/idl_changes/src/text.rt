@@ -5,6 +5,7 @@ ghost use Rattle.idl_changes.specs.Changes.{difference_text, entry_in, name_if, 
 
 use crate::change::{Change, Difference, Turn};
 use crate::rows::Weights;
+use idl_base::Bytes;
 use idl_repo::details::{RowTree, kind_word};
 use idl_repo::push_number;
 use std::alloc::{AllocError, Global};
@@ -104,14 +105,14 @@ fn push_weights(text: &mut Vec<u8>, weights: Weights) -> Result<(), AllocError>
         if place > 0 {
             text.extend_from_slice(b",")?;
         }
-        text.extend_from_slice(name)?;
+        text.extend_from_slice(name.as_bytes())?;
     }
     text.extend_from_slice(b"]")
 }
 
 /// The names of these weights.
-pub fn weight_names(alloc: Global, weights: Weights) -> Result<Vec<&'static [u8]>, AllocError>
-    ensures { IfOk result (λ names. map (λ name. name.now) names.items ≡ weight_names weights) }
+pub fn weight_names(alloc: Global, weights: Weights) -> Result<Vec<Bytes>, AllocError>
+    ensures { IfOk result (λ names. names.items ≡ weight_names weights) }
 {
     let mut names = Vec::new(alloc);
     push_name(&mut names, weights.wire, b"wire")?;
@@ -123,15 +124,11 @@ pub fn weight_names(alloc: Global, weights: Weights) -> Result<Vec<&'static [u8]
 }
 
 // Puts a name behind others, if it is to stand there.
-fn push_name(
-    names: &mut Vec<&'static [u8]>,
-    stands: bool,
-    name: &'static [u8],
-) -> Result<(), AllocError>
-    ensures { OnOk result (map (λ name. name.now) names.new.items
-        ≡ map (λ name. name.now) names.old.items ++ name_if stands name.now) }
+fn push_name(names: &mut Vec<Bytes>, stands: bool, name: &[u8]) -> Result<(), AllocError>
+    ensures { OnOk result (names.new.items ≡ names.old.items ++ name_if stands name.now) }
 {
     if stands {
+        let name = Bytes::from_slice(*names.allocator(), name)?;
         names.push(name)?;
     }
     Ok(())
