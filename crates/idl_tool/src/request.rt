@@ -99,7 +99,10 @@ fn chosen<'a>(
         Some(diff) => match fails_of(diff) {
             Some(fails) => Ok(ToolRequest::Diff(diff_of(alloc, diff, fails)?)),
             None => {
-                let text = String::from_str(alloc, "--fail-on: never, or of wire, client, servant, names and new, with commas between")?;
+                let text = String::from_str(
+                    alloc,
+                    "--fail-on: never, or of wire, client, servant, names and new, with commas between",
+                )?;
                 Err(WordsFault::Wrong(text))
             }
         },
