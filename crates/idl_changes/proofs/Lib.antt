@@ -1,6 +1,17 @@
-pub mod AllLemmas
-pub mod ChangeLemmas
-pub mod DifferenceLemmas
-pub mod JoinedLemmas
-pub mod SameLemmas
-pub mod SetLemmas
+mod AllLemmas
+mod TableLemmas
+mod HasLemmas
+mod EntryLemmas
+mod NothingLemmas
+mod InheritLemmas
+mod AncestorLemmas
+mod OfferLemmas
+mod JoinedLemmas
+mod WeightLemmas
+mod ServantLemmas
+mod ClientLemmas
+mod PlainLemmas
+mod MatchLemmas
+mod LayoutLemmas
+mod SentLemmas
+mod SpeakLemmas

@@ -1,87 +1,148 @@
-//! Which entries of two listings belong together.
+//! Which entries of two listings belong together that aren't called: by their ids, and then by their paths.
 
-ghost use Rattle.std.specs.Prelude.{◌≡◌, ◌+◌, ◌-◌, ◌<◌, ◌^◌, IfOk, List, ℕ, if◌then◌else◌, map, Some, slice_get};
+ghost use Rattle.std.specs.Prelude.{◌≡◌, ◌+◌, ◌-◌, ◌<◌, ◌^◌, ℕ, List, IfOk, IsFalse, IsTrue, None, Some, if◌then◌else◌, slice_get, unwrap_or};
 ghost use Rattle.std.specs.Map.{lookup};
-ghost use Rattle.std.specs.Option.{option_copied, unwrap_or};
+ghost use Rattle.std.specs.Option.{option_and_then};
 ghost use Rattle.std.specs.Str.{bytes_eq};
-ghost use Rattle.idl_changes.specs.Joined.{of_id};
-ghost use Rattle.idl_changes.specs.Numbered.{ArePlaces};
+ghost use Rattle.idl_changes.specs.Listing.{by_id, is_called};
+ghost use Rattle.idl_changes.specs.Partners.{by_path, joined};
+ghost use Rattle.idl_changes.specs.Tables.{AreIds, each};
 
-use idl_base::{Bytes, Datum, with_bytes};
-use idl_map::{Digest, Map};
+use crate::keys::NumberedText;
+use crate::listing::{Listing, is_called};
+use idl_base::Bytes;
+use idl_map::Map;
 use idl_repo::details::RowTree;
 use std::alloc::{AllocError, Global};
 
-/// An id, and how many entries with it are before one.
-#[derive(Clone, PartialEq, Eq, PartialOrd, Ord, Drop)]
-pub struct EntryKey {
-    pub id: Bytes,
-    pub number: usize,
+/// To which entry of the new listing each of the old one belongs that isn't called, and the other way round.
+pub fn joined_both(
+    alloc: Global,
+    old: &Listing<'_>,
+    new: &Listing<'_>,
+) -> Result<(Vec<Option<usize>>, Vec<Option<usize>>), AllocError>
+    ensures forth { IfOk result (λ both.
+        both.0.items ≡ each (λ i e. joined old.now new.now i) old.now) }
+    ensures back { IfOk result (λ both.
+        both.1.items ≡ each (λ i e. joined new.now old.now i) new.now) }
+{
+    let forth = all_by_id(alloc, old, new)?;
+    let back = all_by_id(alloc, new, old)?;
+    let joined = all_joined(old, new, &forth, &back)?;
+    let joined_back = all_joined(new, old, &back, &forth)?;
+    Ok((joined, joined_back))
 }
 
-impl Datum for EntryKey {
-    ghost use Rattle.idl_changes.specs.Numbered.{copied_numbered, same_numbered};
-
-    ghost same = { same_numbered };
-
-    ghost copy = { copied_numbered };
+// To which one each belongs, where this is known by ids.
+fn all_joined(
+    old: &Listing<'_>,
+    new: &Listing<'_>,
+    forth: &Vec<Option<usize>>,
+    back: &[Option<usize>],
+) -> Result<Vec<Option<usize>>, AllocError>
+    requires forth { forth.now.items ≡ each (by_id old.now new.now) old.now }
+    requires back { back.now ≡ each (by_id new.now old.now) new.now }
+    ensures { IfOk result (λ all. all.items ≡ each (λ i e. joined old.now new.now i) old.now) }
+{
+    let mut all = Vec::with_capacity(*forth.allocator(), forth.len())?;
+    for (place, found) in forth.iter().enumerate() {
+        let joined = match found {
+            Some(partner) => Some(*partner),
+            None => by_path((old, new), place, back),
+        };
+        all.push(joined)?;
+    }
+    Ok(all)
 }
 
-impl Digest for EntryKey {
-    ghost use Rattle.idl_base.specs.Digest.{with_bytes};
-
-    ghost digest_of = { λ key. with_bytes key.number key.id };
-
-    fn digest(&self) -> u64 {
-        with_bytes(self.number as u64, self.id.as_bytes())
+// The one of the same path and kind, if that is left.
+fn by_path(
+    listings: (&Listing<'_>, &Listing<'_>),
+    place: usize,
+    back: &[Option<usize>],
+) -> Option<usize>
+    requires { back.now ≡ each (by_id listings.1.now listings.0.now) listings.1.now }
+    ensures { result ≡ option_and_then
+        (λ e. if is_called e then None
+        else by_path listings.entry.0.now listings.entry.1.now place e)
+        (slice_get listings.entry.0.now place) }
+{
+    let (old, new) = listings;
+    let entry = old.entry(place)?;
+    let other = new.place_of(&entry.path)?;
+    let partner = new.entry(other)?;
+    let is_first = old.place_of(&entry.path) == Some(place);
+    let is_left = back.get(other)?.is_none();
+    if is_first && is_left && partner.kind == entry.kind && !is_called(entry) {
+        Some(other)
+    } else {
+        None
     }
 }
 
-/// Where each entry stands.
-pub fn places(alloc: Global, trees: &[&RowTree]) -> Result<Map<EntryKey, usize>, AllocError>
-    ensures { IfOk result (ArePlaces (map (λ tree. tree.now) trees.now)) }
+// Which entry of the new listing has the id of each of the old one, the first as the first, the second as the second.
+fn all_by_id(
+    alloc: Global,
+    old: &Listing<'_>,
+    new: &Listing<'_>,
+) -> Result<Vec<Option<usize>>, AllocError>
+    ensures { IfOk result (λ all. all.items ≡ each (by_id old.now new.now) old.now) }
 {
-    let mut places = Map::new(alloc)?;
+    let ids = ids_of(alloc, new)?;
     let mut counts = Map::new(alloc)?;
-    for (place, tree) in trees.iter().enumerate() {
-        let key = key_of(&mut counts, tree)?;
-        places.insert(key, place)?;
+    let mut all = Vec::with_capacity(alloc, old.len())?;
+    for tree in old.trees() {
+        let found = match key_of(&mut counts, tree)? {
+            Some(key) => ids.get(&key).copied(),
+            None => None,
+        };
+        all.push(found)?;
     }
-    Ok(places)
+    Ok(all)
 }
 
-/// The key of the next entry, which counts from now on.
-pub fn key_of(counts: &mut Map<Bytes, usize>, tree: &RowTree) -> Result<EntryKey, AllocError>
-    // There are no more of an id than entries.
-    requires { unwrap_or (lookup (bytes_eq tree.now.id) counts.old) 0 < 2 ^ 64 - 1 }
-
-    ensures id { IfOk result (λ key. key.id ≡ tree.now.id) }
-    ensures number { IfOk result (λ key.
-        key.number ≡ unwrap_or (lookup (bytes_eq tree.now.id) counts.old) 0) }
-    ensures counted { IfOk result (λ key. (id : List ℕ) → lookup (bytes_eq id) counts.new
-        ≡ (if bytes_eq id tree.now.id then Some (key.number + 1) else lookup (bytes_eq id) counts.old)) }
+// Where the entries of each id stand that aren't called.
+fn ids_of(alloc: Global, listing: &Listing<'_>) -> Result<Map<NumberedText, usize>, AllocError>
+    ensures { IfOk result (AreIds listing.now) }
 {
-    let number = match counts.get(&tree.id) {
+    let mut ids = Map::new(alloc)?;
+    let mut counts = Map::new(alloc)?;
+    for (place, tree) in listing.trees().iter().enumerate() {
+        if let Some(key) = key_of(&mut counts, tree)? {
+            ids.insert(key, place)?;
+        }
+    }
+    Ok(ids)
+}
+
+// The id of the next entry and how many of it come before, if it isn't called. It counts from now on.
+fn key_of(
+    counts: &mut Map<Bytes, usize>,
+    entry: &RowTree,
+) -> Result<Option<NumberedText>, AllocError>
+    // There are no more of an id than entries.
+    requires { unwrap_or (lookup (bytes_eq entry.now.id) counts.old) 0 < 2 ^ 64 - 1 }
+
+    ensures called { IfOk result (λ key. IsTrue (is_called entry.now)
+        → (key ≡ None) × (counts.new ≡ counts.old)) }
+    ensures key { IfOk result (λ key. IsFalse (is_called entry.now) → key ≡ Some (record {
+      text = entry.now.id;
+      number = unwrap_or (lookup (bytes_eq entry.now.id) counts.old) 0;
+    })) }
+    ensures counted { IfOk result (λ key. IsFalse (is_called entry.now) → (id : List ℕ)
+        → lookup (bytes_eq id) counts.new
+        ≡ (if bytes_eq id entry.now.id
+        then Some (unwrap_or (lookup (bytes_eq entry.now.id) counts.old) 0 + 1)
+        else lookup (bytes_eq id) counts.old)) }
+{
+    if is_called(entry) {
+        return Ok(None);
+    }
+    let number = match counts.get(&entry.id) {
         Some(number) => *number,
         None => 0,
     };
-    counts.insert(tree.id.clone()?, number + 1)?;
-    let id = tree.id.clone()?;
-    Ok(EntryKey { id, number })
-}
-
-/// The entry that has a key.
-pub fn entry_at<'a>(
-    places: &Map<EntryKey, usize>,
-    trees: &[&'a RowTree],
-    key: &EntryKey,
-) -> Option<&'a RowTree>
-    requires { ArePlaces (map (λ tree. tree.now) trees.now) places.now }
-    ensures { option_copied result
-        ≡ slice_get (of_id key.now.id (map (λ tree. tree.now) trees.entry.now)) key.now.number }
-{
-    match places.get(key) {
-        Some(place) => trees.get(*place).copied(),
-        None => None,
-    }
+    counts.insert(entry.id.clone()?, number + 1)?;
+    let text = entry.id.clone()?;
+    Ok(Some(NumberedText { text, number }))
 }

@@ -1,29 +1,21 @@
 -- Two versions, and what is told of them.
-use Rattle.std.proofs.Common.{◌≡◌, ◌≢◌, ◌∙◌, ◌||◌, ◌∷◌, [], ℕ, Bool, List, None, Option, Some, ap, ap₂, false, flat_map, if◌then◌else◌, map, refl, sym, true}
-use Rattle.std.proofs.lemmas.Bool.{false≢true, or_parts}
+use Rattle.std.proofs.Common.{◌≡◌, ◌&&◌, ◌||◌, ◌∷◌, [], ℕ, Bool, List, None, Option, Some, ap, ap₂, false, if◌then◌else◌, refl, sym, true}
+use Rattle.std.proofs.lemmas.Bool.{or_parts}
 use Rattle.std.proofs.lemmas.List.{append-nil}
 use Rattle.std.proofs.lemmas.List.Elements.{All-cons, All-nil}
-use Rattle.std.proofs.lemmas.List.Folds.{flat_map-map}
-use Rattle.idl_changes.specs.Changes.{NoneBreaks}
+use Rattle.idl_changes.specs.Chosen.{meets}
+use Rattle.idl_changes.specs.Laws.{NoneHas}
 use Rattle.idl_changes.specs.declared.change.Change.{Change}
-use Rattle.idl_changes.specs.declared.change.Weight.{Weight}
-use Rattle.idl_changes.specs.declared.change.Weight.TheVariants.{Breaks}
+use Rattle.idl_changes.specs.declared.rows.Weights.{Weights}
 use Rattle.idl_source.specs.devices.Device.{append}
-use Rattle.idl_inputs.specs.Bank.{bank_of}
-use Rattle.idl_driver.specs.idl_sources.Details.{details_over}
-use Rattle.idl_inputs.specs.Project.{Inputs}
 use Rattle.idl_driver.specs.Compilations.{IsCompilation, HasCompiled}
 use Rattle.idl_loader.specs.Holding.{Holding}
 use Rattle.idl_driver.specs.Rows.{are_faulty}
 use Rattle.idl_driver.specs.declared.options.Options.{Options}
 use Rattle.idl_driver.specs.declared.compilation.Compilation.{Compilation}
 use Rattle.idl_loader.specs.declared.status.Status.TheVariants.{Failed, Faulty, Sound}
-use Rattle.idl_tool.specs.Compared.{IsVersion, Version, all_trees, are_breaking, change_lines, changes_between, ending_of, has_error, is_breaking, seen, shown_between, trees_in}
+use Rattle.idl_tool.specs.Compared.{IsVersion, Version, are_failing, ending_by, ending_of, has_error, lines_between, seen, shown_between}
 use Rattle.idl_tool.proofs.DepsLemmas.{ending-of}
-
--- the trees of what the roots tell
-pub trees-of-all : (inputs : Inputs) (roots : List (List ℕ)) → flat_map trees_in (map (details_over (bank_of inputs)) roots) ≡ all_trees inputs roots
-trees-of-all inputs roots = flat_map-map trees_in (details_over (bank_of inputs)) roots
 
 -- what options ask for, compiled, is the version that they ask for
 pub version-of : (told : List ℕ → Holding) (options : Options) (all : Compilation) → IsCompilation told options all → IsVersion told options (seen all)
@@ -41,32 +33,35 @@ append-none None = refl
 append-none (Some bytes) = ap Some (sym (append-nil bytes))
 
 -- of versions with an error nothing is shown
-pub shown-none : (old new : Version) → has_error old new ≡ true → (shown_between old new ≡ []) × (ending_of old new ≡ Failed)
-shown-none old new is = (
-  ap (λ (b : Bool). if b then [] else change_lines (changes_between old new)) is,
-  ap (λ (b : Bool). if b then Failed else if are_breaking (changes_between old new) then Faulty else Sound) is,
+pub shown-none : (fails : Weights) (old new : Version) → has_error old new ≡ true → (shown_between fails old new ≡ []) × (ending_of fails old new ≡ Failed)
+shown-none fails old new is = (
+  ap (λ (b : Bool). if b then [] else lines_between fails old new) is,
+  ap (λ (b : Bool). if b then Failed else ending_by fails old new) is,
 )
 
 -- and of others the changes
-pub shown-all : (old new : Version) → has_error old new ≡ false
-    → (shown_between old new ≡ change_lines (changes_between old new)) × (ending_of old new ≡ (if are_breaking (changes_between old new) then Faulty else Sound))
-shown-all old new is = (
-  ap (λ (b : Bool). if b then [] else change_lines (changes_between old new)) is,
-  ap (λ (b : Bool). if b then Failed else if are_breaking (changes_between old new) then Faulty else Sound) is,
+pub shown-all : (fails : Weights) (old new : Version) → has_error old new ≡ false
+    → (shown_between fails old new ≡ lines_between fails old new) × (ending_of fails old new ≡ ending_by fails old new)
+shown-all fails old new is = (
+  ap (λ (b : Bool). if b then [] else lines_between fails old new) is,
+  ap (λ (b : Bool). if b then Failed else ending_by fails old new) is,
 )
 
--- of changes none of which breaks anything
-breaking-is : (w : Weight) → is_breaking w ≡ false → w ≢ Breaks
-breaking-is w is same = false≢true (sym is ∙ ap is_breaking same)
+-- of changes none of which is an error none counts on the wire, where that would be one
+pub none-failing : (fails : Weights) → fails.wire ≡ true → (told : List Change) → are_failing fails told ≡ false → NoneHas (λ w. w.wire) told
+none-failing fails wire [] is = All-nil (λ (c : Change). c.difference.weights.wire ≡ false)
+none-failing fails wire (change ∷ rest) is =
+    let parts = or_parts (meets change.difference.weights fails) (are_failing fails rest) is in
+    let own = unmet change.difference.weights.wire fails.wire _ wire parts.0 in
+    All-cons (λ (c : Change). c.difference.weights.wire ≡ false) change rest own (none-failing fails wire rest parts.1)
+  where
+    unmet : (a b more : Bool) → b ≡ true → ((a && b) || more) ≡ false → a ≡ false
+    unmet true true more e h = cc
+    unmet false b more e h = refl
+    unmet true false more e h = cc
 
-pub none-breaking : (told : List Change) → are_breaking told ≡ false → NoneBreaks told
-none-breaking [] is = All-nil (λ (c : Change). c.weight ≢ Breaks)
-none-breaking (change ∷ rest) is =
-    let parts = or_parts (is_breaking change.weight) (are_breaking rest) is in
-    All-cons (λ (c : Change). c.weight ≢ Breaks) change rest (breaking-is change.weight parts.0) (none-breaking rest parts.1)
-
--- none breaks anything where the program ends soundly
-pub sound-none : (faulty breaking : Bool) → (if faulty then Failed else if breaking then Faulty else Sound) ≡ Sound → breaking ≡ false
-sound-none true breaking is = absurd (cc)
+-- none is an error where the program ends soundly
+pub sound-none : (faulty failing : Bool) → (if faulty then Failed else if failing then Faulty else Sound) ≡ Sound → failing ≡ false
+sound-none true failing is = absurd (cc)
 sound-none false true is = absurd (cc)
 sound-none false false is = refl

@@ -3,5 +3,6 @@
 mod checks;
 mod diffs;
 mod explains;
+mod jsons;
 mod rules;
 mod support;

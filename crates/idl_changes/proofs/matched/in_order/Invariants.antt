@@ -1,0 +1,8 @@
+use Rattle.std.proofs.Common.{◌≡◌, drop}
+use Rattle.idl_changes.specs.Matched.{in_order_from}
+use Rattle.idl_changes.proofs.matched.in_order.Given as goal
+
+-- those that are left are in order behind those so far
+abbrev pub invariant-loop-place : goal.invariant-loop-place
+invariant-loop-place l =
+    in_order_from l.least (drop l.place-index l.found) ≡ in_order_from 0 l.found

@@ -1,0 +1,212 @@
+//! What is told of an entry: how it differs from the one to which it belongs, or that it is gone or new.
+
+ghost use Rattle.std.specs.Prelude.{◌≡◌, ◌++◌, [], IfOk, OnOk, map};
+ghost use Rattle.std.specs.Option.{option_and_then, option_map_or};
+ghost use Rattle.idl_changes.specs.Differences.{added_differences, called_gone, called_new, differences, entry_differences, gone_differences, id_line, is_called_locally, kind_differences};
+ghost use Rattle.idl_changes.specs.Listing.{interface_of};
+ghost use Rattle.idl_changes.specs.Partners.{joined};
+ghost use Rattle.idl_changes.specs.Rows.{eased};
+
+use crate::change::{Difference, Turn};
+use crate::details::compare_details;
+use crate::interfaces::compare_interfaces;
+use crate::listing::{is_called, is_interface, is_local, is_sent_kind, name_of};
+use crate::parts::{compare_texts, push_changed, push_told};
+use crate::rows::{Line, eased};
+use crate::sides::{Sides, own_interface};
+use idl_entity::Kind;
+use idl_repo::details::{RowTree, kind_word};
+use std::alloc::{AllocError, Global};
+
+/// How an entry of the old listing differs from the one of the new listing to which it belongs, at these places.
+#[tactic(auto, unfolding(crate::specs::Differences::differences))]
+pub fn differences(
+    alloc: Global,
+    sides: &Sides<'_>,
+    places: (usize, usize),
+    entries: (&RowTree, &RowTree),
+) -> Result<Vec<Difference>, AllocError>
+    ensures { IfOk result (λ told. told.items ≡ differences sides.now.0 sides.now.1 places.0
+        places.1 entries.entry.0.now entries.entry.1.now) }
+{
+    let mut told = Vec::new(alloc);
+    compare_entries(sides, places, entries, &mut told)?;
+    if is_called_locally(sides, entries.0)? {
+        ease(&mut told);
+    }
+    Ok(told)
+}
+
+// Compares entries: their ids, their paths, and what they are.
+fn compare_entries(
+    sides: &Sides<'_>,
+    places: (usize, usize),
+    entries: (&RowTree, &RowTree),
+    out: &mut Vec<Difference>,
+) -> Result<(), AllocError>
+    ensures { OnOk result (out.new.items ≡ out.old.items ++ entry_differences sides.now.0
+        sides.now.1 places.0 places.1 entries.entry.0.now entries.entry.1.now) }
+{
+    let (old, new) = entries;
+    let ids = (old.id.as_bytes(), new.id.as_bytes());
+    compare_texts(id_line(old.kind), b"id", ids, out)?;
+    if !is_called(old) {
+        let paths = (old.path.as_bytes(), new.path.as_bytes());
+        compare_texts(Line::Path, b"path", paths, out)?;
+    }
+    compare_kinds(sides, places, entries, out)
+}
+
+// The line of another id.
+fn id_line(kind: Kind) -> Line
+    ensures { result ≡ id_line kind }
+{
+    if is_sent_kind(kind) {
+        Line::SentId
+    } else {
+        Line::OtherId
+    }
+}
+
+// Compares kinds, and where they are one what is told of them.
+fn compare_kinds(
+    sides: &Sides<'_>,
+    places: (usize, usize),
+    entries: (&RowTree, &RowTree),
+    out: &mut Vec<Difference>,
+) -> Result<(), AllocError>
+    ensures { OnOk result (out.new.items ≡ out.old.items ++ kind_differences sides.now.0
+        sides.now.1 places.0 places.1 entries.entry.0.now entries.entry.1.now) }
+{
+    let (old, new) = entries;
+    if old.kind != new.kind {
+        let kinds = (kind_word(old.kind), kind_word(new.kind));
+        return push_changed(Line::Kind, b"kind", kinds, out);
+    }
+    if is_interface(old) {
+        compare_interfaces(sides, places, entries, out)
+    } else {
+        compare_details(sides, &old.details, &new.details, out)
+    }
+}
+
+// Whether an entry of the old listing is called on a local interface.
+fn is_called_locally(sides: &Sides<'_>, entry: &RowTree) -> Result<bool, AllocError>
+    ensures { IfOk result (λ local.
+        local ≡ is_called_locally sides.now.0 sides.now.1 entry.now) }
+{
+    if !is_called(entry) {
+        return Ok(false);
+    }
+    let listing = sides.before().listing();
+    let Some(place) = listing.interface_of(entry)? else {
+        return Ok(false);
+    };
+    match listing.entry(place) {
+        Some(interface) => Ok(is_local(interface)),
+        None => Ok(false),
+    }
+}
+
+// Has what is called on a local interface count for source alone.
+fn ease(told: &mut Vec<Difference>)
+    ensures { told.new.items
+        ≡ map (λ d. record d { weights = eased d.weights }) told.old.items }
+{
+    for difference in told.iter_mut() {
+        difference.weights = eased(difference.weights);
+    }
+}
+
+/// What is told of an entry of the old listing that belongs to none.
+#[tactic(auto, unfolding(crate::specs::Differences::gone_differences))]
+pub fn gone_differences(
+    alloc: Global,
+    sides: &Sides<'_>,
+    place: usize,
+    entry: &RowTree,
+) -> Result<Vec<Difference>, AllocError>
+    ensures { IfOk result (λ told. told.items
+        ≡ gone_differences sides.now.0 sides.now.1 place entry.now) }
+{
+    if is_called(entry) {
+        return called_gone(alloc, sides, place, entry);
+    }
+    let mut told = Vec::new(alloc);
+    let line = if is_sent_kind(entry.kind) {
+        Line::SentGone
+    } else {
+        Line::UnsentGone
+    };
+    push_told(line, b"", Turn::Gone, &mut told)?;
+    Ok(told)
+}
+
+// The same of a called one: it is told where its interface belongs to one.
+fn called_gone(
+    alloc: Global,
+    sides: &Sides<'_>,
+    place: usize,
+    entry: &RowTree,
+) -> Result<Vec<Difference>, AllocError>
+    ensures { IfOk result (λ told. told.items
+        ≡ option_map_or (called_gone sides.now.0 sides.now.1 place entry.now)
+        (interface_of sides.now.0 entry.now) []) }
+{
+    let mut told = Vec::new(alloc);
+    let Some(interface) = own_interface(sides.before(), place, entry)? else {
+        return Ok(told);
+    };
+    if sides.joined(interface).is_none() {
+        return Ok(told);
+    }
+    push_told(Line::CalledGone, b"", Turn::Gone, &mut told)?;
+    if is_called_locally(sides, entry)? {
+        ease(&mut told);
+    }
+    Ok(told)
+}
+
+/// What is told of an entry of the new listing: that it is new, if it is.
+#[tactic(auto, unfolding(crate::specs::Differences::added_differences))]
+pub fn added_differences(
+    alloc: Global,
+    sides: &Sides<'_>,
+    place: usize,
+    entry: &RowTree,
+) -> Result<Vec<Difference>, AllocError>
+    ensures { IfOk result (λ told. told.items
+        ≡ added_differences sides.now.0 sides.now.1 place entry.now) }
+{
+    let mut told = Vec::new(alloc);
+    if is_called(entry) {
+        push_called_new(sides, entry, &mut told)?;
+    } else if sides.joined_back(place).is_none() {
+        push_told(Line::EntryNew, b"", Turn::New, &mut told)?;
+    }
+    Ok(told)
+}
+
+// Tells that a called entry is new, where the old interface offers none of its name.
+fn push_called_new(
+    sides: &Sides<'_>,
+    entry: &RowTree,
+    out: &mut Vec<Difference>,
+) -> Result<(), AllocError>
+    ensures { OnOk result (out.new.items ≡ out.old.items
+        ++ option_map_or (called_new sides.now.0 sides.now.1 entry.now)
+        (option_and_then (joined sides.now.1 sides.now.0) (interface_of sides.now.1 entry.now))
+        []) }
+{
+    let Some(interface) = sides.after().listing().interface_of(entry)? else {
+        return Ok(());
+    };
+    let Some(partner) = sides.joined_back(interface) else {
+        return Ok(());
+    };
+    let name = name_of(&entry.path)?;
+    if sides.before().offered(partner, &name)?.is_some() {
+        return Ok(());
+    }
+    push_told(Line::CalledNew, b"", Turn::New, out)
+}

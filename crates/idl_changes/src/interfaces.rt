@@ -1,0 +1,153 @@
+//! Interfaces, which are compared by what they inherit. What is called on them are entries of their own.
+
+ghost use Rattle.std.specs.Prelude.{◌≡◌, ◌++◌, ℕ, IfOk, OnOk, codes, false, nat_eq};
+ghost use Rattle.std.specs.List.{list_all, list_any};
+ghost use Rattle.std.specs.Option.{option_map_or};
+ghost use Rattle.idl_changes.specs.Differences.{base_line, gone_bases, interface_differences, new_bases, told};
+ghost use Rattle.idl_changes.specs.Listing.{name_at, path_at};
+ghost use Rattle.idl_changes.specs.Offered.{called_in, is_offered};
+
+use crate::change::{Difference, Turn};
+use crate::listing::{is_local, name_of};
+use crate::parts::{push_changed, push_told, yes_or_no};
+use crate::rows::Line;
+use crate::side::Side;
+use crate::sides::Sides;
+use idl_repo::details::RowTree;
+use std::alloc::{AllocError, Global};
+use std::collections::BTreeSet;
+
+/// Compares interfaces at these places of the old listing and of the new one.
+#[tactic(auto, unfolding(crate::specs::Differences::interface_differences))]
+pub fn compare_interfaces(
+    sides: &Sides<'_>,
+    places: (usize, usize),
+    entries: (&RowTree, &RowTree),
+    out: &mut Vec<Difference>,
+) -> Result<(), AllocError>
+    ensures { OnOk result (out.new.items ≡ out.old.items ++ interface_differences sides.now.0
+        sides.now.1 places.0 places.1 entries.entry.0.now entries.entry.1.now) }
+{
+    let was = is_local(entries.0);
+    let is = is_local(entries.1);
+    if was != is {
+        let words = (yes_or_no(was), yes_or_no(is));
+        return push_changed(Line::Local, b"local", words, out);
+    }
+    push_gone_bases(sides, places, out)?;
+    push_new_bases(sides, places, out)
+}
+
+// Tells of what the old interface inherits and the new one doesn't.
+fn push_gone_bases(
+    sides: &Sides<'_>,
+    places: (usize, usize),
+    out: &mut Vec<Difference>,
+) -> Result<(), AllocError>
+    ensures { OnOk result (out.new.items ≡ out.old.items
+        ++ gone_bases sides.now.0 sides.now.1 places.0 places.1) }
+{
+    let inherited = set_of(*out.allocator(), sides.after().ancestors(places.1))?;
+    for base in sides.before().ancestors(places.0) {
+        if !is_among(sides.joined(*base), &inherited) {
+            push_base(Line::BaseGone, (sides.before(), *base), Turn::Gone, out)?;
+        }
+    }
+    Ok(())
+}
+
+// Tells of what the new interface inherits and the old one doesn't.
+fn push_new_bases(
+    sides: &Sides<'_>,
+    places: (usize, usize),
+    out: &mut Vec<Difference>,
+) -> Result<(), AllocError>
+    ensures { OnOk result (out.new.items ≡ out.old.items
+        ++ new_bases sides.now.0 sides.now.1 places.0 places.1) }
+{
+    let mut goes_on = BTreeSet::new(*out.allocator());
+    for base in sides.before().ancestors(places.0) {
+        if let Some(partner) = sides.joined(*base) {
+            goes_on.insert(partner)?;
+        }
+    }
+    for base in sides.after().ancestors(places.1) {
+        if !goes_on.contains(base) {
+            let line = base_line(sides, places.0, *base)?;
+            push_base(line, (sides.after(), *base), Turn::New, out)?;
+        }
+    }
+    Ok(())
+}
+
+// These places as a set.
+fn set_of(alloc: Global, places: &[usize]) -> Result<BTreeSet<usize>, AllocError>
+    ensures { IfOk result (λ set. (n : ℕ)
+        → list_any (nat_eq n) set.keys ≡ list_any (nat_eq n) places.now) }
+{
+    let mut set = BTreeSet::new(alloc);
+    for place in places {
+        set.insert(*place)?;
+    }
+    Ok(set)
+}
+
+// Whether a place is among these, where there is one.
+fn is_among(place: Option<usize>, places: &BTreeSet<usize>) -> bool
+    ensures { result ≡ option_map_or (λ n. list_any (nat_eq n) places.now.keys) place false }
+{
+    match place {
+        Some(place) => places.contains(&place),
+        None => false,
+    }
+}
+
+// Tells what became of the base at a place.
+fn push_base(
+    line: Line,
+    base: (&Side<'_>, usize),
+    turn: Turn,
+    out: &mut Vec<Difference>,
+) -> Result<(), AllocError>
+    ensures { OnOk result (out.new.items ≡ out.old.items
+        ++ told line (codes "base " ++ path_at base.entry.0.now base.entry.1) turn) }
+{
+    let mut part = Vec::from_slice(*out.allocator(), b"base ")?;
+    if let Some(entry) = base.0.listing().entry(base.1) {
+        part.extend_from_slice(entry.path.as_bytes())?;
+    }
+    push_told(line, &part, turn, out)
+}
+
+// The line of a base that is new to an interface: whether it brings more to call than the old one offered.
+fn base_line(sides: &Sides<'_>, interface: usize, base: usize) -> Result<Line, AllocError>
+    ensures { IfOk result (λ line.
+        line ≡ base_line sides.now.0 sides.now.1 interface base) }
+{
+    if !offers_all(sides, interface, base)? {
+        return Ok(Line::BringingBase);
+    }
+    for above in sides.after().ancestors(base) {
+        if !offers_all(sides, interface, *above)? {
+            return Ok(Line::BringingBase);
+        }
+    }
+    Ok(Line::BareBase)
+}
+
+// Whether an old interface offers all that is in the scope of a new one.
+fn offers_all(sides: &Sides<'_>, interface: usize, scope: usize) -> Result<bool, AllocError>
+    ensures { IfOk result (λ all. all
+        ≡ list_all (λ h. is_offered sides.now.0 interface (name_at sides.now.1 h))
+        (called_in sides.now.1 scope)) }
+{
+    for called in sides.after().called_in(scope) {
+        if let Some(entry) = sides.after().listing().entry(*called) {
+            let name = name_of(&entry.path)?;
+            if sides.before().offered(interface, &name)?.is_none() {
+                return Ok(false);
+            }
+        }
+    }
+    Ok(true)
+}

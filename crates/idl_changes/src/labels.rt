@@ -1,0 +1,136 @@
+//! A union's labels, and what each of them selects.
+
+ghost use Rattle.std.specs.Prelude.{◌≡◌, ℕ, List, IfOk, option_copied};
+ghost use Rattle.idl_changes.specs.Plain.{default_of, label_of, labelled, selected};
+ghost use Rattle.idl_changes.specs.Tables.{AreFirst};
+
+use crate::keys::NumberedText;
+use crate::matched::first_places;
+use idl_base::Bytes;
+use idl_map::Map;
+use idl_repo::details::CaseTree;
+use std::alloc::{AllocError, Global};
+use std::marker::Model;
+
+/// The enumerators of a union's discriminator, if that is an enum, and its cases. To every contract these two lists.
+pub struct Labels<'a> {
+    names: &'a [Bytes],
+    cases: &'a [CaseTree],
+    // The place of each enumerator, and that of the case of each label.
+    numbers: Map<Bytes, usize>,
+    places: Map<NumberedText, usize>,
+}
+
+impl<'a> Model for Labels<'a> {
+    ghost use Rattle.std.specs.Prelude.{List, ℕ};
+    ghost use Rattle.idl_changes.specs.Tables.{AreFirst, AreLabelled};
+    ghost use Rattle.idl_repo.specs.declared.details.type_code_tree.CaseTree.{CaseTree};
+
+    ghost Value = { List (List ℕ) × List CaseTree };
+
+    ghost view = { λ labels. (labels.names.now, labels.cases.now) };
+
+    ghost invariant = { λ labels. AreFirst labels.names.now labels.numbers
+        × AreLabelled labels.names.now labels.cases.now labels.places };
+}
+
+impl<'a> Drop for Labels<'a> {
+    fn drop(self) {
+        let Labels {
+            names: _names,
+            cases: _cases,
+            numbers: _numbers,
+            places: _places,
+        } = self;
+    }
+}
+
+impl<'a> Labels<'a> {
+    /// Those of a union that has these cases, where these are its discriminator's enumerators.
+    pub fn new(
+        alloc: Global,
+        names: &'a [Bytes],
+        cases: &'a [CaseTree],
+    ) -> Result<Labels<'a>, AllocError>
+        ensures { IfOk result (λ labels. labels ≡ (names.entry.now, cases.entry.now)) }
+    {
+        let numbers = first_places(alloc, names)?;
+        let mut places = Map::new(alloc)?;
+        for (place, case) in cases.iter().enumerate() {
+            if let Some(text) = &case.label {
+                let label = label_among(&numbers, text, alloc)?;
+                if places.get(&label).is_none() {
+                    places.insert(label, place)?;
+                }
+            }
+        }
+        Ok(Labels {
+            names,
+            cases,
+            numbers,
+            places,
+        })
+    }
+
+    /// The cases.
+    pub fn cases(&self) -> &'a [CaseTree]
+        ensures { result.now ≡ self.now.1 }
+    {
+        self.cases
+    }
+
+    /// A label as it goes over the wire.
+    pub fn label_of(&self, alloc: Global, text: &Bytes) -> Result<NumberedText, AllocError>
+        ensures { IfOk result (λ label. label ≡ label_of self.now.0 text.now) }
+    {
+        label_among(&self.numbers, text, alloc)
+    }
+
+    /// The case of a label.
+    pub fn labelled(&self, label: &NumberedText) -> Option<&'a CaseTree>
+        ensures { option_copied result ≡ labelled self.now.0 self.now.1 label.now }
+    {
+        let place = self.places.get(label)?;
+        self.cases.get(*place)
+    }
+
+    /// The case of `default`.
+    #[tactic(auto, unfolding(crate::specs::Plain::default_of))]
+    pub fn default_case(&self) -> Option<&'a CaseTree>
+        ensures { option_copied result ≡ default_of self.now.1 }
+    {
+        self.cases.iter().find(|case| case.label.is_none())
+    }
+
+    /// What a label selects.
+    #[tactic(auto, unfolding(crate::specs::Plain::selected))]
+    pub fn selected(&self, label: &NumberedText) -> Option<&'a CaseTree>
+        ensures { option_copied result ≡ selected self.now.0 self.now.1 label.now }
+    {
+        match self.labelled(label) {
+            Some(case) => Some(case),
+            None => self.default_case(),
+        }
+    }
+}
+
+// A label as it goes over the wire, where these are the numbers of enumerators.
+#[tactic(auto, unfolding(crate::specs::Plain::label_of))]
+fn label_among(
+    numbers: &Map<Bytes, usize>,
+    text: &Bytes,
+    alloc: Global,
+) -> Result<NumberedText, AllocError>
+    ensures { IfOk result (λ label. (names : List (List ℕ)) → AreFirst names numbers.now
+        → label ≡ label_of names text.now) }
+{
+    let Some(place) = numbers.get(text) else {
+        let text = text.clone()?;
+        return Ok(NumberedText { text, number: 0 });
+    };
+    let Some(number) = place.checked_add(1) else {
+        return Err(AllocError);
+    };
+    let text = Bytes::from_slice(alloc, b"")?;
+    Ok(NumberedText { text, number })
+}

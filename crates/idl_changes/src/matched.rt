@@ -1,0 +1,154 @@
+//! Which items of two lists with names belong together.
+
+ghost use Rattle.std.specs.Prelude.{◌≡◌, IfOk, Some, map, slice_get};
+ghost use Rattle.std.specs.Cmp.Lexicographic.{pointwise};
+ghost use Rattle.std.specs.List.{range_with_len};
+ghost use Rattle.std.specs.Option.{option_and_then};
+ghost use Rattle.std.specs.Str.{bytes_eq};
+ghost use Rattle.idl_changes.specs.Matched.{in_order, is_matched, matched, matches};
+ghost use Rattle.idl_changes.specs.Tables.{AreFirst};
+
+use idl_base::Bytes;
+use idl_map::Map;
+use std::alloc::{AllocError, Global};
+
+/// What has a name.
+pub trait Named {
+    ghost use Rattle.std.specs.Prelude.{List, ℕ};
+
+    /// The name of an item.
+    ghost name_of: { Self → List ℕ };
+
+    /// Its name.
+    fn name(&self) -> &Bytes
+        ensures { result.now ≡ name_of self.now };
+}
+
+/// To which of the new items each of the old ones belongs.
+#[tactic(auto, unfolding(crate::specs::Matched::matches))]
+pub fn matches<T: Named>(
+    alloc: Global,
+    old: &[T],
+    new: &[T],
+) -> Result<Vec<Option<usize>>, AllocError>
+    ensures { IfOk result (λ found.
+        found.items ≡ matches (map T.name_of old.now) (map T.name_of new.now)) }
+{
+    if have_same_names(old, new) {
+        return all_in_place(alloc, old.len());
+    }
+    let old_places = first_places(alloc, old)?;
+    let new_places = first_places(alloc, new)?;
+    let mut found = Vec::with_capacity(alloc, old.len())?;
+    for place in 0..old.len() {
+        found.push(matched((old, new), (&old_places, &new_places), place))?;
+    }
+    Ok(found)
+}
+
+// Whether two lists have the same names at the same places.
+fn have_same_names<T: Named>(old: &[T], new: &[T]) -> bool
+    ensures { result ≡ pointwise bytes_eq (map T.name_of old.now) (map T.name_of new.now) }
+{
+    if old.len() != new.len() {
+        return false;
+    }
+    for (place, item) in old.iter().enumerate() {
+        if *item.name() != *new[place].name() {
+            return false;
+        }
+    }
+    true
+}
+
+// So many places, each of which belongs to itself.
+fn all_in_place(alloc: Global, count: usize) -> Result<Vec<Option<usize>>, AllocError>
+    ensures { IfOk result (λ found. found.items ≡ map Some (range_with_len 0 count)) }
+{
+    let mut found = Vec::with_capacity(alloc, count)?;
+    for place in 0..count {
+        found.push(Some(place))?;
+    }
+    Ok(found)
+}
+
+/// The first place of each name.
+pub fn first_places<T: Named>(alloc: Global, items: &[T]) -> Result<Map<Bytes, usize>, AllocError>
+    ensures { IfOk result (AreFirst (map T.name_of items.now)) }
+{
+    let mut places = Map::new(alloc)?;
+    for (place, item) in items.iter().enumerate() {
+        if places.get(item.name()).is_none() {
+            places.insert(item.name().clone()?, place)?;
+        }
+    }
+    Ok(places)
+}
+
+// To which of the new items the one at a place belongs, where these are the first places of all names.
+#[tactic(auto, unfolding(crate::specs::Matched::matched))]
+fn matched<T: Named>(
+    lists: (&[T], &[T]),
+    places: (&Map<Bytes, usize>, &Map<Bytes, usize>),
+    place: usize,
+) -> Option<usize>
+    requires before { AreFirst (map T.name_of lists.0.now) places.0.now }
+    requires after { AreFirst (map T.name_of lists.1.now) places.1.now }
+    ensures { result ≡ option_and_then
+        (λ name. matched (map T.name_of lists.entry.0.now) (map T.name_of lists.entry.1.now) place
+        name) (slice_get (map T.name_of lists.entry.0.now) place) }
+{
+    let (old, new) = lists;
+    let item = old.get(place)?;
+    let there = new.get(place);
+    if let Some(other) = there
+        && *other.name() == *item.name()
+    {
+        return Some(place);
+    }
+    if let Some(found) = places.1.get(item.name()) {
+        return Some(*found);
+    }
+    match there {
+        Some(other) if old.len() == new.len() && places.0.get(other.name()).is_none() => {
+            Some(place)
+        }
+        _ => None,
+    }
+}
+
+/// Which of so many new items belong to an old one.
+pub fn marked(alloc: Global, found: &[Option<usize>], count: usize) -> Result<Vec<bool>, AllocError>
+    ensures { IfOk result (λ marks.
+        marks.items ≡ map (is_matched found.now) (range_with_len 0 count)) }
+{
+    let mut marks = Vec::with_capacity(alloc, count)?;
+    for _item in 0..count {
+        marks.push(false)?;
+    }
+    for place in found {
+        if let Some(place) = place
+            && let Some(mark) = marks.get_mut(*place)
+        {
+            *mark = true;
+        }
+    }
+    Ok(marks)
+}
+
+/// Whether those that belong to one stand in the same order.
+#[tactic(auto, unfolding(crate::specs::Matched::in_order))]
+pub fn in_order(found: &[Option<usize>]) -> bool
+    ensures { result ≡ in_order found.now }
+{
+    let mut least = 0;
+    for place in found {
+        if let Some(place) = place {
+            if *place < least {
+                return false;
+            }
+            least = place.saturating_add(1);
+        }
+    }
+    true
+}
