@@ -142,7 +142,7 @@ fn bare<'a>(alloc: Global) -> Command<'a>
             "Checks files, tells what the rows of idlc mean, what files stand on and what changes from one to another, and writes JSON.",
         )
         .after_help(
-            "The status is 0; or 1 where a FILE has errors, or a change breaks something; or 2 for wrong words and other trouble, which standard error tells.",
+            "The status is 0; or 1 where a FILE has errors, or a change is one; or 2 for wrong words and other trouble, which standard error tells.",
         )
 }
 
@@ -196,7 +196,7 @@ fn diff_command<'a>(alloc: Global) -> Result<Command<'a>, AllocError>
     ensures local { IfOk result (λ command. (fields_of command).has_globals ≡ false) }
 {
     let command = Command::new(alloc, "diff")
-        .about("Tells what changes from one version of a FILE to another, and what of that breaks")
+        .about("Tells what changes from one version of a FILE to another, and for whom it counts")
         .override_usage("idltool diff [OPTIONS] OLD NEW");
     with_options(alloc, command)?
         .arg(old_directory(alloc))?
