@@ -16,13 +16,13 @@ use Rattle.idl_repo.specs.declared.details.row_tree.RowTree.{RowTree}
 
 -- one listing beside another, with an entry of the first at its place
 module _ (old new : List RowTree) (i : ℕ) (e : RowTree) (at : slice_get old i ≡ Some e) (other : is_called e ≡ false) where
-  uncalled-joined : joined old new i ≡ option_or (by_id old new i e) (by_path old new i e)
+  pub uncalled-joined : joined old new i ≡ option_or (by_id old new i e) (by_path old new i e)
   unfolding joined
   uncalled-joined =
       ap (option_and_then (λ (f : RowTree). if is_called f then None else option_or (by_id old new i f) (by_path old new i f))) at
       ∙ ap (λ (b : Bool). if b then None else option_or (by_id old new i e) (by_path old new i e)) other
 
-  uncalled-by_id : by_id old new i e ≡ slice_get (places_where (has_id e.id) new) (length (filter (has_id e.id) (take i old)))
+  pub uncalled-by_id : by_id old new i e ≡ slice_get (places_where (has_id e.id) new) (length (filter (has_id e.id) (take i old)))
   unfolding by_id
   uncalled-by_id = ap (λ (b : Bool). if b then None else slice_get (places_where (has_id e.id) new) (length (filter (has_id e.id) (take i old)))) other
 

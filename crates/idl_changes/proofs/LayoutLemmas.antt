@@ -371,8 +371,8 @@ module _ (old new : List RowTree) (was is : ℕ → Layout) (alike : (i k : ℕ)
     union-alike : (id : List ℕ) (u v : UnionTree) → Lacks wire (union_differences old new u v) → union_layout old was id u ≡ union_layout new is id v
     unfolding union_differences
     union-alike id u v all =
-        let p = (enumerators old u.discriminator, u.cases) in
-        let q = (enumerators new v.discriminator, v.cases) in
+        let p : List (List ℕ) × List CaseTree = (enumerators old u.discriminator, u.cases) in
+        let q : List (List ℕ) × List CaseTree = (enumerators new v.discriminator, v.cases) in
         let types = type_differences old new (codes "discriminator") u.discriminator v.discriminator in
         let discriminator = type-alike (codes "discriminator") u.discriminator v.discriminator (lacks-front wire types (cases_differences old new p q) all) in
         let cases = lacks-back wire types (cases_differences old new p q) all in

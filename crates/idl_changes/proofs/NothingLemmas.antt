@@ -11,7 +11,7 @@ use Rattle.std.proofs.lemmas.List.{length-map}
 use Rattle.std.proofs.lemmas.Option.{same_Some, slice_get_within}
 use Rattle.idl_base.specs.Exact.{both, same_number, same_option}
 use Rattle.idl_changes.specs.Changes.{change_at, changes, told_new, told_old, told_with}
-use Rattle.idl_changes.specs.Differences.{added_differences, as_called, base_differences, base_line, body_differences, called_gone, called_new, case_differences, changed, context_differences, details_differences, differences, direction_differences, entry_differences, flag_differences, gone_bases, gone_differences, gone_line, interface_differences, is_called_locally, item_differences, kind_differences, list_differences, matched_differences, member_differences, name_of_member, name_of_parameter, new_bases, new_differences, no_differences, order_differences, own_name, parameter_differences, parts_differences, reference_differences, selection_differences, text_differences, told, type_differences, union_differences, value_differences, yes_or_no}
+use Rattle.idl_changes.specs.Differences.{added_differences, as_called, base_differences, base_line, body_differences, called_gone, called_new, case_differences, changed, context_differences, details_differences, differences, direction_differences, entry_differences, flag_differences, gone_bases, gone_differences, gone_line, interface_differences, is_called_locally, item_differences, kind_differences, list_differences, matched_differences, member_differences, name_of_member, name_of_parameter, new_bases, new_differences, no_differences, order_differences, own_name, parameter_differences, parts_differences, readonly_line, reference_differences, selection_differences, text_differences, told, type_differences, union_differences, value_differences, yes_or_no}
 use Rattle.idl_changes.specs.Listing.{bases_at, interface_at, interface_of, is_called, is_interface, is_local, name_at, name_of, path_at, place_of, places_where, scope_of}
 use Rattle.idl_changes.specs.Matched.{in_order, in_order_from, is_matched, matched, matches, renamed}
 use Rattle.idl_changes.specs.Offered.{ancestors, base_places, called_in, inherited_before, is_offered, offered, offers}
@@ -369,11 +369,11 @@ module _ (L : List RowTree) where
   no-details (row.Constant c) = none-both _ _ (none-unless (is_written L L c.data_type c.data_type) _ (own-written c.data_type)) (no-value c.value)
   no-details (row.Attribute a) =
       none-both _ _ (no-type _ a.data_type)
-      (none-both _ _ (no-flag _ _ a.is_readonly) (none-both _ _ (no-references _ a.raised) (no-set a.is_readonly a.raised_by_set)))
+      (none-both _ _ (no-flag (readonly_line a.is_readonly) (codes "readonly") a.is_readonly) (none-both _ _ (no-references (codes "exception of get") a.raised) (no-set a.is_readonly a.raised_by_set)))
   no-details (row.Operation o) =
       none-both _ _ (no-type _ o.data_type)
       (none-both _ _ (no-list Parameter name_of_parameter (parameter_differences L L) no-parameter o.parameters)
-      (none-both _ _ (no-flag _ _ o.is_oneway) (none-both _ _ (no-references _ o.raised) (no-context o.contexts))))
+      (none-both _ _ (no-flag line.Oneway (codes "oneway") o.is_oneway) (none-both _ _ (no-references (codes "exception") o.raised) (no-context o.contexts))))
 
   no-body : (i : ℕ) (e : RowTree) → body_differences L L i i e e ≡ []
   no-body i e = by (is_interface e)
@@ -391,8 +391,8 @@ module _ (L : List RowTree) where
   no-entry i e =
       none-both _ _ (no-text _ _ e.id) (none-both _ _ (none-either (is_called e) _ (no-text line.Path (codes "path") e.path)) (no-kind i e))
 
-  as_called-none : (e : RowTree) (told : List Difference) → told ≡ [] → as_called L L e told ≡ []
-  as_called-none e told is = ap (as_called L L e) is ∙ by (is_called_locally L L e)
+  as_called-none : (e : RowTree) (ds : List Difference) → ds ≡ [] → as_called L L e ds ≡ []
+  as_called-none e ds is = ap (as_called L L e) is ∙ by (is_called_locally L L e)
     where
       by : (b : Bool) → (if b then map (λ (d : Difference). record d { weights = eased d.weights }) [] else []) ≡ []
       by true = refl

@@ -56,8 +56,8 @@ module _ (old new : List RowTree) (first : IsDeclared old) (second : IsDeclared 
     kinds = lacks-kind wire old new none refl i k e f all-told
 
     details-told : is_interface e ≡ false → Lacks wire (details_differences old new e.details f.details)
-    details-told no =
-        subst (λ (b : Bool). Lacks wire (if b then interface_differences old new i k e f else details_differences old new e.details f.details)) no kinds.1
+    details-told apart =
+        subst (λ (b : Bool). Lacks wire (if b then interface_differences old new i k e f else details_differences old new e.details f.details)) apart kinds.1
 
     alias-told : AreSent old new (alias_of e) (alias_of f)
     alias-told = by (kind_eq e.kind kind.Alias) refl

@@ -154,22 +154,20 @@ where-from test n [] e = by (test e)
     by : (b : Bool) → map (λ (p : ℕ × RowTree). p.0) (cond b ((n, e) ∷ []) []) ≡ [] ++ (if b then (n + length []) ∷ [] else [])
     by true = let place : n ≡ n + 0 = omega arith in ap (λ (k : ℕ). k ∷ []) place
     by false = refl
-where-from test n (x ∷ xs) e = by (test x)
+where-from test n (x ∷ xs) e =
+    let place : n + 1 + length xs ≡ n + length (x ∷ xs) = omega arith in
+    by (test x)
+    (where-from test (n + 1) xs e
+    ∙ ap (λ (k : ℕ). map (λ (p : ℕ × RowTree). p.0) (filter (λ (p : ℕ × RowTree). test p.1) (enumerate_from (n + 1) xs)) ++ (if test e then k ∷ [] else [])) place)
   where
-    place : n + 1 + length xs ≡ n + length (x ∷ xs)
-    place = omega arith
-
-    rest : map (λ (p : ℕ × RowTree). p.0) (filter (λ (p : ℕ × RowTree). test p.1) (enumerate_from (n + 1) (xs ++ e ∷ [])))
-        ≡ map (λ (p : ℕ × RowTree). p.0) (filter (λ (p : ℕ × RowTree). test p.1) (enumerate_from (n + 1) xs)) ++ (if test e then (n + length (x ∷ xs)) ∷ [] else [])
-    rest = where-from test (n + 1) xs e
-        ∙ ap (λ (k : ℕ). map (λ (p : ℕ × RowTree). p.0) (filter (λ (p : ℕ × RowTree). test p.1) (enumerate_from (n + 1) xs)) ++ (if test e then k ∷ [] else [])) place
-
     by : (b : Bool)
+        → map (λ (p : ℕ × RowTree). p.0) (filter (λ (p : ℕ × RowTree). test p.1) (enumerate_from (n + 1) (xs ++ e ∷ [])))
+        ≡ map (λ (p : ℕ × RowTree). p.0) (filter (λ (p : ℕ × RowTree). test p.1) (enumerate_from (n + 1) xs)) ++ (if test e then (n + length (x ∷ xs)) ∷ [] else [])
         → map (λ (p : ℕ × RowTree). p.0) (cond b ((n, x) ∷ filter (λ (p : ℕ × RowTree). test p.1) (enumerate_from (n + 1) (xs ++ e ∷ []))) (filter (λ (p : ℕ × RowTree). test p.1) (enumerate_from (n + 1) (xs ++ e ∷ []))))
         ≡ map (λ (p : ℕ × RowTree). p.0) (cond b ((n, x) ∷ filter (λ (p : ℕ × RowTree). test p.1) (enumerate_from (n + 1) xs)) (filter (λ (p : ℕ × RowTree). test p.1) (enumerate_from (n + 1) xs)))
         ++ (if test e then (n + length (x ∷ xs)) ∷ [] else [])
-    by true = ap (λ (ks : List ℕ). n ∷ ks) rest
-    by false = rest
+    by true rest = ap (λ (ks : List ℕ). n ∷ ks) rest
+    by false rest = rest
 
 pub places-more : (test : RowTree → Bool) (L : List RowTree) (e : RowTree)
     → places_where test (L ++ e ∷ []) ≡ places_where test L ++ (if test e then length L ∷ [] else [])

@@ -390,7 +390,7 @@ module _ (old new : List RowTree) where
   abbrev pub as_called : RowTree → List Difference → List Difference
   as_called e differences =
       if is_called_locally e
-      then map (λ d. record d { weights = eased d.weights }) differences
+      then map (λ (d : Difference). record d { weights = eased d.weights }) differences
       else differences
 
   -- the differences of an entry and the one to which it belongs, at these places

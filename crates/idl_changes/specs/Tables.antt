@@ -55,14 +55,14 @@ plain_alias L i e = option_map (opened_before L i) (alias_of e)
 -- the tables of a listing
 pub record IsSide (L : List RowTree) (plains : List (Option LayeredType))
     (inherited called : List (List ℕ)) (offers : List (NumberedText × ℕ)) : Type 0 where
-  pub plains : plains ≡ each (plain_alias L) L
-  pub inherited : inherited ≡ each (λ i e. ancestors L i) L
-  pub called : called ≡ each (λ i e. called_in L i) L
-  pub offers : AreOffers L offers
+  pub aliases : plains ≡ each (plain_alias L) L
+  pub bases : inherited ≡ each (λ i e. ancestors L i) L
+  pub scopes : called ≡ each (λ i e. called_in L i) L
+  pub names : AreOffers L offers
 
 -- of two listings which entries belong together, of the old one and of the new one, that aren't
 -- called; and of the old one all
 pub record AreSides (old new : List RowTree) (forth back all : List (Option ℕ)) : Type 0 where
-  pub forth : forth ≡ each (λ i e. joined old new i) old
-  pub back : back ≡ each (λ i e. joined new old i) new
-  pub all : all ≡ each (λ i e. partner old new i) old
+  pub before : forth ≡ each (λ i e. joined old new i) old
+  pub after : back ≡ each (λ i e. joined new old i) new
+  pub partners : all ≡ each (λ i e. partner old new i) old

@@ -6,6 +6,7 @@ ghost use Rattle.idl_changes.specs.Differences.{added_differences, called_gone, 
 ghost use Rattle.idl_changes.specs.Listing.{interface_of};
 ghost use Rattle.idl_changes.specs.Partners.{joined};
 ghost use Rattle.idl_changes.specs.Rows.{eased};
+ghost use Rattle.idl_changes.specs.declared.change.Difference.{Difference};
 
 use crate::change::{Difference, Turn};
 use crate::details::compare_details;
@@ -111,7 +112,7 @@ fn is_called_locally(sides: &Sides<'_>, entry: &RowTree) -> Result<bool, AllocEr
 // Has what is called on a local interface count for source alone.
 fn ease(told: &mut Vec<Difference>)
     ensures { told.new.items
-        ≡ map (λ d. record d { weights = eased d.weights }) told.old.items }
+        ≡ map (λ (d : Difference). record d { weights = eased d.weights }) told.old.items }
 {
     for difference in told.iter_mut() {
         difference.weights = eased(difference.weights);
