@@ -1,9 +1,11 @@
 -- What is inherited, from the last that stands before a place to the first.
-use Rattle.std.proofs.Common.{◌≡◌, ◌∙◌, ◌<◌, ◌++◌, ◌∷◌, ◌||◌, [], ℕ, zero, suc, Bool, List, ap, ap₂, arith, false, if◌then◌else◌, nat_eq, refl, sym, true}
+use Rattle.std.proofs.Common.{◌≡◌, ◌∙◌, ◌<◌, ◌++◌, ◌∷◌, ◌||◌, ◌⊎◌, ◌↔◌, [], ℕ, zero, suc, All, Bool, List, ap, ap₂, append_assoc, arith, false, if◌then◌else◌, inl, inr, nat_cmp, nat_eq, refl, sym, true}
 use Rattle.std.specs.List.{list_any}
+use Rattle.std.specs.Ordering.{Less}
 use Rattle.std.proofs.lemmas.Bool.Decides.{nat_tests}
 use Rattle.idl_base.specs.Exact.{same_number}
 use Rattle.idl_changes.specs.Offered.{base_places, inherited_before}
+use Rattle.idl_changes.proofs.HasLemmas.{Has, all-has, has-appended, has-back, has-either, has-first, has-front, has-holds}
 use Rattle.idl_repo.specs.declared.details.row_tree.RowTree.{RowTree}
 
 any-append : (test : ℕ → Bool) (xs ys : List ℕ) → list_any test (xs ++ ys) ≡ (list_any test xs || list_any test ys)
@@ -51,3 +53,94 @@ module _ (L : List RowTree) where
           let below : last < z = grind (arith, nat_tests, within, e) in
           let top : z < suc z = omega arith in
           ap (λ (b : Bool). if b then z ∷ inherited_before L z (among ++ base_places L z) else inherited_before L z among) (none z below top) ∙ rest below
+
+-- tests that say the same
+same-tests : (a b : Bool) → (a ≡ true → b ≡ true) → (b ≡ true → a ≡ true) → a ≡ b
+same-tests true true f g = refl
+same-tests false false f g = refl
+same-tests true false f g = sym (f refl)
+same-tests false true f g = g refl
+
+no-test : (a : Bool) → (a ≡ true → ⊥) → a ≡ false
+no-test true no = absurd (no refl)
+no-test false no = refl
+
+less-test : (n k : ℕ) → nat_cmp n k ≡ Less → n < k
+less-test n k is = grind (arith, nat_tests, is)
+
+-- ---- the places whose bases come, as far as they stand before it
+
+module _ (L : List RowTree) where
+  -- these are those and the bases
+  abbrev pub HaveBases : ℕ → (new old : List ℕ) → Type 0
+  HaveBases place new old = (n : ℕ) → Has new n ↔ (Has old n ⊎ ((n < place) × Has (base_places L place) n))
+
+  with-bases : (place : ℕ) (new old : List ℕ) → HaveBases place new old → (n : ℕ) → n < place → list_any (nat_eq n) new ≡ list_any (nat_eq n) (old ++ base_places L place)
+  with-bases place new old have n within =
+      same-tests (list_any (nat_eq n) new) (list_any (nat_eq n) (old ++ base_places L place))
+      (λ is. elim ((have n).0 is) [ inl a ↦ has-front n old (base_places L place) a | inr b ↦ has-back n old (base_places L place) b.1 ])
+      (λ is. elim (has-appended n old (base_places L place) is) [ inl a ↦ (have n).1 (inl a) | inr b ↦ (have n).1 (inr (within, b)) ])
+
+  still-below : (place : ℕ) (new old : List ℕ) → HaveBases place new old → ((n : ℕ) → Has old n → n < place) → All (λ n. n < place) new
+  still-below place new old have below =
+      all-has (λ n. n < place) new (λ n is. elim ((have n).0 is) [ inl a ↦ below n a | inr b ↦ b.0 ])
+
+  -- at first
+  pub ancestors-begin : (place : ℕ) (new old : List ℕ) → HaveBases place new old → old ≡ [] → All (λ n. n < place) new × (inherited_before L place new ≡ inherited_before L place (base_places L place))
+  ancestors-begin place new old have none = (
+    still-below place new old have (λ n is. let no : false ≡ true = sym (ap (list_any (nat_eq n)) none) ∙ is in cc),
+    inherited-same L place new (base_places L place)
+    (λ n within. with-bases place new old have n within ∙ ap (λ (ks : List ℕ). list_any (nat_eq n) (ks ++ base_places L place)) none),
+  )
+
+  -- and where the last of them goes, and its bases come
+  pub ancestors-next : (bound last : ℕ) (old popped new found all : List ℕ) → old ≡ popped ++ last ∷ [] → All (λ n. n < bound) old → All (λ n. nat_cmp n last ≡ Less) popped
+      → HaveBases last new popped → found ++ inherited_before L bound old ≡ all
+      → All (λ n. n < last) new × ((found ++ last ∷ []) ++ inherited_before L last new ≡ all)
+  ancestors-next bound last old popped new found all removed below less have so_far = (
+    still-below last new popped have before,
+    append_assoc found (last ∷ []) (inherited_before L last new)
+    ∙ ap (λ (ns : List ℕ). found ++ (last ∷ ns)) rest
+    ∙ ap (λ (ns : List ℕ). found ++ ns) (sym (inherited-last L bound last old within there none))
+    ∙ so_far,
+  )
+    where
+      before : (n : ℕ) → Has popped n → n < last
+      before n is = less-test n last (has-holds (λ (m : ℕ). nat_cmp m last ≡ Less) popped n is less)
+
+      there : list_any (nat_eq last) old ≡ true
+      there = ap (list_any (nat_eq last)) removed ∙ has-back last popped (last ∷ []) (has-first last [])
+
+      within : last < bound
+      within = has-holds (λ (n : ℕ). n < bound) old last there below
+
+      one : (n : ℕ) → Has (last ∷ []) n → n ≡ last
+      one n is = elim (has-either last n [] is) [ inl e ↦ e | inr no ↦ let h : false ≡ true = no in cc ]
+
+      none : (n : ℕ) → last < n → n < bound → list_any (nat_eq n) old ≡ false
+      none n above under =
+          no-test (list_any (nat_eq n) old)
+          (λ is. elim (has-appended n popped (last ∷ []) (sym (ap (list_any (nat_eq n)) removed) ∙ is)) [
+            | inl a ↦ let lower = before n a in omega (arith, above, lower)
+            | inr b ↦ let same = one n b in omega (arith, above, same)
+          ])
+
+      rest : inherited_before L last new ≡ inherited_before L last (old ++ base_places L last)
+      rest =
+          inherited-same L last new (old ++ base_places L last)
+          (λ n lower. with-bases last new popped have n lower ∙ same-tests (list_any (nat_eq n) (popped ++ base_places L last)) (list_any (nat_eq n) (old ++ base_places L last)) (forth n) (back n lower))
+
+      forth : (n : ℕ) → Has (popped ++ base_places L last) n → Has (old ++ base_places L last) n
+      forth n is = elim (has-appended n popped (base_places L last) is) [
+        | inl a ↦ has-front n old (base_places L last) (ap (list_any (nat_eq n)) removed ∙ has-front n popped (last ∷ []) a)
+        | inr b ↦ has-back n old (base_places L last) b
+      ]
+
+      back : (n : ℕ) → n < last → Has (old ++ base_places L last) n → Has (popped ++ base_places L last) n
+      back n lower is = elim (has-appended n old (base_places L last) is) [
+        | inl a ↦ elim (has-appended n popped (last ∷ []) (sym (ap (list_any (nat_eq n)) removed) ∙ a)) [
+          | inl p ↦ has-front n popped (base_places L last) p
+          | inr o ↦ let same = one n o in absurd (omega (arith, lower, same))
+        ]
+        | inr b ↦ has-back n popped (base_places L last) b
+      ]

@@ -3,7 +3,7 @@ use Rattle.std.proofs.Common.{◌≡◌, ◌∙◌, ◌+◌, ◌++◌, ◌∷◌
 use Rattle.std.specs.Cmp.{nat_eq_equiv}
 use Rattle.std.specs.List.{enumerate_from, list_all, list_any, slice_get}
 use Rattle.std.proofs.lemmas.Bool.{false≢true}
-use Rattle.std.proofs.lemmas.List.Elements.{All-cons}
+use Rattle.std.proofs.lemmas.List.Elements.{All-cons, All-head, All-tail}
 use Rattle.std.proofs.lemmas.Option.{same_Some}
 use Rattle.idl_base.specs.Exact.{both, same_number}
 
@@ -94,6 +94,14 @@ has-contains (x ∷ xs) n is = elim (has-either x n xs is) [
 pub all-has : (P : ℕ → Type 0) (xs : List ℕ) → ((n : ℕ) → Has xs n → P n) → All P xs
 all-has P [] each = λ k d within. absurd (omega (arith, within))
 all-has P (x ∷ xs) each = All-cons P x xs (each x (has-first x xs)) (all-has P xs (λ n is. each n (has-rest x n xs is)))
+
+-- and what holds of all holds of each
+pub has-holds : (P : ℕ → Type 0) (xs : List ℕ) (n : ℕ) → Has xs n → All P xs → P n
+has-holds P [] n is all = cc
+has-holds P (x ∷ xs) n is all = elim (has-either x n xs is) [
+  | inl e ↦ subst P (sym e) (All-head P x xs all)
+  | inr h ↦ has-holds P xs n h (All-tail P x xs all)
+]
 
 -- a test that passes at all passes at each, and one that passes at some at one
 pub all-passes : (test : ℕ → Bool) (xs : List ℕ) (n : ℕ) → list_all test xs ≡ true → Has xs n → test n ≡ true

@@ -1,5 +1,8 @@
 mod AllLemmas
 mod TableLemmas
+mod SetLemmas
+mod StepLemmas
+mod ListingLemmas
 mod HasLemmas
 mod EntryLemmas
 mod NothingLemmas
@@ -11,6 +14,7 @@ mod WeightLemmas
 mod ServantLemmas
 mod ClientLemmas
 mod PlainLemmas
+mod SideLemmas
 mod MatchLemmas
 mod LayoutLemmas
 mod SentLemmas

@@ -1,9 +1,9 @@
 -- Tables of what is looked up often, with one entry more than before.
-use Rattle.std.proofs.Common.{◌≡◌, ◌∙◌, ◌+◌, ◌<◌, ◌≤◌, ◌++◌, ◌∷◌, ◌&&◌, [], ℕ, zero, suc, Bool, List, None, Option, Some, ap, ap₂, append-nil, arith, cond, false, filter, get_or, if◌then◌else◌, length, map, nat_eq, nat_lt, not, position, refl, sym, take, true, unwrap_or}
+use Rattle.std.proofs.Common.{◌≡◌, ◌∙◌, ◌+◌, ◌<◌, ◌≤◌, ◌++◌, ◌∷◌, ◌&&◌, ◌||◌, [], ℕ, zero, suc, Bool, List, None, Option, Some, ap, ap₂, append-nil, arith, cond, false, filter, get_or, if◌then◌else◌, length, map, nat_eq, nat_lt, not, position, refl, sym, take, true, unwrap_or}
 use Rattle.std.specs.Cmp.Lexicographic.{bytes_decides}
-use Rattle.std.specs.List.{enumerate_from, position_or_len, slice_get}
+use Rattle.std.specs.List.{enumerate_from, list_any, position_or_len, slice_get}
 use Rattle.std.specs.Map.{lookup}
-use Rattle.std.specs.Option.{option_map, option_or}
+use Rattle.std.specs.Option.{is_some, option_map, option_or}
 use Rattle.std.specs.Str.{bytes_eq}
 use Rattle.std.proofs.lemmas.Bool.Decides.{nat_tests}
 use Rattle.std.proofs.lemmas.List.{take_more}
@@ -16,8 +16,8 @@ use Rattle.idl_repo.specs.declared.details.row_tree.RowTree.{RowTree}
 
 -- ---- what a function gives of each entry and its place
 
-each-from : {Y : Type 0} (f : ℕ → RowTree → Y) (n i m : ℕ) (L : List RowTree) → m ≡ n + i
-    → slice_get (map (λ (p : ℕ × RowTree). f p.0 p.1) (enumerate_from n L)) i ≡ option_map (f m) (slice_get L i)
+each-from : {X Y : Type 0} (f : ℕ → X → Y) (n i m : ℕ) (xs : List X) → m ≡ n + i
+    → slice_get (map (λ (p : ℕ × X). f p.0 p.1) (enumerate_from n xs)) i ≡ option_map (f m) (slice_get xs i)
 each-from f n i m [] is = refl
 each-from f n zero m (x ∷ xs) is =
     let place : n ≡ m = omega (arith, is) in
@@ -30,14 +30,20 @@ pub slice_get-each : {Y : Type 0} (f : ℕ → RowTree → Y) (L : List RowTree)
 slice_get-each f L i = let place : i ≡ 0 + i = omega arith in each-from f 0 i i L place
 
 -- those so far, and the next
+pub place-next : {X Y : Type 0} (f : ℕ → X → Y) (xs : List X) (i : ℕ) (x : X) → slice_get xs i ≡ Some x
+    → take (i + 1) (map (λ (p : ℕ × X). f p.0 p.1) (enumerate_from 0 xs)) ≡ take i (map (λ (p : ℕ × X). f p.0 p.1) (enumerate_from 0 xs)) ++ f i x ∷ []
+place-next {X} {Y} f xs i x at =
+    let all = map (λ (p : ℕ × X). f p.0 p.1) (enumerate_from 0 xs) in
+    let place : i ≡ 0 + i = omega arith in
+    let there : slice_get all i ≡ Some (f i x) = each-from f 0 i i xs place ∙ ap (option_map (f i)) at in
+    let within = slice_get_within all i (f i x) there in
+    let read = slice_get-get_or all i (f i x) within in
+    let item : get_or all i (f i x) ≡ f i x = same_Some (get_or all i (f i x)) (f i x) (sym read ∙ there) in
+    take_more all i (f i x) within ∙ ap (λ (y : Y). take i all ++ y ∷ []) item
+
 pub each-next : {Y : Type 0} (f : ℕ → RowTree → Y) (L : List RowTree) (i : ℕ) (e : RowTree) → slice_get L i ≡ Some e
     → take (i + 1) (each f L) ≡ take i (each f L) ++ f i e ∷ []
-each-next {Y} f L i e at =
-    let there : slice_get (each f L) i ≡ Some (f i e) = slice_get-each f L i ∙ ap (option_map (f i)) at in
-    let within = slice_get_within (each f L) i (f i e) there in
-    let read = slice_get-get_or (each f L) i (f i e) within in
-    let item : get_or (each f L) i (f i e) ≡ f i e = same_Some (get_or (each f L) i (f i e)) (f i e) (sym read ∙ there) in
-    take_more (each f L) i (f i e) within ∙ ap (λ (y : Y). take i (each f L) ++ y ∷ []) item
+each-next f L i e at = place-next f L i e at
 
 -- those so far by their places
 pub take-within : {X : Type 0} (xs : List X) (z n : ℕ) → n < z → slice_get (take z xs) n ≡ slice_get xs n
@@ -54,7 +60,7 @@ take-past (x ∷ xs) (suc z) (suc n) past = let beyond : z ≤ n = omega (arith,
 
 -- ---- the first place of what passes a test
 
-position-cons : {X : Type 0} (test : X → Bool) (x : X) (xs : List X)
+pub position-cons : {X : Type 0} (test : X → Bool) (x : X) (xs : List X)
     → position test (x ∷ xs) ≡ (if test x then Some 0 else option_map (λ (k : ℕ). k + 1) (position test xs))
 position-cons test x xs = by (test x)
   where
@@ -73,6 +79,17 @@ position-cons test x xs = by (test x)
         let within : nat_lt 0 (length (x ∷ xs)) ≡ true = grind (arith, nat_tests) in
         ap (λ (c : Bool). cond c (Some 0) None) within
     by false = past (position_or_len test xs) (nat_lt (position_or_len test xs) (length xs)) refl
+
+-- one passes where one is found
+pub any-position : {X : Type 0} (test : X → Bool) (xs : List X) → list_any test xs ≡ is_some (position test xs)
+any-position test [] = refl
+any-position test (x ∷ xs) =
+    ap (λ (b : Bool). test x || b) (any-position test xs) ∙ by (test x) (position test xs) ∙ sym (ap is_some (position-cons test x xs))
+  where
+    by : (b : Bool) (o : Option ℕ) → (b || is_some o) ≡ is_some (if b then Some 0 else option_map (λ (k : ℕ). k + 1) o)
+    by true o = refl
+    by false None = refl
+    by false (Some k) = refl
 
 pub position-more : {X : Type 0} (test : X → Bool) (xs : List X) (x : X)
     → position test (xs ++ x ∷ []) ≡ option_or (position test xs) (if test x then Some (length xs) else None)

@@ -1,9 +1,9 @@
 //! Which items of two lists with names belong together.
 
-ghost use Rattle.std.specs.Prelude.{◌≡◌, IfOk, Some, map, slice_get};
+ghost use Rattle.std.specs.Prelude.{◌≡◌, IfOk, Some, map, nat_lt, slice_get, true};
 ghost use Rattle.std.specs.Cmp.Lexicographic.{pointwise};
 ghost use Rattle.std.specs.List.{range_with_len};
-ghost use Rattle.std.specs.Option.{option_and_then};
+ghost use Rattle.std.specs.Option.{option_and_then, option_map_or};
 ghost use Rattle.std.specs.Str.{bytes_eq};
 ghost use Rattle.idl_changes.specs.Matched.{in_order, is_matched, matched, matches};
 ghost use Rattle.idl_changes.specs.Tables.{AreFirst};
@@ -141,14 +141,24 @@ pub fn marked(alloc: Global, found: &[Option<usize>], count: usize) -> Result<Ve
 pub fn in_order(found: &[Option<usize>]) -> bool
     ensures { result ≡ in_order found.now }
 {
-    let mut least = 0;
+    let mut last = None;
     for place in found {
         if let Some(place) = place {
-            if *place < least {
+            if !is_behind(*place, last) {
                 return false;
             }
-            least = place.saturating_add(1);
+            last = Some(*place);
         }
     }
     true
+}
+
+// Whether a place stands behind another one, if there is one.
+fn is_behind(place: usize, last: Option<usize>) -> bool
+    ensures { result ≡ option_map_or (λ n. nat_lt n place) last true }
+{
+    match last {
+        Some(last) => last < place,
+        None => true,
+    }
 }

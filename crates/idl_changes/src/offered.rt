@@ -1,6 +1,6 @@
 //! What interfaces inherit, and what can be called on them.
 
-ghost use Rattle.std.specs.Prelude.{◌≡◌, ◌↔◌, ◌<◌, ◌⊎◌, [], ℕ, List, IfOk, IsTrue, None, OnOk, Some, find, if◌then◌else◌, nat_eq, slice_index_or};
+ghost use Rattle.std.specs.Prelude.{◌≡◌, ◌↔◌, ◌<◌, ◌⊎◌, [], ℕ, List, IfOk, IsTrue, None, OnOk, Some, find, if◌then◌else◌, nat_eq, slice_get, unwrap_or};
 ghost use Rattle.std.specs.List.{list_any};
 ghost use Rattle.std.specs.Map.{lookup};
 ghost use Rattle.std.specs.Option.{option_or};
@@ -104,7 +104,7 @@ fn own_scope(listing: &Listing<'_>, entry: &RowTree) -> Result<Option<usize>, Al
 
 /// The list at a place, which is empty where there is none.
 pub fn list_at(lists: &[Seq<usize>], place: usize) -> &[usize]
-    ensures { result.now ≡ slice_index_or lists.now place [] }
+    ensures { result.now ≡ unwrap_or (slice_get lists.now place) [] }
 {
     match lists.get(place) {
         Some(list) => list.as_slice(),

@@ -1,0 +1,125 @@
+-- What the tables of listings have at a place.
+use Rattle.std.proofs.Common.{◌≡◌, ◌∙◌, ◌+◌, ◌≤◌, ◌++◌, ◌∷◌, ◌&&◌, [], ℕ, zero, suc, Bool, List, None, Option, Some, ap, ap₂, append-nil, arith, cond, false, filter, filter_map, get_or, if◌then◌else◌, length, map, nat_eq, refl, replicate, set, sym, take, true, unwrap_or}
+use Rattle.std.specs.List.{enumerate_from, slice_get}
+use Rattle.std.specs.Option.{option_and_then, option_eq, option_map, option_map_or, option_or}
+use Rattle.std.proofs.lemmas.Bool.Decides.{nat_tests}
+use Rattle.std.proofs.lemmas.Option.{none-some}
+use Rattle.idl_base.specs.Exact.{same_number, same_option}
+use Rattle.idl_changes.specs.Listing.{bases_of, by_id, interface_at, interface_of, is_called, places_where, scope_of}
+use Rattle.idl_changes.specs.Offered.{ancestors, called_in, inherited_before}
+use Rattle.idl_changes.specs.Partners.{by_path, called_partner, joined, partner}
+use Rattle.idl_changes.specs.Tables.{each}
+use Rattle.idl_changes.proofs.AncestorLemmas.{inherited-none}
+use Rattle.idl_changes.proofs.EntryLemmas.{interface-found}
+use Rattle.idl_changes.proofs.TableLemmas.{slice_get-each}
+use Rattle.idl_repo.specs.declared.details.row_tree.RowTree.{RowTree}
+
+-- ---- what a function of the place gives, where it gives nothing past the last
+
+pub place-each : (f : ℕ → Option ℕ) (L : List RowTree) (i : ℕ) → (slice_get L i ≡ None → f i ≡ None)
+    → option_and_then (λ (o : Option ℕ). o) (slice_get (each (λ k e. f k) L) i) ≡ f i
+place-each f L i past = ap (option_and_then (λ (o : Option ℕ). o)) (slice_get-each (λ k e. f k) L i) ∙ by (slice_get L i) past
+  where
+    by : (entry : Option RowTree) → (entry ≡ None → f i ≡ None) → option_and_then (λ (o : Option ℕ). o) (option_map (λ (e : RowTree). f i) entry) ≡ f i
+    by None h = sym (h refl)
+    by (Some e) h = refl
+
+pub list-each : (f : ℕ → List ℕ) (L : List RowTree) (i : ℕ) → (slice_get L i ≡ None → f i ≡ []) → unwrap_or (slice_get (each (λ k e. f k) L) i) [] ≡ f i
+list-each f L i past = ap (λ (o : Option (List ℕ)). unwrap_or o []) (slice_get-each (λ k e. f k) L i) ∙ by (slice_get L i) past
+  where
+    by : (entry : Option RowTree) → (entry ≡ None → f i ≡ []) → unwrap_or (option_map (λ (e : RowTree). f i) entry) [] ≡ f i
+    by None h = sym (h refl)
+    by (Some e) h = refl
+
+-- ---- what belongs together
+
+module _ (old new : List RowTree) (i : ℕ) where
+  joined-past : slice_get old i ≡ None → joined old new i ≡ None
+  unfolding joined
+  joined-past past = ap (option_and_then (λ (e : RowTree). if is_called e then None else option_or (by_id old new i e) (by_path old new i e))) past
+
+  partner-past : slice_get old i ≡ None → partner old new i ≡ None
+  unfolding partner
+  partner-past past = ap (option_and_then (λ (e : RowTree). if is_called e then called_partner old new i e else joined old new i)) past
+
+  pub joined-there : (places : List (Option ℕ)) → places ≡ each (λ k e. joined old new k) old → option_and_then (λ (o : Option ℕ). o) (slice_get places i) ≡ joined old new i
+  joined-there places are = ap (λ (ps : List (Option ℕ)). option_and_then (λ (o : Option ℕ). o) (slice_get ps i)) are ∙ place-each (joined old new) old i joined-past
+
+  pub partner-there : (places : List (Option ℕ)) → places ≡ each (λ k e. partner old new k) old → option_and_then (λ (o : Option ℕ). o) (slice_get places i) ≡ partner old new i
+  partner-there places are = ap (λ (ps : List (Option ℕ)). option_and_then (λ (o : Option ℕ). o) (slice_get ps i)) are ∙ place-each (partner old new) old i partner-past
+
+-- ---- what is inherited, and what is called
+
+none-where : (test : RowTree → Bool) (n : ℕ) (L : List RowTree) → ((e : RowTree) → test e ≡ false)
+    → map (λ (p : ℕ × RowTree). p.0) (filter (λ (p : ℕ × RowTree). test p.1) (enumerate_from n L)) ≡ []
+none-where test n [] none = refl
+none-where test n (x ∷ xs) none =
+    ap (λ (b : Bool). map (λ (p : ℕ × RowTree). p.0) (cond b ((n, x) ∷ filter (λ (p : ℕ × RowTree). test p.1) (enumerate_from (n + 1) xs)) (filter (λ (p : ℕ × RowTree). test p.1) (enumerate_from (n + 1) xs)))) (none x)
+    ∙ none-where test (n + 1) xs none
+
+module _ (L : List RowTree) (i : ℕ) where
+  ancestors-past : slice_get L i ≡ None → ancestors L i ≡ []
+  unfolding ancestors
+  ancestors-past past =
+      ap (λ (o : Option RowTree). inherited_before L i (filter_map (λ r. interface_at L r.path) (option_map_or (λ (e : RowTree). bases_of e.details) o []))) past
+      ∙ inherited-none L i
+
+  called_in-past : slice_get L i ≡ None → called_in L i ≡ []
+  unfolding called_in
+  called_in-past past = none-where (λ (e : RowTree). is_called e && option_eq nat_eq (interface_of L e) (Some i)) 0 L none
+    where
+      none : (e : RowTree) → (is_called e && option_eq nat_eq (interface_of L e) (Some i)) ≡ false
+      none e = by (is_called e) (option_eq nat_eq (interface_of L e) (Some i)) refl
+        where
+          by : (a b : Bool) → option_eq nat_eq (interface_of L e) (Some i) ≡ b → (a && b) ≡ false
+          by false b is = refl
+          by true false is = refl
+          by true true is =
+              let there = interface-found L (scope_of e.path) i (same_option nat_eq same_number (interface_of L e) (Some i) is) in
+              absurd (none-some there.0 (sym past ∙ there.1))
+
+  pub ancestors-there : (lists : List (List ℕ)) → lists ≡ each (λ k e. ancestors L k) L → unwrap_or (slice_get lists i) [] ≡ ancestors L i
+  ancestors-there lists are = ap (λ (ls : List (List ℕ)). unwrap_or (slice_get ls i) []) are ∙ list-each (ancestors L) L i ancestors-past
+
+  pub called-there : (lists : List (List ℕ)) → lists ≡ each (λ k e. called_in L k) L → unwrap_or (slice_get lists i) [] ≡ called_in L i
+  called-there lists are = ap (λ (ls : List (List ℕ)). unwrap_or (slice_get ls i) []) are ∙ list-each (called_in L) L i called_in-past
+
+-- ---- the lists of what is called, with one entry more
+
+pub empty-each : (none : List ℕ) (n : ℕ) (L : List RowTree) → replicate (length L) none ≡ map (λ (p : ℕ × RowTree). none) (enumerate_from n L)
+empty-each none n [] = refl
+empty-each none n (x ∷ xs) = ap (λ (ls : List (List ℕ)). none ∷ ls) (empty-each none (n + 1) xs)
+
+-- one that is put behind those at a place
+module _ (lists : ℕ → List ℕ) (place : ℕ) where
+  apart : (j n : ℕ) (L : List RowTree) → ((k : ℕ) → n ≤ k → nat_eq j k ≡ false)
+      → map (λ (p : ℕ × RowTree). lists p.0 ++ (if nat_eq j p.0 then place ∷ [] else [])) (enumerate_from n L) ≡ map (λ (p : ℕ × RowTree). lists p.0) (enumerate_from n L)
+  apart j n [] other = refl
+  apart j n (x ∷ xs) other =
+      let own : n ≤ n = omega arith in
+      let first : lists n ++ (if nat_eq j n then place ∷ [] else []) ≡ lists n =
+      ap (λ (b : Bool). lists n ++ (if b then place ∷ [] else [])) (other n own) ∙ append-nil (lists n)
+      in
+      let later : (k : ℕ) → n + 1 ≤ k → nat_eq j k ≡ false = λ k past. (let below : n ≤ k = omega (arith, past) in other k below) in
+      ap₂ (λ (l : List ℕ) (ls : List (List ℕ)). l ∷ ls) first (apart j (n + 1) xs later)
+
+  put-from : (i j n : ℕ) (L : List RowTree) → j ≡ n + i
+      → set (map (λ (p : ℕ × RowTree). lists p.0) (enumerate_from n L)) i (lists j ++ place ∷ [])
+      ≡ map (λ (p : ℕ × RowTree). lists p.0 ++ (if nat_eq j p.0 then place ∷ [] else [])) (enumerate_from n L)
+  put-from i j n [] is = refl
+  put-from zero j n (x ∷ xs) is =
+      let here : nat_eq j n ≡ true = grind (arith, nat_tests, is) in
+      let same : j ≡ n = omega (arith, is) in
+      let other : (k : ℕ) → n + 1 ≤ k → nat_eq j k ≡ false = λ k past. grind (arith, nat_tests, is, past) in
+      ap₂ (λ (l : List ℕ) (ls : List (List ℕ)). l ∷ ls)
+      (ap (λ (k : ℕ). lists k ++ place ∷ []) same ∙ sym (ap (λ (b : Bool). lists n ++ (if b then place ∷ [] else [])) here))
+      (sym (apart j (n + 1) xs other))
+  put-from (suc i) j n (x ∷ xs) is =
+      let other : nat_eq j n ≡ false = grind (arith, nat_tests, is) in
+      let next : j ≡ n + 1 + i = omega (arith, is) in
+      ap₂ (λ (l : List ℕ) (ls : List (List ℕ)). l ∷ ls)
+      (sym (ap (λ (b : Bool). lists n ++ (if b then place ∷ [] else [])) other ∙ append-nil (lists n)))
+      (put-from i j (n + 1) xs next)
+
+  pub put-there : (j : ℕ) (L : List RowTree) → set (each (λ k e. lists k) L) j (lists j ++ place ∷ []) ≡ each (λ k e. lists k ++ (if nat_eq j k then place ∷ [] else [])) L
+  put-there j L = let is : j ≡ 0 + j = omega arith in put-from j j 0 L is

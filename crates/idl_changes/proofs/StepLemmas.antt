@@ -1,0 +1,101 @@
+-- One item more of what is told or written of each.
+use Rattle.std.proofs.Common.{◌≡◌, ◌∙◌, ◌+◌, ◌<◌, ◌≤◌, ◌++◌, ◌∷◌, ◌||◌, [], ℕ, zero, suc, Bool, List, None, Option, Some, ap, ap₂, append-nil, append_assoc, arith, drop, false, flat_map, get_or, if◌then◌else◌, length, map, nat_eq, refl, set, sym, true}
+use Rattle.std.specs.List.{enumerate_from, join_by, list_any, range_with_len}
+use Rattle.std.specs.Option.{option_eq}
+use Rattle.std.proofs.lemmas.Bool.Decides.{nat_tests}
+use Rattle.std.proofs.lemmas.List.{drop_all, drop_more}
+use Rattle.std.proofs.lemmas.List.Concat.{flat_map-append}
+use Rattle.std.proofs.lemmas.List.Folds.{list_any-append}
+use Rattle.idl_changes.specs.Matched.{is_matched}
+
+-- ---- what is told of those that are left comes behind
+
+pub left-told : {X Y : Type 0} (f : X → List Y) (xs : List X) (i : ℕ) (x : X) (out more all : List Y) → i < length xs → x ≡ get_or xs i x → more ≡ out ++ f x
+    → out ++ flat_map f (drop i xs) ≡ all → more ++ flat_map f (drop (i + 1) xs) ≡ all
+left-told {X} {Y} f xs i x out more all within is put so_far =
+    let rest = flat_map f (drop (i + 1) xs) in
+    let left : flat_map f (drop i xs) ≡ f x ++ rest = ap (flat_map f) (drop_more xs i x within) ∙ ap (λ (y : X). f y ++ rest) (sym is) in
+    ap (λ (o : List Y). o ++ rest) put ∙ append_assoc out (f x) rest ∙ ap (λ (t : List Y). out ++ t) (sym left) ∙ so_far
+
+pub all-told : {X Y : Type 0} (f : X → List Y) (xs : List X) (i : ℕ) (out all : List Y) → length xs ≤ i → out ++ flat_map f (drop i xs) ≡ all → out ≡ all
+all-told {X} {Y} f xs i out all past so_far = sym (append-nil out) ∙ ap (λ (t : List Y). out ++ t) (sym (ap (flat_map f) (drop_all i xs past))) ∙ so_far
+
+-- by places
+pub left-told-at : {X Y : Type 0} (f : ℕ × X → List Y) (xs : List X) (i : ℕ) (x : X) (out more all : List Y) → i < length xs → x ≡ get_or xs i x → more ≡ out ++ f (i, x)
+    → out ++ flat_map f (enumerate_from i (drop i xs)) ≡ all → more ++ flat_map f (enumerate_from (i + 1) (drop (i + 1) xs)) ≡ all
+left-told-at {X} {Y} f xs i x out more all within is put so_far =
+    let rest = flat_map f (enumerate_from (i + 1) (drop (i + 1) xs)) in
+    let left : flat_map f (enumerate_from i (drop i xs)) ≡ f (i, x) ++ rest =
+    ap (λ (ys : List X). flat_map f (enumerate_from i ys)) (drop_more xs i x within) ∙ ap (λ (y : X). f (i, y) ++ rest) (sym is)
+    in
+    ap (λ (o : List Y). o ++ rest) put ∙ append_assoc out (f (i, x)) rest ∙ ap (λ (t : List Y). out ++ t) (sym left) ∙ so_far
+
+pub all-told-at : {X Y : Type 0} (f : ℕ × X → List Y) (xs : List X) (i : ℕ) (out all : List Y) → length xs ≤ i
+    → out ++ flat_map f (enumerate_from i (drop i xs)) ≡ all → out ≡ all
+all-told-at {X} {Y} f xs i out all past so_far =
+    sym (append-nil out) ∙ ap (λ (t : List Y). out ++ t) (sym (ap (λ (ys : List X). flat_map f (enumerate_from i ys)) (drop_all i xs past))) ∙ so_far
+
+-- ---- names with a word between
+
+pub joined-more : {X A : Type 0} (f : X → List A) (sep : List A) (xs : List X) (x : X)
+    → join_by f sep (xs ++ x ∷ []) ≡ (join_by f sep xs ++ (if nat_eq (length xs) 0 then [] else sep)) ++ f x
+joined-more f sep [] x = append-nil (f x)
+joined-more {X} {A} f sep (y ∷ ys) x =
+    let between = λ (z : X). sep ++ f z in
+    let last : flat_map between (x ∷ []) ≡ sep ++ f x = append-nil (sep ++ f x) in
+    let rest : flat_map between (ys ++ x ∷ []) ≡ flat_map between ys ++ (sep ++ f x) = flat_map-append between ys (x ∷ []) ∙ ap (λ (t : List A). flat_map between ys ++ t) last in
+    let apart : nat_eq (length (y ∷ ys)) 0 ≡ false = grind (arith, nat_tests) in
+    ap (λ (t : List A). f y ++ t) rest
+    ∙ sym (append_assoc (f y) (flat_map between ys) (sep ++ f x))
+    ∙ sym (append_assoc (f y ++ flat_map between ys) sep (f x))
+    ∙ sym (ap (λ (b : Bool). ((f y ++ flat_map between ys) ++ (if b then [] else sep)) ++ f x) apart)
+
+-- ---- which new items belong to an old one
+
+or-false : (b : Bool) → (b || false) ≡ b
+    or-false true = refl
+    or-false false = refl
+
+or-false : (b : Bool) → (b || false) ≡ b
+or-false true = refl
+or-false false = refl
+
+or-true : (b : Bool) → (b || true) ≡ true
+or-true true = refl
+or-true false = refl
+
+matched-more : (found : List (Option ℕ)) (o : Option ℕ) (k : ℕ) → is_matched (found ++ o ∷ []) k ≡ (is_matched found k || option_eq nat_eq o (Some k))
+unfolding is_matched
+matched-more found o k =
+    list_any-append (λ (place : Option ℕ). option_eq nat_eq place (Some k)) found (o ∷ [])
+    ∙ ap (λ (b : Bool). list_any (λ (place : Option ℕ). option_eq nat_eq place (Some k)) found || b) (or-false (option_eq nat_eq o (Some k)))
+
+-- another one than these changes nothing
+unmarked : (found : List (Option ℕ)) (o : Option ℕ) (m count : ℕ) → ((k : ℕ) → m ≤ k → option_eq nat_eq o (Some k) ≡ false)
+    → map (is_matched (found ++ o ∷ [])) (range_with_len m count) ≡ map (is_matched found) (range_with_len m count)
+unmarked found o m zero other = refl
+unmarked found o m (suc count) other =
+    let own : m ≤ m = omega arith in
+    let first : is_matched (found ++ o ∷ []) m ≡ is_matched found m = matched-more found o m ∙ ap (λ (b : Bool). is_matched found m || b) (other m own) ∙ or-false (is_matched found m) in
+    let later : (k : ℕ) → m + 1 ≤ k → option_eq nat_eq o (Some k) ≡ false = λ k past. (let below : m ≤ k = omega (arith, past) in other k below) in
+    ap₂ (λ (b : Bool) (bs : List Bool). b ∷ bs) first (unmarked found o (m + 1) count later)
+
+pub marked-none : (found : List (Option ℕ)) (count : ℕ) → map (is_matched (found ++ None ∷ [])) (range_with_len 0 count) ≡ map (is_matched found) (range_with_len 0 count)
+marked-none found count = unmarked found None 0 count (λ k low. refl)
+
+marked-from : (found : List (Option ℕ)) (n k m count : ℕ) → m ≡ n + k
+    → set (map (is_matched found) (range_with_len n count)) k true ≡ map (is_matched (found ++ Some m ∷ [])) (range_with_len n count)
+marked-from found n k m zero is = refl
+marked-from found n zero m (suc count) is =
+    let here : nat_eq m n ≡ true = grind (arith, nat_tests, is) in
+    let first : is_matched (found ++ Some m ∷ []) n ≡ true = matched-more found (Some m) n ∙ ap (λ (b : Bool). is_matched found n || b) here ∙ or-true (is_matched found n) in
+    let apart : (j : ℕ) → n + 1 ≤ j → nat_eq m j ≡ false = λ j past. grind (arith, nat_tests, is, past) in
+    ap₂ (λ (b : Bool) (bs : List Bool). b ∷ bs) (sym first) (sym (unmarked found (Some m) (n + 1) count apart))
+marked-from found n (suc k) m (suc count) is =
+    let apart : nat_eq m n ≡ false = grind (arith, nat_tests, is) in
+    let first : is_matched (found ++ Some m ∷ []) n ≡ is_matched found n = matched-more found (Some m) n ∙ ap (λ (b : Bool). is_matched found n || b) apart ∙ or-false (is_matched found n) in
+    let place : m ≡ n + 1 + k = omega (arith, is) in
+    ap₂ (λ (b : Bool) (bs : List Bool). b ∷ bs) (sym first) (marked-from found (n + 1) k m count place)
+
+pub marked-more : (found : List (Option ℕ)) (k count : ℕ) → set (map (is_matched found) (range_with_len 0 count)) k true ≡ map (is_matched (found ++ Some k ∷ [])) (range_with_len 0 count)
+marked-more found k count = let place : k ≡ 0 + k = omega arith in marked-from found 0 k k count place
