@@ -1,7 +1,6 @@
 -- What is inherited, from the last that stands before a place to the first.
-use Rattle.std.proofs.Common.{◌≡◌, ◌∙◌, ◌<◌, ◌++◌, ◌∷◌, ◌||◌, ◌⊎◌, ◌↔◌, [], ℕ, zero, suc, All, Bool, List, ap, ap₂, append_assoc, arith, false, if◌then◌else◌, inl, inr, nat_cmp, nat_eq, refl, sym, true}
+use Rattle.std.proofs.Common.{◌≡◌, ◌∙◌, ◌<◌, ◌++◌, ◌∷◌, ◌||◌, ◌⊎◌, ◌↔◌, [], ℕ, zero, suc, All, Bool, Less, List, ap, ap₂, append_assoc, arith, false, if◌then◌else◌, inl, inr, nat_cmp, nat_eq, refl, sym, true}
 use Rattle.std.specs.List.{list_any}
-use Rattle.std.specs.Ordering.{Less}
 use Rattle.std.proofs.lemmas.Bool.Decides.{nat_tests}
 use Rattle.idl_base.specs.Exact.{same_number}
 use Rattle.idl_changes.specs.Offered.{base_places, inherited_before}
@@ -62,8 +61,8 @@ same-tests true false f g = sym (f refl)
 same-tests false true f g = g refl
 
 no-test : (a : Bool) → (a ≡ true → ⊥) → a ≡ false
-no-test true no = absurd (no refl)
-no-test false no = refl
+no-test true never = absurd (never refl)
+no-test false never = refl
 
 less-test : (n k : ℕ) → nat_cmp n k ≡ Less → n < k
 less-test n k is = grind (arith, nat_tests, is)
@@ -88,7 +87,7 @@ module _ (L : List RowTree) where
   -- at first
   pub ancestors-begin : (place : ℕ) (new old : List ℕ) → HaveBases place new old → old ≡ [] → All (λ n. n < place) new × (inherited_before L place new ≡ inherited_before L place (base_places L place))
   ancestors-begin place new old have none = (
-    still-below place new old have (λ n is. let no : false ≡ true = sym (ap (list_any (nat_eq n)) none) ∙ is in cc),
+    still-below place new old have (λ n is. let never : false ≡ true = sym (ap (list_any (nat_eq n)) none) ∙ is in cc),
     inherited-same L place new (base_places L place)
     (λ n within. with-bases place new old have n within ∙ ap (λ (ks : List ℕ). list_any (nat_eq n) (ks ++ base_places L place)) none),
   )
@@ -115,7 +114,7 @@ module _ (L : List RowTree) where
       within = has-holds (λ (n : ℕ). n < bound) old last there below
 
       one : (n : ℕ) → Has (last ∷ []) n → n ≡ last
-      one n is = elim (has-either last n [] is) [ inl e ↦ e | inr no ↦ let h : false ≡ true = no in cc ]
+      one n is = elim (has-either last n [] is) [ inl e ↦ e | inr h ↦ cc ]
 
       none : (n : ℕ) → last < n → n < bound → list_any (nat_eq n) old ≡ false
       none n above under =
@@ -124,11 +123,6 @@ module _ (L : List RowTree) where
             | inl a ↦ let lower = before n a in omega (arith, above, lower)
             | inr b ↦ let same = one n b in omega (arith, above, same)
           ])
-
-      rest : inherited_before L last new ≡ inherited_before L last (old ++ base_places L last)
-      rest =
-          inherited-same L last new (old ++ base_places L last)
-          (λ n lower. with-bases last new popped have n lower ∙ same-tests (list_any (nat_eq n) (popped ++ base_places L last)) (list_any (nat_eq n) (old ++ base_places L last)) (forth n) (back n lower))
 
       forth : (n : ℕ) → Has (popped ++ base_places L last) n → Has (old ++ base_places L last) n
       forth n is = elim (has-appended n popped (base_places L last) is) [
@@ -144,3 +138,8 @@ module _ (L : List RowTree) where
         ]
         | inr b ↦ has-back n popped (base_places L last) b
       ]
+
+      rest : inherited_before L last new ≡ inherited_before L last (old ++ base_places L last)
+      rest =
+          inherited-same L last new (old ++ base_places L last)
+          (λ n lower. with-bases last new popped have n lower ∙ same-tests (list_any (nat_eq n) (popped ++ base_places L last)) (list_any (nat_eq n) (old ++ base_places L last)) (forth n) (back n lower))
