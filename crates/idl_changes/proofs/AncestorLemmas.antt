@@ -4,7 +4,7 @@ use Rattle.std.specs.List.{list_any}
 use Rattle.std.proofs.lemmas.Bool.Decides.{nat_tests}
 use Rattle.idl_base.specs.Exact.{same_number}
 use Rattle.idl_changes.specs.Offered.{base_places, inherited_before}
-use Rattle.idl_changes.proofs.HasLemmas.{Has, all-has, has-appended, has-back, has-either, has-first, has-front, has-holds}
+use Rattle.idl_changes.proofs.HasLemmas.{Has, all-has, has-appended, has-back, has-either, has-first, has-front, has-holds, no-test, same-tests}
 use Rattle.idl_repo.specs.declared.details.row_tree.RowTree.{RowTree}
 
 any-append : (test : ℕ → Bool) (xs ys : List ℕ) → list_any test (xs ++ ys) ≡ (list_any test xs || list_any test ys)
@@ -52,17 +52,6 @@ module _ (L : List RowTree) where
           let below : last < z = grind (arith, nat_tests, within, e) in
           let top : z < suc z = omega arith in
           ap (λ (b : Bool). if b then z ∷ inherited_before L z (among ++ base_places L z) else inherited_before L z among) (none z below top) ∙ rest below
-
--- tests that say the same
-same-tests : (a b : Bool) → (a ≡ true → b ≡ true) → (b ≡ true → a ≡ true) → a ≡ b
-same-tests true true f g = refl
-same-tests false false f g = refl
-same-tests true false f g = sym (f refl)
-same-tests false true f g = g refl
-
-no-test : (a : Bool) → (a ≡ true → ⊥) → a ≡ false
-no-test true never = absurd (never refl)
-no-test false never = refl
 
 less-test : (n k : ℕ) → nat_cmp n k ≡ Less → n < k
 less-test n k is = grind (arith, nat_tests, is)

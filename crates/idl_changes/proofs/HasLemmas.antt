@@ -7,6 +7,17 @@ use Rattle.std.proofs.lemmas.List.Elements.{All-cons, All-head, All-tail}
 use Rattle.std.proofs.lemmas.Option.{same_Some}
 use Rattle.idl_base.specs.Exact.{both, same_number}
 
+-- tests that say the same
+pub same-tests : (a b : Bool) → (a ≡ true → b ≡ true) → (b ≡ true → a ≡ true) → a ≡ b
+same-tests true true f g = refl
+same-tests false false f g = refl
+same-tests true false f g = sym (f refl)
+same-tests false true f g = g refl
+
+pub no-test : (a : Bool) → (a ≡ true → ⊥) → a ≡ false
+no-test true never = absurd (never refl)
+no-test false never = refl
+
 abbrev pub Has : List ℕ → ℕ → Type 0
 Has xs n = list_any (nat_eq n) xs ≡ true
 

@@ -6,6 +6,7 @@ mod ListingLemmas
 mod HasLemmas
 mod EntryLemmas
 mod NothingLemmas
+mod NameLemmas
 mod InheritLemmas
 mod AncestorLemmas
 mod OfferLemmas

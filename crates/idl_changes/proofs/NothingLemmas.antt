@@ -127,7 +127,7 @@ own-matched all (name ∷ names) n at =
     let rest = own-matched all names (n + 1) next in
     λ j. first j ∷ rest j
 
-own-matches : (names : List (List ℕ)) → matches names names ≡ map (λ (k : ℕ). Some k) (range_with_len 0 (length names))
+pub own-matches : (names : List (List ℕ)) → matches names names ≡ map (λ (k : ℕ). Some k) (range_with_len 0 (length names))
 unfolding matches
 own-matches names = own-matched names names 0 (λ i name is. (let e : 0 + i ≡ i = omega arith in ap (slice_get names) e ∙ is))
 
