@@ -28,16 +28,30 @@ fn tell_old(sides: &Sides<'_>, out: &mut Vec<Change>) -> Result<(), AllocError>
         ++ flat_map (λ p. told_old sides.now.0 sides.now.1 p.0 p.1)
         (enumerate_from 0 sides.now.0)) }
 {
-    for (place, entry) in sides.before().listing().trees().iter().enumerate() {
-        match sides.partner(place) {
-            Some(partner) => tell_differences(sides, (place, partner), entry, out)?,
-            None => {
-                let told = gone_differences(*out.allocator(), sides, place, entry)?;
-                push_all((Some(place), None), told, out)?;
-            }
-        }
+    let trees = sides.before().listing().trees();
+    for (place, entry) in trees.iter().enumerate() {
+        tell_entry(sides, place, entry, out)?;
     }
     Ok(())
+}
+
+// Tells how an entry differs from the one to which it belongs, or that it is gone.
+fn tell_entry(
+    sides: &Sides<'_>,
+    place: usize,
+    entry: &RowTree,
+    out: &mut Vec<Change>,
+) -> Result<(), AllocError>
+    ensures { OnOk result (out.new.items
+        ≡ out.old.items ++ told_old sides.now.0 sides.now.1 place entry.now) }
+{
+    match sides.partner(place) {
+        Some(partner) => tell_differences(sides, (place, partner), entry, out),
+        None => {
+            let told = gone_differences(*out.allocator(), sides, place, entry)?;
+            push_all((Some(place), None), told, out)
+        }
+    }
 }
 
 // Tells how an entry differs from the one to which it belongs.
@@ -63,7 +77,8 @@ fn tell_new(sides: &Sides<'_>, out: &mut Vec<Change>) -> Result<(), AllocError>
         ++ flat_map (λ p. told_new sides.now.0 sides.now.1 p.0 p.1)
         (enumerate_from 0 sides.now.1)) }
 {
-    for (place, entry) in sides.after().listing().trees().iter().enumerate() {
+    let trees = sides.after().listing().trees();
+    for (place, entry) in trees.iter().enumerate() {
         let told = added_differences(*out.allocator(), sides, place, entry)?;
         push_all((None, Some(place)), told, out)?;
     }

@@ -74,13 +74,28 @@ fn compare_old_labels(
         ++ flat_map (old_label_differences sides.now.0 sides.now.1 old.now new.now) old.now.1) }
 {
     for case in old.cases() {
-        if let Some(text) = &case.label {
-            let label = old.label_of(*out.allocator(), text)?;
-            let selected = (old.selected(&label), new.selected(&label));
-            compare_label(sides, text, selected, out)?;
-        }
+        compare_old_label(sides, (old, new), case, out)?;
     }
     Ok(())
+}
+
+// Compares what the label of an old case selects, if it has one.
+fn compare_old_label(
+    sides: &Sides<'_>,
+    unions: (&Labels<'_>, &Labels<'_>),
+    case: &CaseTree,
+    out: &mut Vec<Difference>,
+) -> Result<(), AllocError>
+    ensures { OnOk result (out.new.items ≡ out.old.items ++ old_label_differences sides.now.0
+        sides.now.1 unions.entry.0.now unions.entry.1.now case.now) }
+{
+    let Some(text) = &case.label else {
+        return Ok(());
+    };
+    let (old, new) = unions;
+    let label = old.label_of(*out.allocator(), text)?;
+    let selected = (old.selected(&label), new.selected(&label));
+    compare_label(sides, text, selected, out)
 }
 
 // Compares what each label selects that the new union has besides.
@@ -94,15 +109,31 @@ fn compare_new_labels(
         ++ flat_map (new_label_differences sides.now.0 sides.now.1 old.now new.now) new.now.1) }
 {
     for case in new.cases() {
-        if let Some(text) = &case.label {
-            let label = new.label_of(*out.allocator(), text)?;
-            if old.labelled(&label).is_none() {
-                let selected = (old.selected(&label), new.selected(&label));
-                compare_label(sides, text, selected, out)?;
-            }
-        }
+        compare_new_label(sides, (old, new), case, out)?;
     }
     Ok(())
+}
+
+// Compares what the label of a new case selects, if it has one that the old union hasn't.
+fn compare_new_label(
+    sides: &Sides<'_>,
+    unions: (&Labels<'_>, &Labels<'_>),
+    case: &CaseTree,
+    out: &mut Vec<Difference>,
+) -> Result<(), AllocError>
+    ensures { OnOk result (out.new.items ≡ out.old.items ++ new_label_differences sides.now.0
+        sides.now.1 unions.entry.0.now unions.entry.1.now case.now) }
+{
+    let Some(text) = &case.label else {
+        return Ok(());
+    };
+    let (old, new) = unions;
+    let label = new.label_of(*out.allocator(), text)?;
+    if old.labelled(&label).is_some() {
+        return Ok(());
+    }
+    let selected = (old.selected(&label), new.selected(&label));
+    compare_label(sides, text, selected, out)
 }
 
 // Compares what a label selects.
