@@ -1,8 +1,9 @@
 //! A union's labels, and what each of them selects.
 
-ghost use Rattle.std.specs.Prelude.{◌≡◌, ℕ, List, IfOk, option_copied};
+ghost use Rattle.std.specs.Prelude.{◌≡◌, ◌++◌, ◌∷◌, [], ℕ, List, IfOk, OnOk, length, option_copied};
 ghost use Rattle.idl_changes.specs.Plain.{default_of, label_of, labelled, selected};
-ghost use Rattle.idl_changes.specs.Tables.{AreFirst};
+ghost use Rattle.idl_changes.specs.Tables.{AreFirst, AreLabelled};
+ghost use Rattle.idl_repo.specs.declared.details.type_code_tree.CaseTree.{CaseTree};
 
 use crate::keys::NumberedText;
 use crate::matched::first_places;
@@ -57,12 +58,7 @@ impl<'a> Labels<'a> {
         let numbers = first_places(alloc, names)?;
         let mut places = Map::new(alloc)?;
         for (place, case) in cases.iter().enumerate() {
-            if let Some(text) = &case.label {
-                let label = label_among(&numbers, text, alloc)?;
-                if places.get(&label).is_none() {
-                    places.insert(label, place)?;
-                }
-            }
+            add_label(&numbers, place, case, &mut places)?;
         }
         Ok(Labels {
             names,
@@ -80,10 +76,10 @@ impl<'a> Labels<'a> {
     }
 
     /// A label as it goes over the wire.
-    pub fn label_of(&self, alloc: Global, text: &Bytes) -> Result<NumberedText, AllocError>
+    pub fn label_of(&self, text: &Bytes) -> Result<NumberedText, AllocError>
         ensures { IfOk result (λ label. label ≡ label_of self.now.0 text.now) }
     {
-        label_among(&self.numbers, text, alloc)
+        label_among(&self.numbers, text)
     }
 
     /// The case of a label.
@@ -114,13 +110,31 @@ impl<'a> Labels<'a> {
     }
 }
 
+// Puts in the place of one more case, if it is the first of its label, where these are the numbers of enumerators.
+fn add_label(
+    numbers: &Map<Bytes, usize>,
+    place: usize,
+    case: &CaseTree,
+    places: &mut Map<NumberedText, usize>,
+) -> Result<(), AllocError>
+    ensures { OnOk result ((names : List (List ℕ)) (cases : List CaseTree)
+        → AreFirst names numbers.now → place ≡ length cases
+        → AreLabelled names cases places.old
+        → AreLabelled names (cases ++ case.now ∷ []) places.new) }
+{
+    let Some(text) = &case.label else {
+        return Ok(());
+    };
+    let label = label_among(numbers, text)?;
+    if places.get(&label).is_some() {
+        return Ok(());
+    }
+    places.insert(label, place)
+}
+
 // A label as it goes over the wire, where these are the numbers of enumerators.
 #[tactic(auto, unfolding(crate::specs::Plain::label_of))]
-fn label_among(
-    numbers: &Map<Bytes, usize>,
-    text: &Bytes,
-    alloc: Global,
-) -> Result<NumberedText, AllocError>
+fn label_among(numbers: &Map<Bytes, usize>, text: &Bytes) -> Result<NumberedText, AllocError>
     ensures { IfOk result (λ label. (names : List (List ℕ)) → AreFirst names numbers.now
         → label ≡ label_of names text.now) }
 {
@@ -131,6 +145,6 @@ fn label_among(
     let Some(number) = place.checked_add(1) else {
         return Err(AllocError);
     };
-    let text = Bytes::from_slice(alloc, b"")?;
+    let text = text.part(0, 0)?;
     Ok(NumberedText { text, number })
 }

@@ -1,7 +1,9 @@
 //! A listing, and where its entries stand.
 
-ghost use Rattle.std.specs.Prelude.{◌≡◌, ◌+◌, ◌≤◌, IfOk, length, map, option_copied, slice_get, slice_range};
+ghost use Rattle.std.specs.Prelude.{◌≡◌, ◌+◌, ◌++◌, ◌∷◌, ◌≤◌, [], IfOk, List, OnOk, length, map, option_copied, slice_get, slice_range};
 ghost use Rattle.idl_changes.specs.Listing.{alias_of, bases_of, enumerators_of, interface_at, interface_of, is_called, is_interface, is_local, is_sent_kind, name_of, place_of, scope_of, type_code_of};
+ghost use Rattle.idl_changes.specs.Tables.{ArePlaces};
+ghost use Rattle.idl_repo.specs.declared.details.row_tree.RowTree.{RowTree};
 
 use idl_base::Bytes;
 use idl_entity::Kind;
@@ -46,9 +48,7 @@ impl<'a> Listing<'a> {
     {
         let mut places = Map::new(alloc)?;
         for (place, tree) in trees.iter().enumerate() {
-            if !is_called(tree) && places.get(&tree.path).is_none() {
-                places.insert(tree.path.clone()?, place)?;
-            }
+            add_place(&mut places, place, tree)?;
         }
         Ok(Listing { trees, places })
     }
@@ -102,6 +102,24 @@ impl<'a> Listing<'a> {
         let scope = scope_of(&entry.path)?;
         Ok(self.interface_at(&scope))
     }
+}
+
+// Puts in the place of one more entry, if its path leads to it.
+fn add_place(
+    places: &mut Map<Bytes, usize>,
+    place: usize,
+    tree: &RowTree,
+) -> Result<(), AllocError>
+    ensures { OnOk result ((L : List RowTree) → place ≡ length L → ArePlaces L places.old
+        → ArePlaces (L ++ tree.now ∷ []) places.new) }
+{
+    if is_called(tree) {
+        return Ok(());
+    }
+    if places.get(&tree.path).is_some() {
+        return Ok(());
+    }
+    places.insert(tree.path.clone()?, place)
 }
 
 /// The name of what has this path.

@@ -2,7 +2,7 @@
 
 ghost use Rattle.std.specs.Prelude.{◌≡◌, IfOk, Some, map, nat_lt, slice_get, true};
 ghost use Rattle.std.specs.Cmp.Lexicographic.{pointwise};
-ghost use Rattle.std.specs.List.{range_with_len};
+ghost use Rattle.std.specs.List.{range_with_len, slice_set};
 ghost use Rattle.std.specs.Option.{option_and_then, option_map_or};
 ghost use Rattle.std.specs.Str.{bytes_eq};
 ghost use Rattle.idl_changes.specs.Matched.{in_order, is_matched, matched, matches};
@@ -127,13 +127,22 @@ pub fn marked(alloc: Global, found: &[Option<usize>], count: usize) -> Result<Ve
         marks.push(false)?;
     }
     for place in found {
-        if let Some(place) = place
-            && let Some(mark) = marks.get_mut(*place)
-        {
-            *mark = true;
-        }
+        mark(&mut marks, *place);
     }
     Ok(marks)
+}
+
+// Marks a place, if there is one.
+fn mark(marks: &mut Vec<bool>, place: Option<usize>)
+    ensures { marks.new.items
+        ≡ option_map_or (λ k. slice_set marks.old.items k true) place marks.old.items }
+{
+    let Some(place) = place else {
+        return;
+    };
+    if let Some(mark) = marks.get_mut(place) {
+        *mark = true;
+    }
 }
 
 /// Whether those that belong to one stand in the same order.

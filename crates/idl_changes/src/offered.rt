@@ -1,9 +1,9 @@
 //! What interfaces inherit, and what can be called on them.
 
-ghost use Rattle.std.specs.Prelude.{◌≡◌, ◌↔◌, ◌<◌, ◌⊎◌, [], ℕ, List, IfOk, IsTrue, None, OnOk, Some, find, if◌then◌else◌, nat_eq, slice_get, unwrap_or};
-ghost use Rattle.std.specs.List.{list_any};
+ghost use Rattle.std.specs.Prelude.{◌≡◌, ◌↔◌, ◌<◌, ◌⊎◌, ◌++◌, ◌∷◌, [], ℕ, List, IfOk, IsTrue, None, OnOk, Some, find, if◌then◌else◌, nat_eq, slice_get, unwrap_or};
+ghost use Rattle.std.specs.List.{list_any, slice_set};
 ghost use Rattle.std.specs.Map.{lookup};
-ghost use Rattle.std.specs.Option.{option_or};
+ghost use Rattle.std.specs.Option.{option_map_or, option_or};
 ghost use Rattle.std.specs.Str.{bytes_eq};
 ghost use Rattle.idl_changes.specs.Keys.{numbered_eq};
 ghost use Rattle.idl_changes.specs.Listing.{interface_of, is_called, name_at};
@@ -80,14 +80,31 @@ pub fn all_called(alloc: Global, listing: &Listing<'_>) -> Result<Vec<Seq<usize>
     for _entry in 0..listing.len() {
         all.push(Seq::new(alloc))?;
     }
-    for (place, tree) in listing.trees().iter().enumerate() {
-        if let Some(interface) = own_scope(listing, tree)?
-            && let Some(called) = all.get_mut(interface)
-        {
-            called.push(place)?;
-        }
+    let trees = listing.trees();
+    for (place, tree) in trees.iter().enumerate() {
+        let interface = own_scope(listing, tree)?;
+        put_called(&mut all, interface, place)?;
     }
     Ok(all)
+}
+
+// Puts a place behind those at an interface, if there is one.
+fn put_called(
+    all: &mut Vec<Seq<usize>>,
+    interface: Option<usize>,
+    place: usize,
+) -> Result<(), AllocError>
+    ensures { OnOk result (all.new.items ≡ option_map_or
+        (λ i. slice_set all.old.items i (unwrap_or (slice_get all.old.items i) [] ++ place ∷ []))
+        interface all.old.items) }
+{
+    let Some(interface) = interface else {
+        return Ok(());
+    };
+    match all.get_mut(interface) {
+        Some(called) => called.push(place),
+        None => Ok(()),
+    }
 }
 
 // The interface in whose scope a called entry is.

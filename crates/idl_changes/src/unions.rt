@@ -93,7 +93,7 @@ fn compare_old_label(
         return Ok(());
     };
     let (old, new) = unions;
-    let label = old.label_of(*out.allocator(), text)?;
+    let label = old.label_of(text)?;
     let selected = (old.selected(&label), new.selected(&label));
     compare_label(sides, text, selected, out)
 }
@@ -128,7 +128,7 @@ fn compare_new_label(
         return Ok(());
     };
     let (old, new) = unions;
-    let label = new.label_of(*out.allocator(), text)?;
+    let label = new.label_of(text)?;
     if old.labelled(&label).is_some() {
         return Ok(());
     }
