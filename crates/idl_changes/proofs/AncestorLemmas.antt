@@ -1,5 +1,5 @@
 -- What is inherited, from the last that stands before a place to the first.
-use Rattle.std.proofs.Common.{◌≡◌, ◌∙◌, ◌<◌, ◌++◌, ◌∷◌, ◌||◌, ◌⊎◌, ◌↔◌, [], ℕ, zero, suc, All, Bool, Less, List, ap, ap₂, append_assoc, arith, false, if◌then◌else◌, inl, inr, nat_cmp, nat_eq, refl, sym, true}
+use Rattle.std.proofs.Common.{◌≡◌, ◌∙◌, ◌<◌, ◌++◌, ◌∷◌, ◌&&◌, ◌||◌, [], ℕ, zero, suc, All, Bool, Less, List, ap, ap₂, append_assoc, arith, false, if◌then◌else◌, inl, inr, nat_cmp, nat_eq, nat_lt, refl, sym, true}
 use Rattle.std.specs.List.{list_any}
 use Rattle.std.proofs.lemmas.Bool.Decides.{nat_tests}
 use Rattle.idl_base.specs.Exact.{same_number}
@@ -61,17 +61,23 @@ less-test n k is = grind (arith, nat_tests, is)
 module _ (L : List RowTree) where
   -- these are those and the bases
   abbrev pub HaveBases : ℕ → (new old : List ℕ) → Type 0
-  HaveBases place new old = (n : ℕ) → Has new n ↔ (Has old n ⊎ ((n < place) × Has (base_places L place) n))
+  HaveBases place new old = (n : ℕ) → list_any (nat_eq n) new ≡ (list_any (nat_eq n) old || (nat_lt n place && list_any (nat_eq n) (base_places L place)))
 
   with-bases : (place : ℕ) (new old : List ℕ) → HaveBases place new old → (n : ℕ) → n < place → list_any (nat_eq n) new ≡ list_any (nat_eq n) (old ++ base_places L place)
   with-bases place new old have n within =
-      same-tests (list_any (nat_eq n) new) (list_any (nat_eq n) (old ++ base_places L place))
-      (λ is. elim ((have n).0 is) [ inl a ↦ has-front n old (base_places L place) a | inr b ↦ has-back n old (base_places L place) b.1 ])
-      (λ is. elim (has-appended n old (base_places L place) is) [ inl a ↦ (have n).1 (inl a) | inr b ↦ (have n).1 (inr (within, b)) ])
+      let lower : nat_lt n place ≡ true = grind (arith, nat_tests, within) in
+      have n
+      ∙ ap (λ (b : Bool). list_any (nat_eq n) old || (b && list_any (nat_eq n) (base_places L place))) lower
+      ∙ sym (any-append (nat_eq n) old (base_places L place))
 
   still-below : (place : ℕ) (new old : List ℕ) → HaveBases place new old → ((n : ℕ) → Has old n → n < place) → All (λ n. n < place) new
   still-below place new old have below =
-      all-has (λ n. n < place) new (λ n is. elim ((have n).0 is) [ inl a ↦ below n a | inr b ↦ b.0 ])
+      all-has (λ (n : ℕ). n < place) new (λ n is. by n (list_any (nat_eq n) old) (nat_lt n place) refl refl (sym (have n) ∙ is))
+    where
+      by : (n : ℕ) (a b : Bool) → list_any (nat_eq n) old ≡ a → nat_lt n place ≡ b → (a || (b && list_any (nat_eq n) (base_places L place))) ≡ true → n < place
+      by n true b e lt h = below n e
+      by n false true e lt h = grind (arith, nat_tests, lt)
+      by n false false e lt h = cc
 
   -- at first
   pub ancestors-begin : (place : ℕ) (new old : List ℕ) → HaveBases place new old → old ≡ [] → All (λ n. n < place) new × (inherited_before L place new ≡ inherited_before L place (base_places L place))

@@ -1,6 +1,6 @@
 //! What interfaces inherit, and what can be called on them.
 
-ghost use Rattle.std.specs.Prelude.{◌≡◌, ◌↔◌, ◌<◌, ◌⊎◌, ◌++◌, ◌∷◌, [], ℕ, List, IfOk, IsTrue, None, OnOk, Some, find, if◌then◌else◌, nat_eq, slice_get, unwrap_or};
+ghost use Rattle.std.specs.Prelude.{◌≡◌, ◌++◌, ◌∷◌, ◌&&◌, ◌||◌, [], ℕ, List, IfOk, None, OnOk, Some, false, find, if◌then◌else◌, nat_eq, nat_lt, slice_get, unwrap_or};
 ghost use Rattle.std.specs.List.{list_any, slice_set};
 ghost use Rattle.std.specs.Map.{lookup};
 ghost use Rattle.std.specs.Option.{option_map_or, option_or};
@@ -54,19 +54,34 @@ fn add_bases(
     place: usize,
     among: &mut BTreeSet<usize>,
 ) -> Result<(), AllocError>
-    ensures { OnOk result ((n : ℕ) → IsTrue (list_any (nat_eq n) among.new.keys)
-        ↔ ((IsTrue (list_any (nat_eq n) among.old.keys))
-        ⊎ ((n < place) × IsTrue (list_any (nat_eq n) (base_places listing.now place))))) }
+    ensures { OnOk result ((n : ℕ) → list_any (nat_eq n) among.new.keys
+        ≡ (list_any (nat_eq n) among.old.keys
+        || (nat_lt n place && list_any (nat_eq n) (base_places listing.now place)))) }
 {
     let Some(entry) = listing.entry(place) else {
         return Ok(());
     };
     for base in bases_of(entry) {
-        if let Some(at) = listing.interface_at(&base.path)
-            && at < place
-        {
-            among.insert(at)?;
-        }
+        add_before(listing.interface_at(&base.path), place, among)?;
+    }
+    Ok(())
+}
+
+// Puts a place among these, if there is one and it stands before a bound.
+fn add_before(
+    place: Option<usize>,
+    bound: usize,
+    among: &mut BTreeSet<usize>,
+) -> Result<(), AllocError>
+    ensures { OnOk result ((n : ℕ) → list_any (nat_eq n) among.new.keys
+        ≡ (list_any (nat_eq n) among.old.keys
+        || (nat_lt n bound && option_map_or (nat_eq n) place false))) }
+{
+    let Some(place) = place else {
+        return Ok(());
+    };
+    if place < bound {
+        among.insert(place)?;
     }
     Ok(())
 }
