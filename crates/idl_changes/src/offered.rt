@@ -80,9 +80,10 @@ fn add_before(
     let Some(place) = place else {
         return Ok(());
     };
-    if place < bound {
-        among.insert(place)?;
+    if bound <= place {
+        return Ok(());
     }
+    among.insert(place)?;
     Ok(())
 }
 
