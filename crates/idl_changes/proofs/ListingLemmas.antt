@@ -1,8 +1,8 @@
 -- Names in paths, byte by byte, and entries that are lent.
-use Rattle.std.proofs.Common.{Bor, ◌≡◌, ◌∙◌, ◌+◌, ◌<◌, ◌++◌, ◌∷◌, [], ℕ, List, Option, Some, ap, fold, get_or, if◌then◌else◌, length, map, nat_eq, sym, take}
+use Rattle.std.proofs.Common.{Bor, ◌≡◌, ◌∙◌, ◌+◌, ◌<◌, ◌≤◌, ◌++◌, ◌∷◌, [], ℕ, List, Some, ap, arith, get_or, if◌then◌else◌, length, map, nat_eq, sym, take}
 use Rattle.std.specs.List.{slice_get}
-use Rattle.std.specs.Option.{option_map}
-use Rattle.std.proofs.lemmas.List.{map_more}
+use Rattle.std.proofs.lemmas.List.{get_or-map, length-map, map_more}
+use Rattle.std.proofs.lemmas.Option.{slice_get-get_or}
 use Rattle.std.proofs.lemmas.List.Sums.{fold_push}
 use Rattle.idl_changes.specs.Listing.{name_of}
 use Rattle.idl_repo.specs.declared.details.row_tree.RowTree.{RowTree}
@@ -18,3 +18,19 @@ pub take-next : (lent : List (Bor RowTree)) (i : ℕ) (next : Bor RowTree) → i
 take-next lent i next within is =
     map_more (λ (t : Bor RowTree). t.now) lent i next within
     ∙ ap (λ (t : Bor RowTree). map (λ (u : Bor RowTree). u.now) (take i lent) ++ t.now ∷ []) (sym is)
+
+-- an entry that is lent at a place
+pub lent-within : (lent : List (Bor RowTree)) (i : ℕ) → i < length lent → i < length (map (λ (t : Bor RowTree). t.now) lent)
+lent-within lent i within = let same = length-map lent (λ (t : Bor RowTree). t.now) in omega (arith, within, same)
+
+pub lent-past : (lent : List (Bor RowTree)) (i : ℕ) → length lent ≤ i → length (map (λ (t : Bor RowTree). t.now) lent) ≤ i
+lent-past lent i past = let same = length-map lent (λ (t : Bor RowTree). t.now) in omega (arith, past, same)
+
+pub lent-read : (lent : List (Bor RowTree)) (i : ℕ) (t : Bor RowTree) → i < length lent → t ≡ get_or lent i t → t.now ≡ get_or (map (λ (u : Bor RowTree). u.now) lent) i t.now
+lent-read lent i t within is = ap (λ (u : Bor RowTree). u.now) is ∙ sym (get_or-map (λ (u : Bor RowTree). u.now) lent i t t.now within)
+
+pub lent-at : (lent : List (Bor RowTree)) (L : List RowTree) → map (λ (t : Bor RowTree). t.now) lent ≡ L → (i : ℕ) (t : Bor RowTree) → i < length lent → t ≡ get_or lent i t → slice_get L i ≡ Some t.now
+lent-at lent L same i t within is =
+    ap (λ (l : List RowTree). slice_get l i) (sym same)
+    ∙ slice_get-get_or (map (λ (u : Bor RowTree). u.now) lent) i t.now (lent-within lent i within)
+    ∙ ap Some (sym (lent-read lent i t within is))

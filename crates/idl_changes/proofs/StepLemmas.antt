@@ -8,32 +8,46 @@ use Rattle.std.proofs.lemmas.List.Concat.{flat_map-append}
 use Rattle.std.proofs.lemmas.List.Folds.{list_any-append}
 use Rattle.idl_changes.specs.Matched.{is_matched}
 
--- ---- what is told of those that are left comes behind
+-- ---- what is told of those that are left comes behind; the items are lent
 
-pub left-told : {X Y : Type 0} (f : X → List Y) (xs : List X) (i : ℕ) (x : X) (out more all : List Y) → i < length xs → x ≡ get_or xs i x → more ≡ out ++ f x
+pub left-told : {X Y : Type 0} (f : X → List Y) (items xs : List X) → items ≡ xs → (i : ℕ) (x : X) (out more all : List Y) → i < length items → x ≡ get_or items i x → more ≡ out ++ f x
     → out ++ flat_map f (drop i xs) ≡ all → more ++ flat_map f (drop (i + 1) xs) ≡ all
-left-told {X} {Y} f xs i x out more all within is put so_far =
+left-told {X} {Y} f items xs same i x out more all within is put so_far =
     let rest = flat_map f (drop (i + 1) xs) in
-    let left : flat_map f (drop i xs) ≡ f x ++ rest = ap (flat_map f) (drop_more xs i x within) ∙ ap (λ (y : X). f y ++ rest) (sym is) in
+    let left : flat_map f (drop i xs) ≡ f x ++ rest =
+    ap (λ (ys : List X). flat_map f (drop i ys)) (sym same)
+    ∙ ap (flat_map f) (drop_more items i x within)
+    ∙ ap₂ (λ (y : X) (ys : List X). f y ++ flat_map f (drop (i + 1) ys)) (sym is) same
+    in
     ap (λ (o : List Y). o ++ rest) put ∙ append_assoc out (f x) rest ∙ ap (λ (t : List Y). out ++ t) (sym left) ∙ so_far
 
-pub all-told : {X Y : Type 0} (f : X → List Y) (xs : List X) (i : ℕ) (out all : List Y) → length xs ≤ i → out ++ flat_map f (drop i xs) ≡ all → out ≡ all
-all-told {X} {Y} f xs i out all past so_far = sym (append-nil out) ∙ ap (λ (t : List Y). out ++ t) (sym (ap (flat_map f) (drop_all i xs past))) ∙ so_far
+pub all-told : {X Y : Type 0} (f : X → List Y) (items xs : List X) → items ≡ xs → (i : ℕ) (out all : List Y) → length items ≤ i → out ++ flat_map f (drop i xs) ≡ all → out ≡ all
+all-told {X} {Y} f items xs same i out all past so_far =
+    sym (append-nil out) ∙ ap (λ (t : List Y). out ++ t) (sym (ap (λ (ys : List X). flat_map f (drop i ys)) (sym same) ∙ ap (flat_map f) (drop_all i items past))) ∙ so_far
 
 -- by places
-pub left-told-at : {X Y : Type 0} (f : ℕ × X → List Y) (xs : List X) (i : ℕ) (x : X) (out more all : List Y) → i < length xs → x ≡ get_or xs i x → more ≡ out ++ f (i, x)
+pub left-told-at : {X Y : Type 0} (f : ℕ × X → List Y) (items xs : List X) → items ≡ xs → (i : ℕ) (x : X) (out more all : List Y) → i < length items → x ≡ get_or items i x → more ≡ out ++ f (i, x)
     → out ++ flat_map f (enumerate_from i (drop i xs)) ≡ all → more ++ flat_map f (enumerate_from (i + 1) (drop (i + 1) xs)) ≡ all
-left-told-at {X} {Y} f xs i x out more all within is put so_far =
+left-told-at {X} {Y} f items xs same i x out more all within is put so_far =
     let rest = flat_map f (enumerate_from (i + 1) (drop (i + 1) xs)) in
     let left : flat_map f (enumerate_from i (drop i xs)) ≡ f (i, x) ++ rest =
-    ap (λ (ys : List X). flat_map f (enumerate_from i ys)) (drop_more xs i x within) ∙ ap (λ (y : X). f (i, y) ++ rest) (sym is)
+    ap (λ (ys : List X). flat_map f (enumerate_from i (drop i ys))) (sym same)
+    ∙ ap (λ (ys : List X). flat_map f (enumerate_from i ys)) (drop_more items i x within)
+    ∙ ap₂ (λ (y : X) (ys : List X). f (i, y) ++ flat_map f (enumerate_from (i + 1) (drop (i + 1) ys))) (sym is) same
     in
     ap (λ (o : List Y). o ++ rest) put ∙ append_assoc out (f (i, x)) rest ∙ ap (λ (t : List Y). out ++ t) (sym left) ∙ so_far
 
-pub all-told-at : {X Y : Type 0} (f : ℕ × X → List Y) (xs : List X) (i : ℕ) (out all : List Y) → length xs ≤ i
+pub all-told-at : {X Y : Type 0} (f : ℕ × X → List Y) (items xs : List X) → items ≡ xs → (i : ℕ) (out all : List Y) → length items ≤ i
     → out ++ flat_map f (enumerate_from i (drop i xs)) ≡ all → out ≡ all
-all-told-at {X} {Y} f xs i out all past so_far =
-    sym (append-nil out) ∙ ap (λ (t : List Y). out ++ t) (sym (ap (λ (ys : List X). flat_map f (enumerate_from i ys)) (drop_all i xs past))) ∙ so_far
+all-told-at {X} {Y} f items xs same i out all past so_far =
+    sym (append-nil out)
+    ∙ ap (λ (t : List Y). out ++ t) (sym (ap (λ (ys : List X). flat_map f (enumerate_from i (drop i ys))) (sym same) ∙ ap (λ (ys : List X). flat_map f (enumerate_from i ys)) (drop_all i items past)))
+    ∙ so_far
+
+-- where one is told of only if a test fails
+pub told-unless : {Y : Type 0} (b : Bool) (out more told : List Y) → (b ≡ true → more ≡ out) → (b ≡ false → more ≡ out ++ told) → more ≡ out ++ (if b then [] else told)
+told-unless true out more told stays puts = stays refl ∙ sym (append-nil out)
+told-unless false out more told stays puts = puts refl
 
 -- ---- names with a word between
 

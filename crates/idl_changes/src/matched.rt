@@ -1,11 +1,11 @@
 //! Which items of two lists with names belong together.
 
-ghost use Rattle.std.specs.Prelude.{◌≡◌, IfOk, Some, map, nat_lt, slice_get, true};
+ghost use Rattle.std.specs.Prelude.{◌≡◌, ◌<◌, IfOk, Some, length, map, nat_lt, option_copied, slice_get, true};
 ghost use Rattle.std.specs.Cmp.Lexicographic.{pointwise};
 ghost use Rattle.std.specs.List.{range_with_len, slice_set};
-ghost use Rattle.std.specs.Option.{option_and_then, option_map_or};
+ghost use Rattle.std.specs.Option.{option_and_then, option_eq, option_map, option_map_or};
 ghost use Rattle.std.specs.Str.{bytes_eq};
-ghost use Rattle.idl_changes.specs.Matched.{in_order, is_matched, matched, matches};
+ghost use Rattle.idl_changes.specs.Matched.{in_order, is_matched, matched, matches, renamed};
 ghost use Rattle.idl_changes.specs.Tables.{AreFirst};
 
 use idl_base::Bytes;
@@ -100,21 +100,46 @@ fn matched<T: Named>(
 {
     let (old, new) = lists;
     let item = old.get(place)?;
-    let there = new.get(place);
-    if let Some(other) = there
-        && *other.name() == *item.name()
-    {
+    if has_name(new.get(place), item.name()) {
         return Some(place);
     }
     if let Some(found) = places.1.get(item.name()) {
         return Some(*found);
     }
-    match there {
-        Some(other) if old.len() == new.len() && places.0.get(other.name()).is_none() => {
-            Some(place)
-        }
-        _ => None,
+    renamed(lists, places.0, place)
+}
+
+// Whether there is an item and it has a name.
+fn has_name<T: Named>(item: Option<&T>, name: &Bytes) -> bool
+    ensures { result
+        ≡ option_eq bytes_eq (option_map T.name_of (option_copied item)) (Some name.now) }
+{
+    match item {
+        Some(item) => *item.name() == *name,
+        None => false,
     }
+}
+
+// The item at a place, if the one there is renamed, where these are the first places of the old names.
+fn renamed<T: Named>(
+    lists: (&[T], &[T]),
+    places: &Map<Bytes, usize>,
+    place: usize,
+) -> Option<usize>
+    requires before { AreFirst (map T.name_of lists.0.now) places.now }
+    requires within { place < length lists.0.now }
+    ensures { result
+        ≡ renamed (map T.name_of lists.entry.0.now) (map T.name_of lists.entry.1.now) place }
+{
+    let (old, new) = lists;
+    if old.len() != new.len() {
+        return None;
+    }
+    let other = new.get(place)?;
+    if places.get(other.name()).is_some() {
+        return None;
+    }
+    Some(place)
 }
 
 /// Which of so many new items belong to an old one.
