@@ -3,6 +3,8 @@ use Rattle.std.proofs.Common.{◌≡◌, ◌∙◌, ◌+◌, ◌≤◌, ◌++◌
 use Rattle.std.specs.List.{enumerate_from, slice_get}
 use Rattle.std.specs.Option.{option_and_then, option_eq, option_map, option_map_or, option_or}
 use Rattle.std.proofs.lemmas.Bool.Decides.{nat_tests}
+use Rattle.std.proofs.lemmas.List.{map-append, set_past, take_all}
+use Rattle.std.proofs.lemmas.List.Elements.{filter-append}
 use Rattle.std.proofs.lemmas.Option.{none-some}
 use Rattle.idl_base.specs.Exact.{same_number, same_option}
 use Rattle.idl_changes.specs.Listing.{bases_of, by_id, interface_at, interface_of, is_called, places_where, scope_of}
@@ -11,7 +13,7 @@ use Rattle.idl_changes.specs.Partners.{by_path, called_partner, joined, partner}
 use Rattle.idl_changes.specs.Tables.{each}
 use Rattle.idl_changes.proofs.AncestorLemmas.{inherited-none}
 use Rattle.idl_changes.proofs.EntryLemmas.{interface-found}
-use Rattle.idl_changes.proofs.TableLemmas.{slice_get-each}
+use Rattle.idl_changes.proofs.TableLemmas.{place-next, slice_get-each}
 use Rattle.idl_repo.specs.declared.details.row_tree.RowTree.{RowTree}
 
 -- ---- what a function of the place gives, where it gives nothing past the last
@@ -123,3 +125,91 @@ module _ (lists : ℕ → List ℕ) (place : ℕ) where
 
   pub put-there : (j : ℕ) (L : List RowTree) → set (each (λ k e. lists k) L) j (lists j ++ place ∷ []) ≡ each (λ k e. lists k ++ (if nat_eq j k then place ∷ [] else [])) L
   put-there j L = let is : j ≡ 0 + j = omega arith in put-from j j 0 L is
+
+-- ---- entries one after another
+
+length-enumerate : (n : ℕ) (L : List RowTree) → length (enumerate_from n L) ≡ length L
+length-enumerate n [] = refl
+length-enumerate n (x ∷ xs) = ap suc (length-enumerate (n + 1) xs)
+
+get-past : {X : Type 0} (xs : List X) (i : ℕ) → slice_get xs i ≡ None → length xs ≤ i
+get-past [] i is = omega arith
+get-past (x ∷ xs) zero is = cc
+get-past (x ∷ xs) (suc i) is = let rest = get-past xs i is in omega (arith, rest)
+
+same-pairs : (n : ℕ) (L : List RowTree) → map (λ (p : ℕ × RowTree). (p.0, p.1)) (enumerate_from n L) ≡ enumerate_from n L
+same-pairs n [] = refl
+same-pairs n (x ∷ xs) = ap (λ (ps : List (ℕ × RowTree)). (n, x) ∷ ps) (same-pairs (n + 1) xs)
+
+entries-next : (L : List RowTree) (i : ℕ) (e : RowTree) → slice_get L i ≡ Some e → take (i + 1) (enumerate_from 0 L) ≡ take i (enumerate_from 0 L) ++ (i, e) ∷ []
+entries-next L i e at =
+    ap (take (i + 1)) (sym (same-pairs 0 L)) ∙ place-next (λ (k : ℕ) (x : RowTree). (k, x)) L i e at
+    ∙ ap (λ (ps : List (ℕ × RowTree)). take i ps ++ (i, e) ∷ []) (same-pairs 0 L)
+
+-- the lists so far of what is called
+module _ (L : List RowTree) where
+  abbrev pub called_so_far : (z i : ℕ) → List ℕ
+  called_so_far z i = map (λ p. p.0) (filter (λ p. is_called p.1 && option_eq nat_eq (interface_of L p.1) (Some i)) (take z (enumerate_from 0 L)))
+
+  abbrev pub own_interface_of : RowTree → Option ℕ
+  own_interface_of e = if is_called e then interface_of L e else None
+
+  own-test : (e : RowTree) (i : ℕ) → (is_called e && option_eq nat_eq (interface_of L e) (Some i)) ≡ option_eq nat_eq (own_interface_of e) (Some i)
+  own-test e i = by (is_called e)
+    where
+      by : (b : Bool) → (b && option_eq nat_eq (interface_of L e) (Some i)) ≡ option_eq nat_eq (if b then interface_of L e else None) (Some i)
+      by true = refl
+      by false = refl
+
+  one-more : (z i : ℕ) (e : RowTree) → slice_get L z ≡ Some e
+      → called_so_far (z + 1) i ≡ called_so_far z i ++ (if option_eq nat_eq (own_interface_of e) (Some i) then z ∷ [] else [])
+  one-more z i e at =
+      let test = λ (p : ℕ × RowTree). is_called p.1 && option_eq nat_eq (interface_of L p.1) (Some i) in
+      let so_far = take z (enumerate_from 0 L) in
+      ap (λ (ps : List (ℕ × RowTree)). map (λ (p : ℕ × RowTree). p.0) (filter test ps)) (entries-next L z e at)
+      ∙ ap (map (λ (p : ℕ × RowTree). p.0)) (filter-append test so_far ((z, e) ∷ []))
+      ∙ map-append (λ (p : ℕ × RowTree). p.0) (filter test so_far) (filter test ((z, e) ∷ []))
+      ∙ ap (λ (ks : List ℕ). called_so_far z i ++ ks) (by (is_called e && option_eq nat_eq (interface_of L e) (Some i)))
+      ∙ ap (λ (b : Bool). called_so_far z i ++ (if b then z ∷ [] else [])) (own-test e i)
+    where
+      by : (b : Bool) → map (λ (p : ℕ × RowTree). p.0) (cond b ((z, e) ∷ []) []) ≡ (if b then z ∷ [] else [])
+      by true = refl
+      by false = refl
+
+  abbrev pub put_behind : List (List ℕ) → ℕ → Option ℕ → List (List ℕ)
+  put_behind all place interface = option_map_or (λ i. set all i (unwrap_or (slice_get all i) [] ++ place ∷ [])) interface all
+
+  put-by : (z : ℕ) (own : Option ℕ)
+      → put_behind (each (λ k x. called_so_far z k) L) z own ≡ each (λ k x. called_so_far z k ++ (if option_eq nat_eq own (Some k) then z ∷ [] else [])) L
+  put-by z None = let same : (λ (k : ℕ). called_so_far z k ++ []) ≡ (λ (k : ℕ). called_so_far z k) = λ t k. append-nil (called_so_far z k) t in ap (λ (f : ℕ → List ℕ). each (λ k x. f k) L) (sym same)
+  put-by z (Some j) = by (slice_get L j) refl
+    where
+      by : (entry : Option RowTree) → slice_get L j ≡ entry
+          → set (each (λ k x. called_so_far z k) L) j (unwrap_or (slice_get (each (λ k x. called_so_far z k) L) j) [] ++ z ∷ [])
+          ≡ each (λ k x. called_so_far z k ++ (if nat_eq j k then z ∷ [] else [])) L
+      by (Some f) at =
+          let there = ap (λ (o : Option (List ℕ)). unwrap_or o []) (slice_get-each (λ (k : ℕ) (x : RowTree). called_so_far z k) L j ∙ ap (option_map (λ (x : RowTree). called_so_far z j)) at) in
+          ap (λ (l : List ℕ). set (each (λ k x. called_so_far z k) L) j (l ++ z ∷ [])) there ∙ put-there (called_so_far z) z j L
+      by None at =
+          let past = get-past (each (λ k x. called_so_far z k) L) j (slice_get-each (λ (k : ℕ) (x : RowTree). called_so_far z k) L j ∙ ap (option_map (λ (x : RowTree). called_so_far z j)) at) in
+          set_past (each (λ k x. called_so_far z k) L) j (unwrap_or (slice_get (each (λ k x. called_so_far z k) L) j) [] ++ z ∷ []) past
+          ∙ sym (set_past (each (λ k x. called_so_far z k) L) j (called_so_far z j ++ z ∷ []) past)
+          ∙ put-there (called_so_far z) z j L
+
+  pub called-next : (z : ℕ) (e : RowTree) (old new : List (List ℕ)) → slice_get L z ≡ Some e → old ≡ each (λ k x. called_so_far z k) L → new ≡ put_behind old z (own_interface_of e)
+      → new ≡ each (λ k x. called_so_far (z + 1) k) L
+  called-next z e old new at are put =
+      put ∙ ap (λ (all : List (List ℕ)). put_behind all z (own_interface_of e)) are ∙ put-by z (own_interface_of e)
+      ∙ ap (λ (f : ℕ → List ℕ). each (λ k x. f k) L) (sym (more z e at))
+    where
+      more : (z : ℕ) (e : RowTree) → slice_get L z ≡ Some e
+          → (λ (k : ℕ). called_so_far (z + 1) k) ≡ (λ (k : ℕ). called_so_far z k ++ (if option_eq nat_eq (own_interface_of e) (Some k) then z ∷ [] else []))
+      more z e at = λ t k. one-more z k e at t
+
+  -- and all of them
+  pub called-all : (z : ℕ) → length L ≤ z → each (λ k x. called_so_far z k) L ≡ each (λ k x. called_in L k) L
+  unfolding called_in
+  called-all z past =
+      let count = length-enumerate 0 L in
+      let all = take_all z (enumerate_from 0 L) (omega (arith, past, count)) in
+      λ t. each (λ k x. map (λ p. p.0) (filter (λ p. is_called p.1 && option_eq nat_eq (interface_of L p.1) (Some k)) (all t))) L

@@ -1,12 +1,12 @@
 -- Tables of what is looked up often, with one entry more than before.
-use Rattle.std.proofs.Common.{◌≡◌, ◌∙◌, ◌+◌, ◌<◌, ◌≤◌, ◌++◌, ◌∷◌, ◌&&◌, ◌||◌, [], ℕ, zero, suc, Bool, List, None, Option, Some, ap, ap₂, append-nil, arith, cond, false, filter, get_or, if◌then◌else◌, length, map, nat_eq, nat_lt, not, position, refl, sym, take, true, unwrap_or}
+use Rattle.std.proofs.Common.{Bor, ◌≡◌, ◌∙◌, ◌+◌, ◌<◌, ◌≤◌, ◌++◌, ◌∷◌, ◌&&◌, ◌||◌, [], ℕ, zero, suc, Bool, List, None, Option, Some, ap, ap₂, append-nil, arith, cond, false, filter, get_or, if◌then◌else◌, length, map, nat_eq, nat_lt, not, position, refl, sym, take, true, unwrap_or}
 use Rattle.std.specs.Cmp.Lexicographic.{bytes_decides}
 use Rattle.std.specs.List.{enumerate_from, list_any, position_or_len, slice_get}
 use Rattle.std.specs.Map.{lookup}
-use Rattle.std.specs.Option.{is_some, option_map, option_or}
+use Rattle.std.specs.Option.{is_some, option_copied, option_map, option_or}
 use Rattle.std.specs.Str.{bytes_eq}
 use Rattle.std.proofs.lemmas.Bool.Decides.{nat_tests}
-use Rattle.std.proofs.lemmas.List.{take_more}
+use Rattle.std.proofs.lemmas.List.{length-take-le, take_all, take_more}
 use Rattle.std.proofs.lemmas.Option.{same_Some, slice_get-get_or, slice_get_within}
 use Rattle.idl_changes.specs.Keys.{numbered_eq}
 use Rattle.idl_changes.specs.Listing.{has_id, is_called, places_where}
@@ -44,6 +44,33 @@ place-next {X} {Y} f xs i x at =
 pub each-next : {Y : Type 0} (f : ℕ → RowTree → Y) (L : List RowTree) (i : ℕ) (e : RowTree) → slice_get L i ≡ Some e
     → take (i + 1) (each f L) ≡ take i (each f L) ++ f i e ∷ []
 each-next f L i e at = place-next f L i e at
+
+-- and all of them
+length-from : {X Y : Type 0} (f : ℕ → X → Y) (n : ℕ) (xs : List X) → length (map (λ (p : ℕ × X). f p.0 p.1) (enumerate_from n xs)) ≡ length xs
+length-from f n [] = refl
+length-from f n (x ∷ xs) = ap suc (length-from f (n + 1) xs)
+
+pub all-places : {X Y : Type 0} (f : ℕ → X → Y) (xs : List X) (i : ℕ) → length xs ≤ i
+    → take i (map (λ (p : ℕ × X). f p.0 p.1) (enumerate_from 0 xs)) ≡ map (λ (p : ℕ × X). f p.0 p.1) (enumerate_from 0 xs)
+all-places f xs i past =
+    let count = length-from f 0 xs in
+    take_all i (map (λ p. f p.0 p.1) (enumerate_from 0 xs)) (omega (arith, past, count))
+
+pub few-places-so-far : {X Y : Type 0} (f : ℕ → X → Y) (xs : List X) (i : ℕ) → i ≤ length xs → length (take i (map (λ (p : ℕ × X). f p.0 p.1) (enumerate_from 0 xs))) ≡ i
+few-places-so-far f xs i within =
+    let count = length-from f 0 xs in
+    let all = length-take-le i (map (λ p. f p.0 p.1) (enumerate_from 0 xs)) in
+    omega (arith, within, count, all)
+
+-- what stands within a list
+pub get-within : {X : Type 0} (xs : List X) (i : ℕ) → i < length xs → (x : X) × (slice_get xs i ≡ Some x)
+get-within [] i within = absurd (omega (arith, within))
+get-within (x ∷ xs) zero within = (x, refl)
+get-within (x ∷ xs) (suc i) within = get-within xs i (omega (arith, within))
+
+pub some-copied : (o : Option (Bor ℕ)) → is_some (option_copied o) ≡ is_some o
+some-copied None = refl
+some-copied (Some k) = refl
 
 -- those so far by their places
 pub take-within : {X : Type 0} (xs : List X) (z n : ℕ) → n < z → slice_get (take z xs) n ≡ slice_get xs n
@@ -154,6 +181,24 @@ module _ {K X : Type 0} (eq : K → K → Bool) (same : (k q : K) → eq k q ≡
           let none : position (passes k) xs ≡ None = sym (are k) ∙ ap (λ (q : K). lookup (eq q) old) (same k key e) ∙ has in
           ap (λ (n : ℕ). Some n) at ∙ sym (ap (λ (o : Option ℕ). option_or o (Some (length xs))) none)
       by false e = are k ∙ sym (or-none (position (passes k) xs))
+
+  -- the same by whether it has one
+  pub more-held : (xs : List X) (x : X) (table : List (K × ℕ)) (key : K) → ((k : K) → passes k x ≡ eq k key)
+      → is_some (lookup (eq key) table) ≡ true → AreFirstOf xs table → AreFirstOf (xs ++ x ∷ []) table
+  more-held xs x table key one has are = by (lookup (eq key) table) refl has
+    where
+      by : (found : Option ℕ) → lookup (eq key) table ≡ found → is_some found ≡ true → AreFirstOf (xs ++ x ∷ []) table
+      by None e h = cc
+      by (Some place) e h = more-kept xs x table key place one e are
+
+  pub more-added : (xs : List X) (x : X) (old new : List (K × ℕ)) (key : K) (place : ℕ) → place ≡ length xs → ((k : K) → passes k x ≡ eq k key)
+      → is_some (lookup (eq key) old) ≡ false → ((k : K) → lookup (eq k) new ≡ (if eq k key then Some place else lookup (eq k) old))
+      → AreFirstOf xs old → AreFirstOf (xs ++ x ∷ []) new
+  more-added xs x old new key place at one has put are = by (lookup (eq key) old) refl has
+    where
+      by : (found : Option ℕ) → lookup (eq key) old ≡ found → is_some found ≡ false → AreFirstOf (xs ++ x ∷ []) new
+      by None e h = more-put xs x old new key place at one e put are
+      by (Some there) e h = cc
 
 -- ---- places by ids
 

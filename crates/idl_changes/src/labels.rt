@@ -129,7 +129,8 @@ fn add_label(
     if places.get(&label).is_some() {
         return Ok(());
     }
-    places.insert(label, place)
+    places.insert(label, place)?;
+    Ok(())
 }
 
 // A label as it goes over the wire, where these are the numbers of enumerators.

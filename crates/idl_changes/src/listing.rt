@@ -119,7 +119,8 @@ fn add_place(
     if places.get(&tree.path).is_some() {
         return Ok(());
     }
-    places.insert(tree.path.clone()?, place)
+    places.insert(tree.path.clone()?, place)?;
+    Ok(())
 }
 
 /// The name of what has this path.

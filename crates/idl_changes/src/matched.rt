@@ -1,6 +1,6 @@
 //! Which items of two lists with names belong together.
 
-ghost use Rattle.std.specs.Prelude.{◌≡◌, ◌<◌, IfOk, Some, length, map, nat_lt, option_copied, slice_get, true};
+ghost use Rattle.std.specs.Prelude.{◌≡◌, ◌++◌, ◌∷◌, ◌<◌, [], ℕ, IfOk, List, OnOk, Some, length, map, nat_lt, option_copied, slice_get, true};
 ghost use Rattle.std.specs.Cmp.Lexicographic.{pointwise};
 ghost use Rattle.std.specs.List.{range_with_len, slice_set};
 ghost use Rattle.std.specs.Option.{option_and_then, option_eq, option_map, option_map_or};
@@ -78,11 +78,25 @@ pub fn first_places<T: Named>(alloc: Global, items: &[T]) -> Result<Map<Bytes, u
 {
     let mut places = Map::new(alloc)?;
     for (place, item) in items.iter().enumerate() {
-        if places.get(item.name()).is_none() {
-            places.insert(item.name().clone()?, place)?;
-        }
+        add_name(&mut places, place, item.name())?;
     }
     Ok(places)
+}
+
+// Puts in the place of one more name, if it is the first of it.
+fn add_name(
+    places: &mut Map<Bytes, usize>,
+    place: usize,
+    name: &Bytes,
+) -> Result<(), AllocError>
+    ensures { OnOk result ((names : List (List ℕ)) → place ≡ length names
+        → AreFirst names places.old → AreFirst (names ++ name.now ∷ []) places.new) }
+{
+    if places.get(name).is_some() {
+        return Ok(());
+    }
+    places.insert(name.clone()?, place)?;
+    Ok(())
 }
 
 // To which of the new items the one at a place belongs, where these are the first places of all names.

@@ -7,7 +7,7 @@ ghost use Rattle.idl_changes.specs.Tables.{each, plain_alias};
 
 use crate::listing::{Listing, alias_of};
 use idl_base::Seq;
-use idl_repo::details::{ElementTree, LayeredType, Reference};
+use idl_repo::details::{ElementTree, LayeredType, Reference, RowTree};
 use std::alloc::{AllocError, Global};
 
 /// The plain type of each alias, which are looked up where one names another; nothing of what isn't an alias.
@@ -20,13 +20,28 @@ pub fn plain_aliases(
 {
     let mut plains = Vec::with_capacity(alloc, listing.len())?;
     for tree in listing.trees() {
-        let plain = match alias_of(tree) {
-            Some(data_type) => Some(opened(listing, &plains, data_type)?),
-            None => None,
-        };
+        let plain = plain_alias(listing, &plains, tree)?;
         plains.push(plain)?;
     }
     Ok(plains)
+}
+
+// The plain type of the next entry, if it is an alias, where these are those of the entries before it.
+fn plain_alias(
+    listing: &Listing<'_>,
+    plains: &[Option<LayeredType>],
+    entry: &RowTree,
+) -> Result<Option<LayeredType>, AllocError>
+    requires { plains.now
+        ≡ take (length plains.now) (each (plain_alias listing.now) listing.now) }
+    ensures { IfOk result (λ plain.
+        plain ≡ plain_alias listing.now (length plains.now) entry.now) }
+{
+    let Some(data_type) = alias_of(entry) else {
+        return Ok(None);
+    };
+    let plain = opened(listing, plains, data_type)?;
+    Ok(Some(plain))
 }
 
 /// A type without aliases, where these are the plain types of the aliases.
