@@ -15,6 +15,7 @@ use Rattle.idl_changes.specs.declared.rows.Item.{Item}
 use Rattle.idl_changes.specs.declared.rows.Line.TheVariants as line
 use Rattle.idl_changes.specs.declared.rows.Weights.{Weights}
 use Rattle.idl_changes.proofs.AllLemmas.{All-told}
+use Rattle.idl_changes.proofs.TableLemmas.{get-within}
 use Rattle.idl_changes.proofs.WeightLemmas.{Lacks, lacks-back, lacks-front, lacks-none, lacks-unless}
 
 -- ---- places in order that are all taken
@@ -80,12 +81,6 @@ all-in-place n m (Some j ∷ found) below order taken =
     later false k e here low h = h
 
 -- ---- items that belong together
-
--- an item that stands within a list
-get-within : {X : Type 0} (xs : List X) (k : ℕ) → k < length xs → (x : X) × (slice_get xs k ≡ Some x)
-get-within [] k within = absurd (omega (arith, within))
-get-within (x ∷ xs) zero within = (x, refl)
-get-within (x ∷ xs) (suc k) within = get-within xs k (omega (arith, within))
 
 range-length : (n c : ℕ) → length (map (λ (j : ℕ). Some j) (range_with_len n c)) ≡ c
 range-length n zero = refl

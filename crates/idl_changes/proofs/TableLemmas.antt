@@ -46,7 +46,7 @@ pub each-next : {Y : Type 0} (f : ℕ → RowTree → Y) (L : List RowTree) (i :
 each-next f L i e at = place-next f L i e at
 
 -- and all of them
-length-from : {X Y : Type 0} (f : ℕ → X → Y) (n : ℕ) (xs : List X) → length (map (λ (p : ℕ × X). f p.0 p.1) (enumerate_from n xs)) ≡ length xs
+pub length-from : {X Y : Type 0} (f : ℕ → X → Y) (n : ℕ) (xs : List X) → length (map (λ (p : ℕ × X). f p.0 p.1) (enumerate_from n xs)) ≡ length xs
 length-from f n [] = refl
 length-from f n (x ∷ xs) = ap suc (length-from f (n + 1) xs)
 
