@@ -1,7 +1,8 @@
 -- Sets of places, by which of them they have.
-use Rattle.std.proofs.Common.{◌≡◌, ◌∙◌, ◌∷◌, ◌||◌, [], ℕ, Bool, List, ap, ap₂, arith, cond, false, nat_cmp, nat_eq, refl, sym, true}
+use Rattle.std.proofs.Common.{◌≡◌, ◌∙◌, ◌∷◌, ◌||◌, [], ℕ, Bool, List, None, Option, Some, ap, ap₂, arith, cond, false, nat_cmp, nat_eq, refl, sym, true}
 use Rattle.std.specs.BTreeMap.{is_at}
 use Rattle.std.specs.List.{list_any}
+use Rattle.std.specs.Option.{option_eq, option_map_or}
 use Rattle.std.specs.Ordering.{is_eq}
 use Rattle.std.proofs.lemmas.Bool.Decides.{nat_tests}
 
@@ -27,3 +28,24 @@ more-places old new k n put =
     by : (b : Bool) → cond b true (list_any (nat_eq n) old) ≡ (b || list_any (nat_eq n) old)
     by true = refl
     by false = refl
+
+-- tests in another order
+pub or-turned : (a b : Bool) → (a || b) ≡ (b || a)
+or-turned true true = refl
+or-turned true false = refl
+or-turned false true = refl
+or-turned false false = refl
+
+pub some-test : (place : Option ℕ) (n : ℕ) → option_map_or (nat_eq n) place false ≡ option_eq nat_eq place (Some n)
+some-test None n = refl
+some-test (Some k) n = turned-test k n
+
+-- whether a place is among those of a set
+none-among : (above : List ℕ) → list_any (λ (n : ℕ). option_eq nat_eq None (Some n)) above ≡ false
+none-among [] = refl
+none-among (n ∷ above) = none-among above
+
+pub place-among : (place : Option ℕ) (keys above : List ℕ) → ((n : ℕ) → list_any (nat_eq n) keys ≡ list_any (nat_eq n) above)
+    → option_map_or (λ (n : ℕ). list_any (nat_eq n) keys) place false ≡ list_any (λ (n : ℕ). option_eq nat_eq place (Some n)) above
+place-among None keys above same = sym (none-among above)
+place-among (Some k) keys above same = same k

@@ -1,11 +1,12 @@
 //! Interfaces, which are compared by what they inherit. What is called on them are entries of their own.
 
-ghost use Rattle.std.specs.Prelude.{◌≡◌, ◌++◌, ℕ, IfOk, OnOk, codes, false, nat_eq};
+ghost use Rattle.std.specs.Prelude.{◌≡◌, ◌++◌, ◌||◌, [], ℕ, IfOk, OnOk, Some, codes, false, if◌then◌else◌, nat_eq};
 ghost use Rattle.std.specs.List.{list_all, list_any};
 ghost use Rattle.std.specs.Option.{option_map_or};
 ghost use Rattle.idl_changes.specs.Differences.{base_line, gone_bases, interface_differences, new_bases, told};
 ghost use Rattle.idl_changes.specs.Listing.{name_at, path_at};
 ghost use Rattle.idl_changes.specs.Offered.{called_in, is_offered};
+ghost use Rattle.idl_changes.specs.Partners.{is_partner, joined};
 
 use crate::change::{Difference, Turn};
 use crate::listing::{is_local, name_of};
@@ -48,12 +49,30 @@ fn push_gone_bases(
         ++ gone_bases sides.now.0 sides.now.1 places.0 places.1) }
 {
     let inherited = set_of(*out.allocator(), sides.after().ancestors(places.1))?;
-    for base in sides.before().ancestors(places.0) {
-        if !is_among(sides.joined(*base), &inherited) {
-            push_base(Line::BaseGone, (sides.before(), *base), Turn::Gone, out)?;
-        }
+    let bases = sides.before().ancestors(places.0);
+    for base in bases {
+        push_gone_base(sides, *base, &inherited, out)?;
     }
     Ok(())
+}
+
+// Tells that a base is gone, unless the one to which it belongs is among these.
+fn push_gone_base(
+    sides: &Sides<'_>,
+    base: usize,
+    inherited: &BTreeSet<usize>,
+    out: &mut Vec<Difference>,
+) -> Result<(), AllocError>
+    ensures { OnOk result (out.new.items ≡ out.old.items
+        ++ (if option_map_or (λ n. list_any (nat_eq n) inherited.now.keys)
+        (joined sides.now.0 sides.now.1 base) false
+        then []
+        else told Line.BaseGone (codes "base " ++ path_at sides.now.0 base) Turn.Gone)) }
+{
+    if is_among(sides.joined(base), inherited) {
+        return Ok(());
+    }
+    push_base(Line::BaseGone, (sides.before(), base), Turn::Gone, out)
 }
 
 // Tells of what the new interface inherits and the old one doesn't.
@@ -65,18 +84,60 @@ fn push_new_bases(
     ensures { OnOk result (out.new.items ≡ out.old.items
         ++ new_bases sides.now.0 sides.now.1 places.0 places.1) }
 {
-    let mut goes_on = BTreeSet::new(*out.allocator());
-    for base in sides.before().ancestors(places.0) {
-        if let Some(partner) = sides.joined(*base) {
-            goes_on.insert(partner)?;
-        }
+    let goes_on = partners_of(*out.allocator(), sides, sides.before().ancestors(places.0))?;
+    let bases = sides.after().ancestors(places.1);
+    for base in bases {
+        push_new_base(sides, (places.0, *base), &goes_on, out)?;
     }
-    for base in sides.after().ancestors(places.1) {
-        if !goes_on.contains(base) {
-            let line = base_line(sides, places.0, *base)?;
-            push_base(line, (sides.after(), *base), Turn::New, out)?;
-        }
+    Ok(())
+}
+
+// Tells that an interface has a new base, unless that is among these.
+fn push_new_base(
+    sides: &Sides<'_>,
+    places: (usize, usize),
+    goes_on: &BTreeSet<usize>,
+    out: &mut Vec<Difference>,
+) -> Result<(), AllocError>
+    ensures { OnOk result (out.new.items ≡ out.old.items
+        ++ (if list_any (nat_eq places.1) goes_on.now.keys
+        then []
+        else told (base_line sides.now.0 sides.now.1 places.0 places.1)
+        (codes "base " ++ path_at sides.now.1 places.1) Turn.New)) }
+{
+    let (interface, base) = places;
+    if goes_on.contains(&base) {
+        return Ok(());
     }
+    let line = base_line(sides, interface, base)?;
+    push_base(line, (sides.after(), base), Turn::New, out)
+}
+
+// The places of the entries of the new listing to which those at these places belong.
+fn partners_of(
+    alloc: Global,
+    sides: &Sides<'_>,
+    places: &[usize],
+) -> Result<BTreeSet<usize>, AllocError>
+    ensures { IfOk result (λ set. (n : ℕ) → list_any (nat_eq n) set.keys
+        ≡ list_any (λ m. is_partner sides.now.0 sides.now.1 m (Some n)) places.now) }
+{
+    let mut set = BTreeSet::new(alloc);
+    for place in places {
+        put_in(sides.joined(*place), &mut set)?;
+    }
+    Ok(set)
+}
+
+// Puts a place into a set, if there is one.
+fn put_in(place: Option<usize>, set: &mut BTreeSet<usize>) -> Result<(), AllocError>
+    ensures { OnOk result ((n : ℕ) → list_any (nat_eq n) set.new.keys
+        ≡ (list_any (nat_eq n) set.old.keys || option_map_or (nat_eq n) place false)) }
+{
+    let Some(place) = place else {
+        return Ok(());
+    };
+    set.insert(place)?;
     Ok(())
 }
 
@@ -87,7 +148,7 @@ fn set_of(alloc: Global, places: &[usize]) -> Result<BTreeSet<usize>, AllocError
 {
     let mut set = BTreeSet::new(alloc);
     for place in places {
-        set.insert(*place)?;
+        put_in(Some(*place), &mut set)?;
     }
     Ok(set)
 }

@@ -1,4 +1,4 @@
-use Rattle.std.proofs.Common.{◌≡◌, ◌++◌, [], ℕ, Some, codes, drop, flat_map, if◌then◌else◌, nat_eq, take}
+use Rattle.std.proofs.Common.{◌≡◌, ◌++◌, [], Some, codes, drop, flat_map, if◌then◌else◌}
 use Rattle.std.specs.List.{list_any}
 use Rattle.idl_changes.specs.Differences.{base_line, new_bases, told}
 use Rattle.idl_changes.specs.Listing.{path_at}
@@ -7,16 +7,9 @@ use Rattle.idl_changes.specs.Partners.{is_partner}
 use Rattle.idl_changes.specs.declared.change.Turn.TheVariants as turn
 use Rattle.idl_changes.proofs.interfaces.push_new_bases.Given as goal
 
--- the partners of those so far
+-- those that are left come behind
 abbrev pub invariant-loop-base : goal.invariant-loop-base
 invariant-loop-base l =
-    (n : ℕ) → list_any (nat_eq n) l.goes_on.keys
-    ≡ list_any (λ m. is_partner l.sides.0 l.sides.1 m (Some n))
-    (take l.base-index (ancestors l.sides.0 l.places.0))
-
--- those that are left come behind
-abbrev pub invariant-loop-base-1 : goal.invariant-loop-base-1
-invariant-loop-base-1 l =
     let old = l.sides.0 in
     let new = l.sides.1 in
     l.out.items
