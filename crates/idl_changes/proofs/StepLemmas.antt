@@ -1,7 +1,7 @@
 -- One item more of what is told or written of each.
-use Rattle.std.proofs.Common.{◌≡◌, ◌∙◌, ◌+◌, ◌<◌, ◌≤◌, ◌++◌, ◌∷◌, ◌||◌, [], ℕ, zero, suc, Bool, List, None, Option, Some, ap, ap₂, append-nil, append_assoc, arith, drop, false, flat_map, get_or, if◌then◌else◌, length, map, nat_eq, refl, set, sym, true}
+use Rattle.std.proofs.Common.{◌≡◌, ◌∙◌, ◌+◌, ◌<◌, ◌≤◌, ◌++◌, ◌∷◌, ◌||◌, [], ℕ, zero, suc, Bool, List, None, Option, Some, ap, ap₂, append-nil, append_assoc, arith, drop, false, flat_map, get_or, if◌then◌else◌, length, map, nat_eq, refl, replicate, set, sym, true}
 use Rattle.std.specs.List.{enumerate_from, join_by, list_any, range_with_len}
-use Rattle.std.specs.Option.{option_eq}
+use Rattle.std.specs.Option.{option_eq, option_map_or}
 use Rattle.std.proofs.lemmas.Bool.Decides.{nat_tests}
 use Rattle.std.proofs.lemmas.List.{drop_all, drop_more}
 use Rattle.std.proofs.lemmas.List.Concat.{flat_map-append}
@@ -113,3 +113,13 @@ marked-from found n (suc k) m (suc count) is =
 
 pub marked-more : (found : List (Option ℕ)) (k count : ℕ) → set (map (is_matched found) (range_with_len 0 count)) k true ≡ map (is_matched (found ++ Some k ∷ [])) (range_with_len 0 count)
 marked-more found k count = let place : k ≡ 0 + k = omega arith in marked-from found 0 k k count place
+
+pub marked-by : (found : List (Option ℕ)) (o : Option ℕ) (count : ℕ) (old new : List Bool) → old ≡ map (is_matched found) (range_with_len 0 count) → new ≡ option_map_or (λ k. set old k true) o old
+    → new ≡ map (is_matched (found ++ o ∷ [])) (range_with_len 0 count)
+marked-by found None count old new are put = put ∙ are ∙ sym (marked-none found count)
+marked-by found (Some k) count old new are put = put ∙ ap (λ (bs : List Bool). set bs k true) are ∙ marked-more found k count
+
+pub none-marked : (n count : ℕ) → replicate count false ≡ map (is_matched []) (range_with_len n count)
+unfolding is_matched
+none-marked n zero = refl
+none-marked n (suc count) = ap (λ (bs : List Bool). false ∷ bs) (none-marked (n + 1) count)
