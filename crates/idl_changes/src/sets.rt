@@ -2,6 +2,7 @@
 
 ghost use Rattle.std.specs.Prelude.{◌≡◌, ◌++◌, OnOk, codes};
 ghost use Rattle.std.specs.Cmp.Lexicographic.{pointwise};
+ghost use Rattle.std.specs.List.{list_any};
 ghost use Rattle.idl_changes.specs.Differences.{base_differences, gone_references, new_references, reference_differences, told};
 ghost use Rattle.idl_changes.specs.Partners.{is_same_reference};
 
@@ -41,14 +42,20 @@ fn push_all_gone(
 {
     let (old, new) = references;
     for reference in old {
-        if !new
-            .iter()
-            .any(|other| sides.is_same_reference(reference, other))
-        {
+        if !goes_on(sides, reference, new) {
             push_reference(Line::ExceptionGone, (part, reference), Turn::Gone, out)?;
         }
     }
     Ok(())
+}
+
+// Whether an old reference is the same as one of these new ones.
+fn goes_on(sides: &Sides<'_>, reference: &Reference, others: &[Reference]) -> bool
+    ensures { result ≡ list_any (is_same_reference sides.now.0 sides.now.1 reference.now) others.now }
+{
+    others
+        .iter()
+        .any(|other| sides.is_same_reference(reference, other))
 }
 
 // Tells of the new ones that aren't among the old ones.
@@ -63,14 +70,21 @@ fn push_all_new(
 {
     let (old, new) = references;
     for reference in new {
-        if !old
-            .iter()
-            .any(|other| sides.is_same_reference(other, reference))
-        {
+        if !was_there(sides, reference, old) {
             push_reference(Line::ExceptionNew, (part, reference), Turn::New, out)?;
         }
     }
     Ok(())
+}
+
+// Whether one of these old references is the same as a new one.
+fn was_there(sides: &Sides<'_>, reference: &Reference, others: &[Reference]) -> bool
+    ensures { result
+        ≡ list_any (λ r. is_same_reference sides.now.0 sides.now.1 r reference.now) others.now }
+{
+    others
+        .iter()
+        .any(|other| sides.is_same_reference(other, reference))
 }
 
 // Tells what became of a reference, by its path.
