@@ -122,10 +122,14 @@ interface_of L e = interface_at L (scope_of e.path)
 abbrev pub has_id : List ℕ → RowTree → Bool
 has_id id e = not (is_called e) && bytes_eq id e.id
 
--- the entry of another listing that has the id of one at a place of the old one, and as many of
--- that id before it: the first goes on as the first, the second as the second
-unfoldable pub by_id : (old new : List RowTree) → ℕ → RowTree → Option ℕ
-by_id old new i e =
+-- the entry of another listing that has the id of one, and as many of that id before it: the first
+-- goes on as the first, the second as the second
+abbrev pub next_by_id : (L before : List RowTree) → RowTree → Option ℕ
+next_by_id L before e =
     if is_called e
     then None
-    else slice_get (places_where (has_id e.id) new) (length (filter (has_id e.id) (take i old)))
+    else slice_get (places_where (has_id e.id) L) (length (filter (has_id e.id) before))
+
+-- that of the one at a place
+unfoldable pub by_id : (old new : List RowTree) → ℕ → RowTree → Option ℕ
+by_id old new i e = next_by_id new (take i old) e

@@ -26,7 +26,7 @@ impl Weights {
     }
 
     /// Those that a text names, with commas between: `never` none.
-    #[tactic(auto, unfolding(crate::specs::Chosen::weights_named))]
+    #[tactic(none)]
     pub fn named(text: &[u8]) -> Option<Weights>
         ensures { result ≡ weights_named text.now }
     {
@@ -46,6 +46,7 @@ impl Weights {
 }
 
 // These, and the weight that has a name.
+#[tactic(none)]
 fn with_weight(name: &[u8], weights: Weights) -> Option<Weights>
     ensures { result ≡ with_weight name.now weights }
 {

@@ -92,6 +92,7 @@ fn compare_kinds(
 }
 
 // Whether an entry of the old listing is called on a local interface.
+#[tactic(none)]
 fn is_called_locally(sides: &Sides<'_>, entry: &RowTree) -> Result<bool, AllocError>
     ensures { IfOk result (λ local.
         local ≡ is_called_locally sides.now.0 sides.now.1 entry.now) }
@@ -110,6 +111,7 @@ fn is_called_locally(sides: &Sides<'_>, entry: &RowTree) -> Result<bool, AllocEr
 }
 
 // Has what is called on a local interface count for source alone.
+#[tactic(none)]
 fn ease(told: &mut Vec<Difference>)
     ensures { told.new.items
         ≡ map (λ (d : Difference). record d { weights = eased d.weights }) told.old.items }
@@ -144,6 +146,7 @@ pub fn gone_differences(
 }
 
 // The same of a called one: it is told where its interface belongs to one.
+#[tactic(none)]
 fn called_gone(
     alloc: Global,
     sides: &Sides<'_>,
@@ -189,6 +192,7 @@ pub fn added_differences(
 }
 
 // Tells that a called entry is new, where the old interface offers none of its name.
+#[tactic(none)]
 fn push_called_new(
     sides: &Sides<'_>,
     entry: &RowTree,

@@ -1,12 +1,13 @@
 //! Which entries of two listings belong together that aren't called: by their ids, and then by their paths.
 
-ghost use Rattle.std.specs.Prelude.{◌≡◌, ◌+◌, ◌-◌, ◌<◌, ◌^◌, ℕ, List, IfOk, IsFalse, IsTrue, None, Some, if◌then◌else◌, slice_get, unwrap_or};
+ghost use Rattle.std.specs.Prelude.{◌≡◌, ◌+◌, ◌++◌, ◌∷◌, ◌-◌, ◌<◌, ◌^◌, [], ℕ, List, IfOk, IsFalse, IsTrue, None, OnOk, Some, if◌then◌else◌, length, slice_get, unwrap_or};
 ghost use Rattle.std.specs.Map.{lookup};
-ghost use Rattle.std.specs.Option.{option_and_then};
+ghost use Rattle.std.specs.Option.{option_and_then, option_or};
 ghost use Rattle.std.specs.Str.{bytes_eq};
-ghost use Rattle.idl_changes.specs.Listing.{by_id, is_called};
+ghost use Rattle.idl_changes.specs.Listing.{by_id, is_called, next_by_id};
 ghost use Rattle.idl_changes.specs.Partners.{by_path, joined};
-ghost use Rattle.idl_changes.specs.Tables.{AreIds, each};
+ghost use Rattle.idl_changes.specs.Tables.{AreCounts, AreIds, each};
+ghost use Rattle.idl_repo.specs.declared.details.row_tree.RowTree.{RowTree};
 
 use crate::keys::NumberedText;
 use crate::listing::{Listing, is_called};
@@ -34,6 +35,7 @@ pub fn joined_both(
 }
 
 // To which one each belongs, where this is known by ids.
+#[tactic(none)]
 fn all_joined(
     old: &Listing<'_>,
     new: &Listing<'_>,
@@ -46,16 +48,32 @@ fn all_joined(
 {
     let mut all = Vec::with_capacity(*forth.allocator(), forth.len())?;
     for (place, found) in forth.iter().enumerate() {
-        let joined = match found {
-            Some(partner) => Some(*partner),
-            None => by_path((old, new), place, back),
-        };
-        all.push(joined)?;
+        all.push(joined_at((old, new), place, *found, back))?;
     }
     Ok(all)
 }
 
+// To which one the one at a place belongs, where this one has its id.
+fn joined_at(
+    listings: (&Listing<'_>, &Listing<'_>),
+    place: usize,
+    found: Option<usize>,
+    back: &[Option<usize>],
+) -> Option<usize>
+    requires { back.now ≡ each (by_id listings.1.now listings.0.now) listings.1.now }
+    ensures { result ≡ option_or found (option_and_then
+        (λ e. if is_called e then None
+        else by_path listings.entry.0.now listings.entry.1.now place e)
+        (slice_get listings.entry.0.now place)) }
+{
+    match found {
+        Some(partner) => Some(partner),
+        None => by_path(listings, place, back),
+    }
+}
+
 // The one of the same path and kind, if that is left.
+#[tactic(none)]
 fn by_path(
     listings: (&Listing<'_>, &Listing<'_>),
     place: usize,
@@ -81,6 +99,7 @@ fn by_path(
 }
 
 // Which entry of the new listing has the id of each of the old one, the first as the first, the second as the second.
+#[tactic(none)]
 fn all_by_id(
     alloc: Global,
     old: &Listing<'_>,
@@ -92,30 +111,64 @@ fn all_by_id(
     let mut counts = Map::new(alloc)?;
     let mut all = Vec::with_capacity(alloc, old.len())?;
     for tree in old.trees() {
-        let found = match key_of(&mut counts, tree)? {
-            Some(key) => ids.get(&key).copied(),
-            None => None,
-        };
+        let found = found_by_id(&ids, &mut counts, tree)?;
         all.push(found)?;
     }
     Ok(all)
 }
 
+// Where the entry of these stands that has the id of the next one, and as many of it before. That counts from now on.
+fn found_by_id(
+    ids: &Map<NumberedText, usize>,
+    counts: &mut Map<Bytes, usize>,
+    entry: &RowTree,
+) -> Result<Option<usize>, AllocError>
+    requires { unwrap_or (lookup (bytes_eq entry.now.id) counts.old) 0 < 2 ^ 64 - 1 }
+    ensures { IfOk result (λ found. (L before : List RowTree)
+        → AreIds L ids.now → AreCounts before counts.old
+        → (found ≡ next_by_id L before entry.now)
+        × AreCounts (before ++ entry.now ∷ []) counts.new) }
+{
+    let Some(key) = key_of(counts, entry)? else {
+        return Ok(None);
+    };
+    Ok(ids.get(&key).copied())
+}
+
 // Where the entries of each id stand that aren't called.
+#[tactic(none)]
 fn ids_of(alloc: Global, listing: &Listing<'_>) -> Result<Map<NumberedText, usize>, AllocError>
     ensures { IfOk result (AreIds listing.now) }
 {
     let mut ids = Map::new(alloc)?;
     let mut counts = Map::new(alloc)?;
     for (place, tree) in listing.trees().iter().enumerate() {
-        if let Some(key) = key_of(&mut counts, tree)? {
-            ids.insert(key, place)?;
-        }
+        add_id(&mut ids, &mut counts, place, tree)?;
     }
     Ok(ids)
 }
 
+// Puts in the place of one more entry, which counts from now on.
+fn add_id(
+    ids: &mut Map<NumberedText, usize>,
+    counts: &mut Map<Bytes, usize>,
+    place: usize,
+    entry: &RowTree,
+) -> Result<(), AllocError>
+    requires { unwrap_or (lookup (bytes_eq entry.now.id) counts.old) 0 < 2 ^ 64 - 1 }
+    ensures { OnOk result ((L : List RowTree) → place ≡ length L
+        → AreIds L ids.old → AreCounts L counts.old
+        → AreIds (L ++ entry.now ∷ []) ids.new × AreCounts (L ++ entry.now ∷ []) counts.new) }
+{
+    let Some(key) = key_of(counts, entry)? else {
+        return Ok(());
+    };
+    ids.insert(key, place)?;
+    Ok(())
+}
+
 // The id of the next entry and how many of it come before, if it isn't called. It counts from now on.
+#[tactic(none)]
 fn key_of(
     counts: &mut Map<Bytes, usize>,
     entry: &RowTree,

@@ -139,7 +139,7 @@ pub fn scope_of(path: &Bytes) -> Result<Bytes, AllocError>
 }
 
 // Where the name begins in a path: behind the last colon.
-#[tactic(auto, unfolding(crate::specs::Listing::name_of))]
+#[tactic(none)]
 fn name_start(path: &[u8]) -> usize
     ensures within { result ≤ length path.now }
     ensures name { slice_range path.now result (length path.now) ≡ name_of path.now }

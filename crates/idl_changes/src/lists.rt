@@ -1,6 +1,6 @@
 //! Parts of entries that are lists with names.
 
-ghost use Rattle.std.specs.Prelude.{◌≡◌, ◌++◌, IfOk, OnOk, flat_map, option_and_then, option_copied, slice_get};
+ghost use Rattle.std.specs.Prelude.{◌≡◌, ◌+◌, ◌-◌, ◌^◌, ◌<◌, ◌++◌, [], IfOk, OnOk, flat_map, if◌then◌else◌, option_and_then, option_copied, slice_get};
 ghost use Rattle.std.specs.List.{enumerate_from, zip};
 ghost use Rattle.idl_changes.specs.Differences.{direction_differences, item_differences, item_part, list_differences, name_differences, new_differences, order_differences, told};
 
@@ -70,6 +70,7 @@ pub fn compare_lists<T: ListItem>(
 }
 
 // Compares each old item with the one to which it belongs.
+#[tactic(none)]
 fn compare_items<T: ListItem>(
     sides: &Sides<'_>,
     lists: &Lists<'_, T>,
@@ -120,6 +121,7 @@ fn compare_item<T: ListItem>(
 }
 
 // Compares the names of items at a place.
+#[tactic(none)]
 fn compare_names(
     at: (Item, usize),
     names: (&Bytes, &Bytes),
@@ -165,6 +167,7 @@ fn item_part(alloc: Global, item: Item, name: &Bytes) -> Result<Vec<u8>, AllocEr
 }
 
 // Tells of each new item to which no old one belongs.
+#[tactic(none)]
 fn push_new_items<T: Named>(
     lists: &Lists<'_, T>,
     found: &[Option<usize>],
@@ -176,15 +179,32 @@ fn push_new_items<T: Named>(
 {
     let marks = marked(*out.allocator(), found, lists.after.len())?;
     for (place, item) in lists.after.iter().enumerate() {
-        if !marks[place] {
-            let line = Line::ItemNew(lists.item);
-            push_item(line, (lists.item, item), Turn::NewAt(place + 1), out)?;
-        }
+        push_new_item((lists.item, item), place, marks[place], out)?;
     }
     Ok(())
 }
 
+// Tells of a new item at a place, unless an old one belongs to it.
+fn push_new_item<T: Named>(
+    item: (Item, &T),
+    place: usize,
+    is_known: bool,
+    out: &mut Vec<Difference>,
+) -> Result<(), AllocError>
+    requires { place < 2 ^ 64 - 1 }
+    ensures { OnOk result (out.new.items ≡ out.old.items ++ (if is_known
+        then []
+        else told (Line.ItemNew item.entry.0)
+        (item_part item.entry.0 (T.name_of item.entry.1.now)) (Turn.NewAt (place + 1)))) }
+{
+    if is_known {
+        return Ok(());
+    }
+    push_item(Line::ItemNew(item.0), item, Turn::NewAt(place + 1), out)
+}
+
 // Tells where those that belong to one stand in another order.
+#[tactic(none)]
 fn compare_orders<T: Named>(
     lists: &Lists<'_, T>,
     found: &[Option<usize>],

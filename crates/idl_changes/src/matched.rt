@@ -47,6 +47,7 @@ pub fn matches<T: Named>(
 }
 
 // Whether two lists have the same names at the same places.
+#[tactic(none)]
 fn have_same_names<T: Named>(old: &[T], new: &[T]) -> bool
     ensures { result ≡ pointwise bytes_eq (map T.name_of old.now) (map T.name_of new.now) }
 {
@@ -100,7 +101,7 @@ fn add_name(
 }
 
 // To which of the new items the one at a place belongs, where these are the first places of all names.
-#[tactic(auto, unfolding(crate::specs::Matched::matched))]
+#[tactic(none)]
 fn matched<T: Named>(
     lists: (&[T], &[T]),
     places: (&Map<Bytes, usize>, &Map<Bytes, usize>),
@@ -157,6 +158,7 @@ fn renamed<T: Named>(
 }
 
 /// Which of so many new items belong to an old one.
+#[tactic(none)]
 pub fn marked(alloc: Global, found: &[Option<usize>], count: usize) -> Result<Vec<bool>, AllocError>
     ensures { IfOk result (λ marks.
         marks.items ≡ map (is_matched found.now) (range_with_len 0 count)) }
@@ -185,7 +187,7 @@ fn mark(marks: &mut Vec<bool>, place: Option<usize>)
 }
 
 /// Whether those that belong to one stand in the same order.
-#[tactic(auto, unfolding(crate::specs::Matched::in_order))]
+#[tactic(none)]
 pub fn in_order(found: &[Option<usize>]) -> bool
     ensures { result ≡ in_order found.now }
 {

@@ -32,7 +32,7 @@ pub fn all_ancestors(alloc: Global, listing: &Listing<'_>) -> Result<Vec<Seq<usi
 }
 
 // What the entry at a place inherits, from the last that stands before it to the first.
-#[tactic(auto, unfolding(crate::specs::Offered::ancestors))]
+#[tactic(none)]
 fn ancestors(alloc: Global, listing: &Listing<'_>, place: usize) -> Result<Seq<usize>, AllocError>
     ensures { IfOk result (λ found. found ≡ ancestors listing.now place) }
 {
@@ -49,6 +49,7 @@ fn ancestors(alloc: Global, listing: &Listing<'_>, place: usize) -> Result<Seq<u
 }
 
 // Puts the bases of the entry at a place among these, as far as they stand before it.
+#[tactic(none)]
 fn add_bases(
     listing: &Listing<'_>,
     place: usize,
@@ -146,6 +147,7 @@ pub fn list_at(lists: &[Seq<usize>], place: usize) -> &[usize]
 }
 
 /// What can be called on interfaces, by their places and by name: of two of a name the first.
+#[tactic(none)]
 pub fn all_offers(
     alloc: Global,
     listing: &Listing<'_>,
@@ -167,6 +169,7 @@ pub fn all_offers(
 }
 
 // Has the interface at a place offer these, but those of a name that it offers already.
+#[tactic(none)]
 fn offer_all(
     listing: &Listing<'_>,
     called: &[usize],
@@ -197,6 +200,7 @@ fn offer_all(
 }
 
 // Puts a place in at a key that has none.
+#[tactic(none)]
 fn offer(
     key: NumberedText,
     place: usize,

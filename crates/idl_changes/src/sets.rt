@@ -1,6 +1,6 @@
 //! Parts of entries that refer to others: exceptions, in any order, and the base of a struct.
 
-ghost use Rattle.std.specs.Prelude.{◌≡◌, ◌++◌, OnOk, codes};
+ghost use Rattle.std.specs.Prelude.{◌≡◌, ◌++◌, ◌∷◌, [], OnOk, codes};
 ghost use Rattle.std.specs.Cmp.Lexicographic.{pointwise};
 ghost use Rattle.std.specs.List.{list_any};
 ghost use Rattle.idl_changes.specs.Differences.{base_differences, gone_references, new_references, reference_differences, told};
@@ -31,6 +31,7 @@ pub fn compare_references(
 }
 
 // Tells of the old ones that aren't among the new ones.
+#[tactic(none)]
 fn push_all_gone(
     sides: &Sides<'_>,
     part: &[u8],
@@ -42,14 +43,30 @@ fn push_all_gone(
 {
     let (old, new) = references;
     for reference in old {
-        if !goes_on(sides, reference, new) {
-            push_reference(Line::ExceptionGone, (part, reference), Turn::Gone, out)?;
-        }
+        push_gone(sides, (part, reference), new, out)?;
     }
     Ok(())
 }
 
+// Tells that an exception is gone, unless it is among these.
+fn push_gone(
+    sides: &Sides<'_>,
+    named: (&[u8], &Reference),
+    others: &[Reference],
+    out: &mut Vec<Difference>,
+) -> Result<(), AllocError>
+    ensures { OnOk result (out.new.items ≡ out.old.items
+        ++ gone_references sides.now.0 sides.now.1 named.entry.0.now
+        (named.entry.1.now ∷ []) others.now) }
+{
+    if goes_on(sides, named.1, others) {
+        return Ok(());
+    }
+    push_reference(Line::ExceptionGone, named, Turn::Gone, out)
+}
+
 // Whether an old reference is the same as one of these new ones.
+#[tactic(none)]
 fn goes_on(sides: &Sides<'_>, reference: &Reference, others: &[Reference]) -> bool
     ensures { result ≡ list_any (is_same_reference sides.now.0 sides.now.1 reference.now) others.now }
 {
@@ -59,6 +76,7 @@ fn goes_on(sides: &Sides<'_>, reference: &Reference, others: &[Reference]) -> bo
 }
 
 // Tells of the new ones that aren't among the old ones.
+#[tactic(none)]
 fn push_all_new(
     sides: &Sides<'_>,
     part: &[u8],
@@ -70,14 +88,30 @@ fn push_all_new(
 {
     let (old, new) = references;
     for reference in new {
-        if !was_there(sides, reference, old) {
-            push_reference(Line::ExceptionNew, (part, reference), Turn::New, out)?;
-        }
+        push_new(sides, (part, reference), old, out)?;
     }
     Ok(())
 }
 
+// Tells that an exception is new, unless it is among these.
+fn push_new(
+    sides: &Sides<'_>,
+    named: (&[u8], &Reference),
+    others: &[Reference],
+    out: &mut Vec<Difference>,
+) -> Result<(), AllocError>
+    ensures { OnOk result (out.new.items ≡ out.old.items
+        ++ new_references sides.now.0 sides.now.1 named.entry.0.now others.now
+        (named.entry.1.now ∷ [])) }
+{
+    if was_there(sides, named.1, others) {
+        return Ok(());
+    }
+    push_reference(Line::ExceptionNew, named, Turn::New, out)
+}
+
 // Whether one of these old references is the same as a new one.
+#[tactic(none)]
 fn was_there(sides: &Sides<'_>, reference: &Reference, others: &[Reference]) -> bool
     ensures { result
         ≡ list_any (λ r. is_same_reference sides.now.0 sides.now.1 r reference.now) others.now }
@@ -127,6 +161,7 @@ pub fn compare_bases(
 }
 
 // Whether references are the same, one after another.
+#[tactic(none)]
 fn are_same(sides: &Sides<'_>, old: &[Reference], new: &[Reference]) -> bool
     ensures { result ≡ pointwise (is_same_reference sides.now.0 sides.now.1) old.now new.now }
 {

@@ -128,6 +128,7 @@ impl<'a> Sides<'a> {
 }
 
 // To which entry of the new listing each of the old one belongs, where this is known of what isn't called.
+#[tactic(none)]
 fn all_partners(
     alloc: Global,
     old: &Side<'_>,
@@ -158,6 +159,7 @@ fn called_at<'a>(side: &Side<'a>, place: usize) -> Option<&'a RowTree>
 }
 
 // To which one a called entry belongs.
+#[tactic(none)]
 fn called_partner(
     sides: (&Side<'_>, &Side<'_>),
     known: &[Option<usize>],
@@ -180,6 +182,7 @@ fn called_partner(
 }
 
 /// The interface in whose scope a called entry is, if it offers that under its name.
+#[tactic(none)]
 pub fn own_interface(
     side: &Side<'_>,
     place: usize,

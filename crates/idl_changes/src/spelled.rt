@@ -10,7 +10,7 @@ use idl_value::{ConstantType, IntegerKind};
 use std::alloc::{AllocError, Global};
 
 /// A type: what is around it stands around its text, and the lengths of arrays behind it.
-#[tactic(auto, unfolding(crate::specs::Spelled::spelled))]
+#[tactic(none)]
 pub fn spelled(alloc: Global, data_type: &LayeredType) -> Result<Vec<u8>, AllocError>
     ensures { IfOk result (λ text. text.items ≡ spelled data_type.now) }
 {

@@ -1,6 +1,6 @@
 //! The rows of changes, each written from its data.
 
-ghost use Rattle.std.specs.Prelude.{◌≡◌, ◌++◌, IfOk, OnOk, map, option_copied};
+ghost use Rattle.std.specs.Prelude.{◌≡◌, ◌++◌, [], IfOk, OnOk, codes, if◌then◌else◌, map, nat_eq, option_copied};
 ghost use Rattle.idl_changes.specs.Changes.{difference_text, entry_in, name_if, part_text, row_text, turn_text, weight_names, weights_text};
 
 use crate::change::{Change, Difference, Turn};
@@ -62,6 +62,7 @@ fn push_difference(
 }
 
 // PART, OLD -> NEW; PART is gone; PART is new; PART is new, number N
+#[tactic(none)]
 fn push_turn(text: &mut Vec<u8>, part: &[u8], turn: &Turn) -> Result<(), AllocError>
     ensures { OnOk result (text.new.items ≡ text.old.items ++ turn_text part.now turn.now) }
 {
@@ -83,6 +84,7 @@ fn push_turn(text: &mut Vec<u8>, part: &[u8], turn: &Turn) -> Result<(), AllocEr
 }
 
 // Words behind a part, if there is one.
+#[tactic(none)]
 fn push_words(text: &mut Vec<u8>, part: &[u8], words: &[u8]) -> Result<(), AllocError>
     ensures { OnOk result (text.new.items
         ≡ text.old.items ++ (part_text part.now ++ words.now)) }
@@ -95,19 +97,28 @@ fn push_words(text: &mut Vec<u8>, part: &[u8], words: &[u8]) -> Result<(), Alloc
 }
 
 // [WEIGHT,WEIGHT..]
-#[tactic(auto, unfolding(crate::specs::Changes::weights_text))]
+#[tactic(none)]
 fn push_weights(text: &mut Vec<u8>, weights: Weights) -> Result<(), AllocError>
     ensures { OnOk result (text.new.items ≡ text.old.items ++ weights_text weights) }
 {
     let names = weight_names(*text.allocator(), weights)?;
     text.extend_from_slice(b"[")?;
     for (place, name) in names.iter().enumerate() {
-        if place > 0 {
-            text.extend_from_slice(b",")?;
-        }
-        text.extend_from_slice(name.as_bytes())?;
+        push_behind(text, place, name)?;
     }
     text.extend_from_slice(b"]")
+}
+
+// Writes a name with a comma before it, if so many stand there.
+fn push_behind(text: &mut Vec<u8>, place: usize, name: &Bytes) -> Result<(), AllocError>
+    ensures { OnOk result (text.new.items ≡ (text.old.items
+        ++ (if nat_eq place 0 then [] else codes ",")) ++ name.now) }
+{
+    if place == 0 {
+        return text.extend_from_slice(name.as_bytes());
+    }
+    text.extend_from_slice(b",")?;
+    text.extend_from_slice(name.as_bytes())
 }
 
 /// The names of these weights.
