@@ -90,21 +90,21 @@ impl<'a> Sides<'a> {
     pub fn partner(&self, place: usize) -> Option<usize>
         ensures { result ≡ partner self.now.0 self.now.1 place }
     {
-        *self.partners.get(place)?
+        place_in(&self.partners, place)
     }
 
     /// The same, of what isn't called.
     pub fn joined(&self, place: usize) -> Option<usize>
         ensures { result ≡ joined self.now.0 self.now.1 place }
     {
-        *self.forth.get(place)?
+        place_in(&self.forth, place)
     }
 
     /// To which one of the old listing the one at a place of the new one belongs, of what isn't called.
     pub fn joined_back(&self, place: usize) -> Option<usize>
         ensures { result ≡ joined self.now.1 self.now.0 place }
     {
-        *self.back.get(place)?
+        place_in(&self.back, place)
     }
 
     /// Whether an entry of the old listing that isn't called belongs to the one at this place, where there is one.
@@ -125,6 +125,13 @@ impl<'a> Sides<'a> {
             None => other.is_none() && *old == *new,
         }
     }
+}
+
+// What stands at a place of these, where there is one.
+fn place_in(places: &[Option<usize>], place: usize) -> Option<usize>
+    ensures { result ≡ option_and_then (λ found. found) (slice_get places.now place) }
+{
+    *places.get(place)?
 }
 
 // To which entry of the new listing each of the old one belongs, where this is known of what isn't called.
