@@ -1,5 +1,5 @@
 -- Tables of what is looked up often, with one entry more than before.
-use Rattle.std.proofs.Common.{Bor, ◌≡◌, ◌∙◌, ◌+◌, ◌<◌, ◌≤◌, ◌++◌, ◌∷◌, ◌&&◌, ◌||◌, [], ℕ, zero, suc, Bool, List, None, Option, Some, ap, ap₂, append-nil, arith, cond, false, filter, get_or, if◌then◌else◌, length, map, nat_eq, nat_lt, not, position, refl, sym, take, true, unwrap_or}
+use Rattle.std.proofs.Common.{Bor, ◌≡◌, ◌∙◌, ◌+◌, ◌<◌, ◌≤◌, ◌++◌, ◌∷◌, ◌&&◌, ◌||◌, [], ℕ, zero, suc, Bool, List, None, Option, Some, ap, ap₂, append-nil, arith, cond, false, filter, get_or, if◌then◌else◌, length, map, nat_eq, nat_lt, not, position, refl, subst, sym, take, true, unwrap_or}
 use Rattle.std.specs.Cmp.Lexicographic.{bytes_decides}
 use Rattle.std.specs.List.{enumerate_from, list_any, position_or_len, slice_get}
 use Rattle.std.specs.Map.{lookup}
@@ -9,7 +9,7 @@ use Rattle.std.proofs.lemmas.Bool.Decides.{nat_tests}
 use Rattle.std.proofs.lemmas.List.{length-take-le, take_all, take_more}
 use Rattle.std.proofs.lemmas.Option.{same_Some, slice_get-get_or, slice_get_within}
 use Rattle.idl_changes.specs.Keys.{numbered_eq}
-use Rattle.idl_changes.specs.Listing.{has_id, is_called, places_where}
+use Rattle.idl_changes.specs.Listing.{has_id, is_called, next_by_id, places_where}
 use Rattle.idl_changes.specs.Tables.{AreCounts, AreIds, each}
 use Rattle.idl_changes.specs.declared.keys.NumberedText.{NumberedText}
 use Rattle.idl_repo.specs.declared.details.row_tree.RowTree.{RowTree}
@@ -329,3 +329,57 @@ ids-more L e old new key place at own text number are put id n =
     by false false h same = are id n ∙ sym (ap (λ (ks : List ℕ). slice_get ks n) (append-nil (places_where (has_id id) L)))
     by true false h same = cc
     by false true h same = cc
+
+-- ---- one entry more, by what its key is
+
+module _ (e : RowTree) (old counts : List (List ℕ × ℕ)) (found : Option NumberedText) (called : is_called e ≡ true → (found ≡ None) × (counts ≡ old))
+    (own : is_called e ≡ false → found ≡ Some (record { text = e.id; number = unwrap_or (lookup (bytes_eq e.id) old) 0 }))
+    (more : is_called e ≡ false → (id : List ℕ)
+    → lookup (bytes_eq id) counts ≡ (if bytes_eq id e.id then Some (unwrap_or (lookup (bytes_eq e.id) old) 0 + 1) else lookup (bytes_eq id) old)) where
+  pub counts-next : (L : List RowTree) → AreCounts L old → AreCounts (L ++ e ∷ []) counts
+  counts-next L are = by (is_called e) refl
+    where
+      by : (b : Bool) → is_called e ≡ b → AreCounts (L ++ e ∷ []) counts
+      by true is = subst (AreCounts (L ++ e ∷ [])) (sym (called is).1) (counts-called L e old is are)
+      by false is = counts-more L e old counts is are (more is)
+
+  -- where it has no key, and where it has one
+  pub ids-passed : (L : List RowTree) (ids : List (NumberedText × ℕ)) → found ≡ None → AreIds L ids → AreIds (L ++ e ∷ []) ids
+  ids-passed L ids none are = by (is_called e) refl
+    where
+      by : (b : Bool) → is_called e ≡ b → AreIds (L ++ e ∷ []) ids
+      by true is = ids-called L e ids is are
+      by false is = let never = sym none ∙ own is in cc
+
+  key-own : (key : NumberedText) → found ≡ Some key → (is_called e ≡ false) × (key.text ≡ e.id) × (key.number ≡ unwrap_or (lookup (bytes_eq e.id) old) 0)
+  key-own key some = by (is_called e) refl
+    where
+      by : (b : Bool) → is_called e ≡ b → (is_called e ≡ false) × (key.text ≡ e.id) × (key.number ≡ unwrap_or (lookup (bytes_eq e.id) old) 0)
+      by true is = let never = sym some ∙ (called is).0 in cc
+      by false is =
+          let same = same_Some key (record { text = e.id; number = unwrap_or (lookup (bytes_eq e.id) old) 0 }) (sym some ∙ own is) in
+          (is, ap (λ (k : NumberedText). k.text) same, ap (λ (k : NumberedText). k.number) same)
+
+  pub ids-put : (L : List RowTree) (ids new : List (NumberedText × ℕ)) (key : NumberedText) (place : ℕ) → found ≡ Some key → place ≡ length L
+      → ((k : NumberedText) → lookup (numbered_eq k) new ≡ (if numbered_eq k key then Some place else lookup (numbered_eq k) ids))
+      → AreCounts L old → AreIds L ids → AreIds (L ++ e ∷ []) new
+  ids-put L ids new key place some at put counted_so_far are =
+      let k = key-own key some in
+      ids-more L e ids new key place at k.0 k.1 (k.2 ∙ counted_so_far e.id) are put
+
+  -- which entry of another listing it goes on as
+  pub next-passed : (L before : List RowTree) → found ≡ None → None ≡ next_by_id L before e
+  next-passed L before none = by (is_called e) refl
+    where
+      by : (b : Bool) → is_called e ≡ b → None ≡ next_by_id L before e
+      by true is = sym (ap (λ (c : Bool). if c then None else slice_get (places_where (has_id e.id) L) (length (filter (has_id e.id) before))) is)
+      by false is = let never = sym none ∙ own is in cc
+
+  pub next-found : (L before : List RowTree) (ids : List (NumberedText × ℕ)) (key : NumberedText) → found ≡ Some key → AreCounts before old → AreIds L ids
+      → lookup (numbered_eq key) ids ≡ next_by_id L before e
+  next-found L before ids key some counted_so_far are =
+      let k = key-own key some in
+      let number : key.number ≡ length (filter (has_id e.id) before) = k.2 ∙ counted_so_far e.id ∙ length-places (has_id e.id) before in
+      are key.text key.number
+      ∙ ap₂ (λ (id : List ℕ) (n : ℕ). slice_get (places_where (has_id id) L) n) k.1 number
+      ∙ sym (ap (λ (c : Bool). if c then None else slice_get (places_where (has_id e.id) L) (length (filter (has_id e.id) before))) k.0)
