@@ -383,3 +383,9 @@ module _ (e : RowTree) (old counts : List (List ℕ × ℕ)) (found : Option Num
       are key.text key.number
       ∙ ap₂ (λ (id : List ℕ) (n : ℕ). slice_get (places_where (has_id id) L) n) k.1 number
       ∙ sym (ap (λ (c : Bool). if c then None else slice_get (places_where (has_id e.id) L) (length (filter (has_id e.id) before))) k.0)
+
+pub entry-next : (L : List RowTree) (i : ℕ) (e : RowTree) → slice_get L i ≡ Some e → take (i + 1) L ≡ take i L ++ e ∷ []
+entry-next L i e at =
+    let within = slice_get_within L i e at in
+    let item : get_or L i e ≡ e = same_Some (get_or L i e) e (sym (slice_get-get_or L i e within) ∙ at) in
+    take_more L i e within ∙ ap (λ (x : RowTree). take i L ++ x ∷ []) item

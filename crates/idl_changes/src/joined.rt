@@ -142,7 +142,8 @@ fn ids_of(alloc: Global, listing: &Listing<'_>) -> Result<Map<NumberedText, usiz
 {
     let mut ids = Map::new(alloc)?;
     let mut counts = Map::new(alloc)?;
-    for (place, tree) in listing.trees().iter().enumerate() {
+    let trees = listing.trees();
+    for (place, tree) in trees.iter().enumerate() {
         add_id(&mut ids, &mut counts, place, tree)?;
     }
     Ok(ids)
