@@ -1,7 +1,7 @@
 -- Names in paths, byte by byte, and entries that are lent.
-use Rattle.std.proofs.Common.{Bor, ◌≡◌, ◌∙◌, ◌+◌, ◌<◌, ◌≤◌, ◌++◌, ◌∷◌, [], ℕ, List, Some, ap, arith, get_or, if◌then◌else◌, length, map, nat_eq, sym, take}
-use Rattle.std.specs.List.{slice_get}
-use Rattle.std.proofs.lemmas.List.{get_or-map, length-map, map_more}
+use Rattle.std.proofs.Common.{Bor, ◌≡◌, ◌∙◌, ◌+◌, ◌<◌, ◌≤◌, ◌++◌, ◌∷◌, [], ℕ, Bool, List, Some, ap, arith, drop, false, get_or, if◌then◌else◌, length, length-drop, map, nat_eq, refl, sym, take, true}
+use Rattle.std.specs.List.{slice_get, slice_range}
+use Rattle.std.proofs.lemmas.List.{drop-append-le, drop_all, get_or-map, length-map, length-take-le, map_more, take_all, take_more, take_rest}
 use Rattle.std.proofs.lemmas.Option.{slice_get-get_or}
 use Rattle.std.proofs.lemmas.List.Sums.{fold_push}
 use Rattle.idl_changes.specs.Listing.{name_of}
@@ -34,3 +34,40 @@ lent-at lent L same i t within is =
     ap (λ (l : List RowTree). slice_get l i) (sym same)
     ∙ slice_get-get_or (map (λ (u : Bor RowTree). u.now) lent) i t.now (lent-within lent i within)
     ∙ ap Some (sym (lent-read lent i t within is))
+
+-- where the name begins in a path, with one byte more
+pub name-next : (path : List ℕ) (i start new byte : ℕ) → i < length path → byte ≡ get_or path i 0 → start ≤ i → drop start (take i path) ≡ name_of (take i path)
+    → new ≡ (if nat_eq byte 58 then i + 1 else start) → (new ≤ i + 1) × (drop new (take (i + 1) path) ≡ name_of (take (i + 1) path))
+name-next path i start new byte within is low so_far next = by (nat_eq byte 58) refl next
+  where
+    more : take (i + 1) path ≡ take i path ++ byte ∷ []
+    more = take_more path i 0 within ∙ ap (λ (b : ℕ). take i path ++ b ∷ []) (sym is)
+
+    name : (b : Bool) → nat_eq byte 58 ≡ b → name_of (take (i + 1) path) ≡ (if b then [] else name_of (take i path) ++ byte ∷ [])
+    name b e = ap name_of more ∙ name_of-more (take i path) byte ∙ ap (λ (c : Bool). if c then [] else name_of (take i path) ++ byte ∷ []) e
+
+    by : (b : Bool) → nat_eq byte 58 ≡ b → new ≡ (if b then i + 1 else start) → (new ≤ i + 1) × (drop new (take (i + 1) path) ≡ name_of (take (i + 1) path))
+    by true e h =
+        let few = length-take-le (i + 1) path in (
+          omega (arith, h),
+          drop_all new (take (i + 1) path) (omega (arith, h, few)) ∙ sym (name true e),
+        )
+    by false e h =
+        let count = length-take-le i path in (
+          omega (arith, h, low),
+          ap (λ (k : ℕ). drop k (take (i + 1) path)) h
+              ∙ ap (drop start) more
+              ∙ drop-append-le start (take i path) (byte ∷ []) (omega (arith, low, within, count))
+              ∙ ap (λ (bs : List ℕ). bs ++ byte ∷ []) so_far
+              ∙ sym (name false e),
+        )
+
+pub name-end : (path : List ℕ) (i start : ℕ) → length path ≤ i → start ≤ length path → drop start (take i path) ≡ name_of (take i path)
+    → (slice_range path start (length path) ≡ name_of path) × (start + length (name_of path) ≡ length path)
+name-end path i start past within so_far =
+    let all = take_all i path past in
+    let name : drop start path ≡ name_of path = ap (drop start) (sym all) ∙ so_far ∙ ap name_of all in
+    let left = length-drop start path in (
+      take_rest path start ∙ name,
+      omega (arith, within, left, ap length name),
+    )

@@ -1,6 +1,6 @@
 //! A listing, and where its entries stand.
 
-ghost use Rattle.std.specs.Prelude.{◌≡◌, ◌+◌, ◌++◌, ◌∷◌, ◌≤◌, [], IfOk, List, OnOk, length, map, option_copied, slice_get, slice_range};
+ghost use Rattle.std.specs.Prelude.{◌≡◌, ◌+◌, ◌-◌, ◌^◌, ◌++◌, ◌∷◌, ◌<◌, ◌≤◌, [], IfOk, List, OnOk, if◌then◌else◌, length, map, nat_eq, option_copied, slice_get, slice_range};
 ghost use Rattle.idl_changes.specs.Listing.{alias_of, bases_of, enumerators_of, interface_at, interface_of, is_called, is_interface, is_local, is_sent_kind, name_of, place_of, scope_of, type_code_of};
 ghost use Rattle.idl_changes.specs.Tables.{ArePlaces};
 ghost use Rattle.idl_repo.specs.declared.details.row_tree.RowTree.{RowTree};
@@ -139,7 +139,7 @@ pub fn scope_of(path: &Bytes) -> Result<Bytes, AllocError>
 }
 
 // Where the name begins in a path: behind the last colon.
-#[tactic(none)]
+#[tactic(auto, unfolding(crate::specs::Listing::name_of))]
 fn name_start(path: &[u8]) -> usize
     ensures within { result ≤ length path.now }
     ensures name { slice_range path.now result (length path.now) ≡ name_of path.now }
@@ -147,11 +147,17 @@ fn name_start(path: &[u8]) -> usize
 {
     let mut start = 0;
     for (place, byte) in path.iter().enumerate() {
-        if *byte == b':' {
-            start = place + 1;
-        }
+        start = start_behind(start, place, *byte);
     }
     start
+}
+
+// Where the name begins behind a byte at a place, where it begins there before it.
+fn start_behind(start: usize, place: usize, byte: u8) -> usize
+    requires { place < 2 ^ 64 - 1 }
+    ensures { result ≡ (if nat_eq byte 58 then place + 1 else start) }
+{
+    if byte == b':' { place + 1 } else { start }
 }
 
 /// Whether it is an operation or an attribute.

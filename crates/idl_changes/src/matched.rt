@@ -193,22 +193,21 @@ pub fn in_order(found: &[Option<usize>]) -> bool
 {
     let mut last = None;
     for place in found {
-        if let Some(place) = place {
-            if !is_behind(*place, last) {
-                return false;
-            }
-            last = Some(*place);
+        if !is_behind(*place, last) {
+            return false;
         }
+        last = place.or(last);
     }
     true
 }
 
-// Whether a place stands behind another one, if there is one.
-fn is_behind(place: usize, last: Option<usize>) -> bool
-    ensures { result ≡ option_map_or (λ n. nat_lt n place) last true }
+// Whether a place stands behind another one, if there are both.
+fn is_behind(place: Option<usize>, last: Option<usize>) -> bool
+    ensures { result
+        ≡ option_map_or (λ k. option_map_or (λ n. nat_lt n k) last true) place true }
 {
-    match last {
-        Some(last) => last < place,
-        None => true,
+    match (place, last) {
+        (Some(place), Some(last)) => last < place,
+        _ => true,
     }
 }
