@@ -127,7 +127,7 @@ fn matched<T: Named>(
 // Whether there is an item and it has a name.
 fn has_name<T: Named>(item: Option<&T>, name: &Bytes) -> bool
     ensures { result
-        ≡ option_eq bytes_eq (option_map T.name_of (option_copied item)) (Some name.now) }
+        ≡ option_eq bytes_eq (option_map T.name_of (option_copied item.entry)) (Some name.now) }
 {
     match item {
         Some(item) => *item.name() == *name,
