@@ -46,7 +46,6 @@ impl Weights {
 }
 
 // These, and the weight that has a name.
-#[tactic(none)]
 fn with_weight(name: &[u8], weights: Weights) -> Option<Weights>
     ensures { result ≡ with_weight name.now weights }
 {

@@ -92,7 +92,6 @@ fn compare_kinds(
 }
 
 // Whether an entry of the old listing is called on a local interface.
-#[tactic(none)]
 fn is_called_locally(sides: &Sides<'_>, entry: &RowTree) -> Result<bool, AllocError>
     ensures { IfOk result (λ local.
         local ≡ is_called_locally sides.now.0 sides.now.1 entry.now) }
@@ -146,7 +145,6 @@ pub fn gone_differences(
 }
 
 // The same of a called one: it is told where its interface belongs to one.
-#[tactic(none)]
 fn called_gone(
     alloc: Global,
     sides: &Sides<'_>,
@@ -192,7 +190,6 @@ pub fn added_differences(
 }
 
 // Tells that a called entry is new, where the old interface offers none of its name.
-#[tactic(none)]
 fn push_called_new(
     sides: &Sides<'_>,
     entry: &RowTree,

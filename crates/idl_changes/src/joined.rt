@@ -73,7 +73,6 @@ fn joined_at(
 }
 
 // The one of the same path and kind, if that is left.
-#[tactic(none)]
 fn by_path(
     listings: (&Listing<'_>, &Listing<'_>),
     place: usize,
@@ -99,7 +98,6 @@ fn by_path(
 }
 
 // Which entry of the new listing has the id of each of the old one, the first as the first, the second as the second.
-#[tactic(none)]
 fn all_by_id(
     alloc: Global,
     old: &Listing<'_>,
@@ -136,7 +134,6 @@ fn found_by_id(
 }
 
 // Where the entries of each id stand that aren't called.
-#[tactic(none)]
 fn ids_of(alloc: Global, listing: &Listing<'_>) -> Result<Map<NumberedText, usize>, AllocError>
     ensures { IfOk result (AreIds listing.now) }
 {
@@ -169,7 +166,6 @@ fn add_id(
 }
 
 // The id of the next entry and how many of it come before, if it isn't called. It counts from now on.
-#[tactic(none)]
 fn key_of(
     counts: &mut Map<Bytes, usize>,
     entry: &RowTree,

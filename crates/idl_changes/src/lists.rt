@@ -25,6 +25,7 @@ pub trait ListItem: Named {
     ghost both: { (old new : List RowTree) → Self → Self → List Difference };
 
     /// Compares it with the one that belongs to it.
+    #[tactic(auto, unfolding(crate::specs::Differences::parameter_differences))]
     fn compare(
         &self,
         new: &Self,
@@ -121,7 +122,6 @@ fn compare_item<T: ListItem>(
 }
 
 // Compares the names of items at a place.
-#[tactic(none)]
 fn compare_names(
     at: (Item, usize),
     names: (&Bytes, &Bytes),
@@ -204,7 +204,6 @@ fn push_new_item<T: Named>(
 }
 
 // Tells where those that belong to one stand in another order.
-#[tactic(none)]
 fn compare_orders<T: Named>(
     lists: &Lists<'_, T>,
     found: &[Option<usize>],
@@ -241,6 +240,7 @@ impl ListItem for Bytes {
 
     ghost both = { λ old new. no_differences };
 
+    #[tactic(auto, unfolding(crate::specs::Differences::parameter_differences))]
     fn compare(
         &self,
         _new: &Bytes,

@@ -200,7 +200,6 @@ fn offer_all(
 }
 
 // Puts a place in at a key that has none.
-#[tactic(none)]
 fn offer(
     key: NumberedText,
     place: usize,

@@ -31,7 +31,6 @@ pub fn compare_references(
 }
 
 // Tells of the old ones that aren't among the new ones.
-#[tactic(none)]
 fn push_all_gone(
     sides: &Sides<'_>,
     part: &[u8],
@@ -66,7 +65,6 @@ fn push_gone(
 }
 
 // Whether an old reference is the same as one of these new ones.
-#[tactic(none)]
 fn goes_on(sides: &Sides<'_>, reference: &Reference, others: &[Reference]) -> bool
     ensures { result ≡ list_any (is_same_reference sides.now.0 sides.now.1 reference.now) others.now }
 {
@@ -76,7 +74,6 @@ fn goes_on(sides: &Sides<'_>, reference: &Reference, others: &[Reference]) -> bo
 }
 
 // Tells of the new ones that aren't among the old ones.
-#[tactic(none)]
 fn push_all_new(
     sides: &Sides<'_>,
     part: &[u8],
@@ -111,7 +108,6 @@ fn push_new(
 }
 
 // Whether one of these old references is the same as a new one.
-#[tactic(none)]
 fn was_there(sides: &Sides<'_>, reference: &Reference, others: &[Reference]) -> bool
     ensures { result
         ≡ list_any (λ r. is_same_reference sides.now.0 sides.now.1 r reference.now) others.now }
@@ -161,7 +157,6 @@ pub fn compare_bases(
 }
 
 // Whether references are the same, one after another.
-#[tactic(none)]
 fn are_same(sides: &Sides<'_>, old: &[Reference], new: &[Reference]) -> bool
     ensures { result ≡ pointwise (is_same_reference sides.now.0 sides.now.1) old.now new.now }
 {

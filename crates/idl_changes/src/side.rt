@@ -56,7 +56,6 @@ impl<'a> Drop for Side<'a> {
 
 impl<'a> Side<'a> {
     /// A listing with its tables.
-    #[tactic(none)]
     pub fn new(alloc: Global, trees: &'a [&'a RowTree]) -> Result<Side<'a>, AllocError>
         ensures { IfOk result (λ side. side ≡ map (λ tree. tree.now) trees.entry.now) }
     {

@@ -166,7 +166,6 @@ fn called_at<'a>(side: &Side<'a>, place: usize) -> Option<&'a RowTree>
 }
 
 // To which one a called entry belongs.
-#[tactic(none)]
 fn called_partner(
     sides: (&Side<'_>, &Side<'_>),
     known: &[Option<usize>],
@@ -189,7 +188,6 @@ fn called_partner(
 }
 
 /// The interface in whose scope a called entry is, if it offers that under its name.
-#[tactic(none)]
 pub fn own_interface(
     side: &Side<'_>,
     place: usize,

@@ -62,7 +62,6 @@ fn push_difference(
 }
 
 // PART, OLD -> NEW; PART is gone; PART is new; PART is new, number N
-#[tactic(none)]
 fn push_turn(text: &mut Vec<u8>, part: &[u8], turn: &Turn) -> Result<(), AllocError>
     ensures { OnOk result (text.new.items ≡ text.old.items ++ turn_text part.now turn.now) }
 {
@@ -84,7 +83,6 @@ fn push_turn(text: &mut Vec<u8>, part: &[u8], turn: &Turn) -> Result<(), AllocEr
 }
 
 // Words behind a part, if there is one.
-#[tactic(none)]
 fn push_words(text: &mut Vec<u8>, part: &[u8], words: &[u8]) -> Result<(), AllocError>
     ensures { OnOk result (text.new.items
         ≡ text.old.items ++ (part_text part.now ++ words.now)) }
