@@ -84,7 +84,7 @@ module _ (L : List RowTree) where
   ancestors-begin place new old have none = (
     still-below place new old have (λ n is. let never : false ≡ true = sym (ap (list_any (nat_eq n)) none) ∙ is in cc),
     inherited-same L place new (base_places L place)
-    (λ n within. with-bases place new old have n within ∙ ap (λ (ks : List ℕ). list_any (nat_eq n) (ks ++ base_places L place)) none),
+        (λ n within. with-bases place new old have n within ∙ ap (λ (ks : List ℕ). list_any (nat_eq n) (ks ++ base_places L place)) none),
   )
 
   -- and where the last of them goes, and its bases come
@@ -94,9 +94,9 @@ module _ (L : List RowTree) where
   ancestors-next bound last old popped new found all removed below less have so_far = (
     still-below last new popped have before,
     append_assoc found (last ∷ []) (inherited_before L last new)
-    ∙ ap (λ (ns : List ℕ). found ++ (last ∷ ns)) rest
-    ∙ ap (λ (ns : List ℕ). found ++ ns) (sym (inherited-last L bound last old within there none))
-    ∙ so_far,
+        ∙ ap (λ (ns : List ℕ). found ++ (last ∷ ns)) rest
+        ∙ ap (λ (ns : List ℕ). found ++ ns) (sym (inherited-last L bound last old within there none))
+        ∙ so_far,
   )
     where
       before : (n : ℕ) → Has popped n → n < last

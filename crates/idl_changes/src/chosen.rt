@@ -1,4 +1,5 @@
 //! Sets of weights that a text names.
+#![tactic(none)]
 
 ghost use Rattle.std.specs.Prelude.{◌≡◌};
 ghost use Rattle.idl_changes.specs.Chosen.{meets, weights_named, with_weight};

@@ -1,4 +1,5 @@
 //! Which entries of two listings belong together that aren't called: by their ids, and then by their paths.
+#![tactic(none)]
 
 ghost use Rattle.std.specs.Prelude.{◌≡◌, ◌+◌, ◌++◌, ◌∷◌, ◌-◌, ◌<◌, ◌^◌, [], ℕ, List, IfOk, IsFalse, IsTrue, None, OnOk, Some, if◌then◌else◌, length, slice_get, unwrap_or};
 ghost use Rattle.std.specs.Map.{lookup};

@@ -105,11 +105,7 @@ impl<'a> Listing<'a> {
 }
 
 // Puts in the place of one more entry, if its path leads to it.
-fn add_place(
-    places: &mut Map<Bytes, usize>,
-    place: usize,
-    tree: &RowTree,
-) -> Result<(), AllocError>
+fn add_place(places: &mut Map<Bytes, usize>, place: usize, tree: &RowTree) -> Result<(), AllocError>
     ensures { OnOk result ((L : List RowTree) → place ≡ length L → ArePlaces L places.old
         → ArePlaces (L ++ tree.now ∷ []) places.new) }
 {

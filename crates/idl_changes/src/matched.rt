@@ -85,11 +85,7 @@ pub fn first_places<T: Named>(alloc: Global, items: &[T]) -> Result<Map<Bytes, u
 }
 
 // Puts in the place of one more name, if it is the first of it.
-fn add_name(
-    places: &mut Map<Bytes, usize>,
-    place: usize,
-    name: &Bytes,
-) -> Result<(), AllocError>
+fn add_name(places: &mut Map<Bytes, usize>, place: usize, name: &Bytes) -> Result<(), AllocError>
     ensures { OnOk result ((names : List (List ℕ)) → place ≡ length names
         → AreFirst names places.old → AreFirst (names ++ name.now ∷ []) places.new) }
 {
@@ -136,11 +132,7 @@ fn has_name<T: Named>(item: Option<&T>, name: &Bytes) -> bool
 }
 
 // The item at a place, if the one there is renamed, where these are the first places of the old names.
-fn renamed<T: Named>(
-    lists: (&[T], &[T]),
-    places: &Map<Bytes, usize>,
-    place: usize,
-) -> Option<usize>
+fn renamed<T: Named>(lists: (&[T], &[T]), places: &Map<Bytes, usize>, place: usize) -> Option<usize>
     requires before { AreFirst (map T.name_of lists.0.now) places.now }
     requires within { place < length lists.0.now }
     ensures { result

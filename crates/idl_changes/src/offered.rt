@@ -1,4 +1,5 @@
 //! What interfaces inherit, and what can be called on them.
+#![tactic(none)]
 
 ghost use Rattle.std.specs.Prelude.{◌≡◌, ◌++◌, ◌∷◌, ◌&&◌, ◌||◌, [], ℕ, List, IfOk, None, OnOk, Some, false, find, if◌then◌else◌, nat_eq, nat_lt, slice_get, unwrap_or};
 ghost use Rattle.std.specs.List.{list_any, slice_set};

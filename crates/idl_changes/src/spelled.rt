@@ -1,4 +1,5 @@
 //! Types as IDL writes them.
+#![tactic(none)]
 
 ghost use Rattle.std.specs.Prelude.{◌≡◌, ◌++◌, IfOk, OnOk};
 ghost use Rattle.idl_changes.specs.Spelled.{bound_spelled, element_spelled, integer_spelled, length_spelled, sequence_spelled, spelled, string_spelled, target_spelled, unvalued_spelled};

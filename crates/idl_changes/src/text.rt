@@ -1,4 +1,5 @@
 //! The rows of changes, each written from its data.
+#![tactic(none)]
 
 ghost use Rattle.std.specs.Prelude.{◌≡◌, ◌++◌, [], IfOk, OnOk, codes, if◌then◌else◌, map, nat_eq, option_copied};
 ghost use Rattle.idl_changes.specs.Changes.{difference_text, entry_in, name_if, part_text, row_text, turn_text, weight_names, weights_text};

@@ -23,7 +23,7 @@ loop-base-preserved c =
     let gone = told line.BaseGone (codes "base " ++ path_at old m) turn.Gone in
     let above = c.ancestors.ensures ∙ ap (λ (L : List RowTree). ancestors L places.1) c.after.ensures in
     let among = place-among (joined old new m) c.in_ok-inherited.inherited.keys (ancestors new places.1)
-        (λ n. c.in_ok-inherited.ensures n ∙ ap (list_any (nat_eq n)) above)
+    (λ n. c.in_ok-inherited.ensures n ∙ ap (list_any (nat_eq n)) above)
     in
     left-told
     (λ m. if list_any (λ n. is_partner old new m (Some n)) (ancestors new places.1) then [] else told line.BaseGone (codes "base " ++ path_at old m) turn.Gone)

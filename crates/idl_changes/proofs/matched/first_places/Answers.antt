@@ -17,8 +17,8 @@ loop-place-preserved g c =
     let before = map name_of (take i items) in
     let at : i ≡ length before = omega (arith, length-map (take i items) name_of, length-take-le i items) in
     let next = map_more name_of items i item c.loop-place-test.true
-        ∙ ap (λ x. before ++ name_of x ∷ []) (sym c.index-items-place.is)
-        ∙ ap (λ (name : List ℕ). before ++ name ∷ []) (sym c.name.ensures)
+    ∙ ap (λ x. before ++ name_of x ∷ []) (sym c.index-items-place.is)
+    ∙ ap (λ (name : List ℕ). before ++ name ∷ []) (sym c.name.ensures)
     in
     subst (λ (names : List (List ℕ)). AreFirst names c.add_name.new.places) (sym next) (c.in_ok-add_name.ensures before at c.loop-place.invariant)
 

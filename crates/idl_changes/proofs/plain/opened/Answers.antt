@@ -12,8 +12,8 @@ returns-in-Some c =
     let t = c.args.data_type.now in
     let z = length c.args.plains.now in
     let all = opened-among L z t
-        ∙ ap (λ (ps : List (Option LayeredType)). option_map_or (around t) (option_and_then (λ (n : ℕ). option_and_then (λ (p : Option LayeredType). p) (slice_get ps n)) (named_by L t.element)) t) (sym c.requires)
-        ∙ ap (λ (o : Option LayeredType). option_map_or (around t) o t) (sym c.alias_among.ensures ∙ ap option_copied c.in-Some.is)
+    ∙ ap (λ (ps : List (Option LayeredType)). option_map_or (around t) (option_and_then (λ (n : ℕ). option_and_then (λ (p : Option LayeredType). p) (slice_get ps n)) (named_by L t.element)) t) (sym c.requires)
+    ∙ ap (λ (o : Option LayeredType). option_map_or (around t) o t) (sym c.alias_among.ensures ∙ ap option_copied c.in-Some.is)
     in
     subst (λ (u : LayeredType). IfOk c.around.result (λ (v : LayeredType). v ≡ u)) (sym all) c.around.ensures
 
@@ -23,7 +23,7 @@ returns-in-None c =
     let t = c.args.data_type.now in
     let z = length c.args.plains.now in
     let all = opened-among L z t
-        ∙ ap (λ (ps : List (Option LayeredType)). option_map_or (around t) (option_and_then (λ (n : ℕ). option_and_then (λ (p : Option LayeredType). p) (slice_get ps n)) (named_by L t.element)) t) (sym c.requires)
-        ∙ ap (λ (o : Option LayeredType). option_map_or (around t) o t) (sym c.alias_among.ensures ∙ ap option_copied c.in-None.is)
+    ∙ ap (λ (ps : List (Option LayeredType)). option_map_or (around t) (option_and_then (λ (n : ℕ). option_and_then (λ (p : Option LayeredType). p) (slice_get ps n)) (named_by L t.element)) t) (sym c.requires)
+    ∙ ap (λ (o : Option LayeredType). option_map_or (around t) o t) (sym c.alias_among.ensures ∙ ap option_copied c.in-None.is)
     in
     subst (λ (u : LayeredType). IfOk c.copy_of.result (λ (v : LayeredType). v ≡ u)) (sym all) c.copy_of.ensures
