@@ -1,7 +1,10 @@
 -- What is inherited, from the last that stands before a place to the first.
-use Rattle.std.proofs.Common.{◌≡◌, ◌∙◌, ◌<◌, ◌++◌, ◌∷◌, ◌&&◌, ◌||◌, [], ℕ, zero, suc, All, Bool, Less, List, ap, ap₂, append_assoc, arith, false, if◌then◌else◌, inl, inr, nat_cmp, nat_eq, nat_lt, refl, sym, true}
-use Rattle.std.specs.List.{list_any}
+use Rattle.std.proofs.Common.{◌≡◌, ◌∙◌, ◌+◌, ◌<◌, ◌++◌, ◌∷◌, ◌&&◌, ◌||◌, [], ℕ, zero, suc, All, Bool, Less, List, None, Option, Some, ap, ap₂, append_assoc, arith, false, filter_map, get_or, if◌then◌else◌, inl, inr, length, nat_cmp, nat_eq, nat_lt, refl, sym, take, true}
+use Rattle.std.specs.List.{cons_option, list_any}
+use Rattle.std.specs.Option.{option_map_or}
 use Rattle.std.proofs.lemmas.Bool.Decides.{nat_tests}
+use Rattle.std.proofs.lemmas.List.{take_more}
+use Rattle.std.proofs.lemmas.List.Elements.{filter_map-append}
 use Rattle.idl_base.specs.Exact.{same_number}
 use Rattle.idl_changes.specs.Offered.{base_places, inherited_before}
 use Rattle.idl_changes.proofs.HasLemmas.{Has, all-has, has-appended, has-back, has-either, has-first, has-front, has-holds, no-test, same-tests}
@@ -138,3 +141,38 @@ module _ (L : List RowTree) where
       rest =
           inherited-same L last new (old ++ base_places L last)
           (λ n lower. with-bases last new popped have n lower ∙ same-tests (list_any (nat_eq n) (popped ++ base_places L last)) (list_any (nat_eq n) (old ++ base_places L last)) (forth n) (back n lower))
+
+  pub last-below : (bound last : ℕ) (old popped : List ℕ) → old ≡ popped ++ last ∷ [] → All (λ n. n < bound) old → last < bound
+  last-below bound last old popped removed below =
+      has-holds (λ (n : ℕ). n < bound) old last (ap (list_any (nat_eq last)) removed ∙ has-back last popped (last ∷ []) (has-first last [])) below
+
+-- one reference more, among the places of those so far
+one-found : (n : ℕ) (found : Option ℕ) → list_any (nat_eq n) (cons_option found []) ≡ option_map_or (nat_eq n) found false
+one-found n None = refl
+one-found n (Some k) = by (nat_eq n k)
+  where
+    by : (b : Bool) → (b || false) ≡ b
+    by true = refl
+    by false = refl
+
+pub bases-next : {X : Type 0} (f : X → Option ℕ) (rs : List X) (i : ℕ) (r : X) (n : ℕ) (start before old new : Bool) → i < length rs → r ≡ get_or rs i r
+    → old ≡ (start || (before && list_any (nat_eq n) (filter_map f (take i rs))))
+    → new ≡ (old || (before && option_map_or (nat_eq n) (f r) false))
+    → new ≡ (start || (before && list_any (nat_eq n) (filter_map f (take (i + 1) rs))))
+bases-next {X} f rs i r n start before old new within is so_far put =
+    put
+    ∙ ap (λ (b : Bool). b || (before && option_map_or (nat_eq n) (f r) false)) so_far
+    ∙ by start before (list_any (nat_eq n) (filter_map f (take i rs))) (option_map_or (nat_eq n) (f r) false)
+    ∙ ap (λ (b : Bool). start || (before && (list_any (nat_eq n) (filter_map f (take i rs)) || b))) (sym (one-found n (f r)))
+    ∙ ap (λ (b : Bool). start || (before && b)) (sym (any-append (nat_eq n) (filter_map f (take i rs)) (filter_map f (r ∷ []))))
+    ∙ ap (λ (ks : List ℕ). start || (before && list_any (nat_eq n) ks)) (sym (filter_map-append f (take i rs) (r ∷ [])))
+    ∙ ap (λ (xs : List X). start || (before && list_any (nat_eq n) (filter_map f xs))) (sym next)
+  where
+    next : take (i + 1) rs ≡ take i rs ++ r ∷ []
+    next = take_more rs i r within ∙ ap (λ (x : X). take i rs ++ x ∷ []) (sym is)
+
+    by : (s l a b : Bool) → ((s || (l && a)) || (l && b)) ≡ (s || (l && (a || b)))
+    by true l a b = refl
+    by false true a b = refl
+    by false false a b = refl
+

@@ -5,6 +5,7 @@ use Rattle.std.specs.Cmp.Lexicographic.{bytes_decides, pointwise}
 use Rattle.std.specs.List.{list_any, range_with_len, slice_get}
 use Rattle.std.specs.Option.{is_some, option_eq, option_or}
 use Rattle.std.specs.Str.{bytes_eq}
+use Rattle.std.proofs.lemmas.Bool.Decides.{nat_tests}
 use Rattle.std.proofs.lemmas.Option.{none-some, slice_get-get_or}
 use Rattle.idl_base.specs.Exact.{same_list, same_number}
 use Rattle.idl_changes.specs.Keys.{numbered_eq, same_numbered}
@@ -21,11 +22,14 @@ same-names old new is =
     let same : old ≡ new = same_list bytes_eq (λ a b. (bytes_decides a b).0) old new is in
     ap (matches old) (sym same) ∙ own-matches old
 
+apart-before : (m n : ℕ) → nat_eq (suc m) (suc n) ≡ false → nat_eq m n ≡ false
+apart-before m n is = grind (arith, nat_tests, is)
+
 pub unlike-lengths : {X : Type 0} (eq : X → X → Bool) (xs ys : List X) → nat_eq (length xs) (length ys) ≡ false → pointwise eq xs ys ≡ false
 unlike-lengths eq [] [] is = cc
 unlike-lengths eq [] (y ∷ ys) is = refl
 unlike-lengths eq (x ∷ xs) [] is = refl
-unlike-lengths eq (x ∷ xs) (y ∷ ys) is = by (eq x y) (unlike-lengths eq xs ys is)
+unlike-lengths eq (x ∷ xs) (y ∷ ys) is = by (eq x y) (unlike-lengths eq xs ys (apart-before (length xs) (length ys) is))
   where
     by : (b : Bool) → pointwise eq xs ys ≡ false → (b && pointwise eq xs ys) ≡ false
     by true h = h

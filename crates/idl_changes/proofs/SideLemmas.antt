@@ -88,6 +88,9 @@ module _ (L : List RowTree) (i : ℕ) where
 
 -- ---- the lists of what is called, with one entry more
 
+each-same : (f g : ℕ → List ℕ) (L : List RowTree) → ((k : ℕ) → f k ≡ g k) → each (λ k x. f k) L ≡ each (λ k x. g k) L
+each-same f g L same = λ t. each (λ k x. same k t) L
+
 pub empty-each : (none : List ℕ) (n : ℕ) (L : List RowTree) → replicate (length L) none ≡ map (λ (p : ℕ × RowTree). none) (enumerate_from n L)
 empty-each none n [] = refl
 empty-each none n (x ∷ xs) = ap (λ (ls : List (List ℕ)). none ∷ ls) (empty-each none (n + 1) xs)
@@ -181,7 +184,7 @@ module _ (L : List RowTree) where
 
   put-by : (z : ℕ) (own : Option ℕ)
       → put_behind (each (λ k x. called_so_far z k) L) z own ≡ each (λ k x. called_so_far z k ++ (if option_eq nat_eq own (Some k) then z ∷ [] else [])) L
-  put-by z None = let same : (λ (k : ℕ). called_so_far z k ++ []) ≡ (λ (k : ℕ). called_so_far z k) = λ t k. append-nil (called_so_far z k) t in ap (λ (f : ℕ → List ℕ). each (λ k x. f k) L) (sym same)
+  put-by z None = each-same (λ k. called_so_far z k) (λ k. called_so_far z k ++ []) L (λ k. sym (append-nil (called_so_far z k)))
   put-by z (Some j) = by (slice_get L j) refl
     where
       by : (entry : Option RowTree) → slice_get L j ≡ entry
@@ -200,11 +203,7 @@ module _ (L : List RowTree) where
       → new ≡ each (λ k x. called_so_far (z + 1) k) L
   called-next z e old new at are put =
       put ∙ ap (λ (all : List (List ℕ)). put_behind all z (own_interface_of e)) are ∙ put-by z (own_interface_of e)
-      ∙ ap (λ (f : ℕ → List ℕ). each (λ k x. f k) L) (sym (more z e at))
-    where
-      more : (z : ℕ) (e : RowTree) → slice_get L z ≡ Some e
-          → (λ (k : ℕ). called_so_far (z + 1) k) ≡ (λ (k : ℕ). called_so_far z k ++ (if option_eq nat_eq (own_interface_of e) (Some k) then z ∷ [] else []))
-      more z e at = λ t k. one-more z k e at t
+      ∙ each-same (λ k. called_so_far z k ++ (if option_eq nat_eq (own_interface_of e) (Some k) then z ∷ [] else [])) (λ k. called_so_far (z + 1) k) L (λ k. sym (one-more z k e at))
 
   -- and all of them
   pub called-all : (z : ℕ) → length L ≤ z → each (λ k x. called_so_far z k) L ≡ each (λ k x. called_in L k) L

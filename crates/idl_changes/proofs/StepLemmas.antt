@@ -3,7 +3,7 @@ use Rattle.std.proofs.Common.{◌≡◌, ◌∙◌, ◌+◌, ◌<◌, ◌≤◌,
 use Rattle.std.specs.List.{enumerate_from, join_by, list_any, range_with_len}
 use Rattle.std.specs.Option.{option_eq, option_map_or}
 use Rattle.std.proofs.lemmas.Bool.Decides.{nat_tests}
-use Rattle.std.proofs.lemmas.List.{drop_all, drop_more}
+use Rattle.std.proofs.lemmas.List.{drop_all, drop_more, map_push}
 use Rattle.std.proofs.lemmas.List.Concat.{flat_map-append}
 use Rattle.std.proofs.lemmas.List.Folds.{list_any-append}
 use Rattle.idl_changes.specs.Matched.{is_matched}
@@ -123,3 +123,18 @@ pub none-marked : (n count : ℕ) → replicate count false ≡ map (is_matched 
 unfolding is_matched
 none-marked n zero = refl
 none-marked n (suc count) = ap (λ (bs : List Bool). false ∷ bs) (none-marked (n + 1) count)
+
+-- ---- places in a row, with one more
+
+range-more : (a n : ℕ) → range_with_len a (suc n) ≡ range_with_len a n ++ (a + n) ∷ []
+range-more a zero = let e : a ≡ a + 0 = omega arith in ap (λ (k : ℕ). k ∷ []) e
+range-more a (suc n) = let e : a + 1 + n ≡ a + suc n = omega arith in ap (λ (ks : List ℕ). a ∷ ks) (range-more (a + 1) n ∙ ap (λ (k : ℕ). range_with_len (a + 1) n ++ k ∷ []) e)
+
+pub places-more : (n : ℕ) → map (λ (k : ℕ). Some k) (range_with_len 0 (n + 1)) ≡ map (λ (k : ℕ). Some k) (range_with_len 0 n) ++ Some n ∷ []
+places-more n =
+    let count : n + 1 ≡ suc n = omega arith in
+    let place : 0 + n ≡ n = omega arith in
+    ap (λ (c : ℕ). map (λ (k : ℕ). Some k) (range_with_len 0 c)) count
+    ∙ ap (map (λ (k : ℕ). Some k)) (range-more 0 n)
+    ∙ map_push (λ (k : ℕ). Some k) (range_with_len 0 n) (0 + n)
+    ∙ ap (λ (k : ℕ). map (λ (j : ℕ). Some j) (range_with_len 0 n) ++ Some k ∷ []) place

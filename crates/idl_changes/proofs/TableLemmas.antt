@@ -217,17 +217,17 @@ where-from test n [] e = by (test e)
     by true = let place : n ≡ n + 0 = omega arith in ap (λ (k : ℕ). k ∷ []) place
     by false = refl
 where-from test n (x ∷ xs) e =
-    let place : n + 1 + length xs ≡ n + length (x ∷ xs) = omega arith in
+    let place : n + 1 + length xs ≡ n + suc (length xs) = omega arith in
     by (test x)
     (where-from test (n + 1) xs e
     ∙ ap (λ (k : ℕ). map (λ (p : ℕ × RowTree). p.0) (filter (λ (p : ℕ × RowTree). test p.1) (enumerate_from (n + 1) xs)) ++ (if test e then k ∷ [] else [])) place)
   where
     by : (b : Bool)
         → map (λ (p : ℕ × RowTree). p.0) (filter (λ (p : ℕ × RowTree). test p.1) (enumerate_from (n + 1) (xs ++ e ∷ [])))
-        ≡ map (λ (p : ℕ × RowTree). p.0) (filter (λ (p : ℕ × RowTree). test p.1) (enumerate_from (n + 1) xs)) ++ (if test e then (n + length (x ∷ xs)) ∷ [] else [])
+        ≡ map (λ (p : ℕ × RowTree). p.0) (filter (λ (p : ℕ × RowTree). test p.1) (enumerate_from (n + 1) xs)) ++ (if test e then (n + suc (length xs)) ∷ [] else [])
         → map (λ (p : ℕ × RowTree). p.0) (cond b ((n, x) ∷ filter (λ (p : ℕ × RowTree). test p.1) (enumerate_from (n + 1) (xs ++ e ∷ []))) (filter (λ (p : ℕ × RowTree). test p.1) (enumerate_from (n + 1) (xs ++ e ∷ []))))
         ≡ map (λ (p : ℕ × RowTree). p.0) (cond b ((n, x) ∷ filter (λ (p : ℕ × RowTree). test p.1) (enumerate_from (n + 1) xs)) (filter (λ (p : ℕ × RowTree). test p.1) (enumerate_from (n + 1) xs)))
-        ++ (if test e then (n + length (x ∷ xs)) ∷ [] else [])
+        ++ (if test e then (n + suc (length xs)) ∷ [] else [])
     by true rest = ap (λ (ks : List ℕ). n ∷ ks) rest
     by false rest = rest
 

@@ -1,5 +1,4 @@
 //! Sets of weights that a text names.
-#![tactic(none)]
 
 ghost use Rattle.std.specs.Prelude.{◌≡◌};
 ghost use Rattle.idl_changes.specs.Chosen.{meets, weights_named, with_weight};

@@ -1,5 +1,4 @@
 //! Which entries of two listings belong together that aren't called: by their ids, and then by their paths.
-#![tactic(none)]
 
 ghost use Rattle.std.specs.Prelude.{◌≡◌, ◌+◌, ◌++◌, ◌∷◌, ◌-◌, ◌<◌, ◌^◌, [], ℕ, List, IfOk, IsFalse, IsTrue, None, OnOk, Some, if◌then◌else◌, length, slice_get, unwrap_or};
 ghost use Rattle.std.specs.Map.{lookup};
@@ -36,7 +35,6 @@ pub fn joined_both(
 }
 
 // To which one each belongs, where this is known by ids.
-#[tactic(none)]
 fn all_joined(
     old: &Listing<'_>,
     new: &Listing<'_>,

@@ -47,7 +47,6 @@ pub fn matches<T: Named>(
 }
 
 // Whether two lists have the same names at the same places.
-#[tactic(none)]
 fn have_same_names<T: Named>(old: &[T], new: &[T]) -> bool
     ensures { result ≡ pointwise bytes_eq (map T.name_of old.now) (map T.name_of new.now) }
 {
@@ -97,7 +96,7 @@ fn add_name(places: &mut Map<Bytes, usize>, place: usize, name: &Bytes) -> Resul
 }
 
 // To which of the new items the one at a place belongs, where these are the first places of all names.
-#[tactic(none)]
+#[tactic(auto, unfolding(crate::specs::Matched::matched))]
 fn matched<T: Named>(
     lists: (&[T], &[T]),
     places: (&Map<Bytes, usize>, &Map<Bytes, usize>),
@@ -150,7 +149,6 @@ fn renamed<T: Named>(lists: (&[T], &[T]), places: &Map<Bytes, usize>, place: usi
 }
 
 /// Which of so many new items belong to an old one.
-#[tactic(none)]
 pub fn marked(alloc: Global, found: &[Option<usize>], count: usize) -> Result<Vec<bool>, AllocError>
     ensures { IfOk result (λ marks.
         marks.items ≡ map (is_matched found.now) (range_with_len 0 count)) }
@@ -179,7 +177,7 @@ fn mark(marks: &mut Vec<bool>, place: Option<usize>)
 }
 
 /// Whether those that belong to one stand in the same order.
-#[tactic(none)]
+#[tactic(auto, unfolding(crate::specs::Matched::in_order))]
 pub fn in_order(found: &[Option<usize>]) -> bool
     ensures { result ≡ in_order found.now }
 {

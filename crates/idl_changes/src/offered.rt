@@ -1,5 +1,4 @@
 //! What interfaces inherit, and what can be called on them.
-#![tactic(none)]
 
 ghost use Rattle.std.specs.Prelude.{◌≡◌, ◌++◌, ◌∷◌, ◌&&◌, ◌||◌, [], ℕ, List, IfOk, None, OnOk, Some, false, find, if◌then◌else◌, nat_eq, nat_lt, slice_get, unwrap_or};
 ghost use Rattle.std.specs.List.{list_any, slice_set};
@@ -33,7 +32,7 @@ pub fn all_ancestors(alloc: Global, listing: &Listing<'_>) -> Result<Vec<Seq<usi
 }
 
 // What the entry at a place inherits, from the last that stands before it to the first.
-#[tactic(none)]
+#[tactic(auto, unfolding(crate::specs::Offered::ancestors))]
 fn ancestors(alloc: Global, listing: &Listing<'_>, place: usize) -> Result<Seq<usize>, AllocError>
     ensures { IfOk result (λ found. found ≡ ancestors listing.now place) }
 {
@@ -50,7 +49,6 @@ fn ancestors(alloc: Global, listing: &Listing<'_>, place: usize) -> Result<Seq<u
 }
 
 // Puts the bases of the entry at a place among these, as far as they stand before it.
-#[tactic(none)]
 fn add_bases(
     listing: &Listing<'_>,
     place: usize,

@@ -1,5 +1,4 @@
 //! Types as IDL writes them.
-#![tactic(none)]
 
 ghost use Rattle.std.specs.Prelude.{◌≡◌, ◌++◌, IfOk, OnOk};
 ghost use Rattle.idl_changes.specs.Spelled.{bound_spelled, element_spelled, integer_spelled, length_spelled, sequence_spelled, spelled, string_spelled, target_spelled, unvalued_spelled};
@@ -11,7 +10,7 @@ use idl_value::{ConstantType, IntegerKind};
 use std::alloc::{AllocError, Global};
 
 /// A type: what is around it stands around its text, and the lengths of arrays behind it.
-#[tactic(none)]
+#[tactic(auto, unfolding(crate::specs::Spelled::spelled))]
 pub fn spelled(alloc: Global, data_type: &LayeredType) -> Result<Vec<u8>, AllocError>
     ensures { IfOk result (λ text. text.items ≡ spelled data_type.now) }
 {

@@ -1,5 +1,4 @@
 //! The rows of changes, each written from its data.
-#![tactic(none)]
 
 ghost use Rattle.std.specs.Prelude.{◌≡◌, ◌++◌, [], IfOk, OnOk, codes, if◌then◌else◌, map, nat_eq, option_copied};
 ghost use Rattle.idl_changes.specs.Changes.{difference_text, entry_in, name_if, part_text, row_text, turn_text, weight_names, weights_text};
@@ -96,7 +95,7 @@ fn push_words(text: &mut Vec<u8>, part: &[u8], words: &[u8]) -> Result<(), Alloc
 }
 
 // [WEIGHT,WEIGHT..]
-#[tactic(none)]
+#[tactic(auto, unfolding(crate::specs::Changes::weights_text))]
 fn push_weights(text: &mut Vec<u8>, weights: Weights) -> Result<(), AllocError>
     ensures { OnOk result (text.new.items ≡ text.old.items ++ weights_text weights) }
 {

@@ -3,8 +3,8 @@ use Rattle.idl_changes.proofs.joined.add_id.Goals as goal
 
 pub returns : goal.returns
 returns c = λ L at ids counts.
-    let key = c.in_ok-key_of.ensures in (
-      ids-put c.args.entry.now c.args.counts.now c.key_of.new.counts c.in_ok-key_of.field-0 key.called key.key key.counted L c.args.ids.now c.insert.new.self c.in-Some.key c.args.place
+    let key = c.in_ok-key.ensures in (
+      ids-put c.args.entry.now c.args.counts.now c.key_of.new.counts c.in_ok-key.field-0 key.called key.key key.counted L c.args.ids.now c.insert.new.self c.in-Some.key c.args.place
           c.in-Some.is at c.in_ok-insert.ensures.each_key counts ids,
-      counts-next c.args.entry.now c.args.counts.now c.key_of.new.counts c.in_ok-key_of.field-0 key.called key.key key.counted L counts,
+      counts-next c.args.entry.now c.args.counts.now c.key_of.new.counts c.in_ok-key.field-0 key.called key.key key.counted L counts,
     )

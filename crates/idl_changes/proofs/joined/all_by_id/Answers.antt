@@ -4,7 +4,7 @@ use Rattle.std.specs.Str.{bytes_eq}
 use Rattle.std.proofs.lemmas.List.{length-take-le}
 use Rattle.idl_changes.specs.Listing.{by_id, next_by_id}
 use Rattle.idl_changes.specs.Tables.{AreCounts}
-use Rattle.idl_changes.proofs.ListingLemmas.{lent-at, lent-past}
+use Rattle.idl_changes.proofs.ListingLemmas.{lent-at, lent-past, lent-within}
 use Rattle.idl_changes.proofs.TableLemmas.{all-places, count-within, each-next, entry-next}
 use Rattle.idl_repo.specs.declared.details.row_tree.RowTree.{RowTree}
 use Rattle.idl_changes.proofs.joined.all_by_id.Goals as goal
@@ -13,9 +13,11 @@ pub found_by_id-requires : goal.found_by_id-requires
 found_by_id-requires c =
     let L = c.args.old.now in
     let i = c.loop-tree.tree-index in
+    let within = lent-within c.trees-tree-items.result.now i c.loop-tree-test.true in
+    let below : i < length L = omega (arith, within, ap length c.trees-tree-items.ensures) in
     let few = count-within (take i L) c.loop-tree.counts c.tree-item.result.now.id c.loop-tree.invariant.counts in
-    let below = length-take-le i L in
-    omega arith
+    let count = length-take-le i L in
+    omega (arith, below, few, count)
 
 pub loop-tree-preserved : goal.loop-tree-preserved
 unfolding by_id

@@ -21,9 +21,11 @@ pub add_id-requires : goal.add_id-requires
 add_id-requires c =
     let L = c.args.listing.now in
     let i = c.loop-place.place in
+    let within = lent-within c.trees-trees.result.now i c.loop-place-test.true in
+    let below : i < length L = omega (arith, within, ap length c.trees-trees.ensures) in
     let few = count-within (take i L) c.loop-place.counts c.index-trees-place.result.now.id c.loop-place.invariant.counts in
-    let below = length-take-le i L in
-    omega arith
+    let count = length-take-le i L in
+    omega (arith, below, few, count)
 
 pub loop-place-preserved : goal.loop-place-preserved
 loop-place-preserved c =

@@ -6,7 +6,7 @@ pub loop-place-preserved : goal.loop-place-preserved
 loop-place-preserved c =
     let path = c.args.path.now in
     let i = c.loop-place.place in
-    let next = name-next path i c.loop-place.start c.start_behind.result (get_or path i 0) c.loop-place-test.true refl c.loop-place.invariant.within c.loop-place.invariant.name c.start_behind.ensures in
+    let next = name-next path i c.loop-place.start c.start_behind-start.result (get_or path i 0) c.loop-place-test.true refl c.loop-place.invariant.within c.loop-place.invariant.name c.start_behind-start.ensures in
     record { within = next.0; name = next.1 }
 
 pub returns : goal.returns

@@ -12,7 +12,7 @@ returns-then-have_same_names g c =
     let old = map g.T.Named.name_of c.args.old.now in
     let new = map g.T.Named.name_of c.args.new.now in
     let all = same-names old new (sym c.have_same_names.ensures ∙ c.if-have_same_names.true)
-    ∙ ap (λ (n : ℕ). map (λ (k : ℕ). Some k) (range_with_len 0 n)) (length-map c.args.old.now g.T.Named.name_of ∙ sym c.len.ensures)
+    ∙ ap (λ (n : ℕ). map (λ (k : ℕ). Some k) (range_with_len 0 n)) (length-map c.args.old.now g.T.Named.name_of)
     in
     subst (λ (places : List (Option ℕ)). IfOk c.all_in_place.result (λ found. found.items ≡ places)) (sym all) c.all_in_place.ensures
 
