@@ -1,5 +1,5 @@
 -- What interfaces offer, one after another.
-use Rattle.std.proofs.Common.{◌≡◌, ◌∙◌, ◌+◌, ◌<◌, ◌++◌, ◌∷◌, ◌≤◌, [], ℕ, Bool, List, None, Option, Some, ap, arith, false, find, if◌then◌else◌, nat_eq, nat_lt, refl, sym, true}
+use Rattle.std.proofs.Common.{◌≡◌, ◌∙◌, ◌+◌, ◌<◌, ◌++◌, ◌∷◌, ◌≤◌, ◌&&◌, [], ℕ, Bool, List, None, Option, Some, ap, arith, false, find, if◌then◌else◌, nat_eq, nat_lt, refl, sym, true}
 use Rattle.std.specs.Cmp.{nat_eq_equiv}
 use Rattle.std.specs.Option.{option_or}
 use Rattle.std.specs.Str.{bytes_eq}
@@ -11,7 +11,7 @@ use Rattle.idl_changes.specs.Listing.{name_at}
 use Rattle.idl_changes.specs.Offered.{offered, offers}
 use Rattle.idl_repo.specs.declared.details.row_tree.RowTree.{RowTree}
 
-or-none : (o : Option ℕ) → option_or o None ≡ o
+pub or-none : (o : Option ℕ) → option_or o None ≡ o
 or-none None = refl
 or-none (Some n) = refl
 
@@ -66,3 +66,21 @@ find-next test xs n o = by o ∙ ap (option_or o) (sym (find-append test xs (n �
     by : (o : Option ℕ) → option_or (option_or o (find test xs)) (if test n then Some n else None) ≡ option_or o (option_or (find test xs) (if test n then Some n else None))
     by None = refl
     by (Some k) = refl
+
+-- the same by the place of the interface
+pub offer-next : (i k : ℕ) (test : ℕ → Bool) (xs : List ℕ) (n : ℕ) (o : Option ℕ)
+    → option_or (option_or o (if nat_eq i k then find test xs else None)) (if test n && nat_eq i k then Some n else None)
+    ≡ option_or o (if nat_eq i k then find test (xs ++ n ∷ []) else None)
+offer-next i k test xs n o = by (nat_eq i k)
+  where
+    and-true : (b : Bool) → (b && true) ≡ b
+    and-true true = refl
+    and-true false = refl
+
+    and-false : (b : Bool) → (b && false) ≡ false
+    and-false true = refl
+    and-false false = refl
+
+    by : (b : Bool) → option_or (option_or o (if b then find test xs else None)) (if test n && b then Some n else None) ≡ option_or o (if b then find test (xs ++ n ∷ []) else None)
+    by true = ap (λ (c : Bool). option_or (option_or o (find test xs)) (if c then Some n else None)) (and-true (test n)) ∙ find-next test xs n o
+    by false = ap (λ (c : Bool). option_or (option_or o None) (if c then Some n else None)) (and-false (test n)) ∙ or-none (option_or o None)

@@ -1,6 +1,6 @@
 //! What interfaces inherit, and what can be called on them.
 
-ghost use Rattle.std.specs.Prelude.{◌≡◌, ◌++◌, ◌∷◌, ◌&&◌, ◌||◌, [], ℕ, List, IfOk, None, OnOk, Some, false, find, if◌then◌else◌, nat_eq, nat_lt, slice_get, unwrap_or};
+ghost use Rattle.std.specs.Prelude.{◌≡◌, ◌++◌, ◌∷◌, ◌&&◌, ◌||◌, ◌<◌, [], ℕ, All, List, IfOk, None, OnOk, Some, false, find, if◌then◌else◌, length, nat_eq, nat_lt, slice_get, unwrap_or};
 ghost use Rattle.std.specs.List.{list_any, slice_set};
 ghost use Rattle.std.specs.Map.{lookup};
 ghost use Rattle.std.specs.Option.{option_map_or, option_or};
@@ -168,13 +168,13 @@ pub fn all_offers(
 }
 
 // Has the interface at a place offer these, but those of a name that it offers already.
-#[tactic(none)]
 fn offer_all(
     listing: &Listing<'_>,
     called: &[usize],
     interface: usize,
     offers: &mut Map<NumberedText, usize>,
 ) -> Result<(), AllocError>
+    requires { All (λ n. n < length listing.now) called.now }
     ensures { OnOk result ((i : ℕ) (name : List ℕ)
         → lookup (numbered_eq (record { text = name; number = i })) offers.new
         ≡ option_or (lookup (numbered_eq (record { text = name; number = i })) offers.old)
@@ -183,19 +183,35 @@ fn offer_all(
         else None)) }
 {
     for place in called {
-        if let Some(entry) = listing.entry(*place) {
-            let text = name_of(&entry.path)?;
-            offer(
-                NumberedText {
-                    text,
-                    number: interface,
-                },
-                *place,
-                offers,
-            )?;
-        }
+        offer_at(listing, *place, interface, offers)?;
     }
     Ok(())
+}
+
+// Has the interface at a place offer the entry at another, unless it offers one of the name already.
+fn offer_at(
+    listing: &Listing<'_>,
+    place: usize,
+    interface: usize,
+    offers: &mut Map<NumberedText, usize>,
+) -> Result<(), AllocError>
+    requires { place < length listing.now }
+    ensures { OnOk result ((i : ℕ) (name : List ℕ)
+        → lookup (numbered_eq (record { text = name; number = i })) offers.new
+        ≡ option_or (lookup (numbered_eq (record { text = name; number = i })) offers.old)
+        (if bytes_eq name (name_at listing.now place) && nat_eq i interface
+        then Some place
+        else None)) }
+{
+    let Some(entry) = listing.entry(place) else {
+        return Ok(());
+    };
+    let text = name_of(&entry.path)?;
+    let key = NumberedText {
+        text,
+        number: interface,
+    };
+    offer(key, place, offers)
 }
 
 // Puts a place in at a key that has none.
