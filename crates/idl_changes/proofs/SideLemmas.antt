@@ -1,11 +1,11 @@
 -- What the tables of listings have at a place.
-use Rattle.std.proofs.Common.{◌≡◌, ◌∙◌, ◌+◌, ◌≤◌, ◌++◌, ◌∷◌, ◌&&◌, [], ℕ, zero, suc, Bool, List, None, Option, Some, ap, ap₂, append-nil, arith, cond, false, filter, filter_map, get_or, if◌then◌else◌, length, map, nat_eq, refl, replicate, set, sym, take, true, unwrap_or}
+use Rattle.std.proofs.Common.{◌≡◌, ◌∙◌, ◌+◌, ◌<◌, ◌≤◌, ◌++◌, ◌∷◌, ◌&&◌, [], ℕ, zero, suc, All, Bool, List, None, Option, Some, ap, ap₂, append-nil, arith, cond, false, filter, filter_map, get_or, if◌then◌else◌, length, map, nat_eq, refl, replicate, set, sym, take, true, unwrap_or}
 use Rattle.std.specs.List.{enumerate_from, slice_get}
 use Rattle.std.specs.Option.{option_and_then, option_eq, option_map, option_map_or, option_or}
 use Rattle.std.proofs.lemmas.Bool.Decides.{nat_tests}
 use Rattle.std.proofs.lemmas.List.{map-append, set_past, take_all}
 use Rattle.std.proofs.lemmas.List.Elements.{filter-append}
-use Rattle.std.proofs.lemmas.Option.{none-some}
+use Rattle.std.proofs.lemmas.Option.{none-some, slice_get_within}
 use Rattle.idl_base.specs.Exact.{same_number, same_option}
 use Rattle.idl_changes.specs.Listing.{bases_of, by_id, interface_at, interface_of, is_called, places_where, scope_of}
 use Rattle.idl_changes.specs.Offered.{ancestors, called_in, inherited_before}
@@ -13,6 +13,7 @@ use Rattle.idl_changes.specs.Partners.{by_path, called_partner, joined, partner}
 use Rattle.idl_changes.specs.Tables.{each}
 use Rattle.idl_changes.proofs.AncestorLemmas.{inherited-none}
 use Rattle.idl_changes.proofs.EntryLemmas.{interface-found}
+use Rattle.idl_changes.proofs.HasLemmas.{Has, all-has, at-has, passing-place}
 use Rattle.idl_changes.proofs.TableLemmas.{place-next, slice_get-each}
 use Rattle.idl_repo.specs.declared.details.row_tree.RowTree.{RowTree}
 
@@ -212,3 +213,15 @@ module _ (L : List RowTree) where
       let count = length-enumerate 0 L in
       let all = take_all z (enumerate_from 0 L) (omega (arith, past, count)) in
       λ t. each (λ k x. map (λ p. p.0) (filter (λ p. is_called p.1 && option_eq nat_eq (interface_of L p.1) (Some k)) (all t))) L
+
+-- what is called stands in the listing
+pub called-within : (L : List RowTree) (i : ℕ) → All (λ n. n < length L) (called_in L i)
+unfolding called_in
+called-within L i = all-has (λ (n : ℕ). n < length L) (places_where (λ e. is_called e && option_eq nat_eq (interface_of L e) (Some i)) L) there
+  where
+    there : (n : ℕ) → Has (places_where (λ e. is_called e && option_eq nat_eq (interface_of L e) (Some i)) L) n → n < length L
+    there n is =
+        let at = at-has (places_where (λ e. is_called e && option_eq nat_eq (interface_of L e) (Some i)) L) n is in
+        let place = passing-place (λ (e : RowTree). is_called e && option_eq nat_eq (interface_of L e) (Some i)) 0 L at.0 n at.1 in
+        let within = slice_get_within L place.0 place.1 place.3 in
+        omega (arith, within, place.2)

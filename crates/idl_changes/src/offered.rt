@@ -146,7 +146,6 @@ pub fn list_at(lists: &[Seq<usize>], place: usize) -> &[usize]
 }
 
 /// What can be called on interfaces, by their places and by name: of two of a name the first.
-#[tactic(none)]
 pub fn all_offers(
     alloc: Global,
     listing: &Listing<'_>,
