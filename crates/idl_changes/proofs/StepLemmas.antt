@@ -1,12 +1,12 @@
 -- One item more of what is told or written of each.
-use Rattle.std.proofs.Common.{◌≡◌, ◌∙◌, ◌+◌, ◌<◌, ◌≤◌, ◌++◌, ◌∷◌, ◌||◌, [], ℕ, zero, suc, Bool, List, None, Option, Some, ap, ap₂, append-nil, append_assoc, arith, drop, false, flat_map, get_or, if◌then◌else◌, length, map, nat_eq, refl, replicate, set, sym, true}
+use Rattle.std.proofs.Common.{◌≡◌, ◌∙◌, ◌+◌, ◌<◌, ◌≤◌, ◌++◌, ◌∷◌, ◌&&◌, ◌||◌, [], ℕ, zero, suc, Bool, List, None, Option, Some, ap, ap₂, append-nil, append_assoc, arith, drop, false, flat_map, get_or, if◌then◌else◌, length, map, nat_eq, nat_lt, not, refl, replicate, set, sym, true}
 use Rattle.std.specs.List.{enumerate_from, join_by, list_any, range_with_len}
-use Rattle.std.specs.Option.{option_eq, option_map_or}
+use Rattle.std.specs.Option.{option_eq, option_map_or, option_or}
 use Rattle.std.proofs.lemmas.Bool.Decides.{nat_tests}
 use Rattle.std.proofs.lemmas.List.{drop_all, drop_more, map_push}
 use Rattle.std.proofs.lemmas.List.Concat.{flat_map-append}
 use Rattle.std.proofs.lemmas.List.Folds.{list_any-append}
-use Rattle.idl_changes.specs.Matched.{is_matched}
+use Rattle.idl_changes.specs.Matched.{in_order_from, is_matched}
 
 -- ---- what is told of those that are left comes behind; the items are lent
 
@@ -138,3 +138,31 @@ places-more n =
     ∙ ap (map (λ (k : ℕ). Some k)) (range-more 0 n)
     ∙ map_push (λ (k : ℕ). Some k) (range_with_len 0 n) (0 + n)
     ∙ ap (λ (k : ℕ). map (λ (j : ℕ). Some j) (range_with_len 0 n) ++ Some k ∷ []) place
+
+-- ---- places in order behind the last
+
+abbrev pub behind : Option ℕ → Option ℕ → Bool
+behind place last = option_map_or (λ k. option_map_or (λ n. nat_lt n k) last true) place true
+
+abbrev pub bound_behind : Option ℕ → ℕ
+bound_behind last = option_map_or (λ n. n + 1) last 0
+
+not-below : (k : ℕ) (last : Option ℕ) → not (nat_lt k (bound_behind last)) ≡ option_map_or (λ (n : ℕ). nat_lt n k) last true
+not-below k None = above k
+  where
+    above : (k : ℕ) → not (nat_lt k 0) ≡ true
+    above k = grind (arith, nat_tests)
+not-below k (Some j) = turned k j
+  where
+    turned : (k j : ℕ) → not (nat_lt k (j + 1)) ≡ nat_lt j k
+    turned k j = grind (arith, nat_tests)
+
+order-by : (o last : Option ℕ) (rest : List (Option ℕ)) → in_order_from (bound_behind last) (o ∷ rest) ≡ (behind o last && in_order_from (bound_behind (option_or o last)) rest)
+order-by None last rest = refl
+order-by (Some k) last rest = ap (λ (b : Bool). b && in_order_from (k + 1) rest) (not-below k last)
+
+pub order-next : (found : List (Option ℕ)) (i : ℕ) (o last : Option ℕ) → i < length found → o ≡ get_or found i o
+    → in_order_from (bound_behind last) (drop i found) ≡ (behind o last && in_order_from (bound_behind (option_or o last)) (drop (i + 1) found))
+order-next found i o last within is =
+    ap (in_order_from (bound_behind last)) (drop_more found i o within ∙ ap (λ (p : Option ℕ). p ∷ drop (i + 1) found) (sym is))
+    ∙ order-by o last (drop (i + 1) found)
