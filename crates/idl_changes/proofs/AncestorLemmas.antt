@@ -1,11 +1,12 @@
 -- What is inherited, from the last that stands before a place to the first.
 use Rattle.std.proofs.Common.{◌≡◌, ◌∙◌, ◌+◌, ◌<◌, ◌++◌, ◌∷◌, ◌&&◌, ◌||◌, [], ℕ, zero, suc, All, Bool, Less, List, None, Option, Some, ap, ap₂, append_assoc, arith, false, filter_map, get_or, if◌then◌else◌, inl, inr, length, nat_cmp, nat_eq, nat_lt, refl, sym, take, true}
-use Rattle.std.specs.List.{cons_option, list_any}
+use Rattle.std.specs.List.{cons_option, list_any, slice_get}
 use Rattle.std.specs.Option.{option_map_or}
 use Rattle.std.proofs.lemmas.Bool.Decides.{nat_tests}
 use Rattle.std.proofs.lemmas.List.{take_more}
 use Rattle.std.proofs.lemmas.List.Elements.{filter_map-append}
 use Rattle.idl_base.specs.Exact.{same_number}
+use Rattle.idl_changes.specs.Listing.{bases_of, interface_at}
 use Rattle.idl_changes.specs.Offered.{base_places, inherited_before}
 use Rattle.idl_changes.proofs.HasLemmas.{Has, all-has, has-appended, has-back, has-either, has-first, has-front, has-holds, no-test, same-tests}
 use Rattle.idl_repo.specs.declared.details.row_tree.RowTree.{RowTree}
@@ -175,4 +176,19 @@ bases-next {X} f rs i r n start before old new within is so_far put =
     by true l a b = refl
     by false true a b = refl
     by false false a b = refl
+
+-- a set whose last was not found
+pub no-keys : {Q : Type 0} (keys : List ℕ) → Q × (0 < length keys → false ≡ true) → keys ≡ []
+no-keys [] variant = refl
+no-keys (k ∷ keys) variant = let never = variant.1 (omega arith) in cc
+
+-- an entry that isn't there has no bases
+pub base-none : (L : List RowTree) (place n : ℕ) (old before : Bool) → slice_get L place ≡ None → old ≡ (old || (before && list_any (nat_eq n) (base_places L place)))
+base-none L place n old before past =
+    by old before ∙ ap (λ (o : Option RowTree). old || (before && list_any (nat_eq n) (filter_map (λ r. interface_at L r.path) (option_map_or (λ (e : RowTree). bases_of e.details) o [])))) (sym past)
+  where
+    by : (a b : Bool) → a ≡ (a || (b && false))
+    by true b = refl
+    by false true = refl
+    by false false = refl
 

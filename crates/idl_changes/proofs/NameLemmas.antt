@@ -1,11 +1,12 @@
 -- How it is found out which items of two lists belong together.
-use Rattle.std.proofs.Common.{◌≡◌, ◌∙◌, ◌<◌, ◌&&◌, ◌∷◌, [], ℕ, zero, suc, Bool, List, None, Option, Some, ap, ap₂, arith, false, get_or, if◌then◌else◌, length, map, nat_eq, not, position, refl, sym, true}
+use Rattle.std.proofs.Common.{◌≡◌, ◌∙◌, ◌+◌, ◌<◌, ◌&&◌, ◌∷◌, [], ℕ, zero, suc, Bool, List, None, Option, Some, ap, ap₂, arith, drop, false, get_or, if◌then◌else◌, length, map, nat_eq, not, position, refl, sym, true}
 use Rattle.std.specs.Cmp.{nat_eq_equiv}
 use Rattle.std.specs.Cmp.Lexicographic.{bytes_decides, pointwise}
 use Rattle.std.specs.List.{list_any, range_with_len, slice_get}
 use Rattle.std.specs.Option.{is_some, option_eq, option_or}
 use Rattle.std.specs.Str.{bytes_eq}
 use Rattle.std.proofs.lemmas.Bool.Decides.{nat_tests}
+use Rattle.std.proofs.lemmas.List.{drop_more}
 use Rattle.std.proofs.lemmas.Option.{none-some, slice_get-get_or}
 use Rattle.idl_base.specs.Exact.{same_list, same_number}
 use Rattle.idl_changes.specs.Keys.{numbered_eq, same_numbered}
@@ -34,6 +35,18 @@ unlike-lengths eq (x ∷ xs) (y ∷ ys) is = by (eq x y) (unlike-lengths eq xs y
     by : (b : Bool) → pointwise eq xs ys ≡ false → (b && pointwise eq xs ys) ≡ false
     by true h = h
     by false h = refl
+
+-- those that are left, and the next
+pub names-next : {X : Type 0} (name : X → List ℕ) (xs ys : List X) (i : ℕ) (x y : X) → i < length xs → i < length ys → x ≡ get_or xs i x → y ≡ get_or ys i y
+    → pointwise bytes_eq (map name (drop i xs)) (map name (drop i ys)) ≡ (bytes_eq (name x) (name y) && pointwise bytes_eq (map name (drop (i + 1) xs)) (map name (drop (i + 1) ys)))
+names-next {X} name xs ys i x y in_xs in_ys is_x is_y =
+    ap₂ (λ (as bs : List X). pointwise bytes_eq (map name as) (map name bs))
+    (drop_more xs i x in_xs ∙ ap (λ (z : X). z ∷ drop (i + 1) xs) (sym is_x))
+    (drop_more ys i y in_ys ∙ ap (λ (z : X). z ∷ drop (i + 1) ys) (sym is_y))
+
+pub not-false : (b : Bool) → not b ≡ false → b ≡ true
+not-false true h = refl
+not-false false h = cc
 
 -- ---- the item to which one belongs
 

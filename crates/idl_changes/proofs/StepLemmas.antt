@@ -67,10 +67,6 @@ joined-more {X} {A} f sep (y ∷ ys) x =
 -- ---- which new items belong to an old one
 
 or-false : (b : Bool) → (b || false) ≡ b
-    or-false true = refl
-    or-false false = refl
-
-or-false : (b : Bool) → (b || false) ≡ b
 or-false true = refl
 or-false false = refl
 

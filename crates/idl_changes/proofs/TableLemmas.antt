@@ -213,7 +213,7 @@ where-from : (test : RowTree → Bool) (n : ℕ) (L : List RowTree) (e : RowTree
     ≡ map (λ (p : ℕ × RowTree). p.0) (filter (λ (p : ℕ × RowTree). test p.1) (enumerate_from n L)) ++ (if test e then (n + length L) ∷ [] else [])
 where-from test n [] e = by (test e)
   where
-    by : (b : Bool) → map (λ (p : ℕ × RowTree). p.0) (cond b ((n, e) ∷ []) []) ≡ [] ++ (if b then (n + length []) ∷ [] else [])
+    by : (b : Bool) → map (λ (p : ℕ × RowTree). p.0) (cond b ((n, e) ∷ []) []) ≡ [] ++ (if b then (n + 0) ∷ [] else [])
     by true = let place : n ≡ n + 0 = omega arith in ap (λ (k : ℕ). k ∷ []) place
     by false = refl
 where-from test n (x ∷ xs) e =

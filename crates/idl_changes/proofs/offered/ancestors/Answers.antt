@@ -1,6 +1,6 @@
-use Rattle.std.proofs.Common.{◌∙◌, ◌++◌, ℕ, List, ap}
+use Rattle.std.proofs.Common.{◌≡◌, ◌∙◌, ◌++◌, [], ℕ, List, ap, append-nil, sym}
 use Rattle.idl_changes.specs.Offered.{ancestors, inherited_before}
-use Rattle.idl_changes.proofs.AncestorLemmas.{ancestors-begin, ancestors-next, last-below}
+use Rattle.idl_changes.proofs.AncestorLemmas.{ancestors-begin, ancestors-next, inherited-none, last-below, no-keys}
 use Rattle.idl_changes.proofs.offered.ancestors.Goals as goal
 
 pub loop-last-init : goal.loop-last-init
@@ -19,11 +19,17 @@ pub loop-last-preserved : goal.loop-last-preserved
 loop-last-preserved c =
     let L = c.args.listing.now in
     let last = c.in-Some.last in
-    let new = c.add_bases-2.new.among.keys in
+    let new = c.add_bases-in-Some.new.among.keys in
     let next = ancestors-next L c.loop-last.bound last c.loop-last.among.keys c.pop_last.new.self.keys new c.loop-last.found.items _ c.in-Some.ensures.removal c.loop-last.invariant.below
         c.in-Some.ensures.all_below c.in_ok-add_bases-2.ensures c.loop-last.invariant.rest
     in
     record { below = next.0; rest = ap (λ (ns : List ℕ). ns ++ inherited_before L last new) c.in_ok-push.ensures.items ∙ next.1 }
 
 pub returns : goal.returns
-returns c = ?
+returns c =
+    let L = c.args.listing.now in
+    let found = c.loop-last.found.items in
+    let none : c.loop-last.among.keys ≡ [] = no-keys c.loop-last.among.keys c.in_default.ensures.variant in
+    c.from_vec.ensures ∙ sym (append-nil found)
+    ∙ ap (λ (ns : List ℕ). found ++ ns) (sym (ap (inherited_before L c.loop-last.bound) none ∙ inherited-none L c.loop-last.bound))
+    ∙ c.loop-last.invariant.rest
