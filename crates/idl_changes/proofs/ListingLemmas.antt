@@ -1,8 +1,9 @@
 -- Names in paths, byte by byte, and entries that are lent.
-use Rattle.std.proofs.Common.{Bor, ◌≡◌, ◌∙◌, ◌+◌, ◌<◌, ◌≤◌, ◌++◌, ◌∷◌, [], ℕ, Bool, List, Some, ap, arith, drop, false, get_or, if◌then◌else◌, length, length-drop, map, nat_eq, refl, sym, take, true}
-use Rattle.std.specs.List.{slice_get, slice_range}
+use Rattle.std.proofs.Common.{Bor, MatchOption, ◌≡◌, ◌∙◌, ◌+◌, ◌<◌, ◌≤◌, ◌++◌, ◌∷◌, [], ℕ, Bool, List, None, Option, Some, ap, arith, drop, false, get_or, if◌then◌else◌, length, length-drop, map, nat_eq, refl, sym, take, true}
+use Rattle.std.specs.List.{HoldsAt, slice_get, slice_range}
+use Rattle.std.specs.Option.{option_copied}
 use Rattle.std.proofs.lemmas.List.{drop-append-le, drop_all, get_or-map, length-map, length-take-le, map_more, take_all, take_more, take_rest}
-use Rattle.std.proofs.lemmas.Option.{slice_get-get_or}
+use Rattle.std.proofs.lemmas.Option.{slice_get-get_or, slice_get_past, slice_get_read}
 use Rattle.std.proofs.lemmas.List.Sums.{fold_push}
 use Rattle.idl_changes.specs.Listing.{name_of}
 use Rattle.idl_repo.specs.declared.details.row_tree.RowTree.{RowTree}
@@ -71,3 +72,10 @@ name-end path i start past within so_far =
       take_rest path start ∙ name,
       omega (arith, within, left, ap length name),
     )
+
+-- what `get` finds
+pub got-item : {X : Type 0} (xs : List X) (i : ℕ) (found : Option (Bor X)) → MatchOption found (length xs ≤ i) (λ x. (i < length xs) × HoldsAt (λ y. x.now ≡ y) xs i)
+    → option_copied found ≡ slice_get xs i
+got-item xs i None past = sym (slice_get_past xs i past)
+got-item xs i (Some x) at = sym (slice_get_read xs (length xs) i x.now refl at.0 (at.1 x.now))
+

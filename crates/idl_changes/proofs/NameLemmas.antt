@@ -9,6 +9,7 @@ use Rattle.std.proofs.lemmas.Bool.Decides.{nat_tests}
 use Rattle.std.proofs.lemmas.List.{drop_more}
 use Rattle.std.proofs.lemmas.Option.{none-some, slice_get-get_or}
 use Rattle.idl_base.specs.Exact.{same_list, same_number}
+use Rattle.idl_changes.specs.Differences.{own_name}
 use Rattle.idl_changes.specs.Keys.{numbered_eq, same_numbered}
 use Rattle.idl_changes.specs.Matched.{matched, matches, renamed}
 use Rattle.idl_changes.specs.declared.keys.NumberedText.{NumberedText}
@@ -86,3 +87,8 @@ turned-numbered key other =
     same-tests (numbered_eq key other) (numbered_eq other key)
     (λ is. ap (λ (k : NumberedText). numbered_eq k key) (sym (same_numbered key other is)) ∙ own-numbered key)
     (λ is. ap (λ (k : NumberedText). numbered_eq k other) (sym (same_numbered other key is)) ∙ own-numbered other)
+
+pub own-names : (names : List (List ℕ)) → map own_name names ≡ names
+own-names [] = refl
+own-names (name ∷ names) = ap (λ (ns : List (List ℕ)). name ∷ ns) (own-names names)
+

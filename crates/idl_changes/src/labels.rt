@@ -79,7 +79,8 @@ impl<'a> Labels<'a> {
     pub fn label_of(&self, text: &Bytes) -> Result<NumberedText, AllocError>
         ensures { IfOk result (λ label. label ≡ label_of self.now.0 text.now) }
     {
-        label_among(&self.numbers, text)
+        let label = label_among(&self.numbers, text)?;
+        Ok(label)
     }
 
     /// The case of a label.
