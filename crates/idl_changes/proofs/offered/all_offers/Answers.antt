@@ -9,9 +9,6 @@ offer_all-requires c = ?
 pub loop-base-init : goal.loop-base-init
 loop-base-init c = ?
 
-pub offer_all-requires-2 : goal.offer_all-requires-2
-offer_all-requires-2 c = ?
-
 pub loop-base-preserved : goal.loop-base-preserved
 loop-base-preserved c = ?
 
