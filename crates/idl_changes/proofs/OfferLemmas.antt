@@ -84,3 +84,12 @@ offer-next i k test xs n o = by (nat_eq i k)
     by : (b : Bool) → option_or (option_or o (if b then find test xs else None)) (if test n && b then Some n else None) ≡ option_or o (if b then find test (xs ++ n ∷ []) else None)
     by true = ap (λ (c : Bool). option_or (option_or o (find test xs)) (if c then Some n else None)) (and-true (test n)) ∙ find-next test xs n o
     by false = ap (λ (c : Bool). option_or (option_or o None) (if c then Some n else None)) (and-false (test n)) ∙ or-none (option_or o None)
+
+-- before it offers anything
+pub kept-none : (L : List RowTree) (name : List ℕ) (k i : ℕ) → kept L name k i [] ≡ (if nat_lt i k then offered L i name else None)
+kept-none L name k i = by (nat_lt i k) (nat_eq i k)
+  where
+    by : (b d : Bool) → (if b then offered L i name else if d then None else None) ≡ (if b then offered L i name else None)
+    by true d = refl
+    by false true = refl
+    by false false = refl
