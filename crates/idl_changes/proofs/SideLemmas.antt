@@ -1,14 +1,15 @@
 -- What the tables of listings have at a place.
-use Rattle.std.proofs.Common.{◌≡◌, ◌∙◌, ◌+◌, ◌<◌, ◌≤◌, ◌++◌, ◌∷◌, ◌&&◌, [], ℕ, zero, suc, All, Bool, List, None, Option, Some, ap, ap₂, append-nil, arith, cond, false, filter, filter_map, get_or, if◌then◌else◌, length, map, nat_eq, refl, replicate, set, sym, take, true, unwrap_or}
+use Rattle.std.proofs.Common.{◌≡◌, ◌∙◌, ◌+◌, ◌<◌, ◌≤◌, ◌++◌, ◌∷◌, ◌&&◌, [], ℕ, zero, suc, All, Bool, List, None, Option, Some, ap, ap₂, append-nil, arith, cond, false, filter, filter_map, find, flat_map, get_or, if◌then◌else◌, length, map, nat_eq, nat_lt, refl, replicate, set, sym, take, true, unwrap_or}
 use Rattle.std.specs.List.{enumerate_from, slice_get}
 use Rattle.std.specs.Option.{option_and_then, option_eq, option_map, option_map_or, option_or}
 use Rattle.std.proofs.lemmas.Bool.Decides.{nat_tests}
 use Rattle.std.proofs.lemmas.List.{map-append, set_past, take_all}
 use Rattle.std.proofs.lemmas.List.Elements.{filter-append}
-use Rattle.std.proofs.lemmas.Option.{none-some, slice_get_within}
+use Rattle.std.proofs.lemmas.Option.{none-some, slice_get_past, slice_get_within}
 use Rattle.idl_base.specs.Exact.{same_number, same_option}
-use Rattle.idl_changes.specs.Listing.{bases_of, by_id, interface_at, interface_of, is_called, places_where, scope_of}
-use Rattle.idl_changes.specs.Offered.{ancestors, called_in, inherited_before}
+use Rattle.std.specs.Str.{bytes_eq}
+use Rattle.idl_changes.specs.Listing.{bases_of, by_id, interface_at, interface_of, is_called, name_at, places_where, scope_of}
+use Rattle.idl_changes.specs.Offered.{ancestors, called_in, inherited_before, offered, offers}
 use Rattle.idl_changes.specs.Partners.{by_path, called_partner, joined, partner}
 use Rattle.idl_changes.specs.Tables.{each}
 use Rattle.idl_changes.proofs.AncestorLemmas.{inherited-none}
@@ -225,3 +226,21 @@ called-within L i = all-has (λ (n : ℕ). n < length L) (places_where (λ e. is
         let place = passing-place (λ (e : RowTree). is_called e && option_eq nat_eq (interface_of L e) (Some i)) 0 L at.0 n at.1 in
         let within = slice_get_within L place.0 place.1 place.3 in
         omega (arith, within, place.2)
+
+-- what stands past the last offers nothing
+pub offered-past : (L : List RowTree) (i : ℕ) (name : List ℕ) → length L ≤ i → offered L i name ≡ None
+unfolding offered offers
+offered-past L i name past =
+    let none = slice_get_past L i past in
+    ap₂ (λ (own above : List ℕ). find (λ (n : ℕ). bytes_eq name (name_at L n)) (own ++ flat_map (called_in L) above)) (called_in-past L i none) (ancestors-past L i none)
+
+pub all-offered : (L : List RowTree) (i z : ℕ) (name : List ℕ) → length L ≤ z → (if nat_lt i z then offered L i name else None) ≡ offered L i name
+all-offered L i z name all = by (nat_lt i z) refl
+  where
+    by : (b : Bool) → nat_lt i z ≡ b → (if b then offered L i name else None) ≡ offered L i name
+    by true e = refl
+    by false e =
+        let beyond : z ≤ i = grind (arith, nat_tests, e) in
+        let past : length L ≤ i = omega (arith, all, beyond) in
+        sym (offered-past L i name past)
+
