@@ -26,7 +26,7 @@ impl Weights {
     }
 
     /// Those that a text names, with commas between: `never` none.
-    #[tactic(none)]
+    #[tactic(auto, unfolding(crate::specs::Chosen::weights_named))]
     pub fn named(text: &[u8]) -> Option<Weights>
         ensures { result ≡ weights_named text.now }
     {

@@ -86,7 +86,6 @@ fn tell_new(sides: &Sides<'_>, out: &mut Vec<Change>) -> Result<(), AllocError>
 }
 
 // Tells these differences of entries at these places.
-#[tactic(none)]
 fn push_all(
     places: (Option<usize>, Option<usize>),
     told: Vec<Difference>,

@@ -110,7 +110,6 @@ fn is_called_locally(sides: &Sides<'_>, entry: &RowTree) -> Result<bool, AllocEr
 }
 
 // Has what is called on a local interface count for source alone.
-#[tactic(none)]
 fn ease(told: &mut Vec<Difference>)
     ensures { told.new.items
         ≡ map (λ (d : Difference). record d { weights = eased d.weights }) told.old.items }

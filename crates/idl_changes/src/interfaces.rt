@@ -181,7 +181,6 @@ fn push_base(
 }
 
 // The line of a base that is new to an interface: whether it brings more to call than the old one offered.
-#[tactic(none)]
 fn base_line(sides: &Sides<'_>, interface: usize, base: usize) -> Result<Line, AllocError>
     ensures { IfOk result (λ line.
         line ≡ base_line sides.now.0 sides.now.1 interface base) }
@@ -198,7 +197,6 @@ fn base_line(sides: &Sides<'_>, interface: usize, base: usize) -> Result<Line, A
 }
 
 // Whether an old interface offers all that is in the scope of a new one.
-#[tactic(none)]
 fn offers_all(sides: &Sides<'_>, interface: usize, scope: usize) -> Result<bool, AllocError>
     ensures { IfOk result (λ all. all
         ≡ list_all (λ h. is_offered sides.now.0 interface (name_at sides.now.1 h))

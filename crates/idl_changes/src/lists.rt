@@ -71,7 +71,6 @@ pub fn compare_lists<T: ListItem>(
 }
 
 // Compares each old item with the one to which it belongs.
-#[tactic(none)]
 fn compare_items<T: ListItem>(
     sides: &Sides<'_>,
     lists: &Lists<'_, T>,
@@ -167,7 +166,6 @@ fn item_part(alloc: Global, item: Item, name: &Bytes) -> Result<Vec<u8>, AllocEr
 }
 
 // Tells of each new item to which no old one belongs.
-#[tactic(none)]
 fn push_new_items<T: Named>(
     lists: &Lists<'_, T>,
     found: &[Option<usize>],

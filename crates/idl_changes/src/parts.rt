@@ -131,7 +131,6 @@ pub fn compare_contexts(
 }
 
 /// Names in a row, or `none`.
-#[tactic(none)]
 pub fn in_a_row<T: Named>(alloc: Global, items: &[T]) -> Result<Vec<u8>, AllocError>
     ensures { IfOk result (λ row. row.items ≡ in_a_row T.name_of items.now) }
 {

@@ -135,7 +135,6 @@ fn place_in(places: &[Option<usize>], place: usize) -> Option<usize>
 }
 
 // To which entry of the new listing each of the old one belongs, where this is known of what isn't called.
-#[tactic(none)]
 fn all_partners(
     alloc: Global,
     old: &Side<'_>,
