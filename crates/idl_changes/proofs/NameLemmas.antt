@@ -1,13 +1,14 @@
 -- How it is found out which items of two lists belong together.
-use Rattle.std.proofs.Common.{◌≡◌, ◌∙◌, ◌+◌, ◌<◌, ◌&&◌, ◌∷◌, [], ℕ, zero, suc, Bool, List, None, Option, Some, ap, ap₂, arith, drop, false, get_or, if◌then◌else◌, length, map, nat_eq, not, position, refl, sym, true}
+use Rattle.std.proofs.Common.{◌≡◌, ◌∙◌, ◌+◌, ◌<◌, ◌≤◌, ◌&&◌, ◌∷◌, [], ℕ, zero, suc, Bool, List, None, Option, Some, ap, ap₂, arith, cond, drop, false, find, get_or, if◌then◌else◌, length, map, nat_eq, nat_lt, not, position, refl, sym, true}
 use Rattle.std.specs.Cmp.{nat_eq_equiv}
 use Rattle.std.specs.Cmp.Lexicographic.{bytes_decides, pointwise}
-use Rattle.std.specs.List.{list_any, range_with_len, slice_get}
-use Rattle.std.specs.Option.{is_some, option_eq, option_or}
+use Rattle.std.specs.List.{list_any, position_or_len, range_with_len, slice_get}
+use Rattle.std.specs.Option.{is_some, option_and_then, option_eq, option_or}
 use Rattle.std.specs.Str.{bytes_eq}
 use Rattle.std.proofs.lemmas.Bool.Decides.{nat_tests}
 use Rattle.std.proofs.lemmas.List.{drop_more}
-use Rattle.std.proofs.lemmas.Option.{none-some, slice_get-get_or}
+use Rattle.std.proofs.lemmas.List.Folds.{find_at}
+use Rattle.std.proofs.lemmas.Option.{none-some, slice_get-get_or, slice_get_past}
 use Rattle.idl_base.specs.Exact.{same_list, same_number}
 use Rattle.idl_changes.specs.Differences.{own_name}
 use Rattle.idl_changes.specs.Keys.{numbered_eq, same_numbered}
@@ -41,7 +42,7 @@ unlike-lengths eq (x ∷ xs) (y ∷ ys) is = by (eq x y) (unlike-lengths eq xs y
 pub names-next : {X : Type 0} (name : X → List ℕ) (xs ys : List X) (i : ℕ) (x y : X) → i < length xs → i < length ys → x ≡ get_or xs i x → y ≡ get_or ys i y
     → pointwise bytes_eq (map name (drop i xs)) (map name (drop i ys)) ≡ (bytes_eq (name x) (name y) && pointwise bytes_eq (map name (drop (i + 1) xs)) (map name (drop (i + 1) ys)))
 names-next {X} name xs ys i x y in_xs in_ys is_x is_y =
-    ap₂ (λ (as bs : List X). pointwise bytes_eq (map name as) (map name bs))
+    ap₂ (λ (us vs : List X). pointwise bytes_eq (map name us) (map name vs))
     (drop_more xs i x in_xs ∙ ap (λ (z : X). z ∷ drop (i + 1) xs) (sym is_x))
     (drop_more ys i y in_ys ∙ ap (λ (z : X). z ∷ drop (i + 1) ys) (sym is_y))
 
@@ -91,4 +92,15 @@ turned-numbered key other =
 pub own-names : (names : List (List ℕ)) → map own_name names ≡ names
 own-names [] = refl
 own-names (name ∷ names) = ap (λ (ns : List (List ℕ)). name ∷ ns) (own-names names)
+
+-- what is found, by its place
+pub find-position : {X : Type 0} (test : X → Bool) (xs : List X) → find test xs ≡ option_and_then (slice_get xs) (position test xs)
+find-position {X} test xs = find_at test xs ∙ by (nat_lt (position_or_len test xs) (length xs)) refl
+  where
+    by : (b : Bool) → nat_lt (position_or_len test xs) (length xs) ≡ b
+        → slice_get xs (position_or_len test xs) ≡ option_and_then (slice_get xs) (cond b (Some (position_or_len test xs)) None)
+    by true e = refl
+    by false e =
+        let past : length xs ≤ position_or_len test xs = grind (arith, nat_tests, e) in
+        slice_get_past xs (position_or_len test xs) past
 

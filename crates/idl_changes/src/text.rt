@@ -70,7 +70,8 @@ fn push_turn(text: &mut Vec<u8>, part: &[u8], turn: &Turn) -> Result<(), AllocEr
         Turn::New => push_words(text, part, b"is new"),
         Turn::NewAt(number) => {
             push_words(text, part, b"is new, number ")?;
-            push_number(text, *number)
+            push_number(text, *number)?;
+            Ok(())
         }
         Turn::Changed(was, is) => {
             text.extend_from_slice(part)?;
@@ -104,7 +105,8 @@ fn push_weights(text: &mut Vec<u8>, weights: Weights) -> Result<(), AllocError>
     for (place, name) in names.iter().enumerate() {
         push_behind(text, place, name)?;
     }
-    text.extend_from_slice(b"]")
+    text.extend_from_slice(b"]")?;
+    Ok(())
 }
 
 // Writes a name with a comma before it, if so many stand there.

@@ -37,6 +37,12 @@ loop-base-init c = λ i name.
     ∙ kept-more L name k i [] (called_in L k)
     ∙ ap (kept L name k i) (sym (append-nil (called_in L k)))
 
+pub offer_all-requires-in-loop-base : goal.offer_all-requires-in-loop-base
+offer_all-requires-in-loop-base c =
+    let L = c.args.listing.now in
+    let base = get_or c.list_at-base-items.result.now c.loop-base.base-index 0 in
+    subst (λ (ks : List ℕ). All (λ n. n < length L) ks) (sym (c.list_at-in-loop-base.ensures ∙ called-there L base c.args.called.now c.requires.called)) (called-within L base)
+
 pub loop-base-preserved : goal.loop-base-preserved
 loop-base-preserved c = λ i name.
     let L = c.args.listing.now in

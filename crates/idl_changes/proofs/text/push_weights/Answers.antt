@@ -1,6 +1,7 @@
 use Rattle.std.proofs.Common.{◌≡◌, ◌∙◌, ◌++◌, ◌∷◌, [], ℕ, List, ap, append_assoc, arith, codes, if◌then◌else◌, length, nat_eq, sym, take}
 use Rattle.std.specs.List.{join_by}
-use Rattle.std.proofs.lemmas.List.{length-take-le, take_more}
+use Rattle.std.proofs.lemmas.List.{length-take-le, take_all, take_more}
+use Rattle.idl_changes.specs.Changes.{weight_names, weights_text}
 use Rattle.idl_changes.proofs.StepLemmas.{joined-more}
 use Rattle.idl_changes.proofs.text.push_weights.Goals as goal
 
@@ -25,4 +26,12 @@ loop-place-preserved c =
     ∙ ap (λ (t : List ℕ). before ++ (codes "[" ++ t)) (sym next)
 
 pub returns : goal.returns
-returns c = ?
+unfolding weights_text
+returns c =
+    let names = c.deref-name-items.result.now in
+    let before = c.args.text.now.items in
+    let all = take_all c.loop-place.place names c.loop-place-test.false ∙ c.deref-name-items.ensures.value ∙ c.in_ok-names.ensures in
+    c.in_ok-extend_from_slice-2.ensures.items
+    ∙ ap (λ (t : List ℕ). t ++ codes "]")
+    (c.loop-place.invariant ∙ ap (λ (ns : List (List ℕ)). before ++ (codes "[" ++ join_by (λ (t : List ℕ). t) (codes ",") ns)) all)
+    ∙ append_assoc before (codes "[" ++ join_by (λ (t : List ℕ). t) (codes ",") (weight_names c.args.weights)) (codes "]")
