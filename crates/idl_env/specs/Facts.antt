@@ -35,6 +35,10 @@ pub record UnitFacts : Type 0 where
   pub additions : List Addition
   pub step : Step
 
+-- what a file boundary adds
+abbrev pub boundary : Step → UnitFacts
+boundary step = record { additions = []; step = step }
+
 -- what is asked of the entity at a path: its own name, folded, in the scope around
 abbrev pub entity_key : List (List ℕ) → Key
 entity_key path = Declared (folded (name_of path)) (scope_of path)

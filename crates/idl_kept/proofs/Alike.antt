@@ -9,10 +9,10 @@ use Rattle.idl_env.specs.keys.Key.{key_eq}
 use Rattle.idl_kept.specs.Texts.{BlockResult, IsPlaced}
 use Rattle.idl_memo.proofs.QueryLaws.{outcome-agree}
 use Rattle.idl_memo.proofs.Telling.{Agree-over, HoldsIn-over}
-use Rattle.idl_memo.specs.Kept.{IsAlike}
 use Rattle.idl_memo.specs.Query.{Agree, HoldsIn, asked}
 use Rattle.idl_root_blocks.proofs.Results.{asks-block}
 use Rattle.idl_root_blocks.specs.Blocks.{Pieces, parts_of, text_in}
+use Rattle.idl_root_blocks.specs.Met.{IsLike}
 use Rattle.idl_root_blocks.specs.Places.{BlockEnd, block_asks, block_at, block_query, block_result}
 
 module _ (there here : List UnitFacts) (inside : Pieces) (same : block_result (block_at there inside) ≡ block_result (block_at here inside)) where
@@ -21,7 +21,7 @@ module _ (there here : List UnitFacts) (inside : Pieces) (same : block_result (b
       subst (λ (k : BlockResult). HoldsIn (answers here) k.log) (sym same)
       (HoldsIn-over key_eq key_equiv.refl same_key block_asks (answers here) (block_result (block_at here inside)) refl)
 
-  pub is-alike : IsAlike (text_in inside) (answers here) (block_result (block_at there inside))
+  pub is-alike : IsLike (block_at here inside) (block_result (block_at there inside))
   is-alike = record { text_is = refl; answers = holds-here }
 
   agree-here : Agree (asked (block_query (text_in inside)) (answers there)) (answers there) (answers here)

@@ -1,14 +1,18 @@
 -- What is kept of units and blocks, and where the results of a block's units and of the blocks in it
 -- stand.
-use Rattle.std.specs.Prelude.{◌≡◌, ◌≤◌, ◌+◌, ◌-◌, ℕ, Bool, List, [], ◌∷◌, ◌++◌, Option, Some, drop, length, map, slice_get, take}
+use Rattle.std.specs.Option.{is_none}
+use Rattle.std.specs.Prelude.{◌≡◌, ◌≤◌, ◌+◌, ◌-◌, ℕ, Bool, ◌&&◌, List, [], ◌∷◌, ◌++◌, Option, Some, drop, length, map, slice_get, take}
 use Rattle.idl_root_blocks.specs.idl_check.declared.walk.verdict.Verdict.{Verdict}
 use Rattle.idl_root_blocks.specs.verdicts.Standing.{AreStanding, block_end}
 use Rattle.idl_env.specs.Facts.{UnitFacts, answers}
+use Rattle.idl_env.specs.SameAnswer.{answer_eq}
 use Rattle.idl_env.specs.declared.answering.answer.Answer.{Answer}
 use Rattle.idl_env.specs.declared.keys.key.Key.{Key}
 use Rattle.idl_memo.specs.Kept.{Kept}
+use Rattle.idl_memo.specs.Runs.{first_other}
 use Rattle.idl_root_blocks.specs.Blocks.{AreCut, Block, IsOfBlock, Loose, Nothing, Pieces, cut, parts_of, text_in}
-use Rattle.idl_root_blocks.specs.Places.{block_at, block_result, blocks_over, declaration_result, declarations_over, with_entering}
+use Rattle.idl_root_blocks.specs.Met.{block_text_eq}
+use Rattle.idl_root_blocks.specs.Places.{BlockPlace, block_at, block_result, blocks_over, declaration_result, declarations_over, with_entering}
 use Rattle.idl_root_blocks.specs.Finding.{blocks_in, one_text, texts_in}
 use Rattle.idl_root_blocks.specs.declared.text.BlockPart.{BlockPart}
 use Rattle.idl_store.specs.Spots.{lists_among, result_on, results_from}
@@ -21,6 +25,11 @@ DeclarationResult = Kept Key (Option Answer) UnitText Verdict
 
 abbrev pub BlockResult : Type 0
 BlockResult = Kept Key (Option Answer) (List BlockPart) (Unit {0})
+
+-- whether what is kept of a block is alike at the place of one, whatever units are around boundaries
+abbrev pub is_like : BlockPlace → BlockResult → Bool
+is_like here kept =
+    block_text_eq kept.text here.0 && is_none (first_other answer_eq here.1 kept.log)
 
 -- The results of units and those of blocks, as the roots of a project have them, the blocks in the
 -- order in which they are left; and beside each block where the results of its units begin.

@@ -2,6 +2,7 @@
 #![tactic(auto)]
 
 mod laws;
+mod like;
 mod parts;
 mod texts;
 

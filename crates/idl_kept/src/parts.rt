@@ -67,7 +67,8 @@ pub(crate) fn put_each(
     ensures blocks_left { OnErr result (discarded blocks.new ≡ discarded blocks.old) }
     ensures begins_left { OnErr result (discarded begins.new ≡ discarded begins.old) }
 {
-    blocks.put(kept, 0)?;
+    let hint = kept.text().hint();
+    blocks.put(kept, hint)?;
     begins.push(begin)
 }
 

@@ -5,7 +5,7 @@
 //! commits and removals keep the invariant. A block that is taken is told as it stood elsewhere (`IsTaken`); that it
 //! adds the same here is known behind its units.
 
-ghost use Rattle.std.specs.Prelude.{◌≡◌, ◌≤◌, ◌<◌, ◌∷◌, ◌++◌, [], List, IfNone, IfOk, IfSome, OnErr, OnOk, Some, length};
+ghost use Rattle.std.specs.Prelude.{◌≡◌, ◌≤◌, ◌<◌, ◌∷◌, ◌++◌, [], All, Any, List, IfNone, IfOk, IfSome, IsFalse, IsTrue, OnErr, OnOk, Some, length};
 ghost use Rattle.std.specs.Option.{option_copied, option_map, option_to_list};
 ghost use Rattle.idl_env.specs.Facts.{UnitFacts, answers};
 ghost use Rattle.idl_kept.specs.Drafts.{begun_texts, committed_texts, no_texts, removed_texts};
@@ -14,18 +14,20 @@ ghost use Rattle.idl_memo.specs.Kept.{NoneAlikeAt};
 ghost use Rattle.idl_memo.specs.Meter.{count_of, most_compared};
 ghost use Rattle.idl_memo.specs.declared.task.TaskKind.TheVariants.{Check};
 ghost use Rattle.idl_root_blocks.specs.Blocks.{Pieces};
-ghost use Rattle.idl_root_blocks.specs.Places.{block_at, block_result, declaration_result};
+ghost use Rattle.idl_root_blocks.specs.Met.{IsLike};
+ghost use Rattle.idl_root_blocks.specs.Places.{DeclarationPlace, block_at, block_result, declaration_result};
 ghost use Rattle.idl_store.specs.Obtained.{IsObtained};
 ghost use Rattle.idl_store.specs.Spots.{result_on, results_from};
 ghost use Rattle.idl_store.specs.Stored.{last_draft, result_at, results_in};
 
 use crate::laws::alike_at;
+use crate::like::Like;
 use crate::parts::{Part, begin_each, discard_each, put_each, take_each};
 use idl_env::{Env, PlainEnv};
 use idl_memo::{Kept, Meter};
 use idl_root_blocks::idl_check::{DeclarationTask, Scratch, Verdict};
 use idl_root_blocks::idl_unit::UnitText;
-use idl_root_blocks::{BlockTask, KeptBlock};
+use idl_root_blocks::{BlockTask, ENCLOSED, KeptBlock, PLAIN};
 use idl_store::{Lists, Spot, Store};
 use std::alloc::{AllocError, Global};
 use std::marker::Model;
@@ -146,7 +148,8 @@ impl KeptTexts {
             found.value ≡ declaration_result (task.now.text, answers env.now)) }
         ensures ok { OnOk result (self.new
             ≡ with_units self.old (declaration_result (task.now.text, answers env.now) ∷ [])) }
-        ensures meter { OnOk result (IsObtained (task.now.text, answers env.now) Check
+        ensures meter { let here : DeclarationPlace = (task.now.text, answers env.now) in
+            OnOk result (IsObtained here (declaration_result here) Check
             (results_in self.old.declarations) meter.old meter.new) }
         ensures err { OnErr result (self.new ≡ self.old) }
     {
@@ -194,6 +197,26 @@ impl KeptTexts {
             (NoneAlikeAt (task.now.text, answers env.now) (results_in self.now.blocks)) }
     {
         self.blocks.alike(task, env)
+    }
+
+    /// Whether a block is kept that is alike to the task over this bank, whatever units are around boundaries in both: asked where none
+    /// is found in which they are around the same ones. Few are looked at, and it takes no memory.
+    pub fn has_like(&self, task: &BlockTask, env: &PlainEnv) -> bool
+        ensures some { IsTrue result
+            → Any (IsLike (task.now.text, answers env.now)) (results_in self.now.blocks) }
+        ensures none { IsFalse result
+            → NoneAlikeAt (task.now.text, answers env.now) (results_in self.now.blocks)
+            → All (λ kept. ¬ IsLike (task.now.text, answers env.now) kept)
+            (results_in self.now.blocks) }
+    {
+        let like = Like {
+            text: &task.text,
+            env,
+        };
+        if self.blocks.has_beside(&task.text, ENCLOSED, &like) {
+            return true;
+        }
+        task.text.has_enclosed() && self.blocks.has_beside(&task.text, PLAIN, &like)
     }
 
     /// The block at a spot, which has so many units and blocks in it, goes into the last draft too, with what is kept of these. It tells

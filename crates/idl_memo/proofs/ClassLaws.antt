@@ -21,28 +21,6 @@ or_within true q h = refl
 or_within false true h = sym (h refl)
 or_within false false h = refl
 
-or_turn : (p a b : Bool) → ((p || (a || false)) || (b || false)) ≡ ((p || (b || false)) || (a || false))
-or_turn true a b = refl
-or_turn false true true = refl
-or_turn false true false = refl
-or_turn false false true = refl
-or_turn false false false = refl
-
--- the counts of two, in both orders, where those that are alike count alike
-two_counts : {P : Type 0} (count : Bool → P → ℕ) (x y : P) (p q r : Bool) → (r ≡ true → p ≡ q) → (r ≡ true → (b : Bool) → count b x ≡ count b y)
-    → count p x + count (q || (r || false)) y ≡ count q y + count (p || (r || false)) x
-two_counts count x y p q false h same =
-    let p_is = ap (λ b. count b x) (or-false p) in
-    let q_is = ap (λ b. count b y) (or-false q) in
-    omega (arith, p_is, q_is)
-two_counts count x y p q true h same =
-    let p_is : count (p || true) x ≡ count true x = ap (λ b. count b x) (or-true p) in
-    let q_is : count (q || true) y ≡ count true y = ap (λ b. count b y) (or-true q) in
-    let one : count p x ≡ count q x = ap (λ b. count b x) (h refl) in
-    let at_q : count q x ≡ count q y = same refl q in
-    let at_true : count true x ≡ count true y = same refl true in
-    omega (arith, p_is, q_is, one, at_q, at_true)
-
 module _ {P : Type 0} (alike : P → P → Bool) where
   -- two lists have the same classes
   abbrev pub AreSame : List P → List P → Type 0
@@ -200,67 +178,3 @@ module _ {P : Type 0} (alike : P → P → Bool) where
           let aside = sum-aside new_if old front stay rest h in
           let nothing = sym (sum-stay new_if old stay h) ∙ new-none old stay h in
           omega (arith, aside, nothing)
-
-      module _ (count : Bool → P → ℕ) (by_class : (x y : P) → alike x y ≡ true → (b : Bool) → count b x ≡ count b y) where
-        -- two neighbours may be exchanged
-        sum-exchange : (old : List P) (x y : P) (rest : List P) → sum_among alike count old (x ∷ y ∷ rest) ≡ sum_among alike count old (y ∷ x ∷ rest)
-        sum-exchange old x y rest =
-            let p = list_any (alike x) old in
-            let q = list_any (alike y) old in
-            let r = alike y x in
-            let y_test : list_any (alike y) (old ++ x ∷ []) ≡ (q || (r || false)) = list_any-append (alike y) old (x ∷ []) in
-            let x_test : list_any (alike x) (old ++ y ∷ []) ≡ (p || (r || false)) = list_any-append (alike x) old (y ∷ []) ∙ ap (λ b. p || (b || false)) (turn x y) in
-            let both : count p x + count (list_any (alike y) (old ++ x ∷ [])) y ≡ count q y + count (list_any (alike x) (old ++ y ∷ [])) x =
-            (λ i. count p x + count (y_test i) y)
-            ∙ two_counts count x y p q r (λ is. likes_any x y (turn x y ∙ is) old) (λ is. by_class x y (turn x y ∙ is))
-            ∙ (λ i. count q y + count (sym x_test i) x) in
-            let later = sum-same count ((old ++ x ∷ []) ++ y ∷ []) ((old ++ y ∷ []) ++ x ∷ []) rest (AreSame-turn old x y) in
-            omega (arith, both, later)
-          where
-            AreSame-turn : (old : List P) (x y : P) → AreSame ((old ++ x ∷ []) ++ y ∷ []) ((old ++ y ∷ []) ++ x ∷ [])
-            AreSame-turn old x y = λ z.
-                list_any-append (alike z) (old ++ x ∷ []) (y ∷ []) ∙ ap (λ b. b || (alike z y || false)) (list_any-append (alike z) old (x ∷ []))
-                ∙ or_turn (list_any (alike z) old) (alike z x) (alike z y)
-                ∙ sym (list_any-append (alike z) (old ++ y ∷ []) (x ∷ []) ∙ ap (λ b. b || (alike z x || false)) (list_any-append (alike z) old (y ∷ [])))
-
-        -- the first may come last
-        sum-last : (old : List P) (x : P) (b : List P) → sum_among alike count old (x ∷ b) ≡ sum_among alike count old (b ++ x ∷ [])
-        sum-last old x [] = refl
-        sum-last old x (y ∷ b) =
-            let turned = sum-exchange old x y b in
-            let later = sum-last (old ++ y ∷ []) x b in
-            turned ∙ (λ i. count (list_any (alike y) old) y + later i)
-
-        -- two parts may be exchanged
-        pub sum-turned : (old a b : List P) → sum_among alike count old (a ++ b) ≡ sum_among alike count old (b ++ a)
-        sum-turned old [] b = rw append-nil refl
-        sum-turned old (x ∷ a) b =
-            let last : sum_among alike count old (x ∷ (a ++ b)) ≡ sum_among alike count old (a ++ (b ++ x ∷ [])) = rw append_assoc at (sum-last old x (a ++ b)) in
-            let later : sum_among alike count old (a ++ (b ++ x ∷ [])) ≡ sum_among alike count old (b ++ x ∷ a) = rw append_assoc at (sum-turned old a (b ++ x ∷ [])) in
-            last ∙ later
-
-      pub new-turned : (old a b : List P) → new_among alike old (a ++ b) ≡ new_among alike old (b ++ a)
-      new-turned = sum-turned new_if (λ x y is b. refl)
-
-      -- these and more are as many new ones as the more alone, where these have ones that are alike
-      -- among the known ones and the more
-      new-among_more : (old a b : List P) → HaveAlike alike a (old ++ b) → new_among alike old (a ++ b) ≡ new_among alike old b
-      new-among_more old a b h =
-          let turned = new-turned old a b in
-          let split = new-split old b a in
-          let nothing = new-none (old ++ b) a h in
-          omega (arith, turned, split, nothing)
-
-      -- fewer classes are no more new ones
-      pub new-fewer : (old a b : List P) → HaveAlike alike a (old ++ b) → new_among alike old a ≤ new_among alike old b
-      new-fewer old a b h =
-          let more = new-among_more old a b h in
-          let split = new-split old a b in
-          omega (arith, more, split)
-
-      -- what is new counts by its classes
-      pub new-classes : (old a b : List P) → HaveAlike alike a (old ++ b) → HaveAlike alike b (old ++ a) → new_among alike old a ≡ new_among alike old b
-      new-classes old a b there back =
-          let less = new-fewer old a b there in
-          let more = new-fewer old b a back in
-          omega (arith, less, more)

@@ -3,14 +3,15 @@ use Rattle.std.proofs.Common.{◌≡◌, ℕ, ◌+◌, ◌≤◌, length, subst,
 use Rattle.std.proofs.lemmas.List.{map-append}
 use Rattle.std.proofs.lemmas.List.Elements.{All-nil, All-cons, All-head, All-tail}
 use Rattle.std.proofs.lemmas.List.Folds.{list_any-append, list_any_at}
+use Rattle.std.specs.Cmp.{IsEquivalence}
 use Rattle.std.specs.List.{list_all, list_any, AllByRecursion, IsDistinct}
 use Rattle.std.specs.Option.{option_eq}
 use Rattle.idl_base.proofs.Bools.{or-true}
 use Rattle.idl_base.specs.Exact.{both}
 use Rattle.idl_memo.specs.Classes.{new_among, new_ones}
 use Rattle.idl_memo.specs.Query.{Query, asked, run, Agree, HoldsIn}
-use Rattle.idl_memo.specs.Fresh.{Place, places_over, is_alike, log_at, keys_at, fresh_at, fresh_among, shared_at, shared_among, most_shared_at, AreAmong, stale_among, asked_at, compared_among, asked_among}
-use Rattle.idl_memo.proofs.ClassLaws.{one_test, each_new, not_before, new-split, new-none, new-aside, new-turned, new-classes, new-distinct, HaveAlike-itself, most-new, sum-aside, sum-known, sum-split, sum-turned}
+use Rattle.idl_memo.specs.Fresh.{Place, places_over, is_alike, log_at, keys_at, fresh_at, fresh_among, shared_at, shared_among, most_shared_at, AreAmong, stale_among}
+use Rattle.idl_memo.proofs.ClassLaws.{one_test, each_new, not_before, new-split, new-none, new-aside, new-distinct, HaveAlike-itself, most-new, sum-aside, sum-known, sum-split}
 use Rattle.idl_memo.proofs.QueryLaws.{IsLogOf-run, Agree-from_log, run-agree}
 
 -- an option is equal to itself where what it holds is
@@ -38,8 +39,9 @@ module _ {K V : Type 0} (answer_eq : V → V → Bool) (itself : (x : V) → ans
       let here : answer_eq (new k) (old k) ≡ true = ap (λ v. answer_eq v (old k)) (All-head (λ k. new k ≡ old k) k ks h) ∙ itself (old k) in
       ap (λ b. b && list_all (λ k. answer_eq (new k) (old k)) ks) here ∙ test-from_Agree ks (All-tail (λ k. new k ≡ old k) k ks h)
 
-module _ {K V X T O : Type 0} (text_eq : T → T → Bool) (text_itself : (x : T) → text_eq x x ≡ true) (text_turn : (x y : T) → text_eq x y ≡ text_eq y x) (text_same : (x y : T) → text_eq x y ≡ true → x ≡ y)
-    (answer_eq : V → V → Bool) (itself : (x : V) → answer_eq x x ≡ true) (same : (x y : V) → answer_eq x y ≡ true → x ≡ y) (query : T → Query K V X O) where
+-- texts that are equal by a test may be different ones, as long as they ask the same
+module _ {K V X T O : Type 0} (text_eq : T → T → Bool) (text_equiv : IsEquivalence text_eq) (answer_eq : V → V → Bool) (itself : (x : V) → answer_eq x x ≡ true) (same : (x y : V) → answer_eq x y ≡ true → x ≡ y)
+    (query : T → Query K V X O) (same_query : (x y : T) → text_eq x y ≡ true → query x ≡ query y) where
   abbrev alike : Place K V T → Place K V T → Bool
   alike = is_alike text_eq answer_eq query
 
@@ -48,45 +50,40 @@ module _ {K V X T O : Type 0} (text_eq : T → T → Bool) (text_itself : (x : T
   answers old new task = list_all (λ k. answer_eq (new k) (old k)) (asked (query task) old)
 
   -- what it means to be alike
-  pub is_alike-means : (here task : Place K V T) → (is_alike text_eq answer_eq query here task ≡ true ↔ (here.0 ≡ task.0) × Agree (asked (query task.0) task.1) task.1 here.1)
+  pub is_alike-means : (here task : Place K V T) → (is_alike text_eq answer_eq query here task ≡ true ↔ (text_eq here.0 task.0 ≡ true) × Agree (asked (query task.0) task.1) task.1 here.1)
   is_alike-means here task = (
-    (λ h. let parts = both (text_eq here.0 task.0) (answers task.1 here.1 task.0) h in (text_same here.0 task.0 parts.0, Agree-from_test answer_eq itself same task.1 here.1 (asked (query task.0) task.1) parts.1)),
-    (λ h. let text : text_eq here.0 task.0 ≡ true = ap (λ t. text_eq t task.0) h.0 ∙ text_itself task.0 in
-        ap (λ b. b && answers task.1 here.1 task.0) text ∙ test-from_Agree answer_eq itself same task.1 here.1 (asked (query task.0) task.1) h.1),
+    (λ h. let parts = both (text_eq here.0 task.0) (answers task.1 here.1 task.0) h in (parts.0, Agree-from_test answer_eq itself same task.1 here.1 (asked (query task.0) task.1) parts.1)),
+    (λ h. ap (λ b. b && answers task.1 here.1 task.0) h.0 ∙ test-from_Agree answer_eq itself same task.1 here.1 (asked (query task.0) task.1) h.1),
   )
 
-  -- a task is alike at its own place where the answers are as they were
-  pub is_alike-itself : (old new : K → V) (task : T) → is_alike text_eq answer_eq query (task, new) (task, old) ≡ answers old new task
-  is_alike-itself old new task = ap (λ b. b && answers old new task) (text_itself task)
-
-  -- over one bank they are
+  -- over one bank all of them have
   answers-here : (bank : K → V) (task : T) → answers bank bank task ≡ true
   answers-here bank task = test-from_Agree answer_eq itself same bank bank (asked (query task) bank) (λ k d below. refl)
 
   module _ (key_eq : K → K → Bool) (key_itself : (x : K) → key_eq x x ≡ true) (key_same : (x y : K) → key_eq x y ≡ true → x ≡ y) where
-    -- alike are those that have one text and one log
-    pub is_alike-class : (here task : Place K V T) → (is_alike text_eq answer_eq query here task ≡ true ↔ (here.0 ≡ task.0) × (log_at key_eq query here ≡ log_at key_eq query task))
+    -- alike are those that have equal texts and one log
+    pub is_alike-class : (here task : Place K V T) → (is_alike text_eq answer_eq query here task ≡ true ↔ (text_eq here.0 task.0 ≡ true) × (log_at key_eq query here ≡ log_at key_eq query task))
     is_alike-class here task = (
       (λ h. let m = (is_alike-means here task).0 h in
-          (m.0, ap (λ t. (run key_eq (query t) here.1 []).1) m.0 ∙ ap (λ (r : O × List (K × V)). r.1) (run-agree key_eq (query task.0) task.1 here.1 [] m.1))),
+          (m.0, ap (λ (q : Query K V X O). (run key_eq q here.1 []).1) (same_query here.0 task.0 m.0) ∙ ap (λ (r : O × List (K × V)). r.1) (run-agree key_eq (query task.0) task.1 here.1 [] m.1))),
       (λ h. let there : HoldsIn here.1 (log_at key_eq query task) = subst (HoldsIn here.1) h.1 (IsLogOf-run key_eq key_itself key_same (query here.0) here.1).answers in
           (is_alike-means here task).1 (h.0, Agree-from_log (asked (query task.0) task.1) task.1 here.1 (log_at key_eq query task) (IsLogOf-run key_eq key_itself key_same (query task.0) task.1) there)),
     )
 
     -- so each is alike to itself, two are both ways, and likeness goes on
     alike-itself : (x : Place K V T) → alike x x ≡ true
-    alike-itself x = (is_alike-class x x).1 (refl, refl)
+    alike-itself x = (is_alike-class x x).1 (text_equiv.refl x.0, refl)
 
     pub alike-turn : (x y : Place K V T) → alike x y ≡ alike y x
     alike-turn x y = one_test (alike x y) (alike y x)
-        (λ h. let c = (is_alike-class x y).0 h in (is_alike-class y x).1 (sym c.0, sym c.1))
-        (λ h. let c = (is_alike-class y x).0 h in (is_alike-class x y).1 (sym c.0, sym c.1))
+        (λ h. let c = (is_alike-class x y).0 h in (is_alike-class y x).1 (text_equiv.symm y.0 x.0 ∙ c.0, sym c.1))
+        (λ h. let c = (is_alike-class y x).0 h in (is_alike-class x y).1 (text_equiv.symm x.0 y.0 ∙ c.0, sym c.1))
 
     alike-chain : (x y z : Place K V T) → alike x y ≡ true → alike y z ≡ true → alike x z ≡ true
     alike-chain x y z first second =
         let c = (is_alike-class x y).0 first in
         let d = (is_alike-class y z).0 second in
-        (is_alike-class x z).1 (c.0 ∙ d.0, c.1 ∙ d.1)
+        (is_alike-class x z).1 (text_equiv.congr x.0 y.0 z.0 c.0 ∙ d.0, c.1 ∙ d.1)
 
     abbrev fresh : List (Place K V T) → List (Place K V T) → ℕ
     fresh = fresh_among text_eq answer_eq query
@@ -109,14 +106,6 @@ module _ {K V X T O : Type 0} (text_eq : T → T → Bool) (text_itself : (x : T
     pub fresh-aside : (old front stay rest : List (Place K V T)) → Among stay old → fresh old (front ++ (stay ++ rest)) ≡ fresh old (front ++ rest)
     unfolding fresh_among
     fresh-aside = new-aside alike alike-turn alike-chain
-
-    pub fresh-turned : (old a b : List (Place K V T)) → fresh old (a ++ b) ≡ fresh old (b ++ a)
-    unfolding fresh_among
-    fresh-turned = new-turned alike alike-turn alike-chain
-
-    pub fresh-classes : (old a b : List (Place K V T)) → Among a (old ++ b) → Among b (old ++ a) → fresh old a ≡ fresh old b
-    unfolding fresh_among
-    fresh-classes = new-classes alike alike-turn alike-chain
 
     pub fresh-gone : (old stay : List (Place K V T)) → Among stay old → fresh old stay ≡ 0
     unfolding fresh_among
@@ -153,10 +142,6 @@ module _ {K V X T O : Type 0} (text_eq : T → T → Bool) (text_itself : (x : T
     unfolding shared_among
     shared-aside = sum-aside alike alike-turn alike-chain keys_if
 
-    pub shared-turned : (old a b : List (Place K V T)) → shared old (a ++ b) ≡ shared old (b ++ a)
-    unfolding shared_among
-    shared-turned = sum-turned alike alike-turn alike-chain keys_if keys-class
-
     abbrev counted : Place K V T → Place K V T → ℕ
     counted here task = if text_eq here.0 task.0 then keys_at text_eq answer_eq query key_eq task else 0
 
@@ -164,13 +149,10 @@ module _ {K V X T O : Type 0} (text_eq : T → T → Bool) (text_itself : (x : T
     pub shared-most : (known : List (Place K V T)) (here : Place K V T) → shared_at text_eq answer_eq query key_eq known here ≤ most_shared_at text_eq answer_eq query key_eq known here
     shared-most known here = by (list_any (alike here) known) refl
       where
-        one-text : (task : Place K V T) → alike here task ≡ true → text_eq here.0 task.0 ≡ true
-        one-text task is = ap (text_eq here.0) (sym ((is_alike-class here task).0 is).0) ∙ text_itself here.0
-
         by_class : (task : Place K V T) → alike here task ≡ true → counted here task ≡ counted here here
         by_class task is =
-            let own = text_itself here.0 in
-            let other = one-text task is in
+            let own = text_equiv.refl here.0 in
+            let other : text_eq here.0 task.0 ≡ true = ((is_alike-class here task).0 is).0 in
             let keys = keys-class here task is true in
             rw own (rw other (sym keys))
 
@@ -178,7 +160,7 @@ module _ {K V X T O : Type 0} (text_eq : T → T → Bool) (text_itself : (x : T
         by false none = omega arith
         by true found =
             let most = most-new alike alike-turn alike-chain (counted here) here by_class known found in
-            let own = ap (λ b. if b then keys_at text_eq answer_eq query key_eq here else 0) (text_itself here.0) in
+            let own = ap (λ b. if b then keys_at text_eq answer_eq query key_eq here else 0) (text_equiv.refl here.0) in
             omega (arith, most, own)
 
     -- places that are there are among those
@@ -209,7 +191,7 @@ module _ {K V X T O : Type 0} (text_eq : T → T → Bool) (text_itself : (x : T
             → ((b && answers old new t) || list_any (alike (here, new)) (places_over old ts)) ≡ ((b || list_any (text_eq here) ts) && answers old new here)
         by false other rest = rest
         by true is rest =
-            let found = ap (λ x. answers old new x) (sym (text_same here t is)) in
+            let found = ap (λ (q : Query K V X O). list_all (λ k. answer_eq (new k) (old k)) (asked q old)) (sym (same_query here t is)) in
             ap (λ b. b || list_any (alike (here, new)) (places_over old ts)) found
             ∙ ap (λ b. answers old new here || b) rest ∙ absorbed (answers old new here) (list_any (text_eq here) ts)
 
@@ -218,7 +200,7 @@ module _ {K V X T O : Type 0} (text_eq : T → T → Bool) (text_itself : (x : T
     all_there before [] = tt
     all_there before (here ∷ texts) =
         let found : list_any (text_eq here) (before ++ here ∷ texts) ≡ true =
-        list_any-append (text_eq here) before (here ∷ texts) ∙ ap (λ b. list_any (text_eq here) before || (b || list_any (text_eq here) texts)) (text_itself here) ∙ or-true (list_any (text_eq here) before) in
+        list_any-append (text_eq here) before (here ∷ texts) ∙ ap (λ b. list_any (text_eq here) before || (b || list_any (text_eq here) texts)) (text_equiv.refl here) ∙ or-true (list_any (text_eq here) before) in
         (found, rw append_assoc at (all_there (before ++ here ∷ []) texts))
 
     -- where each text is that of a task of the old project, those are fresh whose answers aren't as they were
@@ -226,7 +208,7 @@ module _ {K V X T O : Type 0} (text_eq : T → T → Bool) (text_itself : (x : T
     each-there old new tasks [] there = refl
     each-there old new tasks (here ∷ texts) there =
         let test : list_any (alike (here, new)) (places_over old tasks) ≡ alike (here, new) (here, old) =
-        any_alike old new here tasks ∙ ap (λ b. b && answers old new here) (there.0 ∙ sym (text_itself here)) in
+        any_alike old new here tasks ∙ ap (λ b. b && answers old new here) (there.0 ∙ sym (text_equiv.refl here)) in
         let later = each-there old new tasks texts there.1 in
         λ i. (if test i then 0 else 1) + later i
 
@@ -243,7 +225,7 @@ module _ {K V X T O : Type 0} (text_eq : T → T → Bool) (text_itself : (x : T
     Among-texts bank tasks [] h = All-nil (λ p. list_any (alike p) (places_over bank tasks) ≡ true)
     Among-texts bank tasks (here ∷ texts) h =
         let found : Contains tasks here = All-head (Contains tasks) here texts h in
-        let text : list_any (text_eq here) tasks ≡ true = list_any_at (text_eq here) tasks found.0 here found.1 (ap (text_eq here) found.2 ∙ text_itself here) in
+        let text : list_any (text_eq here) tasks ≡ true = list_any_at (text_eq here) tasks found.0 here found.1 (ap (text_eq here) found.2 ∙ text_equiv.refl here) in
         let test : list_any (alike (here, bank)) (places_over bank tasks) ≡ true = any_alike bank bank here tasks ∙ ap (λ b. b && answers bank bank here) text ∙ answers-here bank here in
         All-cons (λ p. list_any (alike p) (places_over bank tasks) ≡ true) (here, bank) (places_over bank texts) test (Among-texts bank tasks texts (All-tail (Contains tasks) here texts h))
 
@@ -256,7 +238,7 @@ module _ {K V X T O : Type 0} (text_eq : T → T → Bool) (text_itself : (x : T
     fresh-one_more bank texts here distinct =
         let old = places_over bank texts in
         let last : Place K V T = (here, bank) in
-        let apart : list_any (alike last) old ≡ false = any_alike bank bank here texts ∙ ap (λ b. b && answers bank bank here) (not_before text_eq text_turn texts here [] distinct) in
+        let apart : list_any (alike last) old ≡ false = any_alike bank bank here texts ∙ ap (λ b. b && answers bank bank here) (not_before text_eq text_equiv.symm texts here [] distinct) in
         let test : list_any (alike last) (old ++ old) ≡ false = list_any-append (alike last) old old ∙ ap (λ b. b || list_any (alike last) old) apart ∙ apart in
         let at_last : fresh (old ++ old) (last ∷ []) ≡ 1 = fresh-one (old ++ old) last ∙ ap (λ b. if b then 0 else 1) test in
         let stay : fresh old old ≡ 0 = fresh-gone old old (rw append-nil at (HaveAlike-itself alike alike-itself [] old [])) in
@@ -264,11 +246,3 @@ module _ {K V X T O : Type 0} (text_eq : T → T → Bool) (text_itself : (x : T
         let sum : fresh old (old ++ last ∷ []) ≡ 1 = omega (arith, split, stay, at_last) in
         let at_place : T → Place K V T = λ text. (text, bank) in
         subst (λ (ps : List (Place K V T)). fresh old ps ≡ 1) (sym (map-append at_place texts (here ∷ []))) sum
-
-  module _ (key_eq : K → K → Bool) where
-    -- over one bank they are all that these tasks asked
-    pub compared-stay : (bank : K → V) (places : List T) → compared_among text_eq answer_eq query key_eq bank bank places ≡ asked_among text_eq answer_eq query key_eq bank places
-    compared-stay bank [] = refl
-    compared-stay bank (here ∷ places) =
-        let n : ℕ = asked_at text_eq answer_eq query key_eq bank here in
-        λ i. (if (is_alike-itself bank bank here ∙ answers-here bank here) i then n else 1) + compared-stay bank places i

@@ -1,5 +1,6 @@
 -- The results of places, and which of them are alike at a place.
 use Rattle.std.proofs.Common.{◌≡◌, Bool, true, false, ◌||◌, List, [], ◌∷◌, map, refl, sym, ap, ◌∙◌, subst, if◌then◌else◌}
+use Rattle.std.specs.Cmp.{IsEquivalence}
 use Rattle.std.specs.List.{list_any}
 use Rattle.std.proofs.lemmas.List.Elements.{All-nil, All-cons, All-contains, All-head, All-tail}
 use Rattle.idl_memo.specs.Fresh.{Place, fresh_at, is_alike, log_at}
@@ -18,21 +19,25 @@ module _ {K V X T O : Type 0} (key_eq : K → K → Bool) (query : T → Query K
       let r = over ∙ ap (λ t. run key_eq (query t) here.1 []) alike.text_is in
       λ i. record { text = alike.text_is i; log = (r i).1; out = (r i).0 }
 
-  module _ (text_eq : T → T → Bool) (text_itself : (x : T) → text_eq x x ≡ true) (text_turn : (x y : T) → text_eq x y ≡ text_eq y x) (text_same : (x y : T) → text_eq x y ≡ true → x ≡ y)
+  module _ (text_eq : T → T → Bool) (text_equiv : IsEquivalence text_eq) (text_same : (x y : T) → text_eq x y ≡ true → x ≡ y)
       (answer_eq : V → V → Bool) (itself : (x : V) → answer_eq x x ≡ true) (same : (x y : V) → answer_eq x y ≡ true → x ≡ y) where
     abbrev alike : Place K V T → Place K V T → Bool
     alike = is_alike text_eq answer_eq query
 
+    -- equal texts ask the same
+    same_query : (x y : T) → text_eq x y ≡ true → query x ≡ query y
+    same_query x y is = ap query (text_same x y is)
+
     -- the result of a place is alike at another exactly where the places are
     IsAlike-from : (here place : Place K V T) → alike here place ≡ true → IsAlike here.0 here.1 (result_over key_eq query place)
     IsAlike-from here place is =
-        let class = (is_alike-class text_eq text_itself text_turn text_same answer_eq itself same query key_eq key_itself key_same here place).0 is in
-        record { text_is = sym class.0; answers = subst (HoldsIn here.1) class.1 (IsLogOf-run key_eq key_itself key_same (query here.0) here.1).answers }
+        let class = (is_alike-class text_eq text_equiv answer_eq itself same query same_query key_eq key_itself key_same here place).0 is in
+        record { text_is = sym (text_same here.0 place.0 class.0); answers = subst (HoldsIn here.1) class.1 (IsLogOf-run key_eq key_itself key_same (query here.0) here.1).answers }
 
     alike-from : (here place : Place K V T) → IsAlike here.0 here.1 (result_over key_eq query place) → alike here place ≡ true
     alike-from here place is =
-        (is_alike-means text_eq text_itself text_turn text_same answer_eq itself same query here place).1
-        (sym is.text_is, Agree-from_log (asked (query place.0) place.1) place.1 here.1 (log_at key_eq query place) (IsLogOf-run key_eq key_itself key_same (query place.0) place.1) is.answers)
+        (is_alike-means text_eq text_equiv answer_eq itself same query same_query here place).1
+        (ap (text_eq here.0) is.text_is ∙ text_equiv.refl here.0, Agree-from_log (asked (query place.0) place.1) place.1 here.1 (log_at key_eq query place) (IsLogOf-run key_eq key_itself key_same (query place.0) place.1) is.answers)
 
     module _ (here : Place K V T) where
       abbrev results : List (Place K V T) → List (Kept K V T O)

@@ -1,8 +1,7 @@
 -- Which places of a project are fresh against those of another: the work that kept results don't
 -- save.
--- Roots have one bank for all, units and entries one each, of what stood before them. Alike is an
--- equality, so what is fresh is a number of classes, and a sum over parts in any order; it needs no
--- tables.
+-- Roots have one bank for all, units and entries one each, of what stood before them. What is fresh
+-- is a sum over parts; it needs no tables.
 use Rattle.std.specs.Prelude.{ℕ, ◌+◌, Bool, ◌&&◌, List, [], ◌∷◌, length, map, sum_by, if◌then◌else◌}
 use Rattle.std.specs.List.{list_all, list_any}
 use Rattle.idl_memo.specs.Classes.{HaveAlike, new_among, new_at, new_ones, sum_among}
@@ -75,16 +74,6 @@ module _ {K V X T O : Type 0} (text_eq : T → T → Bool) (answer_eq : V → V 
     -- how many keys a task asked
     abbrev pub asked_at : T → ℕ
     asked_at task = length (log_at key_eq query (task, old))
-
-    -- at how many keys a kept task is compared over an edit: where it is alike at its own place at
-    -- all that it asked, and else at the one with another answer
-    abbrev pub compared_at : (K → V) → T → ℕ
-    compared_at new task = if is_alike (task, new) (task, old) then asked_at task else 1
-
-    -- at how many keys these kept tasks are compared over an edit
-    abbrev pub compared_among : (K → V) → List T → ℕ
-    compared_among new [] = 0
-    compared_among new (task ∷ tasks) = compared_at new task + compared_among new tasks
 
     -- how many keys these tasks asked
     abbrev pub asked_among : List T → ℕ

@@ -23,7 +23,7 @@ use Rattle.idl_sources.specs.idl_root.AsBefore.{IsAsBefore, IsCompiledOf, IsMade
 use Rattle.idl_sources.specs.idl_root.Compared.{compared_root, root_keys}
 use Rattle.idl_sources.specs.idl_root.Compile.{compile}
 use Rattle.idl_sources.specs.idl_root.declared.compiling.compiled.Compiled.{Compiled}
-use Rattle.idl_sources.specs.idl_root.Turns.{IsWithinWords}
+use Rattle.idl_sources.specs.idl_root.Turns.{FitsU64}
 use Rattle.idl_sources.specs.idl_root.Results.{IsDeclarationPass, IsEntryPass, IsKeptOf, KeptLists, fresh_declarations, fresh_entries, root_marks}
 use Rattle.idl_sources.specs.idl_root.declared.kept.keeper.Keeper.{Keeper}
 use Rattle.idl_sources.proofs.CompileLemmas.{compile-kept}
@@ -121,7 +121,7 @@ IsKept-still old new kept copy is result compiled marks over = record {
   over = subst (λ (k : Kept RootKey (Option RootAnswer) (List ℕ) (List Event)). HoldsOver key_eq expansion new k) (sym result) over;
   rows = compiled ∙ is.rows ∙ compile-again old new kept.result.value is.over over;
   marks = marks ∙ is.marks ∙ ap root_marks (sym (expanded-again old new kept.result.value is.over over));
-  within = subst IsWithinWords (sym (expanded-again old new kept.result.value is.over over)) is.within;
+  within = subst FitsU64 (sym (expanded-again old new kept.result.value is.over over)) is.within;
 }
 
 -- of what isn't there

@@ -22,7 +22,7 @@ use Rattle.idl_store.specs.Stored.{Stored, committed, discarded, nothing_stored,
 use Rattle.idl_prep.specs.Root.{expanded}
 use Rattle.idl_sources.specs.idl_root.AsBefore.{AreListsLeft}
 use Rattle.idl_sources.specs.idl_root.Results.{EntryResult}
-use Rattle.idl_sources.specs.idl_root.Turns.{IsWithinWords}
+use Rattle.idl_sources.specs.idl_root.Turns.{FitsU64}
 use Rattle.idl_sources.specs.idl_root.declared.kept.keeper.Keeper.{Keeper}
 use Rattle.idl_source.specs.names.Name.{is_name}
 use Rattle.idl_sources.specs.Compile.{compile_over}
@@ -53,10 +53,10 @@ lookup-held bank (e ∷ es) name h = by (bytes_eq name e.0) refl (lookup-held ba
     by false other rest = rest
 
 -- and words count what the units of each root add that is kept
-pub within-held : (bank : RootKey → Option RootAnswer) (held : List (List ℕ × KeptRoot)) → AreKept bank held → All (λ name. IsWithinWords (expanded name bank).0) (keys_of held)
-within-held bank [] h = All-nil (λ name. IsWithinWords (expanded name bank).0)
+pub within-held : (bank : RootKey → Option RootAnswer) (held : List (List ℕ × KeptRoot)) → AreKept bank held → All (λ name. FitsU64 (expanded name bank).0) (keys_of held)
+within-held bank [] h = All-nil (λ name. FitsU64 (expanded name bank).0)
 within-held bank (e ∷ es) h =
-    All-cons (λ name. IsWithinWords (expanded name bank).0) e.0 (keys_of es) (All-head (λ (root : List ℕ × KeptRoot). IsKept bank root) e es h).within
+    All-cons (λ name. FitsU64 (expanded name bank).0) e.0 (keys_of es) (All-head (λ (root : List ℕ × KeptRoot). IsKept bank root) e es h).within
     (within-held bank es (All-tail (λ (root : List ℕ × KeptRoot). IsKept bank root) e es h))
 
 -- what isn't a name isn't that of a root

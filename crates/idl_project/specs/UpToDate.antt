@@ -9,7 +9,7 @@ use Rattle.idl_event.specs.declared.asked.key.RootKey.{RootKey}
 use Rattle.idl_memo.specs.Kept.{HoldsOver}
 use Rattle.idl_prep.specs.Root.{expanded, expansion}
 use Rattle.idl_sources.specs.idl_root.Results.{root_marks}
-use Rattle.idl_sources.specs.idl_root.Turns.{IsWithinWords}
+use Rattle.idl_sources.specs.idl_root.Turns.{FitsU64}
 use Rattle.idl_finding.specs.declared.finding.Finding.{Finding}
 use Rattle.idl_sources.specs.idl_root.declared.kept.keeper.Keeper.{Keeper}
 use Rattle.idl_inputs.specs.Bank.{bank_of}
@@ -64,7 +64,7 @@ pub record IsKept (bank : RootKey → Option RootAnswer) (root : List ℕ × Kep
   pub over : HoldsOver key_eq expansion bank root.1.result.value
   pub rows : root.1.compiled.value ≡ compile_over bank root.0
   pub marks : root.1.marks.value ≡ root_marks (expanded root.0 bank).0
-  pub within : IsWithinWords (expanded root.0 bank).0
+  pub within : FitsU64 (expanded root.0 bank).0
 
 -- that is so of each root
 abbrev pub AreKept : (RootKey → Option RootAnswer) → List (List ℕ × KeptRoot) → Type 0

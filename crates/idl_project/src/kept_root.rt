@@ -21,7 +21,7 @@ ghost use Rattle.idl_project.specs.Renewed.{IsDrafted, IsRenewedAt};
 ghost use Rattle.idl_project.specs.Tasks.{alike_root, root_lists};
 ghost use Rattle.idl_project.specs.UpToDate.{IsKept};
 
-use crate::compile::{CompiledAgain, KeptTask, compile_kept};
+use crate::compile::compile_kept;
 use idl_event::{Expansion, RootBank, RootKey};
 use idl_inputs::expanding::KeptExpansion;
 use idl_inputs::reading::{asked, root_expansion, root_log, root_name};
@@ -29,7 +29,7 @@ use idl_inputs::{SessionBank, Stepless};
 use idl_memo::{Meter, freshness, reliance, run_anew};
 use idl_prep::RootTask;
 use idl_source::Name;
-use idl_sources::idl_root::{Compiled, Details, Keeper, Marks};
+use idl_sources::idl_root::{Details, Keeper, Marks, RootBefore};
 use idl_sources::{CompiledRoot, idl_root};
 use std::alloc::{AllocError, Global};
 use std::rc::Rc;
@@ -61,16 +61,6 @@ pub struct BankChange<'a, B> {
     pub causes: &'a [RootKey],
 }
 
-// A root of this name, which stands at this place among all: what its units were and what they came to when it was compiled last, if
-// it was.
-#[derive(Drop)]
-struct RootEntry<'a> {
-    at: usize,
-    name: Name,
-    marks: &'a Rc<Marks>,
-    compiled: Option<&'a Compiled>,
-}
-
 impl KeptRoot {
     /// What comes of the root of this name over a bank, which will stand at this place among all: it is expanded and compiled.
     ///
@@ -92,13 +82,12 @@ impl KeptRoot {
         let (at, name) = root;
         let alloc = keeper.alloc();
         let none = Rc::new(alloc, Marks::none(alloc))?;
-        let root = RootEntry {
+        let before = RootBefore {
             at,
-            name,
             marks: &none,
             compiled: None,
         };
-        Ok(expanded(keeper, root, bank, meter)?)
+        Ok(expanded(keeper, (name, before), bank, meter)?)
     }
 
     /// What is kept of the root that stands at this place, of which this is kept, after an edit of the bank: the same where its result
@@ -129,20 +118,20 @@ impl KeptRoot {
     {
         let (at, kept) = root;
         if kept.outlasts(change.causes) {
-            meter.compared = meter.compared.saturating_add(kept.key_count() as u64);
+            meter.compare(kept.key_count());
             return Ok(KeptRoot {
                 result: kept.result.clone()?,
                 compiled: kept.compiled.clone()?,
                 marks: kept.marks.clone()?,
             });
         }
-        let root = RootEntry {
+        let name = root_name(&kept.result).copied();
+        let before = RootBefore {
             at,
-            name: root_name(&kept.result).copied(),
             marks: &kept.marks,
             compiled: Some(&kept.compiled.rows),
         };
-        Ok(expanded(keeper, root, change.bank, meter)?)
+        Ok(expanded(keeper, (name, before), change.bank, meter)?)
     }
 
     // Whether the root's own task is alike over other answers too, with these causes: it asked for none of them.
@@ -206,48 +195,37 @@ impl KeptRoot {
     }
 }
 
-// What comes of a root over a bank: it is expanded and compiled.
+// What comes of a root of this name over a bank, beside what it was: it is expanded and compiled.
 fn expanded<B: RootBank<Head = (), Step = Stepless>>(
     keeper: &mut Keeper,
-    root: RootEntry<'_>,
+    root: (Name, RootBefore<'_>),
     bank: &B,
     meter: &mut Meter,
 ) -> Result<KeptRoot, AllocError>
     requires room { meter.old.expanded < most_compared }
     requires kept { (was : List Event)
-        × IsKeptOf was root.marks.now.value (kept_lists keeper.old root.at)
-        × IfSome root.compiled (λ compiled. IsCompiledOf was compiled.now) }
-    ensures kept { IfOk result (λ kept. IsKept (B.at bank.now) (root.entry.name, kept)) }
+        × IsKeptOf was root.1.marks.now.value (kept_lists keeper.old root.1.at)
+        × IfSome root.1.compiled (λ compiled. IsCompiledOf was compiled.now) }
+    ensures kept { IfOk result (λ kept. IsKept (B.at bank.now) (root.entry.0, kept)) }
     ensures tasks { OnOk result ((was : List Event)
-        → IsKeptOf was root.entry.marks.now.value (kept_lists keeper.old root.entry.at)
-        → IsAsBefore was (expanded root.entry.name (B.at bank.now)).0
+        → IsKeptOf was root.entry.1.marks.now.value (kept_lists keeper.old root.entry.1.at)
+        → IsAsBefore was (expanded root.entry.0 (B.at bank.now)).0
         keeper.old keeper.new meter.old meter.new
-        ⊎ IsDrafted (B.at bank.now) root.entry.at root.entry.name keeper.old keeper.new
+        ⊎ IsDrafted (B.at bank.now) root.entry.1.at root.entry.0 keeper.old keeper.new
         meter.old meter.new) }
-    ensures first { OnOk result (IfNone root.entry.compiled (IsDrafted (B.at bank.now)
-        root.entry.at root.entry.name keeper.old keeper.new meter.old meter.new)) }
+    ensures first { OnOk result (IfNone root.entry.1.compiled (IsDrafted (B.at bank.now)
+        root.entry.1.at root.entry.0 keeper.old keeper.new meter.old meter.new)) }
     ensures lists { AreListsLeft keeper.old keeper.new }
     ensures count { OnOk result (meter.new.expanded ≡ meter.old.expanded + 1) }
 {
     let alloc = keeper.alloc();
-    let RootEntry {
-        at,
-        name,
-        marks: earlier,
-        compiled,
-    } = root;
+    let (name, before) = root;
     let result = run_anew(alloc, &RootTask::new(name), bank, meter)?;
-    let task = KeptTask {
-        result: &result,
-        at,
-        marks: earlier,
-        compiled,
-    };
-    let CompiledAgain { compiled, marks } = compile_kept(keeper, bank, task, meter)?;
+    let (compiled, marks) = compile_kept(keeper, bank, (&result, before), meter)?;
     Ok(KeptRoot {
         result,
         compiled: Rc::new(alloc, compiled)?,
-        marks: marks_of(alloc, marks, earlier)?,
+        marks: marks_of(alloc, marks, before.marks)?,
     })
 }
 

@@ -15,7 +15,7 @@ ghost use Rattle.idl_inputs.specs.Asked.{asked_files, asked_of};
 ghost use Rattle.idl_prep.specs.Root.{expanded};
 ghost use Rattle.idl_sources.specs.idl_root.Details.{details};
 ghost use Rattle.idl_sources.specs.idl_root.Places.{root_pieces};
-ghost use Rattle.idl_sources.specs.idl_root.Turns.{IsWithinWords};
+ghost use Rattle.idl_sources.specs.idl_root.Turns.{FitsU64};
 ghost use Rattle.idl_sources.specs.idl_root.idl_root_blocks.Places.{AreStandingOver};
 ghost use Rattle.idl_inputs.specs.Bank.{bank_of};
 ghost use Rattle.idl_inputs.specs.Columns.{column_of};
@@ -405,7 +405,7 @@ impl Session {
     /// This does nothing: it carries the facts.
     pub fn bounds_turns(&self)
         ensures within { let bank = bank_of self.now.project.inputs in
-            All (λ root. IsWithinWords (expanded root bank).0) self.now.project.roots }
+            All (λ root. FitsU64 (expanded root bank).0) self.now.project.roots }
         ensures blocks { let bank = bank_of self.now.project.inputs in
             All (λ root. AreStandingOver [] (root_pieces (expanded root bank).0))
             self.now.project.roots }

@@ -1,1 +1,1 @@
-mod AlreadyLemmas
+mod FirstDeclaredLemmas

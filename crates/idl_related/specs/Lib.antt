@@ -1,6 +1,6 @@
 pub mod Told
 pub mod Reasons
 pub mod Follows
-pub mod Already
+pub mod FirstDeclared
 pub mod Related
 pub mod Judged

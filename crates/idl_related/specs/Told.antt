@@ -1,43 +1,41 @@
--- Which findings may have second places, how many are told, and which names near ones are looked for
--- among.
-use Rattle.std.specs.Prelude.{◌≡◌, ◌≤◌, ℕ, ◌+◌, ◌/◌, Bool, ◌||◌, true, false, IfSome, List, None, length, nat_le}
+-- Which findings may have second places, how many are told, and which names near ones are looked
+-- for among.
+use Rattle.std.specs.Prelude.{◌≡◌, ◌≤◌, ℕ, ◌+◌, ◌/◌, Bool, true, false, IfSome, List, None, length, nat_le}
 use Rattle.std.specs.List.{last_or}
 use Rattle.idl_fault.specs.declared.code.Code.{Code}
 use Rattle.idl_fault.specs.declared.code.Code.TheVariants as code
 use Rattle.idl_related.specs.declared.second.Second.{Second}
 
--- a name is declared that is declared already
-abbrev pub is_already : Code → Bool
-is_already code.AlreadyDeclared = true
-is_already other = false
+-- E33: a name is declared that is declared already in its scope
+abbrev pub is_redeclaration : Code → Bool
+is_redeclaration code.AlreadyDeclared = true
+is_redeclaration other = false
 
--- findings of that code and of these may have them
-abbrev pub has_other : Code → Bool
-has_other code.NameNotFound = true
-has_other code.AmbiguousName = true
-has_other code.OtherCase = true
-has_other code.NameOfScope = true
-has_other code.DeclaredAfterUse = true
-has_other code.WrongKind = true
-has_other code.NoScope = true
-has_other code.OtherForward = true
-has_other code.IncompleteBase = true
-has_other code.RepeatedBase = true
-has_other code.DeclaredAgain = true
-has_other code.LocalBase = true
-has_other code.ReachedThroughBase = true
-has_other code.NoConstantType = true
-has_other code.IncompleteType = true
-has_other code.BadDiscriminator = true
-has_other code.RepeatedLabel = true
-has_other code.OtherPrefix = true
-has_other code.RepeatedId = true
-has_other code.RepeatedVersion = true
-has_other code.RepeatedTypeprefix = true
-has_other other = false
-
+-- findings of these codes may have second places, and no others
 abbrev pub has_second : Code → Bool
-has_second code = is_already code || has_other code
+has_second code.NameNotFound = true
+has_second code.AmbiguousName = true
+has_second code.OtherCase = true
+has_second code.AlreadyDeclared = true
+has_second code.NameOfScope = true
+has_second code.DeclaredAfterUse = true
+has_second code.WrongKind = true
+has_second code.NoScope = true
+has_second code.OtherForward = true
+has_second code.IncompleteBase = true
+has_second code.RepeatedBase = true
+has_second code.DeclaredAgain = true
+has_second code.LocalBase = true
+has_second code.ReachedThroughBase = true
+has_second code.NoConstantType = true
+has_second code.IncompleteType = true
+has_second code.BadDiscriminator = true
+has_second code.RepeatedLabel = true
+has_second code.OtherPrefix = true
+has_second code.RepeatedId = true
+has_second code.RepeatedVersion = true
+has_second code.RepeatedTypeprefix = true
+has_second other = false
 
 -- so many declarations are told of what has several, and so many near names
 abbrev pub most_told : ℕ

@@ -1,8 +1,8 @@
 -- Units that are as they were come to what they came to: of each its text alone tells.
-use Rattle.std.proofs.Common.{◌≡◌, ℕ, ◌+◌, Bool, List, [], ◌∷◌, ◌++◌, flat_map, length, map, refl, ap, sym, subst, ◌∙◌, append-nil, arith, option_to_list}
+use Rattle.std.proofs.Common.{◌≡◌, ℕ, ◌+◌, Bool, List, [], ◌∷◌, ◌++◌, flat_map, length, map, refl, ap, sym, ◌∙◌, append-nil, arith, option_to_list}
 use Rattle.std.proofs.lemmas.List.{length-append, map-append}
 use Rattle.std.specs.List.{enumerate_from, sum_by}
-use Rattle.idl_env.specs.Facts.{UnitFacts, answers}
+use Rattle.idl_env.specs.Facts.{UnitFacts, answers, boundary}
 use Rattle.idl_env.specs.declared.additions.addition.Step.TheVariants.{Enters as EntersFile, Leaves as LeavesFile}
 use Rattle.idl_event.specs.declared.told.event.Event.{Event}
 use Rattle.idl_event.specs.declared.told.site.Site.{Site}
@@ -12,9 +12,9 @@ use Rattle.idl_root.specs.Compared.{entry_keys, root_keys}
 use Rattle.idl_root.specs.Compile.{all_findings, compile, findings_told, has_error, is_open, outcome_of, row_in, rows_beside}
 use Rattle.idl_finding.specs.Findings.{event_finding, finding_row}
 use Rattle.idl_root.specs.Findings.{unit_finding}
-use Rattle.idl_root.specs.Judged.{facts_after, judged_after, judged_over, verdict_over}
-use Rattle.idl_block.specs.facts.Written.{boundary}
-use Rattle.idl_root.specs.Places.{EntryPlace, declarations_after, declarations_of, entries_of, entries_over, root_pieces}
+use Rattle.idl_root.specs.Judged.{facts_after, judged_after, judged_over}
+use Rattle.idl_root_blocks.specs.idl_check.walk.Verdict.{verdict_over}
+use Rattle.idl_root.specs.Places.{EntryPlace, declarations_of, entries_of, entries_over, root_pieces, root_text}
 use Rattle.idl_root_blocks.specs.Blocks.{cut}
 use Rattle.idl_root_blocks.specs.Met.{outermost_keys}
 use Rattle.idl_root_blocks.specs.Places.{DeclarationPlace, declaration_result, declarations_over, facts_over}
@@ -22,16 +22,17 @@ use Rattle.idl_root_blocks.specs.Units.{text_of}
 use Rattle.idl_root_blocks.specs.declared.text.BlockPart.{BlockPart}
 use Rattle.idl_root_blocks.specs.declared.text.BlockPart.TheVariants.{Text, Enters, Leaves}
 use Rattle.idl_root.specs.Printed.{Listed, closing_finding, entry_over, entry_row, first_paths, listed_in, listed_with}
-use Rattle.idl_root.specs.Results.{DeclarationResult, EntryResult, entry_result, marks_of}
+use Rattle.idl_kept.specs.Texts.{DeclarationResult}
+use Rattle.idl_root.specs.Results.{EntryResult, entry_result, marks_of}
 use Rattle.idl_root.specs.declared.compiling.compiled.Compiled.{Compiled}
 use Rattle.idl_finding.specs.declared.finding.EventFinding.{EventFinding}
 use Rattle.idl_finding.specs.declared.finding.Finding.{Finding}
 use Rattle.idl_root.specs.declared.kept.course.Course.{Course}
 use Rattle.idl_root.specs.declared.kept.marks.Mark.{Mark}
 use Rattle.idl_root.specs.declared.kept.marks.Mark.TheVariants as mark
-use Rattle.idl_root.specs.Turns.{IsWithinWords}
+use Rattle.idl_root.specs.Turns.{FitsU64}
 use Rattle.idl_root.proofs.FactsTold.{within-words}
-use Rattle.idl_root.proofs.TextLaws.{declarations-text, facts-text}
+use Rattle.idl_root.proofs.TextLaws.{facts-text}
 use Rattle.idl_unit.specs.Units.{units_of}
 use Rattle.idl_unit.specs.declared.unit.Unit.{Unit as RootUnit}
 use Rattle.idl_unit.specs.declared.unit.Unit.TheVariants.{Spelled, Entered, Left, End}
@@ -61,13 +62,13 @@ text-same before units same = text-told units ∙ (λ i. text_by (same.marks i) 
 -- ---- declarations
 
 -- the texts that are kept of units are theirs
-texts-kept : (units : List RootUnit) (facts : List UnitFacts) → map (λ (k : DeclarationResult). k.text) (map declaration_result (declarations_after facts units)) ≡ texts_of units
-unfolding declarations_after
+texts-kept : (units : List RootUnit) (facts : List UnitFacts) → map (λ (k : DeclarationResult). k.text) (map declaration_result (declarations_over facts (text_of units))) ≡ texts_of units
+unfolding declarations_over
 texts-kept [] facts = refl
 texts-kept (Spelled text sites ∷ units) facts = ap (λ texts. text ∷ texts) (texts-kept units (facts ++ (verdict_over facts text).writes ∷ []))
 texts-kept (Entered file inside ∷ units) facts = texts-kept units (facts ++ boundary EntersFile ∷ [])
 texts-kept (Left file inside ∷ units) facts = texts-kept units (facts ++ boundary LeavesFile ∷ [])
-texts-kept (End ∷ units) facts = ap (λ fs. map (λ (k : DeclarationResult). k.text) (map declaration_result (declarations_after fs units))) (append-nil facts) ∙ texts-kept units facts
+texts-kept (End ∷ units) facts = texts-kept units facts
 
 -- how many results are kept of units with these marks
 abbrev results_count : List Mark → ℕ
@@ -100,28 +101,26 @@ as-before lists course before units rest are marks texts =
     record { marks = same; texts = sym (append-nil (texts_of units)) ∙ ap (λ l. texts_of units ++ l) (sym none) ∙ sym all }
 
 -- their declarations stand where they stood
-pub declarations-same : (before units : List RootUnit) → AreAsBefore before units → declarations_after [] units ≡ declarations_after [] before
-declarations-same before units same =
-    declarations-text units [] ∙ ap (declarations_over []) (text-same before units same) ∙ sym (declarations-text before [])
+pub declarations-same : (before units : List RootUnit) → AreAsBefore before units → declarations_over [] (text_of units) ≡ declarations_over [] (text_of before)
+declarations-same before units same = ap (declarations_over []) (text-same before units same)
 
 -- and they add what they added
 pub facts-same : (before units : List RootUnit) → AreAsBefore before units → facts_after [] units ≡ facts_after [] before
 facts-same before units same = facts-text units [] ∙ ap (facts_over []) (text-same before units same) ∙ sym (facts-text before [])
 
-pub within-same : (was events : List Event) → AreAsBefore (units_of was) (units_of events) → IsWithinWords was → IsWithinWords events
+pub within-same : (was events : List Event) → AreAsBefore (units_of was) (units_of events) → FitsU64 was → FitsU64 events
 within-same was events same within = within-words events (facts_after [] (units_of was)) (sym (facts-same (units_of was) (units_of events) same)) within.turns within.nameless
 
 -- ---- what is found in them
 
 -- the verdicts of units are those that are kept
-pub judged-kept : (units : List RootUnit) (facts : List UnitFacts) → judged_after facts units ≡ judged_beside units (map declaration_result (declarations_after facts units))
-unfolding judged_after declarations_after
+pub judged-kept : (units : List RootUnit) (facts : List UnitFacts) → judged_after facts units ≡ judged_beside units (map declaration_result (declarations_over facts (text_of units)))
+unfolding judged_after declarations_over
 judged-kept [] facts = refl
 judged-kept (Spelled text sites ∷ units) facts = ap (λ judged. judged_over facts text sites ∷ judged) (judged-kept units (facts ++ (verdict_over facts text).writes ∷ []))
 judged-kept (Entered file inside ∷ units) facts = judged-kept units (facts ++ boundary EntersFile ∷ [])
 judged-kept (Left file inside ∷ units) facts = judged-kept units (facts ++ boundary LeavesFile ∷ [])
-judged-kept (End ∷ units) facts =
-    subst (λ fs. judged_after fs units ≡ judged_beside units (map declaration_result (declarations_after fs units))) (sym (append-nil facts)) (judged-kept units facts)
+judged-kept (End ∷ units) facts = ap (λ (fs : List UnitFacts). judged_after fs units) (append-nil facts) ∙ judged-kept units facts
 
 -- and what is wrong with names at the end is told by the entries that are kept
 closing-kept : (facts : List UnitFacts) (listed : List Listed) → flat_map (closing_finding facts) listed ≡ closing_beside listed (map entry_result (entries_over facts listed))
@@ -132,16 +131,14 @@ closing-kept facts (l ∷ listed) = ap (λ found. closing_finding facts l ++ fou
 
 -- the rows of the dump are told by what is kept
 rows-kept : (units : List RootUnit) (facts : List UnitFacts)
-    → flat_map row_in (judged_after facts units) ≡ flat_map (λ (k : DeclarationResult). option_to_list k.out.row) (map declaration_result (declarations_after facts units))
-unfolding judged_after declarations_after
+    → flat_map row_in (judged_after facts units) ≡ flat_map (λ (k : DeclarationResult). option_to_list k.out.row) (map declaration_result (declarations_over facts (text_of units)))
+unfolding judged_after declarations_over
 rows-kept [] facts = refl
 rows-kept (Spelled text sites ∷ units) facts =
     ap (λ rows. option_to_list (verdict_over facts text).row ++ rows) (rows-kept units (facts ++ (verdict_over facts text).writes ∷ []))
 rows-kept (Entered file inside ∷ units) facts = rows-kept units (facts ++ boundary EntersFile ∷ [])
 rows-kept (Left file inside ∷ units) facts = rows-kept units (facts ++ boundary LeavesFile ∷ [])
-rows-kept (End ∷ units) facts =
-    subst (λ fs. flat_map row_in (judged_after fs units) ≡ flat_map (λ (k : DeclarationResult). option_to_list k.out.row) (map declaration_result (declarations_after fs units)))
-    (sym (append-nil facts)) (rows-kept units facts)
+rows-kept (End ∷ units) facts = ap (λ (fs : List UnitFacts). flat_map row_in (judged_after fs units)) (append-nil facts) ∙ rows-kept units facts
 
 -- the paths of names
 abbrev paths_in : List Listed → List (List (List ℕ))
@@ -154,8 +151,8 @@ paths-listed text sites (path ∷ paths) = ap (λ ps. path ∷ ps) (paths-listed
 -- those that units declare first are told by what is kept
 paths-kept : (units : List RootUnit) (facts : List UnitFacts)
     → paths_in (flat_map listed_in (judged_after facts units))
-    ≡ flat_map (λ (k : DeclarationResult). first_paths k.out.writes.additions) (map declaration_result (declarations_after facts units))
-unfolding judged_after declarations_after
+    ≡ flat_map (λ (k : DeclarationResult). first_paths k.out.writes.additions) (map declaration_result (declarations_over facts (text_of units)))
+unfolding judged_after declarations_over
 paths-kept [] facts = refl
 paths-kept (Spelled text sites ∷ units) facts =
     let next = facts ++ (verdict_over facts text).writes ∷ [] in
@@ -164,11 +161,7 @@ paths-kept (Spelled text sites ∷ units) facts =
     ∙ (λ i. paths-listed text sites own i ++ paths-kept units next i)
 paths-kept (Entered file inside ∷ units) facts = paths-kept units (facts ++ boundary EntersFile ∷ [])
 paths-kept (Left file inside ∷ units) facts = paths-kept units (facts ++ boundary LeavesFile ∷ [])
-paths-kept (End ∷ units) facts =
-    subst
-    (λ fs. paths_in (flat_map listed_in (judged_after fs units))
-    ≡ flat_map (λ (k : DeclarationResult). first_paths k.out.writes.additions) (map declaration_result (declarations_after fs units)))
-    (sym (append-nil facts)) (paths-kept units facts)
+paths-kept (End ∷ units) facts = ap (λ (fs : List UnitFacts). paths_in (flat_map listed_in (judged_after fs units))) (append-nil facts) ∙ paths-kept units facts
 
 -- entries, and their rows, are told by the paths
 abbrev entry_at : List UnitFacts → List (List ℕ) → EntryPlace
@@ -233,7 +226,7 @@ module _ (was events : List Event) (same : AreAsBefore (units_of was) (units_of 
         → flat_map event_finding (enumerate_from 0 events) ++ flat_map unit_finding (judged_beside units results) ≡ (outcome_of events).found
     unfolding declarations_of
     found-again results is =
-        let kept : results ≡ map declaration_result (declarations_after [] (units_of events)) =
+        let kept : results ≡ map declaration_result (declarations_over [] (root_text events)) =
         is ∙ ap (λ (places : List DeclarationPlace). map declaration_result places) (sym (declarations-same (units_of was) (units_of events) same)) in
         ap (λ judged. flat_map event_finding (enumerate_from 0 events) ++ flat_map unit_finding judged)
         ((λ i. judged_beside (are i) (kept i)) ∙ sym (judged-kept (units_of events) []))
@@ -243,7 +236,7 @@ module _ (was events : List Event) (same : AreAsBefore (units_of was) (units_of 
         → closing_beside (flat_map listed_in (judged_beside units results)) entries ≡ flat_map (closing_finding (outcome_of events).facts) (outcome_of events).listed
     unfolding declarations_of entries_of
     closing-again results entries is own =
-        let kept : results ≡ map declaration_result (declarations_after [] (units_of events)) =
+        let kept : results ≡ map declaration_result (declarations_over [] (root_text events)) =
         is ∙ ap (λ (places : List DeclarationPlace). map declaration_result places) (sym (declarations-same (units_of was) (units_of events) same)) in
         let listed : flat_map listed_in (judged_beside units results) ≡ (outcome_of events).listed =
         ap (λ judged. flat_map listed_in judged) ((λ i. judged_beside (are i) (kept i)) ∙ sym (judged-kept (units_of events) [])) in

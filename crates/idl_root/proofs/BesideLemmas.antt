@@ -1,5 +1,6 @@
 -- Units gone through beside what is kept of them.
 use Rattle.std.proofs.Common.{◌≡◌, ◌≢◌, ℕ, zero, suc, ◌+◌, Bool, List, [], ◌∷◌, ◌++◌, None, Some, flat_map, map, refl, ap, sym, ◌∙◌, append-nil, append_assoc, drop}
+use Rattle.std.proofs.lemmas.List.{map-append}
 use Rattle.std.specs.Option.{option_map}
 use Rattle.std.specs.Prelude.{slice_get}
 use Rattle.idl_event.specs.declared.told.site.Site.{Site}
@@ -8,12 +9,14 @@ use Rattle.idl_finding.specs.Findings.{fault_finding}
 use Rattle.idl_root.specs.Judged.{Judged}
 use Rattle.idl_root.specs.Held.{listed_at}
 use Rattle.idl_root.specs.Printed.{name_index}
-use Rattle.idl_root.specs.Results.{DeclarationResult, EntryResult, mark_at, marks_of}
+use Rattle.idl_kept.specs.Texts.{DeclarationResult}
+use Rattle.idl_root.specs.Results.{EntryResult, mark_at, marks_of, part_mark}
 use Rattle.idl_finding.specs.declared.finding.EventFinding.{EventFinding}
 use Rattle.idl_root.specs.declared.compiling.printing.Listed.{Listed as HeldListed}
 use Rattle.idl_root.specs.declared.kept.course.Course.{Course}
 use Rattle.idl_root.specs.declared.kept.marks.Mark.TheVariants as mark
 use Rattle.idl_root.proofs.StoredLemmas.{item-drop}
+use Rattle.idl_root_blocks.specs.Units.{parts_of_unit, text_of}
 use Rattle.idl_store.specs.Stored.{item_at, list_at}
 use Rattle.idl_unit.specs.TokenRules.{fault_at}
 use Rattle.idl_unit.specs.declared.unit.Unit.{Unit as RootUnit}
@@ -50,7 +53,7 @@ behind-left lists course next file inside b = record {
 -- and behind those
 module _ (lists : List (List DeclarationResult)) (course next : Course) (u : RootUnit) (behind : IsBehindSame lists course u next) (units : List RootUnit) where
   pub marks-behind : next.marks.now ≡ marks_of units → course.marks.now ≡ marks_of (u ∷ units)
-  marks-behind are = behind.marks ∙ ap (λ l. mark_at u ++ l) are
+  marks-behind are = behind.marks ∙ ap (λ l. mark_at u ++ l) are ∙ sym (map-append part_mark (parts_of_unit u) (text_of units))
 
   pub texts-behind : (rest : List UnitText) → texts_from lists next ≡ texts_of units ++ rest → texts_from lists course ≡ texts_of (u ∷ units) ++ rest
   texts-behind rest are = behind.texts ∙ ap (λ l. text_at u ++ l) are ∙ sym (append_assoc (text_at u) (texts_of units) rest)

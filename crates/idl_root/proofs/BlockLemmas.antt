@@ -10,14 +10,14 @@ use Rattle.idl_env.specs.Facts.{UnitFacts}
 use Rattle.idl_env.specs.SameKey.{same_key}
 use Rattle.idl_env.specs.keys.Digested.{key_equiv}
 use Rattle.idl_env.specs.keys.Key.{key_eq}
-use Rattle.idl_kept.specs.Texts.{IsLast, Texts, begins_in, inner_results, unit_results, with_blocks, with_units, with_whole}
+use Rattle.idl_kept.specs.Texts.{DeclarationResult, IsLast, Texts, begins_in, inner_results, unit_results, with_blocks, with_units, with_whole}
 use Rattle.idl_memo.proofs.QueryLaws.{IsLogOf-run}
 use Rattle.idl_memo.specs.Kept.{IsAlike, NoneAlikeAt, SomeAlikeAt}
 use Rattle.idl_root.proofs.PiecesLemmas.{draft-grown}
 use Rattle.idl_root.proofs.StoredLemmas.{grown-grown, item-drop}
 use Rattle.idl_scope.proofs.Constructors.{head_same}
 use Rattle.idl_root.specs.Passed.{HasDrafts, keys_behind, with_kept}
-use Rattle.idl_root.specs.Results.{DeclarationResult, IsDeclarationPass}
+use Rattle.idl_root.specs.Results.{IsDeclarationPass}
 use Rattle.idl_root_blocks.proofs.Wholes.{blocks-block, blocks-none, declarations-block, declarations-none}
 use Rattle.idl_root_blocks.specs.Blocks.{Block, Nothing, Pieces, text_in}
 use Rattle.idl_root_blocks.specs.Places.{BlockPlace, DeclarationPlace, block_at, block_result, blocks_over, declaration_result, declarations_over, facts_behind, with_entering}

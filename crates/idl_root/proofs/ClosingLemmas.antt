@@ -10,7 +10,7 @@ use Rattle.std.specs.Option.{IsSome, option_map}
 use Rattle.idl_root_blocks.specs.idl_check.walk.Judging.{IsSpoken}
 use Rattle.idl_root_blocks.specs.idl_check.walk.Names.{declared_as, declared_paths, unit_names}
 use Rattle.idl_root_blocks.specs.idl_check.walk.Placing.{faulty_step}
-use Rattle.idl_root_blocks.specs.idl_check.walk.Verdict.{faulty, verdict}
+use Rattle.idl_root_blocks.specs.idl_check.walk.Verdict.{faulty, verdict, verdict_over}
 use Rattle.idl_root_blocks.specs.idl_check.declared.walk.names.NamedSite.{NamedSite}
 use Rattle.idl_root_blocks.specs.idl_check.declared.walk.names.NameRole.{NameRole}
 use Rattle.idl_root_blocks.specs.idl_check.declared.walk.names.NameRole.TheVariants.{Declared, Used}
@@ -23,7 +23,7 @@ use Rattle.idl_entity.specs.declared.kind.Stage.TheVariants.{Ahead}
 use Rattle.idl_env.proofs.AnswerLaws.CountLemmas.{world-push}
 use Rattle.idl_env.proofs.Membership.{Contains-IsIn, IsIn}
 use Rattle.idl_env.proofs.StoppedLemmas.{declared-unstopped}
-use Rattle.idl_env.specs.Facts.{UnitFacts, World, addition_at, after, after_closing, after_step, answer_of, answers, closed, entity_in, entity_key, key_of, over, scopes_in, with_additions, world}
+use Rattle.idl_env.specs.Facts.{UnitFacts, World, addition_at, after, after_closing, after_step, answer_of, answers, boundary, closed, entity_in, entity_key, key_of, over, scopes_in, with_additions, world}
 use Rattle.idl_env.specs.Turns.{most_turns}
 use Rattle.idl_env.specs.keys.Key.{key_eq}
 use Rattle.idl_env.specs.declared.additions.addition.Addition.{Addition}
@@ -38,7 +38,6 @@ use Rattle.idl_env.specs.declared.keys.key.Key.TheVariants.{Cursor}
 use Rattle.idl_event.specs.Apart.{place_in}
 use Rattle.idl_event.specs.declared.told.event.Event.{Event}
 use Rattle.idl_event.specs.declared.told.site.Site.{Site}
-use Rattle.idl_block.specs.facts.Written.{boundary}
 use Rattle.idl_fault.specs.declared.code.Code.{Code}
 use Rattle.idl_fault.specs.declared.code.Code.TheVariants.{InterfaceNeverDefined, NeverDefined}
 use Rattle.idl_lex.specs.kinds.Keywords.{folded}
@@ -53,7 +52,7 @@ use Rattle.idl_root.proofs.ToldLemmas.{AreSited, IsSited, item-there, units-site
 use Rattle.idl_root.specs.Closing.{ClosesAtFirst, StandsAtFirst}
 use Rattle.idl_root.specs.Compile.{Outcome, outcome_of}
 use Rattle.idl_finding.specs.Findings.{fault_finding, finding_at, numbered, site_of, tokens_of}
-use Rattle.idl_root.specs.Judged.{facts_after, judged_after, verdict_over}
+use Rattle.idl_root.specs.Judged.{facts_after, judged_after}
 use Rattle.idl_root.specs.Named.{NamedUnit, closings_in, end_before, ends_of, named_after, named_over, names_over}
 use Rattle.idl_root.specs.NamePlaces.{declared_by, declared_in, declared_names, declared_until, declared_with, is_at, last_in, places_at, sited, sited_in}
 use Rattle.idl_finding.specs.Number.{token_number}

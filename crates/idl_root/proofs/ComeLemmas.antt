@@ -8,7 +8,8 @@ use Rattle.idl_root.proofs.TextLaws.{facts-text}
 use Rattle.idl_root.specs.Compile.{Outcome, row_in}
 use Rattle.idl_root.specs.Findings.{unit_finding}
 use Rattle.idl_root.specs.Held.{to_come, with_gathered, with_units}
-use Rattle.idl_root.specs.Judged.{Judged, added, facts_after, judged_after, judged_at}
+use Rattle.idl_root.specs.Judged.{Judged, facts_after, judged_after, judged_at}
+use Rattle.idl_root_blocks.specs.idl_check.walk.Verdict.{added}
 use Rattle.idl_root.specs.Printed.{listed_in}
 use Rattle.idl_root.specs.declared.compiling.judging.Accumulator.{Accumulator}
 use Rattle.idl_root_blocks.proofs.Cuts.{cut-whole}

@@ -1,17 +1,16 @@
 -- What is compared, by which tasks are known.
-use Rattle.std.proofs.Common.{◌≡◌, ◌∙◌, ◌+◌, Bool, true, false, ◌||◌, All, Contains, List, [], ◌∷◌, refl, subst, sym, ap}
+use Rattle.std.proofs.Common.{◌≡◌, ◌+◌, Bool, true, false, ◌||◌, All, Contains, List, [], ◌∷◌, refl, subst, sym, ap}
 use Rattle.std.proofs.lemmas.Bool.{false≢true}
 use Rattle.std.proofs.lemmas.List.Elements.{All-head, All-tail, All-weaker}
 use Rattle.std.specs.List.{list_any}
 use Rattle.std.specs.Prelude.{IsTrue, sum_by}
 use Rattle.idl_event.specs.declared.told.event.Event.{Event}
 use Rattle.idl_root.specs.Compared.{AreSamePlaces, compared_root, entry_keys, root_keys, shared_entries}
-use Rattle.idl_root.specs.Places.{EntryPlace, blocks_of, declarations_after, declarations_of, entries_of, root_pieces, root_text}
+use Rattle.idl_root.specs.Places.{EntryPlace, blocks_of, declarations_of, entries_of, root_pieces, root_text}
 use Rattle.idl_root_blocks.proofs.Wholes.{any-passing}
 use Rattle.idl_root_blocks.specs.Blocks.{text_in}
 use Rattle.idl_root_blocks.specs.Met.{AreKnownAt, AreSame, Known, alike_block, alike_unit, compared, is_known, met_over, outermost_keys, with_pieces}
 use Rattle.idl_root_blocks.specs.Places.{BlockPlace, DeclarationPlace, blocks_over, declarations_over}
-use Rattle.idl_unit.specs.Units.{units_of}
 
 -- ---- tests over the same places
 
@@ -45,15 +44,13 @@ known-same known other declarations blocks = record {
 
 -- those that are among known ones are known where they stand
 pub all-known : (known : Known) (events : List Event)
-    → text_in (root_pieces events) ≡ root_text events → declarations_after [] (units_of events) ≡ declarations_over [] (root_text events)
-    → All (Contains known.declarations) (declarations_of events) → All (Contains known.blocks) (blocks_of events)
+    → text_in (root_pieces events) ≡ root_text events → All (Contains known.declarations) (declarations_of events) → All (Contains known.blocks) (blocks_of events)
     → AreKnownAt (with_pieces (record { declarations = []; blocks = [] }) [] (root_pieces events)) [] (root_pieces events) → AreKnownAt known [] (root_pieces events)
 unfolding declarations_of blocks_of
-all-known known events whole texts declarations blocks own =
+all-known known events whole declarations blocks own =
     let places : List DeclarationPlace = declarations_over [] (text_in (root_pieces events)) in
     let there : List BlockPlace = blocks_over [] (root_pieces events) in
-    let same : declarations_after [] (units_of events) ≡ places = texts ∙ ap (declarations_over []) (sym whole) in
-    let among : All (Contains known.declarations) places = subst (All (Contains known.declarations)) same declarations in
+    let among : All (Contains known.declarations) places = subst (All (Contains known.declarations)) (ap (declarations_over []) (sym whole)) declarations in
     record {
       units =
           All-weaker (λ here. IsTrue (list_any (alike_unit here) places)) (λ here. IsTrue (list_any (alike_unit here) known.declarations))

@@ -10,14 +10,17 @@ use Rattle.idl_finding.specs.Findings.{event_finding}
 use Rattle.idl_root.specs.AsBefore.{AreCourse}
 use Rattle.idl_root.specs.Followed.{ArePrinted, IsKeeping, WereThere, added_by, facts_of, results_from}
 use Rattle.idl_root.specs.Held.{to_come}
-use Rattle.idl_root.specs.Places.{declarations_after, declarations_of, entries_of, entries_over}
-use Rattle.idl_root.specs.Results.{ChecksOnly, DeclarationResult, EntryResult, ExpandsNone, IsDeclarationPass, IsEntryPass, IsKeptOf, KeptLists, PrintsOnly, RootMarks, entry_result}
+use Rattle.idl_root.specs.Places.{declarations_of, entries_of, entries_over, root_text}
+use Rattle.idl_kept.specs.Texts.{DeclarationResult}
+use Rattle.idl_root.specs.Results.{ChecksOnly, EntryResult, ExpandsNone, IsDeclarationPass, IsEntryPass, IsKeptOf, KeptLists, PrintsOnly, RootMarks, entry_result}
 use Rattle.idl_finding.specs.declared.finding.EventFinding.{EventFinding}
 use Rattle.idl_root.specs.declared.kept.course.Course.{Course}
 use Rattle.idl_root.specs.declared.kept.keeping.Keeping.{Keeping}
 use Rattle.idl_root.proofs.JudgingLemmas.{to_come-start}
 use Rattle.idl_root.proofs.ResultLemmas.{kept-printed, kept-there}
 use Rattle.idl_root.proofs.StoredLemmas.{begun-results, grown-begun}
+use Rattle.idl_root_blocks.specs.Places.{declarations_over}
+use Rattle.idl_root_blocks.specs.Units.{text_of}
 use Rattle.idl_unit.specs.Units.{units_of}
 use Rattle.idl_unit.specs.declared.unit.Unit.{Unit as RootUnit}
 
@@ -58,16 +61,16 @@ start-keeping old new at keeping facts begins none k =
 -- the declarations
 pub declarations-passed : (events : List Event) (old between new : Stored DeclarationResult) (at : ℕ) (facts : List UnitFacts) (units : List RootUnit) (a b c d : ℕ) → between ≡ begun old at
     → facts ≡ [] → units ≡ units_of events → a ≡ c → b ≡ d
-    → IsDeclarationPass (declarations_after facts units) (results_in between) (results_in new) a b
+    → IsDeclarationPass (declarations_over facts (text_of units)) (results_in between) (results_in new) a b
     → IsDeclarationPass (declarations_of events) (results_in old) (results_in new) c d
 unfolding declarations_of
 declarations-passed events old between new at facts units a b c d begins none are before after pass =
     let results : results_in between ≡ results_in old = ap (λ (s : Stored DeclarationResult). results_in s) begins ∙ begun-results old at in
-    subst (λ n. IsDeclarationPass (declarations_after [] (units_of events)) (results_in old) (results_in new) c n) after
-    (subst (λ n. IsDeclarationPass (declarations_after [] (units_of events)) (results_in old) (results_in new) n b) before
-    (subst (λ rs. IsDeclarationPass (declarations_after [] (units_of events)) rs (results_in new) a b) results
-    (subst (λ us. IsDeclarationPass (declarations_after [] us) (results_in between) (results_in new) a b) are
-    (subst (λ fs. IsDeclarationPass (declarations_after fs units) (results_in between) (results_in new) a b) none pass))))
+    subst (λ n. IsDeclarationPass (declarations_over [] (root_text events)) (results_in old) (results_in new) c n) after
+    (subst (λ n. IsDeclarationPass (declarations_over [] (root_text events)) (results_in old) (results_in new) n b) before
+    (subst (λ rs. IsDeclarationPass (declarations_over [] (root_text events)) rs (results_in new) a b) results
+    (subst (λ us. IsDeclarationPass (declarations_over [] (text_of us)) (results_in between) (results_in new) a b) are
+    (subst (λ fs. IsDeclarationPass (declarations_over fs (text_of units)) (results_in between) (results_in new) a b) none pass))))
 
 -- the places of the entries
 pub entries-are : (events : List Event) (o : Outcome) → o ≡ outcome_of events → entries_over o.facts o.listed ≡ entries_of events

@@ -3,8 +3,9 @@ use Rattle.std.proofs.Common.{◌≡◌, ◌≤◌, ◌<◌, ◌^◌, ◌∙◌,
 use Rattle.idl_root_blocks.proofs.IdlCheckLaws.ToldLaws.{MoreTurns, said-alike, told-more, told-nothing, turns-grow}
 use Rattle.idl_root_blocks.specs.idl_check_laws.Closing.{AreTold, IsTold as told}
 use Rattle.idl_root_blocks.specs.idl_check.declared.walk.verdict.Verdict.{Verdict}
-use Rattle.idl_root.specs.Judged.{HasTurns, added, facts_after}
-use Rattle.idl_root.specs.Turns.{IsWithinWords}
+use Rattle.idl_root.specs.Judged.{HasTurns, facts_after}
+use Rattle.idl_root_blocks.specs.idl_check.walk.Verdict.{added}
+use Rattle.idl_root.specs.Turns.{FitsU64}
 use Rattle.idl_env.specs.Facts.{UnitFacts, answers, count_in}
 use Rattle.idl_env.specs.Turns.{most_turns, turns_for}
 use Rattle.idl_env.specs.declared.keys.key.Key.TheVariants.{Nameless}
@@ -37,7 +38,7 @@ turns-before units more enough =
 
 -- facts that words count, of the units of a root
 pub within-words : (events : List Event) (facts : List UnitFacts) → facts ≡ facts_after [] (units_of events)
-    → turns_for facts ≤ most_turns → count_in (answers facts Nameless) < 2 ^ 64 → IsWithinWords events
+    → turns_for facts ≤ most_turns → count_in (answers facts Nameless) < 2 ^ 64 → FitsU64 events
 within-words events facts is turns count = record {
   turns = subst (λ (fs : List UnitFacts). turns_for fs ≤ most_turns) is turns;
   nameless = subst (λ (fs : List UnitFacts). count_in (answers fs Nameless) < 2 ^ 64) is count;

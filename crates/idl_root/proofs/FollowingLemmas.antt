@@ -13,7 +13,7 @@ use Rattle.idl_env.specs.keys.Key.{key_digest}
 use Rattle.idl_root.proofs.DigestLemmas.{apart-noted, noted-more, noted-wider, noted-with, own}
 use Rattle.idl_root.specs.Changed.{ShareNone}
 use Rattle.idl_root.specs.Followed.{AgreeBut, AreNoted, IsBeside, IsPassed, StayAlike, WereThere, WorldsAgree, added_by}
-use Rattle.idl_root.specs.Results.{DeclarationResult}
+use Rattle.idl_kept.specs.Texts.{DeclarationResult}
 use Rattle.idl_root.specs.declared.kept.marks.Mark.{Mark}
 
 -- at first

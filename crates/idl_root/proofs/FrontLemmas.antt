@@ -4,13 +4,13 @@ use Rattle.idl_root_blocks.proofs.IdlCheckLaws.ToldLaws.{MoreTurns}
 use Rattle.idl_root_blocks.specs.idl_check_laws.Closing.{AreTold}
 use Rattle.idl_env.specs.Facts.{UnitFacts}
 use Rattle.idl_env.specs.Turns.{most_turns, turns_for}
-use Rattle.idl_kept.specs.Texts.{AreListsOf, Texts}
+use Rattle.idl_kept.specs.Texts.{AreListsOf, DeclarationResult, Texts}
 use Rattle.idl_memo.specs.declared.meter.Meter.{Meter}
 use Rattle.idl_root.proofs.PassedLemmas.{compares-more, has-kept, passed-more}
 use Rattle.idl_root.proofs.PiecesLemmas.{facts-inside, joined}
-use Rattle.idl_root.specs.Judged.{added}
+use Rattle.idl_root_blocks.specs.idl_check.walk.Verdict.{added}
 use Rattle.idl_root.specs.Passed.{ArePassed, Compares, HasDrafts, with_kept}
-use Rattle.idl_root.specs.Results.{DeclarationResult, IsDeclarationPass}
+use Rattle.idl_root.specs.Results.{IsDeclarationPass}
 use Rattle.idl_root.specs.declared.kept.keeping.Keeping.{Keeping}
 use Rattle.idl_root_blocks.proofs.Fronts.{Enough, Walked, text-told-over}
 use Rattle.idl_root_blocks.specs.Blocks.{Block, IsOfBlock, Loose, Nothing, Pieces, AreCut, cut, text_in}

@@ -8,7 +8,8 @@ use Rattle.idl_root.specs.Compile.{Outcome, findings_told, outcome_of, row_in, r
 use Rattle.idl_finding.specs.Findings.{event_finding}
 use Rattle.idl_root.specs.Findings.{unit_finding}
 use Rattle.idl_root.specs.Held.{IsEnded, to_come, told_of, with_gathered, with_judged, with_units}
-use Rattle.idl_root.specs.Judged.{Judged, added, facts_after, judged_after, judged_at}
+use Rattle.idl_root.specs.Judged.{Judged, facts_after, judged_after, judged_at}
+use Rattle.idl_root_blocks.specs.idl_check.walk.Verdict.{added}
 use Rattle.idl_root.specs.Printed.{listed_in}
 use Rattle.idl_root.specs.declared.compiling.judging.Ended.{Ended}
 use Rattle.idl_root.specs.declared.compiling.judging.Accumulator.{Accumulator}

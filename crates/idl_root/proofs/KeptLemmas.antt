@@ -1,23 +1,26 @@
 -- What is kept of units, one after another: results at the end of the last draft, and counts.
 use Rattle.std.proofs.Common.{◌≡◌, ◌⊎◌, ℕ, ◌+◌, List, [], ◌∷◌, ◌++◌, map, refl, ap, sym, subst, ◌∙◌, append_assoc, inl, inr}
+use Rattle.std.proofs.lemmas.List.{map-append}
 use Rattle.idl_env.specs.Facts.{UnitFacts, answers}
 use Rattle.idl_memo.specs.Kept.{NoneAlikeAt, SomeAlikeAt}
+use Rattle.idl_store.specs.Obtained.{IsObtained}
 use Rattle.idl_store.specs.Stored.{Stored, grown, results_in}
 use Rattle.idl_memo.specs.declared.meter.Meter.{Meter}
 use Rattle.idl_memo.specs.declared.task.TaskKind.TheVariants.{Print}
 use Rattle.idl_root.proofs.StoredLemmas.{grown-grown, grown-results}
-use Rattle.idl_root.specs.Compared.{IsMetAt}
 use Rattle.idl_root.specs.Places.{EntryPlace, entries_over}
 use Rattle.idl_root.specs.Printed.{Listed}
-use Rattle.idl_root.specs.Results.{ChecksOnly, EntryResult, HasDraft, IsEntryPass, PrintsOnly, entry_result, mark_at, marks_of}
+use Rattle.idl_root.specs.Results.{ChecksOnly, EntryResult, HasDraft, IsEntryPass, PrintsOnly, entry_result, mark_at, marks_of, part_mark}
 use Rattle.idl_root.specs.declared.kept.marks.Mark.{Mark}
+use Rattle.idl_root_blocks.specs.Units.{parts_of_unit, text_of}
 use Rattle.idl_unit.specs.declared.unit.Unit.{Unit as RootUnit}
 
 -- ---- units
 
 -- the marks of one, and of those behind it
 pub marks-more : (marks next : List Mark) (u : RootUnit) (units : List RootUnit) → next ≡ marks ++ mark_at u → next ++ marks_of units ≡ marks ++ marks_of (u ∷ units)
-marks-more marks next u units is = ap (λ l. l ++ marks_of units) is ∙ append_assoc marks (mark_at u) (marks_of units)
+marks-more marks next u units is =
+    ap (λ l. l ++ marks_of units) is ∙ append_assoc marks (mark_at u) (marks_of units) ∙ ap (λ (ms : List Mark). marks ++ ms) (sym (map-append part_mark (parts_of_unit u) (text_of units)))
 
 -- no other count rises with one more than with those behind it
 pub checks-more : (old between new : Meter) → ChecksOnly old between → ChecksOnly between new → ChecksOnly old new
@@ -32,7 +35,7 @@ printed-kept kept next facts l listed grows =
     ap (λ k. grown k (map entry_result (entries_over facts listed))) grows
     ∙ grown-grown kept (entry_result (l.path, answers facts) ∷ []) (map entry_result (entries_over facts listed))
 
-pub prints-one : (here : EntryPlace) (results : List EntryResult) (old new : Meter) → IsMetAt here (entry_result here) Print results old new → PrintsOnly old new
+pub prints-one : (here : EntryPlace) (results : List EntryResult) (old new : Meter) → IsObtained here (entry_result here) Print results old new → PrintsOnly old new
 prints-one here results old new (inl (some, h)) = subst (λ (n : Meter). n ≡ record old { printed = n.printed; compared = n.compared }) (sym h) refl
 prints-one here results old new (inr (none, h)) = subst (λ (n : Meter). n ≡ record old { printed = n.printed; compared = n.compared }) (sym h) refl
 
@@ -47,7 +50,7 @@ module _ (one : (here : EntryPlace) (old new : List EntryResult) (before after :
   where
     -- one name is a pass over its entry, and with those behind it over theirs
     pub printed-pass : (facts : List UnitFacts) (l : Listed) (listed : List Listed) → next ≡ grown kept (entry_result (l.path, answers facts) ∷ [])
-        → IsMetAt (l.path, answers facts) (entry_result (l.path, answers facts)) Print (results_in kept) old new
+        → IsObtained (l.path, answers facts) (entry_result (l.path, answers facts)) Print (results_in kept) old new
         → (end : List EntryResult) (total : ℕ) → IsEntryPass (entries_over facts listed) (results_in next) end new.printed total
         → IsEntryPass (entries_over facts (l ∷ listed)) (results_in kept) end old.printed total
     printed-pass facts l listed grows h end total rest =

@@ -1,5 +1,5 @@
 -- Units of which the results are known, one after another.
-use Rattle.std.proofs.Common.{◌≡◌, ◌∙◌, arith, ℕ, suc, List, [], ◌∷◌, ◌++◌, append_assoc, flat_map, refl, sym, ap}
+use Rattle.std.proofs.Common.{◌≡◌, ◌∙◌, arith, ℕ, suc, List, [], ◌∷◌, ◌++◌, append_assoc, flat_map, sym, ap}
 use Rattle.std.proofs.lemmas.List.Sums.{sum_by-cons}
 use Rattle.idl_env.specs.Facts.{UnitFacts}
 use Rattle.idl_event.specs.declared.told.site.Site.{Site}
@@ -9,26 +9,18 @@ use Rattle.idl_root.specs.Findings.{unit_finding}
 use Rattle.idl_root.specs.Followed.{added_by}
 use Rattle.idl_root.specs.Held.{with_judged, with_units}
 use Rattle.idl_root.specs.Judged.{Judged}
-use Rattle.idl_root.specs.Passed.{known_results, marks_in}
+use Rattle.idl_root.specs.Passed.{known_results}
 use Rattle.idl_root.specs.Printed.{listed_in}
-use Rattle.idl_root.specs.Results.{DeclarationResult, marks_of}
+use Rattle.idl_kept.specs.Texts.{DeclarationResult}
+use Rattle.idl_root.specs.Results.{marks_of}
 use Rattle.idl_root.specs.declared.kept.known.Known.{Known}
-use Rattle.idl_root.specs.declared.kept.marks.Mark.{Mark}
-use Rattle.idl_root.specs.declared.kept.marks.Mark.TheVariants.{Judged as JudgedMark, Entered as EnteredMark, Left as LeftMark}
+use Rattle.idl_root.specs.declared.kept.marks.Mark.TheVariants.{Judged as JudgedMark}
 use Rattle.idl_root_blocks.specs.Finding.{one_text, texts_in}
 use Rattle.idl_root_blocks.specs.Units.{text_of}
 use Rattle.idl_root_blocks.specs.declared.text.BlockPart.TheVariants.{Text}
 use Rattle.idl_unit.specs.declared.unit.Unit.{Unit as RootUnit}
-use Rattle.idl_unit.specs.declared.unit.Unit.TheVariants.{Spelled, Entered, Left, End}
+use Rattle.idl_unit.specs.declared.unit.Unit.TheVariants.{Spelled}
 use Rattle.idl_unit.specs.declared.unit.UnitText.{UnitText}
-
--- what units were their text tells
-pub marks-text : (units : List RootUnit) → marks_of units ≡ marks_in (text_of units)
-marks-text [] = refl
-marks-text (Spelled text sites ∷ units) = ap (λ (ms : List Mark). JudgedMark ∷ ms) (marks-text units)
-marks-text (Entered file inside ∷ units) = ap (λ (ms : List Mark). EnteredMark inside ∷ ms) (marks-text units)
-marks-text (Left file inside ∷ units) = ap (λ (ms : List Mark). LeftMark inside ∷ ms) (marks-text units)
-marks-text (End ∷ units) = marks-text units
 
 -- what is gathered of one more, and of those behind it
 units-more : (o : Outcome) (j : Judged) (judged : List Judged) → with_units (with_judged o j) judged ≡ with_units o (j ∷ judged)

@@ -79,7 +79,11 @@ module _ (facts : List UnitFacts) (text : List Part) (whole : IsOfBlock text) (p
       pub whole-left : (new : Texts) (n : ℕ) → n ≡ begin → new ≡ with_blocks between (kept_of block ∷ []) (n ∷ []) → new ≡ with_whole kept facts own
       whole-left new n is grows = grows ∙ (λ i. with_blocks (passed.kept_is i) (kept-at i ∷ []) (is i ∷ [])) ∙ left-kept kept facts own
 
-      -- what it asks is counted, where it stands in no block
+      -- what it asks
+      pub asked-left : length block.log ≡ length (block_result (text, answers facts)).log
+      asked-left = ap (λ (r : BlockResult). length r.log) kept-are
+
+      -- which is counted, where it stands in no block
       pub keys-left : (keys : ℕ) → keys ≡ keys_behind left later.keys (length block.log) → old.keys ≤ most_compared
           → keys ≡ keys_behind old.blocks.blocks old.keys (length (block_result (text, answers facts)).log)
       keys-left keys is within =
@@ -90,9 +94,8 @@ module _ (facts : List UnitFacts) (text : List Part) (whole : IsOfBlock text) (p
           ∙ keys-inside old.blocks.blocks entered inside.keys more
           ∙ ap (λ (k : Keeping). k.keys) rest
           ∙ ap (λ (k : Keeping). k.keys) walks in
-          let asked : length block.log ≡ length (block_result (text, answers facts)).log = ap (λ (r : BlockResult). length r.log) kept-are in
           is
-          ∙ (λ i. keys_behind (others.3.all i) (same i) (asked i))
+          ∙ (λ i. keys_behind (others.3.all i) (same i) (asked-left i))
           ∙ keys-by old.blocks.blocks others.3.by old.keys (length (block_result (text, answers facts)).log)
 
     -- the blocks around it go on with all of it

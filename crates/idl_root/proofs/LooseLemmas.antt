@@ -7,7 +7,7 @@ use Rattle.idl_root_blocks.specs.verdicts.Standing.{unit_asks}
 use Rattle.idl_env.specs.Facts.{UnitFacts, answers}
 use Rattle.idl_env.specs.SameAnswer.{answer_eq}
 use Rattle.idl_env.specs.keys.Key.{key_eq}
-use Rattle.idl_kept.specs.Texts.{Texts, with_units}
+use Rattle.idl_kept.specs.Texts.{DeclarationResult, Texts, with_units}
 use Rattle.idl_memo.specs.Fresh.{fresh_at, shared_at}
 use Rattle.idl_memo.specs.Kept.{NoneAlikeAt, SomeAlikeAt}
 use Rattle.idl_memo.specs.Meter.{compared_after, most_compared}
@@ -16,12 +16,11 @@ use Rattle.idl_memo.specs.declared.task.TaskKind.TheVariants.{Check}
 use Rattle.idl_root.proofs.PassedLemmas.{keys-none}
 use Rattle.idl_root.proofs.PiecesLemmas.{compared-none}
 use Rattle.idl_root.proofs.SharedLemmas.{compared-most, shared-one}
-use Rattle.idl_root.specs.Compared.{IsMetAt}
 use Rattle.idl_root.proofs.StoredLemmas.{grown-none, grown-results}
 use Rattle.idl_root.specs.Followed.{IsDeclarationLast, IsKeeping, UnitsOnly}
-use Rattle.idl_root.specs.Judged.{verdict_over}
-use Rattle.idl_root.specs.Passed.{AllGoOn, ArePassed, Compares, WalksOnly, keys_behind, part_mark, with_kept}
-use Rattle.idl_root.specs.Results.{DeclarationResult, HasDraft, IsDeclarationPass}
+use Rattle.idl_root_blocks.specs.idl_check.walk.Verdict.{verdict_over}
+use Rattle.idl_root.specs.Passed.{AllGoOn, ArePassed, Compares, WalksOnly, keys_behind, with_kept}
+use Rattle.idl_root.specs.Results.{HasDraft, IsDeclarationPass, part_mark}
 use Rattle.idl_root.specs.declared.kept.keeping.Keeping.{Keeping}
 use Rattle.idl_root.specs.declared.kept.marks.Mark.TheVariants.{Judged}
 use Rattle.idl_root_blocks.proofs.Wholes.{declarations-first, declarations-none}
@@ -31,6 +30,7 @@ use Rattle.idl_root_blocks.specs.Met.{MetUnit, compared, met_over, outermost_key
 use Rattle.idl_root_blocks.specs.Places.{DeclarationPlace, blocks_over, declaration_at, declaration_result, declarations_over, facts_over}
 use Rattle.idl_root_blocks.specs.declared.text.BlockPart.{BlockPart as Part}
 use Rattle.idl_root_blocks.specs.declared.text.BlockPart.TheVariants.{Text}
+use Rattle.idl_store.specs.Obtained.{IsObtained}
 use Rattle.idl_store.specs.Stored.{Stored, grown, results_in}
 use Rattle.idl_unit.specs.declared.unit.UnitText.{UnitText}
 
@@ -116,7 +116,7 @@ module _ (none : (old : List DeclarationResult) (count : ℕ) → IsDeclarationP
 
 -- ---- what is compared
 
-met-fits : (here : DeclarationPlace) (results : List DeclarationResult) (old new : Meter) → old.compared ≤ most_compared → IsMetAt here (declaration_result here) Check results old new → new.compared ≤ most_compared
+met-fits : (here : DeclarationPlace) (results : List DeclarationResult) (old new : Meter) → old.compared ≤ most_compared → IsObtained here (declaration_result here) Check results old new → new.compared ≤ most_compared
 met-fits here results old new fits (inl (alike, is)) =
     let counts = ap (λ (m : Meter). m.compared) is in
     let most = compared-most old.compared (length (declaration_result here).log) in
@@ -129,12 +129,12 @@ met-fits here results old new fits (inr (fresh, is)) =
 pub compares-unit : ((known : List DeclarationPlace) (here : DeclarationPlace) → SomeAlikeAt here (map declaration_result known) → fresh_at unit_text_eq (option_eq answer_eq) unit_asks known here ≡ 0)
     → ((known : List DeclarationPlace) (here : DeclarationPlace) → NoneAlikeAt here (map declaration_result known) → fresh_at unit_text_eq (option_eq answer_eq) unit_asks known here ≡ 1)
     → (facts : List UnitFacts) (text : UnitText) (kept : Texts) (old new : Meter)
-    → IsMetAt (text, answers facts) (declaration_result (text, answers facts)) Check (results_in kept.declarations) old new
+    → IsObtained (text, answers facts) (declaration_result (text, answers facts)) Check (results_in kept.declarations) old new
     → Compares facts (Loose (Text text) Nothing) kept old new
 compares-unit some none facts text kept old new met known are within =
     let here : DeclarationPlace = (text, answers facts) in
-    let own : IsMetAt here (declaration_result here) Check (map declaration_result known.declarations) old new =
-    subst (λ rs. IsMetAt here (declaration_result here) Check rs old new) are.declarations met in
+    let own : IsObtained here (declaration_result here) Check (map declaration_result known.declarations) old new =
+    subst (λ rs. IsObtained here (declaration_result here) Check rs old new) are.declarations met in
     let shared : ℕ = shared_at unit_text_eq (option_eq answer_eq) unit_asks key_eq known.declarations here in
     let one : compared_after new.compared 0 ≡ compared_after old.compared (shared + 0) =
     shared-one unit_text_eq (option_eq answer_eq) unit_asks key_eq some none Check known.declarations here old new own 0 in

@@ -1,19 +1,17 @@
 -- What is made of a root: its drafts, and the keys at which known tasks are compared.
-use Rattle.std.proofs.Common.{◌≡◌, ◌≤◌, ◌∙◌, ℕ, ◌+◌, List, [], ◌∷◌, ◌++◌, map, refl, ap, sym, arith}
+use Rattle.std.proofs.Common.{◌≡◌, ◌≤◌, ◌∙◌, ℕ, ◌+◌, List, [], ◌∷◌, ◌++◌, map, refl, ap, arith}
 use Rattle.std.specs.Prelude.{length, sum_by}
 use Rattle.idl_env.specs.Facts.{UnitFacts}
 use Rattle.idl_event.specs.declared.told.event.Event.{Event}
 use Rattle.idl_kept.specs.Drafts.{begun_texts}
-use Rattle.idl_kept.specs.Texts.{Texts, begins_in}
+use Rattle.idl_kept.specs.Texts.{DeclarationResult, Texts, begins_in}
 use Rattle.idl_memo.specs.Meter.{compared_after, most_compared}
 use Rattle.idl_memo.specs.declared.meter.Meter.{Meter}
 use Rattle.idl_root.specs.Compared.{AreOf, compared_root, entry_keys, root_keys, shared_entries}
 use Rattle.idl_root.specs.Passed.{Compares, with_kept}
 use Rattle.idl_root.specs.Places.{EntryPlace, begins_of, blocks_of, declarations_of, entries_of, root_pieces, root_text}
-use Rattle.idl_root.specs.Results.{DeclarationResult}
 use Rattle.idl_root.proofs.SharedLemmas.{compared-more, compared-most}
 use Rattle.idl_root.proofs.StoredLemmas.{begun-results, grown-begun}
-use Rattle.idl_root.proofs.TextLaws.{declarations-text}
 use Rattle.idl_root_blocks.proofs.Cuts.{cut-whole}
 use Rattle.idl_root_blocks.specs.Blocks.{cut, text_in}
 use Rattle.idl_root_blocks.specs.Met.{Known, compared, met_over, outermost_keys}
@@ -34,7 +32,7 @@ last-begun (d ∷ e ∷ drafts) at = last-begun (e ∷ drafts) at
 -- a root's declarations are those among its pieces
 declarations-among : (events : List Event) → declarations_over [] (text_in (root_pieces events)) ≡ declarations_of events
 unfolding declarations_of
-declarations-among events = ap (declarations_over []) (cut-whole (root_text events)) ∙ sym (declarations-text (units_of events) [])
+declarations-among events = ap (declarations_over []) (cut-whole (root_text events))
 
 module _ (events : List Event) (old between : Texts) (at : ℕ) (facts : List UnitFacts) (units : List RootUnit)
     (begins : between ≡ begun_texts old at) (none : facts ≡ []) (are : units ≡ units_of events)

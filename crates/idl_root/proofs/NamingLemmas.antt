@@ -10,7 +10,7 @@ use Rattle.idl_env.proofs.AnswerLaws.PlaceLemmas.{drop-at1}
 use Rattle.idl_env.specs.Facts.{UnitFacts}
 use Rattle.idl_env.specs.declared.additions.addition.Step.{Step}
 use Rattle.idl_event.specs.declared.told.event.Event.{Event}
-use Rattle.idl_root.specs.Judged.{added}
+use Rattle.idl_root_blocks.specs.idl_check.walk.Verdict.{added}
 use Rattle.idl_root.specs.Named.{AreNumbersIn, NamedUnit, closes, closings_from, closings_in, end_before, ends_of, named_after, named_at, opens}
 use Rattle.idl_root.specs.NamePlaces.{AreNamesOf, AreNumbered, declared_in, declared_names, declared_until, is_at, numbers_at, used_in, used_names}
 use Rattle.idl_root.specs.declared.compiling.places.PlacedName.{PlacedName}

@@ -4,9 +4,8 @@ use Rattle.std.proofs.lemmas.List.{length-append, map-append, map-id}
 use Rattle.std.proofs.lemmas.Simd.{map-map}
 use Rattle.idl_root_blocks.specs.verdicts.Standing.{IsBlockFront}
 use Rattle.idl_root_blocks.proofs.IdlCheckLaws.ToldLaws.{MoreTurns}
-use Rattle.idl_env.specs.Facts.{UnitFacts, answers}
+use Rattle.idl_env.specs.Facts.{UnitFacts, answers, boundary}
 use Rattle.idl_env.specs.declared.additions.addition.Step.TheVariants.{Enters as EntersFile}
-use Rattle.idl_block.specs.facts.Written.{boundary}
 use Rattle.idl_root.specs.Passed.{AllGoOn, GoesOn}
 use Rattle.idl_root_blocks.proofs.Fronts.{Enough, Walked, front-block, front-stands}
 use Rattle.idl_root_blocks.proofs.Splits.{facts-split}

@@ -1,32 +1,31 @@
 -- A block is passed, whichever way.
-use Rattle.std.proofs.Common.{◌≡◌, ◌≤◌, ◌∙◌, ◌+◌, ◌||◌, arith, Bool, true, false, Some, List, [], ◌∷◌, ◌++◌, append_assoc, length, map, refl, subst, sym, ap, if◌then◌else◌}
-use Rattle.std.proofs.lemmas.List.{map-append}
-use Rattle.std.specs.List.{list_any}
+use Rattle.std.proofs.Common.{◌≡◌, ◌≤◌, ◌<◌, ◌∙◌, ◌+◌, ◌↔◌, arith, ℕ, Bool, true, false, Some, List, [], ◌∷◌, ◌++◌, append_assoc, get_or, length, map, refl, subst, sym, ap, if◌then◌else◌}
+use Rattle.std.proofs.lemmas.List.{get_or-map, length-map, map-append}
+use Rattle.std.proofs.lemmas.List.Elements.{All-from_get_or, All-get_or}
+use Rattle.std.proofs.lemmas.List.Folds.{list_any_at, list_any_none}
 use Rattle.std.specs.Option.{option_eq}
-use Rattle.std.specs.Prelude.{Contains}
+use Rattle.std.specs.Prelude.{All, Any, Contains}
 use Rattle.idl_env.specs.Facts.{UnitFacts, answers}
 use Rattle.idl_env.specs.SameAnswer.{answer_eq}
 use Rattle.idl_env.specs.keys.Key.{key_eq}
 use Rattle.idl_kept.specs.Texts.{BlockResult, Texts, with_whole}
-use Rattle.idl_memo.specs.Fresh.{fresh_at, is_alike, log_at}
-use Rattle.idl_memo.specs.Kept.{NoneAlikeAt, SomeAlikeAt}
+use Rattle.idl_memo.specs.Fresh.{is_alike, log_at}
 use Rattle.idl_memo.specs.Meter.{compared_after, most_compared}
 use Rattle.idl_memo.specs.declared.meter.Meter.{Meter}
 use Rattle.idl_root.proofs.BlockLemmas.{places-are, spot-among, whole-kept}
 use Rattle.idl_root.proofs.PiecesLemmas.{compared-none, facts-inside}
-use Rattle.idl_root.proofs.SharedLemmas.{none-known, one-known}
 use Rattle.idl_root.proofs.WholeLemmas.{block-holds}
 use Rattle.idl_root.specs.Followed.{IsKeeping}
-use Rattle.idl_root.specs.Passed.{AllGoOn, ArePassed, keys_behind, marks_in, part_mark}
-use Rattle.idl_root.specs.Results.{ChecksOnly, IsDeclarationPass}
+use Rattle.idl_root.specs.Passed.{AllGoOn, ArePassed, keys_behind}
+use Rattle.idl_root.specs.Results.{ChecksOnly, IsDeclarationPass, marks_in, part_mark}
 use Rattle.idl_root.specs.declared.kept.keeping.Keeping.{Keeping}
 use Rattle.idl_root.specs.declared.kept.marks.Mark.{Mark}
 use Rattle.idl_root.specs.declared.kept.marks.Mark.TheVariants.{Entered, Left}
 use Rattle.idl_root_blocks.proofs.Cuts.{cut-whole}
 use Rattle.idl_root_blocks.proofs.Meets.{met-block}
 use Rattle.idl_root_blocks.specs.Blocks.{Block, Nothing, Pieces, cut, text_in}
-use Rattle.idl_root_blocks.specs.Met.{Known, MetBlock, block_text_eq, compared, is_known, met_over, outermost_keys, shared_by, with_block}
-use Rattle.idl_root_blocks.specs.Places.{BlockPlace, DeclarationPlace, block_asks, block_at, block_query, block_result, declarations_over, facts_behind, with_entering}
+use Rattle.idl_root_blocks.specs.Met.{IsLike, Known, MetBlock, alike_block, block_text_eq, compared, is_known, met_over, outermost_keys, shared_by, with_block}
+use Rattle.idl_root_blocks.specs.Places.{BlockPlace, DeclarationPlace, block_at, block_query, block_result, declarations_over, facts_behind, with_entering}
 use Rattle.idl_root_blocks.specs.declared.text.BlockPart.{BlockPart as Part}
 use Rattle.idl_root_blocks.specs.declared.text.BlockPart.TheVariants.{Enters, Leaves}
 use Rattle.idl_store.specs.Spots.{result_on}
@@ -124,23 +123,41 @@ module _ (asks : (here : BlockPlace) → (block_result here).log ≡ log_at key_
       let same : compared (met_over known (with_entering facts) own) ≡ compared (met_over known facts pieces) = omega (arith, met) in
       counts ∙ ap (compared_after old.compared) same
 
+  -- one of which it was asked whether it is alike to a known one: if so it is compared as a whole, and else what is inside
+  pub compares-entered : (known : Known) (old behind : Meter) (is_like : Bool) (inside keys : ℕ)
+      → (is_like ≡ true → is_known known.blocks (text, answers facts) ≡ true) → (is_like ≡ false → is_known known.blocks (text, answers facts) ≡ false)
+      → keys ≡ length (block_result (text, answers facts)).log
+      → inside ≡ compared_after old.compared (compared (met_over known (with_entering facts) own))
+      → behind.compared ≡ (if is_like then compared_after old.compared keys else inside)
+      → behind.compared ≡ compared_after old.compared (compared (met_over known facts pieces))
+  compares-entered known old behind true inside keys is none asked within counts =
+      compares-taken known old behind (ap (λ u. is_known known.blocks (u, answers facts)) (cut-whole text) ∙ is refl) (counts ∙ ap (compared_after old.compared) asked)
+  compares-entered known old behind false inside keys some is asked within counts =
+      compares-left known old behind (ap (λ u. is_known known.blocks (u, answers facts)) (cut-whole text) ∙ is refl) (counts ∙ within)
+
 -- ---- whether one is known
 
-module _ (asks : (here task : BlockPlace) → is_alike block_text_eq (option_eq answer_eq) block_asks here task ≡ is_alike block_text_eq (option_eq answer_eq) block_query here task) where
-  any-asks : (here : BlockPlace) (known : List BlockPlace) → list_any (is_alike block_text_eq (option_eq answer_eq) block_asks here) known ≡ is_known known here
-  any-asks here [] = refl
-  any-asks here (task ∷ known) = λ i. asks here task i || any-asks here known i
+not-true : (b : Bool) → (b ≡ true → ⊥) → b ≡ false
+not-true true never = absurd (never refl)
+not-true false never = refl
 
-  pub is-known : ((known : List BlockPlace) (here : BlockPlace) → SomeAlikeAt here (map block_result known) → fresh_at block_text_eq (option_eq answer_eq) block_asks known here ≡ 0)
-      → (known : List BlockPlace) (here : BlockPlace) → SomeAlikeAt here (map block_result known) → is_known known here ≡ true
-  is-known some known here is = sym (any-asks here known) ∙ one-known (list_any (is_alike block_text_eq (option_eq answer_eq) block_asks here) known) (some known here is)
+module _ (tells : (here task : BlockPlace) → IsLike here (block_result task) ↔ (is_alike block_text_eq (option_eq answer_eq) block_query here task ≡ true)) (known : List BlockPlace) (here : BlockPlace) where
+  pub is-known : Any (IsLike here) (map block_result known) → is_known known here ≡ true
+  is-known a =
+      let at : a.0 < length known = omega (arith, a.2, length-map known block_result) in
+      let same : block_result (get_or known a.0 here) ≡ a.1 = sym (get_or-map block_result known a.0 here a.1 at) ∙ a.3 in
+      list_any_at (alike_block here) known a.0 here at ((tells here (get_or known a.0 here)).0 (subst (IsLike here) (sym same) a.4))
 
-  pub is-new : ((known : List BlockPlace) (here : BlockPlace) → NoneAlikeAt here (map block_result known) → fresh_at block_text_eq (option_eq answer_eq) block_asks known here ≡ 1)
-      → (known : List BlockPlace) (here : BlockPlace) → NoneAlikeAt here (map block_result known) → is_known known here ≡ false
-  is-new none known here is = sym (any-asks here known) ∙ none-known (list_any (is_alike block_text_eq (option_eq answer_eq) block_asks here) known) (none known here is)
+  pub is-new : All (λ kept. ¬ IsLike here kept) (map block_result known) → is_known known here ≡ false
+  is-new none =
+      list_any_none (alike_block here) known (All-from_get_or (λ task. alike_block here task ≡ false) known here (λ k below.
+      let there : k < length (map block_result known) = omega (arith, below, length-map known block_result) in
+      let other : ¬ IsLike here (block_result (get_or known k here)) =
+      subst (λ r. ¬ IsLike here r) (get_or-map block_result known k here (block_result here) below) (All-get_or (λ kept. ¬ IsLike here kept) (map block_result known) k (block_result here) there none) in
+      not-true (alike_block here (get_or known k here)) (λ is. other ((tells here (get_or known k here)).1 is))))
 
 -- what stands at a spot is alike where it is the result of that place
-pub some-on : (kept : Texts) (spot : Spot) (facts : List UnitFacts) (text : List Part) → result_on kept.blocks spot ≡ Some (block_result (text, answers facts)) → SomeAlikeAt (text, answers facts) (results_in kept.blocks)
+pub some-on : (kept : Texts) (spot : Spot) (facts : List UnitFacts) (text : List Part) → result_on kept.blocks spot ≡ Some (block_result (text, answers facts)) → Any (IsLike (text, answers facts)) (results_in kept.blocks)
 some-on kept spot facts text is =
     let here : BlockResult = block_result (text, answers facts) in
     let c : Contains (results_in kept.blocks) here = spot-among kept.blocks spot here is in

@@ -3,7 +3,7 @@ use Rattle.std.proofs.Common.{◌≡◌, ◌≤◌, ◌∙◌, ◌+◌, arith, �
 use Rattle.std.proofs.lemmas.List.{map-append}
 use Rattle.idl_root_blocks.proofs.IdlCheckLaws.ToldLaws.{MoreTurns}
 use Rattle.idl_env.specs.Facts.{UnitFacts}
-use Rattle.idl_kept.specs.Texts.{Texts}
+use Rattle.idl_kept.specs.Texts.{DeclarationResult, Texts}
 use Rattle.idl_memo.specs.Meter.{compared_after, most_compared}
 use Rattle.idl_memo.specs.declared.meter.Meter.{Meter}
 use Rattle.idl_root.proofs.KeptLemmas.{checks-more}
@@ -13,8 +13,8 @@ use Rattle.idl_root.proofs.SharedLemmas.{compared-more, compared-most}
 use Rattle.idl_root.proofs.StoredLemmas.{grown-results, has-grown}
 use Rattle.idl_root.specs.Compared.{AreOf}
 use Rattle.idl_root.specs.Followed.{IsKeeping}
-use Rattle.idl_root.specs.Passed.{AllGoOn, ArePassed, Compares, HasDrafts, keys_behind, marks_in, with_kept}
-use Rattle.idl_root.specs.Results.{DeclarationResult, IsDeclarationPass}
+use Rattle.idl_root.specs.Passed.{AllGoOn, ArePassed, Compares, HasDrafts, keys_behind, with_kept}
+use Rattle.idl_root.specs.Results.{IsDeclarationPass, marks_in}
 use Rattle.idl_root.specs.declared.kept.keeping.Keeping.{Keeping}
 use Rattle.idl_root_blocks.proofs.Fronts.{Enough, Walked}
 use Rattle.idl_root_blocks.proofs.Wholes.{declarations-none}

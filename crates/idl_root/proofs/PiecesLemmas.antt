@@ -6,8 +6,8 @@ use Rattle.idl_env.specs.Facts.{UnitFacts}
 use Rattle.idl_kept.proofs.Begins.{count-units}
 use Rattle.idl_kept.specs.Texts.{DeclarationResult, Texts, begins_in}
 use Rattle.idl_root.proofs.StoredLemmas.{grown-grown, grown-none}
-use Rattle.idl_root.specs.Passed.{marks_in, part_mark, with_kept}
-use Rattle.idl_root.specs.Results.{HasDraft}
+use Rattle.idl_root.specs.Passed.{with_kept}
+use Rattle.idl_root.specs.Results.{HasDraft, marks_in, part_mark}
 use Rattle.idl_root_blocks.proofs.Meets.{met-block, met-loose}
 use Rattle.idl_root_blocks.proofs.Splits.{declarations-split, facts-first, facts-split}
 use Rattle.idl_root_blocks.proofs.Wholes.{blocks-block, blocks-loose, blocks-none, pieces-block, pieces-loose, pieces-none}

@@ -13,7 +13,7 @@ use Rattle.idl_root_blocks.specs.idl_check.tables.Rules.{has_id}
 use Rattle.idl_root_blocks.specs.idl_check.walk.Judging.{IsSpoken}
 use Rattle.idl_root_blocks.specs.idl_check.walk.Names.{declared_as, declared_paths, unit_names}
 use Rattle.idl_root_blocks.specs.idl_check.walk.Placing.{faulty_step}
-use Rattle.idl_root_blocks.specs.idl_check.walk.Verdict.{faulty, verdict}
+use Rattle.idl_root_blocks.specs.idl_check.walk.Verdict.{faulty, verdict, verdict_over}
 use Rattle.idl_root_blocks.specs.idl_check.declared.walk.names.NamedSite.{NamedSite}
 use Rattle.idl_root_blocks.specs.idl_check.declared.walk.names.NameRole.{NameRole}
 use Rattle.idl_root_blocks.specs.idl_check.declared.walk.names.NameRole.TheVariants.{Declared, Used}
@@ -25,7 +25,7 @@ use Rattle.idl_entity.specs.declared.identity.Fixed.TheVariants.{Version, Id}
 use Rattle.idl_entity.specs.declared.identity.Identity.{Identity}
 use Rattle.idl_entity.specs.declared.identity.Prefix.{Prefix}
 use Rattle.idl_env.proofs.Membership.{Contains-IsIn, IsIn, IsIn-Contains}
-use Rattle.idl_env.specs.Facts.{UnitFacts, answers, entity_in, entity_key, scopes_in}
+use Rattle.idl_env.specs.Facts.{UnitFacts, answers, boundary, entity_in, entity_key, scopes_in}
 use Rattle.idl_env.specs.Turns.{most_turns}
 use Rattle.idl_env.specs.declared.additions.addition.Addition.{Addition}
 use Rattle.idl_env.specs.declared.additions.addition.Addition.TheVariants.{Appears, Declares, Identifies, TypePrefixes, Uses, UsesFurther}
@@ -38,7 +38,6 @@ use Rattle.idl_env.specs.declared.keys.key.Key.TheVariants.{Cursor}
 use Rattle.idl_event.specs.Apart.{place_in}
 use Rattle.idl_event.specs.declared.told.event.Event.{Event}
 use Rattle.idl_event.specs.declared.told.site.Site.{Site}
-use Rattle.idl_block.specs.facts.Written.{boundary}
 use Rattle.idl_fault.specs.declared.code.Code.TheVariants.{NoRepositoryId}
 use Rattle.idl_lex.specs.tokens.Tokens.{Token}
 use Rattle.idl_memo.proofs.QueryLaws.{outcome-and_then}
@@ -47,7 +46,7 @@ use Rattle.idl_root.proofs.ToldLemmas.{AreSited, IsSited, item-there, units-site
 use Rattle.idl_root.specs.Compile.{Outcome, outcome_of}
 use Rattle.idl_root.specs.Details.{details, entry_of, listed_entries}
 use Rattle.idl_finding.specs.Findings.{site_of, tokens_of}
-use Rattle.idl_root.specs.Judged.{judged_after, verdict_over}
+use Rattle.idl_root.specs.Judged.{judged_after}
 use Rattle.idl_root.specs.Named.{NamedUnit, closes, closings_in, end_before, ends_of, named_after, named_over, names_over, opens}
 use Rattle.idl_root.specs.NamePlaces.{declared_by, declared_in, declared_names, declared_until, declared_with, is_at, last_in, places_at, sited, sited_in}
 use Rattle.idl_finding.specs.Number.{token_number}

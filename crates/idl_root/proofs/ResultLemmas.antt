@@ -1,17 +1,19 @@
 -- What is kept of units: their marks and their results, each over what those before it added.
 use Rattle.std.proofs.Common.{◌≡◌, ℕ, zero, suc, ◌+◌, Bool, List, [], ◌∷◌, ◌++◌, map, refl, ap, sym, subst, ◌∙◌, add-one, append-nil, append_assoc, drop}
 use Rattle.std.proofs.lemmas.List.Elements.{All-cons, All-nil}
-use Rattle.idl_env.specs.Facts.{UnitFacts, answers}
+use Rattle.idl_env.specs.Facts.{UnitFacts, answers, boundary}
 use Rattle.idl_env.specs.declared.additions.addition.Step.TheVariants.{Enters, Leaves}
 use Rattle.idl_event.specs.declared.told.event.Event.{Event}
 use Rattle.idl_root.specs.Compile.{outcome_of}
 use Rattle.idl_root.specs.Followed.{ArePrinted, IsBehind, IsFirst, IsNext, IsPassed, WereThere, added_by, facts_of, results_from}
-use Rattle.idl_root.specs.Judged.{facts_after, verdict_over}
-use Rattle.idl_block.specs.facts.Written.{boundary}
-use Rattle.idl_root.specs.Places.{declarations_after, declarations_of, entries_of, entries_over}
+use Rattle.idl_root.specs.Judged.{facts_after}
+use Rattle.idl_root_blocks.specs.idl_check.walk.Verdict.{verdict_over}
+use Rattle.idl_root.specs.Places.{declarations_of, entries_of, entries_over}
 use Rattle.idl_root.specs.Printed.{Listed}
-use Rattle.idl_root.specs.Results.{DeclarationResult, EntryResult, IsKeptOf, KeptLists, RootMarks, entry_result, marks_of}
-use Rattle.idl_root_blocks.specs.Places.{declaration_result}
+use Rattle.idl_kept.specs.Texts.{DeclarationResult}
+use Rattle.idl_root.specs.Results.{EntryResult, IsKeptOf, KeptLists, RootMarks, entry_result, marks_of}
+use Rattle.idl_root_blocks.specs.Places.{declaration_result, declarations_over}
+use Rattle.idl_root_blocks.specs.Units.{text_of}
 use Rattle.idl_root.specs.declared.kept.course.Course.{Course}
 use Rattle.idl_root.specs.declared.kept.marks.Mark.{Mark}
 use Rattle.idl_root.specs.declared.kept.marks.Mark.TheVariants as mark
@@ -24,71 +26,71 @@ added-same marks others results rest m r = λ i. added_by (m i) (r i)
 
 -- what units added is told by their marks and results
 pub facts-added : (units : List RootUnit) (before : List UnitFacts)
-    → facts_after before units ≡ before ++ added_by (marks_of units) (map declaration_result (declarations_after before units))
-unfolding facts_after declarations_after
+    → facts_after before units ≡ before ++ added_by (marks_of units) (map declaration_result (declarations_over before (text_of units)))
+unfolding facts_after declarations_over
 facts-added [] before = sym (append-nil before)
 facts-added (Spelled text sites ∷ units) before =
     let w = (verdict_over before text).writes in
     let next = before ++ w ∷ [] in
-    facts-added units next ∙ append_assoc before (w ∷ []) (added_by (marks_of units) (map declaration_result (declarations_after next units)))
+    facts-added units next ∙ append_assoc before (w ∷ []) (added_by (marks_of units) (map declaration_result (declarations_over next (text_of units))))
 facts-added (Entered file inside ∷ units) before =
     let next = before ++ boundary Enters ∷ [] in
-    facts-added units next ∙ append_assoc before (boundary Enters ∷ []) (added_by (marks_of units) (map declaration_result (declarations_after next units)))
+    facts-added units next ∙ append_assoc before (boundary Enters ∷ []) (added_by (marks_of units) (map declaration_result (declarations_over next (text_of units))))
 facts-added (Left file inside ∷ units) before =
     let next = before ++ boundary Leaves ∷ [] in
-    facts-added units next ∙ append_assoc before (boundary Leaves ∷ []) (added_by (marks_of units) (map declaration_result (declarations_after next units)))
-facts-added (End ∷ units) before =
-    subst (λ b. facts_after b units ≡ before ++ added_by (marks_of units) (map declaration_result (declarations_after b units)))
-    (sym (append-nil before)) (facts-added units before)
+    facts-added units next ∙ append_assoc before (boundary Leaves ∷ []) (added_by (marks_of units) (map declaration_result (declarations_over next (text_of units))))
+facts-added (End ∷ units) before = ap (λ (fs : List UnitFacts). facts_after fs units) (append-nil before) ∙ facts-added units before
 
 -- ---- the first of them
 
+-- lists that are one have one first item, and one rest
+same-head : {A : Type 0} (x y : A) (xs ys : List A) → x ∷ xs ≡ y ∷ ys → x ≡ y
+same-head x y xs ys h = cc
+
+same-tail : {A : Type 0} (x y : A) (xs ys : List A) → x ∷ xs ≡ y ∷ ys → xs ≡ ys
+same-tail x y xs ys h = cc
+
 -- what is kept of one with tokens is its result, and those behind it stood behind what it added
 judged-there : (units : List RootUnit) (before : List UnitFacts) (marks : List Mark) (k : DeclarationResult) (results : List DeclarationResult)
-    → mark.Judged ∷ marks ≡ marks_of units → k ∷ results ≡ map declaration_result (declarations_after before units)
+    → mark.Judged ∷ marks ≡ marks_of units → k ∷ results ≡ map declaration_result (declarations_over before (text_of units))
     → (k ≡ declaration_result (k.text, answers before)) × WereThere (before ++ k.out.writes ∷ []) marks results
-unfolding declarations_after
+unfolding declarations_over
 judged-there [] before marks k results m r = cc
 judged-there (Spelled text sites ∷ units) before marks k results m r =
     let here : DeclarationResult = declaration_result (text, answers before) in
-    let same : k ≡ here = cc in
-    let rest : results ≡ map declaration_result (declarations_after (before ++ (verdict_over before text).writes ∷ []) units) = cc in
-    let behind : marks ≡ marks_of units = cc in
+    let next = before ++ (verdict_over before text).writes ∷ [] in
+    let same : k ≡ here = same-head k here results (map declaration_result (declarations_over next (text_of units))) r in
+    let rest = same-tail k here results (map declaration_result (declarations_over next (text_of units))) r in
+    let behind = same-tail mark.Judged mark.Judged marks (marks_of units) m in
     let own : WereThere (before ++ here.out.writes ∷ []) marks results = record { units = units; marks_are = behind; results_are = rest } in (
       same ∙ ap (λ t. declaration_result (t, answers before)) (sym (ap (λ (x : DeclarationResult). x.text) same)),
       subst (λ (x : DeclarationResult). WereThere (before ++ x.out.writes ∷ []) marks results) (sym same) own,
     )
 judged-there (Entered file inside ∷ units) before marks k results m r = cc
 judged-there (Left file inside ∷ units) before marks k results m r = cc
-judged-there (End ∷ units) before marks k results m r =
-    subst (λ b. (k ≡ declaration_result (k.text, answers b)) × WereThere (b ++ k.out.writes ∷ []) marks results)
-    (append-nil before) (judged-there units (before ++ []) marks k results m r)
+judged-there (End ∷ units) before marks k results m r = judged-there units before marks k results m r
 
 entered-there : (units : List RootUnit) (before : List UnitFacts) (own : Bool) (marks : List Mark) (results : List DeclarationResult)
-    → mark.Entered own ∷ marks ≡ marks_of units → results ≡ map declaration_result (declarations_after before units)
+    → mark.Entered own ∷ marks ≡ marks_of units → results ≡ map declaration_result (declarations_over before (text_of units))
     → WereThere (before ++ boundary Enters ∷ []) marks results
-unfolding declarations_after
+unfolding declarations_over
 entered-there [] before own marks results m r = cc
 entered-there (Spelled text sites ∷ units) before own marks results m r = cc
 entered-there (Entered file inside ∷ units) before own marks results m r =
-    let behind : marks ≡ marks_of units = cc in
-    record { units = units; marks_are = behind; results_are = r }
+    record { units = units; marks_are = same-tail (mark.Entered own) (mark.Entered inside) marks (marks_of units) m; results_are = r }
 entered-there (Left file inside ∷ units) before own marks results m r = cc
-entered-there (End ∷ units) before own marks results m r =
-    subst (λ b. WereThere (b ++ boundary Enters ∷ []) marks results) (append-nil before) (entered-there units (before ++ []) own marks results m r)
+entered-there (End ∷ units) before own marks results m r = entered-there units before own marks results m r
 
 left-there : (units : List RootUnit) (before : List UnitFacts) (own : Bool) (marks : List Mark) (results : List DeclarationResult)
-    → mark.Left own ∷ marks ≡ marks_of units → results ≡ map declaration_result (declarations_after before units)
+    → mark.Left own ∷ marks ≡ marks_of units → results ≡ map declaration_result (declarations_over before (text_of units))
     → WereThere (before ++ boundary Leaves ∷ []) marks results
-unfolding declarations_after
+unfolding declarations_over
 left-there [] before own marks results m r = cc
 left-there (Spelled text sites ∷ units) before own marks results m r = cc
 left-there (Entered file inside ∷ units) before own marks results m r = cc
 left-there (Left file inside ∷ units) before own marks results m r =
-    let behind : marks ≡ marks_of units = cc in
-    record { units = units; marks_are = behind; results_are = r }
-left-there (End ∷ units) before own marks results m r =
-    subst (λ b. WereThere (b ++ boundary Leaves ∷ []) marks results) (append-nil before) (left-there units (before ++ []) own marks results m r)
+    record { units = units; marks_are = same-tail (mark.Left own) (mark.Left inside) marks (marks_of units) m; results_are = r }
+left-there (End ∷ units) before own marks results m r = left-there units before own marks results m r
 
 -- the first has tokens
 passed-judged : (marks behind : List Mark) (results rest : List DeclarationResult) (k : DeclarationResult) → marks ≡ mark.Judged ∷ behind → results ≡ k ∷ rest
@@ -109,9 +111,6 @@ passed-left own marks behind results m = record {
   added = ap (λ l. added_by l results) m;
   there = λ before w. left-there w.units before own behind results (sym m ∙ w.marks_are) w.results_are;
 }
-
-same-head : (f g : UnitFacts) (xs ys : List UnitFacts) → f ∷ xs ≡ g ∷ ys → f ≡ g
-same-head f g xs ys h = cc
 
 drop-suc : {A : Type 0} (xs : List A) (i : ℕ) (x : A) (ys : List A) → drop i xs ≡ x ∷ ys → drop (suc i) xs ≡ ys
 drop-suc [] zero x ys h = cc

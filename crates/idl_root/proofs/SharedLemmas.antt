@@ -16,10 +16,11 @@ use Rattle.idl_memo.specs.declared.meter.Meter.{Meter}
 use Rattle.idl_memo.specs.declared.task.TaskKind.{TaskKind}
 use Rattle.idl_memo.specs.declared.task.TaskKind.TheVariants.{Expand, Check, Print}
 use Rattle.idl_repo.specs.Entry.{entry}
-use Rattle.idl_root.specs.Compared.{IsMetAt, entry_keys, shared_entries}
+use Rattle.idl_root.specs.Compared.{entry_keys, shared_entries}
 use Rattle.idl_root.specs.Places.{EntryPlace}
 use Rattle.idl_root.specs.Results.{EntryResult, HasDraft, entry_result}
 use Rattle.idl_root.proofs.StoredLemmas.{grown-results}
+use Rattle.idl_store.specs.Obtained.{IsObtained}
 use Rattle.idl_store.specs.Stored.{Stored, grown, results_in}
 
 -- so many keys, and then more
@@ -52,7 +53,7 @@ module _ {K V T O : Type 0} (text_eq : T → T → Bool) (value_eq : V → V →
   where
     -- at one place those are compared that a known task asked which is alike there
     pub shared-one : (kind : TaskKind) (known : List (Place K V T)) (here : Place K V T) (old new : Meter)
-        → IsMetAt here (result_over eq query here) kind (map (λ p. result_over eq query p) known) old new
+        → IsObtained here (result_over eq query here) kind (map (λ p. result_over eq query p) known) old new
         → (more : ℕ) → compared_after new.compared more ≡ compared_after old.compared (shared_at text_eq value_eq query eq known here + more)
     shared-one kind known here old new (inl (alike, is)) more =
         let keys = keys_at text_eq value_eq query eq here in
@@ -75,19 +76,19 @@ module _ (some : (known : List EntryPlace) (here : EntryPlace) → SomeAlikeAt h
   where
     -- at one name more, and at those behind it
     pub shared-entry : (kept next : Stored EntryResult) (known : List EntryPlace) (here : EntryPlace) (old new : Meter) → HasDraft kept → next ≡ grown kept (entry_result here ∷ [])
-        → results_in kept ≡ map entry_result known → IsMetAt here (entry_result here) Print (results_in kept) old new
+        → results_in kept ≡ map entry_result known → IsObtained here (entry_result here) Print (results_in kept) old new
         → (results_in next ≡ map entry_result (known ++ here ∷ []))
         × ((rest : List EntryPlace) → compared_after new.compared (shared_entries (known ++ here ∷ []) rest) ≡ compared_after old.compared (shared_entries known (here ∷ rest)))
     unfolding shared_among
     shared-entry kept next known here old new has grows are met =
-        let own : IsMetAt here (entry_result here) Print (map entry_result known) old new = subst (λ (ks : List EntryResult). IsMetAt here (entry_result here) Print ks old new) are met in (
+        let own : IsObtained here (entry_result here) Print (map entry_result known) old new = subst (λ (ks : List EntryResult). IsObtained here (entry_result here) Print ks old new) are met in (
           ap (λ (s : Stored EntryResult). results_in s) grows ∙ grown-results kept (entry_result here ∷ []) has
               ∙ ap (λ (ks : List EntryResult). ks ++ entry_result here ∷ []) are ∙ sym (map-append entry_result known (here ∷ [])),
           λ rest. shared-one path_eq (option_eq answer_eq) entry key_eq some none Print known here old new own (shared_entries (known ++ here ∷ []) rest),
         )
 
 -- the count stays in its bounds
-pub compared-met : (here : EntryPlace) (results : List EntryResult) (old new : Meter) → old.compared ≤ most_compared → IsMetAt here (entry_result here) Print results old new → new.compared ≤ most_compared
+pub compared-met : (here : EntryPlace) (results : List EntryResult) (old new : Meter) → old.compared ≤ most_compared → IsObtained here (entry_result here) Print results old new → new.compared ≤ most_compared
 compared-met here results old new fits (inl (alike, is)) =
     let counts = ap (λ (m : Meter). m.compared) is in
     let most = compared-most old.compared (entry_keys here) in

@@ -1,20 +1,16 @@
 -- Results of lists that go into the last draft too.
-use Rattle.std.proofs.Common.{◌≡◌, ℕ, List, [], ◌∷◌, Option, None, Some, ap, arith, inl, inr, length, refl, subst, sym, ◌∙◌}
+use Rattle.std.proofs.Common.{◌≡◌, ℕ, List, [], ◌∷◌, Option, None, Some, ap, inl, length, refl, subst, sym, ◌∙◌}
 use Rattle.std.specs.Option.{option_map}
 use Rattle.std.specs.Prelude.{IfNone, IfOk, IfSome, OnErr, OnOk, Result, Ok, Err, option_to_list}
 use Rattle.std.proofs.lemmas.Option.{same_Some}
-use Rattle.idl_kept.specs.Texts.{Texts, with_units}
+use Rattle.idl_kept.specs.Texts.{DeclarationResult, Texts, with_units}
 use Rattle.idl_memo.specs.Fresh.{Place}
-use Rattle.idl_memo.specs.Kept.{Kept, SomeAlikeAt}
-use Rattle.idl_memo.specs.Meter.{ComparesOnly, compared_after, count_of, raised}
+use Rattle.idl_memo.specs.Kept.{Kept}
+use Rattle.idl_memo.specs.Meter.{compared_after}
 use Rattle.idl_memo.specs.declared.meter.Meter.{Meter}
 use Rattle.idl_memo.specs.declared.task.TaskKind.{TaskKind}
-use Rattle.idl_memo.specs.declared.task.TaskKind.TheVariants.{Expand, Check, Print}
-use Rattle.idl_store.specs.Obtained.{IsObtained}
-use Rattle.idl_store.specs.Stored.{Stored, grown, results_in}
-use Rattle.idl_root.specs.Compared.{IsMetAt}
+use Rattle.idl_store.specs.Stored.{Stored}
 use Rattle.idl_root.specs.Followed.{IsObtainedLast, IsTakenAgain, UnitsOnly}
-use Rattle.idl_root.specs.Results.{DeclarationResult}
 use Rattle.idl_root.proofs.StoredLemmas.{grown-none}
 
 -- what is kept grows by some results
@@ -78,45 +74,11 @@ at-some found r P is h = subst (λ o. IfSome o P) is h
 pub at-none : {R : Type 0} (found : Option R) (P : Type 0) → found ≡ None → IfNone found P → P
 at-none found P is h = subst (λ o. IfNone o P) is h
 
--- what is obtained goes last into what is made of a root
-pub obtained-last : {K V T O : Type 0} {kind : TaskKind} {place : Place K V T} {here : Kept K V T O} {old new : Stored (Kept K V T O)} {before after : Meter} {result : Kept K V T O} → result ≡ here
-    → new ≡ grown old (here ∷ []) → IsMetAt place here kind (results_in old) before after → IsObtainedLast kind place here old new before after result
-obtained-last is grows met = record { result_is = is; new_is = grows; obtained = met }
-
--- the keys of one that is alike are compared
-module _ {K V T O : Type 0} (kind : TaskKind) (place : Place K V T) (here : Kept K V T O) (before : Meter) where
-  met-compared : (results : List (Kept K V T O)) (after : Meter) (keys : ℕ) → keys ≡ length here.log → ComparesOnly before after → after.compared ≡ compared_after before.compared keys
-      → SomeAlikeAt place results → IsMetAt place here kind results before after
-  met-compared results after keys all only counts some =
-      inl (some, only ∙ ap (λ n. record before { compared = n }) (counts ∙ ap (λ n. compared_after before.compared n) all))
-
-  -- what is taken again goes last into it too
-  pub taken-last : {old new : Stored (Kept K V T O)} {result : Kept K V T O} (after : Meter) (keys : ℕ) → keys ≡ length here.log → ComparesOnly before after
-      → after.compared ≡ compared_after before.compared keys → IsTakenAgain place here old new result → IsObtainedLast kind place here old new before after result
-  taken-last {old} after keys all only counts taken = record {
-    result_is = taken.result_is;
-    new_is = taken.new_is;
-    obtained = met-compared (results_in old) after keys all only counts taken.alike;
-  }
-
-  -- one that was run was counted
-  not-raised : (k : TaskKind) (m : Meter) → count_of k (raised k m) ≡ count_of k m → ⊥
-  not-raised Expand m same = omega (arith, same)
-  not-raised Check m same = omega (arith, same)
-  not-raised Print m same = omega (arith, same)
-
-  module _ (results : List (Kept K V T O)) (between : Meter) (is : IsObtained place kind results before between) where
-    -- so where none was, one is alike, and its keys are compared; and else one was run
-    pub met-alike : count_of kind between ≡ count_of kind before → (after : Meter) (keys : ℕ) → keys ≡ length here.log → ComparesOnly between after
-        → after.compared ≡ compared_after between.compared keys → IsMetAt place here kind results before after
-    met-alike same after keys all only counts = elim is [
-      | inl some ↦ met-compared results after keys all (subst (λ (m : Meter). ComparesOnly m after) some.1 only)
-          (counts ∙ ap (λ (m : Meter). compared_after m.compared keys) some.1) some.0
-      | inr fresh ↦ absurd (not-raised kind before (ap (λ (m : Meter). count_of kind m) (sym fresh.1) ∙ same))
-    ]
-
-    pub met-run : (count_of kind between ≡ count_of kind before → ⊥) → IsMetAt place here kind results before between
-    met-run other = elim is [
-      | inl some ↦ absurd (other (ap (λ (m : Meter). count_of kind m) some.1))
-      | inr fresh ↦ inr (fresh.0, fresh.1)
-    ]
+-- what is taken again goes last into what is made of a root, and its keys are compared
+pub taken-last : {K V T O : Type 0} (kind : TaskKind) (place : Place K V T) (here : Kept K V T O) {old new : Stored (Kept K V T O)} {result : Kept K V T O} (before after : Meter) (keys : ℕ)
+    → keys ≡ length here.log → after ≡ record before { compared = compared_after before.compared keys } → IsTakenAgain place here old new result → IsObtainedLast kind place here old new before after result
+taken-last kind place here before after keys all counts taken = record {
+  result_is = taken.result_is;
+  new_is = taken.new_is;
+  obtained = inl (taken.alike, counts ∙ ap (λ n. record before { compared = compared_after before.compared n }) all);
+}

@@ -6,19 +6,16 @@ use Rattle.idl_env.specs.Facts.{UnitFacts, answers, count_in}
 use Rattle.idl_env.specs.Turns.{most_turns, turns_for}
 use Rattle.idl_env.specs.declared.keys.key.Key.TheVariants.{Nameless}
 use Rattle.idl_kept.proofs.Begins.{count-unit_results}
-use Rattle.idl_kept.specs.Texts.{BlockResult, IsPlaced, IsTaken, Texts, unit_results, with_whole}
+use Rattle.idl_kept.specs.Texts.{BlockResult, DeclarationResult, IsPlaced, IsTaken, Texts, unit_results, with_whole}
 use Rattle.idl_memo.specs.Kept.{NoneAlikeAt, SomeAlikeAt}
 use Rattle.idl_root.proofs.AsBeforeLemmas.{judged-kept}
 use Rattle.idl_root.proofs.BlockLemmas.{from-among, pass-known}
-use Rattle.idl_root.proofs.KnownLemmas.{marks-text}
 use Rattle.idl_root.proofs.StoredLemmas.{grown-results}
-use Rattle.idl_root.proofs.TextLaws.{declarations-text}
 use Rattle.idl_root.specs.AsBefore.{judged_beside}
 use Rattle.idl_root.specs.Followed.{added_by}
 use Rattle.idl_root.specs.Judged.{judged_after}
-use Rattle.idl_root.specs.Passed.{IsSameBlock, marks_in}
-use Rattle.idl_root.specs.Places.{declarations_after}
-use Rattle.idl_root.specs.Results.{DeclarationResult, HasDraft, IsDeclarationPass, marks_of}
+use Rattle.idl_root.specs.Passed.{IsSameBlock}
+use Rattle.idl_root.specs.Results.{HasDraft, IsDeclarationPass, marks_in, marks_of}
 use Rattle.idl_root_blocks.proofs.Cuts.{cut-whole}
 use Rattle.idl_root_blocks.specs.Blocks.{IsOfBlock, Pieces, cut, text_in}
 use Rattle.idl_root_blocks.specs.Finding.{texts_in}
@@ -55,7 +52,7 @@ module _
 
     -- what is added beside these results
     behind-is : with_entering facts ++ added_by (marks_of units) known ≡ with_entering facts ++ added_by (marks_in text) results
-    behind-is = λ i. with_entering facts ++ added_by (marks-text units i) (known-are i)
+    behind-is = ap (λ (rs : List DeclarationResult). with_entering facts ++ added_by (marks_in text) rs) known-are
 
     module _ (behind : List UnitFacts) (is : behind ≡ with_entering facts ++ added_by (marks_of units) known)
         (turns : turns_for behind ≤ most_turns) (count : count_in (answers behind Nameless) < 2 ^ 64) where
@@ -69,11 +66,8 @@ module _
       pub facts-are : behind ≡ facts_over (with_entering facts) (text_in (cut text))
       facts-are = is ∙ behind-is ∙ sym same.facts_are ∙ ap (facts_over (with_entering facts)) (sym (cut-whole text))
 
-      results-are : known ≡ map declaration_result (declarations_after (with_entering facts) units)
-      results-are =
-          known-are ∙ sym same.units
-          ∙ ap (λ (t : List Part). map declaration_result (declarations_over (with_entering facts) t)) (cut-whole text)
-          ∙ ap (map declaration_result) (sym (declarations-text units (with_entering facts)))
+      results-are : known ≡ map declaration_result (declarations_over (with_entering facts) text)
+      results-are = known-are ∙ sym same.units ∙ ap (λ (t : List Part). map declaration_result (declarations_over (with_entering facts) t)) (cut-whole text)
 
       pub judged-are : judged_beside units known ≡ judged_after (with_entering facts) units
       judged-are = ap (judged_beside units) results-are ∙ sym (judged-kept units (with_entering facts))

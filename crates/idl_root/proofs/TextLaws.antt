@@ -1,12 +1,12 @@
--- What units add, and where their declarations stand, is told by their text.
+-- What units add, and what they come to, is told by their text.
 use Rattle.std.proofs.Common.{◌≡◌, ◌∙◌, List, [], ◌∷◌, ◌++◌, append-nil, map, refl, ap}
 use Rattle.idl_block.specs.Blocks.{walk}
 use Rattle.idl_root_blocks.specs.idl_check.declared.walk.verdict.Verdict.{Verdict}
 use Rattle.idl_env.specs.Facts.{UnitFacts, answers}
-use Rattle.idl_root.specs.Judged.{Judged, added, facts_after, judged_after, verdict_over}
-use Rattle.idl_root.specs.Places.{declaration_at, declarations_after}
+use Rattle.idl_root.specs.Judged.{Judged, facts_after, judged_after}
+use Rattle.idl_root_blocks.specs.idl_check.walk.Verdict.{added, verdict_over}
 use Rattle.idl_root_blocks.specs.Blocks.{parts_of}
-use Rattle.idl_root_blocks.specs.Places.{DeclarationPlace, declarations_over, facts_over, unit_ways}
+use Rattle.idl_root_blocks.specs.Places.{facts_over, unit_ways}
 use Rattle.idl_root_blocks.specs.Units.{text_of}
 use Rattle.idl_unit.specs.declared.unit.Unit.{Unit as RootUnit}
 use Rattle.idl_unit.specs.declared.unit.Unit.TheVariants.{Spelled, Entered, Left, End}
@@ -18,15 +18,6 @@ facts-text (Spelled text sites ∷ units) facts = facts-text units (facts ++ add
 facts-text (Entered file inside ∷ units) facts = facts-text units (facts ++ added facts (Entered file inside))
 facts-text (Left file inside ∷ units) facts = facts-text units (facts ++ added facts (Left file inside))
 facts-text (End ∷ units) facts = ap (λ (fs : List UnitFacts). facts_after fs units) (append-nil facts) ∙ facts-text units facts
-
-pub declarations-text : (units : List RootUnit) (facts : List UnitFacts) → declarations_after facts units ≡ declarations_over facts (text_of units)
-unfolding declarations_after declarations_over
-declarations-text [] facts = refl
-declarations-text (Spelled text sites ∷ units) facts =
-    ap (λ (places : List DeclarationPlace). declaration_at facts (Spelled text sites) ++ places) (declarations-text units (facts ++ added facts (Spelled text sites)))
-declarations-text (Entered file inside ∷ units) facts = declarations-text units (facts ++ added facts (Entered file inside))
-declarations-text (Left file inside ∷ units) facts = declarations-text units (facts ++ added facts (Left file inside))
-declarations-text (End ∷ units) facts = ap (λ (fs : List UnitFacts). declarations_after fs units) (append-nil facts) ∙ declarations-text units facts
 
 -- the verdicts of judged units
 abbrev verdicts : List Judged → List Verdict

@@ -1,7 +1,7 @@
 -- The faults of a root's units are all told: each token of a unit stands somewhere.
 use Rattle.std.proofs.Common.{◌≡◌, ◌≢◌, ℕ, zero, suc, ◌<◌, Bool, List, [], ◌∷◌, ◌++◌, length, Option, Some, slice_get, flat_map, refl, ap, ◌∙◌, arith}
 use Rattle.std.specs.List.{AllByRecursion, enumerate_from}
-use Rattle.idl_root_blocks.specs.idl_check.walk.Verdict.{verdict}
+use Rattle.idl_root_blocks.specs.idl_check.walk.Verdict.{verdict, verdict_over}
 use Rattle.idl_root_blocks.specs.idl_check.declared.walk.verdict.Verdict.{Verdict}
 use Rattle.idl_event.specs.Apart.{Numbered, sites_in, tokens_in}
 use Rattle.idl_event.specs.declared.told.event.Event.{Event}
@@ -10,10 +10,9 @@ use Rattle.idl_event.specs.declared.told.site.Site.{Site}
 use Rattle.idl_lex.specs.tokens.Tokens.{Token}
 use Rattle.idl_memo.specs.Query.{outcome}
 use Rattle.idl_finding.specs.Findings.{fault_finding, finding_at, site_of, tokens_of}
-use Rattle.idl_root.specs.Judged.{judged_after, verdict_over}
-use Rattle.idl_block.specs.facts.Written.{boundary}
+use Rattle.idl_root.specs.Judged.{judged_after}
 use Rattle.idl_root.specs.Told.{IsTold}
-use Rattle.idl_env.specs.Facts.{UnitFacts, answers}
+use Rattle.idl_env.specs.Facts.{UnitFacts, answers, boundary}
 use Rattle.idl_env.specs.declared.additions.addition.Step.TheVariants.{Enters, Leaves}
 use Rattle.idl_env.specs.declared.answering.answer.Answer.{Answer}
 use Rattle.idl_env.specs.declared.keys.key.Key.{Key}

@@ -4,7 +4,7 @@ use Rattle.std.proofs.lemmas.List.{append_cancel_left}
 use Rattle.std.specs.Option.{option_eq}
 use Rattle.idl_root_blocks.specs.verdicts.Standing.{AreStanding, IsBlockFront, block_end}
 use Rattle.idl_root_blocks.specs.idl_check_laws.Closing.{AreTold}
-use Rattle.idl_env.specs.Facts.{UnitFacts, answers, count_in}
+use Rattle.idl_env.specs.Facts.{UnitFacts, answers, boundary, count_in}
 use Rattle.idl_env.specs.SameAnswer.{answer_eq}
 use Rattle.idl_env.specs.SameKey.{same_key}
 use Rattle.idl_env.specs.Turns.{most_turns, turns_for}
@@ -12,17 +12,16 @@ use Rattle.idl_env.specs.declared.additions.addition.Step.TheVariants.{Enters as
 use Rattle.idl_env.specs.declared.keys.key.Key.TheVariants.{Nameless}
 use Rattle.idl_env.specs.keys.Digested.{key_equiv}
 use Rattle.idl_env.specs.keys.Key.{key_eq}
-use Rattle.idl_block.specs.facts.Written.{boundary}
 use Rattle.idl_kept.specs.Texts.{BlockResult, IsPlaced, begins_in, inner_results, unit_results, with_blocks, with_units}
 use Rattle.idl_memo.proofs.QueryLaws.{IsLogOf-run}
 use Rattle.idl_memo.specs.Fresh.{is_alike}
-use Rattle.idl_memo.specs.Kept.{IsAlike}
 use Rattle.idl_memo.specs.Query.{HoldsIn}
 use Rattle.idl_root.specs.Followed.{added_by}
-use Rattle.idl_root.specs.Passed.{IsSameBlock, marks_in}
+use Rattle.idl_root.specs.Results.{marks_in}
+use Rattle.idl_root.specs.Passed.{IsSameBlock}
 use Rattle.idl_root_blocks.proofs.Cuts.{cut-one, cut-whole}
-use Rattle.idl_root_blocks.specs.Blocks.{AreCut, IsOfBlock, Pieces, cut, parts_of, text_in}
-use Rattle.idl_root_blocks.specs.Met.{block_text_eq}
+use Rattle.idl_root_blocks.specs.Blocks.{AreCut, IsOfBlock, Pieces, cut, parts_of, plain_text, text_in}
+use Rattle.idl_root_blocks.specs.Met.{IsLike, block_text_eq}
 use Rattle.idl_root_blocks.specs.Places.{BlockPlace, ComesTo, Stands, block_asks, block_at, block_query, block_result, blocks_over, declaration_result, declarations_over, facts_over, with_entering}
 use Rattle.idl_root_blocks.specs.declared.text.BlockPart.{BlockPart as Part}
 use Rattle.idl_root_blocks.specs.declared.text.BlockPart.TheVariants.{Text, Enters, Leaves}
@@ -57,15 +56,15 @@ module _
     → AreStanding other (block_end (answers before) (parts_of text)).1
     → is_alike block_text_eq (option_eq answer_eq) block_query (there, answers other) (text, answers before) ≡ true
     → ComesTo before text (block_end (answers before) (parts_of text)) × ComesTo other there (block_end (answers before) (parts_of text)))
-    (tells : (here task : BlockPlace) → IsAlike here.0 here.1 (block_result task) → is_alike block_text_eq (option_eq answer_eq) block_query here task ≡ true)
+    (tells : (here task : BlockPlace) → IsLike here (block_result task) → is_alike block_text_eq (option_eq answer_eq) block_query here task ≡ true)
     (units : (before other : List UnitFacts) (text there : List Part) → IsOfBlock text → AreStanding before (block_end (answers before) (parts_of text)).1
     → AreStanding other (block_end (answers before) (parts_of text)).1
     → is_alike block_text_eq (option_eq answer_eq) block_query (there, answers other) (text, answers before) ≡ true
     → map declaration_result (declarations_over (with_entering other) there) ≡ map declaration_result (declarations_over (with_entering before) text))
-    (blocks : (before other : List UnitFacts) (inside there : Pieces) → IsOfBlock (text_in inside) → AreCut inside → AreCut there
+    (blocks : (before other : List UnitFacts) (inside : Pieces) → IsOfBlock (text_in inside) → AreCut inside
     → AreStanding before (block_end (answers before) (parts_of (text_in inside))).1 → AreStanding other (block_end (answers before) (parts_of (text_in inside))).1
-    → is_alike block_text_eq (option_eq answer_eq) block_query (block_at other there) (block_at before inside) ≡ true
-    → map block_result (blocks_over (with_entering other) there) ≡ map block_result (blocks_over (with_entering before) inside))
+    → is_alike block_text_eq (option_eq answer_eq) block_query (block_at other inside) (block_at before inside) ≡ true
+    → map block_result (blocks_over (with_entering other) inside) ≡ map block_result (blocks_over (with_entering before) inside))
     (facts there : List UnitFacts) (text : List Part) (inside : Pieces)
     (whole : IsOfBlock text) (placed : IsPlaced there inside) (same : block_result (text, answers facts) ≡ block_result (block_at there inside)) (told : AreTold facts)
   where
@@ -90,7 +89,7 @@ module _
     -- the block there is alike here
     is-alike : is_alike block_text_eq (option_eq answer_eq) block_query (text, answers facts) (block_at there inside) ≡ true
     is-alike = tells (text, answers facts) (block_at there inside) (record {
-      text_is = one-text;
+      text_is = ap plain_text one-text;
       answers = subst (λ (r : BlockResult). HoldsIn (answers facts) r.log) same (block-holds text facts);
     })
 
@@ -126,7 +125,7 @@ module _
       is-inner : inner_results facts (cut text) ≡ inner_results there inside
       is-inner =
           ap (λ (pieces : Pieces). map block_result (blocks_over (with_entering facts) pieces)) (sym is-cut)
-          ∙ blocks there facts inside inside placed.block placed.cut placed.cut placed.standing stands-there
+          ∙ blocks there facts inside placed.block placed.cut placed.standing stands-there
           (subst (λ (t : List Part). is_alike block_text_eq (option_eq answer_eq) block_query (t, answers facts) (block_at there inside) ≡ true) (sym one-text) is-alike)
 
       is-block : block_result (block_at facts (cut text)) ≡ block_result (block_at there inside)

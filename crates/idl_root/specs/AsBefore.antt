@@ -2,7 +2,7 @@
 use Rattle.std.specs.Prelude.{◌≡◌, ℕ, ◌+◌, List, [], ◌∷◌, ◌++◌, flat_map, map}
 use Rattle.idl_event.specs.declared.told.event.Event.{Event}
 use Rattle.idl_fault.specs.declared.place.Place.{Place}
-use Rattle.idl_kept.specs.Texts.{AreListsOf}
+use Rattle.idl_kept.specs.Texts.{AreListsOf, DeclarationResult}
 use Rattle.idl_memo.specs.Meter.{compared_after}
 use Rattle.idl_memo.specs.declared.meter.Meter.{Meter}
 use Rattle.idl_root.specs.Compared.{AreOf, compared_root, root_keys}
@@ -10,12 +10,13 @@ use Rattle.idl_root.specs.Compile.{compile}
 use Rattle.idl_finding.specs.Findings.{fault_finding}
 use Rattle.idl_root.specs.Followed.{results_from}
 use Rattle.idl_root.specs.Judged.{Judged}
-use Rattle.idl_root.specs.Places.{EntryPlace, begins_of, blocks_of, declarations_after, declarations_of, entries_of, root_pieces}
+use Rattle.idl_root.specs.Places.{EntryPlace, begins_of, blocks_of, declarations_of, entries_of, root_pieces}
 use Rattle.idl_root.specs.Printed.{Listed, name_index}
-use Rattle.idl_root.specs.Results.{DeclarationResult, EntryResult, IsDeclarationPass, IsEntryPass, KeptLists, entry_result, mark_at, marks_of}
+use Rattle.idl_root.specs.Results.{EntryResult, IsDeclarationPass, IsEntryPass, KeptLists, entry_result, mark_at, marks_of}
 use Rattle.idl_root_blocks.specs.Met.{Known}
-use Rattle.idl_root_blocks.specs.Places.{block_result, declaration_result}
-use Rattle.idl_root.specs.Turns.{IsWithinWords}
+use Rattle.idl_root_blocks.specs.Places.{block_result, declaration_result, declarations_over}
+use Rattle.idl_root_blocks.specs.Units.{text_of}
+use Rattle.idl_root.specs.Turns.{FitsU64}
 use Rattle.idl_root.specs.declared.compiling.compiled.Compiled.{Compiled}
 use Rattle.idl_finding.specs.declared.finding.EventFinding.{EventFinding}
 use Rattle.idl_root.specs.declared.kept.course.Course.{Course}
@@ -74,7 +75,7 @@ pub record IsBehindSame (lists : List (List DeclarationResult)) (course : Course
 pub record AreCourse (lists : List (List DeclarationResult)) (course : Course)
     (units : List RootUnit) : Type 0 where
   pub marks : course.marks.now ≡ marks_of units
-  pub results : results_from lists course ≡ map declaration_result (declarations_after [] units)
+  pub results : results_from lists course ≡ map declaration_result (declarations_over [] (text_of units))
 
 -- ---- what is found in them
 
@@ -102,7 +103,7 @@ closing_beside (l ∷ listed) (k ∷ entries) =
 pub record IsCompiledOf (events : List Event) (compiled : Compiled) : Type 0 where
   pub end : Place
   pub rows : compiled ≡ compile end events
-  pub within : IsWithinWords events
+  pub within : FitsU64 events
 
 -- what is kept of the root at a place among all
 abbrev pub kept_lists : Keeper → ℕ → KeptLists

@@ -1,32 +1,19 @@
 -- At how many keys known tasks are compared where those of a root are met: its names, and of its units
 -- and blocks those that stand in no block, and those directly inside a block that is met and to which
 -- no known one is alike.
-use Rattle.std.specs.Prelude.{◌≡◌, ◌⊎◌, ℕ, ◌+◌, All, Contains, List, [], length, map, sum_by}
+use Rattle.std.specs.Prelude.{◌≡◌, ℕ, ◌+◌, All, Contains, List, [], map, sum_by}
 use Rattle.std.specs.Option.{option_eq}
 use Rattle.idl_entity.specs.Path.{path_eq}
 use Rattle.idl_env.specs.SameAnswer.{answer_eq}
 use Rattle.idl_env.specs.keys.Key.{key_eq}
 use Rattle.idl_event.specs.declared.told.event.Event.{Event}
 use Rattle.idl_kept.specs.Texts.{Texts}
-use Rattle.idl_memo.specs.Fresh.{Place, keys_at, most_shared_at, shared_among, shared_at}
-use Rattle.idl_memo.specs.Kept.{Kept, NoneAlikeAt, SomeAlikeAt}
-use Rattle.idl_memo.specs.Meter.{compared_after, raised}
-use Rattle.idl_memo.specs.declared.meter.Meter.{Meter}
-use Rattle.idl_memo.specs.declared.task.TaskKind.{TaskKind}
+use Rattle.idl_memo.specs.Fresh.{keys_at, most_shared_at, shared_among, shared_at}
 use Rattle.idl_repo.specs.Entry.{entry}
 use Rattle.idl_root.specs.Places.{EntryPlace, entries_of, root_pieces}
 use Rattle.idl_root_blocks.specs.Met.{Known, compared, met_over, outermost_keys}
 use Rattle.idl_root_blocks.specs.Places.{block_result, declaration_result}
 use Rattle.idl_store.specs.Stored.{results_in}
-
--- one of the results is alike at a place, and the keys of what is kept there are compared; or none is,
--- and a task is run
-abbrev pub IsMetAt : {K V T O : Type 0} → Place K V T → Kept K V T O → TaskKind
-    → List (Kept K V T O) → Meter → Meter → Type 0
-IsMetAt place here kind results old new =
-    (SomeAlikeAt place results
-    × (new ≡ record old { compared = compared_after old.compared (length here.log) }))
-    ⊎ (NoneAlikeAt place results × (new ≡ raised kind old))
 
 -- what is kept of units and blocks is that of known ones
 pub record AreOf (known : Known) (texts : Texts) : Type 0 where

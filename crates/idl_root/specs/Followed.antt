@@ -1,24 +1,24 @@
 -- What was kept of a root, beside the facts of the units that stand there now.
 use Rattle.std.specs.Prelude.{◌≡◌, ℕ, Bool, true, false, List, [], ◌∷◌, ◌++◌, Option, Some, All, Contains, IfSome, drop, map}
-use Rattle.idl_env.specs.Facts.{UnitFacts, World, answers, world}
+use Rattle.idl_env.specs.Facts.{UnitFacts, World, answers, boundary, world}
 use Rattle.idl_env.specs.Outside.{WorldsAgreeAround, WorldsAgreeOutside, looked_at_by}
 use Rattle.idl_env.specs.declared.additions.addition.Step.TheVariants.{Enters, Leaves, Stays}
 use Rattle.idl_env.specs.declared.keys.key.Key.{Key}
 use Rattle.idl_env.specs.keys.Key.{key_digest}
-use Rattle.idl_kept.specs.Texts.{Texts}
+use Rattle.idl_kept.specs.Texts.{DeclarationResult, Texts}
 use Rattle.idl_memo.specs.Fresh.{Place}
 use Rattle.idl_memo.specs.Kept.{Kept, SomeAlikeAt}
+use Rattle.idl_store.specs.Obtained.{IsObtained}
 use Rattle.idl_store.specs.Stored.{Stored, grown, list_at, result_at, results_in}
 use Rattle.idl_memo.specs.declared.meter.Meter.{Meter}
 use Rattle.idl_memo.specs.declared.task.TaskKind.{TaskKind}
 use Rattle.idl_memo.specs.declared.task.TaskKind.TheVariants.{Check, Print}
 use Rattle.idl_root.specs.Changed.{ShareNone}
-use Rattle.idl_root.specs.Compared.{IsMetAt}
-use Rattle.idl_block.specs.facts.Written.{boundary}
-use Rattle.idl_root.specs.Places.{EntryPlace, declarations_after}
+use Rattle.idl_root.specs.Places.{EntryPlace}
 use Rattle.idl_root_blocks.specs.Asking.{AreNoted as HaveNoted, Opened}
-use Rattle.idl_root_blocks.specs.Places.{DeclarationPlace, declaration_result}
-use Rattle.idl_root.specs.Results.{DeclarationResult, EntryResult, entry_result, marks_of}
+use Rattle.idl_root_blocks.specs.Places.{DeclarationPlace, declaration_result, declarations_over}
+use Rattle.idl_root_blocks.specs.Units.{text_of}
+use Rattle.idl_root.specs.Results.{EntryResult, entry_result, marks_of}
 use Rattle.idl_root.specs.declared.kept.course.Course.{Course}
 use Rattle.idl_root.specs.declared.kept.following.Following.{Following}
 use Rattle.idl_root.specs.declared.kept.keeping.Keeping.{Keeping}
@@ -66,7 +66,7 @@ pub record WereThere (before : List UnitFacts) (marks : List Mark)
     : Type 0 where
   pub units : List RootUnit
   pub marks_are : marks ≡ marks_of units
-  pub results_are : results ≡ map declaration_result (declarations_after before units)
+  pub results_are : results ≡ map declaration_result (declarations_over before (text_of units))
 
 -- the results of the units that are still to come, in the lists that are kept
 abbrev pub results_from : List (List DeclarationResult) → Course → List DeclarationResult
@@ -163,7 +163,7 @@ pub record IsObtainedLast {K V T O : Type 0} (kind : TaskKind) (place : Place K 
     (result : Kept K V T O) : Type 0 where
   pub result_is : result ≡ here
   pub new_is : new ≡ grown old (here ∷ [])
-  pub obtained : IsMetAt place here kind (results_in old) before after
+  pub obtained : IsObtained place here kind (results_in old) before after
 
 -- that of a declaration, and that of an entry
 abbrev pub IsDeclarationLast : DeclarationPlace → Stored DeclarationResult

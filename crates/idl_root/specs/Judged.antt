@@ -1,16 +1,13 @@
 -- The units of a root, each with its verdict over what the units and file boundaries before it
 -- added.
 use Rattle.std.specs.Prelude.{◌≤◌, List, [], ◌∷◌, ◌++◌}
-use Rattle.idl_root_blocks.specs.idl_check.walk.Verdict.{verdict}
+use Rattle.idl_root_blocks.specs.idl_check.walk.Verdict.{added, verdict_over}
 use Rattle.idl_root_blocks.specs.idl_check.declared.walk.verdict.Verdict.{Verdict}
 use Rattle.idl_event.specs.declared.told.site.Site.{Site}
-use Rattle.idl_memo.specs.Query.{outcome}
-use Rattle.idl_env.specs.Facts.{UnitFacts, answers}
+use Rattle.idl_env.specs.Facts.{UnitFacts}
 use Rattle.idl_env.specs.Turns.{most_turns, turns_for}
-use Rattle.idl_env.specs.declared.additions.addition.Step.TheVariants.{Enters, Leaves}
-use Rattle.idl_block.specs.facts.Written.{boundary}
 use Rattle.idl_unit.specs.declared.unit.Unit.{Unit as RootUnit}
-use Rattle.idl_unit.specs.declared.unit.Unit.TheVariants.{Spelled, Entered, Left, End}
+use Rattle.idl_unit.specs.declared.unit.Unit.TheVariants.{Spelled}
 use Rattle.idl_unit.specs.declared.unit.UnitText.{UnitText}
 
 -- a unit with tokens: its text, where each token stands, and its verdict
@@ -19,24 +16,12 @@ pub record Judged : Type 0 where
   pub sites : List Site
   pub verdict : Verdict
 
--- the verdict of a text over facts
-abbrev pub verdict_over : List UnitFacts → UnitText → Verdict
-verdict_over facts text = outcome (verdict most_turns text) (answers facts)
-
 -- a unit over facts
 abbrev pub judged_over : List UnitFacts → UnitText → List Site → Judged
 judged_over facts text sites =
     record { text = text; sites = sites; verdict = verdict_over facts text }
 
--- What a unit adds over facts. A faulty one adds facts too: an opening opens a scope, and a closing
--- closes one.
-abbrev pub added : List UnitFacts → RootUnit → List UnitFacts
-added facts (Spelled text sites) = (verdict_over facts text).writes ∷ []
-added facts (Entered file inside) = boundary Enters ∷ []
-added facts (Left file inside) = boundary Leaves ∷ []
-added facts End = []
-
--- it with its verdict, if it has tokens
+-- a unit of a root with its verdict, if it has tokens
 abbrev pub judged_at : List UnitFacts → RootUnit → List Judged
 judged_at facts (Spelled text sites) = judged_over facts text sites ∷ []
 judged_at facts other = []

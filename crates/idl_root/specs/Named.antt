@@ -9,7 +9,7 @@ use Rattle.idl_env.specs.Turns.{most_turns}
 use Rattle.idl_env.specs.declared.additions.addition.Step.{Step}
 use Rattle.idl_env.specs.declared.additions.addition.Step.TheVariants.{Opens, OpensNameless, Closes}
 use Rattle.idl_event.specs.declared.told.site.Site.{Site}
-use Rattle.idl_root.specs.Judged.{added, verdict_over}
+use Rattle.idl_root_blocks.specs.idl_check.walk.Verdict.{added, verdict_over}
 use Rattle.idl_root.specs.declared.compiling.naming.NamedUnit.{NamedUnit as HeldNamedUnit}
 use Rattle.idl_unit.specs.TokenRules.{first}
 use Rattle.idl_unit.specs.declared.unit.Unit.{Unit as RootUnit}

@@ -3,22 +3,19 @@
 use Rattle.std.specs.Prelude.{◌≡◌, ◌≤◌, ℕ, List, [], ◌∷◌, ◌++◌, length, map}
 use Rattle.idl_root_blocks.specs.verdicts.Standing.{IsBlockFront}
 use Rattle.idl_env.specs.Facts.{UnitFacts}
-use Rattle.idl_kept.specs.Texts.{IsLast, IsPlaced, Texts, begins_in, unit_results, with_blocks, with_units, with_whole}
+use Rattle.idl_kept.specs.Texts.{DeclarationResult, IsLast, IsPlaced, Texts, begins_in, unit_results, with_blocks, with_units, with_whole}
 use Rattle.idl_memo.specs.Meter.{compared_after, most_compared}
 use Rattle.idl_memo.specs.declared.meter.Meter.{Meter}
 use Rattle.idl_root.specs.Compared.{AreOf}
 use Rattle.idl_root.specs.Followed.{IsKeeping, added_by}
-use Rattle.idl_root.specs.Results.{ChecksOnly, DeclarationResult, HasDraft, IsDeclarationPass}
+use Rattle.idl_root.specs.Results.{ChecksOnly, HasDraft, IsDeclarationPass, marks_in}
 use Rattle.idl_root.specs.declared.kept.keeping.Keeping.{Keeping}
 use Rattle.idl_root.specs.declared.kept.known.Known.{Known}
-use Rattle.idl_root.specs.declared.kept.marks.Mark.{Mark}
-use Rattle.idl_root.specs.declared.kept.marks.Mark.TheVariants as mark
 use Rattle.idl_root_blocks.specs.Asking.{IsOpen, OpenBlock, kept_of}
 use Rattle.idl_root_blocks.specs.Blocks.{Pieces, cut, parts_of, text_in}
 use Rattle.idl_root_blocks.specs.Met.{Known as KnownTasks, compared, met_over, outermost_keys}
 use Rattle.idl_root_blocks.specs.Places.{Stands, block_at, block_result, blocks_over, declaration_result, declarations_over, facts_over, with_entering}
 use Rattle.idl_root_blocks.specs.declared.text.BlockPart.{BlockPart}
-use Rattle.idl_root_blocks.specs.declared.text.BlockPart.TheVariants.{Text, Enters, Leaves}
 use Rattle.idl_store.specs.Spots.{results_from}
 use Rattle.idl_store.specs.Stored.{last_draft, results_in}
 
@@ -47,15 +44,6 @@ keys_behind [] keys more = compared_after keys more
 keys_behind (block ∷ blocks) keys more = keys
 
 -- ---- what is kept
-
--- what a part of a text was, and what those of a text were
-abbrev pub part_mark : BlockPart → Mark
-part_mark (Text text) = mark.Judged
-part_mark (Enters inside) = mark.Entered inside
-part_mark (Leaves inside) = mark.Left inside
-
-abbrev pub marks_in : List BlockPart → List Mark
-marks_in text = map part_mark text
 
 -- with all that is kept of the units and the blocks among pieces behind facts
 abbrev pub with_kept : Texts → List UnitFacts → Pieces → Texts

@@ -2,48 +2,33 @@
 -- the declarations and the pragmas, over what the units and file boundaries before them added; of
 -- included files the blocks, over what was added before their entering; of the names that have an
 -- id, the entries, over all that was added.
-use Rattle.std.specs.Prelude.{ℕ, List, [], ◌∷◌, ◌++◌, Option, map}
+use Rattle.std.specs.Prelude.{ℕ, List, [], Option, map}
 use Rattle.idl_env.specs.Facts.{UnitFacts, answers}
 use Rattle.idl_env.specs.declared.answering.answer.Answer.{Answer}
 use Rattle.idl_env.specs.declared.keys.key.Key.{Key}
 use Rattle.idl_event.specs.declared.told.event.Event.{Event}
 use Rattle.idl_memo.specs.Fresh.{Place}
 use Rattle.idl_root.specs.Compile.{outcome_of}
-use Rattle.idl_root.specs.Judged.{added}
+use Rattle.idl_root_blocks.specs.idl_check.walk.Verdict.{added}
 use Rattle.idl_root.specs.Printed.{Listed}
 use Rattle.idl_kept.specs.Texts.{begins_in}
 use Rattle.idl_root_blocks.specs.Blocks.{Pieces, cut}
-use Rattle.idl_root_blocks.specs.Places.{BlockPlace, DeclarationPlace, blocks_over}
+use Rattle.idl_root_blocks.specs.Places.{BlockPlace, DeclarationPlace, blocks_over, declarations_over}
 use Rattle.idl_root_blocks.specs.Units.{text_of}
 use Rattle.idl_root_blocks.specs.declared.text.BlockPart.{BlockPart}
 use Rattle.idl_unit.specs.Units.{units_of}
-use Rattle.idl_unit.specs.declared.unit.Unit.{Unit as RootUnit}
-use Rattle.idl_unit.specs.declared.unit.Unit.TheVariants.{Spelled, Entered, Left, End}
 
 -- an entry where it stands: the text of its task is the path of the name
 abbrev pub EntryPlace : Type 0
 EntryPlace = Place Key (Option Answer) (List (List ℕ))
 
--- that of a unit over facts; file boundaries and the end are no tasks
-abbrev pub declaration_at : List UnitFacts → RootUnit → List DeclarationPlace
-declaration_at facts (Spelled text sites) = (text, answers facts) ∷ []
-declaration_at facts (Entered file inside) = []
-declaration_at facts (Left file inside) = []
-declaration_at facts End = []
-
--- those of units in order, before the first of which these facts stand
-unfoldable pub declarations_after : List UnitFacts → List RootUnit → List DeclarationPlace
-declarations_after facts [] = []
-declarations_after facts (u ∷ units) =
-    declaration_at facts u ++ declarations_after (facts ++ added facts u) units
-
--- those of a root that expands to these events
-unfoldable pub declarations_of : List Event → List DeclarationPlace
-declarations_of events = declarations_after [] (units_of events)
-
--- the text of such a root, and how that falls into blocks
+-- the text of a root that expands to these events, its declarations, and how the text falls into
+-- blocks
 abbrev pub root_text : List Event → List BlockPart
 root_text events = text_of (units_of events)
+
+unfoldable pub declarations_of : List Event → List DeclarationPlace
+declarations_of events = declarations_over [] (root_text events)
 
 abbrev pub root_pieces : List Event → Pieces
 root_pieces events = cut (root_text events)

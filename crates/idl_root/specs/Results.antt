@@ -1,11 +1,8 @@
 -- The results of the tasks of roots, as they are kept.
-use Rattle.std.specs.Prelude.{◌≡◌, ◌≢◌, ℕ, List, [], ◌∷◌, Option, flat_map, map}
+use Rattle.std.specs.Prelude.{◌≡◌, ◌≢◌, ℕ, List, [], Option, map}
 use Rattle.std.specs.Option.{option_eq}
-use Rattle.idl_root_blocks.specs.idl_check.walk.Verdict.{verdict}
-use Rattle.idl_root_blocks.specs.idl_check.declared.walk.verdict.Verdict.{Verdict}
 use Rattle.idl_entity.specs.Path.{path_eq}
 use Rattle.idl_env.specs.SameAnswer.{answer_eq}
-use Rattle.idl_env.specs.Turns.{most_turns}
 use Rattle.idl_env.specs.declared.answering.answer.Answer.{Answer}
 use Rattle.idl_env.specs.declared.keys.key.Key.{Key}
 use Rattle.idl_env.specs.keys.Key.{key_eq}
@@ -18,22 +15,21 @@ use Rattle.idl_memo.specs.declared.meter.Meter.{Meter}
 use Rattle.idl_store.specs.Stored.{Stored}
 use Rattle.idl_repo.specs.Entry.{entry}
 use Rattle.idl_repo.specs.declared.entry.Entry.{Entry}
-use Rattle.idl_kept.specs.Texts.{BlockResult}
+use Rattle.idl_kept.specs.Texts.{BlockResult, DeclarationResult}
 use Rattle.idl_root.specs.Compared.{root_keys}
 use Rattle.idl_root.specs.Places.{EntryPlace, begins_of, blocks_of, declarations_of, entries_of}
 use Rattle.idl_root_blocks.specs.Met.{unit_text_eq}
 use Rattle.idl_root_blocks.specs.Places.{DeclarationPlace, block_result, declaration_result}
+use Rattle.idl_root_blocks.specs.Units.{parts_of_unit, text_of}
+use Rattle.idl_root_blocks.specs.declared.text.BlockPart.{BlockPart}
+use Rattle.idl_root_blocks.specs.declared.text.BlockPart.TheVariants.{Text, Enters, Leaves}
+use Rattle.idl_root_blocks.specs.verdicts.Standing.{unit_asks}
 use Rattle.idl_root.specs.declared.kept.marks.Mark.{Mark}
 use Rattle.idl_root.specs.declared.kept.marks.Mark.TheVariants as mark
 use Rattle.idl_unit.specs.Units.{units_of}
 use Rattle.idl_unit.specs.declared.unit.Unit.{Unit as RootUnit}
-use Rattle.idl_unit.specs.declared.unit.Unit.TheVariants.{Spelled, Entered, Left, End}
-use Rattle.idl_unit.specs.declared.unit.UnitText.{UnitText}
 
--- what is kept of a declaration, and of an entry
-abbrev pub DeclarationResult : Type 0
-DeclarationResult = Kept Key (Option Answer) UnitText Verdict
-
+-- what is kept of an entry
 abbrev pub EntryResult : Type 0
 EntryResult = Kept Key (Option Answer) (List (List ℕ)) Entry
 
@@ -44,7 +40,7 @@ entry_result place = result_over key_eq entry place
 -- how many of these declarations are fresh against the known ones, and of these entries
 abbrev pub fresh_declarations : List DeclarationPlace → List DeclarationPlace → ℕ
 fresh_declarations known places =
-    fresh_among unit_text_eq (option_eq answer_eq) (verdict most_turns) known places
+    fresh_among unit_text_eq (option_eq answer_eq) unit_asks known places
 
 abbrev pub fresh_entries : List EntryPlace → List EntryPlace → ℕ
 fresh_entries known places = fresh_among path_eq (option_eq answer_eq) entry known places
@@ -53,23 +49,28 @@ fresh_entries known places = fresh_among path_eq (option_eq answer_eq) entry kno
 abbrev pub IsDeclarationPass : List DeclarationPlace → List DeclarationResult
     → List DeclarationResult → ℕ → ℕ → Type 0
 IsDeclarationPass places old new before after =
-    IsPass key_eq unit_text_eq (option_eq answer_eq) (verdict most_turns) places old new before
-    after
+    IsPass key_eq unit_text_eq (option_eq answer_eq) unit_asks places old new before after
 
 -- the results of these entries come behind others, and those are counted that are fresh
 abbrev pub IsEntryPass : List EntryPlace → List EntryResult → List EntryResult → ℕ → ℕ → Type 0
 IsEntryPass places old new before after =
     IsPass key_eq path_eq (option_eq answer_eq) entry places old new before after
 
--- what a unit is; the end of a root is not marked
+-- what a part of a text was, and what those of a text were
+abbrev pub part_mark : BlockPart → Mark
+part_mark (Text text) = mark.Judged
+part_mark (Enters inside) = mark.Entered inside
+part_mark (Leaves inside) = mark.Left inside
+
+abbrev pub marks_in : List BlockPart → List Mark
+marks_in text = map part_mark text
+
+-- what a unit was, and what units were; the end of a root is not marked
 abbrev pub mark_at : RootUnit → List Mark
-mark_at (Spelled text sites) = mark.Judged ∷ []
-mark_at (Entered file inside) = mark.Entered inside ∷ []
-mark_at (Left file inside) = mark.Left inside ∷ []
-mark_at End = []
+mark_at unit = marks_in (parts_of_unit unit)
 
 abbrev pub marks_of : List RootUnit → List Mark
-marks_of units = flat_map mark_at units
+marks_of units = marks_in (text_of units)
 
 -- what the units of a root are, and how many keys its tasks asked, as far as memory counts
 pub record RootMarks : Type 0 where

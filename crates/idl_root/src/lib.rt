@@ -12,7 +12,7 @@
 mod compiling;
 mod kept;
 
-pub use compiling::compiled::{Compiled, KeptSource, Recompiled, Row, compile, compile_kept};
+pub use compiling::compiled::{Compiled, RootAfter, RootBefore, Row, compile, compile_kept};
 pub use compiling::detailing::{DetailedEntry, Details, details_of};
 pub use compiling::laws::{blocks, closing, detailing, facts, ordering, placing, telling, texts};
 pub use compiling::memory::Memory;

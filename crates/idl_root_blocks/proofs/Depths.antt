@@ -22,10 +22,6 @@ no-brace Closing tokens h = refl
 no-brace Heading tokens h = cc
 no-brace Declaration tokens h = cc
 
-pub closes-alone : (text : UnitText) → is_closing text ≡ true → is_opening text ≡ false
-closes-alone (Tokens tokens) h = no-brace (rule_of tokens) tokens h
-closes-alone (Pragma tokens inside) h = refl
-
 -- the kind of the scope that is opened at a `{`, and the step of a faulty unit
 abbrev opened_by : Kind → Option ℕ → Option Kind
 opened_by kind brace = elim brace [ None ↦ None | Some n ↦ Some kind ]

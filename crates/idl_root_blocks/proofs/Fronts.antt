@@ -10,7 +10,7 @@ use Rattle.idl_root_blocks.proofs.VerdictLaws.Told.{files-told, text-told}
 use Rattle.idl_root_blocks.specs.verdicts.Standing.{AreInside, AreStanding, IsBlockFront, block_end, part_step, unit_asks, unit_writes}
 use Rattle.idl_check_laws.proofs.ToldLaws.{MoreTurns, turns-grow}
 use Rattle.idl_check_laws.specs.Closing.{AreTold}
-use Rattle.idl_env.specs.Facts.{UnitFacts, answers, count_in}
+use Rattle.idl_env.specs.Facts.{UnitFacts, answers, boundary, count_in}
 use Rattle.idl_env.specs.Turns.{most_turns, turns_for}
 use Rattle.idl_env.specs.declared.additions.addition.Step.{Step}
 use Rattle.idl_env.specs.declared.additions.addition.Step.TheVariants.{Enters as EntersFile, Leaves as LeavesFile}
@@ -18,7 +18,6 @@ use Rattle.idl_env.specs.declared.keys.key.Key.TheVariants.{Nameless}
 use Rattle.idl_block.proofs.FactLaws.WalkLaws.{over-block}
 use Rattle.idl_block.specs.facts.Beneath.{Depth, deepened}
 use Rattle.idl_block.specs.facts.Known.{AskEnough}
-use Rattle.idl_block.specs.facts.Written.{boundary}
 use Rattle.idl_root_blocks.proofs.Comes.{of-block}
 use Rattle.idl_root_blocks.proofs.Splits.{facts-first, facts-split}
 use Rattle.idl_root_blocks.specs.Blocks.{IsOfBlock, level, part_of, parts_of}

@@ -10,14 +10,13 @@ use Rattle.idl_block.specs.Blocks.{block}
 use Rattle.idl_block.specs.Questions.{AreKnown, AreNested}
 use Rattle.idl_root_blocks.specs.verdicts.Standing.{AreStanding, IsBlockFront, block_end, unit_asks, unit_writes}
 use Rattle.idl_check_laws.proofs.ToldLaws.{MoreTurns}
-use Rattle.idl_env.specs.Facts.{UnitFacts, answers}
+use Rattle.idl_env.specs.Facts.{UnitFacts, answers, boundary}
 use Rattle.idl_env.specs.declared.additions.addition.Step.TheVariants.{Enters as EntersFile}
 use Rattle.idl_env.specs.declared.answering.answer.Answer.{Answer}
 use Rattle.idl_env.specs.declared.keys.key.Key.{Key}
 use Rattle.idl_env.specs.keys.Key.{key_eq}
 use Rattle.idl_block.proofs.FactLaws.Seen.KnownLaws.{known-block}
 use Rattle.idl_block.specs.facts.Answered.{answered}
-use Rattle.idl_block.specs.facts.Written.{boundary}
 use Rattle.idl_memo.proofs.QueryLaws.{outcome-agree, run-agree}
 use Rattle.idl_memo.specs.Kept.{Kept}
 use Rattle.idl_memo.specs.Query.{Agree, asked, outcome}

@@ -6,6 +6,7 @@ pub mod Finds
 pub mod Fronts
 pub mod Helds
 pub mod Insides
+pub mod Likes
 pub mod LogLaws
 pub mod Meets
 pub mod Noting

@@ -11,7 +11,7 @@ use Rattle.idl_block.proofs.OuterLaws.{log-outer}
 use Rattle.idl_block.specs.Behind.{laid}
 use Rattle.idl_block.specs.Questions.{AreKnown, outer_asked}
 use Rattle.idl_root_blocks.specs.verdicts.Standing.{AreStanding, IsBlockFront, unit_asks, unit_writes}
-use Rattle.idl_env.specs.Facts.{UnitFacts, answers}
+use Rattle.idl_env.specs.Facts.{UnitFacts, answers, boundary}
 use Rattle.idl_env.specs.SameKey.{same_key}
 use Rattle.idl_env.specs.Written.{last_written}
 use Rattle.idl_env.specs.declared.additions.addition.Step.TheVariants.{Enters as EntersFile}
@@ -24,7 +24,7 @@ use Rattle.idl_block.proofs.FactLaws.Seen.KnownLaws.{known-block}
 use Rattle.idl_block.proofs.FactLaws.WalkLaws.{IsSound, sound-block}
 use Rattle.idl_block.proofs.FactLaws.WrittenLaws.{answered-among, last-among}
 use Rattle.idl_block.specs.facts.Answered.{answered}
-use Rattle.idl_block.specs.facts.Written.{boundary, is_written}
+use Rattle.idl_block.specs.facts.Written.{is_written}
 use Rattle.idl_memo.proofs.QueryLaws.{noted_all-append}
 use Rattle.idl_memo.specs.Query.{asked, noted_all}
 use Rattle.idl_root_blocks.proofs.Comes.{of-block}

@@ -5,11 +5,10 @@ use Rattle.std.proofs.lemmas.List.Elements.{All-contains, All-contains_itself, A
 use Rattle.idl_block.proofs.OuterLaws.{Contains-outer}
 use Rattle.idl_block.specs.Blocks.{unit_places}
 use Rattle.idl_block.specs.Questions.{AreKnown, outer_asked}
-use Rattle.idl_env.specs.Facts.{UnitFacts, answers}
+use Rattle.idl_env.specs.Facts.{UnitFacts, answers, boundary}
 use Rattle.idl_env.specs.declared.additions.addition.Step.TheVariants.{Enters as EntersFile}
 use Rattle.idl_env.specs.declared.answering.answer.Answer.{Answer}
 use Rattle.idl_env.specs.declared.keys.key.Key.{Key}
-use Rattle.idl_block.specs.facts.Written.{boundary}
 use Rattle.idl_memo.proofs.QueryLaws.{asked-and_then}
 use Rattle.idl_memo.specs.Query.{Agree, Done, asked}
 use Rattle.idl_root_blocks.specs.Blocks.{parts_of}

@@ -1,4 +1,4 @@
--- Of a known block the units and the blocks inside are known.
+-- Of a known block the units are known.
 use Rattle.std.proofs.Common.{◌≡◌, ◌∙◌, Bool, true, false, ◌||◌, List, [], ◌∷◌, ◌++◌, append-nil, append_assoc, arith, map, refl, subst, sym, ap, inl, inr}
 use Rattle.std.proofs.lemmas.List.Elements.{All-append, All-cons, All-contains_itself, All-head, All-nil, All-tail, All-weaker, Contains-append_cases, Contains-append_left, Contains-append_right, Contains-push_cases}
 use Rattle.std.specs.List.{list_any}
@@ -8,11 +8,10 @@ use Rattle.idl_root_blocks.proofs.VerdictLaws.Stands.{AreHeld, first-held}
 use Rattle.idl_root_blocks.proofs.VerdictLaws.Told.{files-told}
 use Rattle.idl_check_laws.proofs.ToldLaws.{MoreTurns}
 use Rattle.idl_check_laws.specs.Closing.{AreTold}
-use Rattle.idl_env.specs.Facts.{UnitFacts}
+use Rattle.idl_env.specs.Facts.{UnitFacts, boundary}
 use Rattle.idl_env.specs.declared.additions.addition.Step.TheVariants.{Enters as EntersFile, Leaves as LeavesFile}
 use Rattle.idl_block.proofs.FactLaws.Seen.Covers.{or-left}
 use Rattle.idl_block.proofs.FactLaws.StandingLaws.{or-right}
-use Rattle.idl_block.specs.facts.Written.{boundary}
 use Rattle.idl_root_blocks.proofs.Comes.{of-block}
 use Rattle.idl_root_blocks.proofs.Fronts.{Walked, facts-grow, part-told, text-told-over}
 use Rattle.idl_root_blocks.proofs.Splits.{declarations-split, facts-first, facts-split}
@@ -130,29 +129,23 @@ whole-more known units blocks block w = record {
   inside = w.inside;
   stood = w.stood;
   is_block = w.is_block;
-  are_cut = w.are_cut;
   standing = w.standing;
   units =
       All-weaker (Contains known.declarations) (Contains (known.declarations ++ units)) (λ x h. Contains-append_left known.declarations units x h)
       (declarations_over (with_entering w.before) (text_in w.inside)) w.units;
-  blocks =
-      All-weaker (Contains known.blocks) (Contains (known.blocks ++ blocks)) (λ x h. Contains-append_left known.blocks blocks x h)
-      (blocks_over (with_entering w.before) w.inside) w.blocks;
 }
 
--- those among pieces that stand, whose units and blocks are known
+-- those among pieces that stand, whose units are known
 whole-pieces : (known : Known) (pieces : Pieces) (facts : List UnitFacts) → AreCut pieces → AreStandingOver facts pieces
-    → All (Contains known.declarations) (declarations_over facts (text_in pieces)) → All (Contains known.blocks) (blocks_over facts pieces)
-    → All (IsKnownWhole known) (blocks_over facts pieces)
-whole-pieces known Nothing facts cut standing units blocks = subst (All (IsKnownWhole known)) (sym (blocks-none facts)) (All-nil (IsKnownWhole known))
-whole-pieces known (Loose part pieces) facts cut standing units blocks =
+    → All (Contains known.declarations) (declarations_over facts (text_in pieces)) → All (IsKnownWhole known) (blocks_over facts pieces)
+whole-pieces known Nothing facts cut standing units = subst (All (IsKnownWhole known)) (sym (blocks-none facts)) (All-nil (IsKnownWhole known))
+whole-pieces known (Loose part pieces) facts cut standing units =
     let next : List UnitFacts = facts_over facts (part ∷ []) in
     subst (All (IsKnownWhole known)) (sym (blocks-loose part pieces facts))
     (whole-pieces known pieces next cut.1 standing
     (All-right (Contains known.declarations) (declaration_at facts part) (declarations_over next (text_in pieces))
-    (subst (All (Contains known.declarations)) (declarations-first part (text_in pieces) facts) units))
-    (subst (All (Contains known.blocks)) (blocks-loose part pieces facts) blocks))
-whole-pieces known (Block inside pieces) facts cut standing units blocks =
+    (subst (All (Contains known.declarations)) (declarations-first part (text_in pieces) facts) units)))
+whole-pieces known (Block inside pieces) facts cut standing units =
     let text : List Part = text_in inside in
     let end : List UnitFacts = facts_behind facts inside in
     let inner : List BlockPlace = blocks_over (with_entering facts) inside in
@@ -161,24 +154,19 @@ whole-pieces known (Block inside pieces) facts cut standing units blocks =
     let own : List DeclarationPlace = declarations_over (with_entering facts) text in
     let rest : List DeclarationPlace = declarations_over end (text_in pieces) in
     let all_units : All (Contains known.declarations) (own ++ rest) = subst (All (Contains known.declarations)) (declarations-block inside pieces facts) units in
-    let all_blocks : All (Contains known.blocks) (inner ++ here ∷ later) = subst (All (Contains known.blocks)) (blocks-block inside pieces facts) blocks in
     let units_inside : All (Contains known.declarations) own = All-left (Contains known.declarations) own rest all_units in
-    let blocks_inside : All (Contains known.blocks) inner = All-left (Contains known.blocks) inner (here ∷ later) all_blocks in
-    let after : All (Contains known.blocks) later = All-tail (Contains known.blocks) here later (All-right (Contains known.blocks) inner (here ∷ later) all_blocks) in
     let whole : IsKnownWhole known here = record {
       before = facts;
       inside = inside;
       stood = refl;
       is_block = cut.0;
-      are_cut = cut.1.0;
       standing = standing.0;
       units = units_inside;
-      blocks = blocks_inside;
     } in
     subst (All (IsKnownWhole known)) (sym (blocks-block inside pieces facts))
-    (All-append (IsKnownWhole known) inner (here ∷ later) (whole-pieces known inside (with_entering facts) cut.1.0 standing.1.0 units_inside blocks_inside)
+    (All-append (IsKnownWhole known) inner (here ∷ later) (whole-pieces known inside (with_entering facts) cut.1.0 standing.1.0 units_inside)
     (All-cons (IsKnownWhole known) here later whole
-    (whole-pieces known pieces end cut.1.1 standing.1.1 (All-right (Contains known.declarations) own rest all_units) after)))
+    (whole-pieces known pieces end cut.1.1 standing.1.1 (All-right (Contains known.declarations) own rest all_units))))
 
 pub whole-with : (known : Known) (facts : List UnitFacts) (pieces : Pieces) → AreKnownWhole known → AreCut pieces → AreStandingOver facts pieces → AreKnownWhole (with_pieces known facts pieces)
 whole-with known facts pieces whole cut standing =
@@ -187,8 +175,7 @@ whole-with known facts pieces whole cut standing =
     let all : Known = with_pieces known facts pieces in
     All-append (IsKnownWhole all) known.blocks blocks (All-weaker (IsKnownWhole known) (IsKnownWhole all) (λ block w. whole-more known units blocks block w) known.blocks whole)
     (whole-pieces all pieces facts cut standing
-    (All-weaker (Contains units) (Contains all.declarations) (λ x h. Contains-append_right known.declarations units x h) units (All-contains_itself units))
-    (All-weaker (Contains blocks) (Contains all.blocks) (λ x h. Contains-append_right known.blocks blocks x h) blocks (All-contains_itself blocks)))
+    (All-weaker (Contains units) (Contains all.declarations) (λ x h. Contains-append_right known.declarations units x h) units (All-contains_itself units)))
 
 -- ---- likes
 

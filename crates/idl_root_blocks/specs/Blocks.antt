@@ -1,9 +1,10 @@
 -- The blocks of a root: the files that it includes whose two boundaries stand inside no unit, and
 -- each of whose closings closes a scope that was opened there.
--- Texts tell blocks, so two roots with one text have the same ones, and an inner block of one that
--- is taken whole is found by its text. The price: where a boundary stands is part of the text. So a
--- file that is included inside a unit once, and behind it once, makes two texts.
-use Rattle.std.specs.Prelude.{◌≡◌, ℕ, zero, suc, false, List, [], ◌∷◌, ◌++◌, Option, None, Some, length, map, if◌then◌else◌}
+-- What is held of a text tells of each boundary whether a unit is around it, so that it tells the
+-- blocks inside. Two blocks have one text where that alone differs (`plain_text`).
+use Rattle.std.specs.Prelude.{◌≡◌, ℕ, ◌^◌, zero, suc, Bool, false, List, [], ◌∷◌, ◌++◌, Option, None, Some, length, map, if◌then◌else◌}
+use Rattle.std.specs.Hash as fed
+use Rattle.std.specs.List.{list_any}
 use Rattle.idl_block.specs.Blocks.{Part, Text as UnitPart, Boundary}
 use Rattle.idl_root_blocks.specs.verdicts.Standing.{part_step}
 use Rattle.idl_env.specs.declared.additions.addition.Step.{Step}
@@ -11,7 +12,38 @@ use Rattle.idl_env.specs.declared.additions.addition.Step.TheVariants.{Enters as
 use Rattle.idl_block.specs.facts.Beneath.{Depth, deepened}
 use Rattle.idl_root_blocks.specs.declared.text.BlockPart.{BlockPart}
 use Rattle.idl_root_blocks.specs.declared.text.BlockPart.TheVariants.{Text, Enters, Leaves}
+use Rattle.idl_unit.specs.contracts.unit.UnitTextHash.TheImpl.{ghosts as units}
 use Rattle.idl_unit.specs.declared.unit.UnitText.{UnitText}
+
+-- ---- the text, whatever units are around boundaries
+
+-- a part so, and a text
+abbrev pub plain_part : BlockPart → BlockPart
+plain_part (Text unit) = Text unit
+plain_part (Enters inside) = Enters false
+plain_part (Leaves inside) = Leaves false
+
+abbrev pub plain_text : List BlockPart → List BlockPart
+plain_text text = map plain_part text
+
+-- whether a part is a boundary around which a unit is, and whether one of a text is
+abbrev pub is_enclosed : BlockPart → Bool
+is_enclosed (Text unit) = false
+is_enclosed (Enters inside) = inside
+is_enclosed (Leaves inside) = inside
+
+abbrev pub has_enclosed : List BlockPart → Bool
+has_enclosed text = list_any is_enclosed text
+
+-- what a part feeds to a hasher
+abbrev pub part_writes : BlockPart → List (List ℕ)
+part_writes (Text unit) = units.hash_input unit
+part_writes (Enters inside) = fed.u8 0
+part_writes (Leaves inside) = fed.u8 1
+
+-- the hint by which blocks are found: those with such a boundary in them are told from the others
+abbrev pub text_hint : List BlockPart → ℕ
+text_hint text = if has_enclosed text then 2 ^ 32 else 0
 
 -- ---- which units are a block: their text tells
 

@@ -1,6 +1,6 @@
 -- Which tasks of a root's units are met at an edit: the blocks and units that stand in no block, and
 -- those directly inside a block that is met and to which no known one is alike.
-use Rattle.std.specs.Prelude.{◌≡◌, ℕ, ◌+◌, Bool, List, [], ◌∷◌, ◌++◌, All, Contains, IsTrue, map, sum_by, if◌then◌else◌}
+use Rattle.std.specs.Prelude.{◌≡◌, ℕ, ◌+◌, Bool, List, [], ◌∷◌, ◌++◌, Option, All, Contains, IsTrue, map, sum_by, if◌then◌else◌}
 use Rattle.std.specs.Cmp.Lexicographic.{pointwise}
 use Rattle.std.specs.List.{list_any}
 use Rattle.std.specs.Option.{option_eq}
@@ -8,20 +8,23 @@ use Rattle.idl_root_blocks.specs.verdicts.Standing.{unit_asks}
 use Rattle.idl_env.specs.Facts.{UnitFacts}
 use Rattle.idl_env.specs.SameAnswer.{answer_eq}
 use Rattle.idl_env.specs.keys.Key.{key_eq}
+use Rattle.idl_env.specs.declared.answering.answer.Answer.{Answer}
+use Rattle.idl_env.specs.declared.keys.key.Key.{Key}
 use Rattle.idl_memo.specs.Fresh.{is_alike, keys_at, most_shared_at, shared_at}
-use Rattle.idl_root_blocks.specs.Blocks.{AreCut, Block, IsOfBlock, Loose, Nothing, Pieces, text_in}
+use Rattle.idl_memo.specs.Kept.{IsAlike, Kept}
+use Rattle.idl_root_blocks.specs.Blocks.{Block, IsOfBlock, Loose, Nothing, Pieces, plain_text, text_in}
 use Rattle.idl_root_blocks.specs.Places.{BlockPlace, DeclarationPlace, Stands, block_at, block_query, blocks_over, declaration_at, declarations_over, facts_behind, facts_over, with_entering}
 use Rattle.idl_root_blocks.specs.contracts.text.BlockPartPartialEq.TheImpl.{ghosts as parts}
 use Rattle.idl_root_blocks.specs.declared.text.BlockPart.{BlockPart}
 use Rattle.idl_unit.specs.contracts.unit.UnitTextPartialEq.TheImpl.{ghosts as units}
 use Rattle.idl_unit.specs.declared.unit.UnitText.{UnitText}
 
--- whether two units have one text, and two blocks
+-- whether two units have one text, and two blocks, whatever units are around boundaries in these
 abbrev pub unit_text_eq : UnitText → UnitText → Bool
 unit_text_eq = units.eq
 
 abbrev pub block_text_eq : List BlockPart → List BlockPart → Bool
-block_text_eq = pointwise parts.eq
+block_text_eq text other = pointwise parts.eq (plain_text text) (plain_text other)
 
 -- tasks that are known: those of an earlier project, and those of earlier places of this one
 pub record Known : Type 0 where
@@ -47,17 +50,15 @@ with_pieces known facts pieces = record {
   blocks = known.blocks ++ blocks_over facts pieces;
 }
 
--- a block that stood somewhere, of which each unit and each block inside is among known tasks
+-- a block that stood somewhere, of which each unit is among known tasks
 pub record IsKnownWhole (known : Known) (block : BlockPlace) : Type 0 where
   pub before : List UnitFacts
   pub inside : Pieces
   pub stood : block ≡ block_at before inside
   pub is_block : IsOfBlock (text_in inside)
-  pub are_cut : AreCut inside
   pub standing : Stands before (text_in inside)
   pub units : All (Contains known.declarations)
       (declarations_over (with_entering before) (text_in inside))
-  pub blocks : All (Contains known.blocks) (blocks_over (with_entering before) inside)
 
 -- so it is with each block that is known
 abbrev pub AreKnownWhole : Known → Type 0
@@ -69,6 +70,11 @@ alike_unit here task = is_alike unit_text_eq (option_eq answer_eq) unit_asks her
 
 abbrev pub alike_block : BlockPlace → BlockPlace → Bool
 alike_block here task = is_alike block_text_eq (option_eq answer_eq) block_query here task
+
+-- what is kept of a block is alike at the place of one
+abbrev pub IsLike : BlockPlace → Kept Key (Option Answer) (List BlockPart) (Unit {0}) → Type 0
+IsLike here kept =
+    IsAlike (plain_text here.0) here.1 (record kept { text = plain_text kept.text })
 
 -- whether one of these blocks is
 abbrev pub is_known : List BlockPlace → BlockPlace → Bool

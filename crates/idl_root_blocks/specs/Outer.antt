@@ -2,13 +2,12 @@
 use Rattle.std.specs.Prelude.{ℕ, Bool, List, [], ◌∷◌, Option, map, nat_lt}
 use Rattle.std.specs.List.{filter}
 use Rattle.idl_block.specs.Questions.{outer_asked}
-use Rattle.idl_env.specs.Facts.{UnitFacts, answers}
+use Rattle.idl_env.specs.Facts.{UnitFacts, answers, boundary}
 use Rattle.idl_env.specs.Written.{last_written}
 use Rattle.idl_env.specs.declared.additions.addition.Step.TheVariants.{Enters}
 use Rattle.idl_env.specs.declared.answering.answer.Answer.{Answer}
 use Rattle.idl_env.specs.declared.keys.key.Key.{Key}
 use Rattle.idl_env.specs.keys.Key.{key_eq}
-use Rattle.idl_block.specs.facts.Written.{boundary}
 use Rattle.idl_memo.specs.Query.{noted_all}
 use Rattle.idl_root_blocks.specs.Blocks.{parts_of}
 use Rattle.idl_root_blocks.specs.Places.{unit_ways}

@@ -4,14 +4,14 @@ use Rattle.std.specs.Prelude.{◌≡◌, List, [], ◌∷◌, ◌++◌, Option}
 use Rattle.idl_block.specs.Blocks.{Ways, block, walk}
 use Rattle.idl_check_laws.specs.idl_check.declared.walk.verdict.Verdict.{Verdict}
 use Rattle.idl_root_blocks.specs.verdicts.Standing.{AreStanding, block_end, unit_asks, unit_writes}
-use Rattle.idl_env.specs.Facts.{UnitFacts, answers}
+use Rattle.idl_env.specs.Facts.{UnitFacts, answers, boundary}
 use Rattle.idl_env.specs.declared.additions.addition.Step.{Step}
 use Rattle.idl_env.specs.declared.additions.addition.Step.TheVariants.{Enters as EntersFile, Leaves as LeavesFile}
 use Rattle.idl_env.specs.declared.answering.answer.Answer.{Answer}
 use Rattle.idl_env.specs.declared.keys.key.Key.{Key}
 use Rattle.idl_env.specs.keys.Key.{key_eq}
 use Rattle.idl_block.specs.facts.Answered.{mapped}
-use Rattle.idl_block.specs.facts.Written.{boundary, ways_of}
+use Rattle.idl_block.specs.facts.Written.{ways_of}
 use Rattle.idl_memo.specs.Fresh.{Place}
 use Rattle.idl_memo.specs.Kept.{Kept, result_over}
 use Rattle.idl_memo.specs.Query.{Query}

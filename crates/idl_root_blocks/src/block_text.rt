@@ -6,9 +6,10 @@ ghost use Rattle.std.specs.Cmp.Lexicographic.{pointwise, slice_cmp, lists_per, l
 ghost use Rattle.std.proofs.Common.{ap};
 ghost use Rattle.std.specs.Hash as fed;
 ghost use Rattle.idl_base.specs.Exact.{same_list};
+ghost use Rattle.idl_root_blocks.specs.Blocks.{has_enclosed, part_writes, plain_part, text_hint};
+ghost use Rattle.idl_root_blocks.specs.Met.{block_text_eq};
 ghost use Rattle.idl_root_blocks.specs.contracts.text.BlockPartDatum.TheImpl.Laws.{same-law as same_part};
 ghost use Rattle.idl_root_blocks.specs.contracts.text.BlockPartEq.TheImpl.Laws.{laws-law as part_equiv};
-ghost use Rattle.idl_root_blocks.specs.contracts.text.BlockPartHash.TheImpl.{ghosts as hashed};
 ghost use Rattle.idl_root_blocks.specs.contracts.text.BlockPartOrd.TheImpl.{ghosts as ordered};
 ghost use Rattle.idl_root_blocks.specs.contracts.text.BlockPartOrd.TheImpl.Laws.{matches_eq-law as part_ties, total-law as part_total};
 ghost use Rattle.idl_root_blocks.specs.contracts.text.BlockPartPartialEq.TheImpl.{ghosts as parts};
@@ -20,6 +21,12 @@ use std::alloc::{AllocError, Global};
 use std::cmp::Ordering;
 use std::hash::{Hash, Hasher};
 use std::marker::Model;
+
+/// The hint of texts with a boundary in them around which a unit is.
+pub const ENCLOSED: u64 = 1 << 32;
+
+/// The hint of all other texts.
+pub const PLAIN: u64 = 0;
 
 // By so many parts it is found.
 const FIRST: usize = 8;
@@ -55,6 +62,27 @@ impl BlockText {
         ensures { result.now ≡ self.now }
     {
         self.parts.get().as_slice()
+    }
+
+    /// Whether a unit is around a boundary in it.
+    pub fn has_enclosed(&self) -> bool
+        ensures { result ≡ has_enclosed self.now }
+    {
+        self.as_slice().iter().any(|part| part.is_enclosed())
+    }
+
+    /// The hint by which a block of this text is found.
+    pub fn hint(&self) -> u64
+        ensures { result ≡ text_hint self.now }
+    {
+        if self.has_enclosed() { ENCLOSED } else { PLAIN }
+    }
+
+    /// Whether blocks of both have one text: whatever units are around boundaries in them.
+    pub fn is_like(&self, other: &BlockText) -> bool
+        ensures { result ≡ block_text_eq self.now other.now }
+    {
+        are_like(self.as_slice(), other.as_slice())
     }
 }
 
@@ -112,9 +140,9 @@ impl Ord for BlockText {
 }
 
 impl Hash for BlockText {
-    ghost hash_input = { λ text. fed.slice hashed.hash_input (take 8 text) };
+    ghost hash_input = { λ text. fed.slice part_writes (take 8 text) };
 
-    ghost respects_eq = { λ x y h. ap (λ text. fed.slice hashed.hash_input (take 8 text)) (same_list parts.eq same_part x y h) };
+    ghost respects_eq = { λ x y h. ap (λ text. fed.slice part_writes (take 8 text)) (same_list parts.eq same_part x y h) };
 
     fn hash<H: Hasher>(&self, state: &mut H) {
         first_of(self.as_slice()).hash(state);
@@ -125,6 +153,37 @@ impl Datum for BlockText {
     ghost same = { same_list parts.eq same_part };
 
     ghost copy = { λ x y h. h };
+}
+
+// Whether these parts are those, whatever units are around boundaries.
+fn are_like(these: &[BlockPart], those: &[BlockPart]) -> bool
+    ensures { result ≡ block_text_eq these.now those.now }
+{
+    let mut mine = these;
+    let mut theirs = those;
+    'parts: while let Some((part, behind)) = mine.split_first() {
+        let Some((beside, others)) = theirs.split_first() else {
+            return false;
+        };
+        if !is_like(part, beside) {
+            return false;
+        }
+        mine = behind;
+        theirs = others;
+    }
+    theirs.is_empty()
+}
+
+// Whether a part is another, whatever units are around both.
+fn is_like(part: &BlockPart, other: &BlockPart) -> bool
+    ensures { result ≡ parts.eq (plain_part part.now) (plain_part other.now) }
+{
+    match (part, other) {
+        (BlockPart::Text(unit), BlockPart::Text(same)) => *unit == *same,
+        (BlockPart::Enters(_inside), BlockPart::Enters(_within)) => true,
+        (BlockPart::Leaves(_inside), BlockPart::Leaves(_within)) => true,
+        _ => false,
+    }
 }
 
 // The first of these.

@@ -1,25 +1,22 @@
 //! The laws of blocks where they stand.
 
-ghost use Rattle.std.specs.Prelude.{◌≡◌, ◌↔◌, ◌≤◌, ◌<◌, ◌^◌, ◌∷◌, ◌++◌, [], List, false, map, true};
+ghost use Rattle.std.specs.Prelude.{◌≡◌, ◌↔◌, ◌≤◌, ◌<◌, ◌^◌, ◌∷◌, [], List, map, true};
 ghost use Rattle.std.specs.Option.{option_eq};
 ghost use Rattle.idl_block.specs.Questions.{outer_asked};
 ghost use Rattle.idl_root_blocks.specs.verdicts.Standing.{AreStanding, IsBlockFront, block_end};
 ghost use Rattle.idl_check_laws.specs.Closing.{AreTold};
-ghost use Rattle.idl_env.specs.Facts.{UnitFacts, answers, count_in};
+ghost use Rattle.idl_env.specs.Facts.{UnitFacts, answers, boundary, count_in};
 ghost use Rattle.idl_env.specs.SameAnswer.{answer_eq};
 ghost use Rattle.idl_env.specs.Turns.{most_turns, turns_for};
 ghost use Rattle.idl_env.specs.declared.additions.addition.Step.TheVariants.{Enters as EntersFile};
 ghost use Rattle.idl_env.specs.declared.keys.key.Key.TheVariants.{Nameless};
-ghost use Rattle.idl_block.specs.facts.Written.{boundary};
 ghost use Rattle.idl_env.specs.keys.Key.{key_eq};
 ghost use Rattle.idl_memo.specs.Fresh.{is_alike, log_at};
-ghost use Rattle.idl_memo.specs.Kept.{IsAlike};
 ghost use Rattle.idl_memo.specs.Query.{Agree};
 ghost use Rattle.idl_root_blocks.specs.Blocks.{AreCut, IsOfBlock, Pieces, parts_of, text_in};
-ghost use Rattle.idl_root_blocks.specs.Met.{block_text_eq};
+ghost use Rattle.idl_root_blocks.specs.Met.{IsLike, block_text_eq};
 ghost use Rattle.idl_root_blocks.specs.Places.{AreStandingOver, BlockPlace, ComesTo, Stands, block_asks, block_at, block_query, block_result, blocks_over, declaration_result, declarations_over, facts_over, unit_ways, with_entering};
 ghost use Rattle.idl_root_blocks.specs.declared.text.BlockPart.{BlockPart as Part};
-ghost use Rattle.idl_root_blocks.specs.declared.text.BlockPart.TheVariants.{Enters, Leaves};
 
 use crate::equality::exact;
 use crate::text::BlockPart;
@@ -56,7 +53,7 @@ pub fn taking()
         × ((block_result here).log ≡ log_at key_eq block_query here) }
     // And that is alike at a place just where the block is.
     ensures kept { (here task : BlockPlace)
-        → IsAlike here.0 here.1 (block_result task)
+        → IsLike here (block_result task)
         ↔ (is_alike block_text_eq (option_eq answer_eq) block_query here task ≡ true) }
 {
     alike();
@@ -64,34 +61,26 @@ pub fn taking()
     exact::<Option<Answer>>();
 }
 
-/// The front of a block's text may stand in a block, too. What it adds stands behind facts that are told, where all is no more than
-/// memory holds; and where a block stands, so do the blocks inside. So does each block among pieces where that holds of all of them.
+/// What a block adds stands behind facts that are told, where all is no more than memory holds. So does each block among pieces where
+/// that holds of all of them.
 pub fn standing()
-    ensures front { (front behind : List Part)
-        → IsOfBlock (front ++ behind) → IsBlockFront (parts_of front) }
     ensures here { (before : List UnitFacts) (text : List Part)
         → let facts = facts_over (with_entering before) text in
         IsBlockFront (parts_of text) → AreTold before
         → turns_for facts ≤ most_turns → count_in (answers facts Nameless) < 2 ^ 64
         → Stands before text }
-    ensures inside { (before : List UnitFacts) (front inside behind : List Part)
-        → let text = front ++ Enters false ∷ (inside ++ Leaves false ∷ behind) in
-        let over = facts_over (with_entering before) front in
-        IsOfBlock text → Stands before text
-        → IsOfBlock inside → Stands over inside }
     ensures pieces { (facts : List UnitFacts) (pieces : Pieces)
         → let behind = facts_over facts (text_in pieces) in
         AreCut pieces → AreTold facts
         → turns_for behind ≤ most_turns → count_in (answers behind Nameless) < 2 ^ 64
         → AreStandingOver facts pieces }
 {
-    enough();
     walked();
     more_turns();
 }
 
 /// Where a block is alike, what is kept of each of its units is the same at both places: the text, what it asked with the answers,
-/// and its verdict. Each block inside is alike, too, and the same is kept of it.
+/// and its verdict. Where units are around the same boundaries, each block inside is alike, too, and the same is kept of it.
 pub fn resulting()
     ensures units { (before other : List UnitFacts) (text there : List Part)
         → let end = block_end (answers before) (parts_of text) in
@@ -100,13 +89,13 @@ pub fn resulting()
         (there, answers other) (text, answers before) ≡ true
         → map declaration_result (declarations_over (with_entering other) there)
         ≡ map declaration_result (declarations_over (with_entering before) text) }
-    ensures blocks { (before other : List UnitFacts) (inside there : Pieces)
+    ensures blocks { (before other : List UnitFacts) (inside : Pieces)
         → let end = block_end (answers before) (parts_of (text_in inside)) in
-        IsOfBlock (text_in inside) → AreCut inside → AreCut there
+        IsOfBlock (text_in inside) → AreCut inside
         → AreStanding before end.1 → AreStanding other end.1
         → is_alike block_text_eq (option_eq answer_eq) block_query
-        (block_at other there) (block_at before inside) ≡ true
-        → map block_result (blocks_over (with_entering other) there)
+        (block_at other inside) (block_at before inside) ≡ true
+        → map block_result (blocks_over (with_entering other) inside)
         ≡ map block_result (blocks_over (with_entering before) inside) }
 {
     enough();

@@ -1,12 +1,12 @@
 //! The laws of equality of exact data.
 
 ghost use Rattle.std.specs.Prelude.{◌≡◌, true};
+ghost use Rattle.std.specs.Cmp.{IsEquivalence};
 
 use idl_base::Datum;
 
-// What is compared equals itself, and both ways, and it equals nothing else.
+// Equality of what is compared is an equivalence, and what is equal is one.
 pub(crate) fn exact<T: Datum>()
-    ensures itself { (x : T) → T.eq x x ≡ true }
-    ensures turn { (x y : T) → T.eq x y ≡ T.eq y x }
+    ensures equal { IsEquivalence T.eq }
     ensures same { (x y : T) → T.eq x y ≡ true → x ≡ y }
 {}

@@ -1,14 +1,15 @@
 //! The laws of what is compared at an edit.
 
-ghost use Rattle.std.specs.Prelude.{◌≡◌, ◌≤◌, ◌<◌, ◌+◌, ◌^◌, ◌∷◌, [], List, map, true, if◌then◌else◌};
+ghost use Rattle.std.specs.Prelude.{◌≡◌, ◌≤◌, ◌<◌, ◌^◌, ◌∷◌, [], All, IsTrue, List, true};
+ghost use Rattle.std.specs.List.{list_any};
 ghost use Rattle.idl_check_laws.specs.Closing.{AreTold};
 ghost use Rattle.idl_env.specs.Facts.{UnitFacts, answers, count_in};
 ghost use Rattle.idl_env.specs.Turns.{most_turns, turns_for};
 ghost use Rattle.idl_env.specs.declared.keys.key.Key.TheVariants.{Nameless};
 ghost use Rattle.idl_root_blocks.specs.Blocks.{AreCut, Block, IsOfBlock, Loose, Nothing, Pieces, text_in};
-ghost use Rattle.idl_root_blocks.specs.Met.{AreKnownAt, AreKnownWhole, AreSame, Known, Met, MetBlock, MetUnit, compared, is_known, met_over, most_compared, outermost_keys, shared_by, with_block, with_part, with_pieces};
+ghost use Rattle.idl_root_blocks.specs.Met.{AreKnownAt, AreKnownWhole, AreSame, Known, Met, alike_unit, compared, is_known, met_over, most_compared, outermost_keys, with_block, with_part, with_pieces};
 ghost use Rattle.idl_root_blocks.specs.declared.text.BlockPart.{BlockPart as Part};
-ghost use Rattle.idl_root_blocks.specs.Places.{Stands, block_at, declaration_at, facts_behind, facts_over, with_entering};
+ghost use Rattle.idl_root_blocks.specs.Places.{Stands, block_at, declarations_over, facts_behind, facts_over, with_entering};
 
 use crate::blocks::resulting;
 use crate::equality::exact;
@@ -19,24 +20,9 @@ use idl_check_laws::more_turns;
 use idl_env::{Answer, DigestedKey};
 use idl_unit::UnitText;
 
-/// What is compared is told piece by piece: a loose unit is met; a block is met, and what stands in it where no known block is
-/// alike. It hangs on which tasks are known, and not on their order; and it is no more than the known tasks asked that have the
-/// texts of those that are met.
+/// What is compared hangs on which tasks are known, and not on their order; and it is no more than the known tasks asked that have
+/// the texts of those that are met.
 pub fn meeting()
-    ensures none { (known : Known) (facts : List UnitFacts)
-        → compared (met_over known facts Nothing) ≡ 0 }
-    ensures loose { (known : Known) (facts : List UnitFacts) (part : Part) (pieces : Pieces)
-        → let over = facts_over facts (part ∷ []) in
-        let here = map (MetUnit known.declarations) (declaration_at facts part) in
-        let behind = met_over (with_part known facts part) over pieces in
-        compared (met_over known facts (Loose part pieces)) ≡ compared here + compared behind }
-    ensures block { (known : Known) (facts : List UnitFacts) (inside pieces : Pieces)
-        → let here = block_at facts inside in
-        let own = met_over known (with_entering facts) inside in
-        let behind = met_over (with_block known facts inside) (facts_behind facts inside) pieces in
-        compared (met_over known facts (Block inside pieces))
-        ≡ shared_by (MetBlock known.blocks here)
-        + ((if is_known known.blocks here then 0 else compared own) + compared behind) }
     ensures known { (known other : Known) (facts : List UnitFacts) (pieces : Pieces)
         → AreSame known other
         → compared (met_over known facts pieces) ≡ compared (met_over other facts pieces) }
@@ -48,15 +34,15 @@ pub fn meeting()
     exact::<DigestedKey>();
 }
 
-/// Of a known block that stands its units and the blocks inside are known, where it is so with each known block where it stood; and
-/// so it is when all of a root, or of pieces of one, becomes known.
+/// Of a known block that stands its units are known, where it is so with each known block where it stood; and so it is when all of a
+/// root, or of pieces of one, becomes known.
 pub fn containing()
     ensures known { (known : Known) (facts : List UnitFacts) (inside : Pieces)
         → let text = text_in inside in
-        AreKnownWhole known → IsOfBlock text → AreCut inside
-        → Stands facts text
+        AreKnownWhole known → IsOfBlock text → Stands facts text
         → is_known known.blocks (block_at facts inside) ≡ true
-        → AreKnownAt known (with_entering facts) inside }
+        → All (λ here. IsTrue (list_any (alike_unit here) known.declarations))
+        (declarations_over (with_entering facts) text) }
     ensures pieces { (known : Known) (facts : List UnitFacts) (pieces : Pieces)
         → let behind = facts_over facts (text_in pieces) in
         AreKnownWhole known → AreCut pieces → AreTold facts
@@ -81,16 +67,13 @@ pub fn containing()
 }
 
 /// Where all tasks of pieces are known, at so many keys are known ones compared as loose units and outermost blocks ask. What is known
-/// of pieces is alike where they stand, and stays known.
+/// of pieces is alike where they stand.
 pub fn repeating()
     ensures all { (known : Known) (facts : List UnitFacts) (pieces : Pieces)
         → AreKnownAt known facts pieces
         → compared (met_over known facts pieces) ≡ outermost_keys facts pieces }
     ensures itself { (known : Known) (facts : List UnitFacts) (pieces : Pieces)
         → AreKnownAt (with_pieces known facts pieces) facts pieces }
-    ensures more { (known : Known) (facts other : List UnitFacts) (pieces others : Pieces)
-        → AreKnownAt known facts pieces
-        → AreKnownAt (with_pieces known other others) facts pieces }
 {
     exact::<UnitText>();
     exact::<Seq<BlockPart>>();

@@ -14,6 +14,7 @@ pub struct BlockTask {
 pub type KeptBlock = Kept<PlainEnv, BlockText, ()>;
 
 impl Task<PlainEnv> for BlockTask {
+    ghost use Rattle.idl_root_blocks.specs.Blocks.{text_hint};
     ghost use Rattle.idl_root_blocks.specs.Places.{block_asks};
 
     type Text = BlockText;
@@ -24,14 +25,15 @@ impl Task<PlainEnv> for BlockTask {
 
     ghost query = { block_asks };
 
-    // Blocks of one text are told apart by what they asked alone.
-    ghost hint_of = { λ text first. 0 };
+    // Blocks of one text are told apart by what they asked alone. Those with a boundary inside a unit are few, and stand apart: among
+    // them is looked for one that differs in that alone.
+    ghost hint_of = { λ text first. text_hint text };
 
     fn text(&self) -> &BlockText {
         &self.text
     }
 
     fn hint(&self, _bank: &PlainEnv) -> u64 {
-        0
+        self.text.hint()
     }
 }

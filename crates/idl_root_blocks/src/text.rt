@@ -3,6 +3,7 @@
 ghost use Rattle.std.specs.Prelude.{◌≡◌, IfOk};
 ghost use Rattle.std.specs.Option.{option_to_list};
 ghost use Rattle.std.proofs.Common.{ap};
+ghost use Rattle.idl_root_blocks.specs.Blocks.{is_enclosed};
 ghost use Rattle.idl_root_blocks.specs.Units.{parts_of_unit, text_of};
 ghost use Rattle.idl_root_blocks.specs.declared.text.BlockPart.TheVariants.{Text, Enters, Leaves};
 
@@ -10,11 +11,11 @@ use crate::block_text::BlockText;
 use idl_base::Datum;
 use idl_unit::{Unit, UnitText};
 use std::alloc::{AllocError, Global};
-use std::hash::Hash;
+use std::hash::{Hash, Hasher};
 
 /// A part of a block: a unit with tokens, or the boundary of a file that it includes and whether that stands inside a unit of
 /// tokens. Files have no names here.
-#[derive(Clone, PartialEq, Eq, PartialOrd, Ord, Hash, Drop)]
+#[derive(Clone, PartialEq, Eq, PartialOrd, Ord, Drop)]
 pub enum BlockPart {
     /// A unit with tokens.
     Text(UnitText),
@@ -22,6 +23,41 @@ pub enum BlockPart {
     Enters(bool),
     /// A file is left.
     Leaves(bool),
+}
+
+impl BlockPart {
+    // Whether it is a boundary around which a unit is.
+    pub(crate) fn is_enclosed(&self) -> bool
+        ensures { result ≡ is_enclosed self.now }
+    {
+        match self {
+            BlockPart::Text(_unit) => false,
+            BlockPart::Enters(inside) | BlockPart::Leaves(inside) => *inside,
+        }
+    }
+}
+
+// What units are around is not hashed, so that texts in which that alone differs are found together.
+impl Hash for BlockPart {
+    ghost use Rattle.idl_root_blocks.specs.Blocks.{part_writes};
+    ghost use Rattle.std.specs.Prelude.{refl};
+    ghost use Rattle.idl_unit.specs.contracts.unit.UnitTextDatum.TheImpl.Laws.{same-law};
+
+    ghost hash_input = { part_writes };
+
+    ghost respects_eq = { elim [
+      | Text a ↦ elim [ Text b ↦ λ h. ap part_writes (ap Text (same-law a b h)) | Enters b ↦ λ h. cc | Leaves b ↦ λ h. cc ]
+      | Enters a ↦ elim [ Text b ↦ λ h. cc | Enters b ↦ λ h. refl | Leaves b ↦ λ h. cc ]
+      | Leaves a ↦ elim [ Text b ↦ λ h. cc | Enters b ↦ λ h. cc | Leaves b ↦ λ h. refl ]
+    ] };
+
+    fn hash<H: Hasher>(&self, state: &mut H) {
+        match self {
+            BlockPart::Text(unit) => unit.hash(state),
+            BlockPart::Enters(_inside) => state.write_u8(0),
+            BlockPart::Leaves(_inside) => state.write_u8(1),
+        }
+    }
 }
 
 impl Datum for BlockPart {

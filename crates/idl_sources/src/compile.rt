@@ -5,7 +5,7 @@ ghost use Rattle.std.specs.Option.{option_copied};
 ghost use Rattle.idl_event.specs.Key.{key_eq};
 ghost use Rattle.idl_memo.specs.Kept.{HoldsOver};
 ghost use Rattle.idl_prep.specs.Root.{expanded, expansion};
-ghost use Rattle.idl_root.specs.Turns.{IsWithinWords};
+ghost use Rattle.idl_root.specs.Turns.{FitsU64};
 ghost use Rattle.idl_inputs.specs.Bank.{bank_of};
 ghost use Rattle.idl_sources.specs.Compile.{compile_over, compiled_root, end_of, line_count};
 
@@ -41,7 +41,7 @@ pub fn compile_alone(
     root: &Name,
 ) -> Result<CompiledRoot, AllocError>
     ensures compiled { IfOk result (λ compiled. compiled ≡ compiled_root bank.now root.now) }
-    ensures within { OnOk result (IsWithinWords (expanded root.now (bank_of bank.now)).0) }
+    ensures within { OnOk result (FitsU64 (expanded root.now (bank_of bank.now)).0) }
 {
     let kept = expanded_alone(memory.alloc(), bank, root)?;
     compile(memory, bank, &kept)
@@ -56,7 +56,7 @@ pub fn compile<B: RootBank>(
     requires { HoldsOver key_eq expansion (B.at bank.now) kept.now }
     ensures compiled { IfOk result (λ compiled.
         compiled ≡ compile_over (B.at bank.now) kept.now.text) }
-    ensures within { OnOk result (IsWithinWords (expanded kept.now.text (B.at bank.now)).0) }
+    ensures within { OnOk result (FitsU64 (expanded kept.now.text (B.at bank.now)).0) }
 {
     let alloc = memory.alloc();
     let end = end_of(alloc, bank, root_name(kept))?;

@@ -15,8 +15,8 @@ use idl_source::Name;
 use std::alloc::AllocError;
 use std::rc::Rc;
 
-/// For each of these findings of the root of this name, in order, its second places. Where any has some, it is expanded, and its units
-/// judged, for them alone.
+/// For each of these findings of the root of this name, in order, its second places. They are to be all that is found in it: of some of
+/// them alone each may have another one's. Where any has some, it is expanded, and its units judged, for them alone.
 pub fn related_over(
     sources: &Sources,
     root: &Name,

@@ -3,7 +3,7 @@
 ghost use Rattle.std.specs.Prelude.{◌≡◌, IfOk, OnOk, is_some, map};
 ghost use Rattle.std.specs.FinMap as finite;
 ghost use Rattle.idl_prep.specs.Root.{expanded};
-ghost use Rattle.idl_root.specs.Turns.{IsWithinWords};
+ghost use Rattle.idl_root.specs.Turns.{FitsU64};
 ghost use Rattle.idl_inputs.specs.Asked.{asked_over};
 ghost use Rattle.idl_inputs.specs.Bank.{bank_of};
 ghost use Rattle.idl_sources.specs.Compile.{compiled_root};
@@ -122,7 +122,7 @@ impl Sources {
     /// What the root of this name compiles to. Its file may be absent.
     pub fn compile(&mut self, root: &Name) -> Result<CompiledRoot, AllocError>
         ensures compiled { IfOk result (λ compiled. compiled ≡ compiled_root self.old root.now) }
-        ensures within { OnOk result (IsWithinWords (expanded root.now (bank_of self.old)).0) }
+        ensures within { OnOk result (FitsU64 (expanded root.now (bank_of self.old)).0) }
         ensures same { self.new ≡ self.old }
     {
         compile_alone(&mut self.memory, &self.bank, root)
@@ -149,7 +149,7 @@ impl Sources {
         self.bank.files().get(name.as_bytes()).is_some()
     }
 
-    /// Where tokens begin that are found in files, as a session tells it. Each block of a file is gone through once.
+    /// Where tokens begin that are found in files, as a session tells it. Each chunk of a file is gone through once.
     pub fn columns(&self) -> Columns<'_>
         ensures { result ≡ self.now.files }
     {

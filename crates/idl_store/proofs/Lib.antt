@@ -1,3 +1,4 @@
+pub mod Beside
 pub mod Bucketed
 pub mod Changing
 pub mod Drafting

@@ -7,6 +7,7 @@ use Rattle.std.specs.declared.cmp.Ordering.TheVariants.{Equal}
 use Rattle.std.proofs.lemmas.List.Elements.{All-contains, All-contains_itself, All-filter, All-weaker}
 use Rattle.std.proofs.lemmas.Option.{same_Some}
 use Rattle.slab.specs.Slab.{Slab, get}
+use Rattle.idl_memo.specs.Kept.{Kept}
 use Rattle.idl_store.specs.Buckets.{AddsOne}
 use Rattle.idl_store.specs.Index.{IsGap, IsGapAmong, those_of}
 use Rattle.idl_store.specs.Numbers.{AreMore, IsSoundAt, IsPut, IsStored, result_of, shown, times, uses_of, with_bucket}
@@ -25,6 +26,10 @@ use Rattle.idl_store.proofs.Spotted.{result-on_number}
 pub on_ok : {X Y P : Type 0} (r : Result X Y) → P → OnOk r P
 on_ok (Ok x) p = p
 on_ok (Err y) p = tt
+
+-- results that are one have as many keys
+pub keys-same : {K V T O : Type 0} (found here : Kept K V T O) → found ≡ here → length found.log ≡ length here.log
+keys-same {K} {V} {T} {O} found here is = ap (λ (k : Kept K V T O). length k.log) is
 
 module _ {R : Type 0} {is_sound : R → Type 0} {bucket : R → ℕ} {used : Slab (Used R)} {index : List ((R × ℕ) × ℕ)} {numbers : Stored ℕ} (stored : IsStored is_sound bucket used index numbers) where
   -- ---- a result that is there

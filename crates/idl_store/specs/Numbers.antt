@@ -85,8 +85,8 @@ module _ {R : Type 0} where
     pub at : kept.1 ≡ bucket kept.0
 
   module _ (is_sound : R → Type 0) (bucket : R → ℕ) where
-    -- the results of the lists and drafts are kept, each once, are counted and found, and came about
-    -- as they should
+    -- the results of the lists and drafts are kept, each once, are counted and found, and came
+    -- about as they should
     pub record IsStored (used : Slab (Used R)) (index : List ((R × ℕ) × ℕ)) (numbers : Stored ℕ)
         : Type 0 where
       pub counted : (n : ℕ) → uses_of used n ≡ times n (results_in numbers)

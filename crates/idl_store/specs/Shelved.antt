@@ -8,7 +8,8 @@ pub record Shelved (R : Type 0) : Type 0 where
   pub stored : Stored R
   pub index : List ((R × ℕ) × ℕ)
 
--- a look-up is for this one: each that came about as it should stands to what is looked for as to it
+-- a look-up is for this one: each that came about as it should stands to what is looked for as to
+-- it
 abbrev pub IsSought : {R : Type 0} → (R → Type 0) → (R → R → Ordering) → (R → Ordering) → R → Type 0
 IsSought {R} is_sound rank stand one =
     (other : R) → is_sound other → stand other ≡ rank other one

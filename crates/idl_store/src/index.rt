@@ -110,6 +110,18 @@ impl<R: Ranked> Index<R> {
         shrink_map(&mut self.buckets);
     }
 
+    // The results of a bucket. It takes no memory.
+    pub(crate) fn bucket(&self, bucket: u64) -> &[Numbered<R>]
+        ensures among { All (λ one. Contains self.now (numbered bucket one)) result.now }
+        ensures all { (e : (R × ℕ) × ℕ) → Contains self.now e → e.0.1 ≡ bucket
+            → Any (λ one. numbered bucket one ≡ e) result.now }
+    {
+        match self.buckets.get(&bucket) {
+            Some(results) => results.as_slice(),
+            None => &[],
+        }
+    }
+
     // The number of a result of this bucket that a probe looks for, or the gap where one would go. It takes no memory.
     pub(crate) fn find<P: Probe<R>>(&self, bucket: u64, probe: &P) -> Result<usize, Gap>
         ensures found { IfOk result (λ number.
@@ -218,7 +230,8 @@ fn remove_at<R: Ranked>(buckets: &mut HashMap<u64, Vec<Numbered<R>>>, bucket: u6
     ensures one { (kept : R) → Contains (numbered_in buckets.old.entries) ((kept, bucket), number)
         → AddsOne (numbered_in buckets.new.entries) (numbered_in buckets.old.entries)
         ((kept, bucket), number) }
-    ensures gone { (kept : R) → ¬ Contains (numbered_in buckets.new.entries) ((kept, bucket), number) }
+    ensures gone { (kept : R)
+        → ¬ Contains (numbered_in buckets.new.entries) ((kept, bucket), number) }
     ensures order { IsInOrder R.rank buckets.new }
 {
     let Some(results) = buckets.get_mut(&bucket) else {

@@ -17,4 +17,5 @@ mod uses;
 pub use laws::storing;
 pub use lists::Lists;
 pub use numbers::Spot;
+pub use ranked::Test;
 pub use store::Store;

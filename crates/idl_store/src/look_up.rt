@@ -1,6 +1,7 @@
 //! How a kept result is looked up, and taken: by a task and what it would be answered, or by itself.
 
-ghost use Rattle.std.specs.Prelude.{◌≡◌, ◌∷◌, [], IfErr, IfNone, IfOk, IfSome, OnErr, OnOk, Some, slice_get};
+ghost use Rattle.std.specs.Prelude.{◌≡◌, ◌∷◌, [], All, Any, IfErr, IfNone, IfOk, IfSome, IsFalse, IsTrue, OnErr, OnOk, Some, slice_get};
+ghost use Rattle.std.specs.List.{list_any};
 ghost use Rattle.std.specs.Option.{option_cmp};
 ghost use Rattle.idl_memo.specs.Kept.{IsSound, NoneAlikeAt, SomeAlikeAt, result_over};
 ghost use Rattle.idl_store.specs.Buckets.{bucket_of};
@@ -9,11 +10,11 @@ ghost use Rattle.idl_store.specs.Order.{results_cmp};
 ghost use Rattle.idl_store.specs.Spots.{result_on};
 ghost use Rattle.idl_store.specs.Stored.{grown, results_in};
 
-use crate::index::{Gap, bucket_of};
+use crate::index::{Gap, Numbered, bucket_of};
 use crate::numbers::Spot;
-use crate::ranked::{Held, Place};
+use crate::ranked::{Held, Place, Test};
 use crate::shelf::Shelf;
-use idl_memo::{LentBank, PlainBank, Task};
+use idl_memo::{Bank, Kept, LentBank, PlainBank, Task};
 use std::alloc::AllocError;
 
 // A spot at which a result stands that is alike to the task over this bank, or nothing where none is. It takes no memory.
@@ -32,6 +33,36 @@ where
 {
     let bucket = bucket_of(task.text(), task.hint(bank));
     shelf.spot(bucket, &Place { task, bank })
+}
+
+// Whether a result passes a test that is found by this hint and a text that is hashed as this one. It takes no memory.
+pub(crate) fn has_beside<B: Bank, T: Task<B>, Q: Test<Kept<B, T::Text, T::Out>>>(
+    shelf: &Shelf<Held<B, T>>,
+    text: &T::Text,
+    hint: u64,
+    test: &Q,
+) -> bool
+where
+    B::Answer: Ord,
+    T::Text: Ord,
+    ensures some { IsTrue result
+        → Any (λ kept. IsTrue (Q.passes test.now kept)) (results_in shelf.now.stored) }
+    ensures none { IsFalse result → All (λ kept.
+        T.Text.hash_input kept.text ≡ T.Text.hash_input text.now
+        → T.hint_of kept.text (slice_get kept.log 0) ≡ hint
+        → IsFalse (Q.passes test.now kept)) (results_in shelf.now.stored) }
+{
+    has_passing::<B, T, Q>(shelf.bucket(bucket_of(text, hint)), test)
+}
+
+// Whether one of these passes a test.
+fn has_passing<B: Bank, T: Task<B>, Q: Test<Kept<B, T::Text, T::Out>>>(
+    results: &[Numbered<Held<B, T>>],
+    test: &Q,
+) -> bool
+    ensures { result ≡ list_any (λ one. Q.passes test.now one.result) results.now }
+{
+    results.iter().any(|one| test.passes(one.result.shared()))
 }
 
 // A result that is alike to the task over this bank goes into the last draft too. Where there is none, this is the gap where it

@@ -3,7 +3,7 @@
 ghost use Rattle.std.specs.Cmp.{IsTotalOrder};
 ghost use Rattle.std.specs.Cmp.Lexicographic.{options_total};
 ghost use Rattle.std.specs.Option.{option_cmp};
-ghost use Rattle.std.specs.Prelude.{◌≡◌, ℕ, IfOk};
+ghost use Rattle.std.specs.Prelude.{◌≡◌, ℕ, Bool, IfOk};
 ghost use Rattle.std.specs.declared.cmp.Ordering.{Ordering as Standing};
 ghost use Rattle.idl_memo.specs.Kept.{IsSound};
 ghost use Rattle.idl_store.specs.Buckets.{bucket_of};
@@ -16,7 +16,7 @@ use std::cmp::Ordering;
 use std::marker::Model;
 use std::rc::Rc;
 
-/// What is kept in the order of its kind.
+/// What a shelf keeps: it belongs into a bucket, as by a hash, and has an order among others of its kind, by which it is found there.
 pub(crate) trait Ranked: Drop {
     /// How one stands to another.
     ghost rank: { Self → Self → Standing };
@@ -35,7 +35,7 @@ pub(crate) trait Ranked: Drop {
     ghost ranked: { IsTotalOrder rank };
 }
 
-/// What is looked for among some that are ranked.
+/// A search key: what is looked for among some that are ranked, by how each of them stands to it.
 pub(crate) trait Probe<R> {
     /// How one of those stands to what is looked for.
     ghost stand: { Self → R → Standing };
@@ -43,6 +43,16 @@ pub(crate) trait Probe<R> {
     /// How one of those stands to what is looked for. It takes no memory.
     fn stand(&self, one: &R) -> Ordering
         ensures { result ≡ stand self.now one.now };
+}
+
+/// A test of results.
+pub trait Test<R> {
+    /// Whether one passes.
+    ghost passes: { Self → R → Bool };
+
+    /// Whether one passes. It takes no memory.
+    fn passes(&self, one: &R) -> bool
+        ensures { result ≡ passes self.now one.now };
 }
 
 /// A kept result of a kind of task, which is shared. To every contract it is the result itself.

@@ -3,7 +3,7 @@
 //! A part of a list is taken whole or not at all: whether each use can be counted is asked of all its results before
 //! one is. A spot is searched for in the drafts, the last one first, and then in the lists.
 
-ghost use Rattle.std.specs.Prelude.{◌≡◌, ◌∷◌, [], All, Contains, IfErr, IfNone, IfOk, IfSome, IsTrue, OnErr, OnOk, Some, length};
+ghost use Rattle.std.specs.Prelude.{◌≡◌, ◌∷◌, [], All, Any, Contains, IfErr, IfNone, IfOk, IfSome, IsTrue, OnErr, OnOk, Some, length};
 ghost use Rattle.std.specs.Option.{option_copied, option_to_list};
 ghost use Rattle.std.specs.declared.cmp.Ordering.TheVariants.{Equal};
 ghost use Rattle.idl_store.specs.Index.{IsGapAmong};
@@ -11,7 +11,7 @@ ghost use Rattle.idl_store.specs.Shelved.{IsSought};
 ghost use Rattle.idl_store.specs.Spots.{result_on, results_from};
 ghost use Rattle.idl_store.specs.Stored.{begun, committed, discarded, grown, last_draft, list_at, nothing_stored, removed, result_at, results_in};
 
-use crate::index::{Gap, Index};
+use crate::index::{Gap, Index, Numbered};
 use crate::numbers::{
     Draft, Spot, Used, exchange, number_at, number_on, numbers_from, shrink_lists, spot_of,
 };
@@ -21,7 +21,7 @@ use slab::Slab;
 use std::alloc::{AllocError, Global};
 use std::marker::Model;
 
-/// Lists of results, and the drafts of those that an edit makes.
+/// Where a store keeps results: lists, the drafts of those that an edit makes, and an index that finds them. It knows no bank.
 ///
 /// To every contract it is these lists, and what finds results: who looks for one learns where it would go, and may put it there.
 /// A result is kept once, under a number, as long as a list or a draft has it, and a look-up finds it as long.
@@ -132,6 +132,15 @@ impl<R: Ranked> Shelf<R> {
             Ok(number) => spot_of(&self.lists, &self.drafts, number),
             Err(_gap) => None,
         }
+    }
+
+    // The results of a bucket. It takes no memory.
+    pub(crate) fn bucket(&self, bucket: u64) -> &[Numbered<R>]
+        ensures among { All (λ one. Contains (results_in self.now.stored) one.result) result.now }
+        ensures all { All (λ r. R.bucket r ≡ bucket → Any (λ one. one.result ≡ r) result.now)
+            (results_in self.now.stored) }
+    {
+        self.index.bucket(bucket)
     }
 
     // Begins a draft, without results, of a list: of one that is there, or else of a new last one.

@@ -1,12 +1,12 @@
 //! The results of a kind of task, as the roots of a project have them.
 //!
 //! What an edit makes stands in drafts from the start, so that the next place and root find it. Accepted, each takes
-//! the place of its list by moves alone; refused, all are dropped by one call. Who obtains a result keeps it, and
-//! counts no keys. `put` looks its result up by its own log.
+//! the place of its list by moves alone; refused, all are dropped by one call. Who obtains a result keeps it.
+//! `put` looks its result up by its own log.
 //!
 //! Which bank is asked matters to few: all else is done by a `Shelf`, of results whatever they are.
 
-ghost use Rattle.std.specs.Prelude.{◌≡◌, ◌<◌, ◌∷◌, [], IfNone, IfOk, IfSome, IsTrue, OnErr, OnOk, Option, Some, length, slice_get};
+ghost use Rattle.std.specs.Prelude.{◌≡◌, ◌<◌, ◌∷◌, [], All, Any, IfNone, IfOk, IfSome, IsFalse, IsTrue, OnErr, OnOk, Option, Some, length, slice_get};
 ghost use Rattle.std.specs.Option.{option_copied, option_map, option_to_list};
 ghost use Rattle.idl_memo.specs.Kept.{IsSound, NoneAlikeAt, result_over};
 ghost use Rattle.idl_memo.specs.Meter.{count_of, most_compared};
@@ -14,9 +14,9 @@ ghost use Rattle.idl_store.specs.Obtained.{IsObtained};
 ghost use Rattle.idl_store.specs.Spots.{result_on, results_from};
 ghost use Rattle.idl_store.specs.Stored.{begun, committed, discarded, grown, last_draft, list_at, nothing_stored, removed, result_at, results_in};
 
-use crate::look_up::{put_once, spot_of_alike, take_alike};
+use crate::look_up::{has_beside, put_once, spot_of_alike, take_alike};
 use crate::numbers::Spot;
-use crate::ranked::Held;
+use crate::ranked::{Held, Test};
 use crate::shelf::Shelf;
 use idl_memo::{Bank, Kept, LentBank, Log, Meter, PlainBank, Runnable, Runs, Task, keep};
 use std::alloc::{AllocError, Global};
@@ -125,6 +125,23 @@ where
         self.shelf.is_one(spot, other)
     }
 
+    /// Whether a result passes a test that is found by this hint and a text that is hashed as this one. It takes no memory.
+    pub fn has_beside<Q: Test<Kept<B, T::Text, T::Out>>>(
+        &self,
+        text: &T::Text,
+        hint: u64,
+        test: &Q,
+    ) -> bool
+        ensures some { IsTrue result
+            → Any (λ kept. IsTrue (Q.passes test.now kept)) (results_in self.now) }
+        ensures none { IsFalse result → All (λ kept.
+            T.Text.hash_input kept.text ≡ T.Text.hash_input text.now
+            → T.hint_of kept.text (slice_get kept.log 0) ≡ hint
+            → IsFalse (Q.passes test.now kept)) (results_in self.now) }
+    {
+        has_beside(&self.shelf, text, hint, test)
+    }
+
     /// Begins a draft, without results, of a list: of one that is there, or else of a new last one.
     ///
     /// Want of memory leaves the store as it was.
@@ -229,8 +246,8 @@ where
     B::Answer: Ord,
     T::Text: Ord,
 {
-    /// The result of the task over this bank: a kept one that is alike, or what a run gives. It goes into the last draft; where there
-    /// is none, it is kept nowhere.
+    /// The result of the task over this bank: a kept one that is alike, whose keys are compared, or what a run gives. It goes into the
+    /// last draft; where there is none, it is kept nowhere.
     ///
     /// Want of memory leaves the store as it was. Nothing is said of the meter then.
     pub fn obtain(
@@ -245,13 +262,18 @@ where
             ≡ result_over B.Key.eq T.query (T.text_of task.now, B.at bank.now)) }
         ensures ok { OnOk result (self.new ≡ grown self.old
             (result_over B.Key.eq T.query (T.text_of task.now, B.at bank.now) ∷ [])) }
-        ensures meter { OnOk result (IsObtained (T.text_of task.now, B.at bank.now) T.KIND
+        ensures meter { OnOk result (IsObtained (T.text_of task.now, B.at bank.now)
+            (result_over B.Key.eq T.query (T.text_of task.now, B.at bank.now)) T.KIND
             (results_in self.old) meter.old meter.new) }
         ensures err { OnErr result (self.new ≡ self.old) }
     {
         let found = take_alike(&mut self.shelf, task, bank)?;
         let gap = match found {
-            Ok(held) => return Ok(held.into_shared()),
+            Ok(held) => {
+                let shared = held.into_shared();
+                meter.compare(shared.log().len());
+                return Ok(shared);
+            }
             Err(gap) => gap,
         };
         let alloc = self.shelf.alloc();

@@ -126,7 +126,7 @@ IsReportText inputs roots text =
     × (text ≡ flat_map entry_text reports)
 
 -- what went out of the roots over these inputs, and how the program ends
-pub record AreTold (inputs : Inputs) (roots : List (List ℕ)) (before after : Written)
+pub record AreReportsWritten (inputs : Inputs) (roots : List (List ℕ)) (before after : Written)
     (status : Status) : Type 0 where
   pub told : List (List Told)
   pub each : AreToldOf inputs roots told
@@ -145,4 +145,4 @@ pub record IsChecked (told : List ℕ → Holding) (options : Options) (before a
   pub formed : IsWellFormed (rootless inputs)
   pub loaded : AreLoaded told inputs.files
   pub complete : AreComplete told inputs roots
-  pub reports : AreTold inputs roots before after status
+  pub reports : AreReportsWritten inputs roots before after status

@@ -2,6 +2,7 @@
 
 mod checks;
 mod diffs;
+mod editors;
 mod explains;
 mod jsons;
 mod rules;

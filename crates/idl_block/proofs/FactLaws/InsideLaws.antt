@@ -1,7 +1,7 @@
 -- What a block's steps close and leave, by how many scopes and files have come since its own file was entered.
 use Rattle.std.proofs.Common.{◌≡◌, ◌<◌, ℕ, zero, suc, List, [], ◌∷◌, length, Option, Some, None, refl, sym, ap, subst, arith}
 use Rattle.std.specs.Prelude.{◌≢◌}
-use Rattle.idl_env.specs.Facts.{UnitFacts, World, after, after_closing, after_step, scopes_in, unstopped, with_additions}
+use Rattle.idl_env.specs.Facts.{UnitFacts, World, after, after_closing, after_step, boundary, scopes_in, unstopped, with_additions}
 use Rattle.idl_env.specs.Outside.{IsInnermost}
 use Rattle.idl_env.specs.declared.additions.addition.Addition.{Addition}
 use Rattle.idl_env.specs.declared.additions.addition.Step.{Step}
@@ -13,7 +13,6 @@ use Rattle.idl_env.specs.declared.keys.key.Key.TheVariants.{Cursor}
 use Rattle.idl_block.specs.facts.Answered.{IsClosing}
 use Rattle.idl_block.specs.facts.Beneath.{AreBalanced, Depth, deepened, start}
 use Rattle.idl_block.specs.facts.Known.{AreInside, IsInside}
-use Rattle.idl_block.specs.facts.Written.{boundary}
 use Rattle.idl_block.proofs.FactLaws.BalanceLaws.{are-two, is-there, length-dropped, over_cursor}
 
 -- so many scopes and files have come, and the scopes are open

@@ -4,7 +4,7 @@ use Rattle.std.proofs.lemmas.List.Elements.{All-cons, All-nil}
 use Rattle.idl_block.specs.Behind.{laid}
 use Rattle.idl_block.specs.Blocks.{Boundary, Part, Text, Ways}
 use Rattle.idl_block.specs.Questions.{AreNested, IsNested, befores}
-use Rattle.idl_env.specs.Facts.{UnitFacts, World, after, after_all}
+use Rattle.idl_env.specs.Facts.{UnitFacts, World, after, after_all, boundary}
 use Rattle.idl_env.specs.Written.{writes_at, written_from}
 use Rattle.idl_env.specs.declared.additions.addition.Step.{Step}
 use Rattle.idl_env.specs.declared.additions.addition.Step.TheVariants.{Enters}
@@ -13,7 +13,7 @@ use Rattle.idl_env.specs.declared.keys.key.Key.{Key}
 use Rattle.idl_block.specs.facts.Answered.{AreProper, Asking, answered}
 use Rattle.idl_block.specs.facts.Beneath.{IsThere, StayWithin, answers_over, onto, start}
 use Rattle.idl_block.specs.facts.Known.{AskEnough, facts_at}
-use Rattle.idl_block.specs.facts.Written.{boundary, is_written, ways_of}
+use Rattle.idl_block.specs.facts.Written.{is_written, ways_of}
 use Rattle.idl_block.proofs.FactLaws.AnsweredLaws.{answered-over}
 use Rattle.idl_block.proofs.FactLaws.BeneathLaws.{after-onto, after_all-append, all-onto, start-onto, there-after}
 use Rattle.idl_block.proofs.FactLaws.WalkLaws.{IsSound, first-sound, sound-more}

@@ -5,7 +5,7 @@ use Rattle.std.proofs.lemmas.List.Elements.{All-cons, All-nil}
 use Rattle.idl_block.proofs.BlockLaws.{outcome-unit}
 use Rattle.idl_block.specs.Blocks.{Boundary, Part, Text, Ways, block}
 use Rattle.idl_block.specs.Questions.{AreOver, IsOver, befores}
-use Rattle.idl_env.specs.Facts.{UnitFacts, World, after, after_all, after_closing, after_step, answers, operations_among, with_additions}
+use Rattle.idl_env.specs.Facts.{UnitFacts, World, after, after_all, after_closing, after_step, answers, boundary, operations_among, with_additions}
 use Rattle.idl_env.specs.declared.additions.addition.Step.{Step}
 use Rattle.idl_env.specs.declared.additions.addition.Step.TheVariants.{Stays, Opens, OpensNameless, Closes, Prefixes, Enters, Leaves}
 use Rattle.idl_env.specs.declared.answering.answer.Answer.{Answer}
@@ -15,7 +15,7 @@ use Rattle.idl_memo.specs.Query.{outcome}
 use Rattle.idl_block.specs.facts.Answered.{AreProper, AreStops, Asking, IsClosing, IsProper}
 use Rattle.idl_block.specs.facts.Beneath.{AreTwo, IsThere, StayWithin, StaysWithin, start}
 use Rattle.idl_block.specs.facts.Known.{AskEnough, IsInside, IsTold, facts_at}
-use Rattle.idl_block.specs.facts.Written.{boundary, ways_of}
+use Rattle.idl_block.specs.facts.Written.{ways_of}
 use Rattle.idl_block.proofs.FactLaws.AnsweredLaws.{answered-behind}
 use Rattle.idl_block.proofs.FactLaws.BalanceLaws.{are-two, length-dropped, length-more}
 

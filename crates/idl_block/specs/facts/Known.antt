@@ -4,7 +4,7 @@ use Rattle.idl_block.specs.Behind.{laid}
 use Rattle.idl_block.specs.Blocks.{Part, Text, Boundary}
 use Rattle.idl_entity.specs.declared.entity.Entity.{Entity}
 use Rattle.idl_entity.specs.declared.kind.Kind.TheVariants.{Interface}
-use Rattle.idl_env.specs.Facts.{UnitFacts, World, addition_at, after, after_all, entity_key, scopes_in, stops_of, with_additions}
+use Rattle.idl_env.specs.Facts.{UnitFacts, World, addition_at, after, after_all, boundary, entity_key, scopes_in, stops_of, with_additions}
 use Rattle.idl_env.specs.declared.additions.addition.Addition.TheVariants.{Declares}
 use Rattle.idl_env.specs.declared.additions.addition.Step.{Step}
 use Rattle.idl_env.specs.declared.additions.addition.Step.TheVariants.{Opens, OpensNameless, Closes, Enters, Leaves}
@@ -15,7 +15,6 @@ use Rattle.idl_env.specs.declared.keys.key.Key.TheVariants.{Cursor, Declared, In
 use Rattle.idl_memo.specs.Query.{asked, outcome}
 use Rattle.idl_block.specs.facts.Answered.{Asking, IsClosing, IsProper, answered}
 use Rattle.idl_block.specs.facts.Beneath.{AreTwo, IsThere, start}
-use Rattle.idl_block.specs.facts.Written.{boundary}
 
 -- none of these open scopes stands inside of the one at a path
 abbrev pub NoneInside : List Scope → List (List ℕ) → Type 0

@@ -4,7 +4,7 @@ ghost use Rattle.std.specs.Prelude.{◌≡◌, ◌≢◌, ◌∷◌, ◌++◌, [
 ghost use Rattle.idl_block.specs.Behind.{laid};
 ghost use Rattle.idl_block.specs.Blocks.{Part, block, walk};
 ghost use Rattle.idl_block.specs.Questions.{AreKnown, AreNested, AreOver, outer_asked};
-ghost use Rattle.idl_env.specs.Facts.{UnitFacts, after, answers, scopes_in};
+ghost use Rattle.idl_env.specs.Facts.{UnitFacts, after, answers, boundary, scopes_in};
 ghost use Rattle.idl_env.specs.declared.additions.addition.Step.{Step};
 ghost use Rattle.idl_env.specs.declared.additions.addition.Step.TheVariants.{Enters};
 ghost use Rattle.idl_env.specs.declared.answering.answer.Answer.{Answer};
@@ -13,7 +13,7 @@ ghost use Rattle.idl_env.specs.declared.keys.key.Key.TheVariants.{Cursor};
 ghost use Rattle.idl_block.specs.facts.Answered.{AreProper, answered};
 ghost use Rattle.idl_block.specs.facts.Beneath.{AreBalanced, start};
 ghost use Rattle.idl_block.specs.facts.Known.{AreInside, AskEnough, stops_among};
-ghost use Rattle.idl_block.specs.facts.Written.{boundary, ways_of};
+ghost use Rattle.idl_block.specs.facts.Written.{ways_of};
 ghost use Rattle.idl_memo.specs.Query.{Agree, asked, outcome};
 
 /// Units that ask an environment and add facts to it.

@@ -64,7 +64,8 @@ abbrev pub remark : TextPurpose → ℕ → List ℕ → Entity → Lookup Said
 remark purpose at t e =
     and_then (said_by_text purpose at t e) (λ s. Done (unless (is_bad_text purpose t) s))
 
--- of an id the same: whether what is fixed of it may not be that, and what is then said of an entity
+-- of an id the same: whether what is fixed of it may not be that, and what is then said of an
+-- entity
 abbrev pub is_bad_id : Fixed → Bool
 is_bad_id (Id t) = is_no_id t
 is_bad_id (Version major minor) = false

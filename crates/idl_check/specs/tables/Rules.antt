@@ -1,8 +1,8 @@
--- The rules over tree and names: one test for each code, in the order of codes. The tables and the
+-- The rules over tree and names: a test for each code, in the order of codes. The tables and the
 -- walk say at which token a code stands where its test holds. What a name denotes decides on E30 to
--- E32 and on E38 (`idl_scope`), where that of a `typeprefix` is a scope too (`is_scope`), and what an
--- expression comes to on E50 to E54 (`idl_value`). E75 and W80 are of no unit: the listing tells them
--- of what is never defined in the root (`idl_repo`).
+-- E32 and on E38 (`idl_scope`), where that of a `typeprefix` is a scope too (`is_scope`), and what
+-- an expression comes to on E50 to E54 (`idl_value`). E75 and W80 are of no unit: the listing tells
+-- them of what is never defined in the root (`idl_repo`).
 use Rattle.std.specs.Prelude.{ℕ, ◌-◌, Bool, true, false, ◌&&◌, ◌||◌, List, [], ◌∷◌, is_none, is_some, length, nat_eq, nat_le, not, take, Option, None, Some}
 use Rattle.std.specs.Bool.{beq}
 use Rattle.std.specs.List.{list_all, list_any}
@@ -24,8 +24,6 @@ use Rattle.idl_entity.specs.declared.identity.Identity.{Identity}
 use Rattle.idl_entity.specs.declared.kind.Kind.{Kind}
 use Rattle.idl_entity.specs.declared.kind.Kind.TheVariants.{Module, Interface, Structure, Union, Exception, Enumeration, Enumerator, Alias, Native, Parameter, Member}
 use Rattle.idl_entity.specs.declared.kind.Stage.TheVariants.{Ahead, Complete}
-use Rattle.idl_parts.specs.Item.{Item}
-use Rattle.idl_parts.specs.Part.{Part as item}
 use Rattle.idl_parts.specs.declared.part.Use.{Use}
 use Rattle.idl_parts.specs.declared.part.Use.TheVariants.{AsBase, AsStructBase, AsType, AsElement, AsConstantType, AsDiscriminator, AsOperand, Raised, RaisedBySet, AsIdentified, AsPrefixed}
 use Rattle.idl_tree.specs.declared.declarations.interface.Forward.TheVariants as forward
@@ -185,10 +183,9 @@ abbrev pub is_useless_default : List Labels → Bool
 is_useless_default unions = list_any is_idle (take 1 unions)
 
 -- E64: A `oneway` operation gives nothing back: neither a result, nor a parameter that is `out` or
--- `inout`, nor by `raises`. Before the first token of each stands this mark.
-abbrev pub is_given_back : Item → Bool
-is_given_back item.GivesBack = true
-is_given_back other = false
+-- `inout`, nor by `raises`. There is no test here: before the first token of each of these, and
+-- there alone, the sites of such an operation have a mark (`given_back` in `UnitParts` of
+-- `idl_parts`), at which the walk tells it.
 
 -- E70: An interface, a struct or a union is declared again under the prefix of its first
 -- declaration.

@@ -12,11 +12,12 @@ use Rattle.idl_check.specs.walk.Walk.{Walk, first_walk, walk}
 use Rattle.idl_check.specs.declared.walk.verdict.Verdict.{Verdict}
 use Rattle.idl_fault.specs.declared.code.Code.TheVariants.{NoTree}
 use Rattle.idl_lex.specs.tokens.Tokens.{Token}
-use Rattle.idl_memo.specs.Query.{Done, Ask, and_then}
-use Rattle.idl_env.specs.Facts.{path_around, scopes_in}
+use Rattle.idl_memo.specs.Query.{Done, Ask, and_then, outcome}
+use Rattle.idl_env.specs.Facts.{UnitFacts, answers, boundary, path_around, scopes_in}
+use Rattle.idl_env.specs.Turns.{most_turns}
 use Rattle.idl_scope.specs.Lookup.{Lookup}
 use Rattle.idl_env.specs.declared.additions.addition.Step.{Step}
-use Rattle.idl_env.specs.declared.additions.addition.Step.TheVariants.{Stays, Opens}
+use Rattle.idl_env.specs.declared.additions.addition.Step.TheVariants.{Stays, Opens, Enters, Leaves}
 use Rattle.idl_env.specs.declared.answering.answer.Scope.{Scope}
 use Rattle.idl_env.specs.declared.keys.key.Key.TheVariants.{Cursor, Opened, Nameless}
 use Rattle.idl_parts.specs.Item.{items}
@@ -30,6 +31,8 @@ use Rattle.idl_tree.specs.declared.unit.Tree.TheVariants as tree
 use Rattle.idl_unit.specs.Faults.{least_fault}
 use Rattle.idl_unit.specs.TokenRules.{fault_at, token_faults}
 use Rattle.idl_unit.specs.declared.fault.Fault.{Fault}
+use Rattle.idl_unit.specs.declared.unit.Unit.{Unit as RootUnit}
+use Rattle.idl_unit.specs.declared.unit.Unit.TheVariants.{Spelled, Entered, Left, End}
 use Rattle.idl_unit.specs.declared.unit.UnitText.{UnitText}
 use Rattle.idl_unit.specs.declared.unit.UnitText.TheVariants as unit
 
@@ -155,3 +158,17 @@ verdict turns (unit.Tokens tokens) =
     Ask Cursor (λ cursor. token_verdict turns tokens (scopes_in cursor))
 verdict turns (unit.Pragma tokens inside) =
     Ask Cursor (λ cursor. pragma_judged turns tokens inside (scopes_in cursor))
+
+-- ---- over what the units and file boundaries before it added
+
+-- the verdict of a text over facts
+abbrev pub verdict_over : List UnitFacts → UnitText → Verdict
+verdict_over facts text = outcome (verdict most_turns text) (answers facts)
+
+-- What a unit adds over facts. A faulty one adds facts too: an opening opens a scope, and a closing
+-- closes one.
+abbrev pub added : List UnitFacts → RootUnit → List UnitFacts
+added facts (Spelled text sites) = (verdict_over facts text).writes ∷ []
+added facts (Entered file inside) = boundary Enters ∷ []
+added facts (Left file inside) = boundary Leaves ∷ []
+added facts End = []

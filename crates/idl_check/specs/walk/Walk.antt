@@ -14,7 +14,7 @@ use Rattle.idl_check.specs.tables.Codes.{faults_by}
 use Rattle.idl_check.specs.tables.Declaring.{Written, declared_table, entity_of, kind_of, standing, with_declared, written_after}
 use Rattle.idl_check.specs.told.Labels.{Labels, no_labels, with_default, with_label}
 use Rattle.idl_tree.specs.NameParts.{last_at, part_at}
-use Rattle.idl_check.specs.tables.Rules.{is_default_again, is_given_back, is_label_again, is_useless_default}
+use Rattle.idl_check.specs.tables.Rules.{is_default_again, is_label_again, is_useless_default}
 use Rattle.idl_check.specs.told.Types.{looked_through, target_in, written_as}
 use Rattle.idl_check.specs.tables.Using.{Bases, bases_after, constants_after, last_after, name_code, own_after, type_after, unions_after, used_table, values_after, with_uses}
 use Rattle.idl_check.specs.told.Values.{Values, begun_at, code_of, evaluation_for, no_values, with_value}
@@ -391,7 +391,7 @@ visit turns item.Default w =
       bodies = with_body_label None w.bodies;
     }))
 visit turns item.GivesBack w =
-    Done (faulty_if (is_given_back item.GivesBack) code.BadOneway w w)
+    Done (record { faults = fault_at w.at code.BadOneway ∷ []; after = w })
 visit turns (item.Plain n) w = Done (quiet (passed n w))
 visit turns (item.Says purpose text) w =
     Done (faulty_if (is_bad_text purpose (joined text)) code.BadIdText w

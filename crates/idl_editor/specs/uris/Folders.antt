@@ -4,7 +4,7 @@ use Rattle.std.specs.List.{list_all}
 use Rattle.std.specs.Option.{option_map, option_or, unwrap_or}
 use Rattle.idl_source.specs.names.Name.{is_name, is_visible}
 use Rattle.idl_source.specs.names.Path.{is_rooted}
-use Rattle.percent_encoding.specs.Percent.{percent_decode}
+use Rattle.percent_encoding.specs.Percent.{percent_decode, percent_sign}
 use Rattle.idl_editor.specs.uris.Uri.{behind, escaped_but}
 
 -- a folder's path, and what the names of its files begin with
@@ -14,7 +14,7 @@ pub record FolderNamed : Type 0 where
 
 -- a byte stands in a name as it is: one that names have, and no `%`
 abbrev pub stands_in_names : ℕ → Bool
-stands_in_names b = is_visible b && not (nat_eq b 37)
+stands_in_names b = is_visible b && not (nat_eq b percent_sign)
 
 -- a path as names have it
 abbrev pub escaped : List ℕ → List ℕ

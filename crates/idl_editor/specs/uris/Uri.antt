@@ -20,7 +20,8 @@ path_behind (Some escaped) = if is_rooted escaped then Some (percent_decode esca
 abbrev pub path_of : List ℕ → Option (List ℕ)
 path_of uri = path_behind (behind (codes "file://") uri)
 
--- bytes of which these stand as they are, and each other one as `%` and its two hexadecimal digits
+-- bytes of which these stand as they are, and each other one as `%` and its two capital hexadecimal
+-- digits
 abbrev pub escaped_but : (ℕ → Bool) → List ℕ → List ℕ
 escaped_but stands bytes =
     flat_map (λ b. if stands b then b ∷ [] else percent_encode_byte b) bytes

@@ -73,7 +73,8 @@ impl LexedFile {
         ChunkColumns::new(alloc, self.tokens.lexed(), line)
     }
 
-    /// How many lines are before that chunk.
+    /// How many lines are before that chunk. No clause says so: who keeps what was found in a chunk finds it again by this number, and only
+    /// cost rests on it.
     pub fn lines_before(&self, line: u32) -> usize {
         self.tokens.lexed().lines_before(line)
     }

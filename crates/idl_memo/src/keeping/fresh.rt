@@ -3,16 +3,14 @@
 ghost use Rattle.std.specs.Prelude.{◌≡◌, ◌↔◌, ◌+◌, ◌≤◌, ◌++◌, ◌∷◌, [], List, Option, All, Contains, sum_by, true};
 ghost use Rattle.std.specs.List.{IsDistinct};
 ghost use Rattle.std.specs.Option.{option_eq};
-ghost use Rattle.idl_memo.specs.Fresh.{AreAmong, Place, asked_among, compared_among, fresh_among, fresh_at, is_alike, keys_at, log_at, most_shared_at, places_over, shared_among, shared_at, stale_among};
+ghost use Rattle.idl_memo.specs.Fresh.{AreAmong, Place, fresh_among, fresh_at, is_alike, keys_at, log_at, most_shared_at, places_over, shared_among, shared_at, stale_among};
 
 use crate::bank::Bank;
 use crate::task::Task;
 
 /// How many places are fresh against others.
 ///
-/// Alike are places of one text and one log, so that "alike" is an equality: the count is that of the classes that the new
-/// places have and the known ones have not. It is a sum over parts, in any order; places that have one another's classes, or
-/// known ones, count as many; and places that are known may be left out.
+/// Alike are places of one text and one log. The count is a sum over parts, and places that are known may be left out.
 pub fn freshness<B: Bank, T: Task<B>>()
     ensures class { (here task : Place B.Key (Option B.Answer) T.Text)
         → (is_alike T.Text.eq (option_eq B.Answer.eq) T.query here task ≡ true
@@ -28,18 +26,10 @@ pub fn freshness<B: Bank, T: Task<B>>()
         → fresh_among T.Text.eq (option_eq B.Answer.eq) T.query old (a ++ b)
         ≡ fresh_among T.Text.eq (option_eq B.Answer.eq) T.query old a
         + fresh_among T.Text.eq (option_eq B.Answer.eq) T.query (old ++ a) b }
-    ensures classes { (old a b : List (Place B.Key (Option B.Answer) T.Text))
-        → AreAmong T.Text.eq (option_eq B.Answer.eq) T.query a (old ++ b)
-        → AreAmong T.Text.eq (option_eq B.Answer.eq) T.query b (old ++ a)
-        → fresh_among T.Text.eq (option_eq B.Answer.eq) T.query old a
-        ≡ fresh_among T.Text.eq (option_eq B.Answer.eq) T.query old b }
     ensures aside { (old front stay rest : List (Place B.Key (Option B.Answer) T.Text))
         → AreAmong T.Text.eq (option_eq B.Answer.eq) T.query stay old
         → fresh_among T.Text.eq (option_eq B.Answer.eq) T.query old (front ++ (stay ++ rest))
         ≡ fresh_among T.Text.eq (option_eq B.Answer.eq) T.query old (front ++ rest) }
-    ensures turned { (old a b : List (Place B.Key (Option B.Answer) T.Text))
-        → fresh_among T.Text.eq (option_eq B.Answer.eq) T.query old (a ++ b)
-        ≡ fresh_among T.Text.eq (option_eq B.Answer.eq) T.query old (b ++ a) }
     ensures there { (these those : List (Place B.Key (Option B.Answer) T.Text))
         → All (Contains those) these
         → AreAmong T.Text.eq (option_eq B.Answer.eq) T.query these those }
@@ -48,7 +38,7 @@ pub fn freshness<B: Bank, T: Task<B>>()
 /// How many tasks are fresh in a project with one bank for all, where no two places have one text.
 ///
 /// With the same places, those tasks are fresh that aren't alike at their own. Over the same bank a place more is fresh,
-/// a place less makes none so, and what is compared is all that was asked.
+/// and a place less makes none so.
 pub fn one_bank<B: Bank, T: Task<B>>()
     ensures same_places { (old new : B.Key → Option B.Answer) (places : List T.Text)
         → IsDistinct T.Text.eq places
@@ -63,16 +53,13 @@ pub fn one_bank<B: Bank, T: Task<B>>()
         → All (Contains tasks) places
         → fresh_among T.Text.eq (option_eq B.Answer.eq) T.query (places_over bank tasks)
         (places_over bank places) ≡ 0 }
-    ensures stay { (bank : B.Key → Option B.Answer) (places : List T.Text)
-        → compared_among T.Text.eq (option_eq B.Answer.eq) T.query B.Key.eq bank bank places
-        ≡ asked_among T.Text.eq (option_eq B.Answer.eq) T.query B.Key.eq bank places }
 {}
 
 /// How many keys the places share with known tasks: those of each place where a known task, or one of an earlier place, is
 /// alike.
 ///
-/// Alike tasks have one log, so that the count is a sum over parts, in any order, as that of the fresh places is. Places that
-/// are known add their keys; and none adds more than all known tasks of its text asked.
+/// The count is a sum over parts, and hangs on which tasks are known, not on their order. Places that are known add their keys; and
+/// none adds more than all known tasks of its text asked.
 pub fn sharing<B: Bank, T: Task<B>>()
     ensures none { (known : List (Place B.Key (Option B.Answer) T.Text))
         → shared_among T.Text.eq (option_eq B.Answer.eq) T.query B.Key.eq known [] ≡ 0 }
@@ -95,9 +82,6 @@ pub fn sharing<B: Bank, T: Task<B>>()
         (front ++ (stay ++ rest))
         ≡ shared_among T.Text.eq (option_eq B.Answer.eq) T.query B.Key.eq old (front ++ rest)
         + sum_by (keys_at T.Text.eq (option_eq B.Answer.eq) T.query B.Key.eq) stay }
-    ensures turned { (old a b : List (Place B.Key (Option B.Answer) T.Text))
-        → shared_among T.Text.eq (option_eq B.Answer.eq) T.query B.Key.eq old (a ++ b)
-        ≡ shared_among T.Text.eq (option_eq B.Answer.eq) T.query B.Key.eq old (b ++ a) }
     ensures most { (known : List (Place B.Key (Option B.Answer) T.Text))
         (here : Place B.Key (Option B.Answer) T.Text)
         → shared_at T.Text.eq (option_eq B.Answer.eq) T.query B.Key.eq known here

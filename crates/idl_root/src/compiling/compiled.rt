@@ -7,7 +7,7 @@ ghost use Rattle.idl_root.specs.AsBefore.{AreAsBefore, AreListsLeft, IsAsBefore,
 ghost use Rattle.idl_root.specs.Compile.{compile, findings_told, has_error, open_finding, rows_beside};
 ghost use Rattle.idl_root.specs.Held.{told_of};
 ghost use Rattle.idl_root.specs.Results.{ExpandsNone, IsKeptOf, root_marks};
-ghost use Rattle.idl_root.specs.Turns.{IsWithinWords};
+ghost use Rattle.idl_root.specs.Turns.{FitsU64};
 ghost use Rattle.idl_unit.specs.Units.{units_of};
 
 use crate::compiling::judging::{Ended, RootState};
@@ -15,7 +15,6 @@ use crate::compiling::memory::Memory;
 use crate::compiling::passing::bound;
 use crate::compiling::printing::{Printed, print_all};
 use crate::kept::again::{Again, are_as_before};
-use crate::kept::comparing::compare;
 use crate::kept::course::Course;
 use crate::kept::keeper::Keeper;
 use crate::kept::keeping::Keeping;
@@ -28,6 +27,7 @@ use idl_finding::{EventFinding, Finding, event_findings, in_order, push_numbered
 use idl_memo::Meter;
 use idl_unit::{Unit, split};
 use std::alloc::{AllocError, Global};
+use std::rc::Rc;
 
 /// A row of diagnostics, of a listing or of a dump, whose bytes are shared: a line of text without its newline.
 pub type Row = Bytes;
@@ -58,20 +58,18 @@ impl Drop for Compiled {
     }
 }
 
-/// A root that is compiled, whose results are kept: its place among all roots, its last line, what it expands to, and what its
-/// units were and what they came to when it was compiled last, if it was.
+/// A root whose results are kept, as it was when it was compiled last: its place among all roots, what its units were, and what it
+/// compiled to, if it was.
 #[derive(Clone, Copy)]
-pub struct KeptSource<'a> {
+pub struct RootBefore<'a> {
     pub at: usize,
-    pub end: &'a Place,
-    pub expansion: &'a Expansion,
-    pub marks: &'a Marks,
+    pub marks: &'a Rc<Marks>,
     pub compiled: Option<&'a Compiled>,
 }
 
-/// What compiling a root gives, and what its units are, unless they are as they were.
+/// What compiling it gives, and what its units are, unless they are as they were.
 #[derive(Drop)]
-pub struct Recompiled {
+pub struct RootAfter {
     pub compiled: Compiled,
     pub marks: Option<Marks>,
 }
@@ -97,7 +95,7 @@ pub fn compile(
     expansion: &Expansion,
 ) -> Result<Compiled, AllocError>
     ensures compiled { IfOk result (λ compiled. compiled ≡ compile end.now expansion.now) }
-    ensures within { OnOk result (IsWithinWords expansion.now) }
+    ensures within { OnOk result (FitsU64 expansion.now) }
 {
     memory.clear();
     let alloc = memory.alloc();
@@ -110,96 +108,106 @@ pub fn compile(
     told(alloc, end, expansion, judging.ended(memory, printed))
 }
 
-/// The same, where the results of the declarations and the entries are kept: those that hold are taken again, and what is made of
-/// the root waits to be put in place. Where its units are as they were, all that is kept of them holds, and nothing is made.
+/// The same of a last line and an expansion, where the results of the declarations and the entries are kept: those that hold are taken
+/// again, and what is made of the root waits to be put in place. Where its units are as they were, all that is kept of them holds, and
+/// nothing is made.
 ///
 /// After want of memory nothing is said of the meter, and there may be drafts more.
 pub fn compile_kept(
     keeper: &mut Keeper,
-    root: KeptSource<'_>,
+    before: RootBefore<'_>,
+    source: (&Place, &Expansion),
     meter: &mut Meter,
-) -> Result<Recompiled, AllocError>
-    requires { (was : List Event) × IsKeptOf was root.marks.now
-        (kept_lists keeper.old root.at)
-        × IfSome root.compiled (λ compiled. IsCompiledOf was compiled.now) }
+) -> Result<RootAfter, AllocError>
+    requires { (was : List Event) × IsKeptOf was before.marks.now.value
+        (kept_lists keeper.old before.at)
+        × IfSome before.compiled (λ compiled. IsCompiledOf was compiled.now) }
     ensures compiled { IfOk result (λ r.
-        r.compiled ≡ compile root.entry.end.now root.entry.expansion.now) }
-    ensures within { OnOk result (IsWithinWords root.entry.expansion.now) }
-    ensures marks { IfOk result (λ r. unwrap_or r.marks root.entry.marks.now
-        ≡ root_marks root.entry.expansion.now) }
-    ensures tasks { OnOk result ((was : List Event) → IsKeptOf was root.entry.marks.now
-        (kept_lists keeper.old root.entry.at)
-        → IsAsBefore was root.entry.expansion.now keeper.old keeper.new meter.old meter.new
-        ⊎ IsMade root.entry.expansion.now root.entry.at keeper.old keeper.new
+        r.compiled ≡ compile source.entry.0.now source.entry.1.now) }
+    ensures within { OnOk result (FitsU64 source.entry.1.now) }
+    ensures marks { IfOk result (λ r. unwrap_or r.marks before.entry.marks.now.value
+        ≡ root_marks source.entry.1.now) }
+    ensures tasks { OnOk result ((was : List Event) → IsKeptOf was before.entry.marks.now.value
+        (kept_lists keeper.old before.entry.at)
+        → IsAsBefore was source.entry.1.now keeper.old keeper.new meter.old meter.new
+        ⊎ IsMade source.entry.1.now before.entry.at keeper.old keeper.new
         meter.old meter.new) }
-    ensures first { OnOk result (IfNone root.entry.compiled (IsMade root.entry.expansion.now
-        root.entry.at keeper.old keeper.new meter.old meter.new)) }
+    ensures first { OnOk result (IfNone before.entry.compiled (IsMade source.entry.1.now
+        before.entry.at keeper.old keeper.new meter.old meter.new)) }
     ensures lists { AreListsLeft keeper.old keeper.new }
     ensures others { OnOk result (ExpandsNone meter.old meter.new) }
 {
-    let units = split(keeper.alloc(), root.expansion)?;
-    if let Some(compiled) = compiled_again(keeper, root, units.as_slice())? {
-        compare(meter, root.marks.keys());
-        return Ok(Recompiled {
+    let (end, expansion) = source;
+    let units = split(keeper.alloc(), expansion)?;
+    let source = (end, expansion, units.as_slice());
+    if let Some(compiled) = compiled_again(keeper, before, source)? {
+        meter.compare(before.marks.keys());
+        return Ok(RootAfter {
             compiled,
             marks: None,
         });
     }
-    Ok(compile_anew(keeper, root, units.as_slice(), meter)?)
+    Ok(compile_anew(keeper, before, source, meter)?)
 }
 
 // What the root compiles to, if its units are as they were and it has an error where it had one: then the rows of its listing and
-// its dump are those of before, and what is found in its units is found where they stand now.
+// its dump are those of before, and what is found in its units is found where they stand now. A source is a last line, an expansion, and
+// the units in it.
 fn compiled_again(
     keeper: &Keeper,
-    root: KeptSource<'_>,
-    units: &[Unit],
+    before: RootBefore<'_>,
+    source: (&Place, &Expansion, &[Unit]),
 ) -> Result<Option<Compiled>, AllocError>
-    requires units { units.now ≡ units_of root.expansion.now }
-    requires kept { (was : List Event) × IsKeptOf was root.marks.now
-        (kept_lists keeper.now root.at)
-        × IfSome root.compiled (λ compiled. IsCompiledOf was compiled.now) }
+    requires units { source.2.now ≡ units_of source.1.now }
+    requires kept { (was : List Event) × IsKeptOf was before.marks.now.value
+        (kept_lists keeper.now before.at)
+        × IfSome before.compiled (λ compiled. IsCompiledOf was compiled.now) }
     ensures compiled { IfOk result (λ found. IfSome found (λ compiled.
-        compiled ≡ compile root.entry.end.now root.entry.expansion.now)) }
-    ensures before { IfOk result (λ found. IfSome found (λ compiled. (was : List Event)
-        → IsKeptOf was root.entry.marks.now (kept_lists keeper.now root.entry.at)
-        → AreAsBefore (units_of was) units.now)) }
-    ensures none { IfOk result (λ found. IfNone root.entry.compiled (found ≡ None)) }
+        compiled ≡ compile source.entry.0.now source.entry.1.now)) }
+    ensures same { IfOk result (λ found. IfSome found (λ compiled. (was : List Event)
+        → IsKeptOf was before.entry.marks.now.value (kept_lists keeper.now before.entry.at)
+        → AreAsBefore (units_of was) source.entry.2.now)) }
+    ensures none { IfOk result (λ found. IfNone before.entry.compiled (found ≡ None)) }
 {
-    let Some(compiled) = root.compiled else {
+    let Some(compiled) = before.compiled else {
         return Ok(None);
     };
-    let earlier = Course::new(root.at, root.marks);
-    if !are_as_before(keeper.texts.declarations(), earlier, units) {
+    let earlier = Course::new(before.at, before.marks);
+    if !are_as_before(keeper.texts.declarations(), earlier, source.2) {
         return Ok(None);
     }
-    Ok(told_again(keeper, root, compiled, units)?)
+    Ok(told_again(keeper, before, compiled, source)?)
 }
 
 // The same, where its units are as they were, and it compiled to that.
 fn told_again(
     keeper: &Keeper,
-    root: KeptSource<'_>,
+    before: RootBefore<'_>,
     compiled: &Compiled,
-    units: &[Unit],
+    source: (&Place, &Expansion, &[Unit]),
 ) -> Result<Option<Compiled>, AllocError>
-    requires units { units.now ≡ units_of root.expansion.now }
-    requires kept { (was : List Event) × IsKeptOf was root.marks.now
-        (kept_lists keeper.now root.at)
-        × IsCompiledOf was compiled.now × AreAsBefore (units_of was) units.now }
+    requires units { source.2.now ≡ units_of source.1.now }
+    requires kept { (was : List Event) × IsKeptOf was before.marks.now.value
+        (kept_lists keeper.now before.at)
+        × IsCompiledOf was compiled.now × AreAsBefore (units_of was) source.2.now }
     ensures { IfOk result (λ found. IfSome found (λ compiled.
-        compiled ≡ compile root.entry.end.now root.entry.expansion.now)) }
+        compiled ≡ compile source.entry.0.now source.entry.1.now)) }
 {
     let alloc = keeper.alloc();
-    let findings = event_findings(alloc, root.expansion)?;
-    let again = Again::new(alloc, findings).with_all(keeper.texts.declarations(), root.at, units)?;
-    let closing = again.closing(&keeper.entries, root.at)?;
+    let (end, expansion, units) = source;
+    let findings = event_findings(alloc, expansion)?;
+    let again = Again::new(alloc, findings).with_all(
+        keeper.texts.declarations(),
+        before.at,
+        units,
+    )?;
+    let closing = again.closing(&keeper.entries, before.at)?;
     let found = RootFindings {
         findings: again.into_findings(),
         is_open: compiled.is_open,
         closing,
     };
-    let findings = all_findings(alloc, root.end, root.expansion, found)?;
+    let findings = all_findings(alloc, end, expansion, found)?;
     let is_faulty = has_error(&findings);
     if is_faulty != compiled.is_faulty {
         return Ok(None);
@@ -219,44 +227,45 @@ fn told_again(
 #[tactic(auto, unfolding(crate::specs::Compile::compile))]
 fn compile_anew(
     keeper: &mut Keeper,
-    root: KeptSource<'_>,
-    units: &[Unit],
+    before: RootBefore<'_>,
+    source: (&Place, &Expansion, &[Unit]),
     meter: &mut Meter,
-) -> Result<Recompiled, AllocError>
-    requires units { units.now ≡ units_of root.expansion.now }
-    requires kept { (was : List Event) × IsKeptOf was root.marks.now
-        (kept_lists keeper.old root.at) }
+) -> Result<RootAfter, AllocError>
+    requires units { source.2.now ≡ units_of source.1.now }
+    requires kept { (was : List Event) × IsKeptOf was before.marks.now.value
+        (kept_lists keeper.old before.at) }
     ensures compiled { IfOk result (λ r.
-        r.compiled ≡ compile root.entry.end.now root.entry.expansion.now) }
-    ensures within { OnOk result (IsWithinWords root.entry.expansion.now) }
-    ensures marks { IfOk result (λ r. r.marks ≡ Some (root_marks root.entry.expansion.now)) }
-    ensures made { OnOk result (IsMade root.entry.expansion.now root.entry.at
+        r.compiled ≡ compile source.entry.0.now source.entry.1.now) }
+    ensures within { OnOk result (FitsU64 source.entry.1.now) }
+    ensures marks { IfOk result (λ r. r.marks ≡ Some (root_marks source.entry.1.now)) }
+    ensures made { OnOk result (IsMade source.entry.1.now before.entry.at
         keeper.old keeper.new meter.old meter.new) }
     ensures lists { AreListsLeft keeper.old keeper.new }
     ensures others { OnOk result (ExpandsNone meter.old meter.new) }
 {
     keeper.memory.clear();
     let alloc = keeper.alloc();
+    let (end, expansion, units) = source;
     let count = units.len().saturating_sub(1);
-    let findings = event_findings(alloc, root.expansion)?;
+    let findings = event_findings(alloc, expansion)?;
     let first = RootState::new(alloc, findings, count)?;
-    let earlier = Course::new(root.at, root.marks);
+    let earlier = Course::new(before.at, before.marks);
     let mut keeping = Keeping::new(alloc, earlier, count, *meter)?;
-    keeper.begin(root.at)?;
+    keeper.begin(before.at)?;
     let judging = first.with_all_kept(&mut keeping, &mut keeper.texts, units)?;
     bound(&judging.env);
     let (counted, keys) = (keeping.meter, keeping.keys);
-    let before = keeper.entries.results(root.at);
-    let (marks, reprinting) = keeping.ended(before, judging.gathered.listed.len());
+    let names = keeper.entries.results(before.at);
+    let (marks, reprinting) = keeping.ended(names, judging.gathered.listed.len());
     let mut printing = Printing::new(alloc, reprinting, counted);
     let listed = judging.gathered.listed.as_slice();
     let printed = printing.printed(&mut keeper.entries, &judging.env, listed)?;
     *meter = printing.meter;
     let ended = judging.ended(&mut keeper.memory, printed);
-    let compiled = told(alloc, root.end, root.expansion, ended)?;
+    let compiled = told(alloc, end, expansion, ended)?;
     let keys = keys.saturating_add(printing.keys);
     let marks = Marks::new(marks, keys);
-    Ok(Recompiled {
+    Ok(RootAfter {
         compiled,
         marks: Some(marks),
     })

@@ -2,24 +2,24 @@
 
 ghost use Rattle.std.specs.Prelude.{◌≡◌, ◌≤◌, ◌++◌, ◌∷◌, [], IfOk, List, OnOk, flat_map, map, option_to_list};
 ghost use Rattle.idl_root_blocks.specs.idl_check_laws.Closing.{AreTold};
-ghost use Rattle.idl_env.specs.Facts.{UnitFacts};
-ghost use Rattle.idl_block.specs.facts.Written.{boundary};
-ghost use Rattle.idl_kept.specs.Texts.{AreListsOf};
+ghost use Rattle.idl_env.specs.Facts.{UnitFacts, boundary};
+ghost use Rattle.idl_kept.specs.Texts.{AreListsOf, DeclarationResult};
 ghost use Rattle.idl_memo.specs.Meter.{compared_after, most_compared};
 ghost use Rattle.idl_store.specs.Stored.{results_in};
 ghost use Rattle.idl_root.specs.Added.{told_by};
 ghost use Rattle.idl_root.specs.Compile.{is_open};
 ghost use Rattle.idl_root.specs.Followed.{IsBoundary, IsKeeping, added_by};
 ghost use Rattle.idl_root.specs.Held.{IsEnded, held, to_come, with_gathered, with_judged, with_units};
-ghost use Rattle.idl_root.specs.Judged.{added, judged_at, verdict_over};
+ghost use Rattle.idl_root.specs.Judged.{judged_at};
+ghost use Rattle.idl_root_blocks.specs.idl_check.walk.Verdict.{added, verdict_over};
 ghost use Rattle.idl_root.specs.Named.{named_after, named_as};
 ghost use Rattle.idl_root.specs.Passed.{ArePassed, Compares, HasDrafts, WalksOnly, with_kept};
-ghost use Rattle.idl_root.specs.Places.{declarations_after};
 ghost use Rattle.idl_root.specs.Printed.{closing_finding, entry_row};
-ghost use Rattle.idl_root.specs.Results.{ChecksOnly, DeclarationResult, IsDeclarationPass, marks_of};
+ghost use Rattle.idl_root.specs.Results.{ChecksOnly, IsDeclarationPass, marks_of};
 ghost use Rattle.idl_root_blocks.specs.Blocks.{Nothing, cut};
 ghost use Rattle.idl_root_blocks.specs.Finding.{in_front};
 ghost use Rattle.idl_root_blocks.specs.Met.{outermost_keys};
+ghost use Rattle.idl_root_blocks.specs.Places.{declarations_over};
 ghost use Rattle.idl_root_blocks.specs.Units.{parts_of_unit, text_of};
 
 use crate::compiling::compiled::Row;
@@ -166,7 +166,7 @@ impl<'a> RootState<'a> {
         ensures keeping { IfOk result (λ judging.
             IsKeeping kept.new.declarations.lists keeping.new judging.env) }
         ensures earlier { keeping.new.earlier ≡ keeping.old.earlier }
-        ensures counts { let places = declarations_after self.entry.env units.now in
+        ensures counts { let places = declarations_over self.entry.env (text_of units.now) in
             OnOk result (IsDeclarationPass places (results_in kept.old.declarations)
             (results_in kept.new.declarations)
             keeping.old.meter.checked keeping.new.meter.checked) }

@@ -12,13 +12,13 @@ ghost use Rattle.idl_root.specs.Details.{details, printed};
 ghost use Rattle.idl_root.specs.Judged.{HasTurns, facts_after, judged_after};
 ghost use Rattle.idl_root.specs.Named.{named_after};
 ghost use Rattle.idl_root.specs.NamePlaces.{declared_names};
-ghost use Rattle.idl_root.specs.Places.{declarations_after, root_pieces};
+ghost use Rattle.idl_root.specs.Places.{root_pieces};
 ghost use Rattle.idl_root_blocks.specs.Blocks.{parts_of};
-ghost use Rattle.idl_root_blocks.specs.Places.{AreStandingOver, declarations_over, facts_over, unit_ways};
+ghost use Rattle.idl_root_blocks.specs.Places.{AreStandingOver, facts_over, unit_ways};
 ghost use Rattle.idl_root_blocks.specs.Units.{text_of};
 ghost use Rattle.idl_unit.specs.declared.unit.Unit.{Unit as RootUnit};
 ghost use Rattle.idl_root.specs.Told.{IsTold};
-ghost use Rattle.idl_root.specs.Turns.{IsWithinWords};
+ghost use Rattle.idl_root.specs.Turns.{FitsU64};
 ghost use Rattle.idl_unit.specs.Units.{units_of};
 ghost use Rattle.std.specs.List.Sorted.{IsNonDecreasingBy};
 ghost use Rattle.idl_finding.specs.Findings.{finding_row, in_order};
@@ -97,23 +97,20 @@ pub fn facts()
     more_turns();
 }
 
-/// What units add, what they come to and where their declarations stand is told by their text: by no file, and by no place of a
-/// token. So blocks (`idl_root_blocks`), of which texts are told alone, are those of units. This does nothing: it carries the law.
+/// What units add and what they come to is told by their text: by no file, and by no place of a token. So blocks (`idl_root_blocks`), of which texts are told alone, are those of units. This does nothing: it carries the law.
 pub fn texts()
     ensures facts { (facts : List UnitFacts) (units : List RootUnit)
         → facts_after facts units ≡ facts_over facts (text_of units) }
     ensures verdicts { (facts : List UnitFacts) (units : List RootUnit)
         → map (λ j. j.verdict) (judged_after facts units)
         ≡ (walk unit_ways answers (parts_of (text_of units)) facts).0 }
-    ensures declarations { (facts : List UnitFacts) (units : List RootUnit)
-        → declarations_after facts units ≡ declarations_over facts (text_of units) }
 {}
 
 /// Each block of a root stands, as the laws of blocks (`taking`, `containing` of `idl_root_blocks`) suppose: what stands before it is
 /// told, and words count what its units add. This does nothing: it carries the law.
 pub fn blocks()
     ensures { (events : List Event)
-        → IsWithinWords events → AreStandingOver [] (root_pieces events) }
+        → FitsU64 events → AreStandingOver [] (root_pieces events) }
 {
     texts();
     // They do nothing: they carry laws of pieces, and of blocks.

@@ -4,7 +4,8 @@ ghost use Rattle.std.specs.Prelude.{◌≡◌, ◌++◌, IfOk, List, OnOk, map, 
 ghost use Rattle.idl_env.specs.Facts.{UnitFacts};
 ghost use Rattle.idl_root.specs.Added.{told_by};
 ghost use Rattle.idl_root.specs.Held.{with_gathered, with_units};
-ghost use Rattle.idl_root.specs.Judged.{added, judged_at, verdict_over};
+ghost use Rattle.idl_root.specs.Judged.{judged_at};
+ghost use Rattle.idl_root_blocks.specs.idl_check.walk.Verdict.{added, verdict_over};
 ghost use Rattle.idl_root.specs.Named.{AreNumbersIn, closings_from, end_before, ends_of, named_as, named_at, names_over};
 
 use crate::compiling::judging::{Accumulator, RootState, verdict_over};

@@ -8,7 +8,7 @@ ghost use Rattle.idl_root_blocks.specs.idl_check_laws.Closing.{AreTold};
 ghost use Rattle.idl_env.specs.Facts.{UnitFacts, answers, count_in};
 ghost use Rattle.idl_env.specs.Turns.{most_turns, turns_for};
 ghost use Rattle.idl_env.specs.declared.keys.key.Key.TheVariants.{Nameless};
-ghost use Rattle.idl_kept.specs.Texts.{AreListsOf, IsPlaced, Texts, unit_results};
+ghost use Rattle.idl_kept.specs.Texts.{AreListsOf, DeclarationResult, IsPlaced, Texts, unit_results};
 ghost use Rattle.idl_memo.specs.declared.meter.Meter.{Meter};
 ghost use Rattle.idl_store.specs.Spots.{result_on};
 ghost use Rattle.idl_root.specs.Added.{told_by};
@@ -16,8 +16,8 @@ ghost use Rattle.idl_root.specs.AsBefore.{judged_beside};
 ghost use Rattle.idl_root.specs.Followed.{IsBoundary, IsKeeping, added_by};
 ghost use Rattle.idl_root.specs.Held.{with_gathered, with_units};
 ghost use Rattle.idl_root.specs.Judged.{facts_after, judged_after};
-ghost use Rattle.idl_root.specs.Passed.{ArePassed, Compares, HasDrafts, IsSameBlock, WalksOnly, known_results, marks_in, with_kept};
-ghost use Rattle.idl_root.specs.Results.{DeclarationResult, mark_at, marks_of};
+ghost use Rattle.idl_root.specs.Passed.{ArePassed, Compares, HasDrafts, IsSameBlock, WalksOnly, known_results, with_kept};
+ghost use Rattle.idl_root.specs.Results.{mark_at, marks_in, marks_of};
 ghost use Rattle.idl_root.specs.declared.kept.keeping.Keeping.{Keeping as SeenKeeping};
 ghost use Rattle.idl_root_blocks.specs.declared.text.BlockPart.{BlockPart};
 ghost use Rattle.idl_root_blocks.specs.Blocks.{Block, IsOfBlock, Nothing, Pieces, cut};
@@ -36,7 +36,7 @@ use crate::kept::reading::kept_verdict;
 use idl_env::{Env, PlainEnv};
 use idl_finding::Spelled;
 use idl_kept::KeptTexts;
-use idl_memo::{passing, placement};
+use idl_memo::passing;
 use idl_root_blocks::idl_check::DeclarationTask;
 use idl_root_blocks::idl_check_laws::more_turns;
 use idl_root_blocks::verdicts::{enough, walked};
@@ -92,7 +92,8 @@ impl<'a> Accumulator<'a> {
         Ok(env)
     }
 
-    // The same of the block of these units: it is taken whole, if one is kept that is alike.
+    // The same of the block of these units. It is taken whole, if one is kept that is alike, and units are around the same boundaries; if
+    // they are around others, what is kept of it is put together anew, of results that are all kept, and it is compared as a whole.
     #[cycle(pieces)]
     fn add_block(
         &mut self,
@@ -120,19 +121,21 @@ impl<'a> Accumulator<'a> {
         noting();
         taking();
         standing();
-        placement::<PlainEnv, BlockTask>();
         let task = BlockTask {
             text: text_of(env.get().alloc(), units)?,
         };
         if let Some(spot) = kept.alike(&task, &env) {
             return self.add_taken(keeping, kept, env, (units, spot));
         }
+        let is_like = kept.has_like(&task, &env);
+        let compared = keeping.meter.compared;
         let begin = kept.drafted();
         let env = beyond(keeping, env, Mark::Entered(false))?;
         keeping.enter(env.get(), task)?;
         let env = self.add_all(keeping, kept, env, units)?;
         bound(env.get());
-        keeping.leave(kept, begin)?;
+        let keys = keeping.leave(kept, begin)?;
+        keeping.compare_block(is_like, compared, keys);
         let env = beyond(keeping, env, Mark::Left(false))?;
         Ok(env)
     }
@@ -169,7 +172,6 @@ impl<'a> Accumulator<'a> {
         noting();
         taking();
         passing::<Env, DeclarationTask>();
-        placement::<PlainEnv, BlockTask>();
         let (units, spot) = block;
         let first = keeping.take_block(kept, &env, spot, units)?;
         let env = beyond(keeping, env, Mark::Entered(false))?;

@@ -2,25 +2,14 @@
 
 ghost use Rattle.std.specs.Prelude.{◌≡◌, ◌≤◌, ◌+◌, ◌++◌, ◌∷◌, [], All, Contains, List};
 ghost use Rattle.idl_event.specs.declared.told.event.Event.{Event};
-ghost use Rattle.idl_memo.specs.Meter.{ComparesOnly, compared_after};
 ghost use Rattle.idl_root.specs.Compared.{AreSamePlaces, compared_root, most_shared_entry, root_keys, shared_entries, shared_entry};
 ghost use Rattle.idl_root.specs.Places.{EntryPlace, blocks_of, declarations_of, entries_of};
 ghost use Rattle.idl_root_blocks.specs.Met.{Known};
 
-use crate::compiling::laws::texts;
 use idl_env::Env;
-use idl_memo::{Meter, freshness, sharing};
+use idl_memo::{freshness, sharing};
 use idl_repo::EntryTask;
 use idl_root_blocks::{cutting, meeting, repeating};
-
-/// So many more keys were compared.
-pub(crate) fn compare(meter: &mut Meter, keys: usize)
-    ensures counts { ComparesOnly meter.old meter.new }
-    ensures grows { meter.old.compared ≤ meter.new.compared }
-    ensures keys { meter.new.compared ≡ compared_after meter.old.compared keys }
-{
-    meter.compared = meter.compared.saturating_add(keys as u64);
-}
 
 /// At how many keys known tasks are compared in a root hangs on which are known, and not on their order. Where all of the root's are
 /// known, these are the keys that its names ask, and its units and blocks that stand in no block. Names are met one after another, each
@@ -45,7 +34,6 @@ pub fn comparing()
     ensures entries_most { (known : List EntryPlace) (here : EntryPlace)
         → shared_entry known here ≤ most_shared_entry known here }
 {
-    texts();
     cutting();
     meeting();
     repeating();

@@ -5,7 +5,7 @@ ghost use Rattle.idl_env.specs.Facts.{UnitFacts};
 ghost use Rattle.idl_store.specs.Stored.{result_at};
 ghost use Rattle.idl_root.specs.AsBefore.{IsBehindMark, IsBehindSame};
 ghost use Rattle.idl_root.specs.Followed.{IsBehind, IsFirst, IsNext};
-ghost use Rattle.idl_root.specs.Results.{DeclarationResult};
+ghost use Rattle.idl_kept.specs.Texts.{DeclarationResult};
 ghost use Rattle.idl_root.specs.declared.kept.marks.Mark.{Mark as RootMark};
 
 use crate::kept::marks::{Mark, Marks};

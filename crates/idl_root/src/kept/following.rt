@@ -12,7 +12,8 @@ ghost use Rattle.idl_root.specs.Followed.{AreBeside, ArePrinted, IsAgain, IsFoll
 ghost use Rattle.idl_root_blocks.specs.Places.{DeclarationPlace, declaration_result};
 ghost use Rattle.idl_store.specs.Spots.{result_on};
 ghost use Rattle.idl_store.specs.Stored.{list_at};
-ghost use Rattle.idl_root.specs.Results.{DeclarationResult, EntryResult};
+ghost use Rattle.idl_kept.specs.Texts.{DeclarationResult};
+ghost use Rattle.idl_root.specs.Results.{EntryResult};
 ghost use Rattle.idl_root.specs.declared.kept.course.Course.{Course as RootCourse};
 
 use crate::kept::changed::Changed;

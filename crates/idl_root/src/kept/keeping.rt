@@ -6,17 +6,17 @@ ghost use Rattle.idl_memo.specs.Query.{HoldsIn};
 ghost use Rattle.idl_store.specs.Spots.{result_on};
 ghost use Rattle.idl_store.specs.Stored.{list_at};
 ghost use Rattle.idl_root.specs.Followed.{AreBeside, ArePrinted, IsDeclarationLast, IsFollowed, IsFollowing, IsKeeping, UnitsOnly, WereThere, added_by, facts_of, results_from};
-ghost use Rattle.idl_root.specs.Judged.{verdict_over};
+ghost use Rattle.idl_root_blocks.specs.idl_check.walk.Verdict.{verdict_over};
 ghost use Rattle.idl_root.specs.Passed.{AllGoOn, JudgesOnly, WalksOnly, keys_behind};
 ghost use Rattle.idl_root_blocks.specs.Asking.{AreNoted as HaveNoted, with_asked};
 ghost use Rattle.idl_root_blocks.specs.Met.{unit_keys};
 ghost use Rattle.idl_root_blocks.specs.Places.{DeclarationPlace};
 ghost use Rattle.idl_root_blocks.specs.declared.text.BlockPart.TheVariants.{Text};
-ghost use Rattle.idl_root.specs.Results.{DeclarationResult, EntryResult};
+ghost use Rattle.idl_kept.specs.Texts.{DeclarationResult};
+ghost use Rattle.idl_root.specs.Results.{EntryResult};
 ghost use Rattle.idl_root.specs.declared.kept.course.Course.{Course as RootCourse};
 ghost use Rattle.idl_root.specs.declared.kept.marks.Mark.TheVariants.{Judged};
 
-use crate::kept::comparing::compare;
 use crate::kept::course::Course;
 use crate::kept::following::Following;
 use crate::kept::known::Known;
@@ -178,7 +178,7 @@ impl<'k> Keeping<'k> {
     {
         match following.take_again(kept, text)? {
             Some(declaration) => {
-                compare(&mut self.meter, unit_keys(&declaration));
+                self.meter.compare(unit_keys(&declaration));
                 let facts = kept_verdict(&declaration).writes.get();
                 self.following = following.with_same(env, facts)?;
                 Ok(declaration)
@@ -232,13 +232,7 @@ impl<'k> Keeping<'k> {
         let task = DeclarationTask {
             text: text.clone()?,
         };
-        let before = self.meter.checked;
-        let found = kept.obtain(&task, env, &mut self.scratch, &mut self.meter)?;
-        if self.meter.checked != before {
-            return Ok(found);
-        }
-        compare(&mut self.meter, unit_keys(&found));
-        Ok(found)
+        Ok(kept.obtain(&task, env, &mut self.scratch, &mut self.meter)?)
     }
 
     // What is followed, behind the units that are no longer there: taken out, until it is put back behind this unit.

@@ -1,6 +1,6 @@
 //! The blocks of a root whose results are kept.
 
-ghost use Rattle.std.specs.Prelude.{◌≡◌, ◌∷◌, ◌++◌, [], IfOk, List, OnOk, Some, length, map};
+ghost use Rattle.std.specs.Prelude.{◌≡◌, ◌∷◌, ◌++◌, [], IfOk, List, OnOk, Some, length, map, if◌then◌else◌};
 ghost use Rattle.idl_env.specs.Facts.{UnitFacts, answers};
 ghost use Rattle.idl_kept.specs.Texts.{AreListsOf, IsTaken, with_blocks};
 ghost use Rattle.idl_memo.specs.Meter.{compared_after};
@@ -12,7 +12,6 @@ ghost use Rattle.idl_root_blocks.specs.Places.{block_result};
 ghost use Rattle.idl_root_blocks.specs.Units.{text_of};
 ghost use Rattle.idl_store.specs.Spots.{result_on};
 
-use crate::kept::comparing::compare;
 use crate::kept::keeping::Keeping;
 use idl_env::{Env, PlainEnv};
 use idl_kept::KeptTexts;
@@ -35,8 +34,8 @@ impl<'k> Keeping<'k> {
     }
 
     /// The innermost block is left next, the results of whose units begin there in what is made of the root: what is kept of it goes last
-    /// there.
-    pub fn leave(&mut self, kept: &mut KeptTexts, begin: usize) -> Result<(), AllocError>
+    /// there. It tells how many keys the block asked.
+    pub fn leave(&mut self, kept: &mut KeptTexts, begin: usize) -> Result<usize, AllocError>
         requires { (before : List UnitFacts) × (inside : Pieces) × (others : List OpenBlock)
             × MayBeLeft kept.old begin before inside others self.old.blocks.blocks }
         ensures blocks { OnOk result ((others : List OpenBlock) (block : OpenBlock)
@@ -47,16 +46,34 @@ impl<'k> Keeping<'k> {
         ensures keys { OnOk result ((others : List OpenBlock) (block : OpenBlock)
             → self.old.blocks.blocks ≡ others ++ block ∷ []
             → self.new.keys ≡ keys_behind others self.old.keys (length block.log)) }
+        ensures asked { IfOk result (λ keys. (others : List OpenBlock) (block : OpenBlock)
+            → self.old.blocks.blocks ≡ others ++ block ∷ [] → keys ≡ length block.log) }
         ensures lists { AreListsOf kept.old kept.new }
         ensures noted { OnOk result ((facts : List UnitFacts)
             → HaveNoted facts self.old.blocks → HaveNoted facts self.new.blocks) }
         ensures rest { self.new ≡ record self.old { blocks = self.new.blocks; keys = self.new.keys } }
     {
         let Some(block) = self.blocks.leave()? else {
-            return Ok(());
+            return Ok(0);
         };
-        self.count(block.log().len());
-        kept.put_block(block, begin)
+        let keys = block.log().len();
+        self.count(keys);
+        kept.put_block(block, begin)?;
+        Ok(keys)
+    }
+
+    /// A block was left before which so many keys had been compared, and which asked so many. Where it is alike to a known one these are
+    /// compared, and nothing inside counts.
+    pub fn compare_block(&mut self, is_like: bool, before: u64, keys: usize)
+        ensures { self.new ≡ record self.old {
+          meter = record self.old.meter {
+            compared = if is_like then compared_after before keys else self.old.meter.compared;
+          };
+        } }
+    {
+        if is_like {
+            self.meter.compared = before.saturating_add(keys as u64);
+        }
     }
 
     // So many keys are asked next: they are counted where they are asked in no block.
@@ -127,7 +144,7 @@ impl<'k> Keeping<'k> {
         } }
     {
         let keys = block.log().len();
-        compare(&mut self.meter, keys);
+        self.meter.compare(keys);
         if self.blocks.is_empty() {
             self.keys = self.keys.saturating_add(keys);
             return Ok(());

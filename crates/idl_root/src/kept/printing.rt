@@ -12,7 +12,6 @@ ghost use Rattle.idl_root.specs.Printed.{closing_finding, entry_row};
 ghost use Rattle.idl_root.specs.Results.{EntryResult, HasDraft, IsEntryPass, PrintsOnly, entry_result};
 
 use crate::compiling::printing::{Listed, Printed};
-use crate::kept::comparing::compare;
 use crate::kept::keeper::{Entries, KeptEntry};
 use crate::kept::reading::entry_keys;
 use crate::kept::reprinting::Reprinting;
@@ -119,7 +118,7 @@ impl Printing {
     {
         match self.taken(kept, path)? {
             Some(entry) => {
-                compare(&mut self.meter, entry_keys(&entry));
+                self.meter.compare(entry_keys(&entry));
                 Ok(entry)
             }
             None => self.obtained(kept, env, path),
@@ -146,13 +145,7 @@ impl Printing {
         let task = EntryTask {
             path: path.clone()?,
         };
-        let before = self.meter.printed;
-        let found = kept.obtain(&task, env, &mut self.buffer, &mut self.meter)?;
-        if self.meter.printed != before {
-            return Ok(found);
-        }
-        compare(&mut self.meter, entry_keys(&found));
-        Ok(found)
+        Ok(kept.obtain(&task, env, &mut self.buffer, &mut self.meter)?)
     }
 
     // What was kept of it, if it may be taken over.

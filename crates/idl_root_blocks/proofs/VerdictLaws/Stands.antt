@@ -4,7 +4,7 @@ use Rattle.std.specs.Prelude.{All}
 use Rattle.std.proofs.lemmas.List.Elements.{All-nil}
 use Rattle.idl_block.specs.Behind.{laid}
 use Rattle.idl_block.specs.Blocks.{Part, Text, Boundary, Ways, block, walk}
-use Rattle.idl_env.specs.Facts.{UnitFacts, World, after_all, answers, count_in, entity_in, entity_key, nameless, over, path_around, scopes_in, unstopped, with_additions, world}
+use Rattle.idl_env.specs.Facts.{UnitFacts, World, after_all, answers, boundary, count_in, entity_in, entity_key, nameless, over, path_around, scopes_in, unstopped, with_additions, world}
 use Rattle.idl_env.specs.Turns.{most_turns, turns_for}
 use Rattle.idl_env.specs.declared.additions.addition.Addition.{Addition}
 use Rattle.idl_env.specs.declared.additions.addition.Step.{Step}
@@ -15,7 +15,7 @@ use Rattle.idl_env.specs.declared.keys.key.Key.TheVariants.{Cursor, Declared, Na
 use Rattle.idl_block.specs.facts.Answered.{AreNamedAt, AreStops, answered}
 use Rattle.idl_block.specs.facts.Beneath.{Depth, deepened, start}
 use Rattle.idl_block.specs.facts.Known.{AskEnough, AsksEnough, HasAsked, IsTold, NoneInside, facts_at}
-use Rattle.idl_block.specs.facts.Written.{boundary, ways_of}
+use Rattle.idl_block.specs.facts.Written.{ways_of}
 use Rattle.idl_block.proofs.FactLaws.AnsweredLaws.{answered-behind}
 use Rattle.idl_block.proofs.FactLaws.BeneathLaws.{answers-append}
 use Rattle.idl_block.proofs.FactLaws.InsideLaws.{Goes, IsIn, in-more, inside-less, start-in, step-in}

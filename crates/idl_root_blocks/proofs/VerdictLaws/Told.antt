@@ -5,11 +5,10 @@ use Rattle.idl_check_laws.specs.idl_check.walk.Verdict.{verdict}
 use Rattle.idl_check_laws.specs.idl_check.declared.walk.verdict.Verdict.{Verdict}
 use Rattle.idl_check_laws.proofs.ToldLaws.{MoreTurns, said-alike, told-more}
 use Rattle.idl_check_laws.specs.Closing.{AreTold, IsTold as told}
-use Rattle.idl_env.specs.Facts.{UnitFacts, answers}
+use Rattle.idl_env.specs.Facts.{UnitFacts, answers, boundary}
 use Rattle.idl_env.specs.Turns.{most_turns, turns_for}
 use Rattle.idl_env.specs.declared.additions.addition.Step.{Step}
 use Rattle.idl_env.specs.declared.additions.addition.Step.TheVariants.{Enters, Leaves}
-use Rattle.idl_block.specs.facts.Written.{boundary}
 use Rattle.idl_memo.specs.Query.{outcome}
 use Rattle.idl_unit.specs.declared.unit.UnitText.{UnitText}
 use Rattle.idl_root_blocks.specs.verdicts.Standing.{IsOfFiles}

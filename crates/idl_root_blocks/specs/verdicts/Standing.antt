@@ -4,12 +4,12 @@ use Rattle.idl_block.specs.Blocks.{Part, Text, Boundary, block}
 use Rattle.idl_check_laws.specs.Closing.{AreTold}
 use Rattle.idl_env.specs.declared.answering.answer.Answer.{Answer}
 use Rattle.idl_env.specs.declared.keys.key.Key.{Key}
-use Rattle.idl_block.specs.facts.Written.{boundary, ways_of}
+use Rattle.idl_block.specs.facts.Written.{ways_of}
 use Rattle.idl_memo.specs.Query.{outcome}
 use Rattle.idl_check_laws.specs.idl_check.declared.walk.verdict.Verdict.{Verdict}
 use Rattle.idl_check_laws.specs.idl_check.walk.Placing.{faulty_step}
 use Rattle.idl_check_laws.specs.idl_check.walk.Verdict.{verdict}
-use Rattle.idl_env.specs.Facts.{UnitFacts, answers, count_in}
+use Rattle.idl_env.specs.Facts.{UnitFacts, answers, boundary, count_in}
 use Rattle.idl_env.specs.Turns.{most_turns, turns_for}
 use Rattle.idl_env.specs.declared.additions.addition.Step.{Step}
 use Rattle.idl_env.specs.declared.additions.addition.Step.TheVariants.{Enters, Leaves, Stays}
@@ -57,7 +57,8 @@ abbrev pub block_end : (Key → Option Answer) → List (Part UnitText Step)
 block_end bank parts =
     outcome (block (ways_of unit_asks unit_writes) parts (boundary Enters ∷ [])) bank
 
--- What a block has written stands behind facts: these are told, and all is no more than memory holds.
+-- What a block has written stands behind facts: these are told, and all is no more than memory
+-- holds.
 pub record AreStanding (before facts : List UnitFacts) : Type 0 where
   pub told : AreTold before
   pub turns : turns_for (before ++ facts) ≤ most_turns

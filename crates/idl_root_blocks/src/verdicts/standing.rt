@@ -6,14 +6,14 @@ ghost use Rattle.idl_block.specs.Behind.{laid};
 ghost use Rattle.idl_block.specs.Questions.{AreNested, outer_asked};
 ghost use Rattle.idl_root_blocks.specs.verdicts.Standing.{AreStanding, IsBlockFront, block_end, unit_asks, unit_writes};
 ghost use Rattle.idl_check_laws.specs.Closing.{AreTold};
-ghost use Rattle.idl_env.specs.Facts.{UnitFacts, answers, count_in};
+ghost use Rattle.idl_env.specs.Facts.{UnitFacts, answers, boundary, count_in};
 ghost use Rattle.idl_env.specs.Turns.{most_turns, turns_for};
 ghost use Rattle.idl_env.specs.declared.additions.addition.Step.{Step};
 ghost use Rattle.idl_env.specs.declared.additions.addition.Step.TheVariants.{Enters};
 ghost use Rattle.idl_env.specs.declared.keys.key.Key.TheVariants.{Nameless};
 ghost use Rattle.idl_block.specs.facts.Answered.{answered};
 ghost use Rattle.idl_block.specs.facts.Known.{AskEnough};
-ghost use Rattle.idl_block.specs.facts.Written.{boundary, ways_of};
+ghost use Rattle.idl_block.specs.facts.Written.{ways_of};
 ghost use Rattle.idl_memo.specs.Query.{Agree};
 ghost use Rattle.idl_unit.specs.declared.unit.UnitText.{UnitText};
 

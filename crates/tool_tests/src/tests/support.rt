@@ -12,16 +12,14 @@ use std::test::Fail;
 
 // Files in a text: each is `NAME: LINE | LINE`, and ` ¶ ` stands between two. `¬` in a line is a carriage return. A file `NAME!` can't be read.
 #[derive(Drop)]
-struct TextFiles<'a> {
-    alloc: Global,
-    text: &'a str,
+pub struct TextFiles<'a> {
+    pub alloc: Global,
+    pub text: &'a str,
 }
 
-impl<'a> Loader for TextFiles<'a> {
-    ghost told = { λ _ _. Untold };
-
-    fn load(&mut self, name: &Name) -> Loaded {
-        let name = name.as_bytes();
+impl<'a> TextFiles<'a> {
+    // The file of a name.
+    fn find(&self, name: &[u8]) -> Loaded {
         for file in self.text.split(" ¶ ") {
             let (title, lines) = file.split_once(": ").unwrap_or((file, ""));
             if title.as_bytes() == name {
@@ -39,6 +37,22 @@ impl<'a> Loader for TextFiles<'a> {
     }
 }
 
+impl<'a> Loader for TextFiles<'a> {
+    ghost told = { λ _ _. Untold };
+
+    fn load(&mut self, name: &Name) -> Loaded {
+        self.find(name.as_bytes())
+    }
+}
+
+impl<'a> PathLoader for TextFiles<'a> {
+    ghost told_of = { λ _ _. Untold };
+
+    fn load_path(&mut self, path: &[u8]) -> Loaded {
+        self.find(path)
+    }
+}
+
 // The bytes of a file.
 fn file_bytes(alloc: Global, lines: &str) -> Result<Vec<u8>, AllocError> {
     let mut bytes = Vec::new(alloc);
@@ -51,15 +65,6 @@ fn file_bytes(alloc: Global, lines: &str) -> Result<Vec<u8>, AllocError> {
         bytes.push(b'\n')?;
     }
     Ok(bytes)
-}
-
-// None is asked for by its path, but by what serves an editor.
-impl<'a> PathLoader for TextFiles<'a> {
-    ghost told_of = { λ _ _. Untold };
-
-    fn load_path(&mut self, _path: &[u8]) -> Loaded {
-        Loaded::Missing
-    }
 }
 
 // Serves an editor as where no message comes.

@@ -8,7 +8,7 @@ use Rattle.idl_block.specs.Questions.{AreKnown, AreSeen, IsKnown, Question, aske
 use Rattle.idl_entity.specs.declared.entity.Entity.{Entity}
 use Rattle.idl_entity.specs.declared.kind.Kind.{Kind}
 use Rattle.idl_env.proofs.WriteLemmas.{unwritten_all}
-use Rattle.idl_env.specs.Facts.{UnitFacts, World, after, after_all, entity_key, scopes_in, with_additions}
+use Rattle.idl_env.specs.Facts.{UnitFacts, World, after, after_all, boundary, entity_key, scopes_in, with_additions}
 use Rattle.idl_env.specs.Written.{adds_at, writes_at, written_from}
 use Rattle.idl_env.specs.declared.additions.addition.Addition.TheVariants.{Declares}
 use Rattle.idl_env.specs.declared.additions.addition.Step.{Step}
@@ -21,7 +21,7 @@ use Rattle.idl_memo.specs.Query.{asked, outcome}
 use Rattle.idl_block.specs.facts.Answered.{AreStops, AskedWorld, Asking, answered, at_first, behind_all, behind_one, with_added}
 use Rattle.idl_block.specs.facts.Beneath.{start}
 use Rattle.idl_block.specs.facts.Known.{AreBehind, AskEnough, AsksEnough, HasAsked, HasAskedStep, IsBehind, IsTold, NoneInside, facts_at}
-use Rattle.idl_block.specs.facts.Written.{boundary, is_written, ways_of}
+use Rattle.idl_block.specs.facts.Written.{is_written, ways_of}
 use Rattle.idl_block.proofs.FactLaws.AnsweredLaws.{first-stands}
 use Rattle.idl_block.proofs.FactLaws.ClosingStands.{step-stands}
 use Rattle.idl_block.proofs.FactLaws.Seen.Covers.{Covers, IsOfBlock, covers-in, scopes-before}

@@ -9,7 +9,7 @@ use Rattle.idl_block.specs.Questions.{asked_by, outer_asked, outer_of, questions
 use Rattle.idl_entity.specs.Path.{path_eq}
 use Rattle.idl_entity.specs.declared.kind.Kind.{Kind}
 use Rattle.idl_env.proofs.Membership.{Contains-IsIn, IsIn-Contains, IsIn-map}
-use Rattle.idl_env.specs.Facts.{UnitFacts, answer_of, entity_in, key_of, stops_of, addition_at}
+use Rattle.idl_env.specs.Facts.{UnitFacts, answer_of, entity_in, key_of, stops_of, addition_at, boundary}
 use Rattle.idl_env.specs.declared.additions.addition.Addition.{Addition}
 use Rattle.idl_env.specs.declared.additions.addition.Addition.TheVariants.{Declares, Uses, UsesFurther, Appears, Identifies, TypePrefixes}
 use Rattle.idl_env.specs.declared.additions.addition.Step.{Step}
@@ -22,7 +22,6 @@ use Rattle.idl_block.proofs.FactLaws.Seen.KnownLaws.{IsPassed, IsReady, asked_wo
 use Rattle.idl_block.proofs.FactLaws.Seen.Sees.{All-left, All-right, AreIn, Sees, in-itself, in-push, in-with, sees-done, sees-in, sees-more, sees-then}
 use Rattle.idl_block.specs.facts.Answered.{AreStops, AskedWorld, Asking, answered, answered_by, behind_one, is_nameless, is_other_nameless, nameless_path, one_declares, stepped, stopped, with_added}
 use Rattle.idl_block.specs.facts.Known.{AskEnough, IsTold, facts_at, stops_among}
-use Rattle.idl_block.specs.facts.Written.{boundary}
 use Rattle.idl_memo.specs.Query.{Done, and_then, outcome}
 
 -- ---- one more fact

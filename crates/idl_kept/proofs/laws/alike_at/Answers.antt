@@ -12,4 +12,4 @@ returns-clause-units c = λ there here inside placed_there placed same.
 pub returns-clause-inner : goal.returns-clause-inner
 returns-clause-inner c = λ there here inside placed_there placed same.
     let is = (c.taking.ensures.kept (block_at here inside) (block_at there inside)).0 (is-alike there here inside same) in
-    sym (c.resulting.ensures.blocks there here inside inside placed.block placed.cut placed.cut placed_there.standing (stands-here there here inside same placed) is)
+    sym (c.resulting.ensures.blocks there here inside placed.block placed.cut placed_there.standing (stands-here there here inside same placed) is)

@@ -1,38 +1,32 @@
--- What is kept of the root before, as it is lent; what comes of it, from its result and its name.
-use Rattle.std.proofs.Common.{◌≡◌, ◌⊎◌, ◌∙◌, ℕ, List, ap, inl, inr, subst, sym}
+-- What comes of a root, from its result and its name.
+use Rattle.std.proofs.Common.{◌≡◌, ◌⊎◌, ◌∙◌, ℕ, List, ap, inl, inr, subst}
 use Rattle.idl_memo.specs.declared.meter.Meter.{Meter}
 use Rattle.idl_prep.specs.Root.{expanded}
-use Rattle.idl_sources.specs.idl_root.AsBefore.{IsAsBefore, kept_lists}
-use Rattle.idl_sources.specs.idl_root.Results.{IsKeptOf, RootMarks}
+use Rattle.idl_sources.specs.idl_root.AsBefore.{IsAsBefore}
 use Rattle.idl_project.specs.Renewed.{IsDrafted}
 use Rattle.idl_project.proofs.KeptLemmas.{IsAsBefore-metered, IsDrafted-metered, none-weaker}
 use Rattle.idl_project.proofs.kept_root.expanded.Goals as goal
 
 pub compile_kept-requires-clause-kept : goal.compile_kept-requires-clause-kept
-compile_kept-requires-clause-kept g c =
-    let kept = c.requires.kept in
-    let lists = kept_lists c.args.keeper.now c.args.root.at in
-    (kept.0, subst (λ (ms : RootMarks). IsKeptOf kept.0 ms lists) (sym c.deref-2.ensures) kept.1, kept.2)
+compile_kept-requires-clause-kept g c = c.requires.kept
 
 pub returns-clause-tasks : goal.returns-clause-tasks
 returns-clause-tasks g c = λ was own.
     let bank = g.B.Bank.at c.args.bank.now in
     let old = c.args.keeper.now in
     let new = c.compile_kept.new.keeper in
-    let root = c.args.root in
-    let lists = kept_lists old root.at in
-    let name : c.in_ok-result.result.value.text ≡ root.name = c.in_ok-result.ensures.text ∙ c.new.ensures in
+    let root = c.args.root.1 in
+    let name : c.in_ok-result.result.value.text ≡ c.args.root.0 = c.in_ok-result.ensures.text ∙ c.new.ensures in
     let checked : c.run_anew.new.meter.checked ≡ c.args.meter.now.checked = ap (λ (m : Meter). m.checked) c.in_ok-result.ensures.count in
     let printed : c.run_anew.new.meter.printed ≡ c.args.meter.now.printed = ap (λ (m : Meter). m.printed) c.in_ok-result.ensures.count in
     let compared : c.run_anew.new.meter.compared ≡ c.args.meter.now.compared = ap (λ (m : Meter). m.compared) c.in_ok-result.ensures.count in
     let made =
     subst
     (λ (n : List ℕ). IsAsBefore was (expanded n bank).0 old new c.run_anew.new.meter c.compile_kept.new.meter ⊎ IsDrafted bank root.at n old new c.run_anew.new.meter c.compile_kept.new.meter)
-    (ap (λ k. k.text) c.deref.ensures ∙ name)
-    (c.in_ok-compiled.ensures.tasks was (subst (λ (ms : RootMarks). IsKeptOf was ms lists) (sym c.deref-2.ensures) own)) in
+    name (c.in_ok-compiled.ensures.tasks was own) in
     elim made [
-      | inl left ↦ inl (IsAsBefore-metered was (expanded root.name bank).0 old new c.args.meter.now c.run_anew.new.meter c.compile_kept.new.meter checked printed compared left)
-      | inr anew ↦ inr (IsDrafted-metered bank root.at root.name old new c.args.meter.now c.run_anew.new.meter c.compile_kept.new.meter checked printed compared anew)
+      | inl left ↦ inl (IsAsBefore-metered was (expanded c.args.root.0 bank).0 old new c.args.meter.now c.run_anew.new.meter c.compile_kept.new.meter checked printed compared left)
+      | inr anew ↦ inr (IsDrafted-metered bank root.at c.args.root.0 old new c.args.meter.now c.run_anew.new.meter c.compile_kept.new.meter checked printed compared anew)
     ]
 
 pub returns-clause-first : goal.returns-clause-first
@@ -40,13 +34,13 @@ returns-clause-first g c =
     let bank = g.B.Bank.at c.args.bank.now in
     let old = c.args.keeper.now in
     let new = c.compile_kept.new.keeper in
-    let root = c.args.root in
-    let name : c.in_ok-result.result.value.text ≡ root.name = c.in_ok-result.ensures.text ∙ c.new.ensures in
+    let root = c.args.root.1 in
+    let name : c.in_ok-result.result.value.text ≡ c.args.root.0 = c.in_ok-result.ensures.text ∙ c.new.ensures in
     let checked : c.run_anew.new.meter.checked ≡ c.args.meter.now.checked = ap (λ (m : Meter). m.checked) c.in_ok-result.ensures.count in
     let printed : c.run_anew.new.meter.printed ≡ c.args.meter.now.printed = ap (λ (m : Meter). m.printed) c.in_ok-result.ensures.count in
     let compared : c.run_anew.new.meter.compared ≡ c.args.meter.now.compared = ap (λ (m : Meter). m.compared) c.in_ok-result.ensures.count in
     none-weaker root.compiled
     (λ made.
-    IsDrafted-metered bank root.at root.name old new c.args.meter.now c.run_anew.new.meter c.compile_kept.new.meter checked printed compared
-    (subst (λ (n : List ℕ). IsDrafted bank root.at n old new c.run_anew.new.meter c.compile_kept.new.meter) (ap (λ k. k.text) c.deref.ensures ∙ name) made))
+    IsDrafted-metered bank root.at c.args.root.0 old new c.args.meter.now c.run_anew.new.meter c.compile_kept.new.meter checked printed compared
+    (subst (λ (n : List ℕ). IsDrafted bank root.at n old new c.run_anew.new.meter c.compile_kept.new.meter) name made))
     c.in_ok-compiled.ensures.first

@@ -1,23 +1,14 @@
-use Rattle.std.proofs.Common.{◌≤◌, refl}
+use Rattle.std.proofs.Common.{◌≤◌, ap}
 use Rattle.std.specs.Option.{option_eq}
 use Rattle.idl_root_blocks.specs.verdicts.Standing.{unit_asks}
 use Rattle.idl_env.specs.SameAnswer.{answer_eq}
 use Rattle.idl_env.specs.keys.Key.{key_eq}
 use Rattle.idl_memo.proofs.FreshTasks.{shared-most}
-use Rattle.idl_root_blocks.proofs.Meets.{met-block, met-known, met-loose, met-most}
-use Rattle.idl_root_blocks.specs.Met.{Met, MetBlock, MetUnit, block_text_eq, met_over, most_shared_by, shared_by, unit_text_eq}
+use Rattle.idl_root_blocks.proofs.Likes.{like-equiv, like-query}
+use Rattle.idl_root_blocks.proofs.Meets.{met-known, met-most}
+use Rattle.idl_root_blocks.specs.Met.{Met, MetBlock, MetUnit, block_text_eq, most_shared_by, shared_by, unit_text_eq}
 use Rattle.idl_root_blocks.specs.Places.{block_query}
 use Rattle.idl_root_blocks.proofs.met.meeting.Goals as goal
-
-pub returns-clause-none : goal.returns-clause-none
-unfolding met_over
-returns-clause-none c = λ known facts. refl
-
-pub returns-clause-loose : goal.returns-clause-loose
-returns-clause-loose c = λ known facts part pieces. met-loose known facts part pieces
-
-pub returns-clause-block : goal.returns-clause-block
-returns-clause-block c = λ known facts inside pieces. met-block known facts inside pieces
 
 pub returns-clause-known : goal.returns-clause-known
 returns-clause-known c = λ known other facts pieces h. met-known pieces known other facts h
@@ -27,10 +18,8 @@ returns-clause-most c = λ met. met-most each met
   where
     each : (m : Met) → shared_by m ≤ most_shared_by m
     each (MetUnit known here) =
-        shared-most unit_text_eq c.exact.ensures.itself c.exact.ensures.turn c.exact.ensures.same
-        (option_eq answer_eq) c.exact-3.ensures.itself c.exact-3.ensures.same unit_asks
-        key_eq c.exact-4.ensures.itself c.exact-4.ensures.same known here
+        shared-most unit_text_eq c.exact.ensures.equal (option_eq answer_eq) c.exact-3.ensures.equal.refl c.exact-3.ensures.same
+        unit_asks (λ x y is. ap unit_asks (c.exact.ensures.same x y is)) key_eq c.exact-4.ensures.equal.refl c.exact-4.ensures.same known here
     each (MetBlock known here) =
-        shared-most block_text_eq c.exact-2.ensures.itself c.exact-2.ensures.turn c.exact-2.ensures.same
-        (option_eq answer_eq) c.exact-3.ensures.itself c.exact-3.ensures.same block_query
-        key_eq c.exact-4.ensures.itself c.exact-4.ensures.same known here
+        shared-most block_text_eq (like-equiv c.exact-2.ensures.equal) (option_eq answer_eq) c.exact-3.ensures.equal.refl c.exact-3.ensures.same
+        block_query (like-query c.exact-2.ensures.same) key_eq c.exact-4.ensures.equal.refl c.exact-4.ensures.same known here

@@ -5,7 +5,7 @@ use Rattle.idl_event.specs.declared.asked.key.RootKey.{RootKey}
 use Rattle.idl_event.specs.declared.told.event.Event.{Event}
 use Rattle.idl_prep.specs.Root.{absent_files}
 use Rattle.idl_root.specs.Compile.{compile}
-use Rattle.idl_root.specs.Turns.{IsWithinWords}
+use Rattle.idl_root.specs.Turns.{FitsU64}
 use Rattle.idl_sources.specs.Compile.{end_of}
 use Rattle.idl_sources.proofs.CompileLemmas.{compile-kept}
 use Rattle.idl_sources.proofs.compile.compile.Goals as goal
@@ -22,4 +22,4 @@ returns-clause-compiled g c =
 pub returns-clause-within : goal.returns-clause-within
 returns-clause-within g c =
     let is = c.root_expansion.ensures ∙ ap (λ (p : List Event × List (RootKey × Option RootAnswer)). p.0) c.requires in
-    subst IsWithinWords is c.in_ok-rows.ensures.within
+    subst FitsU64 is c.in_ok-rows.ensures.within

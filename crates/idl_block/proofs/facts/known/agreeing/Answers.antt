@@ -1,7 +1,7 @@
 use Rattle.idl_block.proofs.BlockLaws.{walk-block}
 use Rattle.idl_block.proofs.OuterLaws.{walk-alike}
-use Rattle.idl_env.specs.Facts.{answers}
-use Rattle.idl_block.specs.facts.Written.{boundary, ways_of}
+use Rattle.idl_env.specs.Facts.{answers, boundary}
+use Rattle.idl_block.specs.facts.Written.{ways_of}
 use Rattle.idl_block.proofs.FactLaws.Seen.KnownLaws.{known-block}
 use Rattle.idl_block.proofs.FactLaws.WalkLaws.{over-block}
 use Rattle.idl_env.specs.declared.additions.addition.Step.TheVariants.{Enters}

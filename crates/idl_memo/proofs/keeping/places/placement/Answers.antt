@@ -8,12 +8,12 @@ pub returns-clause-none : goal.returns-clause-none
 returns-clause-none g c known here =
     let eq = g.B.Answer.PartialEq.eq in
     fresh_at-none g.B.Key.PartialEq.eq g.T.Task.query g.met.B.Key.Eq.laws.refl g.met.B.Key.Datum.same
-    g.T.Text.PartialEq.eq g.met.T.Text.Eq.laws.refl g.met.T.Text.Eq.laws.symm g.met.T.Text.Datum.same
+    g.T.Text.PartialEq.eq g.met.T.Text.Eq.laws g.met.T.Text.Datum.same
     (option_eq eq) (option_eq-itself eq g.met.B.Answer.Eq.laws.refl) (same_option eq g.met.B.Answer.Datum.same) here known
 
 pub returns-clause-some : goal.returns-clause-some
 returns-clause-some g c known here =
     let eq = g.B.Answer.PartialEq.eq in
     fresh_at-some g.B.Key.PartialEq.eq g.T.Task.query g.met.B.Key.Eq.laws.refl g.met.B.Key.Datum.same
-    g.T.Text.PartialEq.eq g.met.T.Text.Eq.laws.refl g.met.T.Text.Eq.laws.symm g.met.T.Text.Datum.same
+    g.T.Text.PartialEq.eq g.met.T.Text.Eq.laws g.met.T.Text.Datum.same
     (option_eq eq) (option_eq-itself eq g.met.B.Answer.Eq.laws.refl) (same_option eq g.met.B.Answer.Datum.same) here known

@@ -32,7 +32,7 @@ returns-then-outlasts-clause-renewed g c =
       alike = c.outlasts.ensures.alike before after c.requires.causes c.requires.kept ∙ c.if-outlasts.true;
       events = expanded-again before after kept c.requires.kept.over over;
       kept = record { texts = refl; entries = refl };
-      meter = held-meter c.args.meter.now _ c.key_count.result (length (expanded kept.text after).1) (ap (λ n. record c.args.meter.now { compared = n }) c.saturating_add-meter.ensures) keys;
+      meter = held-meter c.args.meter.now _ c.key_count.result (length (expanded kept.text after).1) c.compare.ensures keys;
     })
 
 -- what was kept of it
@@ -53,7 +53,7 @@ returns-clause-renewed g c =
     let was = (expanded text before).0 in
     let old = c.args.keeper.now in
     let new = c.expanded.new.keeper in
-    let name : c.copied.result ≡ text = c.copied.ensures ∙ c.root_name.ensures ∙ ap (λ (k : Kept RootKey (Option RootAnswer) (List ℕ) (List Event)). k.text) c.deref.ensures in
+    let name : c.copied-name.result ≡ text = c.copied-name.ensures ∙ c.root_name.ensures ∙ ap (λ (k : Kept RootKey (Option RootAnswer) (List ℕ) (List Event)). k.text) c.deref.ensures in
     let made =
     subst
     (λ (n : List ℕ). IsAsBefore was (expanded n after).0 old new c.args.meter.now c.expanded.new.meter ⊎ IsDrafted after c.args.root.0 n old new c.args.meter.now c.expanded.new.meter) name

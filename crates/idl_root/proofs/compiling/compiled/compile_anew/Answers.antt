@@ -13,7 +13,7 @@ use Rattle.idl_root.specs.Followed.{AreBeside}
 use Rattle.idl_root.specs.Held.{held, listed_at}
 use Rattle.idl_root.specs.Passed.{HasDrafts}
 use Rattle.idl_root.specs.Places.{entries_of, entries_over}
-use Rattle.idl_root.specs.Results.{EntryResult, HasDraft, IsEntryPass, PrintsOnly, entry_result, marks_of}
+use Rattle.idl_root.specs.Results.{EntryResult, HasDraft, IsEntryPass, PrintsOnly, RootMarks, entry_result, marks_of}
 use Rattle.idl_root.specs.declared.compiling.printing.Listed.{Listed as HeldListed}
 use Rattle.idl_root.proofs.CompileLemmas.{declarations-passed, entries-are, entries-drafted, entries-passed, expands-none, judged-all, printed-there, start-keeping, start-printed, start-there}
 use Rattle.idl_root.proofs.FactsTold.{within-words}
@@ -27,11 +27,11 @@ use Rattle.idl_root.proofs.compiling.compiled.compile_anew.Goals as goal
 pub with_all_kept-requires-clause-keeping : goal.with_all_kept-requires-clause-keeping
 with_all_kept-requires-clause-keeping c =
     let old = c.args.keeper.now.texts.declarations in
-    let root = c.args.root in
+    let root = c.args.before in
     let begins : c.begin.new.self.texts.declarations ≡ begun old root.at = ap (λ (t : Texts). t.declarations) c.in_ok-begin.ensures.texts in
     start-keeping old c.begin.new.self.texts.declarations root.at c.in_ok-keeping.keeping c.in_ok-first.first.env begins (ap (λ (o : Outcome). o.facts) c.in_ok-first.ensures)
     (c.in_ok-keeping.ensures.keeping old.lists
-    (start-there old.lists c.new-earlier.result root.at root.marks.now c.new-earlier.ensures.list c.new-earlier.ensures.place c.new-earlier.ensures.marks
+    (start-there old.lists c.new-earlier.result root.at root.marks.now.value c.new-earlier.ensures.list c.new-earlier.ensures.place (c.new-earlier.ensures.marks ∙ ap (λ (m : RootMarks). m.marks) c.deref.ensures)
     c.requires.kept.0 (kept_lists c.args.keeper.now root.at) refl c.requires.kept.1))
 
 pub with_all_kept-requires-clause-told : goal.with_all_kept-requires-clause-told
@@ -40,7 +40,7 @@ with_all_kept-requires-clause-told c = subst AreTold (sym (ap (λ (o : Outcome).
 pub with_all_kept-requires-clause-drafts : goal.with_all_kept-requires-clause-drafts
 with_all_kept-requires-clause-drafts c =
     let old = c.args.keeper.now.texts in
-    let at = c.args.root.at in
+    let at = c.args.before.at in
     subst HasDrafts (sym c.in_ok-begin.ensures.texts)
     (record { declarations = has-begun old.declarations at; blocks = has-begun old.blocks at; begins = has-begun old.begins at })
 
@@ -48,7 +48,7 @@ with_all_kept-requires-clause-drafts c =
 pub printed-requires : goal.printed-requires
 printed-requires c =
     let old = c.args.keeper.now in
-    let root = c.args.root in
+    let root = c.args.before in
     let course = c.new-earlier.result in
     let env = c.in_ok-judging.judging.env in
     let lists = c.with_all_kept.new.kept.declarations.lists in
@@ -57,7 +57,7 @@ printed-requires c =
     let there : entries ≡ old.entries.lists = c.begin.ensures.lists.entries in
     let earlier : c.with_all_kept.new.keeping.earlier ≡ course = c.with_all_kept.ensures.earlier ∙ c.in_ok-keeping.ensures.earlier in
     let printed = printed-there lists old.texts.declarations.lists c.with_all_kept.new.keeping.earlier course root.at entries old.entries.lists same earlier c.new-earlier.ensures.list there
-    (start-printed old.texts.declarations.lists course root.at root.marks.now c.new-earlier.ensures.list c.new-earlier.ensures.place c.new-earlier.ensures.marks
+    (start-printed old.texts.declarations.lists course root.at root.marks.now.value c.new-earlier.ensures.list c.new-earlier.ensures.place (c.new-earlier.ensures.marks ∙ ap (λ (m : RootMarks). m.marks) c.deref.ensures)
     c.requires.kept.0 (kept_lists old root.at) refl c.requires.kept.1) in
     subst (λ o. IfSome o (λ r. AreBeside entries r env)) (sym c.new-printing.ensures.reprinting)
     (some-weaker c.ended-marks.result.1 _ _ (λ r told. told lists env entries c.in_ok-judging.ensures.keeping.follows printed) c.ended-marks.ensures.reprinting)
@@ -65,33 +65,33 @@ printed-requires c =
 pub returns-clause-compiled : goal.returns-clause-compiled
 unfolding compile
 returns-clause-compiled c =
-    let events = c.args.root.expansion.now in
-    let end = c.args.root.end.now in
+    let events = c.args.source.1.now in
+    let end = c.args.source.0.now in
     let judging = held c.in_ok-judging.judging in
     let all : judging ≡ outcome_of events =
-    judged-all events c.args.units.now c.in_ok-findings.findings.items (held c.in_ok-first.first) judging c.requires.units c.in_ok-findings.ensures c.in_ok-first.ensures c.in_ok-judging.ensures.held in
+    judged-all events c.args.source.2.now c.in_ok-findings.findings.items (held c.in_ok-first.first) judging c.requires.units c.in_ok-findings.ensures c.in_ok-first.ensures c.in_ok-judging.ensures.held in
     c.in_ok-compiled.ensures ∙ told-ended end events c.ended-ended.result judging c.ended-ended.ensures ∙ ap (told end events) all
 
 pub returns-clause-within : goal.returns-clause-within
 returns-clause-within c =
-    let events = c.args.root.expansion.now in
+    let events = c.args.source.1.now in
     let judging = held c.in_ok-judging.judging in
     let all : judging ≡ outcome_of events =
-    judged-all events c.args.units.now c.in_ok-findings.findings.items (held c.in_ok-first.first) judging c.requires.units c.in_ok-findings.ensures c.in_ok-first.ensures c.in_ok-judging.ensures.held in
+    judged-all events c.args.source.2.now c.in_ok-findings.findings.items (held c.in_ok-first.first) judging c.requires.units c.in_ok-findings.ensures c.in_ok-first.ensures c.in_ok-judging.ensures.held in
     within-words events judging.facts (ap (λ (o : Outcome). o.facts) all) c.bound.ensures.turns c.bound.ensures.count
 
 pub returns-clause-marks : goal.returns-clause-marks
 returns-clause-marks c =
-    let events = c.args.root.expansion.now in
+    let events = c.args.source.1.now in
     let judging = held c.in_ok-judging.judging in
     let all : judging ≡ outcome_of events =
-    judged-all events c.args.units.now c.in_ok-findings.findings.items (held c.in_ok-first.first) judging c.requires.units c.in_ok-findings.ensures c.in_ok-first.ensures c.in_ok-judging.ensures.held in
+    judged-all events c.args.source.2.now c.in_ok-findings.findings.items (held c.in_ok-first.first) judging c.requires.units c.in_ok-findings.ensures c.in_ok-first.ensures c.in_ok-judging.ensures.held in
     let places : entries_over judging.facts judging.listed ≡ entries_of events = entries-are events judging all in
     let none = ap (λ (o : Outcome). o.facts) c.in_ok-first.ensures in
     let own : c.in_ok-keeping.keeping.keys ≤ most_compared = omega (arith, c.in_ok-keeping.ensures.keys) in
     let names = c.in_ok-printed.ensures.keys
     ∙ ap (λ (l : List HeldListed). compared_after c.new-printing.result.keys (sum_by entry_keys (entries_over judging.facts (map listed_at l)))) c.as_slice-listed.ensures.value in
-    let keys = keys-made events c.args.keeper.now.texts c.begin.new.self.texts c.args.root.at c.in_ok-first.first.env c.args.units.now c.in_ok-begin.ensures.texts none c.requires.units
+    let keys = keys-made events c.args.keeper.now.texts c.begin.new.self.texts c.args.before.at c.in_ok-first.first.env c.args.source.2.now c.in_ok-begin.ensures.texts none c.requires.units
     c.with_all_kept.new.keeping.keys c.printed.new.self.keys c.saturating_add-keys.result c.in_ok-keeping.keeping.keys c.new-printing.result.keys (entries_over judging.facts judging.listed)
     c.in_ok-keeping.ensures.keys c.new-printing.ensures.keys places (c.in_ok-judging.ensures.keys own) names (search rules) in
     let marks = (λ i. (c.ended-marks.ensures.marks i).items) ∙ c.in_ok-judging.ensures.marks ∙ (λ i. c.in_ok-keeping.ensures.marks i ++ marks_of (c.requires.units i)) in
@@ -99,11 +99,11 @@ returns-clause-marks c =
 
 pub returns-clause-made : goal.returns-clause-made
 returns-clause-made c =
-    let events = c.args.root.expansion.now in
-    let units = c.args.units.now in
+    let events = c.args.source.1.now in
+    let units = c.args.source.2.now in
     let old = c.args.keeper.now in
     let between = c.begin.new.self in
-    let at = c.args.root.at in
+    let at = c.args.before.at in
     let facts = c.in_ok-first.first.env in
     let none : facts ≡ [] = ap (λ (o : Outcome). o.facts) c.in_ok-first.ensures in
     let begins = c.in_ok-begin.ensures.texts in

@@ -9,7 +9,7 @@ use Rattle.idl_finding.specs.declared.finding.EventFinding.{EventFinding}
 use Rattle.idl_root.specs.declared.compiling.printing.Listed.{Listed as HeldListed}
 use Rattle.idl_root.proofs.AsBeforeLemmas.{closing-again, found-again, told-again}
 use Rattle.idl_root.specs.Places.{declarations_of}
-use Rattle.idl_root.specs.Results.{DeclarationResult}
+use Rattle.idl_kept.specs.Texts.{DeclarationResult}
 use Rattle.idl_root_blocks.specs.Places.{declaration_result}
 use Rattle.idl_store.specs.Stored.{Stored, list_at}
 use Rattle.idl_unit.specs.Units.{units_of}
@@ -17,12 +17,12 @@ use Rattle.idl_root.proofs.compiling.compiled.told_again.Goals as goal
 
 pub returns : goal.returns
 returns c =
-    let root = c.args.root in
-    let events = root.expansion.now in
+    let root = c.args.before in
+    let events = c.args.source.1.now in
     let was = c.requires.kept.0 in
     let kept = c.requires.kept.1 in
     let same : AreAsBefore (units_of was) (units_of events) = subst (AreAsBefore (units_of was)) c.requires.units c.requires.kept.3 in
-    let units = c.args.units.now in
+    let units = c.args.source.2.now in
     let results = list_at c.declarations.result.now.lists root.at in
     let are : results ≡ map declaration_result (declarations_of was) =
     ap (λ (t : Stored DeclarationResult). list_at t.lists root.at) c.declarations.ensures ∙ kept.declarations_are in
@@ -50,5 +50,5 @@ returns c =
       is_faulty = wrong i;
       is_open = c.args.compiled.now.is_open;
     })
-    ∙ told-again was events same root.end.now c.args.compiled.now findings c.into_findings.result.items c.in_ok-closing.closing.items c.args.compiled.now.is_open c.requires.kept.2
+    ∙ told-again was events same c.args.source.0.now c.args.compiled.now findings c.into_findings.result.items c.in_ok-closing.closing.items c.args.compiled.now.is_open c.requires.kept.2
     found closing refl c.in_ok-findings-2.ensures (sym wrong ∙ search rules)

@@ -3,7 +3,6 @@ use Rattle.std.proofs.Common.{◌∙◌, ◌+◌, ◌≡◌, ◌∷◌, ◌++◌
 use Rattle.std.specs.Prelude.{sum_by}
 use Rattle.idl_root.specs.Compared.{entry_keys, shared_entries}
 use Rattle.idl_root.specs.Places.{EntryPlace, entries_of, root_pieces, root_text}
-use Rattle.idl_unit.specs.Units.{units_of}
 use Rattle.idl_root.proofs.ComparedLemmas.{all-known, known-same, root-known, root-same}
 use Rattle.idl_root.proofs.kept.comparing.comparing.Goals as goal
 
@@ -16,7 +15,7 @@ returns-clause-same c = λ known other these those events declarations blocks na
 pub returns-clause-known : goal.returns-clause-known
 returns-clause-known c = λ known entries events declarations blocks names.
     let pieces = root_pieces events in
-    let all = all-known known events (c.cutting.ensures.whole (root_text events)) (c.texts.ensures.declarations [] (units_of events)) declarations blocks
+    let all = all-known known events (c.cutting.ensures.whole (root_text events)) declarations blocks
     (c.repeating.ensures.itself (record { declarations = []; blocks = [] }) [] pieces) in
     let here : List EntryPlace = entries_of events in
     let aside = c.sharing.ensures.aside entries [] here [] (c.freshness.ensures.there here entries names) in

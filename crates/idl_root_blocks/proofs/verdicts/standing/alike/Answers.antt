@@ -1,9 +1,9 @@
 use Rattle.idl_block.proofs.OuterLaws.{outcome-again}
 use Rattle.idl_root_blocks.specs.verdicts.Standing.{AreStanding, block_end, unit_asks, unit_writes}
-use Rattle.idl_env.specs.Facts.{UnitFacts, answers}
+use Rattle.idl_env.specs.Facts.{UnitFacts, answers, boundary}
 use Rattle.idl_env.specs.declared.additions.addition.Step.TheVariants.{Enters}
 use Rattle.idl_block.proofs.FactLaws.Seen.KnownLaws.{known-block}
-use Rattle.idl_block.specs.facts.Written.{boundary, ways_of}
+use Rattle.idl_block.specs.facts.Written.{ways_of}
 use Rattle.std.proofs.Common.{◌≡◌, ◌∷◌, [], List, subst, sym, ap}
 use Rattle.idl_root_blocks.proofs.verdicts.standing.alike.Goals as goal
 

@@ -1,6 +1,6 @@
 use Rattle.idl_block.specs.Behind.{laid}
 use Rattle.idl_root_blocks.specs.verdicts.Standing.{block_end, unit_asks, unit_writes}
-use Rattle.idl_env.specs.Facts.{UnitFacts, answers}
+use Rattle.idl_env.specs.Facts.{UnitFacts, answers, boundary}
 use Rattle.idl_env.specs.declared.additions.addition.Step.TheVariants.{Enters}
 use Rattle.idl_env.specs.declared.answering.answer.Answer.{Answer}
 use Rattle.idl_env.specs.declared.keys.key.Key.{Key}
@@ -9,7 +9,6 @@ use Rattle.idl_block.proofs.FactLaws.NestedLaws.{nested-block}
 use Rattle.idl_block.proofs.FactLaws.WalkLaws.{IsSound, sound-block}
 use Rattle.idl_block.specs.facts.Answered.{answered}
 use Rattle.idl_block.specs.facts.Known.{AskEnough}
-use Rattle.idl_block.specs.facts.Written.{boundary}
 use Rattle.std.proofs.Common.{◌≡◌, ◌∷◌, ◌++◌, [], List, Option, subst, sym}
 use Rattle.idl_root_blocks.proofs.verdicts.standing.nested.Goals as goal
 

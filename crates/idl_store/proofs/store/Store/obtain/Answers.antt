@@ -1,17 +1,18 @@
 -- What a look-up finds is the result there, and where it finds none, a run gives it.
-use Rattle.std.proofs.Common.{◌∙◌, ◌∷◌, [], ap, inl, inr, refl, subst, sym}
+use Rattle.std.proofs.Common.{◌∙◌, ◌∷◌, [], ap, inl, inr, length, refl, subst, sym}
 use Rattle.std.specs.Option.{option_cmp}
 use Rattle.std.proofs.lemmas.Result.{IfErr-at_err, IfOk-at_ok}
 use Rattle.idl_memo.specs.Kept.{IsSound, NoneAlikeAt, SomeAlikeAt, result_over}
-use Rattle.idl_memo.specs.Meter.{raised}
+use Rattle.idl_memo.specs.Meter.{compared_after, raised}
 use Rattle.idl_store.specs.Buckets.{bucket_of}
 use Rattle.idl_store.specs.Index.{IsGapAmong}
 use Rattle.idl_store.specs.Order.{results_cmp}
 use Rattle.idl_store.specs.Stored.{grown, results_in}
+use Rattle.idl_store.proofs.Obtaining.{keys-same}
 use Rattle.idl_store.proofs.store.Store.obtain.Goals as goal
 
 pub returns-in-Ok-clause-result : goal.returns-in-Ok-clause-result
-returns-in-Ok-clause-result g c = c.into_shared.ensures ∙ IfOk-at_ok _ c.in-Ok.is c.in_ok-found.ensures.result
+returns-in-Ok-clause-result g c = c.into_shared-shared.ensures ∙ IfOk-at_ok _ c.in-Ok.is c.in_ok-found.ensures.result
 
 pub returns-in-Ok-clause-ok : goal.returns-in-Ok-clause-ok
 returns-in-Ok-clause-ok g c =
@@ -24,7 +25,10 @@ pub returns-in-Ok-clause-meter : goal.returns-in-Ok-clause-meter
 returns-in-Ok-clause-meter g c =
     let text = g.T.Task.text_of c.args.task.now in
     let bank = g.B.Bank.at c.args.bank.now in
-    inl (subst (λ s. SomeAlikeAt (text, bank) (results_in s)) c.self.view_is (IfOk-at_ok _ c.in-Ok.is c.in_ok-found.ensures.some), refl)
+    let some = subst (λ s. SomeAlikeAt (text, bank) (results_in s)) c.self.view_is (IfOk-at_ok _ c.in-Ok.is c.in_ok-found.ensures.some) in
+    let found = c.deref.ensures ∙ c.into_shared-shared.ensures ∙ IfOk-at_ok _ c.in-Ok.is c.in_ok-found.ensures.result in
+    let keys = c.len.ensures ∙ ap (λ l. length l) c.log.ensures ∙ keys-same _ _ found in
+    inl (some, c.compare.ensures ∙ ap (λ n. record c.args.meter.now { compared = compared_after c.args.meter.now.compared n }) keys)
 
 pub put-requires-clause-sound : goal.put-requires-clause-sound
 put-requires-clause-sound g c =
@@ -56,4 +60,4 @@ returns-clause-meter g c =
     inr (subst (λ s. NoneAlikeAt (text, bank) (results_in s)) c.self.view_is none, c.raise.ensures ∙ ap (λ kind. raised kind c.args.meter.now) c.KIND.ensures)
 
 pub returns-clause-result : goal.returns-clause-result
-returns-clause-result g c = c.into_shared-2.ensures ∙ c.in_ok-held.ensures.result ∙ c.of.ensures ∙ c.in_ok-kept.ensures
+returns-clause-result g c = c.into_shared.ensures ∙ c.in_ok-held.ensures.result ∙ c.of.ensures ∙ c.in_ok-kept.ensures

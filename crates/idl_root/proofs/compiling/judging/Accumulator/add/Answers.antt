@@ -2,7 +2,8 @@ use Rattle.std.proofs.Common.{◌∷◌, ◌∙◌, [], ap, sym}
 use Rattle.idl_root_blocks.specs.idl_check.declared.walk.verdict.Verdict.{Verdict}
 use Rattle.idl_env.specs.Facts.{UnitFacts}
 use Rattle.idl_root.specs.Held.{with_gathered, with_judged, with_units}
-use Rattle.idl_root.specs.Judged.{added, judged_at, judged_over}
+use Rattle.idl_root.specs.Judged.{judged_at, judged_over}
+use Rattle.idl_root_blocks.specs.idl_check.walk.Verdict.{added}
 use Rattle.idl_root.proofs.JudgingLemmas.{with-none, with-one}
 use Rattle.idl_root.proofs.compiling.judging.Accumulator.add.Goals as goal
 

@@ -6,7 +6,7 @@ use Rattle.idl_root.proofs.PassedLemmas.{compares-none, passed-none}
 use Rattle.idl_root.specs.Held.{with_gathered, with_judged, with_units}
 use Rattle.idl_root.specs.Judged.{judged_at, judged_over}
 use Rattle.idl_root.specs.Passed.{ArePassed, Compares}
-use Rattle.idl_root.specs.Results.{DeclarationResult}
+use Rattle.idl_kept.specs.Texts.{DeclarationResult}
 use Rattle.idl_root.specs.declared.kept.keeping.Keeping.{Keeping}
 use Rattle.idl_root_blocks.specs.Blocks.{Nothing}
 use Rattle.idl_root_blocks.specs.Finding.{in_front}

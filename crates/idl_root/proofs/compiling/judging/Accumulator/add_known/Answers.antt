@@ -4,7 +4,8 @@ use Rattle.idl_root.specs.AsBefore.{judged_beside}
 use Rattle.idl_root.specs.Followed.{IsKeeping, added_by}
 use Rattle.idl_root.specs.Held.{with_gathered, with_units}
 use Rattle.idl_root.specs.Passed.{known_results}
-use Rattle.idl_root.specs.Results.{DeclarationResult, marks_of}
+use Rattle.idl_kept.specs.Texts.{DeclarationResult}
+use Rattle.idl_root.specs.Results.{marks_of}
 use Rattle.idl_root.specs.declared.kept.keeping.Keeping.{Keeping}
 use Rattle.idl_root_blocks.specs.Finding.{texts_in}
 use Rattle.idl_root_blocks.specs.Units.{text_of}

@@ -6,7 +6,8 @@ use Rattle.idl_root.specs.Compile.{Outcome}
 use Rattle.idl_root.specs.Followed.{added_by}
 use Rattle.idl_root.specs.Held.{with_gathered, with_judged, with_units}
 use Rattle.idl_root.specs.Passed.{known_results}
-use Rattle.idl_root.specs.Results.{DeclarationResult, marks_of}
+use Rattle.idl_kept.specs.Texts.{DeclarationResult}
+use Rattle.idl_root.specs.Results.{marks_of}
 use Rattle.idl_root_blocks.specs.Finding.{texts_in}
 use Rattle.idl_root_blocks.specs.Units.{text_of}
 use Rattle.idl_root.proofs.KnownLemmas.{added-spelled, judged-spelled}

@@ -1,17 +1,16 @@
 use Rattle.std.proofs.Common.{false, ◌≡◌, ◌≤◌, ◌<◌, ◌^◌, ◌∙◌, ◌∷◌, ◌++◌, [], List, ap, map, refl, subst, sym}
+use Rattle.std.specs.Prelude.{Any}
 use Rattle.idl_env.specs.Facts.{UnitFacts, answers, count_in}
 use Rattle.idl_env.specs.Turns.{most_turns, turns_for}
 use Rattle.idl_env.specs.declared.keys.key.Key.TheVariants.{Nameless}
-use Rattle.idl_memo.specs.Kept.{SomeAlikeAt}
 use Rattle.idl_memo.specs.declared.meter.Meter.{Meter}
-use Rattle.idl_root.proofs.KnownLemmas.{marks-text}
 use Rattle.idl_root.proofs.PassedBlocks.{compares-taken, is-known, passed-block, some-on}
 use Rattle.idl_root.proofs.TakenWhole.{facts-are, judged-are, kept-are, none-run, same}
 use Rattle.idl_root.specs.AsBefore.{judged_beside}
 use Rattle.idl_root.specs.Followed.{IsFollowing, IsKeeping, added_by}
 use Rattle.idl_root.specs.Held.{with_gathered, with_units}
-use Rattle.idl_root.specs.Passed.{AllGoOn, known_results, marks_in}
-use Rattle.idl_root.specs.Results.{IsDeclarationPass, marks_of}
+use Rattle.idl_root.specs.Passed.{AllGoOn, known_results}
+use Rattle.idl_root.specs.Results.{IsDeclarationPass, marks_in, marks_of}
 use Rattle.idl_root.specs.declared.kept.keeping.Keeping.{Keeping}
 use Rattle.idl_root.specs.declared.kept.marks.Mark.{Mark}
 use Rattle.idl_root.specs.declared.kept.marks.Mark.TheVariants.{Entered, Left}
@@ -21,7 +20,7 @@ use Rattle.idl_root_blocks.specs.Places.{block_result, declarations_over, facts_
 use Rattle.idl_root_blocks.specs.Units.{text_of}
 use Rattle.idl_root_blocks.specs.declared.text.BlockPart.TheVariants.{Enters, Leaves}
 use Rattle.idl_root_blocks.proofs.Cuts.{cut-whole}
-use Rattle.idl_root_blocks.specs.Met.{is_known}
+use Rattle.idl_root_blocks.specs.Met.{IsLike, is_known}
 use Rattle.idl_store.specs.Spots.{results_from}
 use Rattle.idl_store.specs.Stored.{results_in}
 use Rattle.idl_root.proofs.compiling.judging.Accumulator.add_taken.Goals as goal
@@ -98,7 +97,7 @@ returns-clause-passed c =
     c.in_ok-env-3.ensures.marks
     ∙ ap (λ (ms : List Mark). ms ++ Left false ∷ [])
     (c.in_ok-env-2.ensures.marks
-    ∙ (λ i. (c.in_ok-env.ensures.marks ∙ ap (λ (k : Keeping). k.marks.items ++ Entered false ∷ []) c.in_ok-first.ensures.rest) i ++ marks-text units i)) in
+    ∙ (λ i. (c.in_ok-env.ensures.marks ∙ ap (λ (k : Keeping). k.marks.items ++ Entered false ∷ []) c.in_ok-first.ensures.rest) i ++ marks_in text)) in
     let own : IsKeeping kept.declarations.lists c.add_known.new.keeping behind =
     subst (λ ls. IsKeeping ls c.add_known.new.keeping behind) (ap (λ s. s.lists) (c.new-known.ensures.declarations ∙ c.declarations.ensures) ∙ lists) c.in_ok-env-2.ensures.keeping in
     let walks : IsKeeping kept.declarations.lists after (facts_behind facts (cut text)) = subst (IsKeeping kept.declarations.lists after) end (c.in_ok-env-3.ensures.keeping kept.declarations.lists own) in
@@ -121,7 +120,7 @@ returns-clause-compared c = λ known are within.
     let facts = c.args.env in
     let text = text_of c.args.block.0.now in
     let meter = ap (λ (k : Keeping). k.meter.compared) c.in_ok-env-3.ensures.rest ∙ ap (λ (k : Keeping). k.meter.compared) c.in_ok-env-2.ensures.rest ∙ ap (λ (k : Keeping). k.meter.compared) c.in_ok-env.ensures.rest ∙ ap (λ (m : Meter). m.compared) c.in_ok-first.ensures.meter in
-    let some : SomeAlikeAt (text, answers facts) (map block_result known.blocks) = subst (SomeAlikeAt (text, answers facts)) are.blocks (some-on c.args.kept.now c.args.block.1 facts text c.requires.found) in
-    let one = is-known (λ here task. (c.taking.ensures.asks here task).0) c.placement.ensures.some known.blocks (text, answers facts) some in
+    let some : Any (IsLike (text, answers facts)) (map block_result known.blocks) = subst (Any (IsLike (text, answers facts))) are.blocks (some-on c.args.kept.now c.args.block.1 facts text c.requires.found) in
+    let one = is-known c.taking.ensures.kept known.blocks (text, answers facts) some in
     compares-taken (λ here. (c.taking.ensures.asks here here).1) facts text known c.args.keeping.now.meter c.beyond-2.new.keeping.meter
     (ap (λ t. is_known known.blocks (t, answers facts)) (cut-whole text) ∙ one) meter

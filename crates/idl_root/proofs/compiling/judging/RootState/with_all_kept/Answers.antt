@@ -1,14 +1,12 @@
 use Rattle.std.proofs.Common.{◌≡◌, ◌∙◌, ◌++◌, List, ap, map, subst, sym}
 use Rattle.idl_env.specs.Facts.{UnitFacts}
 use Rattle.idl_root.proofs.ComeLemmas.{come-all}
-use Rattle.idl_root.proofs.KnownLemmas.{marks-text}
-use Rattle.idl_root.proofs.TextLaws.{declarations-text, facts-text}
+use Rattle.idl_root.proofs.TextLaws.{facts-text}
 use Rattle.idl_root.specs.Followed.{IsKeeping}
 use Rattle.idl_root.specs.Held.{with_gathered, with_units}
 use Rattle.idl_root.specs.Judged.{facts_after, judged_after}
-use Rattle.idl_root.specs.Passed.{Compares, keys_behind, marks_in, with_kept}
-use Rattle.idl_root.specs.Places.{declarations_after}
-use Rattle.idl_root.specs.Results.{IsDeclarationPass}
+use Rattle.idl_root.specs.Passed.{Compares, keys_behind, with_kept}
+use Rattle.idl_root.specs.Results.{IsDeclarationPass, marks_in}
 use Rattle.idl_root_blocks.proofs.Cuts.{cut-whole}
 use Rattle.idl_root_blocks.specs.Blocks.{cut, text_in}
 use Rattle.idl_root_blocks.specs.Met.{outermost_keys}
@@ -30,7 +28,7 @@ returns-clause-kept c = c.in_ok-env.ensures.passed.kept_is ∙ ap (λ (fs : List
 pub returns-clause-marks : goal.returns-clause-marks
 returns-clause-marks c =
     let units = c.args.units.now in
-    c.in_ok-env.ensures.passed.marks ∙ ap (λ ms. c.args.keeping.now.marks.items ++ ms) (ap marks_in (cut-whole (text_of units)) ∙ sym (marks-text units))
+    c.in_ok-env.ensures.passed.marks ∙ ap (λ ms. c.args.keeping.now.marks.items ++ ms) (ap marks_in (cut-whole (text_of units)))
 
 pub returns-clause-keeping : goal.returns-clause-keeping
 returns-clause-keeping c =
@@ -46,7 +44,7 @@ returns-clause-counts c =
     let units = c.args.units.now in
     let old = c.args.kept.now.declarations in
     let new = c.add_all.new.kept.declarations in
-    let places = ap (declarations_over c.of.result) (cut-whole (text_of units)) ∙ sym (declarations-text units c.of.result) ∙ ap (λ (fs : List UnitFacts). declarations_after fs units) c.of.ensures in
+    let places = ap (declarations_over c.of.result) (cut-whole (text_of units)) ∙ ap (λ (fs : List UnitFacts). declarations_over fs (text_of units)) c.of.ensures in
     subst (λ ps. IsDeclarationPass ps (results_in old) (results_in new) c.args.keeping.now.meter.checked c.add_all.new.keeping.meter.checked) places c.in_ok-env.ensures.passed.counts
 
 pub returns-clause-blocks : goal.returns-clause-blocks

@@ -4,7 +4,7 @@ use Rattle.idl_env.specs.Facts.{answers}
 use Rattle.idl_env.specs.Turns.{most_turns}
 use Rattle.idl_env.specs.keys.Key.{key_digest}
 use Rattle.idl_root.specs.Changed.{ShareNone}
-use Rattle.idl_root.specs.Results.{DeclarationResult}
+use Rattle.idl_kept.specs.Texts.{DeclarationResult}
 use Rattle.idl_root_blocks.specs.Places.{declaration_result}
 use Rattle.std.specs.Prelude.{map}
 use Rattle.idl_root.proofs.AgainLemmas.{result-again}

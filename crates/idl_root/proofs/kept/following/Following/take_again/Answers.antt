@@ -4,11 +4,10 @@ use Rattle.std.specs.Global.{Global}
 use Rattle.idl_root_blocks.specs.idl_check.walk.Verdict.{verdict}
 use Rattle.idl_env.specs.Facts.{answers}
 use Rattle.idl_env.specs.Turns.{most_turns}
-use Rattle.idl_kept.specs.Texts.{Texts, with_units}
+use Rattle.idl_kept.specs.Texts.{DeclarationResult, Texts, with_units}
 use Rattle.idl_memo.specs.Kept.{IsAlike}
 use Rattle.idl_store.specs.Stored.{Stored, grown, result_at}
 use Rattle.idl_root.specs.Followed.{IsAgain, IsNext}
-use Rattle.idl_root.specs.Results.{DeclarationResult}
 use Rattle.idl_root.proofs.AgainLemmas.{own-alike}
 use Rattle.idl_root.proofs.StoredLemmas.{some-alike}
 use Rattle.idl_root.proofs.TakenLemmas.{found-weaker, none-taken, some-taken, units-none, units-only}

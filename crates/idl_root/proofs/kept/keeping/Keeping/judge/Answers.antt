@@ -3,15 +3,14 @@ use Rattle.std.specs.Prelude.{IfSome, Option}
 use Rattle.std.specs.Global.{Global}
 use Rattle.std.specs.declared.rc.Rc.{Rc}
 use Rattle.idl_env.specs.Facts.{answers}
-use Rattle.idl_kept.specs.Texts.{Texts}
+use Rattle.idl_kept.specs.Texts.{DeclarationResult, Texts}
 use Rattle.idl_memo.specs.Query.{HoldsIn}
 use Rattle.idl_store.specs.Stored.{Stored}
 use Rattle.idl_root.proofs.BlockLemmas.{own-alike}
 use Rattle.idl_root.proofs.TakenLemmas.{at-some}
 use Rattle.idl_root.specs.Followed.{IsFollowed, IsFollowing}
-use Rattle.idl_root.specs.Judged.{verdict_over}
+use Rattle.idl_root_blocks.specs.idl_check.walk.Verdict.{verdict_over}
 use Rattle.idl_root.specs.Passed.{AllGoOn, keys_behind}
-use Rattle.idl_root.specs.Results.{DeclarationResult}
 use Rattle.idl_root_blocks.specs.Asking.{AreNoted as HaveNoted, with_asked}
 use Rattle.idl_root.specs.declared.kept.following.Following.{Following}
 use Rattle.idl_root.specs.declared.kept.keeping.Keeping.{Keeping}

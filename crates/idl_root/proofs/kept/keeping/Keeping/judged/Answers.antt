@@ -1,13 +1,12 @@
 use Rattle.std.proofs.Common.{◌≡◌, ◌++◌, ◌∷◌, ◌∙◌, [], ap, length, rules, subst, sym}
 use Rattle.std.specs.Prelude.{IfOk, IfSome}
 use Rattle.idl_env.specs.Facts.{answers}
-use Rattle.idl_kept.specs.Texts.{Texts}
+use Rattle.idl_kept.specs.Texts.{DeclarationResult, Texts}
 use Rattle.idl_memo.specs.declared.task.TaskKind.TheVariants.{Check}
 use Rattle.idl_store.specs.Stored.{Stored}
 use Rattle.idl_root.specs.Followed.{IsDeclarationLast, IsFollowed, IsNext, UnitsOnly}
-use Rattle.idl_root.specs.Judged.{verdict_over}
+use Rattle.idl_root_blocks.specs.idl_check.walk.Verdict.{verdict_over}
 use Rattle.idl_root_blocks.specs.Places.{DeclarationPlace, declaration_result}
-use Rattle.idl_root.specs.Results.{DeclarationResult}
 use Rattle.idl_root.proofs.TakenLemmas.{at-none, at-some, some-weaker, taken-last}
 use Rattle.idl_root.proofs.kept.keeping.Keeping.judged.Goals as goal
 
@@ -18,7 +17,7 @@ returns-in_ok-self-in-Some-clause-obtained c =
     let taken = at-some c.in_ok-declaration.field-0 c.in-Some.declaration _ c.in-Some.is c.in_ok-declaration.ensures.again c.args.self.now.earlier env c.requires in
     let asked : c.unit_keys.result ≡ length c.in-Some.declaration.value.log = search rules in
     let keys : c.unit_keys.result ≡ length (declaration_result place).log = asked ∙ ap (λ (k : DeclarationResult). length k.log) taken.result_is in
-    taken-last Check place (declaration_result place) c.args.self.now.meter c.compare.new.meter c.unit_keys.result keys c.compare.ensures.counts c.compare.ensures.keys taken
+    taken-last Check place (declaration_result place) c.args.self.now.meter c.compare.new.self c.unit_keys.result keys c.compare.ensures taken
 
 pub returns-in_ok-self-in-Some-clause-lists : goal.returns-in_ok-self-in-Some-clause-lists
 returns-in_ok-self-in-Some-clause-lists c =

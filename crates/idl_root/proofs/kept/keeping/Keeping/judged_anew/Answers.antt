@@ -1,7 +1,7 @@
 use Rattle.std.proofs.Common.{◌≡◌, ◌++◌, ◌∷◌, ◌∙◌, [], ap, rules, subst, sym}
 use Rattle.idl_root.specs.Followed.{IsFollowed}
-use Rattle.idl_root.specs.Judged.{verdict_over}
-use Rattle.idl_root.specs.Results.{DeclarationResult}
+use Rattle.idl_root_blocks.specs.idl_check.walk.Verdict.{verdict_over}
+use Rattle.idl_kept.specs.Texts.{DeclarationResult}
 use Rattle.idl_root.specs.declared.kept.keeping.Keeping.{Keeping}
 use Rattle.idl_root.proofs.TakenLemmas.{some-weaker}
 use Rattle.idl_store.specs.Stored.{Stored}

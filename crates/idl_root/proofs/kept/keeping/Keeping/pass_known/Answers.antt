@@ -2,7 +2,7 @@ use Rattle.std.proofs.Common.{◌∷◌, ◌++◌, [], ap, subst, sym}
 use Rattle.std.specs.Prelude.{IfSome}
 use Rattle.idl_root.proofs.TakenLemmas.{at-some, some-weaker}
 use Rattle.idl_root.specs.Followed.{IsFollowed, IsFollowing}
-use Rattle.idl_root.specs.Results.{DeclarationResult}
+use Rattle.idl_kept.specs.Texts.{DeclarationResult}
 use Rattle.idl_root_blocks.specs.Asking.{AreNoted as HaveNoted}
 use Rattle.idl_root.specs.declared.kept.keeping.Keeping.{Keeping}
 use Rattle.idl_store.specs.Stored.{Stored}

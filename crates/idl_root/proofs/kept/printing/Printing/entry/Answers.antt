@@ -14,12 +14,12 @@ pub returns-in-Some-clause-obtained : goal.returns-in-Some-clause-obtained
 returns-in-Some-clause-obtained c =
     let place : EntryPlace = (c.args.path.now, answers c.args.env.now) in
     let between = c.taken.new.self.meter in
-    let after = c.compare.new.meter in
+    let after = c.compare.new.self in
     let taken = at-some c.in_ok-entry.field-0 c.in-Some.entry _ c.in-Some.is c.in_ok-entry.ensures.again c.args.env.now c.requires in
     let asked : c.entry_keys.result ≡ length c.in-Some.entry.value.log = search rules in
     let keys : c.entry_keys.result ≡ length (entry_result place).log = asked ∙ ap (λ (k : EntryResult). length k.log) taken.result_is in
     subst (λ (m : Meter). IsEntryLast place c.args.kept.now c.taken.new.kept m after c.in-Some.entry.value) c.taken.ensures.meter
-    (taken-last Print place (entry_result place) between after c.entry_keys.result keys c.compare.ensures.counts c.compare.ensures.keys taken)
+    (taken-last Print place (entry_result place) between after c.entry_keys.result keys c.compare.ensures taken)
 
 pub returns-in-Some-clause-lists : goal.returns-in-Some-clause-lists
 returns-in-Some-clause-lists c = ap (λ (s : Stored EntryResult). s.lists) (at-some c.in_ok-entry.field-0 c.in-Some.entry _ c.in-Some.is c.in_ok-entry.ensures.again c.args.env.now c.requires).new_is

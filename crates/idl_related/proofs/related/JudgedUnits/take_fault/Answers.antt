@@ -1,5 +1,0 @@
-use Rattle.idl_related.proofs.AlreadyLemmas.{on-ok}
-use Rattle.idl_related.proofs.related.JudgedUnits.take_fault.Goals as goal
-
-pub returns-clause-told : goal.returns-clause-told
-returns-clause-told c = on-ok c.pass_faulty.result c.in_ok-tell.ensures.told
