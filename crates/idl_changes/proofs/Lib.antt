@@ -1,5 +1,6 @@
 mod AllLemmas
 mod TableLemmas
+mod ChosenLemmas
 mod SetLemmas
 mod StepLemmas
 mod ListingLemmas

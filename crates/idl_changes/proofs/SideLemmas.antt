@@ -5,7 +5,7 @@ use Rattle.std.specs.Option.{option_and_then, option_eq, option_map, option_map_
 use Rattle.std.proofs.lemmas.Bool.Decides.{nat_tests}
 use Rattle.std.proofs.lemmas.List.{map-append, set_past, take_all}
 use Rattle.std.proofs.lemmas.List.Elements.{filter-append}
-use Rattle.std.proofs.lemmas.Option.{none-some, slice_get_past, slice_get_within}
+use Rattle.std.proofs.lemmas.Option.{none-some, same_Some, slice_get_past, slice_get_within}
 use Rattle.idl_base.specs.Exact.{same_number, same_option}
 use Rattle.std.specs.Str.{bytes_eq}
 use Rattle.idl_changes.specs.Listing.{bases_of, by_id, interface_at, interface_of, is_called, name_at, places_where, scope_of}
@@ -51,6 +51,55 @@ module _ (old new : List RowTree) (i : ℕ) where
 
   pub partner-there : (places : List (Option ℕ)) → places ≡ each (λ k e. partner old new k) old → option_and_then (λ (o : Option ℕ). o) (slice_get places i) ≡ partner old new i
   partner-there places are = ap (λ (ps : List (Option ℕ)). option_and_then (λ (o : Option ℕ). o) (slice_get ps i)) are ∙ place-each (partner old new) old i partner-past
+
+-- what is called, and what isn't
+module _ (old new : List RowTree) (i : ℕ) where
+  pub partner-called : (e : RowTree) → option_and_then (λ (f : RowTree). if is_called f then Some f else None) (slice_get old i) ≡ Some e → partner old new i ≡ called_partner old new i e
+  unfolding partner
+  partner-called e is = by (slice_get old i) is
+    where
+      test : (f : RowTree) (b : Bool) → (if b then Some f else None) ≡ Some e → (if b then called_partner old new i f else joined old new i) ≡ called_partner old new i e
+      test f true h = ap (called_partner old new i) (same_Some f e h)
+      test f false h = cc
+
+      by : (entry : Option RowTree) → option_and_then (λ (f : RowTree). if is_called f then Some f else None) entry ≡ Some e
+          → option_and_then (λ (f : RowTree). if is_called f then called_partner old new i f else joined old new i) entry ≡ called_partner old new i e
+      by None h = cc
+      by (Some f) h = test f (is_called f) h
+
+  pub partner-other : option_and_then (λ (f : RowTree). if is_called f then Some f else None) (slice_get old i) ≡ None → partner old new i ≡ joined old new i
+  unfolding partner
+  partner-other none = by (slice_get old i) refl none
+    where
+      test : (f : RowTree) (b : Bool) → (if b then Some f else None) ≡ None → (if b then called_partner old new i f else joined old new i) ≡ joined old new i
+      test f true h = cc
+      test f false h = refl
+
+      by : (entry : Option RowTree) → slice_get old i ≡ entry → option_and_then (λ (f : RowTree). if is_called f then Some f else None) entry ≡ None
+          → option_and_then (λ (f : RowTree). if is_called f then called_partner old new i f else joined old new i) entry ≡ joined old new i
+      by None at h = sym (joined-past old new i at)
+      by (Some f) at h = test f (is_called f) h
+
+-- what is asked of a place that passes a test
+pub asked-kept : (test : ℕ → Bool) (f : ℕ → Option ℕ) (place : Option ℕ)
+    → option_and_then (λ (o : ℕ). if test o then f o else None) place ≡ option_and_then f (option_and_then (λ (o : ℕ). if test o then Some o else None) place)
+asked-kept test f None = refl
+asked-kept test f (Some o) = by (test o)
+  where
+    by : (b : Bool) → (if b then f o else None) ≡ option_and_then f (if b then Some o else None)
+    by true = refl
+    by false = refl
+
+-- what is told of a place that passes two tests
+pub told-kept : {Y : Type 0} (test also : ℕ → Bool) (told : List Y) (place : Option ℕ)
+    → option_map_or (λ (o : ℕ). if test o && also o then told else []) place []
+    ≡ option_map_or (λ (o : ℕ). if also o then told else []) (option_and_then (λ (o : ℕ). if test o then Some o else None) place) []
+told-kept test also told None = refl
+told-kept {Y} test also told (Some o) = by (test o)
+  where
+    by : (b : Bool) → (if b && also o then told else []) ≡ option_map_or (λ (k : ℕ). if also k then told else []) (if b then Some o else None) []
+    by true = refl
+    by false = refl
 
 -- ---- what is inherited, and what is called
 
@@ -137,7 +186,7 @@ length-enumerate : (n : ℕ) (L : List RowTree) → length (enumerate_from n L) 
 length-enumerate n [] = refl
 length-enumerate n (x ∷ xs) = ap suc (length-enumerate (n + 1) xs)
 
-get-past : {X : Type 0} (xs : List X) (i : ℕ) → slice_get xs i ≡ None → length xs ≤ i
+pub get-past : {X : Type 0} (xs : List X) (i : ℕ) → slice_get xs i ≡ None → length xs ≤ i
 get-past [] i is = omega arith
 get-past (x ∷ xs) zero is = cc
 get-past (x ∷ xs) (suc i) is = let rest = get-past xs i is in omega (arith, rest)

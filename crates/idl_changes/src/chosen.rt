@@ -1,8 +1,8 @@
 //! Sets of weights that a text names.
 
-ghost use Rattle.std.specs.Prelude.{◌≡◌};
-ghost use Rattle.idl_changes.specs.Chosen.{meets, weights_named, with_weight};
-ghost use Rattle.idl_changes.specs.Rows.{callers};
+ghost use Rattle.std.specs.Prelude.{◌≡◌, []};
+ghost use Rattle.idl_changes.specs.Chosen.{meets, weights_named, with_names, with_weight};
+ghost use Rattle.idl_changes.specs.Rows.{callers, nobody};
 
 use crate::rows::{Weights, callers, nobody};
 
@@ -30,19 +30,26 @@ impl Weights {
     pub fn named(text: &[u8]) -> Option<Weights>
         ensures { result ≡ weights_named text.now }
     {
-        let mut weights = nobody();
         if text == b"never".as_slice() {
-            return Some(weights);
+            return Some(nobody());
         }
-        let mut start = 0;
-        for (place, byte) in text.iter().enumerate() {
-            if *byte == b',' {
-                weights = with_weight(&text[start..place], weights)?;
-                start = place + 1;
-            }
-        }
-        with_weight(&text[start..], weights)
+        with_names(text)
     }
+}
+
+// Those whose names stand in a text with commas between.
+fn with_names(text: &[u8]) -> Option<Weights>
+    ensures { result ≡ with_names [] text.now nobody }
+{
+    let mut weights = nobody();
+    let mut start = 0;
+    for (place, byte) in text.iter().enumerate() {
+        if *byte == b',' {
+            weights = with_weight(&text[start..place], weights)?;
+            start = place + 1;
+        }
+    }
+    with_weight(&text[start..], weights)
 }
 
 // These, and the weight that has a name.

@@ -1,17 +1,19 @@
 //! Which entries of two listings belong together that aren't called: by their ids, and then by their paths.
 
-ghost use Rattle.std.specs.Prelude.{◌≡◌, ◌+◌, ◌++◌, ◌∷◌, ◌-◌, ◌<◌, ◌^◌, [], ℕ, List, IfOk, IsFalse, IsTrue, None, OnOk, Some, if◌then◌else◌, length, slice_get, unwrap_or};
+ghost use Rattle.std.specs.Prelude.{◌≡◌, ◌+◌, ◌++◌, ◌∷◌, ◌-◌, ◌<◌, ◌^◌, ◌&&◌, [], ℕ, List, IfOk, IsFalse, IsTrue, None, OnOk, Some, false, if◌then◌else◌, is_none, length, nat_eq, slice_get, unwrap_or};
 ghost use Rattle.std.specs.Map.{lookup};
-ghost use Rattle.std.specs.Option.{option_and_then, option_or};
+ghost use Rattle.std.specs.Option.{option_and_then, option_eq, option_map_or, option_or};
 ghost use Rattle.std.specs.Str.{bytes_eq};
-ghost use Rattle.idl_changes.specs.Listing.{by_id, is_called, next_by_id};
-ghost use Rattle.idl_changes.specs.Partners.{by_path, joined};
+ghost use Rattle.idl_changes.specs.Listing.{by_id, is_called, next_by_id, place_of};
+ghost use Rattle.idl_changes.specs.Partners.{by_path, is_of_kind, joined};
 ghost use Rattle.idl_changes.specs.Tables.{AreCounts, AreIds, each};
+ghost use Rattle.idl_entity.specs.Kind.{kind_eq};
 ghost use Rattle.idl_repo.specs.declared.details.row_tree.RowTree.{RowTree};
 
 use crate::keys::NumberedText;
 use crate::listing::{Listing, is_called};
 use idl_base::Bytes;
+use idl_entity::Kind;
 use idl_map::Map;
 use idl_repo::details::RowTree;
 use std::alloc::{AllocError, Global};
@@ -85,14 +87,52 @@ fn by_path(
 {
     let (old, new) = listings;
     let entry = old.entry(place)?;
+    if is_called(entry) {
+        return None;
+    }
     let other = new.place_of(&entry.path)?;
-    let partner = new.entry(other)?;
-    let is_first = old.place_of(&entry.path) == Some(place);
-    let is_left = back.get(other)?.is_none();
-    if is_first && is_left && partner.kind == entry.kind && !is_called(entry) {
+    if fits(listings, (place, other), entry, back) {
         Some(other)
     } else {
         None
+    }
+}
+
+// Whether the entry to which the path leads at the first of these places is of the kind of that at the second, and this is left.
+fn fits(
+    listings: (&Listing<'_>, &Listing<'_>),
+    places: (usize, usize),
+    entry: &RowTree,
+    back: &[Option<usize>],
+) -> bool
+    ensures { result
+        ≡ ((option_eq nat_eq (place_of listings.entry.0.now entry.now.path) (Some places.0)
+        && is_of_kind listings.entry.1.now places.1 entry.now)
+        && option_map_or (λ found. is_none found) (slice_get back.now places.1) false) }
+{
+    let (old, new) = listings;
+    old.place_of(&entry.path) == Some(places.0)
+        && is_of_kind(new, places.1, entry.kind)
+        && is_free(back, places.1)
+}
+
+// Whether the entry at a place is of a kind.
+fn is_of_kind(listing: &Listing<'_>, place: usize, kind: Kind) -> bool
+    ensures { result ≡ option_map_or (λ f. kind_eq kind f.kind) (slice_get listing.now place) false }
+{
+    match listing.entry(place) {
+        Some(entry) => kind == entry.kind,
+        None => false,
+    }
+}
+
+// Whether nothing stands at a place of these.
+fn is_free(places: &[Option<usize>], place: usize) -> bool
+    ensures { result ≡ option_map_or (λ found. is_none found) (slice_get places.now place) false }
+{
+    match places.get(place) {
+        Some(found) => found.is_none(),
+        None => false,
     }
 }
 

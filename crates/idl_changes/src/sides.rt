@@ -3,12 +3,14 @@
 ghost use Rattle.std.specs.Prelude.{◌≡◌, IfOk, None, Some, if◌then◌else◌, map, option_copied, slice_get};
 ghost use Rattle.std.specs.Option.{option_and_then};
 ghost use Rattle.idl_changes.specs.Listing.{interface_of, is_called};
+ghost use Rattle.idl_changes.specs.Offered.{offered};
 ghost use Rattle.idl_changes.specs.Partners.{called_partner, is_own_offer, is_partner, is_same_reference, joined, partner};
 ghost use Rattle.idl_changes.specs.Tables.{each};
 
 use crate::joined::joined_both;
 use crate::listing::{is_called, name_of};
 use crate::side::Side;
+use idl_base::Bytes;
 use idl_repo::details::{Reference, RowTree};
 use std::alloc::{AllocError, Global};
 use std::marker::Model;
@@ -145,14 +147,25 @@ fn all_partners(
     ensures { IfOk result (λ all. all.items ≡ each (λ i e. partner old.now new.now i) old.now) }
 {
     let mut all = Vec::with_capacity(alloc, known.len())?;
-    for (place, found) in known.iter().enumerate() {
-        let partner = match called_at(old, place) {
-            Some(entry) => called_partner((old, new), known, place, entry)?,
-            None => *found,
-        };
-        all.push(partner)?;
+    for place in 0..known.len() {
+        all.push(partner_at((old, new), known, place)?)?;
     }
     Ok(all)
+}
+
+// To which one the entry at a place belongs, where this is known of what isn't called.
+fn partner_at(
+    sides: (&Side<'_>, &Side<'_>),
+    known: &[Option<usize>],
+    place: usize,
+) -> Result<Option<usize>, AllocError>
+    requires { known.now ≡ each (λ i e. joined sides.0.now sides.1.now i) sides.0.now }
+    ensures { IfOk result (λ found. found ≡ partner sides.entry.0.now sides.entry.1.now place) }
+{
+    match called_at(sides.0, place) {
+        Some(entry) => called_partner(sides, known, place, entry),
+        None => Ok(place_in(known, place)),
+    }
 }
 
 // The entry at a place, if it is called.
@@ -180,9 +193,21 @@ fn called_partner(
         return Ok(None);
     };
     let name = name_of(&entry.path)?;
-    match known.get(interface) {
-        Some(Some(partner)) => new.offered(*partner, &name),
-        _ => Ok(None),
+    offered_at(new, place_in(known, interface), &name)
+}
+
+// What the interface at a place offers under a name, if there is one.
+fn offered_at(
+    side: &Side<'_>,
+    place: Option<usize>,
+    name: &Bytes,
+) -> Result<Option<usize>, AllocError>
+    ensures { IfOk result (λ found.
+        found ≡ option_and_then (λ p. offered side.now p name.now) place) }
+{
+    match place {
+        Some(place) => side.offered(place, name),
+        None => Ok(None),
     }
 }
 

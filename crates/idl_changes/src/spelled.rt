@@ -1,7 +1,7 @@
 //! Types as IDL writes them.
 
-ghost use Rattle.std.specs.Prelude.{◌≡◌, ◌++◌, IfOk, OnOk};
-ghost use Rattle.idl_changes.specs.Spelled.{bound_spelled, element_spelled, integer_spelled, length_spelled, sequence_spelled, spelled, string_spelled, target_spelled, unvalued_spelled};
+ghost use Rattle.std.specs.Prelude.{◌≡◌, ◌++◌, [], IfOk, OnOk};
+ghost use Rattle.idl_changes.specs.Spelled.{bound_spelled, element_spelled, integer_spelled, layers_spelled, length_spelled, sequence_spelled, spelled, string_spelled, target_spelled, unvalued_spelled};
 
 use idl_entity::{Layer, Unvalued};
 use idl_repo::details::{ElementTree, LayeredType};
@@ -14,14 +14,21 @@ use std::alloc::{AllocError, Global};
 pub fn spelled(alloc: Global, data_type: &LayeredType) -> Result<Vec<u8>, AllocError>
     ensures { IfOk result (λ text. text.items ≡ spelled data_type.now) }
 {
-    let mut text = element_spelled(alloc, &data_type.element)?;
-    let mut lengths = Vec::new(alloc);
-    for layer in data_type.layers.as_slice() {
+    let element = element_spelled(alloc, &data_type.element)?;
+    layers_spelled(element, data_type.layers.as_slice())
+}
+
+// The layers around a text, the innermost first.
+fn layers_spelled(element: Vec<u8>, layers: &[Layer]) -> Result<Vec<u8>, AllocError>
+    ensures { IfOk result (λ text. text.items ≡ layers_spelled element.items [] layers.now) }
+{
+    let mut text = element;
+    let mut lengths = Vec::new(*text.allocator());
+    for layer in layers {
         match layer {
             Layer::Array(length) => lengths = length_before(*length, &lengths)?,
             Layer::Sequence(bound) => {
-                text.extend_from_slice(&lengths)?;
-                text = sequence_spelled(*bound, &text)?;
+                text = sequence_spelled(*bound, &text, &lengths)?;
                 lengths.clear();
             }
         }
@@ -41,12 +48,18 @@ fn length_before(length: u32, lengths: &Vec<u8>) -> Result<Vec<u8>, AllocError>
     Ok(text)
 }
 
-// A sequence of what has this text.
-fn sequence_spelled(bound: u32, element: &Vec<u8>) -> Result<Vec<u8>, AllocError>
-    ensures { IfOk result (λ text. text.items ≡ sequence_spelled bound element.now.items) }
+// A sequence of what has this text, with lengths of arrays behind it.
+fn sequence_spelled(
+    bound: u32,
+    element: &Vec<u8>,
+    lengths: &Vec<u8>,
+) -> Result<Vec<u8>, AllocError>
+    ensures { IfOk result (λ text.
+        text.items ≡ sequence_spelled bound (element.now.items ++ lengths.now.items)) }
 {
     let mut text = Vec::from_slice(*element.allocator(), b"sequence<")?;
     text.extend_from_slice(element)?;
+    text.extend_from_slice(lengths)?;
     push_bound(&mut text, bound)?;
     text.extend_from_slice(b">")?;
     Ok(text)

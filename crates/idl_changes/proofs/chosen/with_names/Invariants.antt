@@ -1,7 +1,7 @@
 use Rattle.std.proofs.Common.{◌≡◌, ◌≤◌, [], drop, take}
 use Rattle.idl_changes.specs.Chosen.{with_names}
 use Rattle.idl_changes.specs.Rows.{nobody}
-use Rattle.idl_changes.proofs.rows.Weights.named.Given as goal
+use Rattle.idl_changes.proofs.chosen.with_names.Given as goal
 
 -- with the names that are left
 abbrev pub invariant-loop-place : goal.invariant-loop-place
