@@ -6,7 +6,7 @@ use Rattle.std.specs.List.{list_any, position_or_len, range_with_len, slice_get}
 use Rattle.std.specs.Option.{is_some, option_and_then, option_eq, option_or}
 use Rattle.std.specs.Str.{bytes_eq}
 use Rattle.std.proofs.lemmas.Bool.Decides.{nat_tests}
-use Rattle.std.proofs.lemmas.List.{drop_more}
+use Rattle.std.proofs.lemmas.List.{drop_all, drop_more}
 use Rattle.std.proofs.lemmas.List.Folds.{find_at}
 use Rattle.std.proofs.lemmas.Option.{none-some, slice_get-get_or, slice_get_past}
 use Rattle.idl_base.specs.Exact.{same_list, same_number}
@@ -45,6 +45,16 @@ names-next {X} name xs ys i x y in_xs in_ys is_x is_y =
     ap₂ (λ (us vs : List X). pointwise bytes_eq (map name us) (map name vs))
     (drop_more xs i x in_xs ∙ ap (λ (z : X). z ∷ drop (i + 1) xs) (sym is_x))
     (drop_more ys i y in_ys ∙ ap (λ (z : X). z ∷ drop (i + 1) ys) (sym is_y))
+
+pub items-next : {X : Type 0} (eq : X → X → Bool) (xs ys : List X) (i : ℕ) (x y : X) → i < length xs → i < length ys → x ≡ get_or xs i x → y ≡ get_or ys i y
+    → pointwise eq (drop i xs) (drop i ys) ≡ (eq x y && pointwise eq (drop (i + 1) xs) (drop (i + 1) ys))
+items-next {X} eq xs ys i x y in_xs in_ys is_x is_y =
+    ap₂ (λ (us vs : List X). pointwise eq us vs)
+    (drop_more xs i x in_xs ∙ ap (λ (z : X). z ∷ drop (i + 1) xs) (sym is_x))
+    (drop_more ys i y in_ys ∙ ap (λ (z : X). z ∷ drop (i + 1) ys) (sym is_y))
+
+pub items-left : {X : Type 0} (eq : X → X → Bool) (xs ys : List X) (i : ℕ) → length xs ≤ i → length ys ≤ i → pointwise eq (drop i xs) (drop i ys) ≡ true
+items-left {X} eq xs ys i past_xs past_ys = ap₂ (λ (us vs : List X). pointwise eq us vs) (drop_all i xs past_xs) (drop_all i ys past_ys)
 
 pub not-false : (b : Bool) → not b ≡ false → b ≡ true
 not-false true h = refl

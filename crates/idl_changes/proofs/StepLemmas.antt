@@ -1,12 +1,14 @@
 -- One item more of what is told or written of each.
-use Rattle.std.proofs.Common.{◌≡◌, ◌∙◌, ◌+◌, ◌<◌, ◌≤◌, ◌++◌, ◌∷◌, ◌&&◌, ◌||◌, [], ℕ, zero, suc, Bool, List, None, Option, Some, ap, ap₂, append-nil, append_assoc, arith, drop, false, flat_map, get_or, if◌then◌else◌, length, map, nat_eq, nat_lt, not, refl, replicate, set, sym, true}
-use Rattle.std.specs.List.{enumerate_from, join_by, list_any, range_with_len}
-use Rattle.std.specs.Option.{option_eq, option_map_or, option_or}
+use Rattle.std.proofs.Common.{◌≡◌, ◌∙◌, ◌+◌, ◌<◌, ◌≤◌, ◌++◌, ◌∷◌, ◌&&◌, ◌||◌, [], ℕ, zero, suc, Bool, List, None, Option, Some, ap, ap₂, append-nil, append_assoc, arith, drop, false, flat_map, get_or, if◌then◌else◌, length, map, nat_eq, nat_lt, not, refl, replicate, set, sym, true, unwrap_or}
+use Rattle.std.specs.List.{enumerate_from, join_by, list_all, list_any, range_with_len, slice_get, zip}
+use Rattle.std.specs.Option.{option_eq, option_map, option_map_or, option_or}
 use Rattle.std.proofs.lemmas.Bool.Decides.{nat_tests}
 use Rattle.std.proofs.lemmas.List.{drop_all, drop_more, map_push}
 use Rattle.std.proofs.lemmas.List.Concat.{flat_map-append}
-use Rattle.std.proofs.lemmas.List.Folds.{list_any-append}
+use Rattle.std.proofs.lemmas.List.Folds.{list_all-append, list_any-append}
+use Rattle.std.proofs.lemmas.Option.{same_Some, slice_get-get_or, slice_get-map, slice_get_within}
 use Rattle.idl_changes.specs.Matched.{in_order_from, is_matched}
+use Rattle.idl_changes.proofs.TableLemmas.{get-past}
 
 -- ---- what is told of those that are left comes behind; the items are lent
 
@@ -43,6 +45,66 @@ all-told-at {X} {Y} f items xs same i out all past so_far =
     sym (append-nil out)
     ∙ ap (λ (t : List Y). out ++ t) (sym (ap (λ (ys : List X). flat_map f (enumerate_from i (drop i ys))) (sym same) ∙ ap (λ (ys : List X). flat_map f (enumerate_from i ys)) (drop_all i items past)))
     ∙ so_far
+
+-- and beside those of another list
+pub left-zipped : {X O Y : Type 0} (f : ℕ × (X × O) → List Y) (xs : List X) (os : List O) (i : ℕ) (o : O) (out more all : List Y) → i < length os → o ≡ get_or os i o
+    → more ≡ out ++ option_map_or (λ (x : X). f (i, (x, o))) (slice_get xs i) []
+    → out ++ flat_map f (enumerate_from i (zip (drop i xs) (drop i os))) ≡ all → more ++ flat_map f (enumerate_from (i + 1) (zip (drop (i + 1) xs) (drop (i + 1) os))) ≡ all
+left-zipped {X} {O} {Y} f xs os i o out more all within is put so_far = by (slice_get xs i) refl put
+  where
+    by : (found : Option X) → slice_get xs i ≡ found → more ≡ out ++ option_map_or (λ (x : X). f (i, (x, o))) found []
+        → more ++ flat_map f (enumerate_from (i + 1) (zip (drop (i + 1) xs) (drop (i + 1) os))) ≡ all
+    by None at h =
+        let past = get-past xs i at in
+        let beyond : length xs ≤ i + 1 = omega (arith, past) in
+        ap₂ (λ (ts : List Y) (ys : List X). ts ++ flat_map f (enumerate_from (i + 1) (zip ys (drop (i + 1) os)))) (h ∙ append-nil out) (drop_all (i + 1) xs beyond)
+        ∙ sym (ap (λ (ys : List X). out ++ flat_map f (enumerate_from i (zip ys (drop i os)))) (drop_all i xs past))
+        ∙ so_far
+    by (Some x) at h =
+        let rest = flat_map f (enumerate_from (i + 1) (zip (drop (i + 1) xs) (drop (i + 1) os))) in
+        let there = slice_get_within xs i x at in
+        let item : get_or xs i x ≡ x = same_Some (get_or xs i x) x (sym (slice_get-get_or xs i x there) ∙ at) in
+        let left : flat_map f (enumerate_from i (zip (drop i xs) (drop i os))) ≡ f (i, (x, o)) ++ rest =
+        ap₂ (λ (ys : List X) (ps : List O). flat_map f (enumerate_from i (zip ys ps)))
+        (drop_more xs i x there ∙ ap (λ (y : X). y ∷ drop (i + 1) xs) item)
+        (drop_more os i o within ∙ ap (λ (p : O). p ∷ drop (i + 1) os) (sym is))
+        in
+        ap (λ (ts : List Y). ts ++ rest) h ∙ append_assoc out (f (i, (x, o))) rest ∙ ap (λ (ts : List Y). out ++ ts) (sym left) ∙ so_far
+
+zip-none : {X O : Type 0} (xs : List X) (none : List O) → none ≡ [] → zip xs none ≡ []
+zip-none [] none is = refl
+zip-none {X} {O} (x ∷ xs) none is = ap (λ (os : List O). zip (x ∷ xs) os) is
+
+pub all-zipped : {X O Y : Type 0} (f : ℕ × (X × O) → List Y) (xs : List X) (os : List O) (i : ℕ) (out all : List Y) → length os ≤ i
+    → out ++ flat_map f (enumerate_from i (zip (drop i xs) (drop i os))) ≡ all → out ≡ all
+all-zipped {X} {O} {Y} f xs os i out all past so_far =
+    sym (append-nil out)
+    ∙ ap (λ (t : List Y). out ++ t) (sym (ap (λ (ps : List (X × O)). flat_map f (enumerate_from i ps)) (zip-none (drop i xs) (drop i os) (drop_all i os past))))
+    ∙ so_far
+
+-- ---- whether those that are left pass a test, the items are lent
+
+pub all-next : (test : ℕ → Bool) (items xs : List ℕ) → items ≡ xs → (i : ℕ) → i < length items → list_all test (drop i xs) ≡ (test (get_or items i 0) && list_all test (drop (i + 1) xs))
+all-next test items xs same i within =
+    ap (λ (ys : List ℕ). list_all test (drop i ys)) (sym same)
+    ∙ ap (list_all test) (drop_more items i 0 within)
+    ∙ ap (λ (ys : List ℕ). test (get_or items i 0) && list_all test (drop (i + 1) ys)) same
+
+pub all-left : (test : ℕ → Bool) (items xs : List ℕ) → items ≡ xs → (i : ℕ) → length items ≤ i → list_all test (drop i xs) ≡ true
+all-left test items xs same i past = ap (λ (ys : List ℕ). list_all test (drop i ys)) (sym same) ∙ ap (list_all test) (drop_all i items past)
+
+-- and what is told of them
+pub all-told-next : (test : ℕ → Bool) (f : ℕ → List ℕ) (items xs : List ℕ) → items ≡ xs → (i : ℕ) → i < length items
+    → list_all test (flat_map f (drop i xs)) ≡ (list_all test (f (get_or items i 0)) && list_all test (flat_map f (drop (i + 1) xs)))
+all-told-next test f items xs same i within =
+    ap (λ (ys : List ℕ). list_all test (flat_map f (drop i ys))) (sym same)
+    ∙ ap (λ (ys : List ℕ). list_all test (flat_map f ys)) (drop_more items i 0 within)
+    ∙ list_all-append test (f (get_or items i 0)) (flat_map f (drop (i + 1) items))
+    ∙ ap (λ (ys : List ℕ). list_all test (f (get_or items i 0)) && list_all test (flat_map f (drop (i + 1) ys))) same
+
+pub all-told-left : (test : ℕ → Bool) (f : ℕ → List ℕ) (items xs : List ℕ) → items ≡ xs → (i : ℕ) → length items ≤ i → list_all test (flat_map f (drop i xs)) ≡ true
+all-told-left test f items xs same i past =
+    ap (λ (ys : List ℕ). list_all test (flat_map f (drop i ys))) (sym same) ∙ ap (λ (ys : List ℕ). list_all test (flat_map f ys)) (drop_all i items past)
 
 -- where one is told of only if a test fails
 pub told-unless : {Y : Type 0} (b : Bool) (out more told : List Y) → (b ≡ true → more ≡ out) → (b ≡ false → more ≡ out ++ told) → more ≡ out ++ (if b then [] else told)
@@ -114,6 +176,19 @@ pub marked-by : (found : List (Option ℕ)) (o : Option ℕ) (count : ℕ) (old 
     → new ≡ map (is_matched (found ++ o ∷ [])) (range_with_len 0 count)
 marked-by found None count old new are put = put ∙ are ∙ sym (marked-none found count)
 marked-by found (Some k) count old new are put = put ∙ ap (λ (bs : List Bool). set bs k true) are ∙ marked-more found k count
+
+range-at : (a n k m : ℕ) → k < n → m ≡ a + k → slice_get (range_with_len a n) k ≡ Some m
+range-at a zero k m within is = absurd (omega (arith, within))
+range-at a (suc n) zero m within is = let same : a ≡ m = omega (arith, is) in ap (λ (j : ℕ). Some j) same
+range-at a (suc n) (suc k) m within is =
+    let below : k < n = omega (arith, within) in
+    let next : m ≡ a + 1 + k = omega (arith, is) in
+    range-at (a + 1) n k m below next
+
+pub mark-there : (found : List (Option ℕ)) (count k : ℕ) → k < count → unwrap_or (slice_get (map (is_matched found) (range_with_len 0 count)) k) false ≡ is_matched found k
+mark-there found count k within =
+    let place : k ≡ 0 + k = omega arith in
+    ap (λ (o : Option Bool). unwrap_or o false) (slice_get-map (is_matched found) (range_with_len 0 count) k ∙ ap (option_map (is_matched found)) (range-at 0 count k k within place))
 
 pub none-marked : (n count : ℕ) → replicate count false ≡ map (is_matched []) (range_with_len n count)
 unfolding is_matched

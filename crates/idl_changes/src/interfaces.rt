@@ -1,11 +1,11 @@
 //! Interfaces, which are compared by what they inherit. What is called on them are entries of their own.
 
-ghost use Rattle.std.specs.Prelude.{◌≡◌, ◌++◌, ◌||◌, [], ℕ, IfOk, OnOk, Some, codes, false, if◌then◌else◌, nat_eq};
+ghost use Rattle.std.specs.Prelude.{◌≡◌, ◌++◌, ◌<◌, ◌||◌, [], ℕ, IfOk, OnOk, Some, codes, false, if◌then◌else◌, length, nat_eq};
 ghost use Rattle.std.specs.List.{list_all, list_any};
 ghost use Rattle.std.specs.Option.{option_map_or};
 ghost use Rattle.idl_changes.specs.Differences.{base_line, gone_bases, interface_differences, new_bases, told};
 ghost use Rattle.idl_changes.specs.Listing.{name_at, path_at};
-ghost use Rattle.idl_changes.specs.Offered.{called_in, is_offered};
+ghost use Rattle.idl_changes.specs.Offered.{called_in, is_offered, offers};
 ghost use Rattle.idl_changes.specs.Partners.{is_partner, joined};
 
 use crate::change::{Difference, Turn};
@@ -106,7 +106,7 @@ fn push_new_base(
         (codes "base " ++ path_at sides.now.1 places.1) Turn.New)) }
 {
     let (interface, base) = places;
-    if goes_on.contains(&base) {
+    if has(goes_on, base) {
         return Ok(());
     }
     let line = base_line(sides, interface, base)?;
@@ -158,9 +158,16 @@ fn is_among(place: Option<usize>, places: &BTreeSet<usize>) -> bool
     ensures { result ≡ option_map_or (λ n. list_any (nat_eq n) places.now.keys) place false }
 {
     match place {
-        Some(place) => places.contains(&place),
+        Some(place) => has(places, place),
         None => false,
     }
+}
+
+// Whether a place is among these.
+fn has(places: &BTreeSet<usize>, place: usize) -> bool
+    ensures { result ≡ list_any (nat_eq place) places.now.keys }
+{
+    places.contains(&place)
 }
 
 // Tells what became of the base at a place.
@@ -174,10 +181,18 @@ fn push_base(
         ++ told line (codes "base " ++ path_at base.entry.0.now base.entry.1) turn) }
 {
     let mut part = Vec::from_slice(*out.allocator(), b"base ")?;
-    if let Some(entry) = base.0.listing().entry(base.1) {
-        part.extend_from_slice(entry.path.as_bytes())?;
-    }
+    part.extend_from_slice(path_at(base.0, base.1))?;
     push_told(line, &part, turn, out)
+}
+
+// The path of the entry at a place.
+fn path_at<'p>(side: &'p Side<'_>, place: usize) -> &'p [u8]
+    ensures { result.now ≡ path_at side.entry.now place }
+{
+    match side.listing().entry(place) {
+        Some(entry) => entry.path.as_bytes(),
+        None => &[],
+    }
 }
 
 // The line of a base that is new to an interface: whether it brings more to call than the old one offered.
@@ -185,15 +200,33 @@ fn base_line(sides: &Sides<'_>, interface: usize, base: usize) -> Result<Line, A
     ensures { IfOk result (λ line.
         line ≡ base_line sides.now.0 sides.now.1 interface base) }
 {
-    if !offers_all(sides, interface, base)? {
-        return Ok(Line::BringingBase);
+    let is_bare = offers_all_of(sides, interface, base)?;
+    if is_bare {
+        Ok(Line::BareBase)
+    } else {
+        Ok(Line::BringingBase)
     }
-    for above in sides.after().ancestors(base) {
-        if !offers_all(sides, interface, *above)? {
-            return Ok(Line::BringingBase);
+}
+
+// Whether an old interface offers all that a new one does.
+#[tactic(auto, unfolding(crate::specs::Offered::offers))]
+fn offers_all_of(sides: &Sides<'_>, interface: usize, base: usize) -> Result<bool, AllocError>
+    ensures { IfOk result (λ all. all
+        ≡ list_all (λ h. is_offered sides.now.0 interface (name_at sides.now.1 h))
+        (offers sides.now.1 base)) }
+{
+    let own_all = offers_all(sides, interface, base)?;
+    if !own_all {
+        return Ok(false);
+    }
+    let inherited = sides.after().ancestors(base);
+    for above in inherited {
+        let above_all = offers_all(sides, interface, *above)?;
+        if !above_all {
+            return Ok(false);
         }
     }
-    Ok(Line::BareBase)
+    Ok(true)
 }
 
 // Whether an old interface offers all that is in the scope of a new one.
@@ -202,13 +235,26 @@ fn offers_all(sides: &Sides<'_>, interface: usize, scope: usize) -> Result<bool,
         ≡ list_all (λ h. is_offered sides.now.0 interface (name_at sides.now.1 h))
         (called_in sides.now.1 scope)) }
 {
-    for called in sides.after().called_in(scope) {
-        if let Some(entry) = sides.after().listing().entry(*called) {
-            let name = name_of(&entry.path)?;
-            if sides.before().offered(interface, &name)?.is_none() {
-                return Ok(false);
-            }
+    let called = sides.after().called_in(scope);
+    for place in called {
+        let is_offered = offers_one(sides, interface, *place)?;
+        if !is_offered {
+            return Ok(false);
         }
     }
     Ok(true)
+}
+
+// Whether an old interface offers something of the name that the new entry at a place has.
+fn offers_one(sides: &Sides<'_>, interface: usize, place: usize) -> Result<bool, AllocError>
+    requires { place < length sides.now.1 }
+    ensures { IfOk result (λ offered.
+        offered ≡ is_offered sides.now.0 interface (name_at sides.now.1 place)) }
+{
+    let Some(entry) = sides.after().listing().entry(place) else {
+        return Ok(true);
+    };
+    let name = name_of(&entry.path)?;
+    let found = sides.before().offered(interface, &name)?;
+    Ok(found.is_some())
 }

@@ -1,8 +1,10 @@
 //! Parts of entries that are lists with names.
 
-ghost use Rattle.std.specs.Prelude.{◌≡◌, ◌+◌, ◌-◌, ◌^◌, ◌<◌, ◌++◌, [], IfOk, OnOk, flat_map, if◌then◌else◌, option_and_then, option_copied, slice_get};
+ghost use Rattle.std.specs.Prelude.{◌≡◌, ◌+◌, ◌-◌, ◌^◌, ◌<◌, ◌++◌, [], IfOk, OnOk, codes, decimal, false, flat_map, if◌then◌else◌, option_and_then, option_copied, slice_get, unwrap_or};
 ghost use Rattle.std.specs.List.{enumerate_from, zip};
-ghost use Rattle.idl_changes.specs.Differences.{direction_differences, item_differences, item_part, list_differences, name_differences, new_differences, order_differences, told};
+ghost use Rattle.std.specs.Option.{option_map_or};
+ghost use Rattle.idl_changes.specs.Differences.{direction_differences, item_differences, item_part, list_differences, matched_differences, name_differences, new_differences, order_differences, told};
+ghost use Rattle.idl_changes.specs.Rows.{item_word};
 
 use crate::change::{Difference, Turn};
 use crate::matched::{Named, in_order, marked, matches};
@@ -25,7 +27,6 @@ pub trait ListItem: Named {
     ghost both: { (old new : List RowTree) → Self → Self → List Difference };
 
     /// Compares it with the one that belongs to it.
-    #[tactic(auto, unfolding(crate::specs::Differences::parameter_differences))]
     fn compare(
         &self,
         new: &Self,
@@ -65,9 +66,23 @@ pub fn compare_lists<T: ListItem>(
         lists.now.before.now lists.now.after.now) }
 {
     let found = matches(*out.allocator(), lists.before, lists.after)?;
-    compare_items(sides, lists, &found, out)?;
-    push_new_items(lists, &found, out)?;
-    compare_orders(lists, &found, out)
+    compare_matched(sides, lists, &found, out)
+}
+
+// Compares lists, where these are the places of the new items to which the old ones belong.
+fn compare_matched<T: ListItem>(
+    sides: &Sides<'_>,
+    lists: &Lists<'_, T>,
+    found: &[Option<usize>],
+    out: &mut Vec<Difference>,
+) -> Result<(), AllocError>
+    ensures { OnOk result (out.new.items ≡ out.old.items
+        ++ matched_differences lists.now.item T.name_of (T.both sides.now.0 sides.now.1)
+        found.now lists.now.before.now lists.now.after.now) }
+{
+    compare_items(sides, lists, found, out)?;
+    push_new_items(lists, found, out)?;
+    compare_orders(lists, found, out)
 }
 
 // Compares each old item with the one to which it belongs.
@@ -84,19 +99,40 @@ fn compare_items<T: ListItem>(
         (enumerate_from 0 (zip lists.now.before.now found.now))) }
 {
     for (place, partner) in found.iter().enumerate() {
-        if let Some(item) = lists.before.get(place) {
-            let other = at_place(lists.after, *partner);
-            compare_item(sides, (lists.item, place), (item, other), out)?;
-        }
+        compare_item_at(sides, lists, (place, *partner), out)?;
     }
     Ok(())
+}
+
+// Compares the item at a place, if there is one, with the one at another, if there is one.
+fn compare_item_at<T: ListItem>(
+    sides: &Sides<'_>,
+    lists: &Lists<'_, T>,
+    places: (usize, Option<usize>),
+    out: &mut Vec<Difference>,
+) -> Result<(), AllocError>
+    requires { places.0 < 2 ^ 64 - 1 }
+    ensures { OnOk result (out.new.items ≡ out.old.items
+        ++ option_map_or (λ x. item_differences lists.now.item T.name_of
+        (T.both sides.now.0 sides.now.1) places.0 x
+        (option_and_then (slice_get lists.now.after.now) places.1))
+        (slice_get lists.now.before.now places.0) []) }
+{
+    let Some(item) = lists.before.get(places.0) else {
+        return Ok(());
+    };
+    let other = at_place(lists.after, places.1);
+    compare_item(sides, (lists.item, places.0), (item, other), out)
 }
 
 // The item at a place, if there is one.
 fn at_place<T>(items: &[T], place: Option<usize>) -> Option<&T>
     ensures { option_copied result ≡ option_and_then (slice_get items.now) place }
 {
-    items.get(place?)
+    match place {
+        Some(place) => items.get(place),
+        None => None,
+    }
 }
 
 // Compares an item at a place with the one to which it belongs, if there is one.
@@ -106,6 +142,7 @@ fn compare_item<T: ListItem>(
     pair: (&T, Option<&T>),
     out: &mut Vec<Difference>,
 ) -> Result<(), AllocError>
+    requires { at.1 < 2 ^ 64 - 1 }
     ensures { OnOk result (out.new.items ≡ out.old.items
         ++ item_differences at.0 T.name_of (T.both sides.now.0 sides.now.1) at.1
         pair.entry.0.now (option_copied pair.entry.1)) }
@@ -126,6 +163,7 @@ fn compare_names(
     names: (&Bytes, &Bytes),
     out: &mut Vec<Difference>,
 ) -> Result<(), AllocError>
+    requires { at.1 < 2 ^ 64 - 1 }
     ensures { OnOk result (out.new.items ≡ out.old.items
         ++ name_differences at.0 at.1 names.entry.0.now names.entry.1.now) }
 {
@@ -134,11 +172,20 @@ fn compare_names(
     if texts.0 == texts.1 {
         return Ok(());
     }
-    let mut part = Vec::from_slice(*out.allocator(), b"name of ")?;
+    let part = name_part(*out.allocator(), item, place + 1)?;
+    push_changed(Line::ItemName(item), &part, texts, out)
+}
+
+// The name of an item, by its number.
+fn name_part(alloc: Global, item: Item, number: usize) -> Result<Vec<u8>, AllocError>
+    ensures { IfOk result (λ part.
+        part.items ≡ codes "name of " ++ item_part item (decimal number)) }
+{
+    let mut part = Vec::from_slice(alloc, b"name of ")?;
     part.extend_from_slice(item_word(item))?;
     part.extend_from_slice(b" ")?;
-    push_number(&mut part, place + 1)?;
-    push_changed(Line::ItemName(item), &part, texts, out)
+    push_number(&mut part, number)?;
+    Ok(part)
 }
 
 // Tells what became of an item.
@@ -175,11 +222,22 @@ fn push_new_items<T: Named>(
         ++ flat_map (λ p. new_differences lists.now.item T.name_of found.now p.0 p.1)
         (enumerate_from 0 lists.now.after.now)) }
 {
-    let marks = marked(*out.allocator(), found, lists.after.len())?;
-    for (place, item) in lists.after.iter().enumerate() {
-        push_new_item((lists.item, item), place, marks[place], out)?;
+    let after = lists.after;
+    let marks = marked(*out.allocator(), found, after.len())?;
+    for (place, item) in after.iter().enumerate() {
+        push_new_item((lists.item, item), place, is_marked(&marks, place), out)?;
     }
     Ok(())
+}
+
+// Whether a place is marked.
+fn is_marked(marks: &[bool], place: usize) -> bool
+    ensures { result ≡ unwrap_or (slice_get marks.now place) false }
+{
+    match marks.get(place) {
+        Some(mark) => *mark,
+        None => false,
+    }
 }
 
 // Tells of a new item at a place, unless an old one belongs to it.
@@ -214,13 +272,22 @@ fn compare_orders<T: Named>(
     if in_order(found) {
         return Ok(());
     }
-    let mut part = Vec::from_slice(*out.allocator(), b"order of ")?;
-    part.extend_from_slice(item_word(lists.item))?;
-    part.extend_from_slice(b"s")?;
+    let part = order_part(*out.allocator(), lists.item)?;
     let was = in_a_row(*out.allocator(), lists.before)?;
     let is = in_a_row(*out.allocator(), lists.after)?;
     let texts = (was.as_slice(), is.as_slice());
     push_changed(Line::ItemOrder(lists.item), &part, texts, out)
+}
+
+// The order of items.
+fn order_part(alloc: Global, item: Item) -> Result<Vec<u8>, AllocError>
+    ensures { IfOk result (λ part.
+        part.items ≡ codes "order of " ++ (item_word item ++ codes "s")) }
+{
+    let mut part = Vec::from_slice(alloc, b"order of ")?;
+    part.extend_from_slice(item_word(item))?;
+    part.extend_from_slice(b"s")?;
+    Ok(part)
 }
 
 impl Named for Bytes {
@@ -238,7 +305,6 @@ impl ListItem for Bytes {
 
     ghost both = { λ old new. no_differences };
 
-    #[tactic(auto, unfolding(crate::specs::Differences::parameter_differences))]
     fn compare(
         &self,
         _new: &Bytes,

@@ -1,6 +1,6 @@
 //! Parts of entries that refer to others: exceptions, in any order, and the base of a struct.
 
-ghost use Rattle.std.specs.Prelude.{◌≡◌, ◌++◌, ◌∷◌, [], OnOk, codes};
+ghost use Rattle.std.specs.Prelude.{◌≡◌, ◌++◌, [], OnOk, codes, if◌then◌else◌};
 ghost use Rattle.std.specs.Cmp.Lexicographic.{pointwise};
 ghost use Rattle.std.specs.List.{list_any};
 ghost use Rattle.idl_changes.specs.Differences.{base_differences, gone_references, new_references, reference_differences, told};
@@ -55,8 +55,10 @@ fn push_gone(
     out: &mut Vec<Difference>,
 ) -> Result<(), AllocError>
     ensures { OnOk result (out.new.items ≡ out.old.items
-        ++ gone_references sides.now.0 sides.now.1 named.entry.0.now
-        (named.entry.1.now ∷ []) others.now) }
+        ++ (if list_any (is_same_reference sides.now.0 sides.now.1 named.entry.1.now) others.now
+        then []
+        else told Line.ExceptionGone (named.entry.0.now ++ (codes " " ++ named.entry.1.now.path))
+        Turn.Gone)) }
 {
     if goes_on(sides, named.1, others) {
         return Ok(());
@@ -98,8 +100,11 @@ fn push_new(
     out: &mut Vec<Difference>,
 ) -> Result<(), AllocError>
     ensures { OnOk result (out.new.items ≡ out.old.items
-        ++ new_references sides.now.0 sides.now.1 named.entry.0.now others.now
-        (named.entry.1.now ∷ [])) }
+        ++ (if list_any (λ r. is_same_reference sides.now.0 sides.now.1 r named.entry.1.now)
+        others.now
+        then []
+        else told Line.ExceptionNew (named.entry.0.now ++ (codes " " ++ named.entry.1.now.path))
+        Turn.New)) }
 {
     if was_there(sides, named.1, others) {
         return Ok(());
@@ -160,13 +165,15 @@ pub fn compare_bases(
 fn are_same(sides: &Sides<'_>, old: &[Reference], new: &[Reference]) -> bool
     ensures { result ≡ pointwise (is_same_reference sides.now.0 sides.now.1) old.now new.now }
 {
-    match (old.split_first(), new.split_first()) {
-        (None, None) => true,
-        (Some((first, rest)), Some((other, others))) => {
-            sides.is_same_reference(first, other) && are_same(sides, rest, others)
-        }
-        _ => false,
+    if old.len() != new.len() {
+        return false;
     }
+    for (place, reference) in old.iter().enumerate() {
+        if !sides.is_same_reference(reference, &new[place]) {
+            return false;
+        }
+    }
+    true
 }
 
 impl Named for Reference {

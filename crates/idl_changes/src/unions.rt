@@ -35,10 +35,10 @@ pub fn compare_unions(
     let types = (&old.discriminator, &new.discriminator);
     compare_types(sides, b"discriminator", types, out)?;
     let alloc = *out.allocator();
-    let names = sides.before().enumerators(&old.discriminator)?;
-    let before = Labels::new(alloc, names, old.cases.as_slice())?;
-    let names = sides.after().enumerators(&new.discriminator)?;
-    let after = Labels::new(alloc, names, new.cases.as_slice())?;
+    let was = sides.before().enumerators(&old.discriminator)?;
+    let before = Labels::new(alloc, was, old.cases.as_slice())?;
+    let is = sides.after().enumerators(&new.discriminator)?;
+    let after = Labels::new(alloc, is, new.cases.as_slice())?;
     compare_cases(sides, &before, &after, out)
 }
 

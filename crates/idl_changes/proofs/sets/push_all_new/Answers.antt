@@ -1,8 +1,7 @@
-use Rattle.std.proofs.Common.{◌∙◌, ◌++◌, [], List, append-nil, ap, codes, if◌then◌else◌, refl}
+use Rattle.std.proofs.Common.{◌++◌, [], codes, if◌then◌else◌, refl}
 use Rattle.std.specs.List.{list_any}
 use Rattle.idl_changes.specs.Differences.{told}
 use Rattle.idl_changes.specs.Partners.{is_same_reference}
-use Rattle.idl_changes.specs.declared.change.Difference.{Difference}
 use Rattle.idl_changes.specs.declared.change.Turn.TheVariants as turn
 use Rattle.idl_changes.specs.declared.rows.Line.TheVariants as line
 use Rattle.idl_changes.proofs.StepLemmas.{all-told, left-told}
@@ -19,7 +18,7 @@ loop-reference-preserved c =
     let out = c.loop-reference.out.items in
     let f = λ (s : Reference). if list_any (λ r. is_same_reference sides.0 sides.1 r s) olds then [] else told line.ExceptionNew (part ++ (codes " " ++ s.path)) turn.New in
     left-told f news news refl c.loop-reference.reference-index item out c.push_new.new.out.items _ c.loop-reference-test.true c.reference-item.is
-    (c.in_ok-push_new.ensures ∙ ap (λ (ds : List Difference). out ++ ds) (append-nil (f item))) c.loop-reference.invariant
+    c.in_ok-push_new.ensures c.loop-reference.invariant
 
 pub returns : goal.returns
 returns c =
