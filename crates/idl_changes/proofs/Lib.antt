@@ -20,4 +20,5 @@ mod SideLemmas
 mod MatchLemmas
 mod LayoutLemmas
 mod SentLemmas
+mod UnionLemmas
 mod SpeakLemmas

@@ -73,7 +73,7 @@ get-past [] i is = omega arith
 get-past (x ∷ xs) zero is = cc
 get-past (x ∷ xs) (suc i) is = let rest = get-past xs i is in omega (arith, rest)
 
-pub some-copied : (o : Option (Bor ℕ)) → is_some (option_copied o) ≡ is_some o
+pub some-copied : {X : Type 0} (o : Option (Bor X)) → is_some (option_copied o) ≡ is_some o
 some-copied None = refl
 some-copied (Some k) = refl
 

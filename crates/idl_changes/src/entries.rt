@@ -1,9 +1,9 @@
 //! What is told of an entry: how it differs from the one to which it belongs, or that it is gone or new.
 
-ghost use Rattle.std.specs.Prelude.{◌≡◌, ◌++◌, [], IfOk, OnOk, map};
+ghost use Rattle.std.specs.Prelude.{◌≡◌, ◌++◌, [], IfOk, OnOk, false, map};
 ghost use Rattle.std.specs.Option.{option_and_then, option_map_or};
-ghost use Rattle.idl_changes.specs.Differences.{added_differences, called_gone, called_new, differences, entry_differences, gone_differences, id_line, is_called_locally, kind_differences};
-ghost use Rattle.idl_changes.specs.Listing.{interface_of};
+ghost use Rattle.idl_changes.specs.Differences.{added_differences, as_called, body_differences, called_gone, called_new, differences, entry_differences, gone_differences, gone_line, id_line, is_called_locally, kind_differences, path_differences};
+ghost use Rattle.idl_changes.specs.Listing.{interface_of, is_local_at};
 ghost use Rattle.idl_changes.specs.Partners.{joined};
 ghost use Rattle.idl_changes.specs.Rows.{eased};
 ghost use Rattle.idl_changes.specs.declared.change.Difference.{Difference};
@@ -11,7 +11,7 @@ ghost use Rattle.idl_changes.specs.declared.change.Difference.{Difference};
 use crate::change::{Difference, Turn};
 use crate::details::compare_details;
 use crate::interfaces::compare_interfaces;
-use crate::listing::{is_called, is_interface, is_local, is_sent_kind, name_of};
+use crate::listing::{Listing, is_called, is_interface, is_local, is_sent_kind, name_of};
 use crate::parts::{compare_texts, push_changed, push_told};
 use crate::rows::{Line, eased};
 use crate::sides::{Sides, own_interface};
@@ -32,10 +32,25 @@ pub fn differences(
 {
     let mut told = Vec::new(alloc);
     compare_entries(sides, places, entries, &mut told)?;
-    if is_called_locally(sides, entries.0)? {
-        ease(&mut told);
+    as_called(sides, entries.0, told)
+}
+
+// What is told of an entry, for whom it counts where that is called on a local interface.
+fn as_called(
+    sides: &Sides<'_>,
+    entry: &RowTree,
+    told: Vec<Difference>,
+) -> Result<Vec<Difference>, AllocError>
+    ensures { IfOk result (λ counted. counted.items
+        ≡ as_called sides.now.0 sides.now.1 entry.now told.items) }
+{
+    let is_local = is_called_locally(sides, entry)?;
+    if !is_local {
+        return Ok(told);
     }
-    Ok(told)
+    let mut counted = told;
+    ease(&mut counted);
+    Ok(counted)
 }
 
 // Compares entries: their ids, their paths, and what they are.
@@ -51,11 +66,23 @@ fn compare_entries(
     let (old, new) = entries;
     let ids = (old.id.as_bytes(), new.id.as_bytes());
     compare_texts(id_line(old.kind), b"id", ids, out)?;
-    if !is_called(old) {
-        let paths = (old.path.as_bytes(), new.path.as_bytes());
-        compare_texts(Line::Path, b"path", paths, out)?;
-    }
+    compare_paths(old, new, out)?;
     compare_kinds(sides, places, entries, out)
+}
+
+// Compares the paths of what isn't called.
+fn compare_paths(
+    old: &RowTree,
+    new: &RowTree,
+    out: &mut Vec<Difference>,
+) -> Result<(), AllocError>
+    ensures { OnOk result (out.new.items ≡ out.old.items ++ path_differences old.now new.now) }
+{
+    if is_called(old) {
+        return Ok(());
+    }
+    let paths = (old.path.as_bytes(), new.path.as_bytes());
+    compare_texts(Line::Path, b"path", paths, out)
 }
 
 // The line of another id.
@@ -80,15 +107,28 @@ fn compare_kinds(
         sides.now.1 places.0 places.1 entries.entry.0.now entries.entry.1.now) }
 {
     let (old, new) = entries;
-    if old.kind != new.kind {
-        let kinds = (kind_word(old.kind), kind_word(new.kind));
-        return push_changed(Line::Kind, b"kind", kinds, out);
+    if old.kind == new.kind {
+        return compare_bodies(sides, places, entries, out);
     }
+    let kinds = (kind_word(old.kind), kind_word(new.kind));
+    push_changed(Line::Kind, b"kind", kinds, out)
+}
+
+// Compares what is told of entries of one kind.
+fn compare_bodies(
+    sides: &Sides<'_>,
+    places: (usize, usize),
+    entries: (&RowTree, &RowTree),
+    out: &mut Vec<Difference>,
+) -> Result<(), AllocError>
+    ensures { OnOk result (out.new.items ≡ out.old.items ++ body_differences sides.now.0
+        sides.now.1 places.0 places.1 entries.entry.0.now entries.entry.1.now) }
+{
+    let (old, new) = entries;
     if is_interface(old) {
-        compare_interfaces(sides, places, entries, out)
-    } else {
-        compare_details(sides, &old.details, &new.details, out)
+        return compare_interfaces(sides, places, entries, out);
     }
+    compare_details(sides, &old.details, &new.details, out)
 }
 
 // Whether an entry of the old listing is called on a local interface.
@@ -100,12 +140,20 @@ fn is_called_locally(sides: &Sides<'_>, entry: &RowTree) -> Result<bool, AllocEr
         return Ok(false);
     }
     let listing = sides.before().listing();
-    let Some(place) = listing.interface_of(entry)? else {
-        return Ok(false);
+    let place = listing.interface_of(entry)?;
+    Ok(is_local_at(listing, place))
+}
+
+// Whether a local interface stands at a place, if there is one.
+fn is_local_at(listing: &Listing<'_>, place: Option<usize>) -> bool
+    ensures { result ≡ option_map_or (is_local_at listing.now) place false }
+{
+    let Some(place) = place else {
+        return false;
     };
     match listing.entry(place) {
-        Some(interface) => Ok(is_local(interface)),
-        None => Ok(false),
+        Some(interface) => is_local(interface),
+        None => false,
     }
 }
 
@@ -134,13 +182,19 @@ pub fn gone_differences(
         return called_gone(alloc, sides, place, entry);
     }
     let mut told = Vec::new(alloc);
-    let line = if is_sent_kind(entry.kind) {
+    push_told(gone_line(entry.kind), b"", Turn::Gone, &mut told)?;
+    Ok(told)
+}
+
+// The line of what is gone.
+fn gone_line(kind: Kind) -> Line
+    ensures { result ≡ gone_line kind }
+{
+    if is_sent_kind(kind) {
         Line::SentGone
     } else {
         Line::UnsentGone
-    };
-    push_told(line, b"", Turn::Gone, &mut told)?;
-    Ok(told)
+    }
 }
 
 // The same of a called one: it is told where its interface belongs to one.
@@ -162,14 +216,10 @@ fn called_gone(
         return Ok(told);
     }
     push_told(Line::CalledGone, b"", Turn::Gone, &mut told)?;
-    if is_called_locally(sides, entry)? {
-        ease(&mut told);
-    }
-    Ok(told)
+    as_called(sides, entry, told)
 }
 
 /// What is told of an entry of the new listing: that it is new, if it is.
-#[tactic(auto, unfolding(crate::specs::Differences::added_differences))]
 pub fn added_differences(
     alloc: Global,
     sides: &Sides<'_>,
@@ -180,12 +230,28 @@ pub fn added_differences(
         ≡ added_differences sides.now.0 sides.now.1 place entry.now) }
 {
     let mut told = Vec::new(alloc);
-    if is_called(entry) {
-        push_called_new(sides, entry, &mut told)?;
-    } else if sides.joined_back(place).is_none() {
-        push_told(Line::EntryNew, b"", Turn::New, &mut told)?;
-    }
+    push_added(sides, place, entry, &mut told)?;
     Ok(told)
+}
+
+// Tells that an entry is new, if it is.
+#[tactic(auto, unfolding(crate::specs::Differences::added_differences))]
+fn push_added(
+    sides: &Sides<'_>,
+    place: usize,
+    entry: &RowTree,
+    out: &mut Vec<Difference>,
+) -> Result<(), AllocError>
+    ensures { OnOk result (out.new.items
+        ≡ out.old.items ++ added_differences sides.now.0 sides.now.1 place entry.now) }
+{
+    if is_called(entry) {
+        return push_called_new(sides, entry, out);
+    }
+    if sides.joined_back(place).is_some() {
+        return Ok(());
+    }
+    push_told(Line::EntryNew, b"", Turn::New, out)
 }
 
 // Tells that a called entry is new, where the old interface offers none of its name.

@@ -1,9 +1,11 @@
 //! Unions, which are compared by what each label selects: neither the order of cases nor which labels share one counts.
 
-ghost use Rattle.std.specs.Prelude.{◌≡◌, ◌++◌, OnOk, codes, flat_map, option_copied};
-ghost use Rattle.idl_changes.specs.Differences.{case_differences, cases_differences, new_label_differences, old_label_differences, selection_differences, union_differences};
+ghost use Rattle.std.specs.Prelude.{◌≡◌, ◌++◌, OnOk, flat_map, option_copied};
+ghost use Rattle.idl_changes.specs.Differences.{case_differences, cases_differences, label_differences, new_label, new_label_differences, old_label_differences, selection_differences, union_differences};
+ghost use Rattle.idl_changes.specs.Plain.{enumerators};
 
 use crate::change::{Difference, Turn};
+use crate::keys::NumberedText;
 use crate::labels::Labels;
 use crate::parts::{compare_texts, part_of, push_told};
 use crate::rows::Line;
@@ -34,12 +36,27 @@ pub fn compare_unions(
 {
     let types = (&old.discriminator, &new.discriminator);
     compare_types(sides, b"discriminator", types, out)?;
+    compare_bodies(sides, old, new, out)
+}
+
+// Compares what stands behind the types of their discriminators.
+fn compare_bodies(
+    sides: &Sides<'_>,
+    old: &UnionTree,
+    new: &UnionTree,
+    out: &mut Vec<Difference>,
+) -> Result<(), AllocError>
+    ensures { OnOk result (out.new.items ≡ out.old.items
+        ++ cases_differences sides.now.0 sides.now.1
+        (enumerators sides.now.0 old.now.discriminator, old.now.cases)
+        (enumerators sides.now.1 new.now.discriminator, new.now.cases)) }
+{
     let alloc = *out.allocator();
-    let was = sides.before().enumerators(&old.discriminator)?;
-    let before = Labels::new(alloc, was, old.cases.as_slice())?;
-    let is = sides.after().enumerators(&new.discriminator)?;
-    let after = Labels::new(alloc, is, new.cases.as_slice())?;
-    compare_cases(sides, &before, &after, out)
+    let old_names = sides.before().enumerators(&old.discriminator)?;
+    let old_labels = Labels::new(alloc, old_names, old.cases.as_slice())?;
+    let new_names = sides.after().enumerators(&new.discriminator)?;
+    let new_labels = Labels::new(alloc, new_names, new.cases.as_slice())?;
+    compare_cases(sides, &old_labels, &new_labels, out)
 }
 
 // Compares what labels select, and what `default` does.
@@ -92,10 +109,8 @@ fn compare_old_label(
     let Some(text) = &case.label else {
         return Ok(());
     };
-    let (old, new) = unions;
-    let label = old.label_of(text)?;
-    let selected = (old.selected(&label), new.selected(&label));
-    compare_label(sides, text, selected, out)
+    let label = unions.0.label_of(text)?;
+    compare_label(sides, unions, (text, &label), out)
 }
 
 // Compares what each label selects that the new union has besides.
@@ -127,34 +142,46 @@ fn compare_new_label(
     let Some(text) = &case.label else {
         return Ok(());
     };
-    let (old, new) = unions;
-    let label = new.label_of(text)?;
-    if old.labelled(&label).is_some() {
+    let label = unions.1.label_of(text)?;
+    compare_added(sides, unions, (text, &label), out)
+}
+
+// Compares what a label selects, unless the old union has it.
+fn compare_added(
+    sides: &Sides<'_>,
+    unions: (&Labels<'_>, &Labels<'_>),
+    named: (&Bytes, &NumberedText),
+    out: &mut Vec<Difference>,
+) -> Result<(), AllocError>
+    ensures { OnOk result (out.new.items ≡ out.old.items ++ new_label sides.now.0 sides.now.1
+        unions.entry.0.now unions.entry.1.now named.entry.0.now named.entry.1.now) }
+{
+    if unions.0.labelled(named.1).is_some() {
         return Ok(());
     }
-    let selected = (old.selected(&label), new.selected(&label));
-    compare_label(sides, text, selected, out)
+    compare_label(sides, unions, named, out)
 }
 
 // Compares what a label selects.
 fn compare_label(
     sides: &Sides<'_>,
-    text: &Bytes,
-    selected: (Option<&CaseTree>, Option<&CaseTree>),
+    unions: (&Labels<'_>, &Labels<'_>),
+    named: (&Bytes, &NumberedText),
     out: &mut Vec<Difference>,
 ) -> Result<(), AllocError>
-    ensures { OnOk result (out.new.items ≡ out.old.items
-        ++ selection_differences sides.now.0 sides.now.1 Line.CaseGone Line.CaseNew
-        (codes "case " ++ text.now) (option_copied selected.entry.0)
-        (option_copied selected.entry.1)) }
+    ensures { OnOk result (out.new.items ≡ out.old.items ++ label_differences sides.now.0
+        sides.now.1 unions.entry.0.now unions.entry.1.now named.entry.0.now named.entry.1.now) }
 {
+    let (text, label) = named;
     let part = part_of(*out.allocator(), b"case ", text)?;
     let choice = Choice {
         gone: Line::CaseGone,
         added: Line::CaseNew,
         part: &part,
     };
-    compare_selected(sides, &choice, selected, out)
+    let before = unions.0.selected(label);
+    let after = unions.1.selected(label);
+    compare_selected(sides, &choice, (before, after), out)
 }
 
 // Compares what was selected with what is.
