@@ -106,6 +106,11 @@ pub all-told-left : (test : ℕ → Bool) (f : ℕ → List ℕ) (items xs : Lis
 all-told-left test f items xs same i past =
     ap (λ (ys : List ℕ). list_all test (flat_map f (drop i ys))) (sym same) ∙ ap (λ (ys : List ℕ). list_all test (flat_map f ys)) (drop_all i items past)
 
+-- nothing is left
+pub none-left : {X : Type 0} (xs : List X) → length xs ≡ 0 → xs ≡ []
+none-left [] is = refl
+none-left (x ∷ xs) is = absurd (omega (arith, is))
+
 -- where one is told of only if a test fails
 pub told-unless : {Y : Type 0} (b : Bool) (out more told : List Y) → (b ≡ true → more ≡ out) → (b ≡ false → more ≡ out ++ told) → more ≡ out ++ (if b then [] else told)
 told-unless true out more told stays puts = stays refl ∙ sym (append-nil out)

@@ -1,9 +1,9 @@
 //! What is told of an entry: how it differs from the one to which it belongs, or that it is gone or new.
 
-ghost use Rattle.std.specs.Prelude.{◌≡◌, ◌++◌, [], IfOk, OnOk, false, map};
+ghost use Rattle.std.specs.Prelude.{◌≡◌, ◌++◌, [], IfOk, OnOk, codes, false, if◌then◌else◌, map};
 ghost use Rattle.std.specs.Option.{option_and_then, option_map_or};
-ghost use Rattle.idl_changes.specs.Differences.{added_differences, as_called, body_differences, called_gone, called_new, differences, entry_differences, gone_differences, gone_line, id_line, is_called_locally, kind_differences, path_differences};
-ghost use Rattle.idl_changes.specs.Listing.{interface_of, is_local_at};
+ghost use Rattle.idl_changes.specs.Differences.{added_differences, as_called, body_differences, called_gone, called_new, differences, entry_differences, gone_differences, gone_line, id_line, is_called_locally, kind_differences, text_differences};
+ghost use Rattle.idl_changes.specs.Listing.{interface_of, is_called, is_local_at};
 ghost use Rattle.idl_changes.specs.Partners.{joined};
 ghost use Rattle.idl_changes.specs.Rows.{eased};
 ghost use Rattle.idl_changes.specs.declared.change.Difference.{Difference};
@@ -45,12 +45,7 @@ fn as_called(
         ≡ as_called sides.now.0 sides.now.1 entry.now told.items) }
 {
     let is_local = is_called_locally(sides, entry)?;
-    if !is_local {
-        return Ok(told);
-    }
-    let mut counted = told;
-    ease(&mut counted);
-    Ok(counted)
+    if is_local { all_eased(told) } else { Ok(told) }
 }
 
 // Compares entries: their ids, their paths, and what they are.
@@ -76,7 +71,9 @@ fn compare_paths(
     new: &RowTree,
     out: &mut Vec<Difference>,
 ) -> Result<(), AllocError>
-    ensures { OnOk result (out.new.items ≡ out.old.items ++ path_differences old.now new.now) }
+    ensures { OnOk result (out.new.items ≡ out.old.items ++ (if is_called old.now
+        then []
+        else text_differences Line.Path (codes "path") old.now.path new.now.path)) }
 {
     if is_called(old) {
         return Ok(());
@@ -157,13 +154,31 @@ fn is_local_at(listing: &Listing<'_>, place: Option<usize>) -> bool
     }
 }
 
-// Has what is called on a local interface count for source alone.
-fn ease(told: &mut Vec<Difference>)
-    ensures { told.new.items
-        ≡ map (λ (d : Difference). record d { weights = eased d.weights }) told.old.items }
+// Differences as they count where something is called on a local interface.
+fn all_eased(told: Vec<Difference>) -> Result<Vec<Difference>, AllocError>
+    ensures { IfOk result (λ all. all.items
+        ≡ map (λ (d : Difference). record d { weights = eased d.weights }) told.items) }
 {
-    for difference in told.iter_mut() {
-        difference.weights = eased(difference.weights);
+    let mut all = Vec::new(*told.allocator());
+    for difference in told {
+        all.push(eased_difference(difference))?;
+    }
+    Ok(all)
+}
+
+// One of them.
+fn eased_difference(difference: Difference) -> Difference
+    ensures { result ≡ record difference { weights = eased difference.weights } }
+{
+    let Difference {
+        weights,
+        part,
+        turn,
+    } = difference;
+    Difference {
+        weights: eased(weights),
+        part,
+        turn,
     }
 }
 
@@ -268,11 +283,25 @@ fn push_called_new(
     let Some(interface) = sides.after().listing().interface_of(entry)? else {
         return Ok(());
     };
-    let Some(partner) = sides.joined_back(interface) else {
+    push_new_on(sides, sides.joined_back(interface), entry, out)
+}
+
+// Tells that a called entry is new, where the old interface at a place, if there is one, offers none of its name.
+fn push_new_on(
+    sides: &Sides<'_>,
+    place: Option<usize>,
+    entry: &RowTree,
+    out: &mut Vec<Difference>,
+) -> Result<(), AllocError>
+    ensures { OnOk result (out.new.items ≡ out.old.items
+        ++ option_map_or (called_new sides.now.0 sides.now.1 entry.now) place []) }
+{
+    let Some(place) = place else {
         return Ok(());
     };
     let name = name_of(&entry.path)?;
-    if sides.before().offered(partner, &name)?.is_some() {
+    let found = sides.before().offered(place, &name)?;
+    if found.is_some() {
         return Ok(());
     }
     push_told(Line::CalledNew, b"", Turn::New, out)
