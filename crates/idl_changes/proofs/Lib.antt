@@ -21,4 +21,6 @@ mod MatchLemmas
 mod LayoutLemmas
 mod SentLemmas
 mod UnionLemmas
+mod PathLemmas
+mod LineLemmas
 mod SpeakLemmas

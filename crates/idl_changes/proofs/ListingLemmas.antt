@@ -1,7 +1,7 @@
 -- Names in paths, byte by byte, and entries that are lent.
 use Rattle.std.proofs.Common.{Bor, MatchOption, ◌≡◌, ◌∙◌, ◌+◌, ◌<◌, ◌≤◌, ◌++◌, ◌∷◌, [], ℕ, Bool, List, None, Option, Some, ap, arith, drop, false, get_or, if◌then◌else◌, length, length-drop, map, nat_eq, refl, sym, take, true}
 use Rattle.std.specs.List.{HoldsAt, slice_get, slice_range}
-use Rattle.std.specs.Option.{option_copied}
+use Rattle.std.specs.Option.{is_some, option_copied}
 use Rattle.std.proofs.lemmas.List.{drop-append-le, drop_all, get_or-map, length-map, length-take-le, map_more, take_all, take_more, take_rest}
 use Rattle.std.proofs.lemmas.Option.{slice_get-get_or, slice_get_past, slice_get_read}
 use Rattle.std.proofs.lemmas.List.Sums.{fold_push}
@@ -72,6 +72,11 @@ name-end path i start past within so_far =
       take_rest path start ∙ name,
       omega (arith, within, left, ap length name),
     )
+
+-- whether something is found that is lent
+pub some-lent : {X : Type 0} (o : Option (Bor X)) → is_some (option_copied o) ≡ is_some o
+some-lent None = refl
+some-lent (Some x) = refl
 
 -- what `get` finds
 pub got-item : {X : Type 0} (xs : List X) (i : ℕ) (found : Option (Bor X)) → MatchOption found (length xs ≤ i) (λ x. (i < length xs) × HoldsAt (λ y. x.now ≡ y) xs i)

@@ -15,7 +15,7 @@ use Rattle.idl_changes.specs.Tables.{each}
 use Rattle.idl_changes.proofs.AncestorLemmas.{inherited-none}
 use Rattle.idl_changes.proofs.EntryLemmas.{interface-found}
 use Rattle.idl_changes.proofs.HasLemmas.{Has, all-has, at-has, passing-place}
-use Rattle.idl_changes.proofs.TableLemmas.{get-past, place-next, slice_get-each}
+use Rattle.idl_changes.proofs.TableLemmas.{place-next, slice_get-each}
 use Rattle.idl_repo.specs.declared.details.row_tree.RowTree.{RowTree}
 
 -- ---- what a function of the place gives, where it gives nothing past the last
@@ -185,6 +185,11 @@ module _ (lists : ℕ → List ℕ) (place : ℕ) where
 length-enumerate : (n : ℕ) (L : List RowTree) → length (enumerate_from n L) ≡ length L
 length-enumerate n [] = refl
 length-enumerate n (x ∷ xs) = ap suc (length-enumerate (n + 1) xs)
+
+pub get-past : {X : Type 0} (xs : List X) (i : ℕ) → slice_get xs i ≡ None → length xs ≤ i
+get-past [] i is = omega arith
+get-past (x ∷ xs) zero is = cc
+get-past (x ∷ xs) (suc i) is = let rest = get-past xs i is in omega (arith, rest)
 
 same-pairs : (n : ℕ) (L : List RowTree) → map (λ (p : ℕ × RowTree). (p.0, p.1)) (enumerate_from n L) ≡ enumerate_from n L
 same-pairs n [] = refl

@@ -8,7 +8,7 @@ use Rattle.std.proofs.lemmas.List.Concat.{flat_map-append}
 use Rattle.std.proofs.lemmas.List.Folds.{list_all-append, list_any-append}
 use Rattle.std.proofs.lemmas.Option.{same_Some, slice_get-get_or, slice_get-map, slice_get_within}
 use Rattle.idl_changes.specs.Matched.{in_order_from, is_matched}
-use Rattle.idl_changes.proofs.TableLemmas.{get-past}
+use Rattle.idl_changes.proofs.SideLemmas.{get-past}
 
 -- ---- what is told of those that are left comes behind; the items are lent
 

@@ -68,12 +68,7 @@ get-within [] i within = absurd (omega (arith, within))
 get-within (x ∷ xs) zero within = (x, refl)
 get-within (x ∷ xs) (suc i) within = get-within xs i (omega (arith, within))
 
-pub get-past : {X : Type 0} (xs : List X) (i : ℕ) → slice_get xs i ≡ None → length xs ≤ i
-get-past [] i is = omega arith
-get-past (x ∷ xs) zero is = cc
-get-past (x ∷ xs) (suc i) is = let rest = get-past xs i is in omega (arith, rest)
-
-pub some-copied : {X : Type 0} (o : Option (Bor X)) → is_some (option_copied o) ≡ is_some o
+pub some-copied : (o : Option (Bor ℕ)) → is_some (option_copied o) ≡ is_some o
 some-copied None = refl
 some-copied (Some k) = refl
 

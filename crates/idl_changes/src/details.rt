@@ -1,7 +1,7 @@
 //! What entries that belong together tell behind their ids.
 
 ghost use Rattle.std.specs.Prelude.{◌≡◌, ◌++◌, OnOk};
-ghost use Rattle.idl_changes.specs.Differences.{attribute_differences, constant_differences, declared_differences, details_differences, members_differences, operation_differences, readonly_line, set_differences};
+ghost use Rattle.idl_changes.specs.Differences.{attribute_differences, constant_differences, declared_differences, details_differences, members_differences, operation_differences, parts_differences, readonly_line, set_differences};
 
 use crate::change::Difference;
 use crate::lists::{Lists, compare_lists};
@@ -58,13 +58,28 @@ fn compare_declared(
     ensures { OnOk result (out.new.items ≡ out.old.items
         ++ declared_differences sides.now.0 sides.now.1 old.now new.now) }
 {
-    match (&old.code.parts, &new.code.parts) {
+    let was = (old, &old.code.parts);
+    compare_parts(sides, was, (new, &new.code.parts), out)
+}
+
+// Compares what stands behind the names in TypeCodes.
+fn compare_parts(
+    sides: &Sides<'_>,
+    old: (&DeclaredType, &TypeCodeParts),
+    new: (&DeclaredType, &TypeCodeParts),
+    out: &mut Vec<Difference>,
+) -> Result<(), AllocError>
+    ensures { OnOk result (out.new.items ≡ out.old.items
+        ++ parts_differences sides.now.0 sides.now.1 old.entry.0.now new.entry.0.now
+        old.entry.1.now new.entry.1.now) }
+{
+    match (old.1, new.1) {
         (TypeCodeParts::ObjectReference, TypeCodeParts::ObjectReference)
         | (TypeCodeParts::LocalInterface, TypeCodeParts::LocalInterface)
         | (TypeCodeParts::Native, TypeCodeParts::Native) => Ok(()),
         (TypeCodeParts::Structure(was), TypeCodeParts::Structure(is))
         | (TypeCodeParts::Exception(was), TypeCodeParts::Exception(is)) => {
-            compare_members(sides, (old, was), (new, is), out)
+            compare_members(sides, (old.0, was), (new.0, is), out)
         }
         (TypeCodeParts::Union(was), TypeCodeParts::Union(is)) => {
             compare_unions(sides, was, is, out)
@@ -80,10 +95,10 @@ fn compare_declared(
         (TypeCodeParts::Alias(was), TypeCodeParts::Alias(is)) => {
             compare_types(sides, b"type", (was, is), out)
         }
-        (was, is) => push_changed(
+        _ => push_changed(
             Line::Kind,
             b"TypeCode",
-            (code_word(was), code_word(is)),
+            (code_word(old.1), code_word(new.1)),
             out,
         ),
     }

@@ -5,7 +5,7 @@ use Rattle.std.proofs.lemmas.Option.{same_Some, slice_get-get_or}
 use Rattle.idl_changes.specs.Listing.{by_id}
 use Rattle.idl_changes.specs.Partners.{joined}
 use Rattle.idl_changes.specs.Tables.{each}
-use Rattle.idl_changes.proofs.JoinedLemmas.{joined-by}
+use Rattle.idl_changes.proofs.PathLemmas.{joined-by}
 use Rattle.idl_changes.proofs.TableLemmas.{each-next, get-within, length-from, slice_get-each}
 use Rattle.idl_repo.specs.declared.details.row_tree.RowTree.{RowTree}
 use Rattle.idl_changes.proofs.joined.all_joined.Goals as goal
