@@ -110,7 +110,7 @@ named-plain : (ms : Members) (f l m : Data) → members_have_float ms ≡ false 
 named-plain ms f l m plain ff ll mm =
     put-plain (codes "main") m (put (codes "line") l (put (codes "file") f ms)) mm (put-plain (codes "line") l (put (codes "file") f ms) ll (put-plain (codes "file") f ms ff plain))
 
-column-plain : (ms : Members) (c : Option ℕ) → members_have_float ms ≡ false → members_have_float (with_fields ms (column_field c)) ≡ false
+pub column-plain : (ms : Members) (c : Option ℕ) → members_have_float ms ≡ false → members_have_float (with_fields ms (column_field c)) ≡ false
 column-plain ms None plain = plain
 column-plain ms (Some before) plain = put-plain (codes "column") (number_json (before + 1)) ms refl plain
 

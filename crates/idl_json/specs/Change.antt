@@ -2,7 +2,7 @@
 -- declared.
 use Rattle.std.specs.Prelude.{ℕ, List, [], ◌∷◌, ◌++◌, codes, Option, None, Some}
 use Rattle.std.specs.Option.{option_map}
-use Rattle.serde_json.specs.Data.{Data, no_members, object}
+use Rattle.serde_json.specs.Data.{Data, Members, no_members, object}
 use Rattle.serde_json.specs.Written.{compact_text}
 use Rattle.idl_changes.specs.Changes.{weight_names}
 use Rattle.idl_changes.specs.declared.change.Difference.{Difference}
@@ -53,14 +53,19 @@ shown_fields (Some p) =
     (codes "file", text_json p.place.file)
     ∷ (codes "line", number_json p.place.line) ∷ column_field (kept_column p.column)
 
-abbrev pub change_fields : LocatedChange → List Field
-change_fields c =
-    (codes "weights", texts_json (weight_names c.difference.weights))
-    ∷ (entry_fields c.tree ++ (part_fields c.difference.part
-    ++ (turn_fields c.difference.turn ++ shown_fields c.declared)))
+-- of which entry a change is, and for whom it counts
+abbrev pub told_of : RowTree → List (List ℕ) → Members
+told_of e weights =
+    with_fields no_members ((codes "weights", texts_json weights) ∷ entry_fields e)
 
 abbrev pub change_json : LocatedChange → Data
-change_json c = object (with_fields no_members (change_fields c))
+change_json c =
+    object (with_fields
+    (with_fields
+    (with_fields (told_of c.tree (weight_names c.difference.weights))
+    (part_fields c.difference.part))
+    (turn_fields c.difference.turn))
+    (shown_fields c.declared))
 
 -- its line
 unfoldable pub change_line : LocatedChange → List ℕ

@@ -2,15 +2,17 @@
 
 ghost use Rattle.std.specs.Prelude.{◌≡◌, IfOk, OnOk};
 ghost use Rattle.std.specs.Option.{option_map};
-ghost use Rattle.serde_json.specs.View.{members_view};
-ghost use Rattle.idl_json.specs.Change.{change_line, change_of, entry_fields, part_fields, shown_fields, turn_fields};
+ghost use Rattle.serde_json.specs.Data.{no_members};
+ghost use Rattle.serde_json.specs.View.{members_view, view};
+ghost use Rattle.idl_changes.specs.Changes.{weight_names};
+ghost use Rattle.idl_json.specs.Change.{change_json, change_line, change_of, entry_fields, part_fields, shown_fields, told_of, turn_fields};
 ghost use Rattle.idl_json.specs.Listed.{place_of};
 ghost use Rattle.idl_json.specs.Objects.{with_fields};
 
 use crate::listed::{NamePlace, kept_column, put_column};
 use crate::objects::Object;
 use crate::root::push_value;
-use idl_changes::{Difference, Turn, weight_names};
+use idl_changes::{Difference, Turn, Weights, weight_names};
 use idl_repo::details::{RowTree, kind_word};
 use serde_json::Value;
 use std::alloc::{AllocError, Global};
@@ -28,17 +30,34 @@ pub struct ChangeTold<'a> {
 pub fn change_line(alloc: Global, change: ChangeTold<'_>) -> Result<Vec<u8>, AllocError>
     ensures { IfOk result (λ line. line.items ≡ change_line (change_of change.entry)) }
 {
-    let weights = weight_names(alloc, change.difference.weights)?;
+    let value = change_value(alloc, change)?;
+    let mut line = Vec::new(alloc);
+    push_value(&mut line, &value)?;
+    line.push(b'\n')?;
+    Ok(line)
+}
+
+// A change.
+fn change_value(alloc: Global, change: ChangeTold<'_>) -> Result<Value, AllocError>
+    ensures { IfOk result (λ value. view value ≡ change_json (change_of change.entry)) }
+{
     let mut object = Object::new(alloc);
-    object.put_texts("weights", &weights)?;
-    put_entry(&mut object, change.tree)?;
+    put_told(&mut object, change.tree, change.difference.weights)?;
     put_part(&mut object, change.difference.part.as_bytes())?;
     put_turn(&mut object, &change.difference.turn)?;
     put_shown(&mut object, change.declared)?;
-    let mut line = Vec::new(alloc);
-    push_value(&mut line, &object.into_value())?;
-    line.push(b'\n')?;
-    Ok(line)
+    Ok(object.into_value())
+}
+
+// Puts in of which entry a change is, and for whom it counts.
+fn put_told(object: &mut Object, entry: &RowTree, weights: Weights) -> Result<(), AllocError>
+    requires { members_view object.old.members.entries ≡ no_members }
+    ensures { OnOk result (members_view object.new.members.entries
+        ≡ told_of entry.now (weight_names weights)) }
+{
+    let names = weight_names(object.alloc, weights)?;
+    object.put_texts("weights", &names)?;
+    put_entry(object, entry)
 }
 
 // Puts in what an entry is.

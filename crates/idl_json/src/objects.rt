@@ -12,7 +12,7 @@ use std::alloc::{AllocError, Global};
 
 /// An object that is made member by member.
 pub(crate) struct Object {
-    alloc: Global,
+    pub(crate) alloc: Global,
     pub(crate) members: Map<String, Value>,
 }
 
