@@ -42,7 +42,7 @@ fn change_value(alloc: Global, change: ChangeTold<'_>) -> Result<Value, AllocErr
     ensures { IfOk result (λ value. view value ≡ change_json (change_of change.entry)) }
 {
     let mut object = Object::new(alloc);
-    put_told(&mut object, change.tree, change.difference.weights)?;
+    put_told(alloc, &mut object, change.tree, change.difference.weights)?;
     put_part(&mut object, change.difference.part.as_bytes())?;
     put_turn(&mut object, &change.difference.turn)?;
     put_shown(&mut object, change.declared)?;
@@ -50,12 +50,17 @@ fn change_value(alloc: Global, change: ChangeTold<'_>) -> Result<Value, AllocErr
 }
 
 // Puts in of which entry a change is, and for whom it counts.
-fn put_told(object: &mut Object, entry: &RowTree, weights: Weights) -> Result<(), AllocError>
+fn put_told(
+    alloc: Global,
+    object: &mut Object,
+    entry: &RowTree,
+    weights: Weights,
+) -> Result<(), AllocError>
     requires { members_view object.old.members.entries ≡ no_members }
     ensures { OnOk result (members_view object.new.members.entries
         ≡ told_of entry.now (weight_names weights)) }
 {
-    let names = weight_names(object.alloc, weights)?;
+    let names = weight_names(alloc, weights)?;
     object.put_texts("weights", &names)?;
     put_entry(object, entry)
 }

@@ -12,7 +12,7 @@ use std::alloc::{AllocError, Global};
 
 /// An object that is made member by member.
 pub(crate) struct Object {
-    pub(crate) alloc: Global,
+    alloc: Global,
     pub(crate) members: Map<String, Value>,
 }
 
