@@ -12,12 +12,13 @@ returns c =
     let new = c.args.sides.now.1 in
     let u = c.args.old.now in
     let v = c.args.new.now in
+    let pair : List (List ℕ) → List CaseTree → List (List ℕ) × List CaseTree = λ names cases. (names, cases) in
     let before = c.in_ok-old_labels.ensures
-        ∙ ap₂ (λ (names : List (List ℕ)) (cases : List CaseTree). (names, cases))
+        ∙ ap₂ pair
         (c.in_ok-old_names.ensures ∙ ap (λ (L : List RowTree). enumerators L u.discriminator) c.before.ensures) c.as_slice.ensures
     in
     let after = c.in_ok-new_labels.ensures
-        ∙ ap₂ (λ (names : List (List ℕ)) (cases : List CaseTree). (names, cases))
+        ∙ ap₂ pair
         (c.in_ok-new_names.ensures ∙ ap (λ (L : List RowTree). enumerators L v.discriminator) c.after.ensures) c.as_slice-2.ensures
     in
     let same = ap₂ (λ (b a : List (List ℕ) × List CaseTree). cases_differences old new b a) before after in
