@@ -1,7 +1,8 @@
 -- Two versions, and what is told of them.
-use Rattle.std.proofs.Common.{◌≡◌, ◌&&◌, ◌||◌, ◌∷◌, [], ℕ, Bool, List, None, Option, Some, ap, ap₂, false, if◌then◌else◌, refl, sym, true}
+use Rattle.std.proofs.Common.{◌≡◌, ◌∙◌, ◌+◌, ◌<◌, ◌++◌, ◌&&◌, ◌||◌, ◌∷◌, [], ℕ, Bool, List, None, Option, Some, ap, ap₂, append_assoc, false, flat_map, get_or, if◌then◌else◌, length, refl, sym, take, true}
 use Rattle.std.proofs.lemmas.Bool.{or_parts}
-use Rattle.std.proofs.lemmas.List.{append-nil}
+use Rattle.std.proofs.lemmas.List.{append-nil, take_more}
+use Rattle.std.proofs.lemmas.List.Concat.{flat_map-append}
 use Rattle.std.proofs.lemmas.List.Elements.{All-cons, All-nil}
 use Rattle.idl_changes.specs.Chosen.{meets}
 use Rattle.idl_changes.specs.Laws.{NoneHas}
@@ -10,6 +11,7 @@ use Rattle.idl_changes.specs.declared.rows.Weights.{Weights}
 use Rattle.idl_source.specs.devices.Device.{append}
 use Rattle.idl_driver.specs.Compilations.{IsCompilation, HasCompiled}
 use Rattle.idl_loader.specs.Holding.{Holding}
+use Rattle.idl_loader.specs.Lines.{whole_line}
 use Rattle.idl_driver.specs.Rows.{are_faulty}
 use Rattle.idl_driver.specs.declared.options.Options.{Options}
 use Rattle.idl_driver.specs.declared.compilation.Compilation.{Compilation}
@@ -65,3 +67,19 @@ pub sound-none : (faulty failing : Bool) → (if faulty then Failed else if fail
 sound-none true failing is = absurd (cc)
 sound-none false true is = absurd (cc)
 sound-none false false is = refl
+
+-- one line more
+pub line-next : (line : Change → List ℕ) (told : List Change) (i : ℕ) (change : Change) (text head row whole place grade words : List ℕ)
+    → i < length told → change ≡ get_or told i change → text ≡ flat_map (λ c. whole_line (line c)) (take i told)
+    → head ≡ text ++ (place ++ grade) → row ≡ head ++ words → whole ≡ row ++ 10 ∷ [] → line change ≡ place ++ (grade ++ words)
+    → whole ≡ flat_map (λ c. whole_line (line c)) (take (i + 1) told)
+line-next line told i change text head row whole place grade words within is so_far before put end says =
+    let f = λ (c : Change). whole_line (line c) in
+    let next : row ≡ text ++ line change =
+    put ∙ ap (λ (t : List ℕ). t ++ words) before ∙ append_assoc text (place ++ grade) words
+    ∙ ap (λ (t : List ℕ). text ++ t) (append_assoc place grade words ∙ sym says)
+    in
+    end ∙ ap (λ (t : List ℕ). t ++ 10 ∷ []) next ∙ append_assoc text (line change) (10 ∷ [])
+    ∙ ap₂ (λ (a b : List ℕ). a ++ b) so_far (sym (append-nil (whole_line (line change))))
+    ∙ sym (flat_map-append f (take i told) (change ∷ []))
+    ∙ ap (flat_map f) (sym (take_more told i change within ∙ ap (λ (c : Change). take i told ++ c ∷ []) (sym is)))

@@ -1,6 +1,7 @@
 //! What changes from one version of a file to another.
 
 ghost use Rattle.std.specs.Prelude.{◌≡◌, ◌≤◌, ◌<◌, ◌+◌, ◌++◌, ◌-◌, ◌^◌, IfOk, OnErr, OnOk, if◌then◌else◌, map};
+ghost use Rattle.std.specs.Option.{option_map};
 ghost use Rattle.idl_source.specs.devices.Device.{append};
 ghost use Rattle.idl_inputs.specs.Bank.{bank_of};
 ghost use Rattle.idl_driver.specs.idl_sources.Details.{details_over};
@@ -8,8 +9,8 @@ ghost use Rattle.idl_loader.specs.declared.status.Status.TheVariants.{Faulty, So
 ghost use Rattle.idl_driver.specs.Compilations.{HasCompiled};
 ghost use Rattle.idl_driver.specs.Rows.{are_faulty};
 ghost use Rattle.idl_driver.specs.Written.{WritesSome};
-ghost use Rattle.idl_json.specs.Listed.{row_of};
-ghost use Rattle.idl_tool.specs.Compared.{IsCompared, all_rows, are_failing, change_lines, changes_of, ending_by, ending_of, grade, has_error, lines_between, place_before, seen, shown_between, shown_place, trees_of};
+ghost use Rattle.idl_json.specs.Listed.{place_of, row_of};
+ghost use Rattle.idl_tool.specs.Compared.{IsCompared, all_rows, are_failing, change_lines, changes_of, ending_by, ending_of, grade, has_error, lines_between, place_at, place_before, seen, shown_between, shown_place, trees_of};
 
 use crate::check::status_of;
 use crate::deps::tell_errors;
@@ -20,7 +21,7 @@ use crate::request::Diff;
 use idl_changes::{Change, Weights, changes, push_change};
 use idl_driver::idl_sources::{CompiledRoot, Details, Sources};
 use idl_driver::{Compilation, Devices, compile_files};
-use idl_json::ListedRow;
+use idl_json::{ListedRow, NamePlace};
 use idl_loader::{Loader, Status};
 use idl_repo::details::RowTree;
 use idl_source::devices::write_all;
@@ -141,22 +142,30 @@ fn told_between(
         ≡ (if are_failing fails (changes_of (map row_of old.now) (map row_of new.now))
         then Faulty else Sound)) }
 {
-    let was = trees_of(alloc, old)?;
-    let is = trees_of(alloc, new)?;
-    let told = changes(alloc, &was, &is)?;
+    let old_trees = trees_of(alloc, old)?;
+    let new_trees = trees_of(alloc, new)?;
+    let was = old_trees.as_slice();
+    let is = new_trees.as_slice();
+    let told = changes(alloc, was, is)?;
     let mut text = Vec::new(alloc);
-    'told: for change in &told {
-        push_place_of(&mut text, old, new, change)?;
-        text.extend_from_slice(grade(fails, change.difference.weights))?;
-        push_change(&mut text, &was, &is, change)?;
+    'lines: for change in &told {
+        push_head(&mut text, fails, (old, new), change)?;
+        push_change(&mut text, was, is, change)?;
         text.extend_from_slice(b"\n")?;
     }
-    let status = if are_failing(fails, &told) {
+    let status = ending_by(fails, &told);
+    Ok((text, status))
+}
+
+// How the program ends by changes.
+fn ending_by(fails: Weights, told: &[Change]) -> Status
+    ensures { result ≡ (if are_failing fails told.now then Faulty else Sound) }
+{
+    if are_failing(fails, told) {
         Status::Faulty
     } else {
         Status::Sound
-    };
-    Ok((text, status))
+    }
 }
 
 // What the listings of these roots tell.
@@ -202,28 +211,57 @@ fn trees_of<'d>(alloc: Global, rows: &[ListedRow<'d>]) -> Result<Vec<&'d RowTree
     Ok(trees)
 }
 
-// Writes where the entry of a change is declared: that of the new listing, or of the old one where it is gone.
-fn push_place_of(
+// Writes what stands before the row of a change: where its entry is declared, and how it is graded.
+fn push_head(
     text: &mut Vec<u8>,
-    old: &[ListedRow<'_>],
-    new: &[ListedRow<'_>],
+    fails: Weights,
+    rows: (&[ListedRow<'_>], &[ListedRow<'_>]),
     change: &Change,
 ) -> Result<(), AllocError>
     ensures { OnOk result (text.new.items ≡ text.old.items
-        ++ place_before (shown_place (map row_of old.now) (map row_of new.now) change.now)) }
+        ++ (place_before
+        (shown_place (map row_of rows.entry.0.now) (map row_of rows.entry.1.now) change.now)
+        ++ grade fails change.now.difference.weights)) }
 {
-    let row = match (change.before, change.after) {
-        (_, Some(place)) => new.get(place),
-        (Some(place), None) => old.get(place),
+    push_shown(text, shown_place(rows.0, rows.1, change))?;
+    text.extend_from_slice(grade(fails, change.difference.weights))
+}
+
+// Where the entry of a change is declared: that of the new listing, or of the old one where it is gone.
+fn shown_place<'d>(
+    old: &[ListedRow<'d>],
+    new: &[ListedRow<'d>],
+    change: &Change,
+) -> Option<NamePlace<'d>>
+    ensures { option_map place_of result
+        ≡ shown_place (map row_of old.entry.now) (map row_of new.entry.now) change.now }
+{
+    match (change.after, change.before) {
+        (Some(place), _) => place_at(new, place),
+        (None, Some(place)) => place_at(old, place),
         (None, None) => None,
-    };
-    let Some(row) = row else {
+    }
+}
+
+// Where the row at a place is declared, if there is one and that is known.
+fn place_at<'d>(rows: &[ListedRow<'d>], place: usize) -> Option<NamePlace<'d>>
+    ensures { option_map place_of result ≡ place_at (map row_of rows.entry.now) place }
+{
+    match rows.get(place) {
+        Some(row) => row.declared,
+        None => None,
+    }
+}
+
+// Writes where something is declared, if that is known.
+fn push_shown(text: &mut Vec<u8>, declared: Option<NamePlace<'_>>) -> Result<(), AllocError>
+    ensures { OnOk result (text.new.items
+        ≡ text.old.items ++ place_before (option_map place_of declared.entry)) }
+{
+    let Some(name) = declared else {
         return Ok(());
     };
-    let Some(declared) = row.declared else {
-        return Ok(());
-    };
-    push_place(declared.place, declared.column, text)?;
+    push_place(name.place, name.column, text)?;
     text.extend_from_slice(b": ")
 }
 
