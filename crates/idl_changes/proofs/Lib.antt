@@ -23,4 +23,5 @@ mod SentLemmas
 mod UnionLemmas
 mod PathLemmas
 mod LineLemmas
+mod NumberLemmas
 mod SpeakLemmas

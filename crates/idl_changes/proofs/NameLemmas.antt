@@ -10,7 +10,6 @@ use Rattle.std.proofs.lemmas.List.{drop_all, drop_more}
 use Rattle.std.proofs.lemmas.List.Folds.{find_at}
 use Rattle.std.proofs.lemmas.Option.{none-some, slice_get-get_or, slice_get_past}
 use Rattle.idl_base.specs.Exact.{same_list, same_number}
-use Rattle.idl_changes.specs.Differences.{own_name}
 use Rattle.idl_changes.specs.Keys.{numbered_eq, same_numbered}
 use Rattle.idl_changes.specs.Matched.{matched, matches, renamed}
 use Rattle.idl_changes.specs.declared.keys.NumberedText.{NumberedText}
@@ -98,10 +97,6 @@ turned-numbered key other =
     same-tests (numbered_eq key other) (numbered_eq other key)
     (λ is. ap (λ (k : NumberedText). numbered_eq k key) (sym (same_numbered key other is)) ∙ own-numbered key)
     (λ is. ap (λ (k : NumberedText). numbered_eq k other) (sym (same_numbered other key is)) ∙ own-numbered other)
-
-pub own-names : (names : List (List ℕ)) → map own_name names ≡ names
-own-names [] = refl
-own-names (name ∷ names) = ap (λ (ns : List (List ℕ)). name ∷ ns) (own-names names)
 
 -- what is found, by its place
 pub find-position : {X : Type 0} (test : X → Bool) (xs : List X) → find test xs ≡ option_and_then (slice_get xs) (position test xs)

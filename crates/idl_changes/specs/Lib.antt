@@ -4,6 +4,7 @@ pub mod Plain
 pub mod Offered
 pub mod Partners
 pub mod Matched
+pub mod Numbered
 pub mod Rows
 pub mod Spelled
 pub mod Differences

@@ -1,12 +1,15 @@
 //! A union's labels, and what each of them selects.
 
-ghost use Rattle.std.specs.Prelude.{◌≡◌, ◌++◌, ◌∷◌, [], ℕ, List, IfOk, OnOk, length, option_copied};
+ghost use Rattle.std.specs.Prelude.{◌≡◌, ◌++◌, ◌∷◌, [], ℕ, List, IfOk, None, OnOk, Some, if◌then◌else◌, length, option_copied};
+ghost use Rattle.std.specs.Map.{lookup};
+ghost use Rattle.std.specs.Option.{option_or};
+ghost use Rattle.std.specs.Str.{bytes_eq};
+ghost use Rattle.idl_changes.specs.Numbered.{AreNumbered};
 ghost use Rattle.idl_changes.specs.Plain.{default_of, label_of, labelled, selected};
-ghost use Rattle.idl_changes.specs.Tables.{AreFirst, AreLabelled};
+ghost use Rattle.idl_changes.specs.Tables.{AreLabelled};
 ghost use Rattle.idl_repo.specs.declared.details.type_code_tree.CaseTree.{CaseTree};
 
 use crate::keys::NumberedText;
-use crate::matched::first_places;
 use idl_base::Bytes;
 use idl_map::Map;
 use idl_repo::details::CaseTree;
@@ -17,21 +20,22 @@ use std::marker::Model;
 pub struct Labels<'a> {
     names: &'a [Bytes],
     cases: &'a [CaseTree],
-    // The place of each enumerator, and that of the case of each label.
+    // The number of each enumerator, and the place of the case of each label.
     numbers: Map<Bytes, usize>,
     places: Map<NumberedText, usize>,
 }
 
 impl<'a> Model for Labels<'a> {
     ghost use Rattle.std.specs.Prelude.{List, ℕ};
-    ghost use Rattle.idl_changes.specs.Tables.{AreFirst, AreLabelled};
+    ghost use Rattle.idl_changes.specs.Numbered.{AreNumbered};
+    ghost use Rattle.idl_changes.specs.Tables.{AreLabelled};
     ghost use Rattle.idl_repo.specs.declared.details.type_code_tree.CaseTree.{CaseTree};
 
     ghost Value = { List (List ℕ) × List CaseTree };
 
     ghost view = { λ labels. (labels.names.now, labels.cases.now) };
 
-    ghost invariant = { λ labels. AreFirst labels.names.now labels.numbers
+    ghost invariant = { λ labels. AreNumbered labels.names.now labels.numbers
         × AreLabelled labels.names.now labels.cases.now labels.places };
 }
 
@@ -55,7 +59,7 @@ impl<'a> Labels<'a> {
     ) -> Result<Labels<'a>, AllocError>
         ensures { IfOk result (λ labels. labels ≡ (names.entry.now, cases.entry.now)) }
     {
-        let numbers = first_places(alloc, names)?;
+        let numbers = numbers_of(alloc, names)?;
         let mut places = Map::new(alloc)?;
         for (place, case) in cases.iter().enumerate() {
             add_label(&numbers, place, case, &mut places)?;
@@ -119,7 +123,7 @@ fn add_label(
     places: &mut Map<NumberedText, usize>,
 ) -> Result<(), AllocError>
     ensures { OnOk result ((names : List (List ℕ)) (cases : List CaseTree)
-        → AreFirst names numbers.now → place ≡ length cases
+        → AreNumbered names numbers.now → place ≡ length cases
         → AreLabelled names cases places.old
         → AreLabelled names (cases ++ case.now ∷ []) places.new) }
 {
@@ -137,16 +141,47 @@ fn add_label(
 // A label as it goes over the wire, where these are the numbers of enumerators.
 #[tactic(auto, unfolding(crate::specs::Plain::label_of))]
 fn label_among(numbers: &Map<Bytes, usize>, text: &Bytes) -> Result<NumberedText, AllocError>
-    ensures { IfOk result (λ label. (names : List (List ℕ)) → AreFirst names numbers.now
+    ensures { IfOk result (λ label. (names : List (List ℕ)) → AreNumbered names numbers.now
         → label ≡ label_of names text.now) }
 {
-    let Some(place) = numbers.get(text) else {
-        let text = text.clone()?;
-        return Ok(NumberedText { text, number: 0 });
+    let Some(number) = numbers.get(text) else {
+        let copy = text.clone()?;
+        return Ok(NumberedText {
+            text: copy,
+            number: 0,
+        });
     };
-    let Some(number) = place.checked_add(1) else {
-        return Err(AllocError);
-    };
-    let text = text.part(0, 0)?;
-    Ok(NumberedText { text, number })
+    let none = text.part(0, 0)?;
+    Ok(NumberedText {
+        text: none,
+        number: *number,
+    })
+}
+
+// The number of each of these names.
+fn numbers_of(alloc: Global, names: &[Bytes]) -> Result<Map<Bytes, usize>, AllocError>
+    ensures { IfOk result (AreNumbered names.now) }
+{
+    let mut numbers = Map::new(alloc)?;
+    for (place, name) in names.iter().enumerate() {
+        add_number(&mut numbers, place + 1, name)?;
+    }
+    Ok(numbers)
+}
+
+// Puts in the number of one more name, if it is the first of it.
+fn add_number(
+    numbers: &mut Map<Bytes, usize>,
+    number: usize,
+    name: &Bytes,
+) -> Result<(), AllocError>
+    ensures { OnOk result ((k : List ℕ) → lookup (bytes_eq k) numbers.new
+        ≡ option_or (lookup (bytes_eq k) numbers.old)
+        (if bytes_eq k name.now then Some number else None)) }
+{
+    if numbers.get(name).is_some() {
+        return Ok(());
+    }
+    numbers.insert(name.clone()?, number)?;
+    Ok(())
 }

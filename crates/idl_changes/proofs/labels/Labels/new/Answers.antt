@@ -1,7 +1,6 @@
-use Rattle.std.proofs.Common.{◌≡◌, ◌∙◌, ◌++◌, ◌∷◌, [], ℕ, List, ap, arith, length, subst, sym, take}
+use Rattle.std.proofs.Common.{◌≡◌, ◌∙◌, ◌++◌, ◌∷◌, [], List, ap, arith, length, subst, sym, take}
 use Rattle.std.proofs.lemmas.List.{length-take-le, take_more}
-use Rattle.idl_changes.specs.Tables.{AreFirst, AreLabelled}
-use Rattle.idl_changes.proofs.NameLemmas.{own-names}
+use Rattle.idl_changes.specs.Tables.{AreLabelled}
 use Rattle.idl_repo.specs.declared.details.type_code_tree.CaseTree.{CaseTree}
 use Rattle.idl_changes.proofs.labels.Labels.new.Goals as goal
 
@@ -14,5 +13,4 @@ loop-place-preserved c =
     let count = length-take-le i cases in
     let at : i ≡ length (take i cases) = omega (arith, c.loop-place-test.true, count) in
     let next = take_more cases i item c.loop-place-test.true ∙ ap (λ (x : CaseTree). take i cases ++ x ∷ []) (sym c.index-cases-place.is) in
-    let numbers = subst (λ (ns : List (List ℕ)). AreFirst ns c.in_ok-numbers.numbers) (own-names names) c.in_ok-numbers.ensures in
-    subst (λ (cs : List CaseTree). AreLabelled names cs c.add_label.new.places) (sym next) (c.in_ok-add_label.ensures names (take i cases) numbers at c.loop-place.invariant)
+    subst (λ (cs : List CaseTree). AreLabelled names cs c.add_label.new.places) (sym next) (c.in_ok-add_label.ensures names (take i cases) c.in_ok-numbers.ensures at c.loop-place.invariant)
