@@ -72,8 +72,8 @@ fn all_in_place(alloc: Global, count: usize) -> Result<Vec<Option<usize>>, Alloc
     Ok(found)
 }
 
-/// The first place of each name.
-pub fn first_places<T: Named>(alloc: Global, items: &[T]) -> Result<Map<Bytes, usize>, AllocError>
+// The first place of each name.
+fn first_places<T: Named>(alloc: Global, items: &[T]) -> Result<Map<Bytes, usize>, AllocError>
     ensures { IfOk result (AreFirst (map T.name_of items.now)) }
 {
     let mut places = Map::new(alloc)?;
