@@ -1,5 +1,5 @@
 -- How it is found out which items of two lists belong together.
-use Rattle.std.proofs.Common.{◌≡◌, ◌∙◌, ◌+◌, ◌<◌, ◌≤◌, ◌&&◌, ◌∷◌, [], ℕ, zero, suc, Bool, List, None, Option, Some, ap, ap₂, arith, cond, drop, false, find, get_or, if◌then◌else◌, length, map, nat_eq, nat_lt, not, position, refl, sym, true}
+use Rattle.std.proofs.Common.{◌≡◌, ◌∙◌, ◌+◌, ◌<◌, ◌≤◌, ◌&&◌, ◌∷◌, [], ℕ, suc, Bool, List, None, Option, Some, ap, ap₂, arith, cond, drop, false, find, get_or, if◌then◌else◌, length, map, nat_eq, nat_lt, not, position, refl, sym, true}
 use Rattle.std.specs.Cmp.{nat_eq_equiv}
 use Rattle.std.specs.Cmp.Lexicographic.{bytes_decides, pointwise}
 use Rattle.std.specs.List.{list_any, position_or_len, range_with_len, slice_get}

@@ -1,5 +1,5 @@
 -- Labels, by the numbers of enumerators.
-use Rattle.std.proofs.Common.{◌≡◌, ◌∙◌, ◌+◌, ◌<◌, ◌++◌, ◌∷◌, [], ℕ, Bool, List, None, Option, Some, ap, ap₂, arith, false, get_or, if◌then◌else◌, length, position, refl, sym, take, true}
+use Rattle.std.proofs.Common.{◌≡◌, ◌∙◌, ◌+◌, ◌<◌, ◌++◌, ◌∷◌, [], ℕ, Bool, List, None, Option, Some, ap, arith, false, get_or, if◌then◌else◌, length, position, refl, sym, take, true}
 use Rattle.std.specs.Cmp.Lexicographic.{bytes_decides}
 use Rattle.std.specs.Map.{lookup}
 use Rattle.std.specs.Option.{is_some, option_map, option_or}

@@ -1,5 +1,5 @@
 -- What the tables of listings have at a place.
-use Rattle.std.proofs.Common.{◌≡◌, ◌∙◌, ◌+◌, ◌<◌, ◌≤◌, ◌++◌, ◌∷◌, ◌&&◌, [], ℕ, zero, suc, All, Bool, List, None, Option, Some, ap, ap₂, append-nil, arith, cond, false, filter, filter_map, find, flat_map, get_or, if◌then◌else◌, length, map, nat_eq, nat_lt, refl, replicate, set, sym, take, true, unwrap_or}
+use Rattle.std.proofs.Common.{◌≡◌, ◌∙◌, ◌+◌, ◌<◌, ◌≤◌, ◌++◌, ◌∷◌, ◌&&◌, [], ℕ, zero, suc, All, Bool, List, None, Option, Some, ap, ap₂, append-nil, arith, cond, false, filter, filter_map, find, flat_map, if◌then◌else◌, length, map, nat_eq, nat_lt, refl, replicate, set, sym, take, true, unwrap_or}
 use Rattle.std.specs.List.{enumerate_from, slice_get}
 use Rattle.std.specs.Option.{option_and_then, option_eq, option_map, option_map_or, option_or}
 use Rattle.std.proofs.lemmas.Bool.Decides.{nat_tests}

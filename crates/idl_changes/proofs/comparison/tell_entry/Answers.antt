@@ -2,7 +2,6 @@ use Rattle.std.proofs.Common.{◌≡◌, ◌∙◌, ◌++◌, ℕ, List, None, O
 use Rattle.idl_changes.specs.Changes.{change_at, told_with}
 use Rattle.idl_changes.specs.Differences.{gone_differences}
 use Rattle.idl_changes.specs.declared.change.Change.{Change}
-use Rattle.idl_changes.specs.declared.change.Difference.{Difference}
 use Rattle.idl_changes.proofs.comparison.tell_entry.Goals as goal
 
 pub returns-in-Some : goal.returns-in-Some

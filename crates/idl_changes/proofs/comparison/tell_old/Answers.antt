@@ -1,4 +1,4 @@
-use Rattle.std.proofs.Common.{Bor, ℕ, ◌∙◌, ap, map}
+use Rattle.std.proofs.Common.{Bor, ℕ, ◌∙◌, map}
 use Rattle.idl_changes.specs.Changes.{told_old}
 use Rattle.idl_changes.proofs.ListingLemmas.{lent-past, lent-read, lent-within}
 use Rattle.idl_changes.proofs.StepLemmas.{all-told-at, left-told-at}
