@@ -1,5 +1,6 @@
-use Rattle.std.proofs.Common.{◌≡◌, ◌∙◌, ◌++◌, [], ℕ, Bool, List, Some, ap, codes, get_or, if◌then◌else◌, nat_eq, refl}
+use Rattle.std.proofs.Common.{◌≡◌, ◌∙◌, ◌++◌, [], ℕ, Bool, List, Some, ap, codes, get_or, if◌then◌else◌, nat_eq}
 use Rattle.std.specs.List.{list_any}
+use Rattle.std.proofs.lemmas.List.{get_or_default}
 use Rattle.idl_changes.specs.Differences.{told}
 use Rattle.idl_changes.specs.Listing.{path_at}
 use Rattle.idl_changes.specs.Offered.{ancestors}
@@ -28,7 +29,7 @@ loop-base-preserved c =
     left-told
     (λ m. if list_any (λ n. is_partner old new m (Some n)) (ancestors new places.1) then [] else told line.BaseGone (codes "base " ++ path_at old m) turn.Gone)
     items (ancestors old places.0) (c.ancestors-bases.ensures ∙ ap (λ (L : List RowTree). ancestors L places.0) c.before.ensures)
-    i m out c.push_gone_base.new.out.items _ c.loop-base-test.true refl
+    i m out c.push_gone_base.new.out.items _ c.loop-base-test.true (get_or_default items i 0 m c.loop-base-test.true)
     (c.in_ok-push_gone_base.ensures ∙ ap (λ (b : Bool). out ++ (if b then [] else gone)) among) c.loop-base.invariant
 
 pub returns : goal.returns

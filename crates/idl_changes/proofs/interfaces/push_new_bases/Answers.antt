@@ -1,5 +1,6 @@
-use Rattle.std.proofs.Common.{◌≡◌, ◌∙◌, ◌++◌, [], ℕ, Bool, List, Some, ap, codes, get_or, if◌then◌else◌, nat_eq, refl}
+use Rattle.std.proofs.Common.{◌≡◌, ◌∙◌, ◌++◌, [], ℕ, Bool, List, Some, ap, codes, get_or, if◌then◌else◌, nat_eq}
 use Rattle.std.specs.List.{list_any}
+use Rattle.std.proofs.lemmas.List.{get_or_default}
 use Rattle.idl_changes.specs.Differences.{base_line, told}
 use Rattle.idl_changes.specs.Listing.{path_at}
 use Rattle.idl_changes.specs.Offered.{ancestors}
@@ -24,7 +25,7 @@ loop-base-preserved c =
     left-told
     (λ n. if list_any (λ m. is_partner old new m (Some n)) (ancestors old places.0) then [] else told (base_line old new places.0 n) (codes "base " ++ path_at new n) turn.New)
     items (ancestors new places.1) (c.ancestors-bases.ensures ∙ ap (λ (L : List RowTree). ancestors L places.1) c.after.ensures)
-    i n out c.push_new_base.new.out.items _ c.loop-base-test.true refl
+    i n out c.push_new_base.new.out.items _ c.loop-base-test.true (get_or_default items i 0 n c.loop-base-test.true)
     (c.in_ok-push_new_base.ensures ∙ ap (λ (b : Bool). out ++ (if b then [] else added)) goes_on) c.loop-base.invariant
 
 pub returns : goal.returns
