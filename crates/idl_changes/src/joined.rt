@@ -118,7 +118,8 @@ fn fits(
 
 // Whether the entry at a place is of a kind.
 fn is_of_kind(listing: &Listing<'_>, place: usize, kind: Kind) -> bool
-    ensures { result ≡ option_map_or (λ f. kind_eq kind f.kind) (slice_get listing.now place) false }
+    ensures { result
+        ≡ option_map_or (λ f. kind_eq kind f.kind) (slice_get listing.now place) false }
 {
     match listing.entry(place) {
         Some(entry) => kind == entry.kind,
