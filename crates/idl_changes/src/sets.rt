@@ -68,7 +68,8 @@ fn push_gone(
 
 // Whether an old reference is the same as one of these new ones.
 fn goes_on(sides: &Sides<'_>, reference: &Reference, others: &[Reference]) -> bool
-    ensures { result ≡ list_any (is_same_reference sides.now.0 sides.now.1 reference.now) others.now }
+    ensures { result
+        ≡ list_any (is_same_reference sides.now.0 sides.now.1 reference.now) others.now }
 {
     others
         .iter()
