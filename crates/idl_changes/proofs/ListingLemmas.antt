@@ -83,4 +83,3 @@ pub got-item : {X : Type 0} (xs : List X) (i : ℕ) (found : Option (Bor X)) →
     → option_copied found ≡ slice_get xs i
 got-item xs i None past = sym (slice_get_past xs i past)
 got-item xs i (Some x) at = sym (slice_get_read xs (length xs) i x.now refl at.0 (at.1 x.now))
-

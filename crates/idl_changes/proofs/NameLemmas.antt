@@ -108,4 +108,3 @@ find-position {X} test xs = find_at test xs ∙ by (nat_lt (position_or_len test
     by false e =
         let past : length xs ≤ position_or_len test xs = grind (arith, nat_tests, e) in
         slice_get_past xs (position_or_len test xs) past
-

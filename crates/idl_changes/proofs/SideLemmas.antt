@@ -292,4 +292,3 @@ all-offered L i z name all = by (nat_lt i z) refl
         let beyond : z ≤ i = grind (arith, nat_tests, e) in
         let past : length L ≤ i = omega (arith, all, beyond) in
         sym (offered-past L i name past)
-

@@ -66,11 +66,7 @@ fn compare_entries(
 }
 
 // Compares the paths of what isn't called.
-fn compare_paths(
-    old: &RowTree,
-    new: &RowTree,
-    out: &mut Vec<Difference>,
-) -> Result<(), AllocError>
+fn compare_paths(old: &RowTree, new: &RowTree, out: &mut Vec<Difference>) -> Result<(), AllocError>
     ensures { OnOk result (out.new.items ≡ out.old.items ++ (if is_called old.now
         then []
         else text_differences Line.Path (codes "path") old.now.path new.now.path)) }

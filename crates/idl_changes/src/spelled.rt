@@ -49,11 +49,7 @@ fn length_before(length: u32, lengths: &Vec<u8>) -> Result<Vec<u8>, AllocError>
 }
 
 // A sequence of what has this text, with lengths of arrays behind it.
-fn sequence_spelled(
-    bound: u32,
-    element: &Vec<u8>,
-    lengths: &Vec<u8>,
-) -> Result<Vec<u8>, AllocError>
+fn sequence_spelled(bound: u32, element: &Vec<u8>, lengths: &Vec<u8>) -> Result<Vec<u8>, AllocError>
     ensures { IfOk result (λ text.
         text.items ≡ sequence_spelled bound (element.now.items ++ lengths.now.items)) }
 {

@@ -1,9 +1,12 @@
 -- Two versions, and what is told of them.
-use Rattle.std.proofs.Common.{◌≡◌, ◌∙◌, ◌+◌, ◌<◌, ◌++◌, ◌&&◌, ◌||◌, ◌∷◌, [], ℕ, Bool, List, None, Option, Some, ap, ap₂, append_assoc, false, flat_map, get_or, if◌then◌else◌, length, refl, sym, take, true}
+use Rattle.std.proofs.Common.{Bor, MatchOption, ◌≡◌, ◌∙◌, ◌+◌, ◌<◌, ◌≤◌, ◌++◌, ◌&&◌, ◌||◌, ◌∷◌, [], ℕ, Bool, List, None, Option, Some, ap, ap₂, append_assoc, false, flat_map, get_or, if◌then◌else◌, length, map, refl, sym, take, true}
+use Rattle.std.specs.List.{HoldsAt, slice_get}
+use Rattle.std.specs.Option.{option_copied, option_map}
 use Rattle.std.proofs.lemmas.Bool.{or_parts}
 use Rattle.std.proofs.lemmas.List.{append-nil, take_more}
 use Rattle.std.proofs.lemmas.List.Concat.{flat_map-append}
 use Rattle.std.proofs.lemmas.List.Elements.{All-cons, All-nil}
+use Rattle.std.proofs.lemmas.Option.{slice_get-map, slice_get_past, slice_get_read}
 use Rattle.idl_changes.specs.Chosen.{meets}
 use Rattle.idl_changes.specs.Laws.{NoneHas}
 use Rattle.idl_changes.specs.declared.change.Change.{Change}
@@ -83,3 +86,9 @@ line-next line told i change text head row whole place grade words within is so_
     ∙ ap₂ (λ (a b : List ℕ). a ++ b) so_far (sym (append-nil (whole_line (line change))))
     ∙ sym (flat_map-append f (take i told) (change ∷ []))
     ∙ ap (flat_map f) (sym (take_more told i change within ∙ ap (λ (c : Change). take i told ++ c ∷ []) (sym is)))
+
+-- what `get` finds among rows, by the rows of the definition
+pub got-row : {X Y : Type 0} (row : X → Y) (xs : List X) (i : ℕ) (found : Option (Bor X)) → MatchOption found (length xs ≤ i) (λ x. (i < length xs) × HoldsAt (λ y. x.now ≡ y) xs i)
+    → slice_get (map row xs) i ≡ option_map row (option_copied found)
+got-row row xs i None past = slice_get-map row xs i ∙ ap (option_map row) (slice_get_past xs i past)
+got-row row xs i (Some x) at = slice_get-map row xs i ∙ ap (option_map row) (slice_get_read xs (length xs) i x.now refl at.0 (at.1 x.now))

@@ -28,6 +28,6 @@ returns c =
     let e = c.args.entry.now in
     let at = sym (c.entry.ensures ∙ ap (λ (L : List RowTree). slice_get L k) (c.listing.ensures ∙ c.after.ensures)) ∙ ap option_copied c.in-Some.is in
     let same = ap (map (change_at (Some i) (Some k))) c.in_ok-told.ensures
-        ∙ sym (ap (λ (o : Option RowTree). map (change_at (Some i) (Some k)) (option_map_or (differences old new i k e) o [])) at)
+    ∙ sym (ap (λ (o : Option RowTree). map (change_at (Some i) (Some k)) (option_map_or (differences old new i k e) o [])) at)
     in
     subst (λ (cs : List Change). OnOk c.push_all.result (c.push_all.new.out.items ≡ c.args.out.now.items ++ cs)) same c.push_all.ensures

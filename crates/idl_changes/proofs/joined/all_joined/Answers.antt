@@ -1,4 +1,4 @@
-use Rattle.std.proofs.Common.{◌≡◌, ◌∙◌, ◌<◌, ◌++◌, ◌∷◌, [], ℕ, List, None, Option, Some, ap, arith, get_or, length, sym}
+use Rattle.std.proofs.Common.{◌≡◌, ◌∙◌, ◌<◌, ◌≤◌, ◌++◌, ◌∷◌, [], ℕ, List, None, Option, Some, ap, arith, get_or, length, sym}
 use Rattle.std.specs.List.{slice_get}
 use Rattle.std.specs.Option.{option_map}
 use Rattle.std.proofs.lemmas.Option.{same_Some, slice_get-get_or}
@@ -6,7 +6,7 @@ use Rattle.idl_changes.specs.Listing.{by_id}
 use Rattle.idl_changes.specs.Partners.{joined}
 use Rattle.idl_changes.specs.Tables.{each}
 use Rattle.idl_changes.proofs.PathLemmas.{joined-by}
-use Rattle.idl_changes.proofs.TableLemmas.{each-next, get-within, length-from, slice_get-each}
+use Rattle.idl_changes.proofs.TableLemmas.{all-places, each-next, get-within, length-from, slice_get-each}
 use Rattle.idl_repo.specs.declared.details.row_tree.RowTree.{RowTree}
 use Rattle.idl_changes.proofs.joined.all_joined.Goals as goal
 
@@ -29,3 +29,12 @@ loop-place-preserved c =
     ∙ ap (λ (p : Option ℕ). c.loop-place.all.items ++ p ∷ []) (c.joined_at.ensures ∙ joined-by old new i at.0 o at.1 (same_Some o (by_id old new i at.0) there))
     ∙ ap (λ (ps : List (Option ℕ)). ps ++ joined old new i ∷ []) c.loop-place.invariant
     ∙ sym (each-next (λ (k : ℕ) (e : RowTree). joined old new k) old i at.0 at.1)
+
+pub returns : goal.returns
+returns c =
+    let old = c.args.old.now in
+    let new = c.args.new.now in
+    let all = c.deref-found-items.ensures.value ∙ c.requires.forth in
+    let count : length c.deref-found-items.result.now ≡ length old = ap length all ∙ length-from (by_id old new) 0 old in
+    let past : length old ≤ c.loop-place.place = omega (arith, count, c.loop-place-test.false) in
+    c.loop-place.invariant ∙ all-places (λ (k : ℕ) (e : RowTree). joined old new k) old c.loop-place.place past

@@ -23,6 +23,6 @@ returns g c =
     let item = c.in-Some.item.now in
     let at = sym (got-item lists.before.now c.args.places.0 c.get.result c.get.ensures.lookup.3) ∙ ap option_copied c.in-Some.is in
     let same = ap (λ other. item_differences lists.item g.T.Named.name_of (g.T.ListItem.both sides.0 sides.1) c.args.places.0 item other) c.at_place-other.ensures
-        ∙ sym (ap (λ found. option_map_or (λ x. item_differences lists.item g.T.Named.name_of (g.T.ListItem.both sides.0 sides.1) c.args.places.0 x (option_and_then (slice_get lists.after.now) c.args.places.1)) found []) at)
+    ∙ sym (ap (λ found. option_map_or (λ x. item_differences lists.item g.T.Named.name_of (g.T.ListItem.both sides.0 sides.1) c.args.places.0 x (option_and_then (slice_get lists.after.now) c.args.places.1)) found []) at)
     in
     subst (λ (ds : List Difference). OnOk c.compare_item.result (c.compare_item.new.out.items ≡ c.args.out.now.items ++ ds)) same c.compare_item.ensures

@@ -16,8 +16,8 @@ loop-place-preserved g c =
     let out = c.loop-place.out.items in
     let added = told (line.ItemNew lists.item) (item_part lists.item (g.T.Named.name_of item)) (turn.NewAt (i + 1)) in
     let known = c.is_marked.ensures
-        ∙ ap (λ (marks : List Bool). unwrap_or (slice_get marks i) false) (c.deref.ensures.value ∙ c.in_ok-marks.ensures)
-        ∙ mark-there found (length news) i c.loop-place-test.true
+    ∙ ap (λ (marks : List Bool). unwrap_or (slice_get marks i) false) (c.deref.ensures.value ∙ c.in_ok-marks.ensures)
+    ∙ mark-there found (length news) i c.loop-place-test.true
     in
     left-told-at (λ p. new_differences lists.item g.T.Named.name_of found p.0 p.1) news news refl i item out c.push_new_item.new.out.items _ c.loop-place-test.true c.index-after-place.is
     (c.in_ok-push_new_item.ensures ∙ ap (λ (b : Bool). out ++ (if b then [] else added)) known) c.loop-place.invariant

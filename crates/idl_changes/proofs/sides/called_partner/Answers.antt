@@ -23,8 +23,8 @@ returns c =
     let o = c.in-Some.interface in
     let ask = λ (o : ℕ). option_and_then (λ (p : ℕ). offered new p (name_of e.path)) (joined old new o) in
     let is = ap (λ (name : List ℕ). option_and_then (λ (p : ℕ). offered new p name) c.place_in.result) c.in_ok-name.ensures
-        ∙ ap (option_and_then (λ (p : ℕ). offered new p (name_of e.path))) (c.place_in.ensures ∙ joined-there old new o c.args.known.now c.requires)
-        ∙ sym (asked-kept (λ (o : ℕ). is_own_offer old o c.args.place e) ask (interface_of old e)
-        ∙ ap (option_and_then ask) (sym c.in_ok-interface.ensures ∙ c.in-Some.is))
+    ∙ ap (option_and_then (λ (p : ℕ). offered new p (name_of e.path))) (c.place_in.ensures ∙ joined-there old new o c.args.known.now c.requires)
+    ∙ sym (asked-kept (λ (o : ℕ). is_own_offer old o c.args.place e) ask (interface_of old e)
+    ∙ ap (option_and_then ask) (sym c.in_ok-interface.ensures ∙ c.in-Some.is))
     in
     subst (λ (o : Option ℕ). IfOk c.offered_at.result (λ found. found ≡ o)) is c.offered_at.ensures

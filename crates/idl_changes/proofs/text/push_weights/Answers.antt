@@ -16,8 +16,8 @@ loop-place-preserved c =
     let count : length (take i names) ≡ i = omega (arith, c.loop-place-test.true, few) in
     let comma = λ (n : ℕ). if nat_eq n 0 then [] else codes "," in
     let next = ap (join_by (λ (t : List ℕ). t) (codes ",")) (take_more names i name c.loop-place-test.true ∙ ap (λ (n : List ℕ). take i names ++ n ∷ []) (sym c.name-item.is))
-        ∙ joined-more (λ (t : List ℕ). t) (codes ",") (take i names) name
-        ∙ ap (λ (n : ℕ). (so_far ++ comma n) ++ name) count
+    ∙ joined-more (λ (t : List ℕ). t) (codes ",") (take i names) name
+    ∙ ap (λ (n : ℕ). (so_far ++ comma n) ++ name) count
     in
     c.in_ok-push_behind.ensures
     ∙ ap (λ (t : List ℕ). (t ++ comma i) ++ name) c.loop-place.invariant

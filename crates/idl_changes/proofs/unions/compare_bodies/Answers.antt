@@ -14,12 +14,12 @@ returns c =
     let v = c.args.new.now in
     let pair : List (List ℕ) → List CaseTree → List (List ℕ) × List CaseTree = λ names cases. (names, cases) in
     let before = c.in_ok-old_labels.ensures
-        ∙ ap₂ pair
-        (c.in_ok-old_names.ensures ∙ ap (λ (L : List RowTree). enumerators L u.discriminator) c.before.ensures) c.as_slice.ensures
+    ∙ ap₂ pair
+    (c.in_ok-old_names.ensures ∙ ap (λ (L : List RowTree). enumerators L u.discriminator) c.before.ensures) c.as_slice.ensures
     in
     let after = c.in_ok-new_labels.ensures
-        ∙ ap₂ pair
-        (c.in_ok-new_names.ensures ∙ ap (λ (L : List RowTree). enumerators L v.discriminator) c.after.ensures) c.as_slice-2.ensures
+    ∙ ap₂ pair
+    (c.in_ok-new_names.ensures ∙ ap (λ (L : List RowTree). enumerators L v.discriminator) c.after.ensures) c.as_slice-2.ensures
     in
     let same = ap₂ (λ (b a : List (List ℕ) × List CaseTree). cases_differences old new b a) before after in
     subst (λ (ds : List Difference). OnOk c.compare_cases.result (c.compare_cases.new.out.items ≡ c.args.out.now.items ++ ds)) same c.compare_cases.ensures
