@@ -166,16 +166,9 @@ fn all_eased(told: Vec<Difference>) -> Result<Vec<Difference>, AllocError>
 fn eased_difference(difference: Difference) -> Difference
     ensures { result ≡ record difference { weights = eased difference.weights } }
 {
-    let Difference {
-        weights,
-        part,
-        turn,
-    } = difference;
-    Difference {
-        weights: eased(weights),
-        part,
-        turn,
-    }
+    let mut counted = difference;
+    counted.weights = eased(counted.weights);
+    counted
 }
 
 /// What is told of an entry of the old listing that belongs to none.
