@@ -191,4 +191,3 @@ base-none L place n old before past =
     by true b = refl
     by false true = refl
     by false false = refl
-

@@ -26,7 +26,7 @@ loop-place-preserved g c =
     let y = c.index-new-place.result in
     let within : i < length new = omega (arith, c.loop-place-test.true, c.if-old-new.false) in
     let same : bytes_eq (name_of x) (name_of y) ≡ true = ap₂ bytes_eq (sym c.name.ensures) (sym c.name-in-loop-place.ensures)
-        ∙ not-false (bytes_eq c.name.result.now c.name-in-loop-place.result.now) (sym c.ne.ensures ∙ c.if-ne.false)
+    ∙ not-false (bytes_eq c.name.result.now c.name-in-loop-place.result.now) (sym c.ne.ensures ∙ c.if-ne.false)
     in
     ap (λ (b : Bool). b && pointwise bytes_eq (map name_of (drop (i + 1) old)) (map name_of (drop (i + 1) new))) (sym same)
     ∙ sym (names-next name_of old new i x y c.loop-place-test.true within c.index-old-place.is c.index-new-place.is)
@@ -42,7 +42,7 @@ returns-then-ne g c =
     let y = c.index-new-place.result in
     let within : i < length new = omega (arith, c.loop-place-test.true, c.if-old-new.false) in
     let other : bytes_eq (name_of x) (name_of y) ≡ false = ap₂ bytes_eq (sym c.name.ensures) (sym c.name-in-loop-place.ensures)
-        ∙ not-true (bytes_eq c.name.result.now c.name-in-loop-place.result.now) (sym c.ne.ensures ∙ c.if-ne.true)
+    ∙ not-true (bytes_eq c.name.result.now c.name-in-loop-place.result.now) (sym c.ne.ensures ∙ c.if-ne.true)
     in
     ap (λ (b : Bool). b && pointwise bytes_eq (map name_of (drop (i + 1) old)) (map name_of (drop (i + 1) new))) (sym other)
     ∙ sym (names-next name_of old new i x y c.loop-place-test.true within c.index-old-place.is c.index-new-place.is)

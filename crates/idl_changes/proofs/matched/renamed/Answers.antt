@@ -22,8 +22,8 @@ returns-then-is_some g c =
     let read = c.in_ok-other.ensures.lookup.3 in
     let at = slice_get-map name_of c.args.lists.1.now i ∙ ap (option_map name_of) (slice_get_read c.args.lists.1.now (length c.args.lists.1.now) i other refl read.0 (read.1 other)) in
     let held = ap (λ (n : List ℕ). is_some (position (bytes_eq n) old)) (sym c.name.ensures)
-        ∙ ap is_some (sym (c.requires.before c.name.result.now))
-        ∙ ap is_some (sym c.get-2.ensures) ∙ some-copied c.get-2.result ∙ sym c.is_some.ensures ∙ c.if-is_some.true
+    ∙ ap is_some (sym (c.requires.before c.name.result.now))
+    ∙ ap is_some (sym c.get-2.ensures) ∙ some-copied c.get-2.result ∙ sym c.is_some.ensures ∙ c.if-is_some.true
     in
     sym (renamed-there old new i (name_of other) at
     ∙ ap (λ (b : Bool). if nat_eq (length old) (length new) && not b then Some i else None) held
@@ -39,8 +39,8 @@ returns g c =
     let read = c.in_ok-other.ensures.lookup.3 in
     let at = slice_get-map name_of c.args.lists.1.now i ∙ ap (option_map name_of) (slice_get_read c.args.lists.1.now (length c.args.lists.1.now) i other refl read.0 (read.1 other)) in
     let held = ap (λ (n : List ℕ). is_some (position (bytes_eq n) old)) (sym c.name.ensures)
-        ∙ ap is_some (sym (c.requires.before c.name.result.now))
-        ∙ ap is_some (sym c.get-2.ensures) ∙ some-copied c.get-2.result ∙ sym c.is_some.ensures ∙ c.if-is_some.false
+    ∙ ap is_some (sym (c.requires.before c.name.result.now))
+    ∙ ap is_some (sym c.get-2.ensures) ∙ some-copied c.get-2.result ∙ sym c.is_some.ensures ∙ c.if-is_some.false
     in
     let first = length-map c.args.lists.0.now name_of in
     let second = length-map c.args.lists.1.now name_of in

@@ -54,9 +54,9 @@ loop-base-preserved c = λ i name.
     let own = c.list_at-in-loop-base.ensures ∙ called-there L base c.args.called.now c.requires.called in
     let so_far = called_in L k ++ flat_map (called_in L) (take at (ancestors L k)) in
     let more = ap (λ (ks : List ℕ). flat_map (called_in L) (take (at + 1) ks)) (sym above)
-        ∙ ap (flat_map (called_in L)) (take_more items at 0 c.loop-base-test.true)
-        ∙ flat_map-append (called_in L) (take at items) (base ∷ [])
-        ∙ ap₂ (λ (ks ls : List ℕ). flat_map (called_in L) (take at ks) ++ ls) above (append-nil (called_in L base))
+    ∙ ap (flat_map (called_in L)) (take_more items at 0 c.loop-base-test.true)
+    ∙ flat_map-append (called_in L) (take at items) (base ∷ [])
+    ∙ ap₂ (λ (ks ls : List ℕ). flat_map (called_in L) (take at ks) ++ ls) above (append-nil (called_in L base))
     in
     c.in_ok-offer_all-2.ensures i name
     ∙ ap₂ (λ (o : Option ℕ) (ks : List ℕ). option_or o (if nat_eq i k then find (λ n. bytes_eq name (name_at L n)) ks else None)) (c.loop-base.invariant i name) own

@@ -21,7 +21,7 @@ loop-last-preserved c =
     let last = c.in-Some.last in
     let new = c.add_bases-in-Some.new.among.keys in
     let next = ancestors-next L c.loop-last.bound last c.loop-last.among.keys c.pop_last.new.self.keys new c.loop-last.found.items _ c.in-Some.ensures.removal c.loop-last.invariant.below
-        c.in-Some.ensures.all_below c.in_ok-add_bases-2.ensures c.loop-last.invariant.rest
+    c.in-Some.ensures.all_below c.in_ok-add_bases-2.ensures c.loop-last.invariant.rest
     in
     record { below = next.0; rest = ap (λ (ns : List ℕ). ns ++ inherited_before L last new) c.in_ok-push.ensures.items ∙ next.1 }
 
