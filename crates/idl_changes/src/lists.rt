@@ -1,6 +1,7 @@
 //! Parts of entries that are lists with names.
 
-ghost use Rattle.std.specs.Prelude.{◌≡◌, ◌+◌, ◌-◌, ◌^◌, ◌<◌, ◌++◌, [], IfOk, OnOk, codes, decimal, false, flat_map, if◌then◌else◌, option_and_then, option_copied, slice_get, unwrap_or};
+ghost use Rattle.std.specs.Prelude.{◌≡◌, ◌+◌, ◌-◌, ◌^◌, ◌<◌, ◌++◌, ◌&&◌, [], IfOk, OnOk, codes, decimal, false, flat_map, if◌then◌else◌, option_and_then, option_copied, slice_get, unwrap_or};
+ghost use Rattle.std.specs.Bool.{beq};
 ghost use Rattle.std.specs.List.{enumerate_from, zip};
 ghost use Rattle.std.specs.Option.{option_map_or};
 ghost use Rattle.idl_changes.specs.Differences.{direction_differences, item_differences, item_part, list_differences, matched_differences, name_differences, new_differences, order_differences, told};
@@ -380,7 +381,7 @@ fn compare_directions(
     ensures { OnOk result (out.new.items
         ≡ out.old.items ++ direction_differences old.now new.now) }
 {
-    if old.goes_in == new.goes_in && old.comes_out == new.comes_out {
+    if is_same_direction(old, new) {
         return Ok(());
     }
     let part = part_of(
@@ -391,4 +392,12 @@ fn compare_directions(
     let was = direction_word(old.goes_in, old.comes_out);
     let is = direction_word(new.goes_in, new.comes_out);
     push_changed(Line::Direction, &part, (was, is), out)
+}
+
+// Whether both go in or neither does, and whether both come out or neither does.
+fn is_same_direction(old: &ParameterTree, new: &ParameterTree) -> bool
+    ensures { result ≡ (beq old.now.goes_in new.now.goes_in
+        && beq old.now.comes_out new.now.comes_out) }
+{
+    old.goes_in == new.goes_in && old.comes_out == new.comes_out
 }

@@ -17,7 +17,7 @@ returns-in_default c =
     let e = c.args.entry.now in
     let gone = as_called old new e (told line.CalledGone [] turn.Gone) in
     let found = c.in_ok-interface.ensures
-    ∙ ap (λ (L : List RowTree). option_and_then (λ (o : ℕ). if is_own_offer L o c.args.place e then Some o else None) (interface_of L e)) c.before.ensures
+    ∙ ap (λ (L : List RowTree). option_and_then (λ (o : ℕ). if is_own_offer L o c.args.place e then Some o else None) (interface_of L e)) c.before-2.ensures
     in
     c.new-told.ensures.items
     ∙ sym (told-kept (λ (o : ℕ). is_own_offer old o c.args.place e) (λ (o : ℕ). is_some (joined old new o)) gone (interface_of old e)
@@ -30,7 +30,7 @@ returns-then-is_none c =
     let e = c.args.entry.now in
     let gone = as_called old new e (told line.CalledGone [] turn.Gone) in
     let found = c.in_ok-interface.ensures
-    ∙ ap (λ (L : List RowTree). option_and_then (λ (o : ℕ). if is_own_offer L o c.args.place e then Some o else None) (interface_of L e)) c.before.ensures
+    ∙ ap (λ (L : List RowTree). option_and_then (λ (o : ℕ). if is_own_offer L o c.args.place e then Some o else None) (interface_of L e)) c.before-2.ensures
     in
     let lone = ap is_some (sym c.joined.ensures) ∙ c.is_none.ensures ∙ ap not c.if-is_none.true in
     c.new-told.ensures.items
@@ -45,7 +45,7 @@ returns c =
     let e = c.args.entry.now in
     let gone = as_called old new e (told line.CalledGone [] turn.Gone) in
     let found = c.in_ok-interface.ensures
-    ∙ ap (λ (L : List RowTree). option_and_then (λ (o : ℕ). if is_own_offer L o c.args.place e then Some o else None) (interface_of L e)) c.before.ensures
+    ∙ ap (λ (L : List RowTree). option_and_then (λ (o : ℕ). if is_own_offer L o c.args.place e then Some o else None) (interface_of L e)) c.before-2.ensures
     in
     let goes_on = ap is_some (sym c.joined.ensures) ∙ c.is_none.ensures ∙ ap not c.if-is_none.false in
     let same = ap (as_called old new e) (c.in_ok-push_told.ensures ∙ ap (λ (ds : List Difference). ds ++ told line.CalledGone [] turn.Gone) c.new-told.ensures.items)

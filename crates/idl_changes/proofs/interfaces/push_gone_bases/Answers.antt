@@ -28,7 +28,7 @@ loop-base-preserved c =
     in
     left-told
     (λ m. if list_any (λ n. is_partner old new m (Some n)) (ancestors new places.1) then [] else told line.BaseGone (codes "base " ++ path_at old m) turn.Gone)
-    items (ancestors old places.0) (c.ancestors-bases.ensures ∙ ap (λ (L : List RowTree). ancestors L places.0) c.before.ensures)
+    items (ancestors old places.0) (c.ancestors-bases.ensures ∙ ap (λ (L : List RowTree). ancestors L places.0) c.before-2.ensures)
     i m out c.push_gone_base.new.out.items _ c.loop-base-test.true (get_or_default items i 0 m c.loop-base-test.true)
     (c.in_ok-push_gone_base.ensures ∙ ap (λ (b : Bool). out ++ (if b then [] else gone)) among) c.loop-base.invariant
 
@@ -39,5 +39,5 @@ returns c =
     let places = c.args.places in
     all-told
     (λ m. if list_any (λ n. is_partner old new m (Some n)) (ancestors new places.1) then [] else told line.BaseGone (codes "base " ++ path_at old m) turn.Gone)
-    c.ancestors-bases.result.now (ancestors old places.0) (c.ancestors-bases.ensures ∙ ap (λ (L : List RowTree). ancestors L places.0) c.before.ensures)
+    c.ancestors-bases.result.now (ancestors old places.0) (c.ancestors-bases.ensures ∙ ap (λ (L : List RowTree). ancestors L places.0) c.before-2.ensures)
     c.loop-base.base-index c.loop-base.out.items _ c.loop-base-test.false c.loop-base.invariant

@@ -15,8 +15,8 @@ invariant-loop-base l =
     let new = l.sides.1 in
     l.out.items
     ++ flat_map
-    (λ m. if list_any (λ n. is_partner old new m (Some n)) (ancestors new l.places.1)
+    (λ m. if list_any (λ n. is_partner old new m (Some n)) (ancestors new l.fn.places.1)
     then []
     else told line.BaseGone (codes "base " ++ path_at old m) turn.Gone)
-    (drop l.base-index (ancestors old l.places.0))
-    ≡ l.fn.out.items ++ gone_bases old new l.places.0 l.places.1
+    (drop l.base-index (ancestors old l.fn.places.0))
+    ≡ l.fn.out.items ++ gone_bases old new l.fn.places.0 l.fn.places.1

@@ -20,7 +20,7 @@ loop-base-preserved c =
     let n = get_or items i 0 in
     let out = c.loop-base.out.items in
     let added = told (base_line old new places.0 n) (codes "base " ++ path_at new n) turn.New in
-    let below = c.ancestors.ensures ∙ ap (λ (L : List RowTree). ancestors L places.0) c.before.ensures in
+    let below = c.ancestors.ensures ∙ ap (λ (L : List RowTree). ancestors L places.0) c.before-2.ensures in
     let goes_on = c.in_ok-goes_on.ensures n ∙ ap (list_any (λ (m : ℕ). is_partner old new m (Some n))) below in
     left-told
     (λ n. if list_any (λ m. is_partner old new m (Some n)) (ancestors old places.0) then [] else told (base_line old new places.0 n) (codes "base " ++ path_at new n) turn.New)

@@ -14,6 +14,6 @@ returns c =
     let u = c.args.new.now in
     c.is_written.ensures
     ∙ ap₂ (λ (a b : LayeredType). is_written old new a b)
-    (c.in_ok-old_plain.ensures ∙ ap (λ (L : List RowTree). plain L t) c.before.ensures)
+    (c.in_ok-old_plain.ensures ∙ ap (λ (L : List RowTree). plain L t) c.before-2.ensures)
     (c.in_ok-new_plain.ensures ∙ ap (λ (L : List RowTree). plain L u) c.after.ensures)
     ∙ sym (ap (λ (b : Bool). b || is_written old new (plain old t) (plain new u)) c.requires)

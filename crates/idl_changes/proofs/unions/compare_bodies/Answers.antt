@@ -15,7 +15,7 @@ returns c =
     let pair : List (List ℕ) → List CaseTree → List (List ℕ) × List CaseTree = λ names cases. (names, cases) in
     let before = c.in_ok-old_labels.ensures
     ∙ ap₂ pair
-    (c.in_ok-old_names.ensures ∙ ap (λ (L : List RowTree). enumerators L u.discriminator) c.before.ensures) c.as_slice.ensures
+    (c.in_ok-old_names.ensures ∙ ap (λ (L : List RowTree). enumerators L u.discriminator) c.before-2.ensures) c.as_slice.ensures
     in
     let after = c.in_ok-new_labels.ensures
     ∙ ap₂ pair
