@@ -67,9 +67,10 @@ _idltool() {
             case $before in
                 -I | --old-I | --new-I) _idl_directories "$word" ;;
                 -D | -U) ;;
+                --fail-on) mapfile -t COMPREPLY < <(compgen -W 'never wire client servant names new' -- "$word") ;;
                 *)
                     case $word in
-                        -*) mapfile -t COMPREPLY < <(compgen -W '-D -U -I --old-I --new-I --help' -- "$word") ;;
+                        -*) mapfile -t COMPREPLY < <(compgen -W '-D -U -I --old-I --new-I --fail-on --help' -- "$word") ;;
                         *) _idl_files "$word" ;;
                     esac
                     ;;

@@ -1,6 +1,6 @@
 -- What the words behind the program's name ask for: the options that there are, and what each word
 -- is to them by clap's `subcommand_of`, or what is wrong with the words by its `fault_of`.
-use Rattle.std.specs.Prelude.{◌≡◌, ◌≢◌, ◌⊎◌, List, [], ◌∷◌, ◌++◌, Option, Some, true, codes, map}
+use Rattle.std.specs.Prelude.{◌≡◌, ◌≢◌, ◌⊎◌, List, [], ◌∷◌, ◌++◌, Option, None, Some, true, codes, map}
 use Rattle.std.specs.Option.{option_map, option_to_list}
 use Rattle.clap.specs.Words.{App, Kinds, Row, Rule, Shape, Text, fault_of, first_of, new_app, new_rule, subcommand_of, with_subcommand}
 use Rattle.clap.specs.Simple.{new_shape, on_top}
@@ -8,6 +8,9 @@ use Rattle.clap.specs.declared.builder.action.ArgAction.TheVariants.{Append, Set
 use Rattle.idl_driver.specs.Parsed.{IsDisplay, IsRefusal, Tells}
 use Rattle.idl_driver.specs.Words.{AreOptionsOf, file_rule, flag_rule, option_rules, stands, values_of}
 use Rattle.idl_driver.specs.declared.options.Options.{Options}
+use Rattle.idl_changes.specs.Chosen.{weights_named}
+use Rattle.idl_changes.specs.Rows.{callers}
+use Rattle.idl_changes.specs.declared.rows.Weights.{Weights}
 use Rattle.idl_tool.specs.declared.request.Deps.{Deps}
 use Rattle.idl_tool.specs.declared.request.Diff.{Diff}
 use Rattle.idl_tool.specs.declared.request.Check.{Check}
@@ -63,13 +66,21 @@ side_rule id long =
 abbrev pub version_rule : Text → Rule
 version_rule id = record (new_rule id) { required = true; action = Some Set; value_names = 1 }
 
--- `-D`, `-U`, `-I`, these two, OLD and NEW
+-- `--fail-on WEIGHT[,WEIGHT..]`, or `--fail-on never`, once at most
+abbrev pub fails_rule : Rule
+fails_rule = record (new_rule (codes "fail-on")) {
+  long = Some (codes "fail-on");
+  action = Some Set;
+  value_names = 1;
+}
+
+-- `-D`, `-U`, `-I`, these three, OLD and NEW
 abbrev pub diff_shape : Shape
 diff_shape = record (new_shape (codes "diff")) {
   rules = option_rules
       ++ side_rule (codes "old-directory") (codes "old-I")
       ∷ side_rule (codes "new-directory") (codes "new-I")
-      ∷ version_rule (codes "old") ∷ version_rule (codes "new") ∷ [];
+      ∷ fails_rule ∷ version_rule (codes "old") ∷ version_rule (codes "new") ∷ [];
 }
 
 -- `--stdio`, which changes nothing
@@ -132,9 +143,18 @@ pub record AreSideOf (file directory : Text) (rows : List Row) (options : Option
       ≡ values_of directory rows ++ values_of (codes "directory") rows
   pub files : map (λ w. w.now) options.files.items ≡ option_to_list (first_of file rows)
 
+-- the weights with which a change is an error: on the wire and for clients, where none are named
+abbrev pub fails_of : Option Text → Option Weights
+fails_of None = Some callers
+fails_of (Some text) = weights_named text
+
+abbrev pub fails_in : List Row → Option Weights
+fails_in rows = fails_of (first_of (codes "fail-on") rows)
+
 pub record AreDiffOf (rows : List Row) (diff : Diff) : Type 0 where
   pub old : AreSideOf (codes "old") (codes "old-directory") rows diff.old
   pub new : AreSideOf (codes "new") (codes "new-directory") rows diff.new
+  pub fails : fails_in rows ≡ Some diff.fails
 
 -- what words ask for: to show a text, to explain words or all, to write rules, to check files, to
 -- write JSON, to tell what changes, or to serve an editor
@@ -163,6 +183,12 @@ NamesNone words = (faults_in words ≡ [])
     × ((rows : List Row) → entered_in words ≢ Some (codes "diff", rows))
     × ((rows : List Row) → entered_in words ≢ Some (codes "lsp", rows))
 
+-- clap takes the words, and `--fail-on` has a word that is no weight
+abbrev pub NamesNoWeight : List Text → Type 0
+NamesNoWeight words =
+    (rows : List Row) × Enters (codes "diff") words rows × (fails_in rows ≡ None)
+
 -- words that ask for nothing
 abbrev pub AreWrong : List Text → Type 0
-AreWrong words = Tells IsRefusal (faults_in words) ⊎ NamesNone words
+AreWrong words =
+    Tells IsRefusal (faults_in words) ⊎ (NamesNone words ⊎ NamesNoWeight words)

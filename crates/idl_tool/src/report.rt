@@ -129,8 +129,12 @@ fn token_in(finding: &Finding) -> &[u8]
     }
 }
 
-// Writes `FILE:LINE:COLUMN`, or `FILE:LINE`.
-fn push_place(place: &Place, column: Option<usize>, out: &mut Vec<u8>) -> Result<(), AllocError>
+/// Writes `FILE:LINE:COLUMN`, or `FILE:LINE`.
+pub(crate) fn push_place(
+    place: &Place,
+    column: Option<usize>,
+    out: &mut Vec<u8>,
+) -> Result<(), AllocError>
     ensures { OnOk result (out.new.items ≡ out.old.items ++ place_text place.now column) }
 {
     out.extend_from_slice(place.file.as_bytes())?;

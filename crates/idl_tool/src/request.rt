@@ -1,14 +1,15 @@
 //! The words that the program is given.
 
-ghost use Rattle.std.specs.Prelude.{◌≡◌, IfErr, IfOk, [], codes, false, map, true};
+ghost use Rattle.std.specs.Prelude.{◌≡◌, IfErr, IfOk, [], Some, codes, false, map, true};
 ghost use Rattle.std.specs.Option.{option_to_list};
 ghost use Rattle.clap.specs.Words.{app_of, first_of, found_of, rows_of, rule_of, shape_of, subcommand_rows_of};
 ghost use Rattle.clap.specs.declared.builder.command.Command.TheViews.{out-Command as fields_of};
 ghost use Rattle.idl_driver.specs.Parsed.{SaysWrong};
 ghost use Rattle.idl_driver.specs.Words.{file_rule};
-ghost use Rattle.idl_tool.specs.Words.{AreCheckOf, AreDepsOf, AreWrong, AreDiffOf, AreSideOf, IsRequestOf, bare, check_shape, deps_shape, diff_shape, lsp_shape, entered_in, explain_shape, faults_in, generated_rule, idltool, json_shape, present_rule, side_rule, stdio_rule, target_rule, version_rule, werror_rule, word_rule};
+ghost use Rattle.idl_tool.specs.Words.{AreCheckOf, AreDepsOf, AreWrong, AreDiffOf, AreSideOf, IsRequestOf, bare, check_shape, deps_shape, diff_shape, lsp_shape, entered_in, explain_shape, fails_in, fails_rule, faults_in, generated_rule, idltool, json_shape, present_rule, side_rule, stdio_rule, target_rule, version_rule, werror_rule, word_rule};
 
 use clap::{Arg, ArgAction, ArgMatches, Command};
+use idl_changes::Weights;
 use idl_driver::{
     Options, ParsedWords, WordsFault, options_of, parse_words, values_of, with_options,
 };
@@ -36,13 +37,15 @@ pub struct Deps<'a> {
     pub leaves_absent: bool,
 }
 
-/// Which files are to be compared, and what each is compiled over.
+/// Which files are to be compared, what each is compiled over, and which changes are errors.
 #[derive(Drop)]
 pub struct Diff<'a> {
     /// The old file.
     pub old: Options<'a>,
     /// The new one.
     pub new: Options<'a>,
+    /// The weights with which a change is an error.
+    pub fails: Weights,
 }
 
 /// What the words ask for.
@@ -104,7 +107,16 @@ fn chosen<'a>(
         return Ok(ToolRequest::Serve);
     }
     match matches.subcommand_matches("diff") {
-        Some(diff) => Ok(ToolRequest::Diff(diff_of(alloc, diff)?)),
+        Some(diff) => match fails_of(diff) {
+            Some(fails) => Ok(ToolRequest::Diff(diff_of(alloc, diff, fails)?)),
+            None => {
+                let text = String::from_str(
+                    alloc,
+                    "--fail-on: never, or of wire, client, servant, names and new, with commas between",
+                )?;
+                Err(WordsFault::Wrong(text))
+            }
+        },
         // One of the six is wanted.
         None => Err(WordsFault::Wrong(String::new(alloc))),
     }
@@ -140,7 +152,7 @@ fn bare<'a>(alloc: Global) -> Command<'a>
             "Checks files, tells what the rows of idlc mean, what files stand on and what changes from one to another, and writes JSON.",
         )
         .after_help(
-            "The status is 0; or 1 where a FILE has errors, or a change breaks something; or 2 for wrong words and other trouble, which standard error tells.",
+            "The status is 0; or 1 where a FILE has errors, or a change is one; or 2 for wrong words and other trouble, which standard error tells.",
         )
 }
 
@@ -197,11 +209,12 @@ fn diff_command<'a>(alloc: Global) -> Result<Command<'a>, AllocError>
     ensures local { IfOk result (λ command. (fields_of command).has_globals ≡ false) }
 {
     let command = Command::new(alloc, "diff")
-        .about("Tells what changes from one version of a FILE to another, and what of that breaks")
+        .about("Tells what changes from one version of a FILE to another, and for whom it counts")
         .override_usage("idltool diff [OPTIONS] OLD NEW");
     with_options(alloc, command)?
         .arg(old_directory(alloc))?
         .arg(new_directory(alloc))?
+        .arg(fails(alloc))?
         .arg(old_file(alloc))?
         .arg(new_file(alloc))
 }
@@ -310,6 +323,17 @@ fn new_directory<'a>(alloc: Global) -> Arg<'a>
         .help("Searches DIR, before those of -I, for files that NEW includes")
 }
 
+fn fails<'a>(alloc: Global) -> Arg<'a>
+    ensures rule { rule_of result ≡ fails_rule }
+    ensures global { result.global ≡ false }
+{
+    Arg::new(alloc, "fail-on")
+        .long("fail-on")
+        .value_name("WEIGHT[,WEIGHT..]")
+        .action(ArgAction::Set)
+        .help("The weights of a change that is an error, or never; without it wire,client")
+}
+
 fn old_file<'a>(alloc: Global) -> Arg<'a>
     ensures rule { rule_of result ≡ version_rule (codes "old") }
     ensures global { result.global ≡ false }
@@ -352,12 +376,27 @@ fn deps_of<'a>(alloc: Global, matches: &ArgMatches<'a>) -> Result<Deps<'a>, Allo
     })
 }
 
-fn diff_of<'a>(alloc: Global, matches: &ArgMatches<'a>) -> Result<Diff<'a>, AllocError>
+// The weights with which a change is an error.
+fn fails_of(matches: &ArgMatches<'_>) -> Option<Weights>
+    ensures { result ≡ fails_in (rows_of (found_of matches.now)) }
+{
+    match matches.get_str("fail-on") {
+        Some(text) => Weights::named(text.as_bytes()),
+        None => Some(Weights::of_callers()),
+    }
+}
+
+fn diff_of<'a>(
+    alloc: Global,
+    matches: &ArgMatches<'a>,
+    fails: Weights,
+) -> Result<Diff<'a>, AllocError>
+    requires { fails_in (rows_of (found_of matches.now)) ≡ Some fails }
     ensures { IfOk result (AreDiffOf (rows_of (found_of matches.now))) }
 {
     let old = side_of(alloc, matches, "old", "old-directory")?;
     let new = side_of(alloc, matches, "new", "new-directory")?;
-    Ok(Diff { old, new })
+    Ok(Diff { old, new, fails })
 }
 
 // What is asked for of the file that this argument names, and of which this option has the directories.
