@@ -75,6 +75,7 @@ fn token_range(
     ensures { result ≡ range_of encoding session.now.project
         token.entry.place.now token.entry.number token.entry.text.now }
 {
+    lines.keeps_form();
     match session.column(token.place, token.number, token.text) {
         Some(column) => {
             let end = column.saturating_add(token.text.len());
