@@ -1,6 +1,6 @@
 //! Places in files of a session as positions of an editor.
 
-ghost use Rattle.std.specs.Prelude.{◌≡◌, ◌+◌, ◌*◌, ◌<◌, ◌≤◌, IfOk, IfSome, length, take};
+ghost use Rattle.std.specs.Prelude.{◌≡◌, ◌+◌, ◌*◌, ◌<◌, ◌≤◌, [], IfOk, IfSome, length, slice_get, take, unwrap_or};
 ghost use Rattle.std.specs.List.{sum_by};
 ghost use Rattle.idl_source.specs.Limits.{longest_line, most_lines};
 ghost use Rattle.idl_inputs.specs.WithinLimits.{IsAllowedFile};
@@ -75,6 +75,7 @@ fn token_range(
     ensures { result ≡ range_of encoding session.now.project
         token.entry.place.now token.entry.number token.entry.text.now }
 {
+    lines.keeps_form();
     match session.column(token.place, token.number, token.text) {
         Some(column) => {
             let end = column.saturating_add(token.text.len());
@@ -241,11 +242,18 @@ impl<'a> CountedLines<'a> {
             return Position { line: 0, column: 0 };
         };
         let before = index + self.returns_before(index);
-        let bytes = match self.lines.get(index) {
+        let bytes = self.bytes_of(index);
+        position_behind(encoding, before, &bytes[..column.min(bytes.len())])
+    }
+
+    // The bytes of the line with this index, or none.
+    fn bytes_of(&self, index: usize) -> &[u8]
+        ensures { result.now ≡ unwrap_or (slice_get self.now index) [] }
+    {
+        match self.lines.get(index) {
             Some(line) => line.as_bytes(),
             None => b"",
-        };
-        position_behind(encoding, before, &bytes[..column.min(bytes.len())])
+        }
     }
 
     // How many carriage returns are before the line with this index.
