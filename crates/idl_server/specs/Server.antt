@@ -63,3 +63,8 @@ pub record HasTaken (told : Option Told) (old new : Server) : Type 0 where
   pub held : OnlyRefusedAreBehind old.workspace.session.project
       old.workspace.documents.entries new.workspace.documents.entries
   pub set : old.phase ≡ Running → StaysSet old.workspace new.workspace
+
+-- a server that was told nothing
+pub record IsNew (server : Server) : Type 0 where
+  pub waits : server.phase ≡ Waiting
+  pub blank : IsBlank server.workspace

@@ -1,6 +1,13 @@
 //! The language server over its streams: messages of an editor are read, and what is to be said is written.
 
-ghost use Rattle.std.specs.Prelude.{◌≡◌, ◌<◌, ◌-◌, ◌^◌, OnOk};
+ghost use Rattle.std.specs.Prelude.{◌≡◌, ◌<◌, ◌≤◌, ◌-◌, ◌^◌, ℕ, List, [], map, Option, IfOk, OnOk};
+ghost use Rattle.serde_json.specs.Data.{Data};
+ghost use Rattle.serde_json.specs.View.{view};
+ghost use Rattle.idl_source.specs.devices.Device.{append, prepend};
+ghost use Rattle.idl_editor.specs.frames.Reading.{IsNearer, Receives, fuel};
+ghost use Rattle.idl_server.specs.Server.{IsNew, IsSettled};
+ghost use Rattle.idl_server.specs.Serving.{AreWritten, HasStepped, IsServed, status_by};
+ghost use Rattle.idl_server.specs.declared.server.Server.{Server};
 
 use crate::server::{Server, StepOutcome};
 use idl_editor::frames::{ReadFault, Reader, Received, message_of};
@@ -31,7 +38,12 @@ impl Service for LanguageServer {
         loader: &mut L,
         source: &mut S,
         output: &mut O,
-    ) -> Result<Status, ServiceFault> {
+    ) -> Result<Status, ServiceFault>
+        ensures well { OnOk result (O.failures output.new ≡ O.failures output.old) }
+        ensures served { IfOk result (λ status. (first : Server) × IsNew first
+            × IsServed (L.told_of loader.old) first (S.remaining source.old)
+            (O.written output.old) (O.written output.new) status) }
+    {
         let mut server = Server::new(self.alloc);
         answer_messages(&mut server, loader, source, output)
     }
@@ -46,25 +58,43 @@ fn answer_messages<L: PathLoader, S: Source, O: Sink>(
 ) -> Result<Status, ServiceFault>
     requires reads { S.failures source.old < 2 ^ 64 - 1 }
     requires writes { O.failures output.old < 2 ^ 64 - 1 }
+    requires settled { IsSettled (L.told_of loader.old) server.old }
     ensures well { OnOk result (O.failures output.new ≡ O.failures output.old) }
+    ensures served { IfOk result (λ status. IsServed (L.told_of loader.old) server.old
+        (S.remaining source.old) (O.written output.old) (O.written output.new) status) }
 {
     let mut reader = Reader::new(server.workspace.session.allocator());
-    'messages: for _ in 0..u64::MAX {
+    'messages: loop {
         let Received::Body(body) = received(&mut reader, source)? else {
             return Ok(Status::Faulty);
         };
-        match answer_message(server, loader, &body, output)? {
-            StepOutcome::Goes => {}
-            StepOutcome::Ends => return Ok(Status::Sound),
-            StepOutcome::BreaksOff => return Ok(Status::Faulty),
+        let outcome = answer_message(server, loader, &body, output)?;
+        if let StepOutcome::Goes = outcome {
+            continue;
         }
+        return Ok(status_by(outcome));
     }
-    Ok(Status::Faulty)
+}
+
+// How a program ends by what its last message came to.
+fn status_by(outcome: StepOutcome) -> Status
+    ensures { result ≡ status_by outcome }
+{
+    match outcome {
+        StepOutcome::Ends => Status::Sound,
+        _ => Status::Faulty,
+    }
 }
 
 // The next message, or that there is none.
 fn received<S: Source>(reader: &mut Reader, source: &mut S) -> Result<Received, ServiceFault>
     requires reads { S.failures source.old < 2 ^ 64 - 1 }
+    ensures received { IfOk result (λ received. Receives received
+        (prepend reader.old (S.remaining source.old))
+        (prepend reader.new (S.remaining source.new))) }
+    ensures nearer { IfOk result (λ received. IsNearer received
+        (fuel (S.reads_left source.old) reader.old)
+        (fuel (S.reads_left source.new) reader.new)) }
     ensures ok { OnOk result (S.failures source.new ≡ S.failures source.old) }
 {
     match reader.receive(source) {
@@ -83,7 +113,12 @@ fn answer_message<L: PathLoader, O: Sink>(
     output: &mut O,
 ) -> Result<StepOutcome, ServiceFault>
     requires writes { O.failures output.old < 2 ^ 64 - 1 }
+    requires settled { IsSettled (L.told_of loader.old) server.old }
     ensures ok { OnOk result (O.failures output.new ≡ O.failures output.old) }
+    ensures stepped { IfOk result (λ outcome. (said : List Data) × (text : List ℕ)
+        × HasStepped (L.told_of loader.old) body.now server.old said server.new outcome
+        × AreWritten said text × (O.written output.new ≡ append (O.written output.old) text)) }
+    ensures stays { L.told_of loader.new ≡ L.told_of loader.old }
 {
     let mut out = Outbox::new(server.workspace.session.allocator());
     let next = server.step(loader, body, &mut out)?;
@@ -99,6 +134,8 @@ fn write_messages<O: Sink>(
 ) -> Result<(), ServiceFault>
     requires writes { O.failures output.old < 2 ^ 64 - 1 }
     ensures ok { OnOk result (O.failures output.new ≡ O.failures output.old) }
+    ensures written { OnOk result ((text : List ℕ) × AreWritten (map view messages.now) text
+        × (O.written output.new ≡ append (O.written output.old) text)) }
 {
     'messages: for value in messages {
         let body = value.to_vec(alloc)?;

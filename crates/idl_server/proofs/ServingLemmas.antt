@@ -1,0 +1,143 @@
+-- What a server says and is told, message after message.
+use Rattle.std.proofs.Common.{◌≡◌, ◌≢◌, ◌∙◌, ◌⊎◌, ◌++◌, ◌∷◌, [], ℕ, All, List, None, Ok, Err, Option, Result, Some, ap, append_assoc, append-nil, inl, inr, refl, subst, sym}
+use Rattle.std.proofs.lemmas.Grind.{flat_map-append}
+use Rattle.std.proofs.lemmas.List.Elements.{Contains-append_left, Contains-push}
+use Rattle.std.specs.List.{Contains, flat_map}
+use Rattle.std.specs.Result.{OnOk}
+use Rattle.serde_json.specs.Data.{Data, null}
+use Rattle.idl_source.specs.devices.Device.{append, prepend}
+use Rattle.idl_source.proofs.DeviceLemmas.{append-append}
+use Rattle.idl_editor.specs.documents.Notices.{json_of, told_by_notice}
+use Rattle.idl_editor.specs.frames.Reading.{TakesMessage}
+use Rattle.idl_editor.specs.frames.Written.{message_of}
+use Rattle.idl_editor.specs.messages.Answers.{answer_json, error_json, notice_json}
+use Rattle.idl_editor.specs.messages.Message.{IsMessage}
+use Rattle.idl_editor.specs.declared.messages.answer.ErrorCode.{ErrorCode}
+use Rattle.idl_editor.specs.declared.messages.message.Message.{Message}
+use Rattle.idl_editor.specs.declared.messages.message.Message.TheVariants.{Invalid}
+use Rattle.idl_editor.specs.declared.messages.method.Method.{Method}
+use Rattle.idl_editor.specs.declared.messages.method.Method.TheVariants.{Exit, Initialize, Shutdown}
+use Rattle.idl_editor.specs.uris.Folders.{FolderNamed}
+use Rattle.idl_loader.specs.Holding.{Holding}
+use Rattle.idl_server.specs.Messages.{IsMessageOf, answered, next_by, outcome_by}
+use Rattle.idl_server.specs.Published.{ArePublished}
+use Rattle.idl_server.specs.Serving.{AreServed, AreWritten, HasStepped, IsWritten, Serves, TakesMessages}
+use Rattle.idl_server.specs.declared.server.Phase.{Phase}
+use Rattle.idl_server.specs.declared.server.Phase.TheVariants.{Running, ShutDown, Waiting}
+use Rattle.idl_server.specs.declared.server.Server.{Server}
+use Rattle.idl_server.specs.declared.server.StepOutcome.TheVariants.{Goes}
+use Rattle.idl_server.specs.declared.workspace.Workspace.{Workspace}
+
+-- ---- which ids are answered
+
+pub answered-append : (a b : List Data) → answered (a ++ b) ≡ answered a ++ answered b
+answered-append a b = flat_map-append (λ json. answered (json ∷ [])) a b
+
+-- one more message was said
+said-one : (before after : List Data) (json : Data) → after ≡ before ++ json ∷ [] → answered after ≡ answered before ++ answered (json ∷ [])
+said-one before after json is = ap answered is ∙ answered-append before (json ∷ [])
+
+pub answered-answer : (before after : List Data) (id outcome : Data) → after ≡ before ++ answer_json id outcome ∷ [] → answered after ≡ answered before ++ id ∷ []
+answered-answer before after id outcome is = said-one before after (answer_json id outcome) is
+
+pub answered-error : (before after : List Data) (id : Data) (code : ErrorCode) → after ≡ before ++ error_json id code ∷ [] → answered after ≡ answered before ++ id ∷ []
+answered-error before after id code is = said-one before after (error_json id code) is
+
+pub answered-notice : (before after : List Data) (method : List ℕ) (params : Data) → after ≡ before ++ notice_json method params ∷ [] → answered after ≡ answered before
+answered-notice before after method params is = said-one before after (notice_json method params) is ∙ append-nil (answered before)
+
+-- what was said stays said
+pub said-stays : (w : Workspace) (before after : List Data) (json : Data) → ArePublished w before after → Contains before json → Contains after json
+said-stays w before after json more there =
+    subst (λ (said : List Data). Contains said json) (sym more.1) (Contains-append_left before more.0 json there)
+
+pub said-last : (before after : List Data) (json : Data) → after ≡ before ++ json ∷ [] → Contains after json
+said-last before after json is = subst (λ (said : List Data). Contains said json) (sym is) (Contains-push before json)
+
+-- ---- which message a body is
+
+pub message-none : (body : List ℕ) → json_of body ≡ None → IsMessageOf body Invalid
+message-none body none = subst (λ (o : Option Data). elim o [ None ↦ Invalid ≡ Invalid | Some json ↦ IsMessage json Invalid ]) (sym none) refl
+
+pub message-some : (body : List ℕ) (json : Data) (message : Message) → json_of body ≡ Some json → IsMessage json message → IsMessageOf body message
+message-some body json message some is = subst (λ (o : Option Data). elim o [ None ↦ message ≡ Invalid | Some json ↦ IsMessage json message ]) (sym some) is
+
+-- ---- where a message leads
+
+pub waits-on : (method : Method) → (method ≡ Initialize → ⊥) → next_by Waiting method ≡ Waiting
+waits-on Initialize not = absurd (not refl)
+waits-on method not = refl
+
+pub runs-on : (method : Method) → (method ≡ Shutdown → ⊥) → next_by Running method ≡ Running
+runs-on Shutdown not = absurd (not refl)
+runs-on method not = refl
+
+-- what ends a server tells nothing of documents
+pub ends-told : (folders : List FolderNamed) (phase : Phase) (method : Method) (params : Data) → (outcome_by phase method ≡ Goes → ⊥) → told_by_notice folders method params ≡ None
+ends-told folders phase Exit params not = refl
+ends-told folders Waiting method params not = absurd (not refl)
+ends-told folders Running method params not = absurd (not refl)
+ends-told folders ShutDown method params not = absurd (not refl)
+
+-- ---- one message after another
+
+pub serves-more : (told : List ℕ → Holding) (old mid new : Server) (bodies : List (List ℕ)) (body : List ℕ) (said more : List Data) → Serves told old bodies said mid → HasStepped told body mid more new Goes
+    → Serves told old (bodies ++ body ∷ []) (said ++ more) new
+serves-more told old mid new [] body said more before steps =
+    (new, more, [], subst (λ (server : Server). HasStepped told body server more new Goes) before.1 steps, ap (λ (s : List Data). s ++ more) before.0 ∙ sym (append-nil more), (refl, refl))
+serves-more told old mid new (first ∷ bodies) body said more before steps = (
+  before.0,
+  before.1,
+  before.2 ++ more,
+  before.3,
+  ap (λ (s : List Data). s ++ more) before.4 ∙ append_assoc before.1 before.2 more,
+  serves-more told before.0 mid new bodies body before.2 more before.5 steps,
+)
+
+pub takes-more : (bodies : List (List ℕ)) (body : List ℕ) (old mid new : Option (List ℕ)) → TakesMessages bodies old mid → TakesMessage body mid new → TakesMessages (bodies ++ body ∷ []) old new
+takes-more [] body old mid new before one = (new, subst (λ (stream : Option (List ℕ)). TakesMessage body stream new) (sym before) one, refl)
+takes-more (first ∷ bodies) body old mid new before one = (before.0, before.1, takes-more bodies body before.0 mid new before.2 one)
+
+-- ---- what is written
+
+pub written-both : (said more : List Data) (text rest : List ℕ) → AreWritten said text → AreWritten more rest → AreWritten (said ++ more) (text ++ rest)
+written-both [] more text rest none are = subst (λ (t : List ℕ). AreWritten more (t ++ rest)) (sym none) are
+written-both (json ∷ said) more text rest some are = (
+  some.0,
+  some.1 ++ rest,
+  some.2,
+  ap (λ (t : List ℕ). t ++ rest) some.3 ∙ append_assoc (message_of some.0) some.1 rest,
+  written-both said more some.1 rest some.4 are,
+)
+
+pub written-one : (json : Data) (body : List ℕ) → IsWritten json body → AreWritten (json ∷ []) (message_of body)
+written-one json body is = (body, [], is, sym (append-nil (message_of body)), refl)
+
+pub prepend-none : (o : Option (List ℕ)) → o ≡ prepend [] o
+prepend-none None = refl
+prepend-none (Some bytes) = refl
+
+pub append-none : (o : Option (List ℕ)) → o ≡ append o []
+append-none None = refl
+append-none (Some bytes) = ap (λ (b : List ℕ). Some b) (sym (append-nil bytes))
+
+-- ---- a session
+
+-- none came yet
+pub served-none : (told : List ℕ → Holding) (server : Server) (stream left written : Option (List ℕ)) → stream ≡ left → AreServed told server stream left written written server
+served-none told server stream left written same =
+    record { bodies = []; said = []; text = []; taken = same; served = (refl, refl); texts = refl; written = append-none written }
+
+-- one more came
+pub served-more : (told : List ℕ → Holding) (old mid new : Server) (stream left rest before written after : Option (List ℕ)) (body : List ℕ) (said : List Data) (text : List ℕ)
+    → AreServed told old stream left before written mid → TakesMessage body left rest → HasStepped told body mid said new Goes → AreWritten said text → after ≡ append written text
+    → AreServed told old stream rest before after new
+served-more told old mid new stream left rest before written after body said text are one steps texts next = record {
+  bodies = are.bodies ++ body ∷ [];
+  said = are.said ++ said;
+  text = are.text ++ text;
+  taken = takes-more are.bodies body stream left rest are.taken one;
+  served = serves-more told old mid new are.bodies body are.said said are.served steps;
+  texts = written-both are.said said are.text text are.texts texts;
+  written = next ∙ ap (λ (o : Option (List ℕ)). append o text) are.written ∙ append-append before are.text text;
+}
