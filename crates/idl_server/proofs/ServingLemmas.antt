@@ -3,7 +3,7 @@ use Rattle.std.proofs.Common.{◌≡◌, ◌≢◌, ◌∙◌, ◌⊎◌, ◌++�
 use Rattle.std.proofs.lemmas.Grind.{flat_map-append}
 use Rattle.std.proofs.lemmas.List.Elements.{Contains-append_left, Contains-push}
 use Rattle.std.specs.List.{Contains, flat_map}
-use Rattle.std.specs.Result.{OnOk}
+use Rattle.std.specs.Result.{IsErr, OnErr, OnOk}
 use Rattle.serde_json.specs.Data.{Data, null}
 use Rattle.idl_source.specs.devices.Device.{append, prepend}
 use Rattle.idl_source.proofs.DeviceLemmas.{append-append}
@@ -13,6 +13,7 @@ use Rattle.idl_editor.specs.frames.Written.{message_of}
 use Rattle.idl_editor.specs.messages.Answers.{answer_json, error_json, notice_json}
 use Rattle.idl_editor.specs.messages.Message.{IsMessage}
 use Rattle.idl_editor.specs.declared.messages.answer.ErrorCode.{ErrorCode}
+use Rattle.idl_editor.specs.declared.messages.answer.ErrorCode.TheVariants.{Internal}
 use Rattle.idl_editor.specs.declared.messages.message.Message.{Message}
 use Rattle.idl_editor.specs.declared.messages.message.Message.TheVariants.{Invalid}
 use Rattle.idl_editor.specs.declared.messages.method.Method.{Method}
@@ -53,6 +54,12 @@ said-stays w before after json more there =
 
 pub said-last : (before after : List Data) (json : Data) → after ≡ before ++ json ∷ [] → Contains after json
 said-last before after json is = subst (λ (said : List Data). Contains said json) (sym is) (Contains-push before json)
+
+-- a request led a server on, or there was no memory for it
+pub led-by : {T E : Type 0} (result : Result T E) (w : Workspace) (old new : Phase) (method : Method) (id : Data) (mid after : List Data) → OnOk result (new ≡ next_by old method) → OnErr result (new ≡ old)
+    → (IsErr result → Contains mid (error_json id Internal)) → ArePublished w mid after → (new ≡ next_by old method) ⊎ ((new ≡ old) × Contains after (error_json id Internal))
+led-by (Ok x) w old new method id mid after led kept memory more = inl led
+led-by (Err e) w old new method id mid after led kept memory more = inr (kept, said-stays w mid after (error_json id Internal) more (memory refl))
 
 -- ---- which message a body is
 

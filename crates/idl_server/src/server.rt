@@ -150,13 +150,13 @@ impl Server {
                 self.take_request(id, method, params.unwrap_or(&nothing), out)?;
                 Ok(StepOutcome::Goes)
             }
-            Message::Notice(method, params) => {
-                let outcome = self.phase.outcome_by(method);
-                if let StepOutcome::Goes = outcome {
+            Message::Notice(method, params) => match self.phase.outcome_by(method) {
+                StepOutcome::Goes => {
                     self.take_notice(loader, method, params.unwrap_or(&nothing), out)?;
+                    Ok(StepOutcome::Goes)
                 }
-                Ok(outcome)
-            }
+                end => Ok(end),
+            },
             Message::Answer => Ok(StepOutcome::Goes),
             Message::Invalid => {
                 out.refuse(&Value::Null, ErrorCode::NoMessage)?;

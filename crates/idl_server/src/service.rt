@@ -68,11 +68,10 @@ fn answer_messages<L: PathLoader, S: Source, O: Sink>(
         let Received::Body(body) = received(&mut reader, source)? else {
             return Ok(Status::Faulty);
         };
-        let outcome = answer_message(server, loader, &body, output)?;
-        if let StepOutcome::Goes = outcome {
-            continue;
+        match answer_message(server, loader, &body, output)? {
+            StepOutcome::Goes => {}
+            end => return Ok(status_by(end)),
         }
-        return Ok(status_by(outcome));
     }
 }
 
