@@ -20,12 +20,14 @@ use Rattle.idl_editor.specs.declared.messages.method.Method.{Method}
 use Rattle.idl_editor.specs.declared.messages.method.Method.TheVariants.{Exit, Initialize, Shutdown}
 use Rattle.idl_editor.specs.uris.Folders.{FolderNamed}
 use Rattle.idl_loader.specs.Holding.{Holding}
-use Rattle.idl_server.specs.Messages.{IsMessageOf, answered, next_by, outcome_by}
-use Rattle.idl_server.specs.Published.{ArePublished}
+use Rattle.idl_server.specs.Messages.{IsAnswered, IsMessageOf, answered, next_by, outcome_by}
+use Rattle.idl_server.specs.Published.{ArePublished, IsPublished}
+use Rattle.idl_server.specs.Server.{HasTaken, IsSettled, told_to}
 use Rattle.idl_server.specs.Serving.{AreServed, AreWritten, HasStepped, IsWritten, Serves, TakesMessages}
 use Rattle.idl_server.specs.declared.server.Phase.{Phase}
 use Rattle.idl_server.specs.declared.server.Phase.TheVariants.{Running, ShutDown, Waiting}
 use Rattle.idl_server.specs.declared.server.Server.{Server}
+use Rattle.idl_server.specs.declared.server.StepOutcome.{StepOutcome}
 use Rattle.idl_server.specs.declared.server.StepOutcome.TheVariants.{Goes}
 use Rattle.idl_server.specs.declared.workspace.Workspace.{Workspace}
 
@@ -104,6 +106,18 @@ serves-more told old mid new (first ∷ bodies) body said more before steps = (
 pub takes-more : (bodies : List (List ℕ)) (body : List ℕ) (old mid new : Option (List ℕ)) → TakesMessages bodies old mid → TakesMessage body mid new → TakesMessages (bodies ++ body ∷ []) old new
 takes-more [] body old mid new before one = (new, subst (λ (stream : Option (List ℕ)). TakesMessage body stream new) (sym before) one, refl)
 takes-more (first ∷ bodies) body old mid new before one = (before.0, before.1, takes-more bodies body before.0 mid new before.2 one)
+
+-- what a step comes to, where nothing was to be said before
+pub steps-said : (told : List ℕ → Holding) (body : List ℕ) (old new : Server) (before said : List Data) (outcome : StepOutcome) → before ≡ [] → HasTaken (told_to old body) old new → IsSettled told new
+    → ArePublished new.workspace before said → (message : Message) × IsMessageOf body message × IsAnswered message old.phase new.phase before said outcome → HasStepped told body old said new outcome
+steps-said told body old new before said outcome none taken settled more answers = record {
+  message = answers.0;
+  is_message = answers.1;
+  taken = taken;
+  settled = settled;
+  published = subst (All (IsPublished new.workspace)) (sym (more.1 ∙ ap (λ (b : List Data). b ++ more.0) none)) more.2;
+  answered = subst (λ (b : List Data). IsAnswered answers.0 old.phase new.phase b said outcome) none answers.2;
+}
 
 -- ---- what is written
 
