@@ -1,6 +1,7 @@
 use Rattle.std.proofs.Common.{◌∙◌, [], ℕ, List, ap, inl, inr, refl, subst, sym}
 use Rattle.idl_source.specs.devices.Device.{prepend}
 use Rattle.idl_loader.specs.Holding.{Holding}
+use Rattle.idl_server.specs.Server.{IsSettled}
 use Rattle.idl_server.specs.Serving.{HasStepped}
 use Rattle.idl_server.specs.declared.server.StepOutcome.TheVariants.{Goes}
 use Rattle.idl_server.proofs.ServingLemmas.{append-none, prepend-none, served-more, served-none}
@@ -26,7 +27,7 @@ messages-preserved g c =
       reads = c.in_ok-received.ensures.ok ∙ inv.reads;
       writes = c.in_ok-answer_message.ensures.ok ∙ inv.writes;
       stays = c.answer_message.ensures.stays ∙ inv.stays;
-      settled = subst (λ (told : List ℕ → Holding). HasStepped told _ _ _ _ _) (sym c.answer_message.ensures.stays) one.2;
+      settled = subst (λ (told : List ℕ → Holding). IsSettled told c.answer_message.new.server) (sym c.answer_message.ensures.stays) one.2.settled;
       served = served-more (g.L.PathLoader.told_of c.args.loader.now) c.args.server.now c.messages.server c.answer_message.new.server _ _ _ _ _ _ c.in-Body.body.items one.0 one.1 inv.served c.in_ok-received.ensures.received
           (subst (λ (told : List ℕ → Holding). HasStepped told _ _ _ _ Goes) inv.stays one.2) one.3 one.4;
     }
