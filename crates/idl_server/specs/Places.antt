@@ -9,7 +9,6 @@ use Rattle.idl_editor.specs.declared.column.Encoding.{Encoding}
 use Rattle.idl_fault.specs.declared.place.Place.{Place}
 use Rattle.idl_inputs.specs.Columns.{column_of}
 use Rattle.idl_inputs.specs.Project.{Project}
-use Rattle.idl_server.specs.declared.places.CountedFile.{CountedFile}
 
 -- the lines of a file, and of one that isn't there none
 abbrev pub lines_of : Project → List ℕ → List (List ℕ)
@@ -26,7 +25,3 @@ abbrev pub AreCounts : List (List ℕ) → List ℕ → Type 0
 AreCounts lines counts =
     (index count : ℕ) → slice_get counts index ≡ Some count
     → (count ≡ sum_by returns (take index lines)) × (count ≤ longest_line * length lines)
-
--- a file has the lines that a project has under its name
-abbrev pub IsOfProject : Project → CountedFile → Type 0
-IsOfProject project file = file.lines ≡ lines_of project file.name.now

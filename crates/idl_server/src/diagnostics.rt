@@ -5,7 +5,7 @@ ghost use Rattle.std.specs.List.{AllZip};
 ghost use Rattle.serde_json.specs.View.{view};
 ghost use Rattle.idl_editor.specs.told.Found.{findings_in, most_told};
 ghost use Rattle.idl_server.specs.Diagnostics.{AreDiagnostics, IsToldOf, finding_range, rest_told};
-ghost use Rattle.idl_server.specs.Places.{IsOfProject};
+ghost use Rattle.idl_server.specs.Places.{lines_of};
 
 use crate::found::found_in;
 use crate::places::{CountedFile, LocatedToken, line_near, line_of, range_near, range_of};
@@ -149,8 +149,9 @@ fn push_rest(
         return Ok(());
     }
     let at = MOST_TOLD - 1;
+    let last = found[at];
     let left = found.len() - MOST_TOLD;
-    let range = line_of(session, encoding, &found[at].finding.place);
+    let range = line_of(session, encoding, &last.finding.place);
     let more = more_value(session.allocator(), range, left)?;
     Ok(list.push(more)?)
 }
@@ -162,7 +163,7 @@ fn finding_range(
     finding: &Finding,
     file: &CountedFile<'_>,
 ) -> Range
-    requires { IsOfProject session.now.project file.now }
+    requires { file.now.lines ≡ lines_of session.now.project file.now.name.now }
     ensures { result ≡ finding_range encoding session.now.project finding.now }
 {
     match &finding.text {

@@ -1,11 +1,11 @@
 //! Places in files of a session as positions of an editor.
 
-ghost use Rattle.std.specs.Prelude.{◌≡◌, ◌+◌, ◌*◌, ◌<◌, ◌≤◌, IfOk, IfSome, length, take};
+ghost use Rattle.std.specs.Prelude.{◌≡◌, ◌+◌, ◌*◌, ◌<◌, ◌≤◌, [], IfOk, IfSome, length, slice_get, take, unwrap_or};
 ghost use Rattle.std.specs.List.{sum_by};
 ghost use Rattle.idl_source.specs.Limits.{longest_line, most_lines};
 ghost use Rattle.idl_inputs.specs.WithinLimits.{IsAllowedFile};
 ghost use Rattle.idl_editor.specs.Places.{line_range, position_in, returns};
-ghost use Rattle.idl_server.specs.Places.{IsOfProject, lines_of, range_of};
+ghost use Rattle.idl_server.specs.Places.{lines_of, range_of};
 
 use idl_editor::{Encoding, Position, Range, position_behind, returns_in};
 use idl_fault::Place;
@@ -54,7 +54,7 @@ pub(crate) fn range_near(
     token: LocatedToken<'_>,
     file: &CountedFile<'_>,
 ) -> Range
-    requires { IsOfProject session.now.project file.now }
+    requires { file.now.lines ≡ lines_of session.now.project file.now.name.now }
     ensures { result ≡ range_of encoding session.now.project
         token.entry.place.now token.entry.number token.entry.text.now }
 {
@@ -75,6 +75,7 @@ fn token_range(
     ensures { result ≡ range_of encoding session.now.project
         token.entry.place.now token.entry.number token.entry.text.now }
 {
+    lines.keeps_form();
     match session.column(token.place, token.number, token.text) {
         Some(column) => {
             let end = column.saturating_add(token.text.len());
@@ -101,7 +102,7 @@ pub(crate) fn line_near(
     place: &Place,
     file: &CountedFile<'_>,
 ) -> Range
-    requires { IsOfProject session.now.project file.now }
+    requires { file.now.lines ≡ lines_of session.now.project file.now.name.now }
     ensures { result ≡ line_range encoding (lines_of session.now.project place.now.file)
         place.now.line }
 {
@@ -141,7 +142,8 @@ pub(crate) struct CountedFile<'a> {
 impl<'a> CountedFile<'a> {
     /// The file of this name, or one without lines.
     pub fn new(session: &'a Session, name: &'a Name) -> Result<CountedFile<'a>, AllocError>
-        ensures { IfOk result (IsOfProject session.now.project) }
+        ensures { IfOk result (λ file.
+            file.lines ≡ lines_of session.now.project file.name.now) }
     {
         let lines = lines_named(session, name.as_bytes());
         let lines = CountedLines::new(session.allocator(), lines)?;
@@ -240,11 +242,18 @@ impl<'a> CountedLines<'a> {
             return Position { line: 0, column: 0 };
         };
         let before = index + self.returns_before(index);
-        let bytes = match self.lines.get(index) {
+        let bytes = self.bytes_of(index);
+        position_behind(encoding, before, &bytes[..column.min(bytes.len())])
+    }
+
+    // The bytes of the line with this index, or none.
+    fn bytes_of(&self, index: usize) -> &[u8]
+        ensures { result.now ≡ unwrap_or (slice_get self.now index) [] }
+    {
+        match self.lines.get(index) {
             Some(line) => line.as_bytes(),
             None => b"",
-        };
-        position_behind(encoding, before, &bytes[..column.min(bytes.len())])
+        }
     }
 
     // How many carriage returns are before the line with this index.

@@ -1,6 +1,7 @@
 //! The names that are declared in a document.
 
-ghost use Rattle.idl_server.specs.Places.{IsOfProject};
+ghost use Rattle.std.specs.Prelude.{◌≡◌};
+ghost use Rattle.idl_server.specs.Places.{lines_of};
 
 use crate::places::{CountedFile, LocatedToken, range_near};
 use crate::workspace::Workspace;
@@ -41,7 +42,7 @@ fn ranges_of(
     declared: &DeclaredPlace,
     file: &CountedFile<'_>,
 ) -> (Range, Range)
-    requires { IsOfProject session.now.project file.now }
+    requires { file.now.lines ≡ lines_of session.now.project file.now.name.now }
 {
     let name = LocatedToken::of(&declared.name);
     let first = range_near(session, encoding, LocatedToken::of(&declared.first), file);

@@ -1,4 +1,4 @@
-use Rattle.std.proofs.Common.{◌≡◌, ◌∙◌, ◌++◌, ◌∷◌, [], List, ap, append-nil, arith, map, sym}
+use Rattle.std.proofs.Common.{◌∙◌, ◌-◌, ◌++◌, ◌∷◌, [], List, ap, append-nil, arith, length, map, sym}
 use Rattle.std.proofs.lemmas.List.{map-append}
 use Rattle.serde_json.specs.Data.{Data}
 use Rattle.serde_json.specs.View.{view}
@@ -21,7 +21,8 @@ bounds-found-at c = omega (arith, c.if-found-le-MOST_TOLD.false)
 pub returns : goal.returns
 returns c =
     let list = map view c.args.list.now.items in
-    let told : view c.in_ok-more.more ≡ more_json _ _ = c.in_ok-more.ensures ∙ ap (λ (range : Range). more_json range _) c.line_of-range.ensures in
+    let left = length c.args.found.now - 1000 in
+    let told = c.in_ok-more.ensures ∙ ap (λ (range : Range). more_json range left) c.line_of-range.ensures in
     ap (map view) c.in_ok-push.ensures.items ∙ map-append view c.args.list.now.items (c.in_ok-more.more ∷ [])
     ∙ ap (λ (json : Data). list ++ json ∷ []) told
     ∙ ap (λ (rest : List Data). list ++ rest) (sym (rest-some c.args.encoding c.args.session.now.project c.args.found.now _ (omega (arith, c.if-found-le-MOST_TOLD.false)) c.index-found-at.is))

@@ -1,7 +1,7 @@
 use Rattle.std.proofs.Common.{◌∙◌, ap, sym}
 use Rattle.serde_json.specs.View.{view}
 use Rattle.idl_editor.specs.documents.Documents.{Changed}
-use Rattle.idl_editor.specs.documents.Notices.{name_in}
+use Rattle.idl_editor.specs.documents.Notices.{changes_told, name_in}
 use Rattle.idl_editor.specs.messages.Params.{both}
 use Rattle.idl_server.specs.Files.{StaysBeside}
 use Rattle.idl_server.proofs.CoveredLemmas.{rooted-changed, rooted-kept}
@@ -37,9 +37,11 @@ returns-in-None-clause-rooted c = λ are. on_ok c.keep_bad_change.result (rooted
 pub returns-in-None-clause-texts : goal.returns-in-None-clause-texts
 returns-in-None-clause-texts c =
     let old = c.args.self.now in
-    let told = name_in old.folders (view c.args.params.now) in
+    let name = name_in old.folders (view c.args.params.now) in
+    let told = both Changed name (changes_told (view c.args.params.now)) in
     on_ok c.keep_bad_change.result
-    (texts-kept old.encoding _ _ _ (λ i. (c.keep_bad_change.ensures.kept.documents i).entries) (ap (both Changed told) (sym c.in-None.ensures) ∙ both-lost Changed told))
+    (texts-kept old.encoding told old.documents.entries c.keep_bad_change.new.self.documents.entries (λ i. (c.keep_bad_change.ensures.kept.documents i).entries)
+    (ap (both Changed name) (sym c.in-None.ensures) ∙ both-lost Changed name))
 
 pub returns-in-None-clause-held : goal.returns-in-None-clause-held
 returns-in-None-clause-held c =
