@@ -1,6 +1,10 @@
-use Rattle.std.proofs.Common.{◌∙◌, ap, sym}
+use Rattle.std.proofs.Common.{◌∙◌, Option, ap, map, sym}
+use Rattle.std.specs.Global.{Global}
+use Rattle.std.specs.Option.{option_map}
+use Rattle.std.specs.Prelude.{Vec}
 use Rattle.serde_json.specs.View.{view}
-use Rattle.idl_editor.specs.documents.Documents.{Changed}
+use Rattle.idl_editor.specs.declared.change.ContentChange.{ContentChange}
+use Rattle.idl_editor.specs.documents.Documents.{Changed, change_told}
 use Rattle.idl_editor.specs.documents.Notices.{changes_told, name_in}
 use Rattle.idl_editor.specs.messages.Params.{both}
 use Rattle.idl_server.specs.Files.{StaysBeside}
@@ -39,9 +43,10 @@ returns-in-None-clause-texts c =
     let old = c.args.self.now in
     let name = name_in old.folders (view c.args.params.now) in
     let told = both Changed name (changes_told (view c.args.params.now)) in
+    let none = sym c.in_ok-changes.ensures ∙ ap (λ (o : Option (Vec ContentChange Global)). option_map (λ (list : Vec ContentChange Global). map change_told list.items) o) c.in-None.is in
     on_ok c.keep_bad_change.result
     (texts-kept old.encoding told old.documents.entries c.keep_bad_change.new.self.documents.entries (λ i. (c.keep_bad_change.ensures.kept.documents i).entries)
-    (ap (both Changed name) (sym c.in-None.ensures) ∙ both-lost Changed name))
+    (ap (both Changed name) none ∙ both-lost Changed name))
 
 pub returns-in-None-clause-held : goal.returns-in-None-clause-held
 returns-in-None-clause-held c =
