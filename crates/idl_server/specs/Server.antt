@@ -2,8 +2,6 @@
 use Rattle.std.specs.Prelude.{◌≡◌, ℕ, List, [], Option, None, option_and_then}
 use Rattle.std.specs.FinMap as finite
 use Rattle.idl_loader.specs.Holding.{Holding}
-use Rattle.idl_inputs.specs.Project.{Inputs, Project}
-use Rattle.idl_editor.specs.uris.Folders.{FolderNamed}
 use Rattle.idl_editor.specs.documents.Documents.{HaveTexts, Open, Told, open_after_told, texts_of}
 use Rattle.idl_server.specs.Documents.{OnlyRefusedAreBehind}
 use Rattle.idl_server.specs.Files.{AreFiled, AreTried, StaysSet, told_by}
