@@ -77,11 +77,14 @@ led-by (Err e) w old new method id mid after led kept memory more = inr (kept, s
 
 -- ---- which message a body is
 
+abbrev message_in : Option Data → Message → Type 0
+message_in o message = elim o [ None ↦ message ≡ Invalid | Some json ↦ IsMessage json message ]
+
 pub message-none : (body : List ℕ) → json_of body ≡ None → IsMessageOf body Invalid
-message-none body none = subst (λ (o : Option Data). elim o [ None ↦ Invalid ≡ Invalid | Some json ↦ IsMessage json Invalid ]) (sym none) refl
+message-none body none = subst (λ (o : Option Data). message_in o Invalid) (sym none) refl
 
 pub message-some : (body : List ℕ) (json : Data) (message : Message) → json_of body ≡ Some json → IsMessage json message → IsMessageOf body message
-message-some body json message some is = subst (λ (o : Option Data). elim o [ None ↦ message ≡ Invalid | Some json ↦ IsMessage json message ]) (sym some) is
+message-some body json message some is = subst (λ (o : Option Data). message_in o message) (sym some) is
 
 -- ---- where a message leads
 
@@ -130,6 +133,13 @@ steps-said told body old new before said outcome none taken settled more answers
   published = subst (All (IsPublished new.workspace)) (sym (more.1 ∙ ap (λ (b : List Data). b ++ more.0) none)) more.2;
   answered = subst (λ (b : List Data). IsAnswered answers.0 old.phase new.phase b said outcome) none answers.2;
 }
+
+-- a step as it is told of a body and of what comes of it
+pub stepped-as : (lent told : List ℕ → Holding) (given body : List ℕ) (old new : Server) (said : List Data) (was is : StepOutcome) → lent ≡ told → given ≡ body → was ≡ is
+    → HasStepped lent given old said new was → HasStepped told body old said new is
+stepped-as lent told given body old new said was is a b o steps =
+    subst (λ (t : List ℕ → Holding). HasStepped t body old said new is) a
+    (subst (λ (bytes : List ℕ). HasStepped lent bytes old said new is) b (subst (λ (outcome : StepOutcome). HasStepped lent given old said new outcome) o steps))
 
 -- ---- what is written
 

@@ -61,4 +61,4 @@ pub record IsAnswered (message : Message) (old new : Phase) (before after : List
     (outcome : StepOutcome) : Type 0 where
   pub answers : answered after ≡ answered before ++ asked_by message
   pub led : IsLed message old new after
-  pub outcome : outcome ≡ outcome_of old message
+  pub ends : outcome ≡ outcome_of old message

@@ -1,8 +1,8 @@
 -- What a server does from the first message to the last.
 use Rattle.std.specs.Prelude.{◌≡◌, ◌≢◌, ◌≤◌, ◌⊎◌, ◌++◌, ℕ, List, [], ◌∷◌, All, Option, Some}
 use Rattle.std.specs.Str.{IsUtf8}
-use Rattle.serde_json.specs.Data.{Data}
-use Rattle.serde_json.specs.Read.{depth, max_depth, read}
+use Rattle.serde_json.specs.Data.{Data, depth}
+use Rattle.serde_json.specs.Read.{max_depth, read}
 use Rattle.serde_json.specs.Written.{IsInOrder}
 use Rattle.idl_source.specs.devices.Device.{append}
 use Rattle.idl_editor.specs.frames.Reading.{Receives, TakesMessage}

@@ -1,6 +1,7 @@
 use Rattle.serde_json.specs.View.{view}
 use Rattle.std.proofs.lemmas.Result.{on_ok_weaker}
 use Rattle.idl_editor.specs.messages.Said.{said_by}
+use Rattle.idl_editor.specs.declared.messages.answer.ErrorCode.TheVariants.{Internal}
 use Rattle.idl_server.proofs.PublishedLemmas.{answer-published, error-published, said-published}
 use Rattle.idl_server.proofs.ServingLemmas.{answered-answer, answered-error, said-last}
 use Rattle.idl_server.proofs.server.say_outcome.Goals as goal
@@ -23,11 +24,11 @@ returns-in-Ok-Refused-clause-answers c =
 
 pub returns-in-Err-clause-published : goal.returns-in-Err-clause-published
 returns-in-Err-clause-published c = λ w.
-    said-published c.refuse-in-Err.result w (said_by c.args.out.now) (said_by c.refuse-in-Err.new.self) _ (error-published w (view c.args.id.now) _) c.refuse-in-Err.ensures
+    said-published c.refuse-in-Err.result w (said_by c.args.out.now) (said_by c.refuse-in-Err.new.self) _ (error-published w (view c.args.id.now) Internal) c.refuse-in-Err.ensures
 
 pub returns-in-Err-clause-answers : goal.returns-in-Err-clause-answers
 returns-in-Err-clause-answers c =
-    on_ok_weaker c.refuse-in-Err.result (answered-error (said_by c.args.out.now) (said_by c.refuse-in-Err.new.self) (view c.args.id.now) _) c.refuse-in-Err.ensures
+    on_ok_weaker c.refuse-in-Err.result (answered-error (said_by c.args.out.now) (said_by c.refuse-in-Err.new.self) (view c.args.id.now) Internal) c.refuse-in-Err.ensures
 
 pub returns-in-Err-clause-memory : goal.returns-in-Err-clause-memory
 returns-in-Err-clause-memory c = λ err.

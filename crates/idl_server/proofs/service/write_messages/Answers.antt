@@ -17,7 +17,7 @@ messages-preserved g c =
     let inv = c.messages.invariant in
     let text = inv.written.0 in
     let body = c.in_ok-body.body.items in
-    let message : c.deref-2.result.now ≡ message_of body = c.deref-2.ensures.value ∙ c.in_ok-message.ensures ∙ ap message_of c.deref.ensures.value in
+    let message : c.deref-in-messages.result.now ≡ message_of body = c.deref-in-messages.ensures.value ∙ c.in_ok-message.ensures ∙ ap message_of c.deref.ensures.value in
     record {
       well = c.in_ok-write_all.ensures.ok ∙ inv.well;
       written = (

@@ -36,5 +36,5 @@ pub returns-in_ok-refuse-in-Err-clause-answered : goal.returns-in_ok-refuse-in-E
 returns-in_ok-refuse-in-Err-clause-answered g c = (
   Invalid,
   message-none c.args.body.now (json-none c.args.body.now (c.in-Err.ensures.err (λ memory. absurd (true≢false (sym (c.is_memory.ensures.1 memory) ∙ c.if-is_memory.false))))),
-  record { answers = answered-null (said_by c.args.out.now) (said_by c.refuse-in-Err.new.self) _ _ view-Null c.in_ok-refuse-in-Err.ensures; led = refl; outcome = refl },
+  record { answers = answered-null (said_by c.args.out.now) (said_by c.refuse.new.self) _ _ view-Null c.in_ok-refuse-in-Err.ensures; led = refl; ends = refl },
 )
