@@ -1,10 +1,10 @@
 -- What is told of what is found.
-use Rattle.std.proofs.Common.{◌≡◌, ◌∙◌, ◌++◌, ◌∷◌, [], ℕ, All, List, None, Option, Result, Some, Ok, Err, ap, arith, length, refl, subst, sym}
+use Rattle.std.proofs.Common.{◌≡◌, ◌∙◌, ◌++◌, ◌∷◌, [], ℕ, List, None, Option, Result, Some, Ok, Err, ap, arith, length, refl, subst, sym}
 use Rattle.std.proofs.lemmas.List.{append_assoc, append-nil}
 use Rattle.std.proofs.lemmas.List.Elements.{All-append, All-cons, All-nil}
 use Rattle.std.specs.Prelude.{codes}
 use Rattle.std.specs.Result.{OnOk}
-use Rattle.serde_json.specs.Data.{Data, member, no_members, object, string}
+use Rattle.serde_json.specs.Data.{Data}
 use Rattle.idl_editor.specs.messages.Answers.{answer_json, error_json, notice_json}
 use Rattle.idl_editor.specs.declared.messages.answer.ErrorCode.{ErrorCode}
 use Rattle.idl_server.specs.Diagnostics.{AreDiagnostics}

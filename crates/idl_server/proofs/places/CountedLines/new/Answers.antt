@@ -1,4 +1,4 @@
-use Rattle.std.proofs.Common.{◌∙◌, ◌∷◌, [], ap, arith, length, length-append, refl, subst, sym}
+use Rattle.std.proofs.Common.{◌∷◌, [], ap, arith, length, length-append, refl, subst, sym}
 use Rattle.idl_server.specs.Places.{AreCounts}
 use Rattle.idl_server.proofs.PlaceLemmas.{counts-more, none-counted}
 use Rattle.idl_server.proofs.places.CountedLines.new.Goals as goal
