@@ -1,0 +1,22 @@
+//! The laws that what is told in fewer words is the same.
+//!
+//! Each function does nothing: it carries its laws as clauses, which hold of any values.
+
+ghost use Rattle.std.specs.Prelude.{◌≡◌, List, None, Some, map, if◌then◌else◌};
+ghost use Rattle.idl_check.specs.walk.Placing.{faulty_step, opened_kind};
+ghost use Rattle.idl_env.specs.declared.additions.addition.Step.TheVariants.{Closes, OpensNameless, Stays};
+ghost use Rattle.idl_lex.specs.tokens.Tokens.{Token};
+ghost use Rattle.idl_plain.specs.Ending.{ends_before, is_heading};
+ghost use Rattle.idl_unit.specs.Ending.{begins, closes, ends, role};
+ghost use Rattle.idl_unit.specs.Scoping.{brace_from, opening_brace};
+
+/// A unit ends where its first tokens and its braces say, and so it opens or closes a scope.
+pub fn units()
+    ensures ending { (unit rest : List Token) → ends unit rest ≡ ends_before unit rest }
+    ensures opening { (tokens : List Token) → opening_brace tokens
+        ≡ (if is_heading (map role tokens) then brace_from 0 tokens else None) }
+    ensures step { (tokens : List Token) → faulty_step tokens ≡ elim (opened_kind tokens) [
+      | Some kind ↦ OpensNameless kind
+      | None ↦ if begins closes tokens then Closes else Stays
+    ] }
+{}
