@@ -1,1 +1,2 @@
 mod EndingLaws
+mod PragmaLaws

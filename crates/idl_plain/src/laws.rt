@@ -2,11 +2,14 @@
 //!
 //! Each function does nothing: it carries its laws as clauses, which hold of any values.
 
-ghost use Rattle.std.specs.Prelude.{◌≡◌, List, None, Some, map, if◌then◌else◌};
+ghost use Rattle.std.specs.Prelude.{◌≡◌, ◌↔◌, List, None, Some, map, if◌then◌else◌};
 ghost use Rattle.idl_check.specs.walk.Placing.{faulty_step, opened_kind};
 ghost use Rattle.idl_env.specs.declared.additions.addition.Step.TheVariants.{Closes, OpensNameless, Stays};
 ghost use Rattle.idl_lex.specs.tokens.Tokens.{Token};
 ghost use Rattle.idl_plain.specs.Ending.{ends_before, is_heading};
+ghost use Rattle.idl_plain.specs.Pragma.{IsPragma};
+ghost use Rattle.idl_tree.specs.Pragma.{pragma_of};
+ghost use Rattle.idl_tree.specs.declared.pragma.Pragma.{Pragma};
 ghost use Rattle.idl_unit.specs.Ending.{begins, closes, ends, role};
 ghost use Rattle.idl_unit.specs.Scoping.{brace_from, opening_brace};
 
@@ -19,4 +22,9 @@ pub fn units()
       | Some kind ↦ OpensNameless kind
       | None ↦ if begins closes tokens then Closes else Stays
     ] }
+{}
+
+/// Tokens are a pragma where they are spelled as it is, and then they are no other.
+pub fn pragmas()
+    ensures { (tokens : List Token) (p : Pragma) → (pragma_of tokens ≡ Some p) ↔ IsPragma tokens p }
 {}

@@ -7,4 +7,4 @@
 
 mod laws;
 
-pub use laws::units;
+pub use laws::{pragmas, units};
