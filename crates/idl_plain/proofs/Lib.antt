@@ -1,2 +1,3 @@
 mod EndingLaws
 mod PragmaLaws
+mod SameLaws

@@ -2,9 +2,16 @@
 //!
 //! Each function does nothing: it carries its laws as clauses, which hold of any values.
 
-ghost use Rattle.std.specs.Prelude.{◌≡◌, ◌↔◌, List, None, Some, map, if◌then◌else◌};
+ghost use Rattle.std.specs.Prelude.{◌≡◌, ◌↔◌, ℕ, List, None, Some, map, true, if◌then◌else◌};
 ghost use Rattle.idl_check.specs.walk.Placing.{faulty_step, opened_kind};
+ghost use Rattle.idl_entity.specs.Kind.{kind_eq, stage_eq};
+ghost use Rattle.idl_entity.specs.declared.kind.Kind.{Kind};
+ghost use Rattle.idl_entity.specs.declared.kind.Stage.{Stage};
 ghost use Rattle.idl_env.specs.declared.additions.addition.Step.TheVariants.{Closes, OpensNameless, Stays};
+ghost use Rattle.idl_env.specs.declared.keys.key.Key.{Key};
+ghost use Rattle.idl_env.specs.keys.Key.{key_eq};
+ghost use Rattle.idl_event.specs.Key.{key_eq as root_key_eq};
+ghost use Rattle.idl_event.specs.declared.asked.key.RootKey.{RootKey};
 ghost use Rattle.idl_lex.specs.tokens.Tokens.{Token};
 ghost use Rattle.idl_plain.specs.Ending.{ends_before, is_heading};
 ghost use Rattle.idl_plain.specs.Pragma.{IsPragma};
@@ -12,6 +19,7 @@ ghost use Rattle.idl_tree.specs.Pragma.{pragma_of};
 ghost use Rattle.idl_tree.specs.declared.pragma.Pragma.{Pragma};
 ghost use Rattle.idl_unit.specs.Ending.{begins, closes, ends, role};
 ghost use Rattle.idl_unit.specs.Scoping.{brace_from, opening_brace};
+ghost use Rattle.idl_value.specs.Equal.{path_eq};
 
 /// A unit ends where its first tokens and its braces say, and so it opens or closes a scope.
 pub fn units()
@@ -27,4 +35,13 @@ pub fn units()
 /// Tokens are a pragma where they are spelled as it is, and then they are no other.
 pub fn pragmas()
     ensures { (tokens : List Token) (p : Pragma) → (pragma_of tokens ≡ Some p) ↔ IsPragma tokens p }
+{}
+
+/// A test whether values are one holds of one value alone.
+pub fn sameness()
+    ensures kinds { (x y : Kind) → (kind_eq x y ≡ true) ↔ (x ≡ y) }
+    ensures stages { (x y : Stage) → (stage_eq x y ≡ true) ↔ (x ≡ y) }
+    ensures paths { (p q : List (List ℕ)) → (path_eq p q ≡ true) ↔ (p ≡ q) }
+    ensures keys { (k other : Key) → (key_eq k other ≡ true) ↔ (k ≡ other) }
+    ensures roots { (k other : RootKey) → (root_key_eq k other ≡ true) ↔ (k ≡ other) }
 {}

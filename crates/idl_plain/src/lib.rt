@@ -7,4 +7,4 @@
 
 mod laws;
 
-pub use laws::{pragmas, units};
+pub use laws::{pragmas, sameness, units};
