@@ -1,3 +1,5 @@
+mod AdditionLaws
+mod AnswerLaws
 mod EndingLaws
 mod PragmaLaws
 mod SameLaws

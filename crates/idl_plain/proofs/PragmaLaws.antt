@@ -14,10 +14,10 @@ use Rattle.idl_tree.specs.declared.name.ScopedName.{ScopedName}
 use Rattle.idl_tree.specs.declared.pragma.Pragma.{Pragma}
 use Rattle.idl_tree.specs.declared.pragma.Pragma.TheVariants.{Id, Prefix, Version}
 
-some-same : {X : Type 0} (x y : X) → Some x ≡ Some y → x ≡ y
+pub some-same : {X : Type 0} (x y : X) → Some x ≡ Some y → x ≡ y
 some-same x y h = cc
 
-no-some : {X : Type 0} (x : X) → None ≡ Some x → ⊥
+pub no-some : {X : Type 0} (x : X) → None ≡ Some x → ⊥
 no-some x h = cc
 
 -- ---- the tokens of a name

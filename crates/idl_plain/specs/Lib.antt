@@ -1,2 +1,3 @@
+pub mod Additions
 pub mod Ending
 pub mod Pragma

@@ -7,4 +7,4 @@
 
 mod laws;
 
-pub use laws::{pragmas, sameness, units};
+pub use laws::{additions, answers, pragmas, sameness, units};
