@@ -1,5 +1,5 @@
 -- A unit ends where its first tokens and its braces say.
-use Rattle.std.proofs.Common.{◌≡◌, ◌∙◌, ℕ, Bool, true, false, cond, List, [], ◌∷◌, ◌++◌, Option, None, Some, refl, sym, ap, map}
+use Rattle.std.proofs.Common.{◌≡◌, ◌∙◌, Bool, true, false, cond, List, [], ◌∷◌, ◌++◌, Option, None, Some, refl, sym, ap, map}
 use Rattle.std.specs.Prelude.{◌&&◌, ◌||◌, not}
 use Rattle.idl_check.specs.walk.Placing.{faulty_step, opened_kind}
 use Rattle.idl_entity.specs.declared.kind.Kind.{Kind}

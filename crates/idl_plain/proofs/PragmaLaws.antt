@@ -9,7 +9,7 @@ use Rattle.idl_lex.specs.tokens.Tokens.{Token}
 use Rattle.idl_lex.specs.declared.kinds.kind.TokenKind.{TokenKind}
 use Rattle.idl_lex.specs.declared.kinds.kind.TokenKind.TheVariants.{Punctuation}
 use Rattle.idl_plain.specs.Pragma.{AreWords, IsPragma, name_token, name_tokens}
-use Rattle.idl_tree.specs.Pragma.{further_parts, id_of, is_separator, name_before, name_from, named, only, part_by, part_of, pragma_by, pragma_of, prefix_of, text_of, version_of, versioned, with_part}
+use Rattle.idl_tree.specs.Pragma.{further_parts, id_of, is_separator, name_before, name_from, named, only, part_by, part_of, pragma_of, prefix_of, text_of, version_of, versioned, with_part}
 use Rattle.idl_tree.specs.declared.name.ScopedName.{ScopedName}
 use Rattle.idl_tree.specs.declared.pragma.Pragma.{Pragma}
 use Rattle.idl_tree.specs.declared.pragma.Pragma.TheVariants.{Id, Prefix, Version}

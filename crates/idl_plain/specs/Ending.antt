@@ -1,5 +1,5 @@
 -- Where a unit of tokens ends, by what it begins with and where its braces stand.
-use Rattle.std.specs.Prelude.{Bool, true, false, ◌&&◌, ◌||◌, List, [], ◌∷◌, ◌++◌, count_by, map, nat_eq, not, if◌then◌else◌}
+use Rattle.std.specs.Prelude.{Bool, true, false, ◌&&◌, ◌||◌, List, ◌∷◌, ◌++◌, count_by, map, nat_eq, not, if◌then◌else◌}
 use Rattle.idl_lex.specs.tokens.Tokens.{Token}
 use Rattle.idl_unit.specs.Ending.{begins, closes, ends_in, is_empty, is_semicolon, opens, role}
 use Rattle.idl_unit.specs.declared.role.Role.{Role}
