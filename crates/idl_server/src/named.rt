@@ -4,14 +4,17 @@ ghost use Rattle.std.specs.Prelude.{◌≡◌, IfOk};
 ghost use Rattle.std.specs.Option.{option_copied, option_map};
 ghost use Rattle.serde_json.specs.View.{view};
 ghost use Rattle.idl_server.specs.Places.{IsOfProject};
-ghost use Rattle.idl_server.specs.Named.{declared_entry, declared_place, definition_at, definition_json, details_with, entry_at, entry_of, entry_text, has_path, is_declared_at, stands_at, used_at};
+ghost use Rattle.idl_server.specs.Named.{declared_at, declared_place, definition_at, definition_json, details_with, entry_at, entry_of, entry_text, has_path, last_declared, path_at, stands_at, used_at};
 
 use crate::places::{CountedFile, LocatedToken, range_near, range_of};
 use crate::workspace::Workspace;
 use idl_editor::documents::uri_for;
 use idl_editor::told::{hover_value, location_value};
 use idl_editor::{Encoding, Position, is_up_to};
-use idl_project::{DeclaredPlace, DetailedEntry, Details, Row, Session, SitedToken, UsedName};
+use idl_project::{
+    DeclaredPlace, DetailedEntry, Details, PlacedName, Row, Session, SitedToken, UsedName,
+};
+use idl_entity::Path;
 use idl_repo::details::kind_word;
 use idl_repo::push_path;
 use idl_source::Name;
@@ -66,7 +69,7 @@ impl Workspace {
             (declared_place self.now.encoding self.now.session.project details.now
             spot.entry.file.now.name.now spot.entry.position)) }
     {
-        let Some(declared) = declared_place(&self.session, self.encoding, details, spot)? else {
+        let Some(declared) = declared_place(&self.session, self.encoding, details, spot) else {
             return Ok(Value::Null);
         };
         let token = &declared.name;
@@ -138,19 +141,30 @@ fn declared_place<'d>(
     encoding: Encoding,
     details: &'d Details,
     spot: DocumentPosition<'_>,
-) -> Result<Option<&'d DeclaredPlace>, AllocError>
+) -> Option<&'d DeclaredPlace>
     requires { IsOfProject session.now.project spot.entry.file.now }
-    ensures { IfOk result (λ place. option_copied place
-        ≡ declared_place encoding session.now.project details.now
-        spot.entry.file.now.name.now spot.entry.position) }
+    ensures { option_copied result ≡ declared_place encoding session.now.project details.now
+        spot.entry.file.now.name.now spot.entry.position }
 {
-    match entry_at(session, encoding, details, spot)? {
-        Some(entry) => Ok(entry.places.as_slice().last()),
-        None => Ok(None),
-    }
+    last_declared(details, path_at(session, encoding, details, spot)?)
 }
 
-// The entry of what the name at a position denotes: of what is declared there, and else of what the first name denotes that is used there.
+// The last place where the name at a path is declared.
+fn last_declared<'d>(details: &'d Details, path: &Path) -> Option<&'d DeclaredPlace>
+    ensures { option_copied result ≡ last_declared details.now path.now }
+{
+    let declared = details.declared.as_slice();
+    let mut last = None;
+    'each: for index in 0..declared.len() {
+        let one = &declared[index];
+        if *path == one.path {
+            last = Some(&one.place);
+        }
+    }
+    last
+}
+
+// The entry of what the name at a position denotes, if that has an id.
 fn entry_at<'d>(
     session: &Session,
     encoding: Encoding,
@@ -161,33 +175,50 @@ fn entry_at<'d>(
     ensures { IfOk result (λ entry. option_copied entry ≡ entry_at encoding session.now.project
         details.now spot.entry.file.now.name.now spot.entry.position) }
 {
-    if let Some(entry) = declared_entry(session, encoding, details, spot) {
-        return Ok(Some(entry));
-    }
-    let Some(used) = used_at(session, encoding, details, spot) else {
+    let Some(found) = path_at(session, encoding, details, spot) else {
         return Ok(None);
     };
     let mut path = Vec::new(session.allocator());
-    push_path(&mut path, used.path.lent())?;
+    push_path(&mut path, found.lent())?;
     Ok(entry_of(details, &path))
 }
 
-// The entry of what is declared at a position.
-fn declared_entry<'d>(
+// The path of what the name at a position denotes: of what is declared there, and else of what the first name denotes that is used there.
+fn path_at<'d>(
     session: &Session,
     encoding: Encoding,
     details: &'d Details,
     spot: DocumentPosition<'_>,
-) -> Option<&'d DetailedEntry>
+) -> Option<&'d Path>
     requires { IsOfProject session.now.project spot.entry.file.now }
-    ensures { option_copied result ≡ declared_entry encoding session.now.project
+    ensures { option_copied result ≡ path_at encoding session.now.project details.now
+        spot.entry.file.now.name.now spot.entry.position }
+{
+    if let Some(declared) = declared_at(session, encoding, details, spot) {
+        return Some(&declared.path);
+    }
+    match used_at(session, encoding, details, spot) {
+        Some(used) => Some(&used.path),
+        None => None,
+    }
+}
+
+// The first name that is declared at a position.
+fn declared_at<'d>(
+    session: &Session,
+    encoding: Encoding,
+    details: &'d Details,
+    spot: DocumentPosition<'_>,
+) -> Option<&'d PlacedName>
+    requires { IsOfProject session.now.project spot.entry.file.now }
+    ensures { option_copied result ≡ declared_at encoding session.now.project
         spot.entry.file.now.name.now spot.entry.position details.now }
 {
-    let entries = details.entries.as_slice();
-    'each: for index in 0..entries.len() {
-        let entry = &entries[index];
-        if is_declared_at(session, encoding, entry, spot) {
-            return Some(entry);
+    let names = details.declared.as_slice();
+    'each: for index in 0..names.len() {
+        let declared = &names[index];
+        if stands_at(session, encoding, &declared.place.name, spot) {
+            return Some(declared);
         }
     }
     None
@@ -233,27 +264,6 @@ fn has_path(entry: &DetailedEntry, path: &[u8]) -> bool
     ensures { result ≡ has_path path.now entry.now }
 {
     entry.tree.path.as_bytes() == path
-}
-
-// Whether what an entry is of is declared at a position.
-fn is_declared_at(
-    session: &Session,
-    encoding: Encoding,
-    entry: &DetailedEntry,
-    spot: DocumentPosition<'_>,
-) -> bool
-    requires { IsOfProject session.now.project spot.entry.file.now }
-    ensures { result ≡ is_declared_at encoding session.now.project
-        spot.entry.file.now.name.now spot.entry.position entry.now }
-{
-    let places = entry.places.as_slice();
-    'each: for index in 0..places.len() {
-        let declared = &places[index];
-        if stands_at(session, encoding, &declared.name, spot) {
-            return true;
-        }
-    }
-    false
 }
 
 // Whether a token stands at a position.

@@ -22,7 +22,7 @@ fn is_served(alloc: Global, text: &str, input: &str, code: u8, want: &str) -> Re
 }
 
 // A status, files, messages, and behind a `=` what is written. A line that begins with blanks goes on with the one before it.
-static SCRIPTS: [&str; 6] = [
+static SCRIPTS: [&str; 7] = [
     // A document is opened beside a header of the disk, in units of UTF-16, mended, and asked about.
     r##"0 /p/b.idl: typedef long Money;
 {"id":1,"method":"textDocument/hover"}
@@ -163,6 +163,17 @@ static SCRIPTS: [&str; 6] = [
     It may stay so: no code can call it through this file. Include the file that defines it.",
     "range":{"end":{"character":15,"line":1},"start":{"character":10,"line":1}},"relatedInformation":[],"severity":2,
     "source":"idltool"}],"uri":"file:///w/c/b.idl","version":4}}"##,
+    // Enumerators, members and parameters are declared somewhere, too.
+    r##"1 {"id":1,"method":"initialize","params":{"rootUri":"file:///p"}}
+={"id":1,"jsonrpc":"2.0","result":{"capabilities":{"definitionProvider":true,"documentSymbolProvider":true,"hoverProvider":true,
+    "positionEncoding":"utf-16","textDocumentSync":{"change":2,"openClose":true,"save":true}},
+    "serverInfo":{"name":"idltool","version":"0.1.0"}}}
+{"method":"textDocument/didOpen","params":{"textDocument":{"uri":"file:///p/a.idl",
+    "text":"enum Color { red, green };\nconst Color C = green;\nstruct S { Color hue; };\n"}}}
+{"id":2,"method":"textDocument/definition","params":{"textDocument":{"uri":"file:///p/a.idl"},"position":{"line":1,"character":18}}}
+={"id":2,"jsonrpc":"2.0","result":{"range":{"end":{"character":23,"line":0},"start":{"character":18,"line":0}},"uri":"file:///p/a.idl"}}
+{"id":3,"method":"textDocument/definition","params":{"textDocument":{"uri":"file:///p/a.idl"},"position":{"line":2,"character":18}}}
+={"id":3,"jsonrpc":"2.0","result":{"range":{"end":{"character":20,"line":2},"start":{"character":17,"line":2}},"uri":"file:///p/a.idl"}}"##,
 ];
 
 #[test]
