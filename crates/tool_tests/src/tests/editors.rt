@@ -164,7 +164,8 @@ static SCRIPTS: [&str; 7] = [
     "range":{"end":{"character":15,"line":1},"start":{"character":10,"line":1}},"relatedInformation":[],"severity":2,
     "source":"idltool"}],"uri":"file:///w/c/b.idl","version":4}}"##,
     // Enumerators, members and parameters are declared somewhere, too.
-    r##"1 {"id":1,"method":"initialize","params":{"rootUri":"file:///p"}}
+    r##"1
+{"id":1,"method":"initialize","params":{"rootUri":"file:///p"}}
 ={"id":1,"jsonrpc":"2.0","result":{"capabilities":{"definitionProvider":true,"documentSymbolProvider":true,"hoverProvider":true,
     "positionEncoding":"utf-16","textDocumentSync":{"change":2,"openClose":true,"save":true}},
     "serverInfo":{"name":"idltool","version":"0.1.0"}}}
