@@ -66,12 +66,6 @@ path_at encoding project details name position =
     (declared_at encoding project name position details))
     (option_map (λ used. used.path) (used_at encoding project name position details))
 
--- the entry of that, if it has an id
-abbrev pub entry_at : Encoding → Project → Details → List ℕ → Position → Option DetailedEntry
-entry_at encoding project details name position =
-    option_and_then (λ path. entry_of details (path_text path))
-    (path_at encoding project details name position)
-
 -- the last place where the name at a path is declared
 abbrev pub last_declared : Details → List (List ℕ) → Option DeclaredPlace
 last_declared details path =

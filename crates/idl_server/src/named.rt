@@ -4,8 +4,9 @@ ghost use Rattle.std.specs.Prelude.{◌≡◌, IfOk};
 ghost use Rattle.std.specs.Option.{option_copied, option_map};
 ghost use Rattle.serde_json.specs.View.{view};
 ghost use Rattle.idl_server.specs.Places.{IsOfProject};
-ghost use Rattle.idl_server.specs.Named.{declared_at, declared_place, definition_at, definition_json, details_with, entry_at, entry_of, entry_text, has_path, last_declared, path_at, stands_at, used_at};
+ghost use Rattle.idl_server.specs.Named.{declared_at, declared_place, definition_at, definition_json, details_with, entry_of, entry_text, has_path, last_declared, path_at, stands_at, used_at};
 
+use crate::declarations::push_declaration;
 use crate::places::{CountedFile, LocatedToken, range_near, range_of};
 use crate::workspace::Workspace;
 use idl_editor::documents::uri_for;
@@ -85,15 +86,29 @@ impl Workspace {
         let Some(told) = self.details_with(spot.file.name())? else {
             return Ok(Value::Null);
         };
-        let Some(entry) = entry_at(&self.session, self.encoding, &told.details, spot)? else {
+        let Some(path) = path_at(&self.session, self.encoding, &told.details, spot) else {
             return Ok(Value::Null);
+        };
+        let mut text = self.shown_of(&told, path)?;
+        if let Some(declared) = last_declared(&told.details, path) {
+            push_declaration(&self.session, declared, &mut text)?;
+        }
+        hover_value(self.session.allocator(), &text)
+    }
+
+    // What is shown of the name at a path: its entry and the row of that, or the path of one that has none.
+    fn shown_of(&self, told: &RootDetails, path: &Path) -> Result<Vec<u8>, AllocError> {
+        let alloc = self.session.allocator();
+        let mut spelled = Vec::new(alloc);
+        push_path(&mut spelled, path.lent())?;
+        let Some(entry) = entry_of(&told.details, &spelled) else {
+            return Ok(spelled);
         };
         let row = match self.session.listing(told.root.as_bytes()) {
             Some(rows) => row_of(rows, &told.details, entry),
             None => None,
         };
-        let alloc = self.session.allocator();
-        hover_value(alloc, &hover_text(alloc, entry, row)?)
+        hover_text(alloc, entry, row)
     }
 
     /// What is told of the first root that asks for a file.
@@ -162,25 +177,6 @@ fn last_declared<'d>(details: &'d Details, path: &Path) -> Option<&'d DeclaredPl
         }
     }
     last
-}
-
-// The entry of what the name at a position denotes, if that has an id.
-fn entry_at<'d>(
-    session: &Session,
-    encoding: Encoding,
-    details: &'d Details,
-    spot: DocumentPosition<'_>,
-) -> Result<Option<&'d DetailedEntry>, AllocError>
-    requires { IsOfProject session.now.project spot.entry.file.now }
-    ensures { IfOk result (λ entry. option_copied entry ≡ entry_at encoding session.now.project
-        details.now spot.entry.file.now.name.now spot.entry.position) }
-{
-    let Some(found) = path_at(session, encoding, details, spot) else {
-        return Ok(None);
-    };
-    let mut path = Vec::new(session.allocator());
-    push_path(&mut path, found.lent())?;
-    Ok(entry_of(details, &path))
 }
 
 // The path of what the name at a position denotes: of what is declared there, and else of what the first name denotes that is used there.

@@ -47,7 +47,8 @@ static SCRIPTS: [&str; 7] = [
 ={"id":2,"jsonrpc":"2.0","result":{"range":{"end":{"character":18,"line":0},"start":{"character":13,"line":0}},"uri":"file:///p/b.idl"}}
 {"id":3,"method":"textDocument/hover","params":{"textDocument":{"uri":"file:///p/%c3%bc.idl"},"position":{"line":2,"character":53}}}
 ={"id":3,"jsonrpc":"2.0","result":{"contents":{"kind":"plaintext",
-    "value":"struct M::S\nIDL:M/S:1.0\nstruct M::S IDL:M/S:1.0 tk_struct(IDL:M/S:1.0,S,x:@IDL:Money:1.0)"}}}
+    "value":"struct M::S\nIDL:M/S:1.0\nstruct M::S IDL:M/S:1.0 tk_struct(IDL:M/S:1.0,S,x:@IDL:Money:1.0)
+    \n\r/* é😀 */ module M { struct S { Money x; }; typedef S R; };"}}}
 {"id":4,"method":"textDocument/documentSymbol","params":{"textDocument":{"uri":"file:///p/%c3%bc.idl"}}}
 ={"id":4,"jsonrpc":"2.0","result":[{"children":[
     {"children":[],"kind":23,"name":"S","range":{"end":{"character":43,"line":2},"start":{"character":21,"line":2}},
