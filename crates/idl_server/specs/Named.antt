@@ -3,7 +3,7 @@ use Rattle.std.specs.Prelude.{ℕ, ◌-◌, Bool, ◌&&◌, ◌++◌, ◌∷◌,
 use Rattle.std.specs.List.{find, list_any}
 use Rattle.std.specs.Option.{option_map, option_or}
 use Rattle.std.specs.Str.{bytes_eq}
-use Rattle.idl_repo.specs.Row.{kind_word, path_text}
+use Rattle.idl_repo.specs.Row.{kind_word}
 use Rattle.idl_editor.specs.declared.change.Range.{Range}
 use Rattle.idl_editor.specs.declared.column.Encoding.{Encoding}
 use Rattle.idl_editor.specs.declared.position.Position.{Position}
