@@ -3,14 +3,19 @@
 ghost use Rattle.std.specs.Prelude.{◌≡◌, IfOk};
 ghost use Rattle.std.specs.Option.{option_copied, option_map};
 ghost use Rattle.serde_json.specs.View.{view};
-ghost use Rattle.idl_server.specs.Named.{declared_entry, declared_place, definition_at, definition_json, details_with, entry_at, entry_of, entry_text, has_path, is_declared_at, stands_at, used_at};
+ghost use Rattle.idl_server.specs.Places.{IsOfProject};
+ghost use Rattle.idl_server.specs.Named.{declared_at, declared_place, definition_at, definition_json, details_with, entry_of, entry_text, has_path, last_declared, path_at, stands_at, used_at};
 
-use crate::places::{LocatedToken, range_of};
+use crate::declarations::push_declaration;
+use crate::places::{CountedFile, LocatedToken, range_near, range_of};
 use crate::workspace::Workspace;
 use idl_editor::documents::uri_for;
 use idl_editor::told::{hover_value, location_value};
 use idl_editor::{Encoding, Position, is_up_to};
-use idl_project::{DeclaredPlace, DetailedEntry, Details, Row, Session, SitedToken, UsedName};
+use idl_project::{
+    DeclaredPlace, DetailedEntry, Details, PlacedName, Row, Session, SitedToken, UsedName,
+};
+use idl_entity::Path;
 use idl_repo::details::kind_word;
 use idl_repo::push_path;
 use idl_source::Name;
@@ -36,18 +41,19 @@ impl Drop for RootDetails {
 /// A position in a file.
 #[derive(Clone, Copy)]
 pub(crate) struct DocumentPosition<'a> {
-    pub name: &'a Name,
+    pub file: &'a CountedFile<'a>,
     pub position: Position,
 }
 
 impl Workspace {
     /// Where what the name at a position denotes is declared, and else nothing.
     pub fn definition_at(&self, spot: DocumentPosition<'_>) -> Result<Value, AllocError>
+        requires { IsOfProject self.now.session.project spot.entry.file.now }
         ensures { IfOk result (λ value. view value ≡ definition_json self.now
             (definition_at self.now.encoding self.now.session.project
-            spot.entry.name.now spot.entry.position)) }
+            spot.entry.file.now.name.now spot.entry.position)) }
     {
-        match self.details_with(spot.name)? {
+        match self.details_with(spot.file.name())? {
             Some(told) => self.definition_in(&told.details, spot),
             None => Ok(Value::Null),
         }
@@ -59,11 +65,12 @@ impl Workspace {
         details: &Details,
         spot: DocumentPosition<'_>,
     ) -> Result<Value, AllocError>
+        requires { IsOfProject self.now.session.project spot.entry.file.now }
         ensures { IfOk result (λ value. view value ≡ definition_json self.now
             (declared_place self.now.encoding self.now.session.project details.now
-            spot.entry.name.now spot.entry.position)) }
+            spot.entry.file.now.name.now spot.entry.position)) }
     {
-        let Some(declared) = declared_place(&self.session, self.encoding, details, spot)? else {
+        let Some(declared) = declared_place(&self.session, self.encoding, details, spot) else {
             return Ok(Value::Null);
         };
         let token = &declared.name;
@@ -73,19 +80,35 @@ impl Workspace {
     }
 
     /// What the name at a position denotes, and else nothing.
-    pub fn hover_at(&self, spot: DocumentPosition<'_>) -> Result<Value, AllocError> {
-        let Some(told) = self.details_with(spot.name)? else {
+    pub fn hover_at(&self, spot: DocumentPosition<'_>) -> Result<Value, AllocError>
+        requires { IsOfProject self.now.session.project spot.entry.file.now }
+    {
+        let Some(told) = self.details_with(spot.file.name())? else {
             return Ok(Value::Null);
         };
-        let Some(entry) = entry_at(&self.session, self.encoding, &told.details, spot)? else {
+        let Some(path) = path_at(&self.session, self.encoding, &told.details, spot) else {
             return Ok(Value::Null);
+        };
+        let mut text = self.shown_of(&told, path)?;
+        if let Some(declared) = last_declared(&told.details, path) {
+            push_declaration(&self.session, declared, &mut text)?;
+        }
+        hover_value(self.session.allocator(), &text)
+    }
+
+    // What is shown of the name at a path: its entry and the row of that, or the path of one that has none.
+    fn shown_of(&self, told: &RootDetails, path: &Path) -> Result<Vec<u8>, AllocError> {
+        let alloc = self.session.allocator();
+        let mut spelled = Vec::new(alloc);
+        push_path(&mut spelled, path.lent())?;
+        let Some(entry) = entry_of(&told.details, &spelled) else {
+            return Ok(spelled);
         };
         let row = match self.session.listing(told.root.as_bytes()) {
             Some(rows) => row_of(rows, &told.details, entry),
             None => None,
         };
-        let alloc = self.session.allocator();
-        hover_value(alloc, &hover_text(alloc, entry, row)?)
+        hover_text(alloc, entry, row)
     }
 
     /// What is told of the first root that asks for a file.
@@ -133,53 +156,65 @@ fn declared_place<'d>(
     encoding: Encoding,
     details: &'d Details,
     spot: DocumentPosition<'_>,
-) -> Result<Option<&'d DeclaredPlace>, AllocError>
-    ensures { IfOk result (λ place. option_copied place
-        ≡ declared_place encoding session.now.project details.now
-        spot.entry.name.now spot.entry.position) }
+) -> Option<&'d DeclaredPlace>
+    requires { IsOfProject session.now.project spot.entry.file.now }
+    ensures { option_copied result ≡ declared_place encoding session.now.project details.now
+        spot.entry.file.now.name.now spot.entry.position }
 {
-    match entry_at(session, encoding, details, spot)? {
-        Some(entry) => Ok(entry.places.as_slice().last()),
-        None => Ok(None),
-    }
+    last_declared(details, path_at(session, encoding, details, spot)?)
 }
 
-// The entry of what the name at a position denotes: of what is declared there, and else of what the first name denotes that is used there.
-fn entry_at<'d>(
+// The last place where the name at a path is declared.
+fn last_declared<'d>(details: &'d Details, path: &Path) -> Option<&'d DeclaredPlace>
+    ensures { option_copied result ≡ last_declared details.now path.now }
+{
+    let declared = details.declared.as_slice();
+    let mut last = None;
+    'each: for index in 0..declared.len() {
+        let one = &declared[index];
+        if *path == one.path {
+            last = Some(&one.place);
+        }
+    }
+    last
+}
+
+// The path of what the name at a position denotes: of what is declared there, and else of what the first name denotes that is used there.
+fn path_at<'d>(
     session: &Session,
     encoding: Encoding,
     details: &'d Details,
     spot: DocumentPosition<'_>,
-) -> Result<Option<&'d DetailedEntry>, AllocError>
-    ensures { IfOk result (λ entry. option_copied entry ≡ entry_at encoding session.now.project
-        details.now spot.entry.name.now spot.entry.position) }
+) -> Option<&'d Path>
+    requires { IsOfProject session.now.project spot.entry.file.now }
+    ensures { option_copied result ≡ path_at encoding session.now.project details.now
+        spot.entry.file.now.name.now spot.entry.position }
 {
-    if let Some(entry) = declared_entry(session, encoding, details, spot) {
-        return Ok(Some(entry));
+    if let Some(declared) = declared_at(session, encoding, details, spot) {
+        return Some(&declared.path);
     }
-    let Some(used) = used_at(session, encoding, details, spot) else {
-        return Ok(None);
-    };
-    let mut path = Vec::new(session.allocator());
-    push_path(&mut path, used.path.lent())?;
-    Ok(entry_of(details, &path))
+    match used_at(session, encoding, details, spot) {
+        Some(used) => Some(&used.path),
+        None => None,
+    }
 }
 
-// The entry of what is declared at a position.
-fn declared_entry<'d>(
+// The first name that is declared at a position.
+fn declared_at<'d>(
     session: &Session,
     encoding: Encoding,
     details: &'d Details,
     spot: DocumentPosition<'_>,
-) -> Option<&'d DetailedEntry>
-    ensures { option_copied result ≡ declared_entry encoding session.now.project
-        spot.entry.name.now spot.entry.position details.now }
+) -> Option<&'d PlacedName>
+    requires { IsOfProject session.now.project spot.entry.file.now }
+    ensures { option_copied result ≡ declared_at encoding session.now.project
+        spot.entry.file.now.name.now spot.entry.position details.now }
 {
-    let entries = details.entries.as_slice();
-    'each: for index in 0..entries.len() {
-        let entry = &entries[index];
-        if is_declared_at(session, encoding, entry, spot) {
-            return Some(entry);
+    let names = details.declared.as_slice();
+    'each: for index in 0..names.len() {
+        let declared = &names[index];
+        if stands_at(session, encoding, &declared.place.name, spot) {
+            return Some(declared);
         }
     }
     None
@@ -192,8 +227,9 @@ fn used_at<'d>(
     details: &'d Details,
     spot: DocumentPosition<'_>,
 ) -> Option<&'d UsedName>
+    requires { IsOfProject session.now.project spot.entry.file.now }
     ensures { option_copied result ≡ used_at encoding session.now.project
-        spot.entry.name.now spot.entry.position details.now }
+        spot.entry.file.now.name.now spot.entry.position details.now }
 {
     let uses = details.uses.as_slice();
     'each: for index in 0..uses.len() {
@@ -226,26 +262,6 @@ fn has_path(entry: &DetailedEntry, path: &[u8]) -> bool
     entry.tree.path.as_bytes() == path
 }
 
-// Whether what an entry is of is declared at a position.
-fn is_declared_at(
-    session: &Session,
-    encoding: Encoding,
-    entry: &DetailedEntry,
-    spot: DocumentPosition<'_>,
-) -> bool
-    ensures { result ≡ is_declared_at encoding session.now.project
-        spot.entry.name.now spot.entry.position entry.now }
-{
-    let places = entry.places.as_slice();
-    'each: for index in 0..places.len() {
-        let declared = &places[index];
-        if stands_at(session, encoding, &declared.name, spot) {
-            return true;
-        }
-    }
-    false
-}
-
 // Whether a token stands at a position.
 fn stands_at(
     session: &Session,
@@ -253,17 +269,18 @@ fn stands_at(
     token: &SitedToken,
     spot: DocumentPosition<'_>,
 ) -> bool
+    requires { IsOfProject session.now.project spot.entry.file.now }
     ensures { result ≡ stands_at encoding session.now.project
-        spot.entry.name.now spot.entry.position token.now }
+        spot.entry.file.now.name.now spot.entry.position token.now }
 {
-    if token.place.file.as_bytes() != spot.name.as_bytes() {
+    if token.place.file.as_bytes() != spot.file.name().as_bytes() {
         return false;
     }
     let column = session.column(&token.place, token.number, token.text.as_bytes());
     if column.is_none() {
         return false;
     }
-    let range = range_of(session, encoding, LocatedToken::of(token));
+    let range = range_near(session, encoding, LocatedToken::of(token), spot.file);
     is_up_to(range.start, spot.position) && is_up_to(spot.position, range.end)
 }
 
