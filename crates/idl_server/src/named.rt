@@ -3,9 +3,10 @@
 ghost use Rattle.std.specs.Prelude.{◌≡◌, IfOk};
 ghost use Rattle.std.specs.Option.{option_copied, option_map};
 ghost use Rattle.serde_json.specs.View.{view};
+ghost use Rattle.idl_server.specs.Places.{IsOfProject};
 ghost use Rattle.idl_server.specs.Named.{declared_entry, declared_place, definition_at, definition_json, details_with, entry_at, entry_of, entry_text, has_path, is_declared_at, stands_at, used_at};
 
-use crate::places::{LocatedToken, range_of};
+use crate::places::{CountedFile, LocatedToken, range_near, range_of};
 use crate::workspace::Workspace;
 use idl_editor::documents::uri_for;
 use idl_editor::told::{hover_value, location_value};
@@ -36,18 +37,19 @@ impl Drop for RootDetails {
 /// A position in a file.
 #[derive(Clone, Copy)]
 pub(crate) struct DocumentPosition<'a> {
-    pub name: &'a Name,
+    pub file: &'a CountedFile<'a>,
     pub position: Position,
 }
 
 impl Workspace {
     /// Where what the name at a position denotes is declared, and else nothing.
     pub fn definition_at(&self, spot: DocumentPosition<'_>) -> Result<Value, AllocError>
+        requires { IsOfProject self.now.session.project spot.entry.file.now }
         ensures { IfOk result (λ value. view value ≡ definition_json self.now
             (definition_at self.now.encoding self.now.session.project
-            spot.entry.name.now spot.entry.position)) }
+            spot.entry.file.now.name.now spot.entry.position)) }
     {
-        match self.details_with(spot.name)? {
+        match self.details_with(spot.file.name())? {
             Some(told) => self.definition_in(&told.details, spot),
             None => Ok(Value::Null),
         }
@@ -59,9 +61,10 @@ impl Workspace {
         details: &Details,
         spot: DocumentPosition<'_>,
     ) -> Result<Value, AllocError>
+        requires { IsOfProject self.now.session.project spot.entry.file.now }
         ensures { IfOk result (λ value. view value ≡ definition_json self.now
             (declared_place self.now.encoding self.now.session.project details.now
-            spot.entry.name.now spot.entry.position)) }
+            spot.entry.file.now.name.now spot.entry.position)) }
     {
         let Some(declared) = declared_place(&self.session, self.encoding, details, spot)? else {
             return Ok(Value::Null);
@@ -73,8 +76,10 @@ impl Workspace {
     }
 
     /// What the name at a position denotes, and else nothing.
-    pub fn hover_at(&self, spot: DocumentPosition<'_>) -> Result<Value, AllocError> {
-        let Some(told) = self.details_with(spot.name)? else {
+    pub fn hover_at(&self, spot: DocumentPosition<'_>) -> Result<Value, AllocError>
+        requires { IsOfProject self.now.session.project spot.entry.file.now }
+    {
+        let Some(told) = self.details_with(spot.file.name())? else {
             return Ok(Value::Null);
         };
         let Some(entry) = entry_at(&self.session, self.encoding, &told.details, spot)? else {
@@ -134,9 +139,10 @@ fn declared_place<'d>(
     details: &'d Details,
     spot: DocumentPosition<'_>,
 ) -> Result<Option<&'d DeclaredPlace>, AllocError>
+    requires { IsOfProject session.now.project spot.entry.file.now }
     ensures { IfOk result (λ place. option_copied place
         ≡ declared_place encoding session.now.project details.now
-        spot.entry.name.now spot.entry.position) }
+        spot.entry.file.now.name.now spot.entry.position) }
 {
     match entry_at(session, encoding, details, spot)? {
         Some(entry) => Ok(entry.places.as_slice().last()),
@@ -151,8 +157,9 @@ fn entry_at<'d>(
     details: &'d Details,
     spot: DocumentPosition<'_>,
 ) -> Result<Option<&'d DetailedEntry>, AllocError>
+    requires { IsOfProject session.now.project spot.entry.file.now }
     ensures { IfOk result (λ entry. option_copied entry ≡ entry_at encoding session.now.project
-        details.now spot.entry.name.now spot.entry.position) }
+        details.now spot.entry.file.now.name.now spot.entry.position) }
 {
     if let Some(entry) = declared_entry(session, encoding, details, spot) {
         return Ok(Some(entry));
@@ -172,8 +179,9 @@ fn declared_entry<'d>(
     details: &'d Details,
     spot: DocumentPosition<'_>,
 ) -> Option<&'d DetailedEntry>
+    requires { IsOfProject session.now.project spot.entry.file.now }
     ensures { option_copied result ≡ declared_entry encoding session.now.project
-        spot.entry.name.now spot.entry.position details.now }
+        spot.entry.file.now.name.now spot.entry.position details.now }
 {
     let entries = details.entries.as_slice();
     'each: for index in 0..entries.len() {
@@ -192,8 +200,9 @@ fn used_at<'d>(
     details: &'d Details,
     spot: DocumentPosition<'_>,
 ) -> Option<&'d UsedName>
+    requires { IsOfProject session.now.project spot.entry.file.now }
     ensures { option_copied result ≡ used_at encoding session.now.project
-        spot.entry.name.now spot.entry.position details.now }
+        spot.entry.file.now.name.now spot.entry.position details.now }
 {
     let uses = details.uses.as_slice();
     'each: for index in 0..uses.len() {
@@ -233,8 +242,9 @@ fn is_declared_at(
     entry: &DetailedEntry,
     spot: DocumentPosition<'_>,
 ) -> bool
+    requires { IsOfProject session.now.project spot.entry.file.now }
     ensures { result ≡ is_declared_at encoding session.now.project
-        spot.entry.name.now spot.entry.position entry.now }
+        spot.entry.file.now.name.now spot.entry.position entry.now }
 {
     let places = entry.places.as_slice();
     'each: for index in 0..places.len() {
@@ -253,17 +263,18 @@ fn stands_at(
     token: &SitedToken,
     spot: DocumentPosition<'_>,
 ) -> bool
+    requires { IsOfProject session.now.project spot.entry.file.now }
     ensures { result ≡ stands_at encoding session.now.project
-        spot.entry.name.now spot.entry.position token.now }
+        spot.entry.file.now.name.now spot.entry.position token.now }
 {
-    if token.place.file.as_bytes() != spot.name.as_bytes() {
+    if token.place.file.as_bytes() != spot.file.name().as_bytes() {
         return false;
     }
     let column = session.column(&token.place, token.number, token.text.as_bytes());
     if column.is_none() {
         return false;
     }
-    let range = range_of(session, encoding, LocatedToken::of(token));
+    let range = range_near(session, encoding, LocatedToken::of(token), spot.file);
     is_up_to(range.start, spot.position) && is_up_to(spot.position, range.end)
 }
 

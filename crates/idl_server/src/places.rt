@@ -150,6 +150,13 @@ impl<'a> CountedFile<'a> {
         Ok(CountedFile { name, lines })
     }
 
+    /// Its name.
+    pub fn name(&self) -> &Name
+        ensures { result.now ≡ self.now.name.now }
+    {
+        self.name
+    }
+
     // Its lines, if a place is in it.
     fn lines_at(&self, place: &Place) -> Option<&CountedLines<'a>>
         ensures { IfSome result (λ lines. (place.now.file ≡ self.now.name.now)

@@ -1,6 +1,7 @@
 //! What an editor asks for.
 
 use crate::named::DocumentPosition;
+use crate::places::CountedFile;
 use crate::workspace::Workspace;
 use idl_editor::documents::name_in;
 use idl_editor::messages::{ErrorCode, Method, position_at};
@@ -30,8 +31,9 @@ impl Workspace {
         let Some(position) = position_at(params, "position") else {
             return Ok(RequestOutcome::Refused(ErrorCode::BadParams));
         };
+        let file = CountedFile::new(&self.session, &name)?;
         let spot = DocumentPosition {
-            name: &name,
+            file: &file,
             position,
         };
         if method == Method::Hover {
