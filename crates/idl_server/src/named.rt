@@ -44,8 +44,8 @@ pub(crate) struct DocumentPosition<'a> {
 impl Workspace {
     /// Where what the name at a position denotes is declared, and else nothing.
     pub fn definition_at(&self, spot: DocumentPosition<'_>) -> Result<Value, AllocError>
-        requires { spot.entry.file.now.lines ≡ lines_of self.now.session.project
-            spot.entry.file.now.name.now }
+        requires { spot.file.now.lines ≡ lines_of self.now.session.project
+            spot.file.now.name.now }
         ensures { IfOk result (λ value. view value ≡ definition_json self.now
             (definition_at self.now.encoding self.now.session.project
             spot.entry.file.now.name.now spot.entry.position)) }
@@ -62,8 +62,8 @@ impl Workspace {
         details: &Details,
         spot: DocumentPosition<'_>,
     ) -> Result<Value, AllocError>
-        requires { spot.entry.file.now.lines ≡ lines_of self.now.session.project
-            spot.entry.file.now.name.now }
+        requires { spot.file.now.lines ≡ lines_of self.now.session.project
+            spot.file.now.name.now }
         ensures { IfOk result (λ value. view value ≡ definition_json self.now
             (declared_place self.now.encoding self.now.session.project details.now
             spot.entry.file.now.name.now spot.entry.position)) }
@@ -79,8 +79,8 @@ impl Workspace {
 
     /// What the name at a position denotes, and else nothing.
     pub fn hover_at(&self, spot: DocumentPosition<'_>) -> Result<Value, AllocError>
-        requires { spot.entry.file.now.lines ≡ lines_of self.now.session.project
-            spot.entry.file.now.name.now }
+        requires { spot.file.now.lines ≡ lines_of self.now.session.project
+            spot.file.now.name.now }
     {
         let Some(told) = self.details_with(spot.file.name())? else {
             return Ok(Value::Null);
@@ -142,8 +142,8 @@ fn declared_place<'d>(
     details: &'d Details,
     spot: DocumentPosition<'_>,
 ) -> Result<Option<&'d DeclaredPlace>, AllocError>
-    requires { spot.entry.file.now.lines ≡ lines_of session.now.project
-        spot.entry.file.now.name.now }
+    requires { spot.file.now.lines ≡ lines_of session.now.project
+        spot.file.now.name.now }
     ensures { IfOk result (λ place. option_copied place
         ≡ declared_place encoding session.now.project details.now
         spot.entry.file.now.name.now spot.entry.position) }
@@ -161,8 +161,8 @@ fn entry_at<'d>(
     details: &'d Details,
     spot: DocumentPosition<'_>,
 ) -> Result<Option<&'d DetailedEntry>, AllocError>
-    requires { spot.entry.file.now.lines ≡ lines_of session.now.project
-        spot.entry.file.now.name.now }
+    requires { spot.file.now.lines ≡ lines_of session.now.project
+        spot.file.now.name.now }
     ensures { IfOk result (λ entry. option_copied entry ≡ entry_at encoding session.now.project
         details.now spot.entry.file.now.name.now spot.entry.position) }
 {
@@ -184,8 +184,8 @@ fn declared_entry<'d>(
     details: &'d Details,
     spot: DocumentPosition<'_>,
 ) -> Option<&'d DetailedEntry>
-    requires { spot.entry.file.now.lines ≡ lines_of session.now.project
-        spot.entry.file.now.name.now }
+    requires { spot.file.now.lines ≡ lines_of session.now.project
+        spot.file.now.name.now }
     ensures { option_copied result ≡ declared_entry encoding session.now.project
         spot.entry.file.now.name.now spot.entry.position details.now }
 {
@@ -206,8 +206,8 @@ fn used_at<'d>(
     details: &'d Details,
     spot: DocumentPosition<'_>,
 ) -> Option<&'d UsedName>
-    requires { spot.entry.file.now.lines ≡ lines_of session.now.project
-        spot.entry.file.now.name.now }
+    requires { spot.file.now.lines ≡ lines_of session.now.project
+        spot.file.now.name.now }
     ensures { option_copied result ≡ used_at encoding session.now.project
         spot.entry.file.now.name.now spot.entry.position details.now }
 {
@@ -249,8 +249,8 @@ fn is_declared_at(
     entry: &DetailedEntry,
     spot: DocumentPosition<'_>,
 ) -> bool
-    requires { spot.entry.file.now.lines ≡ lines_of session.now.project
-        spot.entry.file.now.name.now }
+    requires { spot.file.now.lines ≡ lines_of session.now.project
+        spot.file.now.name.now }
     ensures { result ≡ is_declared_at encoding session.now.project
         spot.entry.file.now.name.now spot.entry.position entry.now }
 {
@@ -271,8 +271,8 @@ fn stands_at(
     token: &SitedToken,
     spot: DocumentPosition<'_>,
 ) -> bool
-    requires { spot.entry.file.now.lines ≡ lines_of session.now.project
-        spot.entry.file.now.name.now }
+    requires { spot.file.now.lines ≡ lines_of session.now.project
+        spot.file.now.name.now }
     ensures { result ≡ stands_at encoding session.now.project
         spot.entry.file.now.name.now spot.entry.position token.now }
 {
