@@ -3,7 +3,7 @@
 ghost use Rattle.std.specs.Prelude.{◌≡◌, IfOk};
 ghost use Rattle.std.specs.Option.{option_copied, option_map};
 ghost use Rattle.serde_json.specs.View.{view};
-ghost use Rattle.idl_server.specs.Places.{IsOfProject};
+ghost use Rattle.idl_server.specs.Places.{lines_of};
 ghost use Rattle.idl_server.specs.Named.{declared_at, declared_place, definition_at, definition_json, details_with, entry_of, entry_text, has_path, last_declared, path_at, stands_at, used_at};
 
 use crate::declarations::push_declaration;
@@ -12,10 +12,10 @@ use crate::workspace::Workspace;
 use idl_editor::documents::uri_for;
 use idl_editor::told::{hover_value, location_value};
 use idl_editor::{Encoding, Position, is_up_to};
-use idl_project::{
-    DeclaredPlace, DetailedEntry, Details, PlacedName, Row, Session, SitedToken, UsedName,
-};
 use idl_entity::Path;
+use idl_project::{
+    DeclaredPlace, DetailedEntry, Details, PlacedName, Session, SitedToken, UsedName,
+};
 use idl_repo::details::kind_word;
 use idl_repo::push_path;
 use idl_source::Name;
@@ -38,23 +38,21 @@ impl Drop for RootDetails {
     }
 }
 
-/// A position in a file.
+// A position in a file.
 #[derive(Clone, Copy)]
-pub(crate) struct DocumentPosition<'a> {
-    pub file: &'a CountedFile<'a>,
-    pub position: Position,
+struct DocumentPosition<'a> {
+    file: &'a CountedFile<'a>,
+    position: Position,
 }
 
 impl Workspace {
-    /// Where what the name at a position denotes is declared, and else nothing.
-    pub fn definition_at(&self, spot: DocumentPosition<'_>) -> Result<Value, AllocError>
-        requires { IsOfProject self.now.session.project spot.entry.file.now }
+    /// Where what the name at a position of a file denotes is declared, and else nothing.
+    pub fn definition_at(&self, name: &Name, position: Position) -> Result<Value, AllocError>
         ensures { IfOk result (λ value. view value ≡ definition_json self.now
-            (definition_at self.now.encoding self.now.session.project
-            spot.entry.file.now.name.now spot.entry.position)) }
+            (definition_at self.now.encoding self.now.session.project name.now position)) }
     {
-        match self.details_with(spot.file.name())? {
-            Some(told) => self.definition_in(&told.details, spot),
+        match self.details_with(name)? {
+            Some(told) => self.definition_in(&told.details, name, position),
             None => Ok(Value::Null),
         }
     }
@@ -63,13 +61,18 @@ impl Workspace {
     fn definition_in(
         &self,
         details: &Details,
-        spot: DocumentPosition<'_>,
+        name: &Name,
+        position: Position,
     ) -> Result<Value, AllocError>
-        requires { IsOfProject self.now.session.project spot.entry.file.now }
         ensures { IfOk result (λ value. view value ≡ definition_json self.now
             (declared_place self.now.encoding self.now.session.project details.now
-            spot.entry.file.now.name.now spot.entry.position)) }
+            name.now position)) }
     {
+        let file = CountedFile::new(&self.session, name)?;
+        let spot = DocumentPosition {
+            file: &file,
+            position,
+        };
         let Some(declared) = declared_place(&self.session, self.encoding, details, spot) else {
             return Ok(Value::Null);
         };
@@ -79,36 +82,55 @@ impl Workspace {
         location_value(self.session.allocator(), &uri, range)
     }
 
-    /// What the name at a position denotes, and else nothing.
-    pub fn hover_at(&self, spot: DocumentPosition<'_>) -> Result<Value, AllocError>
-        requires { IsOfProject self.now.session.project spot.entry.file.now }
-    {
-        let Some(told) = self.details_with(spot.file.name())? else {
+    /// What the name at a position of a file denotes, and how that is declared; and else nothing.
+    pub fn hover_at(&self, name: &Name, position: Position) -> Result<Value, AllocError> {
+        let Some(told) = self.details_with(name)? else {
             return Ok(Value::Null);
+        };
+        let file = CountedFile::new(&self.session, name)?;
+        let spot = DocumentPosition {
+            file: &file,
+            position,
         };
         let Some(path) = path_at(&self.session, self.encoding, &told.details, spot) else {
             return Ok(Value::Null);
         };
-        let mut text = self.shown_of(&told, path)?;
-        if let Some(declared) = last_declared(&told.details, path) {
-            push_declaration(&self.session, declared, &mut text)?;
-        }
-        hover_value(self.session.allocator(), &text)
+        hover_value(self.session.allocator(), &self.shown_of(&told, path)?)
     }
 
-    // What is shown of the name at a path: its entry and the row of that, or the path of one that has none.
+    // What is shown of the name at a path: its entry and the lines of its declaration. One that has no entry is a member, an enumerator
+    // or a parameter, of which the line of its name is shown.
     fn shown_of(&self, told: &RootDetails, path: &Path) -> Result<Vec<u8>, AllocError> {
         let alloc = self.session.allocator();
         let mut spelled = Vec::new(alloc);
         push_path(&mut spelled, path.lent())?;
-        let Some(entry) = entry_of(&told.details, &spelled) else {
-            return Ok(spelled);
+        let entry = entry_of(&told.details, &spelled);
+        let mut text = match entry {
+            Some(entry) => hover_text(alloc, entry, self.row_of(told, entry))?,
+            None => spelled,
         };
-        let row = match self.session.listing(told.root.as_bytes()) {
-            Some(rows) => row_of(rows, &told.details, entry),
-            None => None,
-        };
-        hover_text(alloc, entry, row)
+        if let Some(declared) = last_declared(&told.details, path) {
+            match entry {
+                Some(_) => {
+                    push_declaration(&mut text, &self.session, &declared.first, &declared.last)?;
+                }
+                None => {
+                    push_declaration(&mut text, &self.session, &declared.name, &declared.name)?;
+                }
+            }
+        }
+        Ok(text)
+    }
+
+    // The row of an entry in the listing of its root, which has one for each entry, and none where the root has an error.
+    fn row_of(&self, told: &RootDetails, entry: &DetailedEntry) -> Option<&[u8]> {
+        let rows = self.session.listing(told.root.as_bytes())?;
+        for (index, other) in told.details.entries.as_slice().iter().enumerate() {
+            if other.tree.path == entry.tree.path {
+                return Some(rows.get(index)?.as_bytes());
+            }
+        }
+        None
     }
 
     /// What is told of the first root that asks for a file.
@@ -140,16 +162,6 @@ fn hover_text(
     Ok(text)
 }
 
-// The row of an entry in the listing of its root, which has one for each entry, and none where the root has an error.
-fn row_of<'a>(rows: &'a [Row], details: &Details, entry: &DetailedEntry) -> Option<&'a [u8]> {
-    for (index, other) in details.entries.as_slice().iter().enumerate() {
-        if other.tree.path == entry.tree.path {
-            return Some(rows.get(index)?.as_bytes());
-        }
-    }
-    None
-}
-
 // The last place where what the name at a position denotes is declared.
 fn declared_place<'d>(
     session: &Session,
@@ -157,7 +169,8 @@ fn declared_place<'d>(
     details: &'d Details,
     spot: DocumentPosition<'_>,
 ) -> Option<&'d DeclaredPlace>
-    requires { IsOfProject session.now.project spot.entry.file.now }
+    requires { spot.file.now.lines ≡ lines_of session.now.project
+        spot.file.now.name.now }
     ensures { option_copied result ≡ declared_place encoding session.now.project details.now
         spot.entry.file.now.name.now spot.entry.position }
 {
@@ -186,7 +199,8 @@ fn path_at<'d>(
     details: &'d Details,
     spot: DocumentPosition<'_>,
 ) -> Option<&'d Path>
-    requires { IsOfProject session.now.project spot.entry.file.now }
+    requires { spot.file.now.lines ≡ lines_of session.now.project
+        spot.file.now.name.now }
     ensures { option_copied result ≡ path_at encoding session.now.project details.now
         spot.entry.file.now.name.now spot.entry.position }
 {
@@ -206,7 +220,8 @@ fn declared_at<'d>(
     details: &'d Details,
     spot: DocumentPosition<'_>,
 ) -> Option<&'d PlacedName>
-    requires { IsOfProject session.now.project spot.entry.file.now }
+    requires { spot.file.now.lines ≡ lines_of session.now.project
+        spot.file.now.name.now }
     ensures { option_copied result ≡ declared_at encoding session.now.project
         spot.entry.file.now.name.now spot.entry.position details.now }
 {
@@ -227,7 +242,8 @@ fn used_at<'d>(
     details: &'d Details,
     spot: DocumentPosition<'_>,
 ) -> Option<&'d UsedName>
-    requires { IsOfProject session.now.project spot.entry.file.now }
+    requires { spot.file.now.lines ≡ lines_of session.now.project
+        spot.file.now.name.now }
     ensures { option_copied result ≡ used_at encoding session.now.project
         spot.entry.file.now.name.now spot.entry.position details.now }
 {
@@ -269,7 +285,8 @@ fn stands_at(
     token: &SitedToken,
     spot: DocumentPosition<'_>,
 ) -> bool
-    requires { IsOfProject session.now.project spot.entry.file.now }
+    requires { spot.file.now.lines ≡ lines_of session.now.project
+        spot.file.now.name.now }
     ensures { result ≡ stands_at encoding session.now.project
         spot.entry.file.now.name.now spot.entry.position token.now }
 {
