@@ -110,14 +110,11 @@ impl Workspace {
             None => spelled,
         };
         if let Some(declared) = last_declared(&told.details, path) {
-            match entry {
-                Some(_) => {
-                    push_declaration(&mut text, &self.session, &declared.first, &declared.last)?;
-                }
-                None => {
-                    push_declaration(&mut text, &self.session, &declared.name, &declared.name)?;
-                }
-            }
+            let (first, last) = match entry {
+                Some(_) => (&declared.first, &declared.last),
+                None => (&declared.name, &declared.name),
+            };
+            push_declaration(&mut text, &self.session, first, last)?;
         }
         Ok(text)
     }
