@@ -29,7 +29,7 @@ returns c =
     c.from_vec.ensures ∙ c.in_ok-entries.ensures
     ∙ ap (λ (ls : List HeldListed). flat_map (listed_entries facts c.in_ok-names.names.declared.items) (map listed_at ls)) c.as_slice-3.ensures.value
     ∙ ap (λ ds. flat_map (listed_entries facts ds) listed) names.declared in
-    let declared : c.from_vec-2.result ≡ declared_names events all = c.from_vec-2.ensures ∙ ap (λ v. v.items) c.into_lists.ensures.declared ∙ names.declared in
-    let uses : c.from_vec-3.result ≡ used_names events all = c.from_vec-3.ensures ∙ ap (λ v. v.items) c.into_lists.ensures.used ∙ names.used in
+    let declared : c.from_vec-2.result ≡ declared_names events all = c.from_vec-2.ensures ∙ ap (λ v. v.items) c.into_lists-declared.ensures.declared ∙ names.declared in
+    let uses : c.from_vec-3.result ≡ used_names events all = c.from_vec-3.ensures ∙ ap (λ v. v.items) c.into_lists-declared.ensures.used ∙ names.used in
     made c.from_vec.result (flat_map (listed_entries facts (declared_names events all)) listed) c.from_vec-2.result (declared_names events all) c.from_vec-3.result (used_names events all) entries declared uses
     ∙ details-judged events (held c.in_ok-first.first) (held judging) c.as_slice-2.result.now all start c.in_ok-naming.ensures.judging c.in_ok-naming.ensures.units (c.as_slice-2.ensures ∙ c.in_ok-units.ensures)
