@@ -3,7 +3,7 @@ use Rattle.std.proofs.Common.{◌≡◌, Bool, true, false, ℕ, List, [], ◌�
 use Rattle.std.specs.Prelude.{Contains, flat_map}
 use Rattle.std.proofs.lemmas.List.Elements.{All-contains, All-push, Contains-append_left, Contains-push}
 use Rattle.idl_env.specs.Differing.{differing}
-use Rattle.idl_env.specs.Facts.{UnitFacts, World, after, after_all, answers, entity_key, first_world, key_of, operations_among, stops_of, world, with_additions}
+use Rattle.idl_env.specs.Facts.{UnitFacts, World, after, answers, entity_key, first_world, key_of, operations_among, stops_of, world, with_additions}
 use Rattle.idl_env.specs.Outside.{AgreeOutside, AreApart, IsInnermost, WorldsAgreeAround, WorldsAgreeOutside, looked_at, looked_at_by}
 use Rattle.idl_env.specs.declared.additions.addition.Step.TheVariants.{Stays, Closes}
 use Rattle.idl_env.specs.declared.answering.answer.Scope.{Scope}
