@@ -1,10 +1,10 @@
 //! The files that options ask for, compiled.
 
 ghost use Rattle.std.specs.Prelude.{◌≡◌, IfOk, OnOk};
-ghost use Rattle.idl_driver.specs.Compilations.{IsCompilation};
+ghost use Rattle.idl_driver.specs.Compilations.{IsCompilation, IsSoundPart};
 
 use crate::failure::ProgramFailure;
-use crate::loading::compile_all;
+use crate::loading::{SoundRoots, compile_all, compile_sound};
 use crate::options::Options;
 use crate::preparing::prepared;
 use idl_loader::Loader;
@@ -51,4 +51,20 @@ pub fn compile_files<'a, L: Loader>(
         roots,
         compiled,
     })
+}
+
+/// Compiles those of the files that options ask for that come without trouble, over what a loader has.
+#[inline(never)]
+pub fn compile_sound_files<'a, L: Loader>(
+    alloc: Global,
+    options: &Options<'a>,
+    loader: &mut L,
+) -> Result<SoundRoots, ProgramFailure<'a>>
+    ensures compiled { IfOk result (IsSoundPart (L.told loader.old) options.now) }
+    // The loader tells what it told.
+    ensures still { OnOk result (L.told loader.new ≡ L.told loader.old) }
+{
+    let (sources, roots) = prepared(alloc, options)?;
+    let sound = compile_sound(sources, roots.as_slice(), loader)?;
+    Ok(sound)
 }

@@ -1,15 +1,15 @@
-use Rattle.std.proofs.Common.{◌≡◌, ap, rules, subst, sym}
+use Rattle.std.proofs.Common.{◌≡◌, ◌∙◌, ap, rules, subst, sym}
 use Rattle.std.specs.FinMap as finite
 use Rattle.idl_source.specs.texts.Cut.{cut_lines}
 use Rattle.idl_source.specs.texts.Texts.{Texts}
 use Rattle.idl_inputs.specs.Project.{Inputs}
 use Rattle.idl_driver.specs.Loading.{AreLoaded}
 use Rattle.idl_loader.specs.Holding.{IsFileOf}
-use Rattle.idl_driver.proofs.LoadingLemmas.{AreLoaded-insert}
+use Rattle.idl_driver.proofs.LoadingLemmas.{AreLoaded-insert, loading-kept, on_ok}
 use Rattle.idl_driver.proofs.loading.Loading.load.Goals as goal
 
-pub returns-in_ok-map_err-in-Bytes : goal.returns-in_ok-map_err-in-Bytes
-returns-in_ok-map_err-in-Bytes g c =
+pub returns-in-Ok-in-Bytes : goal.returns-in-Ok-in-Bytes
+returns-in-Ok-in-Bytes g c =
     let told = g.L.Loader.told c.args.loader.now in
     let old = c.args.self.now.sources in
     let name = c.args.name.now in
@@ -24,3 +24,16 @@ returns-in_ok-map_err-in-Bytes g c =
       };
       stays = record { macros = ap (λ (i : Inputs). i.macros) made; search = ap (λ (i : Inputs). i.search) made };
     }
+
+pub returns-in-Err-in-Bytes : goal.returns-in-Err-in-Bytes
+returns-in-Err-in-Bytes g c =
+    let told = g.L.Loader.told in
+    let same : c.put.new.sources ≡ c.args.self.now.sources = search rules in
+    on_ok c.meet.result
+    (loading-kept (told c.args.loader.now) _ c.args.self.now c.meet.new.self c.in-Bytes.ensures.stays (c.meet.ensures.sources ∙ same) c.meet.ensures.missing)
+
+pub returns-in-Failed : goal.returns-in-Failed
+returns-in-Failed g c =
+    let told = g.L.Loader.told in
+    on_ok c.meet-in-Failed.result
+    (loading-kept (told c.args.loader.now) _ c.args.self.now c.meet-in-Failed.new.self c.in-Failed.ensures.stays c.meet-in-Failed.ensures.sources c.meet-in-Failed.ensures.missing)
