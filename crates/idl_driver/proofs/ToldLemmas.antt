@@ -13,9 +13,6 @@ use Rattle.idl_driver.specs.declared.failure.ProgramFailure.TheVariants as failu
 pub writes-none : (before : Option (List ℕ)) → WritesSome before before
 writes-none before = ([], append-none before)
 
-pub writes-same : (before after : Option (List ℕ)) → after ≡ before → WritesSome before after
-writes-same before after same = ([], same ∙ append-none before)
-
 -- more went out
 pub writes-more : (before mid after : Option (List ℕ)) → WritesSome before mid → WritesSome mid after → WritesSome before after
 writes-more before mid after first next = (

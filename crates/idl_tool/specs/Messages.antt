@@ -1,15 +1,20 @@
 -- What the program tells of a failure.
-use Rattle.std.specs.Prelude.{◌≡◌, ℕ, List, [], ◌++◌, Option, codes}
+use Rattle.std.specs.Prelude.{◌≡◌, ℕ, List, [], ◌++◌, Option, codes, length, nat_eq, if◌then◌else◌}
+use Rattle.std.specs.List.{AllZip, concat}
 use Rattle.std.specs.String.{string_bytes}
 use Rattle.idl_explain.specs.Explained.{headline, topic_of}
 use Rattle.idl_explain.specs.declared.explanation.Explanation.{Explanation}
 use Rattle.idl_explain.specs.declared.explanation.Topic.TheVariants as topic
 use Rattle.idl_driver.specs.Messages.{message_of, name_of, named_line}
 use Rattle.idl_driver.specs.Written.{WritesSome}
+use Rattle.idl_driver.specs.declared.failure.CompileFault.{CompileFault}
+use Rattle.idl_driver.specs.declared.failure.CompileFault.TheVariants as fault
 use Rattle.idl_driver.specs.declared.failure.ProgramFailure.{ProgramFailure}
 use Rattle.idl_driver.specs.declared.failure.ProgramFailure.TheVariants as program
 use Rattle.idl_source.specs.declared.refusal.Refusal.{Refusal}
 use Rattle.idl_source.specs.devices.Device.{append}
+use Rattle.idl_loader.specs.declared.status.Status.{Status}
+use Rattle.idl_loader.specs.declared.status.Status.TheVariants.{Failed}
 use Rattle.idl_tool.specs.declared.failure.ToolFailure.{ToolFailure}
 use Rattle.idl_tool.specs.declared.failure.ToolFailure.TheVariants as failure
 
@@ -36,6 +41,20 @@ IsMessage (failure.NoTopic word) text =
 IsMessage (failure.NoMakeName subject) text =
     text ≡ line_about (name_of subject) (codes "no name for make")
 IsMessage (failure.Program failure) text = IsProgramMessage failure text
+
+-- the line about trouble with a file
+abbrev pub IsFaultMessage : CompileFault → List ℕ → Type 0
+IsFaultMessage (fault.Refused name refusal) text = IsRefusedMessage name refusal text
+IsFaultMessage (fault.CannotRead name) text = text ≡ line_about name (codes "cannot read")
+
+-- a line of each of these troubles, in order
+abbrev pub AreFaultMessages : List CompileFault → List ℕ → Type 0
+AreFaultMessages faults text =
+    (texts : List (List ℕ)) × AllZip IsFaultMessage faults texts × (text ≡ concat texts)
+
+-- how the program ends after these troubles, where it would else end so
+abbrev pub ended_by : List CompileFault → Status → Status
+ended_by faults status = if nat_eq (length faults) 0 then status else Failed
 
 -- it went out
 abbrev pub IsTold : ToolFailure → Option (List ℕ) → Option (List ℕ) → Type 0
