@@ -1,5 +1,5 @@
 -- Names that are tried, and roots that are compiled over what came of them.
-use Rattle.std.proofs.Common.{◌≡◌, ◌∙◌, ◌∷◌, [], ℕ, Bool, true, false, cond, All, Contains, Err, List, None, Ok, Result, Some, map, refl, sym, subst, ap}
+use Rattle.std.proofs.Common.{◌≡◌, ◌∙◌, ◌∷◌, ◌⊎◌, [], inl, inr, ℕ, Bool, true, false, cond, All, Contains, Err, List, None, Ok, Result, Some, map, refl, sym, subst, ap}
 use Rattle.std.proofs.lemmas.List.Elements.{All-cons, All-contains, All-head, All-nil, All-tail, All-weaker}
 use Rattle.std.proofs.lemmas.Map.Text.{is_eq-slice_cmp}
 use Rattle.std.specs.Cmp.Lexicographic.{bytes_decides, nat_list_cmp_total, slice_cmp}
@@ -58,6 +58,19 @@ loading-kept told still old new loader sources missing = record {
       (subst (λ (names : List (List ℕ)). IsTrue told old.sources names) (sym missing) is);
   stays = record { macros = ap (λ (i : Inputs). i.macros) sources; search = ap (λ (i : Inputs). i.search) sources };
 }
+
+-- a file was put, or nothing has changed
+pub loading-taken : (told still : List ℕ → Holding) (old new : Loading) (name : List ℕ) (lines : List (List ℕ)) → still ≡ told → IsFileOf told name lines
+    → (new.sources ≡ record old.sources { files = finite.insert old.sources.files name lines }) ⊎ (new.sources ≡ old.sources) → new.missing.keys ≡ old.missing.keys → IsLoading told still old new
+loading-taken told still old new name lines loader own (inl made) missing = record {
+  stays_told = loader;
+  stays_true = λ is. record {
+    loaded = subst (λ (files : Texts). AreLoaded told files) (sym (ap (λ (i : Inputs). i.files) made)) (AreLoaded-insert told old.sources.files name lines is.loaded own);
+    absent = subst (λ (names : List (List ℕ)). All (λ (n : List ℕ). Allows (told n) NoFile) names) (sym missing) is.absent;
+  };
+  stays = record { macros = ap (λ (i : Inputs). i.macros) made; search = ap (λ (i : Inputs). i.search) made };
+}
+loading-taken told still old new name lines loader own (inr same) missing = loading-kept told still old new loader same missing
 
 -- what is compiled over the inputs in between is compiled over these
 pub compiled-from : (told mid : List ℕ → Holding) (before between after : Inputs) (roots : List (List ℕ)) (compiled : List CompiledRoot) → mid ≡ told → StaysAsked before between

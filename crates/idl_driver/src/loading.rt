@@ -1,6 +1,6 @@
 //! The files that roots ask for, and what the roots compile to over them.
 
-ghost use Rattle.std.specs.Prelude.{◌≡◌, ◌++◌, ◌∷◌, [], All, Contains, IfNone, IfOk, OnErr, OnOk, length, map};
+ghost use Rattle.std.specs.Prelude.{◌≡◌, ◌⊎◌, ◌++◌, ◌∷◌, [], All, Contains, IfNone, IfOk, OnErr, OnOk, length, map};
 ghost use Rattle.std.specs.FinMap as finite;
 ghost use Rattle.idl_source.specs.texts.Cut.{cut_lines};
 ghost use Rattle.idl_sources.specs.Compile.{compiled_root};
@@ -337,18 +337,27 @@ impl Loading {
             return Ok(false);
         }
         match loader.load(name) {
-            Loaded::Bytes(bytes) => {
-                match put(&mut self.sources, name, &bytes) {
-                    Ok(()) => Ok(true),
-                    Err(refusal) => self.meet(refused(name, refusal)),
-                }
-            }
+            Loaded::Bytes(bytes) => self.take_bytes(name, &bytes),
             Loaded::Missing => match self.missing.insert(name.copied()) {
                 Ok(_) => Ok(false),
                 Err(_) => Err(no_memory(name)),
             },
             Loaded::Failed => self.meet(CompileFault::CannotRead(name.copied())),
             Loaded::NoMemory => Err(no_memory(name)),
+        }
+    }
+
+    // Puts a file of these bytes, and tells whether it is there.
+    fn take_bytes(&mut self, name: &Name, bytes: &[u8]) -> Result<bool, CompileFault>
+        ensures taken {
+            let files = finite.insert self.old.sources.files name.now (cut_lines bytes.now) in OnOk result
+            ((self.new.sources ≡ record self.old.sources { files = files })
+            ⊎ (self.new.sources ≡ self.old.sources)) }
+        ensures missing { self.new.missing.keys ≡ self.old.missing.keys }
+    {
+        match put(&mut self.sources, name, bytes) {
+            Ok(()) => Ok(true),
+            Err(refusal) => self.meet(refused(name, refusal)),
         }
     }
 
