@@ -27,6 +27,7 @@ writes-part before after bytes part = (take part.0 bytes, part.2)
 none-until : (failed : ProgramFailure) (before : Option (List ℕ)) → IsShownUntil failed before before
 none-until failure.BadArguments before = refl
 none-until (failure.Refused subject refusal) before = refl
+none-until (failure.OverLimit subject limit) before = refl
 none-until (failure.CannotRead name) before = refl
 none-until failure.NoMemory before = refl
 none-until failure.ReadFailed before = refl

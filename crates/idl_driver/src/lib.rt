@@ -11,6 +11,7 @@
 mod compilation;
 mod devices;
 mod failure;
+mod limit;
 mod loading;
 mod options;
 mod preparing;
@@ -22,6 +23,7 @@ pub use failure::{CompileFault, FailureSubject, ProgramFailure, tell_of};
 pub use idl_loader;
 pub use idl_loader::Status;
 pub use idl_sources;
+pub use limit::Limit;
 pub use loading::SoundRoots;
 pub use options::{Options, options_of, values_of, with_options};
 pub use words::{ParsedWords, WordsFault, parse_words};

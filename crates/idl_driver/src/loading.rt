@@ -9,6 +9,7 @@ ghost use Rattle.idl_driver.specs.Loading.{AreCompiled};
 ghost use Rattle.idl_driver.specs.Tried.{AreMissing, IsLoading, IsTrue};
 
 use crate::failure::CompileFault;
+use crate::limit::Limit;
 use idl_loader::{Loaded, Loader};
 use idl_prep::{Explorer, FileWalk, MAX_DEPTH, OpenFile, Waypoint};
 use idl_source::{Name, Refusal, cut};
@@ -357,7 +358,7 @@ impl Loading {
     {
         match put(&mut self.sources, name, bytes) {
             Ok(()) => Ok(true),
-            Err(refusal) => self.meet(refused(name, refusal)),
+            Err(fault) => self.meet(fault),
         }
     }
 
@@ -402,13 +403,18 @@ impl Loading {
 }
 
 // Puts a file of these bytes.
-fn put(sources: &mut Sources, name: &Name, bytes: &[u8]) -> Result<(), Refusal>
+fn put(sources: &mut Sources, name: &Name, bytes: &[u8]) -> Result<(), CompileFault>
     ensures put { let files = finite.insert sources.old.files name.now (cut_lines bytes.now) in
         OnOk result (sources.new ≡ record sources.old { files = files }) }
     ensures same { OnErr result (sources.new ≡ sources.old) }
 {
-    let lines = cut(sources.allocator(), bytes)?;
-    sources.put(name, lines)
+    let lines = cut(sources.allocator(), bytes).map_err(|_| no_memory(name))?;
+    let limit = Limit::of_file(&lines);
+    match sources.put(name, lines) {
+        Ok(()) => Ok(()),
+        Err(Refusal::OverLimit) => Err(CompileFault::OverLimit(name.copied(), limit)),
+        Err(refusal) => Err(refused(name, refusal)),
+    }
 }
 
 // What each of the roots compiles to.

@@ -5,6 +5,7 @@ ghost use Rattle.std.specs.FinMap as finite;
 ghost use Rattle.idl_driver.specs.Options.{AreAsked, before_equals, defined_by, macro_body, named_by, searched_by, undefined_by};
 
 use crate::failure::OptionsFault;
+use crate::limit::Limit;
 use crate::options::Options;
 use idl_inputs::MAX_ROOTS;
 use idl_source::path::directory_at;
@@ -54,7 +55,7 @@ fn define<'a>(sources: &mut Sources, word: &'a str) -> Result<(), OptionsFault<'
     };
     match sources.define(name, line) {
         Ok(_) => Ok(()),
-        Err(refusal) => Err(refused(word, refusal)),
+        Err(refusal) => Err(OptionsFault::refused(word, refusal, Limit::of_macro(body))),
     }
 }
 
@@ -102,9 +103,9 @@ fn search_all<'a>(sources: &mut Sources, words: &[&'a str]) -> Result<(), Option
 {
     let mut directories: Vec<Directory> = Vec::new(sources.allocator());
     'words: for word in words {
-        search_in(sources, &mut directories, word.as_bytes()).map_err(|refusal| refused(
-            word, refusal,
-        ))?;
+        search_in(sources, &mut directories, word.as_bytes()).map_err(
+            |refusal| OptionsFault::refused(word, refusal, Limit::Directories),
+        )?;
     }
     Ok(())
 }
@@ -143,7 +144,9 @@ fn roots_of<'a>(alloc: Global, words: &[&'a str]) -> Result<IndexSet<Name>, Opti
 {
     let mut roots = IndexSet::new(alloc);
     'words: for word in words {
-        add(&mut roots, word.as_bytes()).map_err(|refusal| refused(word, refusal))?;
+        add(&mut roots, word.as_bytes()).map_err(
+            |refusal| OptionsFault::refused(word, refusal, Limit::Roots),
+        )?;
     }
     Ok(roots)
 }

@@ -1,19 +1,10 @@
 -- Lines about trouble, one after another.
-use Rattle.std.proofs.Common.{◌≡◌, ◌∙◌, ◌+◌, ◌<◌, ◌++◌, ◌∷◌, [], ℕ, List, ap, append_assoc, codes, get_or, length, subst, sym, take}
+use Rattle.std.proofs.Common.{◌≡◌, ◌∙◌, ◌+◌, ◌<◌, ◌++◌, ◌∷◌, [], ℕ, List, ap, get_or, length, subst, sym, take}
 use Rattle.std.proofs.lemmas.List.{take_more}
 use Rattle.std.specs.List.{AllZip}
 use Rattle.idl_driver.specs.declared.failure.CompileFault.{CompileFault}
 use Rattle.idl_tool.specs.Messages.{AreFaultMessages, IsFaultMessage}
 use Rattle.idl_tool.proofs.JsonLemmas.{joined-next, zip-push}
-
--- who tells, and of what
-abbrev pub about : List ℕ → List ℕ
-about name = codes "idltool: " ++ (name ++ codes ": ")
-
-pub behind-about : (before name told : List ℕ) → (before ++ about name) ++ told ≡ before ++ (codes "idltool: " ++ (name ++ (codes ": " ++ told)))
-behind-about before name told =
-    append_assoc before (about name) told
-    ∙ ap (λ (t : List ℕ). before ++ t) (append_assoc (codes "idltool: ") (name ++ codes ": ") told ∙ ap (λ (t : List ℕ). codes "idltool: " ++ t) (append_assoc name (codes ": ") told))
 
 -- that of a trouble more
 pub faults-next : (faults : List CompileFault) (i : ℕ) (fault : CompileFault) (before after text : List ℕ) → i < length faults → fault ≡ get_or faults i fault

@@ -2,7 +2,7 @@
 use Rattle.std.specs.Prelude.{◌≡◌, ℕ, List, [], ◌++◌, Option, codes, length, nat_eq, if◌then◌else◌}
 use Rattle.std.specs.List.{AllZip, concat}
 use Rattle.std.specs.String.{string_bytes}
-use Rattle.idl_explain.specs.Explained.{headline, topic_of}
+use Rattle.idl_explain.specs.Explained.{ended, headline, topic_of}
 use Rattle.idl_explain.specs.declared.explanation.Explanation.{Explanation}
 use Rattle.idl_explain.specs.declared.explanation.Topic.TheVariants as topic
 use Rattle.idl_driver.specs.Messages.{message_of, name_of, named_line}
@@ -10,6 +10,8 @@ use Rattle.idl_driver.specs.Written.{WritesSome}
 use Rattle.idl_driver.specs.declared.failure.CompileFault.{CompileFault}
 use Rattle.idl_driver.specs.declared.failure.CompileFault.TheVariants as fault
 use Rattle.idl_driver.specs.declared.failure.ProgramFailure.{ProgramFailure}
+use Rattle.idl_driver.specs.declared.limit.Limit.{Limit}
+use Rattle.idl_driver.specs.declared.limit.Limit.TheVariants as limit
 use Rattle.idl_driver.specs.declared.failure.ProgramFailure.TheVariants as program
 use Rattle.idl_source.specs.declared.refusal.Refusal.{Refusal}
 use Rattle.idl_source.specs.devices.Device.{append}
@@ -28,10 +30,27 @@ IsRefusedMessage name refusal text =
     (explanation : Explanation) × (topic_of explanation.told ≡ topic.Refusal refusal)
     × (text ≡ codes "idltool: " ++ name ++ codes ": " ++ headline explanation [])
 
+-- what a limit says that is passed
+abbrev pub limit_words : Limit → List ℕ
+limit_words limit.LineBytes = codes "a line of more than 4,096 bytes"
+limit_words limit.Lines = codes "more than 200,000 lines"
+limit_words limit.Files = codes "more than 4,096 files"
+limit_words limit.BodyBytes = codes "a body of more than 4,096 bytes"
+limit_words limit.Macros = codes "more than 4,096 macros"
+limit_words limit.Directories = codes "more than 256 directories"
+limit_words limit.Roots = codes "more than 256 files"
+
+-- the line about a name that passes a limit
+abbrev pub limit_message : List ℕ → Limit → List ℕ
+limit_message name limit =
+    codes "idltool: " ++ name ++ codes ": refused 5: " ++ ended (limit_words limit)
+
 -- what each of the programs may tell: of a refusal this one explains it
 abbrev pub IsProgramMessage : ProgramFailure → List ℕ → Type 0
 IsProgramMessage (program.Refused subject refusal) text =
     IsRefusedMessage (name_of subject) refusal text
+IsProgramMessage (program.OverLimit subject limit) text =
+    text ≡ limit_message (name_of subject) limit
 IsProgramMessage other text = text ≡ message_of (codes "idltool") other
 
 abbrev pub IsMessage : ToolFailure → List ℕ → Type 0
@@ -45,7 +64,12 @@ IsMessage (failure.Program failure) text = IsProgramMessage failure text
 -- the line about trouble with a file
 abbrev pub IsFaultMessage : CompileFault → List ℕ → Type 0
 IsFaultMessage (fault.Refused name refusal) text = IsRefusedMessage name refusal text
+IsFaultMessage (fault.OverLimit name limit) text = text ≡ limit_message name limit
 IsFaultMessage (fault.CannotRead name) text = text ≡ line_about name (codes "cannot read")
+
+-- a text of this sort stands behind another one
+abbrev pub IsBehind : (List ℕ → Type 0) → List ℕ → List ℕ → Type 0
+IsBehind sort before after = (text : List ℕ) × sort text × (after ≡ before ++ text)
 
 -- a line of each of these troubles, in order
 abbrev pub AreFaultMessages : List CompileFault → List ℕ → Type 0

@@ -1,11 +1,13 @@
 //! Trouble with files, which leaves what is told of others as it is.
 
-ghost use Rattle.std.specs.Prelude.{◌≡◌, ◌++◌, ℕ, IfOk, List, OnOk, codes};
-ghost use Rattle.idl_tool.specs.Messages.{AreFaultMessages, IsFaultMessage, ended_by};
+ghost use Rattle.std.specs.Prelude.{◌≡◌, ◌++◌, IfOk, OnOk, codes};
+ghost use Rattle.idl_tool.specs.Messages.{AreFaultMessages, IsBehind, IsFaultMessage, IsRefusedMessage, ended_by, limit_message, line_about};
 
-use idl_driver::CompileFault;
+use crate::failure::limit_words;
+use idl_driver::{CompileFault, Limit};
 use idl_explain::{Topic, explanation_of};
 use idl_loader::Status;
+use idl_source::Refusal;
 use std::alloc::{AllocError, Global};
 
 /// A line of each of these troubles.
@@ -28,27 +30,51 @@ pub fn ended_by(faults: &[CompileFault], status: Status) -> Status
 
 // Writes the line about trouble with a file.
 fn push_fault(fault: &CompileFault, out: &mut Vec<u8>) -> Result<(), AllocError>
-    ensures { OnOk result ((text : List ℕ) × IsFaultMessage fault.now text
-        × (out.new.items ≡ out.old.items ++ text)) }
+    ensures { OnOk result (IsBehind (IsFaultMessage fault.now) out.old.items out.new.items) }
 {
     match fault {
-        CompileFault::Refused(name, refusal) => {
-            push_about(name.as_bytes(), out)?;
-            explanation_of(Topic::Refusal(*refusal)).push_headline(b"", out)
-        }
-        CompileFault::CannotRead(name) => {
-            push_about(name.as_bytes(), out)?;
-            out.extend_from_slice(b"cannot read\n")
-        }
+        CompileFault::Refused(name, refusal) => push_refused(name.as_bytes(), *refusal, out),
+        CompileFault::OverLimit(name, limit) => push_limit(name.as_bytes(), *limit, out),
+        CompileFault::CannotRead(name) => push_unreadable(name.as_bytes(), out),
     }
+}
+
+// Writes that about a file that is refused.
+fn push_refused(name: &[u8], refusal: Refusal, out: &mut Vec<u8>) -> Result<(), AllocError>
+    ensures { OnOk result
+        (IsBehind (IsRefusedMessage name.now refusal) out.old.items out.new.items) }
+{
+    push_about(name, out)?;
+    explanation_of(Topic::Refusal(refusal)).push_headline(b"", out)
 }
 
 // Writes who tells, and of what.
 fn push_about(name: &[u8], out: &mut Vec<u8>) -> Result<(), AllocError>
     ensures { OnOk result
-        (out.new.items ≡ out.old.items ++ codes "idltool: " ++ name.now ++ codes ": ") }
+        (out.new.items ≡ out.old.items ++ (codes "idltool: " ++ name.now ++ codes ": ")) }
 {
     out.extend_from_slice(b"idltool: ")?;
     out.extend_from_slice(name)?;
     out.extend_from_slice(b": ")
+}
+
+// Writes that about a file that passes a limit.
+fn push_limit(name: &[u8], limit: Limit, out: &mut Vec<u8>) -> Result<(), AllocError>
+    ensures { OnOk result (out.new.items ≡ out.old.items ++ limit_message name.now limit) }
+{
+    out.extend_from_slice(b"idltool: ")?;
+    out.extend_from_slice(name)?;
+    out.extend_from_slice(b": refused 5: ")?;
+    out.extend_from_slice(limit_words(limit))?;
+    out.extend_from_slice(b"\n")
+}
+
+// Writes that about a file that can't be read.
+fn push_unreadable(name: &[u8], out: &mut Vec<u8>) -> Result<(), AllocError>
+    ensures { OnOk result
+        (out.new.items ≡ out.old.items ++ line_about name.now (codes "cannot read")) }
+{
+    out.extend_from_slice(b"idltool: ")?;
+    out.extend_from_slice(name)?;
+    out.extend_from_slice(b": cannot read\n")
 }
