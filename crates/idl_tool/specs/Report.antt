@@ -1,5 +1,5 @@
 -- The report of a finding: where it is and what it says, its line, and marks below its token.
-use Rattle.std.specs.Prelude.{ℕ, ◌+◌, ◌/◌, ◌%◌, Bool, true, false, ◌&&◌, ◌||◌, not, List, [], ◌∷◌, ◌++◌, codes, decimal, drop, length, nat_eq, nat_le, nat_lt, take, Option, None, Some, unwrap_or, if◌then◌else◌}
+use Rattle.std.specs.Prelude.{ℕ, ◌+◌, ◌/◌, ◌%◌, Bool, true, false, ◌&&◌, ◌||◌, not, List, [], ◌∷◌, ◌++◌, codes, decimal, drop, length, min, nat_eq, nat_le, nat_lt, slice_range, take, Option, None, Some, unwrap_or, if◌then◌else◌}
 use Rattle.std.specs.List.{flat_map}
 use Rattle.bstr.specs.Utf8.{Decoded, decoded, pieces}
 use Rattle.idl_explain.specs.Explained.{ended, said}
@@ -82,7 +82,7 @@ mark_below b = if goes_on b then [] else 94 ∷ []
 -- that has more
 abbrev pub marked : List ℕ → ℕ → ℕ → List ℕ
 marked line column size =
-    let text = drop column line in
+    let text = slice_range line (min column (length line)) (length line) in
     take (if nat_lt size (decoded text).size then (decoded text).size else size) text
 
 -- below a line: a gap up to this column, and then a mark below each character that is marked

@@ -8,9 +8,9 @@ use Rattle.clap.specs.declared.builder.action.ArgAction.TheVariants.{Append, Set
 use Rattle.idl_driver.specs.Parsed.{IsDisplay, IsRefusal, Tells}
 use Rattle.idl_driver.specs.Words.{AreOptionsOf, file_rule, flag_rule, option_rules, stands, values_of}
 use Rattle.idl_driver.specs.declared.options.Options.{Options}
-use Rattle.idl_tool.specs.declared.request.Check.{Check}
 use Rattle.idl_tool.specs.declared.request.Deps.{Deps}
 use Rattle.idl_tool.specs.declared.request.Diff.{Diff}
+use Rattle.idl_tool.specs.declared.request.Check.{Check}
 use Rattle.idl_tool.specs.declared.request.ToolRequest.{ToolRequest}
 use Rattle.idl_tool.specs.declared.request.ToolRequest.TheVariants as request
 

@@ -197,9 +197,7 @@ fn push_marks(
 fn marked(line: &[u8], column: usize, size: usize) -> &[u8]
     ensures { result.now ≡ marked line.entry.now column size }
 {
-    let Some(text) = line.get(column..) else {
-        return b"";
-    };
+    let text = &line[column.min(line.len())..];
     let (_character, whole) = decode_utf8(text);
     let size = if size < whole { whole } else { size };
     text.get(..size).unwrap_or(text)
