@@ -17,7 +17,7 @@ mod options;
 mod preparing;
 mod words;
 
-pub use compilation::{Compilation, compile_files, compile_sound_files};
+pub use compilation::{Compilation, SoundFiles, compile_files, compile_sound_files};
 pub use devices::Devices;
 pub use failure::{CompileFault, FailureSubject, ProgramFailure, tell_of};
 pub use idl_loader;

@@ -21,11 +21,11 @@ use Rattle.idl_driver.specs.idl_sources.declared.compile.CompiledRoot.{CompiledR
 use Rattle.idl_inputs.specs.Project.{Inputs}
 use Rattle.idl_driver.specs.Written.{Written}
 use Rattle.idl_loader.specs.Holding.{Holding}
-use Rattle.idl_driver.specs.Compilations.{IsSoundPart}
-use Rattle.idl_driver.specs.declared.loading.SoundRoots.{SoundRoots}
+use Rattle.idl_driver.specs.Compilations.{AreSoundFiles}
+use Rattle.idl_driver.specs.declared.compilation.SoundFiles.{SoundFiles}
 use Rattle.idl_loader.specs.declared.status.Status.{Status}
 use Rattle.idl_loader.specs.declared.status.Status.TheVariants.{Sound, Faulty}
-use Rattle.idl_tool.specs.Messages.{AreFaultMessages, ended_by}
+use Rattle.idl_tool.specs.Messages.{AreTroubleMessages, ended_by}
 use Rattle.idl_tool.specs.Report.{report, second_line}
 use Rattle.idl_tool.specs.declared.request.Check.{Check}
 
@@ -133,23 +133,23 @@ abbrev pub are_faults : Bool → List CompiledRoot → Bool
 are_faults counts_warnings roots = list_any (is_fault counts_warnings) roots
 
 -- what went out of files, and how the program ends
-pub record AreReportsWritten (counts_warnings : Bool) (all : SoundRoots) (before after : Written)
+pub record AreReportsWritten (counts_warnings : Bool) (files : SoundFiles) (before after : Written)
     (status : Status) : Type 0 where
   pub told : List (List Told)
-  pub each : AreToldOf all.sources all.roots.items told
+  pub each : AreToldOf files.sound.sources files.sound.roots.items told
   pub reports : List Entry
-  pub reported : AreReported all.sources.files (all_of told) [] reports
+  pub reported : AreReported files.sound.sources.files (all_of told) [] reports
   pub output : after.output ≡ append before.output (flat_map entry_text reports)
   pub trouble : List ℕ
-  pub troubles : AreFaultMessages all.faults.items trouble
+  pub troubles : AreTroubleMessages files trouble
   pub errors : after.errors ≡ append before.errors trouble
-  pub ending : status ≡ ended_by all.faults.items
-      (if are_faults counts_warnings (map (compiled_root all.sources) all.roots.items)
+  pub ending : status ≡ ended_by files
+      (if are_faults counts_warnings (map (compiled_root files.sound.sources) files.sound.roots.items)
       then Faulty else Sound)
 
 -- what is asked for is told of the files that come without trouble, and the trouble of the others
 pub record IsChecked (told : List ℕ → Holding) (check : Check) (before after : Written)
     (status : Status) : Type 0 where
-  pub all : SoundRoots
-  pub files : IsSoundPart told check.options all
+  pub all : SoundFiles
+  pub files : AreSoundFiles told check.options all
   pub reports : AreReportsWritten check.counts_warnings all before after status

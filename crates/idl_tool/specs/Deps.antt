@@ -11,11 +11,11 @@ use Rattle.idl_inputs.specs.Project.{Inputs}
 use Rattle.idl_driver.specs.Written.{Written}
 use Rattle.idl_driver.specs.Compiled.{errors_in, is_faulty, lines_of}
 use Rattle.idl_loader.specs.Holding.{Holding}
-use Rattle.idl_driver.specs.Compilations.{IsSoundPart}
-use Rattle.idl_driver.specs.declared.loading.SoundRoots.{SoundRoots}
+use Rattle.idl_driver.specs.Compilations.{AreSoundFiles}
+use Rattle.idl_driver.specs.declared.compilation.SoundFiles.{SoundFiles}
 use Rattle.idl_loader.specs.declared.status.Status.{Status}
 use Rattle.idl_loader.specs.declared.status.Status.TheVariants.{Sound, Faulty}
-use Rattle.idl_tool.specs.Messages.{AreFaultMessages, ended_by}
+use Rattle.idl_tool.specs.Messages.{AreTroubleMessages, ended_by}
 use Rattle.idl_tool.specs.make_rules.Make.{IsMakeRule, Need, There, IfThere, Rule, rules_text}
 use Rattle.idl_tool.specs.declared.request.Deps.{Deps}
 
@@ -72,21 +72,21 @@ needs_in deps inputs root =
     map (need_of deps.has_generated inputs.files) (wanted_in deps inputs root)
 
 -- what went out of files, and how the program ends
-pub record AreRuled (deps : Deps) (all : SoundRoots) (before after : Written) (status : Status)
+pub record AreRuled (deps : Deps) (files : SoundFiles) (before after : Written) (status : Status)
     : Type 0 where
   pub trouble : List ℕ
-  pub troubles : AreFaultMessages all.faults.items trouble
+  pub troubles : AreTroubleMessages files trouble
   pub errors : after.errors ≡ append (append before.errors trouble)
-      (lines_of (errors_in all.sources) all.roots.items)
-  pub output : after.output
-      ≡ append before.output (rules_text (flat_map (rules_in deps all.sources) all.roots.items))
-  pub readable : All IsMakeRule (flat_map (rules_in deps all.sources) all.roots.items)
-  pub ending : status ≡ ended_by all.faults.items
-      (if is_faulty all.sources all.roots.items then Faulty else Sound)
+      (lines_of (errors_in files.sound.sources) files.sound.roots.items)
+  pub output : after.output ≡ append before.output
+      (rules_text (flat_map (rules_in deps files.sound.sources) files.sound.roots.items))
+  pub readable : All IsMakeRule (flat_map (rules_in deps files.sound.sources) files.sound.roots.items)
+  pub ending : status ≡ ended_by files
+      (if is_faulty files.sound.sources files.sound.roots.items then Faulty else Sound)
 
 -- the rules are of the files that come without trouble, and the trouble of the others is told
 pub record IsServed (told : List ℕ → Holding) (deps : Deps) (before after : Written)
     (status : Status) : Type 0 where
-  pub all : SoundRoots
-  pub files : IsSoundPart told deps.options all
+  pub all : SoundFiles
+  pub files : AreSoundFiles told deps.options all
   pub ruled : AreRuled deps all before after status

@@ -24,13 +24,13 @@ use Rattle.idl_driver.specs.idl_sources.declared.compile.CompiledRoot.{CompiledR
 use Rattle.idl_driver.specs.Written.{Written}
 use Rattle.idl_driver.specs.Compiled.{is_faulty}
 use Rattle.idl_loader.specs.Holding.{Holding}
-use Rattle.idl_driver.specs.Compilations.{IsSoundPart}
-use Rattle.idl_driver.specs.declared.loading.SoundRoots.{SoundRoots}
+use Rattle.idl_driver.specs.Compilations.{AreSoundFiles}
+use Rattle.idl_driver.specs.declared.compilation.SoundFiles.{SoundFiles}
 use Rattle.idl_loader.specs.declared.status.Status.{Status}
 use Rattle.idl_loader.specs.declared.status.Status.TheVariants.{Sound, Faulty}
 use Rattle.idl_driver.specs.declared.options.Options.{Options}
 use Rattle.idl_tool.specs.Checked.{Told, column_of}
-use Rattle.idl_tool.specs.Messages.{AreFaultMessages, ended_by}
+use Rattle.idl_tool.specs.Messages.{AreTroubleMessages, ended_by}
 
 -- a second place, with the column of its token
 abbrev pub second_at : Texts → Related → Second
@@ -101,20 +101,20 @@ abbrev pub IsLineOf : Inputs → List ℕ → List ℕ → Type 0
 IsLineOf inputs root line = IsLineWith inputs root (compiled_root inputs root) line
 
 -- what went out of files, and how the program ends
-pub record AreWritten (all : SoundRoots) (before after : Written) (status : Status)
+pub record AreWritten (files : SoundFiles) (before after : Written) (status : Status)
     : Type 0 where
   pub lines : List (List ℕ)
-  pub each : AllZip (IsLineOf all.sources) all.roots.items lines
+  pub each : AllZip (IsLineOf files.sound.sources) files.sound.roots.items lines
   pub output : after.output ≡ append before.output (concat lines)
   pub trouble : List ℕ
-  pub troubles : AreFaultMessages all.faults.items trouble
+  pub troubles : AreTroubleMessages files trouble
   pub errors : after.errors ≡ append before.errors trouble
-  pub ending : status ≡ ended_by all.faults.items
-      (if is_faulty all.sources all.roots.items then Faulty else Sound)
+  pub ending : status ≡ ended_by files
+      (if is_faulty files.sound.sources files.sound.roots.items then Faulty else Sound)
 
 -- lines are written of the files that come without trouble, and the trouble of the others is told
 pub record IsWritten (told : List ℕ → Holding) (options : Options) (before after : Written)
     (status : Status) : Type 0 where
-  pub all : SoundRoots
-  pub files : IsSoundPart told options all
+  pub all : SoundFiles
+  pub files : AreSoundFiles told options all
   pub written : AreWritten all before after status

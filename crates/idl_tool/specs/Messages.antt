@@ -1,5 +1,6 @@
 -- What the program tells of a failure.
-use Rattle.std.specs.Prelude.{◌≡◌, ℕ, List, [], ◌++◌, Option, codes, length, nat_eq, if◌then◌else◌}
+use Rattle.std.specs.Prelude.{◌≡◌, ℕ, ◌&&◌, List, [], ◌++◌, Option, codes, length, nat_eq, if◌then◌else◌}
+use Rattle.std.specs.Borrow.{Bor}
 use Rattle.std.specs.List.{AllZip, concat}
 use Rattle.std.specs.String.{string_bytes}
 use Rattle.idl_explain.specs.Explained.{ended, headline, topic_of}
@@ -7,6 +8,7 @@ use Rattle.idl_explain.specs.declared.explanation.Explanation.{Explanation}
 use Rattle.idl_explain.specs.declared.explanation.Topic.TheVariants as topic
 use Rattle.idl_driver.specs.Messages.{message_of, name_of, named_line}
 use Rattle.idl_driver.specs.Written.{WritesSome}
+use Rattle.idl_driver.specs.declared.compilation.SoundFiles.{SoundFiles}
 use Rattle.idl_driver.specs.declared.failure.CompileFault.{CompileFault}
 use Rattle.idl_driver.specs.declared.failure.CompileFault.TheVariants as fault
 use Rattle.idl_driver.specs.declared.failure.ProgramFailure.{ProgramFailure}
@@ -14,6 +16,7 @@ use Rattle.idl_driver.specs.declared.limit.Limit.{Limit}
 use Rattle.idl_driver.specs.declared.limit.Limit.TheVariants as limit
 use Rattle.idl_driver.specs.declared.failure.ProgramFailure.TheVariants as program
 use Rattle.idl_source.specs.declared.refusal.Refusal.{Refusal}
+use Rattle.idl_source.specs.declared.refusal.Refusal.TheVariants.{BadName}
 use Rattle.idl_source.specs.devices.Device.{append}
 use Rattle.idl_loader.specs.declared.status.Status.{Status}
 use Rattle.idl_loader.specs.declared.status.Status.TheVariants.{Failed}
@@ -71,14 +74,26 @@ IsFaultMessage (fault.CannotRead name) text = text ≡ line_about name (codes "c
 abbrev pub IsBehind : (List ℕ → Type 0) → List ℕ → List ℕ → Type 0
 IsBehind sort before after = (text : List ℕ) × sort text × (after ≡ before ++ text)
 
--- a line of each of these troubles, in order
-abbrev pub AreFaultMessages : List CompileFault → List ℕ → Type 0
-AreFaultMessages faults text =
-    (texts : List (List ℕ)) × AllZip IsFaultMessage faults texts × (text ≡ concat texts)
+-- lines of this sort, one of each of these, in order
+abbrev pub AreLines : {X : Type 0} → (X → List ℕ → Type 0) → List X → List ℕ → Type 0
+AreLines sort xs text =
+    (lines : List (List ℕ)) × AllZip sort xs lines × (text ≡ concat lines)
+
+-- a FILE that leads to no name is refused
+abbrev pub IsNamelessMessage : Bor (List ℕ) → List ℕ → Type 0
+IsNamelessMessage word text = IsRefusedMessage word.now BadName text
+
+-- a line of each trouble with files
+abbrev pub AreTroubleMessages : SoundFiles → List ℕ → Type 0
+AreTroubleMessages files text = (first second : List ℕ)
+    × AreLines IsNamelessMessage files.nameless.items first
+    × AreLines IsFaultMessage files.sound.faults.items second × (text ≡ first ++ second)
 
 -- how the program ends after these troubles, where it would else end so
-abbrev pub ended_by : List CompileFault → Status → Status
-ended_by faults status = if nat_eq (length faults) 0 then status else Failed
+abbrev pub ended_by : SoundFiles → Status → Status
+ended_by files status =
+    if nat_eq (length files.nameless.items) 0 && nat_eq (length files.sound.faults.items) 0
+    then status else Failed
 
 -- it went out
 abbrev pub IsTold : ToolFailure → Option (List ℕ) → Option (List ℕ) → Type 0

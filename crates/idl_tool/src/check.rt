@@ -12,7 +12,7 @@ ghost use Rattle.idl_tool.specs.Checked.{AreReported, AreToldOf, Explains, IsChe
 ghost use Rattle.idl_tool.specs.ToldAt.{told_at};
 
 use crate::failure::ToolFailure;
-use crate::faults::{ended_by, faults_text};
+use crate::faults::{ended_by, troubles_text};
 use crate::report::{LocatedFinding, push_second};
 use crate::request::Check;
 use idl_base::{Bytes, Seq};
@@ -51,10 +51,10 @@ pub fn check<'a, L: Loader, S, O: Sink, E: Sink>(
         (WritesSome (E.written devices.old.errors) (E.written devices.new.errors)) }
 {
     let all = compile_sound_files(alloc, &asked.options, &mut devices.loader)?;
-    let trouble = faults_text(alloc, &all.faults)?;
-    let text = report_text(&all)?;
-    let status = ending_of(&all.compiled, asked.counts_warnings);
-    let status = ended_by(&all.faults, status);
+    let trouble = troubles_text(alloc, &all)?;
+    let text = report_text(&all.sound)?;
+    let status = ending_of(&all.sound.compiled, asked.counts_warnings);
+    let status = ended_by(&all, status);
     write_all(&mut devices.errors, &trouble)?;
     write_all(&mut devices.output, &text)?;
     // The program ends here, and all memory goes back at once.

@@ -9,7 +9,7 @@ ghost use Rattle.idl_tool.specs.Deps.{IsServed, empty_rule, is_other, is_there, 
 ghost use Rattle.idl_tool.specs.make_rules.Make.{IsMakeRule, is_make_name, need_text, rules_text, target_text};
 
 use crate::failure::ToolFailure;
-use crate::faults::{ended_by, faults_text};
+use crate::faults::{ended_by, troubles_text};
 use crate::make_rules::{is_make_name, push_need, push_need_if_there, push_target};
 use crate::request::Deps;
 use idl_driver::idl_sources::{CompiledRoot, Sources};
@@ -42,11 +42,11 @@ pub fn write_deps<'a, L: Loader, S, O: Sink, E: Sink>(
         (WritesSome (E.written devices.old.errors) (E.written devices.new.errors)) }
 {
     let all = compile_sound_files(alloc, &deps.options, &mut devices.loader)?;
-    let trouble = faults_text(alloc, &all.faults)?;
-    let rules = rules_of(&all.sources, &all.roots, deps)?;
+    let trouble = troubles_text(alloc, &all)?;
+    let rules = rules_of(&all.sound.sources, &all.sound.roots, deps)?;
     write_all(&mut devices.errors, &trouble)?;
-    let status = tell_errors(&all.compiled, &mut devices.errors)?;
-    let status = ended_by(&all.faults, status);
+    let status = tell_errors(&all.sound.compiled, &mut devices.errors)?;
+    let status = ended_by(&all, status);
     write_all(&mut devices.output, &rules)?;
     // The program ends here, and all memory goes back at once.
     forget(all);

@@ -1,31 +1,56 @@
 //! Trouble with files, which leaves what is told of others as it is.
 
 ghost use Rattle.std.specs.Prelude.{◌≡◌, ◌++◌, IfOk, OnOk, codes};
-ghost use Rattle.idl_tool.specs.Messages.{AreFaultMessages, IsBehind, IsFaultMessage, IsRefusedMessage, ended_by, limit_message, line_about};
+ghost use Rattle.idl_tool.specs.Messages.{AreLines, AreTroubleMessages, IsBehind, IsFaultMessage, IsNamelessMessage, IsRefusedMessage, ended_by, limit_message, line_about};
 
 use crate::failure::limit_words;
-use idl_driver::{CompileFault, Limit};
+use idl_driver::{CompileFault, Limit, SoundFiles};
 use idl_explain::{Topic, explanation_of};
 use idl_loader::Status;
 use idl_source::Refusal;
 use std::alloc::{AllocError, Global};
 
-/// A line of each of these troubles.
-pub fn faults_text(alloc: Global, faults: &[CompileFault]) -> Result<Vec<u8>, AllocError>
-    ensures { IfOk result (λ text. AreFaultMessages faults.now text.items) }
+/// A line of each trouble with these files.
+pub fn troubles_text(alloc: Global, files: &SoundFiles<'_>) -> Result<Vec<u8>, AllocError>
+    ensures { IfOk result (λ text. AreTroubleMessages files.now text.items) }
 {
     let mut text = Vec::new(alloc);
-    'faults: for fault in faults {
-        push_fault(fault, &mut text)?;
-    }
+    push_nameless(&files.nameless, &mut text)?;
+    push_faults(&files.sound.faults, &mut text)?;
     Ok(text)
 }
 
 /// How the program ends after these troubles, where it would else end so.
-pub fn ended_by(faults: &[CompileFault], status: Status) -> Status
-    ensures { result ≡ ended_by faults.now status }
+pub fn ended_by(files: &SoundFiles<'_>, status: Status) -> Status
+    ensures { result ≡ ended_by files.now status }
 {
-    if faults.is_empty() { status } else { Status::Failed }
+    if files.nameless.is_empty() && files.sound.faults.is_empty() {
+        status
+    } else {
+        Status::Failed
+    }
+}
+
+// Writes a line about each of these FILEs, which lead to no names.
+fn push_nameless(words: &[&str], out: &mut Vec<u8>) -> Result<(), AllocError>
+    ensures { OnOk result
+        (IsBehind (AreLines IsNamelessMessage words.now) out.old.items out.new.items) }
+{
+    'words: for word in words {
+        push_refused(word.as_bytes(), Refusal::BadName, out)?;
+    }
+    Ok(())
+}
+
+// Writes a line about each of these troubles.
+fn push_faults(faults: &[CompileFault], out: &mut Vec<u8>) -> Result<(), AllocError>
+    ensures { OnOk result
+        (IsBehind (AreLines IsFaultMessage faults.now) out.old.items out.new.items) }
+{
+    'faults: for fault in faults {
+        push_fault(fault, out)?;
+    }
+    Ok(())
 }
 
 // Writes the line about trouble with a file.

@@ -11,7 +11,7 @@ ghost use Rattle.idl_tool.specs.Json.{IsLineOf, IsLineWith, IsWritten, declared_
 
 use crate::check::{column_of, status_of};
 use crate::failure::ToolFailure;
-use crate::faults::{ended_by, faults_text};
+use crate::faults::{ended_by, troubles_text};
 use idl_base::Seq;
 use idl_driver::idl_sources::{
     CompiledRoot, DeclaredPlace, DetailedEntry, Details, Finding, SitedToken, Sources, related_over,
@@ -49,10 +49,10 @@ pub fn write_json<'a, L: Loader, S, O: Sink, E: Sink>(
         (WritesSome (E.written devices.old.errors) (E.written devices.new.errors)) }
 {
     let all = compile_sound_files(alloc, options, &mut devices.loader)?;
-    let trouble = faults_text(alloc, &all.faults)?;
-    let text = lines_of(&all.sources, &all.roots, &all.compiled)?;
-    let status = status_of(&all.compiled);
-    let status = ended_by(&all.faults, status);
+    let trouble = troubles_text(alloc, &all)?;
+    let text = lines_of(&all.sound.sources, &all.sound.roots, &all.sound.compiled)?;
+    let status = status_of(&all.sound.compiled);
+    let status = ended_by(&all, status);
     write_all(&mut devices.errors, &trouble)?;
     write_all(&mut devices.output, &text)?;
     // The program ends here, and all memory goes back at once.

@@ -9,7 +9,11 @@ returns-clause-compiled g c =
     let are = c.in_ok-sound.ensures.compiled in
     record {
       roots = c.in_ok-sources.roots.keys;
-      asked = record { macros = are.stays.macros ∙ first.macros; search = first.search ∙ ap Some (sym are.stays.search); named = first.named };
+      asked = record {
+        over = record { macros = are.stays.macros ∙ first.over.macros; search = first.over.search ∙ ap Some (sym are.stays.search) };
+        named = first.named;
+        nameless_are = first.nameless_are;
+      };
       left = subst (λ (rs : List (List ℕ)). AreAllBut rs (length sound.faults.items) sound.roots.items) c.as_slice.ensures.keys c.in_ok-sound.ensures.left;
       formed = are.formed;
       loaded = are.loaded;

@@ -1,13 +1,12 @@
-use Rattle.std.proofs.Common.{◌∙◌, List, ap, if◌then◌else◌, subst}
+use Rattle.std.proofs.Common.{◌∙◌, List, ap, if◌then◌else◌}
 use Rattle.idl_source.specs.devices.Device.{append}
-use Rattle.idl_driver.specs.declared.failure.CompileFault.{CompileFault}
 use Rattle.idl_driver.specs.idl_sources.declared.compile.CompiledRoot.{CompiledRoot}
 use Rattle.idl_driver.proofs.ToldLemmas.{writes-none, writes-part}
 use Rattle.idl_loader.proofs.ReplyLemmas.{on_err}
 use Rattle.idl_loader.specs.declared.status.Status.{Status}
 use Rattle.idl_loader.specs.declared.status.Status.TheVariants.{Faulty, Sound}
 use Rattle.idl_tool.specs.Checked.{are_faults}
-use Rattle.idl_tool.specs.Messages.{AreFaultMessages, ended_by}
+use Rattle.idl_tool.specs.Messages.{ended_by}
 use Rattle.idl_tool.proofs.check.check.Goals as goal
 
 pub report_text-requires : goal.report_text-requires
@@ -27,13 +26,12 @@ returns-clause-checked g c =
         each = text.1;
         reports = text.2;
         reported = text.3;
-        output = c.in_ok-write_all-2.ensures.written ∙ ap (append (g.O.Sink.written c.args.devices.now.output)) (c.deref-5.ensures.value ∙ text.4);
+        output = c.in_ok-write_all-2.ensures.written ∙ ap (append (g.O.Sink.written c.args.devices.now.output)) (c.deref-3.ensures.value ∙ text.4);
         trouble = c.in_ok-trouble.trouble.items;
-        troubles = subst (λ (fs : List CompileFault). AreFaultMessages fs c.in_ok-trouble.trouble.items) c.deref.ensures.value c.in_ok-trouble.ensures;
-        errors = c.in_ok-write_all.ensures.written ∙ ap (append (g.E.Sink.written c.args.devices.now.errors)) c.deref-4.ensures.value;
-        ending = c.ended_by-status.ensures ∙ ap (λ (fs : List CompileFault). ended_by fs c.ending_of-status.result) c.deref-3.ensures.value
-            ∙ ap (λ (s : Status). ended_by all.faults.items s)
-            (c.ending_of-status.ensures ∙ ap (λ (rs : List CompiledRoot). if are_faults counts rs then Faulty else Sound) (c.deref-2.ensures.value ∙ is.compiled));
+        troubles = c.in_ok-trouble.ensures;
+        errors = c.in_ok-write_all.ensures.written ∙ ap (append (g.E.Sink.written c.args.devices.now.errors)) c.deref-2.ensures.value;
+        ending = c.ended_by-status.ensures ∙ ap (λ (s : Status). ended_by all s)
+            (c.ending_of-status.ensures ∙ ap (λ (rs : List CompiledRoot). if are_faults counts rs then Faulty else Sound) (c.deref.ensures.value ∙ is.compiled));
       };
     }
 

@@ -2,12 +2,11 @@ use Rattle.std.proofs.Common.{◌∙◌, ℕ, All, List, ap, flat_map, if◌then
 use Rattle.idl_source.specs.devices.Device.{append}
 use Rattle.idl_driver.specs.Compiled.{errors_in, lines_of}
 use Rattle.idl_driver.specs.Rows.{are_faulty, lines_with}
-use Rattle.idl_driver.specs.declared.failure.CompileFault.{CompileFault}
 use Rattle.idl_loader.specs.declared.status.Status.{Status}
 use Rattle.idl_loader.specs.declared.status.Status.TheVariants.{Faulty, Sound}
 use Rattle.idl_loader.proofs.ReplyLemmas.{on_err}
 use Rattle.idl_driver.proofs.ToldLemmas.{writes-more, writes-none, writes-part}
-use Rattle.idl_tool.specs.Messages.{AreFaultMessages, ended_by}
+use Rattle.idl_tool.specs.Messages.{ended_by}
 use Rattle.idl_tool.specs.make_rules.Make.{IsMakeRule, rules_text}
 use Rattle.idl_tool.specs.Deps.{rules_in}
 use Rattle.idl_tool.proofs.DepsLemmas.{ending-of, told-of}
@@ -16,27 +15,25 @@ use Rattle.idl_tool.proofs.deps.write_deps.Goals as goal
 pub returns-clause-served : goal.returns-clause-served
 returns-clause-served g c =
     let all = c.in_ok-all.all in
-    let inputs = all.sources in
-    let roots = all.roots.items in
-    let compiled = all.compiled.items in
+    let inputs = all.sound.sources in
+    let roots = all.sound.roots.items in
+    let compiled = all.sound.compiled.items in
     let is = c.in_ok-all.ensures.compiled in
-    let trouble = c.in_ok-trouble.trouble.items in
-    let told = c.in_ok-write_all.ensures.written ∙ ap (append (g.E.Sink.written c.args.devices.now.errors)) c.deref-3.ensures.value in
+    let told = c.in_ok-write_all.ensures.written ∙ ap (append (g.E.Sink.written c.args.devices.now.errors)) c.deref-2.ensures.value in
     record {
       all = all;
       files = is;
       ruled = record {
-        trouble = trouble;
-        troubles = subst (λ (fs : List CompileFault). AreFaultMessages fs trouble) c.deref.ensures.value c.in_ok-trouble.ensures;
+        trouble = c.in_ok-trouble.trouble.items;
+        troubles = c.in_ok-trouble.ensures;
         errors = c.in_ok-status.ensures.told
-            ∙ ap (append (g.E.Sink.written c.write_all.new.sink)) (ap (lines_with (λ root. root.rows.diagnostics)) c.deref-4.ensures.value ∙ told-of inputs roots compiled is.compiled)
+            ∙ ap (append (g.E.Sink.written c.write_all.new.sink)) (ap (lines_with (λ root. root.rows.diagnostics)) c.deref-3.ensures.value ∙ told-of inputs roots compiled is.compiled)
             ∙ ap (λ before. append before (lines_of (errors_in inputs) roots)) told;
         output = c.in_ok-write_all-2.ensures.written
-            ∙ ap (append (g.O.Sink.written c.args.devices.now.output)) (c.deref-6.ensures.value ∙ c.in_ok-rules.ensures.rules ∙ ap (λ (rs : List (List ℕ)). rules_text (flat_map (rules_in c.args.deps.now inputs) rs)) c.deref-2.ensures.value);
-        readable = subst (λ (rs : List (List ℕ)). All IsMakeRule (flat_map (rules_in c.args.deps.now inputs) rs)) c.deref-2.ensures.value c.in_ok-rules.ensures.readable;
-        ending = c.ended_by-status.ensures ∙ ap (λ (fs : List CompileFault). ended_by fs c.in_ok-status.status) c.deref-5.ensures.value
-            ∙ ap (λ (s : Status). ended_by all.faults.items s)
-            (c.in_ok-status.ensures.status ∙ ap (λ b. if b then Faulty else Sound) (ap are_faulty c.deref-4.ensures.value ∙ ending-of inputs roots compiled is.compiled));
+            ∙ ap (append (g.O.Sink.written c.args.devices.now.output)) (c.deref-4.ensures.value ∙ c.in_ok-rules.ensures.rules ∙ ap (λ (rs : List (List ℕ)). rules_text (flat_map (rules_in c.args.deps.now inputs) rs)) c.deref.ensures.value);
+        readable = subst (λ (rs : List (List ℕ)). All IsMakeRule (flat_map (rules_in c.args.deps.now inputs) rs)) c.deref.ensures.value c.in_ok-rules.ensures.readable;
+        ending = c.ended_by-status.ensures ∙ ap (λ (s : Status). ended_by all s)
+            (c.in_ok-status.ensures.status ∙ ap (λ b. if b then Faulty else Sound) (ap are_faulty c.deref-3.ensures.value ∙ ending-of inputs roots compiled is.compiled));
       };
     }
 

@@ -1,7 +1,6 @@
 use Rattle.std.proofs.Common.{◌∙◌, ℕ, List, ap, if◌then◌else◌, map, subst, sym}
 use Rattle.std.specs.List.{AllZip}
 use Rattle.idl_source.specs.devices.Device.{append}
-use Rattle.idl_driver.specs.declared.failure.CompileFault.{CompileFault}
 use Rattle.idl_driver.specs.idl_sources.Compile.{compiled_root}
 use Rattle.idl_driver.specs.Rows.{are_faulty}
 use Rattle.idl_driver.proofs.ToldLemmas.{writes-none, writes-part}
@@ -9,16 +8,17 @@ use Rattle.idl_loader.proofs.ReplyLemmas.{on_err}
 use Rattle.idl_loader.specs.declared.status.Status.{Status}
 use Rattle.idl_loader.specs.declared.status.Status.TheVariants.{Faulty, Sound}
 use Rattle.idl_tool.specs.Json.{IsLineOf}
-use Rattle.idl_tool.specs.Messages.{AreFaultMessages, ended_by}
+use Rattle.idl_tool.specs.Messages.{ended_by}
 use Rattle.idl_tool.proofs.DepsLemmas.{ending-of}
 use Rattle.idl_tool.proofs.json.write_json.Goals as goal
 
 pub lines_of-requires : goal.lines_of-requires
-lines_of-requires g c = c.deref-3.ensures.value ∙ c.in_ok-all.ensures.compiled.compiled ∙ ap (map (compiled_root c.in_ok-all.all.sources)) (sym c.deref-2.ensures.value)
+lines_of-requires g c = c.deref-2.ensures.value ∙ c.in_ok-all.ensures.compiled.compiled ∙ ap (map (compiled_root c.in_ok-all.all.sound.sources)) (sym c.deref.ensures.value)
 
 pub returns-clause-written : goal.returns-clause-written
 returns-clause-written g c =
     let all = c.in_ok-all.all in
+    let sound = all.sound in
     let is = c.in_ok-all.ensures.compiled in
     let text = c.in_ok-text.ensures in
     record {
@@ -26,14 +26,13 @@ returns-clause-written g c =
       files = is;
       written = record {
         lines = text.0;
-        each = subst (λ (rs : List (List ℕ)). AllZip (IsLineOf all.sources) rs text.0) c.deref-2.ensures.value text.1;
-        output = c.in_ok-write_all-2.ensures.written ∙ ap (append (g.O.Sink.written c.args.devices.now.output)) (c.deref-7.ensures.value ∙ text.2);
+        each = subst (λ (rs : List (List ℕ)). AllZip (IsLineOf sound.sources) rs text.0) c.deref.ensures.value text.1;
+        output = c.in_ok-write_all-2.ensures.written ∙ ap (append (g.O.Sink.written c.args.devices.now.output)) (c.deref-5.ensures.value ∙ text.2);
         trouble = c.in_ok-trouble.trouble.items;
-        troubles = subst (λ (fs : List CompileFault). AreFaultMessages fs c.in_ok-trouble.trouble.items) c.deref.ensures.value c.in_ok-trouble.ensures;
-        errors = c.in_ok-write_all.ensures.written ∙ ap (append (g.E.Sink.written c.args.devices.now.errors)) c.deref-6.ensures.value;
-        ending = c.ended_by-status.ensures ∙ ap (λ (fs : List CompileFault). ended_by fs c.status_of-status.result) c.deref-5.ensures.value
-            ∙ ap (λ (s : Status). ended_by all.faults.items s)
-            (c.status_of-status.ensures ∙ ap (λ b. if b then Faulty else Sound) (ap are_faulty c.deref-4.ensures.value ∙ ending-of all.sources all.roots.items all.compiled.items is.compiled));
+        troubles = c.in_ok-trouble.ensures;
+        errors = c.in_ok-write_all.ensures.written ∙ ap (append (g.E.Sink.written c.args.devices.now.errors)) c.deref-4.ensures.value;
+        ending = c.ended_by-status.ensures ∙ ap (λ (s : Status). ended_by all s)
+            (c.status_of-status.ensures ∙ ap (λ b. if b then Faulty else Sound) (ap are_faulty c.deref-3.ensures.value ∙ ending-of sound.sources sound.roots.items sound.compiled.items is.compiled));
       };
     }
 
