@@ -144,7 +144,8 @@ pub record AreReportsWritten (counts_warnings : Bool) (files : SoundFiles) (befo
   pub troubles : AreTroubleMessages files trouble
   pub errors : after.errors ≡ append before.errors trouble
   pub ending : status ≡ ended_by files
-      (if are_faults counts_warnings (map (compiled_root files.sound.sources) files.sound.roots.items)
+      (if are_faults counts_warnings
+      (map (compiled_root files.sound.sources) files.sound.roots.items)
       then Faulty else Sound)
 
 -- what is asked for is told of the files that come without trouble, and the trouble of the others

@@ -80,7 +80,8 @@ pub record AreRuled (deps : Deps) (files : SoundFiles) (before after : Written) 
       (lines_of (errors_in files.sound.sources) files.sound.roots.items)
   pub output : after.output ≡ append before.output
       (rules_text (flat_map (rules_in deps files.sound.sources) files.sound.roots.items))
-  pub readable : All IsMakeRule (flat_map (rules_in deps files.sound.sources) files.sound.roots.items)
+  pub readable : All IsMakeRule
+      (flat_map (rules_in deps files.sound.sources) files.sound.roots.items)
   pub ending : status ≡ ended_by files
       (if is_faulty files.sound.sources files.sound.roots.items then Faulty else Sound)
 
