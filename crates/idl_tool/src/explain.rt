@@ -47,7 +47,7 @@ fn push_others<'a>(words: &[&'a str], out: &mut Vec<u8>) -> Result<(), ToolFailu
         (AreShown (map (λ w. w.now) words.now) out.old.items out.new.items) }
 {
     'words: for word in words {
-        out.push(b'\n')?;
+        out.extend_from_slice(b"\n")?;
         push_named(word, out)?;
     }
     Ok(())

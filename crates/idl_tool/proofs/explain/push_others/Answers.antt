@@ -7,4 +7,4 @@ pub words-preserved : goal.words-preserved
 words-preserved c =
     let names = c.in_ok-push_named.ensures in
     shown-at (λ (w : Bor (List ℕ)). w.now) c.args.words.now c.words.word-index _ names.0 c.args.out.now.items c.words.out.items c.push_named.new.out.items
-    c.words-test.true c.words.invariant names.1 (names.2 ∙ ap (λ (t : List ℕ). t ++ shown names.0) c.in_ok-push.ensures.items)
+    c.words-test.true c.words.invariant names.1 (names.2 ∙ ap (λ (t : List ℕ). t ++ shown names.0) c.in_ok-extend_from_slice.ensures.items)
