@@ -1,6 +1,7 @@
 -- The report of a finding: where it is and what it says, its line, and marks below its token.
-use Rattle.std.specs.Prelude.{ℕ, ◌+◌, ◌/◌, ◌%◌, Bool, true, false, ◌&&◌, ◌||◌, not, List, [], ◌∷◌, ◌++◌, codes, decimal, drop, length, min, nat_eq, nat_le, nat_lt, slice_range, take, Option, None, Some, unwrap_or, if◌then◌else◌}
-use Rattle.std.specs.List.{flat_map}
+use Rattle.std.specs.Prelude.{ℕ, ◌+◌, ◌/◌, ◌%◌, Bool, true, false, ◌&&◌, ◌||◌, not, List, [], ◌∷◌, ◌++◌, codes, decimal, drop, length, max, min, nat_eq, nat_le, nat_lt, slice_range, take, Option, None, Some, unwrap_or, if◌then◌else◌}
+use Rattle.std.specs.Char.{is_control}
+use Rattle.std.specs.List.{flat_map, list_any}
 use Rattle.bstr.specs.Utf8.{Decoded, decoded, pieces}
 use Rattle.idl_explain.specs.Explained.{ended, said}
 use Rattle.idl_explain.specs.declared.explanation.Words.{Words}
@@ -27,18 +28,16 @@ line_byte b =
 abbrev pub other_byte : Bool → ℕ → List ℕ
 other_byte is_line b = if is_line then line_byte b else numbered b
 
--- a control character
-abbrev pub is_control : ℕ → Bool
-is_control c = nat_le c 31 || (nat_le 127 c && nat_le c 159)
+-- the marks of the direction of text: the characters that have Unicode's property Bidi_Control
+abbrev pub bidi_controls : List ℕ
+bidi_controls =
+    0x061C ∷ 0x200E ∷ 0x200F ∷ 0x202A ∷ 0x202B ∷ 0x202C ∷ 0x202D ∷ 0x202E
+    ∷ 0x2066 ∷ 0x2067 ∷ 0x2068 ∷ 0x2069 ∷ []
 
--- a mark that turns the direction of text: Unicode's of embeddings, overrides and isolates
-abbrev pub is_turning : ℕ → Bool
-is_turning c = (nat_le 0x202A c && nat_le c 0x202E) || (nat_le 0x2066 c && nat_le c 0x2069)
-
--- a character that is neither goes out as it is
+-- a character goes out as it is, unless it is a control or such a mark
 abbrev pub is_shown : Option ℕ → Bool
 is_shown None = false
-is_shown (Some c) = not (is_control c || is_turning c)
+is_shown (Some c) = not (is_control c || list_any (λ mark. nat_eq mark c) bidi_controls)
 
 -- a piece of a text, a character or bytes that are none: it goes out as it is, if it is shown
 abbrev pub shown_piece : Bool → Option ℕ → List ℕ → List ℕ
@@ -83,7 +82,7 @@ mark_below b = if goes_on b then [] else 94 ∷ []
 abbrev pub marked : List ℕ → ℕ → ℕ → List ℕ
 marked line column size =
     let text = slice_range line (min column (length line)) (length line) in
-    take (if nat_lt size (decoded text).size then (decoded text).size else size) text
+    take (max size (decoded text).size) text
 
 -- below a line: a gap up to this column, and then a mark below each character that is marked
 abbrev pub marks : List ℕ → ℕ → ℕ → List ℕ

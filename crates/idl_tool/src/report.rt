@@ -3,7 +3,7 @@
 ghost use Rattle.std.specs.Prelude.{◌≡◌, ◌++◌, ◌<◌, IfOk, OnOk, flat_map};
 ghost use Rattle.std.specs.Option.{option_copied};
 ghost use Rattle.bstr.specs.Utf8.{decoded};
-ghost use Rattle.idl_tool.specs.Report.{beginning, column_text, excerpt, gap_below, heading, hex_digit, is_control, is_shown, is_turning, line_byte, line_text, mark_below, marked, marks, more_text, numbered, other_byte, place_text, report, saying, second_line, severity, shown_first, shown_piece, shown_text, token_in};
+ghost use Rattle.idl_tool.specs.Report.{beginning, column_text, excerpt, gap_below, heading, hex_digit, is_shown, line_byte, line_text, mark_below, marked, marks, more_text, numbered, other_byte, place_text, report, saying, second_line, severity, shown_first, shown_piece, shown_text, token_in};
 
 use bstr::decode_utf8;
 use idl_driver::idl_sources::Finding;
@@ -178,12 +178,7 @@ fn push_excerpt(
 }
 
 // Writes a gap below what stands before a column, and marks below so many bytes from there on.
-fn push_marks(
-    line: &[u8],
-    column: usize,
-    size: usize,
-    out: &mut Vec<u8>,
-) -> Result<(), AllocError>
+fn push_marks(line: &[u8], column: usize, size: usize, out: &mut Vec<u8>) -> Result<(), AllocError>
     ensures { OnOk result (out.new.items ≡ out.old.items ++ marks line.now column size) }
 {
     let alloc = *out.allocator();
@@ -199,8 +194,7 @@ fn marked(line: &[u8], column: usize, size: usize) -> &[u8]
 {
     let text = &line[column.min(line.len())..];
     let (_character, whole) = decode_utf8(text);
-    let size = if size < whole { whole } else { size };
-    text.get(..size).unwrap_or(text)
+    text.get(..size.max(whole)).unwrap_or(text)
 }
 
 // Writes what is as wide as these characters, and shows nothing.
@@ -282,28 +276,20 @@ fn push_piece(
     push_others(bytes, is_line, out)
 }
 
+// The marks of the direction of text: what has Unicode's property Bidi_Control.
+const BIDI_CONTROLS: &[char] = &[
+    '\u{61c}', '\u{200e}', '\u{200f}', '\u{202a}', '\u{202b}', '\u{202c}', '\u{202d}', '\u{202e}',
+    '\u{2066}', '\u{2067}', '\u{2068}', '\u{2069}',
+];
+
 // Whether a character is shown as it is.
 fn is_shown(character: Option<char>) -> bool
     ensures { result ≡ is_shown character }
 {
     match character {
-        Some(character) => !(is_control(character) || is_turning(character)),
+        Some(character) => !(character.is_control() || BIDI_CONTROLS.contains(&character)),
         None => false,
     }
-}
-
-fn is_control(character: char) -> bool
-    ensures { result ≡ is_control character }
-{
-    character <= '\u{1f}' || ('\u{7f}' <= character && character <= '\u{9f}')
-}
-
-// Whether a character turns the direction of text.
-fn is_turning(character: char) -> bool
-    ensures { result ≡ is_turning character }
-{
-    ('\u{202a}' <= character && character <= '\u{202e}')
-        || ('\u{2066}' <= character && character <= '\u{2069}')
 }
 
 // Writes bytes that aren't shown as they are.

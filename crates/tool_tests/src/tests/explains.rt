@@ -49,7 +49,8 @@ fn wrong_words_are_told(rt: HostRuntime) -> Result<(), Fail> {
     for words in wrong.split(',') {
         tells_its_usage(rt.alloc(), words, "2 err ")?;
     }
-    for words in "--help, -h, help, help check, explain -h, deps -h, check -h, json -h, diff -h".split(',') {
+    let shown = "--help, -h, help, help check, explain -h, deps -h, check -h, json -h, diff -h";
+    for words in shown.split(',') {
         tells_its_usage(rt.alloc(), words, "0 out ")?;
     }
     is_given(rt.alloc(), "idltool --version =>  => 0 out idltool 0.1.0 /")?;

@@ -1,13 +1,12 @@
 use Rattle.std.proofs.Common.{◌≡◌, ◌∷◌, [], ℕ, Bor, List, map, subst, sym}
 use Rattle.std.proofs.lemmas.List.{nil_from_length}
-use Rattle.std.proofs.lemmas.Option.{MatchOption-at_none}
 use Rattle.std.proofs.lemmas.Result.{on_ok_weaker}
 use Rattle.idl_tool.specs.Answered.{AreExplained}
 use Rattle.idl_tool.proofs.explain.push_explained.Goals as goal
 
 pub returns-in_default : goal.returns-in_default
 returns-in_default c =
-    let none : c.args.words.now ≡ [] = nil_from_length c.args.words.now (MatchOption-at_none _ _ c.in_default.is c.split_first.ensures.cases) in
+    let none : c.args.words.now ≡ [] = nil_from_length c.args.words.now (rw c.in_default.is at c.split_first.ensures.cases) in
     subst (λ (ws : List (Bor (List ℕ))). AreExplained (map (λ (w : Bor (List ℕ)). w.now) ws) c.args.out.now.items c.push_all.new.out.items) (sym none) c.in_ok-push_all.ensures
 
 pub returns : goal.returns

@@ -4,6 +4,12 @@ use Rattle.idl_tool.specs.Report.{shown_first, shown_text}
 use Rattle.idl_tool.proofs.ShownLemmas.{piece-within, shown-end, shown-more}
 use Rattle.idl_tool.proofs.report.shown_text.Goals as goal
 
+pub pieces-init : goal.pieces-init
+pieces-init c = record {
+  within = omega arith;
+  shown = ap (λ (t : List ℕ). t ++ shown_text c.args.is_line c.args.text.now) c.new-shown.ensures.items;
+}
+
 pub overflow_add-at : goal.overflow_add-at
 overflow_add-at c =
     let fits = piece-within c.args.text.now c.pieces.at c.in_ok-size.size (omega arith) c.in_ok-size.ensures.size in
