@@ -232,10 +232,9 @@ impl Loading {
             (length faults.old.items) (length faults.new.items)) }
     {
         match self.trouble.take() {
-            None => sound.push(root.copied())?,
-            Some(fault) => faults.push(fault)?,
+            None => sound.push(root.copied()),
+            Some(fault) => faults.push(fault),
         }
-        Ok(())
     }
 
     // The file of a root, which is loaded if it wasn't.
