@@ -40,7 +40,7 @@ is_shown None = false
 is_shown (Some c) = not (is_control c || list_any (λ mark. nat_eq mark c) bidi_controls)
 
 -- a piece of a text, a character or bytes that are none: it goes out as it is, if it is shown
-abbrev pub shown_piece : Bool → Option ℕ → List ℕ → List ℕ
+unfoldable pub shown_piece : Bool → Option ℕ → List ℕ → List ℕ
 shown_piece is_line char bytes =
     if is_shown char then bytes else flat_map (other_byte is_line) bytes
 

@@ -261,6 +261,7 @@ fn push_first(text: &[u8], is_line: bool, out: &mut Vec<u8>) -> Result<usize, Al
 }
 
 // Writes what is shown of a piece of these bytes.
+#[tactic(auto, unfolding(crate::specs::Report::shown_piece))]
 fn push_piece(
     character: Option<char>,
     bytes: &[u8],
