@@ -1,5 +1,6 @@
 -- Texts that are shown piece by piece.
-use Rattle.std.proofs.Common.{◌≡◌, ◌∙◌, ◌+◌, ◌-◌, ◌<◌, ◌≤◌, ◌++◌, [], ℕ, Bool, List, ap, arith, drop, length, length-drop, sym, take}
+use Rattle.std.proofs.Common.{◌≡◌, ◌∙◌, ◌+◌, ◌-◌, ◌<◌, ◌≤◌, ◌++◌, [], ℕ, Bool, Err, List, Ok, Result, ap, arith, drop, length, length-drop, sym, take}
+use Rattle.std.specs.Prelude.{OnOk, is_ok, if◌then◌else◌}
 use Rattle.std.proofs.lemmas.List.{drop-drop, nil_from_length, take_rest}
 use Rattle.bstr.specs.Utf8.{decoded}
 use Rattle.bstr.proofs.lemmas.PieceLemmas.{piece-bounds, pieces-nil, pieces-step}
@@ -28,3 +29,8 @@ shown-more is_line text at size within is =
 pub shown-end : (is_line : Bool) (text : List ℕ) (at : ℕ) → length text ≤ at → shown_text is_line (drop at text) ≡ []
 shown-end is_line text at past =
     ap (shown_text is_line) (nil_from_length (drop at text) (omega (arith, length-drop at text))) ∙ ap (λ ps. shown_pieces is_line ps []) pieces-nil
+
+-- what is behind a text, where there is memory
+pub grown-on_ok : {T E : Type 0} {new : List ℕ} (full left : List ℕ) (r : Result T E) → new ≡ (if is_ok r then full else left) → OnOk r (new ≡ full)
+grown-on_ok full left (Ok x) e = e
+grown-on_ok full left (Err x) e = tt

@@ -146,8 +146,16 @@ abbrev pub more_text : ℕ → List ℕ
 more_text more =
     if nat_eq more 0 then [] else codes ", and " ++ decimal more ++ codes " more"
 
+-- `FILE:LINE:COLUMN: note: `
+abbrev pub note_beginning : Place → Option ℕ → List ℕ
+note_beginning place column = place_text place column ++ codes ": note: "
+
+-- `near: TOKEN`, how many more there are, and the line's end
+abbrev pub note_saying : Related → List ℕ
+note_saying second =
+    reason_words second.reason ++ codes ": " ++ shown_token second.text
+    ++ ended (more_text second.more)
+
 -- the line of a second place: `FILE:LINE:COLUMN: note: near: TOKEN`
 abbrev pub second_line : Related → Option ℕ → List ℕ
-second_line second column =
-    place_text second.place column ++ codes ": note: " ++ reason_words second.reason
-    ++ codes ": " ++ shown_token second.text ++ ended (more_text second.more)
+second_line second column = note_beginning second.place column ++ note_saying second

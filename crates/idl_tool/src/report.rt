@@ -3,7 +3,7 @@
 ghost use Rattle.std.specs.Prelude.{◌≡◌, ◌++◌, ◌<◌, IfOk, OnOk, flat_map};
 ghost use Rattle.std.specs.Option.{option_copied};
 ghost use Rattle.bstr.specs.Utf8.{decoded};
-ghost use Rattle.idl_tool.specs.Report.{beginning, column_text, excerpt, gap_below, heading, hex_digit, is_shown, line_byte, line_text, mark_below, marked, marks, more_text, numbered, other_byte, place_text, report, saying, second_line, severity, shown_first, shown_piece, shown_text, token_in};
+ghost use Rattle.idl_tool.specs.Report.{beginning, column_text, excerpt, gap_below, heading, hex_digit, is_shown, line_byte, line_text, mark_below, marked, marks, more_text, note_beginning, note_saying, numbered, other_byte, place_text, report, saying, second_line, severity, shown_first, shown_piece, shown_text, token_in};
 
 use bstr::decode_utf8;
 use idl_driver::idl_sources::Finding;
@@ -81,9 +81,24 @@ pub fn push_second(
     ensures { OnOk result
         (out.new.items ≡ out.old.items ++ second_line second.now column) }
 {
+    push_note(&second.place, column, out)?;
+    push_reason(second, out)
+}
+
+// Writes `FILE:LINE:COLUMN: note: `.
+fn push_note(place: &Place, column: Option<usize>, out: &mut Vec<u8>) -> Result<(), AllocError>
+    ensures { OnOk result
+        (out.new.items ≡ out.old.items ++ note_beginning place.now column) }
+{
+    push_place(place, column, out)?;
+    out.extend_from_slice(b": note: ")
+}
+
+// Writes `near: TOKEN`, how many more there are, and the line's end.
+fn push_reason(second: &Related, out: &mut Vec<u8>) -> Result<(), AllocError>
+    ensures { OnOk result (out.new.items ≡ out.old.items ++ note_saying second.now) }
+{
     let token = shown_text(*out.allocator(), second.text.as_bytes(), false)?;
-    push_place(&second.place, column, out)?;
-    out.extend_from_slice(b": note: ")?;
     out.extend_from_slice(second.reason.words())?;
     out.extend_from_slice(b": ")?;
     out.extend_from_slice(&token)?;
@@ -182,7 +197,8 @@ fn push_marks(line: &[u8], column: usize, size: usize, out: &mut Vec<u8>) -> Res
     ensures { OnOk result (out.new.items ≡ out.old.items ++ marks line.now column size) }
 {
     let alloc = *out.allocator();
-    let before = shown_text(alloc, line.get(..column).unwrap_or(line), true)?;
+    let end = column.min(line.len());
+    let before = shown_text(alloc, &line[..end], true)?;
     let below = shown_text(alloc, marked(line, column, size), true)?;
     push_gap(&before, out)?;
     push_carets(&below, out)
@@ -256,7 +272,8 @@ fn push_first(text: &[u8], is_line: bool, out: &mut Vec<u8>) -> Result<usize, Al
     ensures size { IfOk result (λ size. size ≡ (decoded text.now).size) }
 {
     let (character, size) = decode_utf8(text);
-    push_piece(character, text.get(..size).unwrap_or(text), is_line, out)?;
+    let end = size.min(text.len());
+    push_piece(character, &text[..end], is_line, out)?;
     Ok(size)
 }
 
