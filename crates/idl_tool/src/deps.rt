@@ -9,10 +9,11 @@ ghost use Rattle.idl_tool.specs.Deps.{IsServed, empty_rule, is_other, is_there, 
 ghost use Rattle.idl_tool.specs.make_rules.Make.{IsMakeRule, is_make_name, need_text, rules_text, target_text};
 
 use crate::failure::ToolFailure;
+use crate::faults::{ended_by, troubles_text};
 use crate::make_rules::{is_make_name, push_need, push_need_if_there, push_target};
 use crate::request::Deps;
 use idl_driver::idl_sources::{CompiledRoot, Sources};
-use idl_driver::{Devices, FailureSubject, compile_files};
+use idl_driver::{Devices, FailureSubject, compile_sound_files};
 use idl_loader::{Loader, Status, write_lines};
 use idl_source::devices::{WriteFailed, write_all};
 use idl_source::{Name, Sink};
@@ -40,9 +41,12 @@ pub fn write_deps<'a, L: Loader, S, O: Sink, E: Sink>(
     ensures until { OnErr result
         (WritesSome (E.written devices.old.errors) (E.written devices.new.errors)) }
 {
-    let all = compile_files(alloc, &deps.options, &mut devices.loader)?;
-    let rules = rules_of(&all.sources, all.roots.as_slice(), deps)?;
-    let status = tell_errors(&all.compiled, &mut devices.errors)?;
+    let all = compile_sound_files(alloc, &deps.options, &mut devices.loader)?;
+    let trouble = troubles_text(alloc, &all)?;
+    let rules = rules_of(&all.sound.sources, &all.sound.roots, deps)?;
+    write_all(&mut devices.errors, &trouble)?;
+    let status = tell_errors(&all.sound.compiled, &mut devices.errors)?;
+    let status = ended_by(&all, status);
     write_all(&mut devices.output, &rules)?;
     // The program ends here, and all memory goes back at once.
     forget(all);

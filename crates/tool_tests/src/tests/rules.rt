@@ -18,10 +18,10 @@ static ROWS: [&str; 5] = [
     // What make gives a meaning to has a mark before it.
     "idltool deps a$#%.idl => a$#%.idl: #include \"h%\" ¶ h% => 0 out a$$\\#\\%.listing: a$$\\#%.idl h% /h\\%: /\n\
      idltool deps .A.idl => .A.idl => 0 out .A.listing: .A.idl /",
-    // Trouble with a file or a word ends the program, and no rule goes out.
-    "idltool deps b.idl a.idl => b.idl ¶ a.idl: #include \"h\" ¶ h! => 2 err idltool: h: cannot read /\nidltool deps \
-     -U1x a.idl => a.idl => 2 err idltool: 1x: refused 6: macro not allowed /\nidltool deps a//../..//. a.idl => a.idl \
-     => 2 err idltool: a//../..//.: refused 2: name not allowed /",
+    // Trouble with a FILE leaves the rules of the others as they are, and that with another word ends the program.
+    "idltool deps b.idl a.idl c.idl => b.idl ¶ a.idl: #include \"h\" ¶ h! ¶ c.idl => 2 out b.listing: b.idl /c.listing: c.idl / \
+     err idltool: h: cannot read /\nidltool deps -U1x a.idl => a.idl => 2 err idltool: 1x: refused 6: macro not allowed /\nidltool deps a//../..//. a.idl => a.idl \
+     => 2 out a.listing: a.idl / err idltool: a//../..//.: refused 2: name not allowed /",
 ];
 
 #[test]
