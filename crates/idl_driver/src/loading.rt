@@ -214,7 +214,8 @@ impl Loading {
         let mut faults = Vec::new(self.sources.allocator());
         'roots: for root in roots {
             self.explore_root(root, loader)?;
-            self.part_root(root, &mut sound, &mut faults).map_err(|_| no_memory(root))?;
+            self.part_root(root, &mut sound, &mut faults)
+                .map_err(|_| no_memory(root))?;
         }
         Ok((sound, faults))
     }
@@ -349,9 +350,10 @@ impl Loading {
 
     // Puts a file of these bytes, and tells whether it is there.
     fn take_bytes(&mut self, name: &Name, bytes: &[u8]) -> Result<bool, CompileFault>
-        ensures taken {
-            let files = finite.insert self.old.sources.files name.now (cut_lines bytes.now) in OnOk result
-            ((self.new.sources ≡ record self.old.sources { files = files })
+        ensures taken { OnOk result
+            ((self.new.sources ≡ record self.old.sources {
+              files = finite.insert self.old.sources.files name.now (cut_lines bytes.now);
+            })
             ⊎ (self.new.sources ≡ self.old.sources)) }
         ensures missing { self.new.missing.keys ≡ self.old.missing.keys }
     {

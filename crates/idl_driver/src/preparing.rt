@@ -169,9 +169,11 @@ fn roots_of<'a>(alloc: Global, words: &[&'a str]) -> Result<IndexSet<Name>, Opti
 {
     let mut roots = IndexSet::new(alloc);
     'words: for word in words {
-        add(&mut roots, word.as_bytes()).map_err(
-            |refusal| OptionsFault::refused(word, refusal, Limit::Roots),
-        )?;
+        add(&mut roots, word.as_bytes()).map_err(|refusal| OptionsFault::refused(
+            word,
+            refusal,
+            Limit::Roots,
+        ))?;
     }
     Ok(roots)
 }
@@ -189,9 +191,11 @@ fn roots_among<'a>(
     let mut roots = IndexSet::new(alloc);
     let mut nameless = Vec::new(alloc);
     'words: for word in words {
-        add_word(&mut roots, &mut nameless, word).map_err(
-            |refusal| OptionsFault::refused(word, refusal, Limit::Roots),
-        )?;
+        add_word(&mut roots, &mut nameless, word).map_err(|refusal| OptionsFault::refused(
+            word,
+            refusal,
+            Limit::Roots,
+        ))?;
     }
     Ok((roots, nameless))
 }

@@ -6,8 +6,7 @@ use Rattle.idl_tool.proofs.faults.troubles_text.Goals as goal
 pub returns : goal.returns
 returns c =
     let first = c.in_ok-push_nameless.ensures in
-    let second = c.in_ok-push_faults.ensures in
-    (
+    let second = c.in_ok-push_faults.ensures in (
       first.0,
       second.0,
       subst (λ (ws : List (Bor (List ℕ))). AreLines IsNamelessMessage ws first.0) c.deref.ensures.value first.1,
