@@ -9,12 +9,13 @@ use Rattle.idl_inputs.specs.Asked.{asked_over}
 use Rattle.idl_inputs.specs.Bank.{bank_of}
 use Rattle.idl_inputs.specs.Project.{Inputs}
 use Rattle.idl_driver.specs.Written.{Written}
-use Rattle.idl_driver.specs.Compiled.{errors_in, is_faulty, lines_of}
+use Rattle.idl_driver.specs.Compiled.{is_faulty}
 use Rattle.idl_loader.specs.Holding.{Holding}
 use Rattle.idl_driver.specs.Compilations.{AreSoundFiles}
 use Rattle.idl_driver.specs.declared.compilation.SoundFiles.{SoundFiles}
 use Rattle.idl_loader.specs.declared.status.Status.{Status}
 use Rattle.idl_loader.specs.declared.status.Status.TheVariants.{Sound, Faulty}
+use Rattle.idl_tool.specs.Checked.{IsReportText}
 use Rattle.idl_tool.specs.Messages.{AreTroubleMessages, ended_by}
 use Rattle.idl_tool.specs.make_rules.Make.{IsMakeRule, Need, There, IfThere, Rule, rules_text}
 use Rattle.idl_tool.specs.declared.request.Deps.{Deps}
@@ -76,8 +77,9 @@ pub record AreRuled (deps : Deps) (files : SoundFiles) (before after : Written) 
     : Type 0 where
   pub trouble : List ℕ
   pub troubles : AreTroubleMessages files trouble
-  pub errors : after.errors ≡ append (append before.errors trouble)
-      (lines_of (errors_in files.sound.sources) files.sound.roots.items)
+  pub reports : List ℕ
+  pub reported : IsReportText files.sound.sources files.sound.roots.items reports
+  pub errors : after.errors ≡ append (append before.errors trouble) reports
   pub output : after.output ≡ append before.output
       (rules_text (flat_map (rules_in deps files.sound.sources) files.sound.roots.items))
   pub readable : All IsMakeRule

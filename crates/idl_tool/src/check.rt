@@ -17,7 +17,7 @@ use crate::report::{LocatedFinding, push_second};
 use crate::request::Check;
 use idl_base::{Bytes, Seq};
 use idl_driver::idl_sources::{CompiledRoot, Finding, Sources, related_over};
-use idl_driver::{Devices, SoundRoots, compile_sound_files};
+use idl_driver::{Devices, compile_sound_files};
 use idl_explain::{Topic, explanation_of};
 use idl_fault::Place;
 use idl_inputs::Columns;
@@ -52,7 +52,7 @@ pub fn check<'a, L: Loader, S, O: Sink, E: Sink>(
 {
     let all = compile_sound_files(alloc, &asked.options, &mut devices.loader)?;
     let trouble = troubles_text(alloc, &all)?;
-    let text = report_text(&all.sound)?;
+    let text = report_text(&all.sound.sources, &all.sound.roots, &all.sound.compiled)?;
     let status = ending_of(&all.sound.compiled, asked.counts_warnings);
     let status = ended_by(&all, status);
     write_all(&mut devices.errors, &trouble)?;
@@ -62,13 +62,17 @@ pub fn check<'a, L: Loader, S, O: Sink, E: Sink>(
     Ok(status)
 }
 
-// The reports of what is found in compiled files, each once.
-fn report_text(all: &SoundRoots) -> Result<Vec<u8>, AllocError>
-    requires { all.now.compiled.items ≡ map (compiled_root all.now.sources) all.now.roots.items }
-    ensures { IfOk result (λ text. IsReportText all.now.sources all.now.roots.items text.items) }
+/// The reports of what is found in these roots, each once.
+pub(crate) fn report_text(
+    sources: &Sources,
+    roots: &[Name],
+    compiled: &[CompiledRoot],
+) -> Result<Vec<u8>, AllocError>
+    requires { compiled.now ≡ map (compiled_root sources.now) roots.now }
+    ensures { IfOk result (λ text. IsReportText sources.now roots.now text.items) }
 {
-    let reports = reports_of(&all.sources, &all.roots, &all.compiled)?;
-    joined(all.sources.allocator(), &reports)
+    let reports = reports_of(sources, roots, compiled)?;
+    joined(sources.allocator(), &reports)
 }
 
 // The reports of what is found in these roots, each once, with the lines behind it.
