@@ -1,4 +1,4 @@
-use Rattle.std.proofs.Common.{◌≡◌, ◌∙◌, ◌++◌, ◌∷◌, [], ℕ, Bor, List, ap, filter, fold, get_or, map, rules, take}
+use Rattle.std.proofs.Common.{◌≡◌, ◌∙◌, ◌++◌, ◌∷◌, [], ℕ, Bor, List, ap, filter, fold, get_or, map, rules}
 use Rattle.std.proofs.lemmas.List.{take_all}
 use Rattle.idl_driver.specs.Options.{is_nameless, with_word}
 use Rattle.idl_driver.proofs.OptionLemmas.{nameless-next, named-next}

@@ -1,4 +1,4 @@
-use Rattle.std.proofs.Common.{ℕ, List, subst}
+use Rattle.std.proofs.Common.{subst}
 use Rattle.idl_driver.specs.declared.failure.CompileFault.{CompileFault}
 use Rattle.idl_tool.specs.Messages.{IsFaultMessage}
 use Rattle.idl_tool.proofs.FaultLemmas.{lines-next, no-lines}

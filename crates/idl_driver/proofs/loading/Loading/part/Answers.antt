@@ -1,4 +1,4 @@
-use Rattle.std.proofs.Common.{◌≡◌, ℕ, List, length, refl, rules, subst, take}
+use Rattle.std.proofs.Common.{◌≡◌, ℕ, List, length, refl, rules, subst}
 use Rattle.std.proofs.lemmas.List.{take_all}
 use Rattle.idl_driver.specs.Left.{AreAllBut, IsParted}
 use Rattle.idl_driver.proofs.LeftLemmas.{left-next}
