@@ -232,10 +232,12 @@ impl Loading {
         ensures parted { OnOk result (IsParted root.now sound.old.items sound.new.items
             (length faults.old.items) (length faults.new.items)) }
     {
-        match self.trouble.take() {
-            None => sound.push(root.copied()),
-            Some(fault) => faults.push(fault),
+        if let Some(fault) = self.trouble.take() {
+            faults.push(fault)?;
+            return Ok(());
         }
+        sound.push(root.copied())?;
+        Ok(())
     }
 
     // The file of a root, which is loaded if it wasn't.
