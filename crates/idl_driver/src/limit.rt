@@ -4,7 +4,7 @@ use idl_inputs::MAX_BODY;
 use idl_source::{Line, MAX_LINE, MAX_LINES};
 
 /// A limit of what is compiled, where a word or a file passes it.
-#[derive(Clone, Copy, Debug, PartialEq, Eq)]
+#[derive(Clone, Copy, Debug)]
 pub enum Limit {
     /// Bytes of a line of a file.
     LineBytes,
