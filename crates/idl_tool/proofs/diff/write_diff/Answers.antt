@@ -12,8 +12,8 @@ use Rattle.idl_tool.proofs.diff.write_diff.Goals as goal
 pub report_text-requires : goal.report_text-requires
 report_text-requires g c = c.deref.ensures.value ∙ c.in_ok-old.ensures.compiled.compiled ∙ ap (map (compiled_root c.in_ok-old.old.sources)) (sym c.as_slice.ensures.keys)
 
-pub report_text-2-requires : goal.report_text-2-requires
-report_text-2-requires g c = c.deref-2.ensures.value ∙ c.in_ok-new.ensures.compiled.compiled ∙ ap (map (compiled_root c.in_ok-new.new.sources)) (sym c.as_slice-2.ensures.keys)
+pub report_text-requires-2 : goal.report_text-requires-2
+report_text-requires-2 g c = c.deref-2.ensures.value ∙ c.in_ok-new.ensures.compiled.compiled ∙ ap (map (compiled_root c.in_ok-new.new.sources)) (sym c.as_slice-2.ensures.keys)
 
 pub write_between-requires-clause-first : goal.write_between-requires-clause-first
 write_between-requires-clause-first g c = c.in_ok-old.ensures.compiled.compiled
