@@ -1,6 +1,7 @@
 use Rattle.std.proofs.Common.{◌∙◌, ap}
 use Rattle.std.proofs.lemmas.Result.{IfOk-weaker, on_ok_weaker}
 use Rattle.idl_inputs.specs.Project.{Inputs}
+use Rattle.idl_driver.specs.Loading.{StaysAsked}
 use Rattle.idl_driver.proofs.LoadingLemmas.{compiled-from, fresh, true-then}
 use Rattle.idl_driver.proofs.loading.compile_all.Goals as goal
 
@@ -17,7 +18,7 @@ returns-clause-compiled g c =
     let told = g.L.Loader.told in
     let same = c.new-loading.ensures.sources in
     let explored = c.in_ok-explore_all.ensures in
-    let stays = record {
+    let stays : StaysAsked c.args.sources c.explore_all.new.self.sources = record {
       macros = explored.stays.macros ∙ ap (λ (i : Inputs). i.macros) same;
       search = explored.stays.search ∙ ap (λ (i : Inputs). i.search) same;
     } in

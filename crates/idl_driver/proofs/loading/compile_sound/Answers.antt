@@ -1,6 +1,6 @@
 use Rattle.std.proofs.Common.{◌∙◌, ℕ, List, ap, subst}
 use Rattle.idl_inputs.specs.Project.{Inputs}
-use Rattle.idl_driver.specs.Loading.{AreCompiled}
+use Rattle.idl_driver.specs.Loading.{AreCompiled, StaysAsked}
 use Rattle.idl_driver.proofs.LoadingLemmas.{compiled-from, fresh, true-then}
 use Rattle.idl_driver.proofs.loading.compile_sound.Goals as goal
 
@@ -17,7 +17,7 @@ returns-clause-compiled g c =
     let told = g.L.Loader.told in
     let same = c.new-loading.ensures.sources in
     let parted = c.in_ok-sound.ensures.loading in
-    let stays = record {
+    let stays : StaysAsked c.args.sources c.part.new.self.sources = record {
       macros = parted.stays.macros ∙ ap (λ (i : Inputs). i.macros) same;
       search = parted.stays.search ∙ ap (λ (i : Inputs). i.search) same;
     } in

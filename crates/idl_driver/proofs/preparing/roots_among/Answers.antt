@@ -1,5 +1,6 @@
-use Rattle.std.proofs.Common.{◌≡◌, ◌∙◌, ◌++◌, ◌∷◌, [], ℕ, Bor, List, ap, filter, fold, get_or, map, rules}
+use Rattle.std.proofs.Common.{◌≡◌, ◌∙◌, [], ℕ, Bor, List, Ok, ap, filter, fold, map, rules}
 use Rattle.std.proofs.lemmas.List.{take_all}
+use Rattle.std.proofs.lemmas.Result.{IfOk-at_ok}
 use Rattle.idl_driver.specs.Options.{is_nameless, with_word}
 use Rattle.idl_driver.proofs.OptionLemmas.{nameless-next, named-next}
 use Rattle.idl_driver.proofs.preparing.roots_among.Goals as goal
@@ -11,11 +12,10 @@ words-preserved c =
     let i = c.words.word-index in
     let old = map text c.words.nameless.items in
     let new = map text c.add_word.new.nameless.items in
-    let named : c.add_word.new.roots.keys ≡ with_word c.words.roots.keys (text (get_or words i _)) = search rules in
-    let nameless : new ≡ old ++ filter is_nameless (text (get_or words i _) ∷ []) = search rules in
+    let added : c.add_word.result ≡ Ok tt = search rules in
     record {
-      named = named-next text words i _ c.words.roots.keys c.add_word.new.roots.keys c.words-test.true c.words.invariant.named named;
-      nameless = nameless-next text words i _ old new c.words-test.true c.words.invariant.nameless nameless;
+      named = named-next text words i _ c.words.roots.keys c.add_word.new.roots.keys c.words-test.true c.words.invariant.named (IfOk-at_ok _ added c.add_word.ensures.named);
+      nameless = nameless-next text words i _ old new c.words-test.true c.words.invariant.nameless (IfOk-at_ok _ added c.add_word.ensures.nameless);
     }
 
 pub returns-clause-named : goal.returns-clause-named

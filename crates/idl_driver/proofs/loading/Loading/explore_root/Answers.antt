@@ -8,5 +8,5 @@ returns-in-Some g c =
     let told = g.L.Loader.told in
     let own = c.own_file.new in
     on_ok_weaker c.explore.result
-    (λ next. loading-more (told c.args.loader.now) (told own.loader) (told c.explore.new.loader) c.args.self.now own.self own.self c.explore.new.self c.in_ok-own_file.ensures refl refl next)
+    (λ next. loading-more (told c.args.loader.now) (told own.loader) (told c.explore.new.loader) c.args.self.now own.self own.self c.explore.new.self c.in_ok-file.ensures refl refl next)
     c.explore.ensures
