@@ -11,6 +11,7 @@ use Rattle.idl_source.proofs.DeviceLemmas.{append-append}
 use Rattle.idl_driver.specs.Messages.{message_of}
 use Rattle.idl_driver.specs.declared.failure.FailureSubject.{FailureSubject}
 use Rattle.idl_driver.specs.declared.failure.ProgramFailure.{ProgramFailure}
+use Rattle.idl_driver.specs.declared.limit.Limit.{Limit}
 use Rattle.idl_driver.specs.declared.failure.ProgramFailure.TheVariants as program
 use Rattle.idl_tool.specs.Messages.{IsProgramMessage}
 
@@ -43,10 +44,12 @@ refusal-told name refusal e a b c d f g h i is one two three four five six seven
     ∙ ap (append a) (nest (codes "idltool: ") name (codes ": ") (title (topic_of e.told)) (ended words))
 
 -- what is no refusal is told as each program tells it
-pub plain : (failure : ProgramFailure) → ((subject : FailureSubject) (refusal : Refusal) → failure ≢ program.Refused subject refusal) → IsProgramMessage failure (message_of (codes "idltool") failure)
-plain program.BadArguments not = refl
-plain (program.Refused subject refusal) not = absurd (not subject refusal refl)
-plain (program.CannotRead name) not = refl
-plain program.NoMemory not = refl
-plain program.ReadFailed not = refl
-plain program.WriteFailed not = refl
+pub plain : (failure : ProgramFailure) → ((subject : FailureSubject) (refusal : Refusal) → failure ≢ program.Refused subject refusal)
+    → ((subject : FailureSubject) (limit : Limit) → failure ≢ program.OverLimit subject limit) → IsProgramMessage failure (message_of (codes "idltool") failure)
+plain program.BadArguments not other = refl
+plain (program.Refused subject refusal) not other = absurd (not subject refusal refl)
+plain (program.OverLimit subject limit) not other = absurd (other subject limit refl)
+plain (program.CannotRead name) not other = refl
+plain program.NoMemory not other = refl
+plain program.ReadFailed not other = refl
+plain program.WriteFailed not other = refl

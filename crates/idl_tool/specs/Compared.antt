@@ -15,7 +15,7 @@ use Rattle.idl_inputs.specs.Made.{rootless}
 use Rattle.idl_inputs.specs.Project.{Inputs}
 use Rattle.idl_inputs.specs.WellFormed.{IsWellFormed}
 use Rattle.idl_driver.specs.Written.{Written}
-use Rattle.idl_driver.specs.Compiled.{errors_in, is_faulty, lines_of}
+use Rattle.idl_driver.specs.Compiled.{is_faulty}
 use Rattle.idl_loader.specs.Holding.{Holding}
 use Rattle.idl_driver.specs.Loading.{AreLoaded, AreComplete}
 use Rattle.idl_driver.specs.Options.{AreAsked}
@@ -23,6 +23,7 @@ use Rattle.idl_driver.specs.declared.compilation.Compilation.{Compilation}
 use Rattle.idl_loader.specs.declared.status.Status.{Status}
 use Rattle.idl_loader.specs.declared.status.Status.TheVariants.{Failed, Faulty, Sound}
 use Rattle.idl_driver.specs.declared.options.Options.{Options}
+use Rattle.idl_tool.specs.Checked.{IsReportText}
 use Rattle.idl_tool.specs.Json.{rows_of}
 use Rattle.idl_tool.specs.Report.{place_text}
 use Rattle.idl_tool.specs.declared.request.Diff.{Diff}
@@ -115,9 +116,11 @@ module _ (fails : Weights) (old new : Version) where
 -- what went out of two versions, and how the program ends
 pub record AreCompared (fails : Weights) (old new : Version) (before after : Written)
     (status : Status) : Type 0 where
-  pub errors : after.errors
-      ≡ append (append before.errors (lines_of (errors_in old.inputs) old.roots))
-      (lines_of (errors_in new.inputs) new.roots)
+  pub reports_old : List ℕ
+  pub reported_old : IsReportText old.inputs old.roots reports_old
+  pub reports_new : List ℕ
+  pub reported_new : IsReportText new.inputs new.roots reports_new
+  pub errors : after.errors ≡ append (append before.errors reports_old) reports_new
   pub output : after.output ≡ append before.output (shown_between fails old new)
   pub ending : status ≡ ending_of fails old new
 

@@ -12,8 +12,7 @@ ghost use Rattle.idl_driver.specs.Written.{WritesSome};
 ghost use Rattle.idl_json.specs.Listed.{place_of, row_of};
 ghost use Rattle.idl_tool.specs.Compared.{IsCompared, all_rows, are_failing, change_lines, changes_of, ending_by, ending_of, grade, has_error, lines_between, place_at, place_before, seen, shown_between, shown_place, trees_of};
 
-use crate::check::status_of;
-use crate::deps::tell_errors;
+use crate::check::{report_text, status_of};
 use crate::failure::ToolFailure;
 use crate::json::rows_of;
 use crate::report::push_place;
@@ -52,8 +51,10 @@ pub fn write_diff<'a, L: Loader, S, O: Sink, E: Sink>(
 {
     let old = compile_files(alloc, &diff.old, &mut devices.loader)?;
     let new = compile_files(alloc, &diff.new, &mut devices.loader)?;
-    tell_errors(&old.compiled, &mut devices.errors)?;
-    tell_errors(&new.compiled, &mut devices.errors)?;
+    let first = report_text(&old.sources, old.roots.as_slice(), &old.compiled)?;
+    let second = report_text(&new.sources, new.roots.as_slice(), &new.compiled)?;
+    write_all(&mut devices.errors, &first)?;
+    write_all(&mut devices.errors, &second)?;
     let status = write_between(diff.fails, &old, &new, &mut devices.output)?;
     // The program ends here, and all memory goes back at once.
     forget((old, new));

@@ -18,7 +18,9 @@ static ROWS: [&str; 3] = [
      long T; ¶ n/h: typedef short T; => 1 out n/h:1:15: error: alias T: type, long -> short [wire,client,servant] /\nidltool diff --new-I \
      n -Ii a.idl a.idl => a.idl: #include <h> ¶ i/h ¶ n/h: typedef long T; => 0 out n/h:1:14: note: alias T: is new [new] /",
     // Of faulty versions no change is told, but what is found in both.
-    "idltool diff a.idl b.idl => a.idl: interface F; ¶ b.idl: typedef No X; => 2 err a.idl:1: W80 F /b.idl:1: E30 No /",
+    "idltool diff a.idl b.idl => a.idl: interface F; ¶ b.idl: typedef No X; => 2 err a.idl:1:11: warning: the interface `F` is declared \
+     forward and never defined [W80] /interface F; /          ^ /b.idl:1:9: error: `No` isn't declared here or in a scope around [E30] \
+     /typedef No X; /        ^^ /",
 ];
 
 #[test]
