@@ -9,4 +9,4 @@ returns c =
     subst
     (λ (part : List ℕ). OnOk c.compare_types.result
     (c.compare_types.new.out.items ≡ c.args.out.now.items ++ type_differences sides.0 sides.1 part c.args.self.now.data_type c.args.new.now.data_type))
-    (c.deref.ensures.value ∙ c.in_ok-part.ensures ∙ ap (λ (name : List ℕ). codes "type of member " ++ name) c.as_bytes.ensures) c.compare_types.ensures
+    (c.deref.ensures.value ∙ c.in_ok-part.ensures ∙ ap (λ (name : List ℕ). codes "type of member " ++ name) c.as_bytes-name.ensures) c.compare_types.ensures
