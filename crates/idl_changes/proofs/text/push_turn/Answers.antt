@@ -1,4 +1,4 @@
-use Rattle.std.proofs.Common.{◌≡◌, ◌∙◌, ◌++◌, ℕ, List, ap, append_assoc, codes, sym}
+use Rattle.std.proofs.Common.{◌∙◌, ◌++◌, ℕ, List, ap, append_assoc, codes, sym}
 use Rattle.std.specs.Prelude.{decimal}
 use Rattle.idl_changes.specs.Changes.{part_text, turn_text}
 use Rattle.idl_changes.specs.declared.change.Turn.{Turn}
