@@ -60,13 +60,20 @@ fn push_gone(
         else told Line.ExceptionGone (named.entry.0.now ++ (codes " " ++ named.entry.1.now.path))
         Turn.Gone)) }
 {
-    let goes_on = others
-        .iter()
-        .any(|other| sides.is_same_reference(named.1, other));
-    if goes_on {
+    if goes_on(sides, named.1, others) {
         return Ok(());
     }
     push_reference(Line::ExceptionGone, named, Turn::Gone, out)
+}
+
+// Whether an old reference is the same as one of these new ones.
+fn goes_on(sides: &Sides<'_>, reference: &Reference, others: &[Reference]) -> bool
+    ensures { result
+        ≡ list_any (is_same_reference sides.now.0 sides.now.1 reference.now) others.now }
+{
+    others
+        .iter()
+        .any(|other| sides.is_same_reference(reference, other))
 }
 
 // Tells of the new ones that aren't among the old ones.
@@ -100,13 +107,20 @@ fn push_new(
         else told Line.ExceptionNew (named.entry.0.now ++ (codes " " ++ named.entry.1.now.path))
         Turn.New)) }
 {
-    let was_there = others
-        .iter()
-        .any(|other| sides.is_same_reference(other, named.1));
-    if was_there {
+    if was_there(sides, named.1, others) {
         return Ok(());
     }
     push_reference(Line::ExceptionNew, named, Turn::New, out)
+}
+
+// Whether one of these old references is the same as a new one.
+fn was_there(sides: &Sides<'_>, reference: &Reference, others: &[Reference]) -> bool
+    ensures { result
+        ≡ list_any (λ r. is_same_reference sides.now.0 sides.now.1 r reference.now) others.now }
+{
+    others
+        .iter()
+        .any(|other| sides.is_same_reference(other, reference))
 }
 
 // Tells what became of a reference, by its path.
