@@ -24,7 +24,7 @@ loop-difference-preserved c =
       all = append_assoc at.yielded (difference ∷ []) _ ∙ rw (← steps) inv.all;
       counted = omega (arith, counted, gone, short);
       told = c.in_ok-push.ensures.items
-          ∙ ap (λ (w : Weights). at.all.items ++ record difference { weights = w } ∷ []) c.eased.ensures
+          ∙ ap (λ (w : Weights). at.all.items ++ record difference { weights = w } ∷ []) c.eased-counted.ensures
           ∙ ap (λ (ds : List Difference). ds ++ ease difference ∷ []) inv.told
           ∙ sym (map_push ease at.yielded difference);
     }
