@@ -11,9 +11,9 @@ returns-in_ok-push_words-in-NewAt c =
     let part = part_text c.args.part.now in
     let words = codes "is new, number " in
     let number = decimal c.in-NewAt.number in
-    on_ok_weaker c.push_number-in-NewAt.result
+    on_ok_weaker c.push_number.result
     (λ e. e
     ∙ ap (λ (t : List ℕ). t ++ number) c.in_ok-push_words-in-NewAt.ensures
     ∙ append_assoc before (part ++ words) number
     ∙ ap (λ (t : List ℕ). before ++ t) (append_assoc part words number)
-    ∙ ap (λ (t : Turn). before ++ turn_text c.args.part.now t) (sym c.in-NewAt.is)) c.push_number-in-NewAt.ensures
+    ∙ ap (λ (t : Turn). before ++ turn_text c.args.part.now t) (sym c.in-NewAt.is)) c.push_number.ensures
