@@ -146,10 +146,10 @@ pub fn in_a_row<T: Named>(alloc: Global, items: &[T]) -> Result<Vec<u8>, AllocEr
 }
 
 /// A name of a part: a word, and a name behind it.
-pub fn part_of(alloc: Global, word: &[u8], name: &Bytes) -> Result<Vec<u8>, AllocError>
+pub fn part_of(alloc: Global, word: &[u8], name: &[u8]) -> Result<Vec<u8>, AllocError>
     ensures { IfOk result (λ part. part.items ≡ word.now ++ name.now) }
 {
     let mut part = Vec::from_slice(alloc, word)?;
-    part.extend_from_slice(name.as_bytes())?;
+    part.extend_from_slice(name)?;
     Ok(part)
 }
