@@ -34,24 +34,21 @@ impl Drop for RootDetails {
     }
 }
 
-/// A position in a file.
+// A position in a file.
 #[derive(Clone, Copy)]
-pub(crate) struct DocumentPosition<'a> {
-    pub file: &'a CountedFile<'a>,
-    pub position: Position,
+struct DocumentPosition<'a> {
+    file: &'a CountedFile<'a>,
+    position: Position,
 }
 
 impl Workspace {
-    /// Where what the name at a position denotes is declared, and else nothing.
-    pub fn definition_at(&self, spot: DocumentPosition<'_>) -> Result<Value, AllocError>
-        requires { spot.file.now.lines ≡ lines_of self.now.session.project
-            spot.file.now.name.now }
+    /// Where what the name at a position of a file denotes is declared, and else nothing.
+    pub fn definition_at(&self, name: &Name, position: Position) -> Result<Value, AllocError>
         ensures { IfOk result (λ value. view value ≡ definition_json self.now
-            (definition_at self.now.encoding self.now.session.project
-            spot.entry.file.now.name.now spot.entry.position)) }
+            (definition_at self.now.encoding self.now.session.project name.now position)) }
     {
-        match self.details_with(spot.file.name())? {
-            Some(told) => self.definition_in(&told.details, spot),
+        match self.details_with(name)? {
+            Some(told) => self.definition_in(&told.details, name, position),
             None => Ok(Value::Null),
         }
     }
@@ -60,14 +57,18 @@ impl Workspace {
     fn definition_in(
         &self,
         details: &Details,
-        spot: DocumentPosition<'_>,
+        name: &Name,
+        position: Position,
     ) -> Result<Value, AllocError>
-        requires { spot.file.now.lines ≡ lines_of self.now.session.project
-            spot.file.now.name.now }
         ensures { IfOk result (λ value. view value ≡ definition_json self.now
             (declared_place self.now.encoding self.now.session.project details.now
-            spot.entry.file.now.name.now spot.entry.position)) }
+            name.now position)) }
     {
+        let file = CountedFile::new(&self.session, name)?;
+        let spot = DocumentPosition {
+            file: &file,
+            position,
+        };
         let Some(declared) = declared_place(&self.session, self.encoding, details, spot)? else {
             return Ok(Value::Null);
         };
@@ -77,13 +78,15 @@ impl Workspace {
         location_value(self.session.allocator(), &uri, range)
     }
 
-    /// What the name at a position denotes, and else nothing.
-    pub fn hover_at(&self, spot: DocumentPosition<'_>) -> Result<Value, AllocError>
-        requires { spot.file.now.lines ≡ lines_of self.now.session.project
-            spot.file.now.name.now }
-    {
-        let Some(told) = self.details_with(spot.file.name())? else {
+    /// What the name at a position of a file denotes, and else nothing.
+    pub fn hover_at(&self, name: &Name, position: Position) -> Result<Value, AllocError> {
+        let Some(told) = self.details_with(name)? else {
             return Ok(Value::Null);
+        };
+        let file = CountedFile::new(&self.session, name)?;
+        let spot = DocumentPosition {
+            file: &file,
+            position,
         };
         let Some(entry) = entry_at(&self.session, self.encoding, &told.details, spot)? else {
             return Ok(Value::Null);

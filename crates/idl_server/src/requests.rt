@@ -1,7 +1,5 @@
 //! What an editor asks for.
 
-use crate::named::DocumentPosition;
-use crate::places::CountedFile;
 use crate::workspace::Workspace;
 use idl_editor::documents::name_in;
 use idl_editor::messages::{ErrorCode, Method, position_at};
@@ -31,14 +29,9 @@ impl Workspace {
         let Some(position) = position_at(params, "position") else {
             return Ok(RequestOutcome::Refused(ErrorCode::BadParams));
         };
-        let file = CountedFile::new(&self.session, &name)?;
-        let spot = DocumentPosition {
-            file: &file,
-            position,
-        };
         if method == Method::Hover {
-            return Ok(RequestOutcome::Done(self.hover_at(spot)?));
+            return Ok(RequestOutcome::Done(self.hover_at(&name, position)?));
         }
-        Ok(RequestOutcome::Done(self.definition_at(spot)?))
+        Ok(RequestOutcome::Done(self.definition_at(&name, position)?))
     }
 }
