@@ -43,6 +43,14 @@ refusal-told name refusal e a b c d f g h i is one two three four five six seven
     ∙ ap (λ (t : Topic). append a (codes "idltool: " ++ (name ++ (codes ": " ++ (title t ++ (codes ": " ++ ended words)))))) (sym is)
     ∙ ap (append a) (nest (codes "idltool: ") name (codes ": ") (title (topic_of e.told)) (ended words))
 
+-- the pieces of the line about a limit
+pub limit-told : (name words : List ℕ) (a b c d e f : Option (List ℕ)) → b ≡ append a (codes "idltool: ") → c ≡ append b name → d ≡ append c (codes ": refused 5: ")
+    → e ≡ append d words → f ≡ append e (codes "\n") → f ≡ append a (codes "idltool: " ++ name ++ codes ": refused 5: " ++ ended words)
+limit-told name words a b c d e f one two three four five =
+    let about = codes "idltool: " ++ name in
+    behind a d f (about ++ codes ": refused 5: ") (words ++ codes "\n") (behind a c d about (codes ": refused 5: ") (behind a b c (codes "idltool: ") name one two) three)
+    (behind d e f words (codes "\n") four five)
+
 -- what is no refusal is told as each program tells it
 pub plain : (failure : ProgramFailure) → ((subject : FailureSubject) (refusal : Refusal) → failure ≢ program.Refused subject refusal)
     → ((subject : FailureSubject) (limit : Limit) → failure ≢ program.OverLimit subject limit) → IsProgramMessage failure (message_of (codes "idltool") failure)

@@ -87,9 +87,8 @@ fn push_about(name: &[u8], out: &mut Vec<u8>) -> Result<(), AllocError>
 fn push_limit(name: &[u8], limit: Limit, out: &mut Vec<u8>) -> Result<(), AllocError>
     ensures { OnOk result (out.new.items ≡ out.old.items ++ limit_message name.now limit) }
 {
-    out.extend_from_slice(b"idltool: ")?;
-    out.extend_from_slice(name)?;
-    out.extend_from_slice(b": refused 5: ")?;
+    push_about(name, out)?;
+    out.extend_from_slice(b"refused 5: ")?;
     out.extend_from_slice(limit_words(limit))?;
     out.extend_from_slice(b"\n")
 }
@@ -99,7 +98,6 @@ fn push_unreadable(name: &[u8], out: &mut Vec<u8>) -> Result<(), AllocError>
     ensures { OnOk result
         (out.new.items ≡ out.old.items ++ line_about name.now (codes "cannot read")) }
 {
-    out.extend_from_slice(b"idltool: ")?;
-    out.extend_from_slice(name)?;
-    out.extend_from_slice(b": cannot read\n")
+    push_about(name, out)?;
+    out.extend_from_slice(b"cannot read\n")
 }

@@ -26,7 +26,8 @@ static ROWS: [&str; 12] = [
     // After a file with which there is trouble the others are told.
     "idltool check a.idl b.idl c.idl => a.idl! ¶ b.idl: typedef No X; ¶ c.idl: #include \"a.idl\" => 2 out b.idl:1:9: error: `No` \
      isn't declared here or in a scope around [E30] /typedef No X; /        ^^ / err idltool: a.idl: cannot read /idltool: a.idl: \
-     cannot read /\nidltool check ä.idl b.idl => b.idl => 2 err idltool: ä.idl: refused 2: name not allowed /\nidltool json a.idl => a.idl! => 2 err idltool: a.idl: cannot read /",
+     cannot read /\nidltool check ä.idl b.idl => b.idl => 2 err idltool: ä.idl: refused 2: name not allowed /\nidltool json a.idl => \
+     a.idl! => 2 err idltool: a.idl: cannot read /",
     // What isn't there has no line.
     "idltool check z.idl => a.idl => 1 out z.idl: error: the file z.idl isn't found [E10] /",
     // A token that comes of a macro, and one that goes over joined lines, have no column.
