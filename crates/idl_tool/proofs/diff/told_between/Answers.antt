@@ -1,4 +1,4 @@
-use Rattle.std.proofs.Common.{Bor, ◌≡◌, ◌∙◌, ◌++◌, ℕ, Bool, List, Option, ap, ap₂, if◌then◌else◌, map, refl, sym}
+use Rattle.std.proofs.Common.{Bor, ◌≡◌, ◌∙◌, ◌++◌, ℕ, Bool, List, Option, ap, ap₂, if◌then◌else◌, map, sym}
 use Rattle.std.proofs.lemmas.List.{take_all}
 use Rattle.idl_changes.specs.Changes.{changes, entry_in, row_text}
 use Rattle.idl_changes.specs.declared.change.Change.{Change}
