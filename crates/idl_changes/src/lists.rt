@@ -9,7 +9,7 @@ ghost use Rattle.idl_changes.specs.Rows.{item_word};
 
 use crate::change::{Difference, Turn};
 use crate::matched::{Named, in_order, marked, matches};
-use crate::parts::{in_a_row, part_of, push_changed, push_told};
+use crate::parts::{in_a_row, part_of, push_changed, push_named, push_told};
 use crate::rows::{Item, Line, item_word};
 use crate::sides::Sides;
 use crate::types::compare_types;
@@ -207,8 +207,7 @@ fn item_part(alloc: Global, item: Item, name: &Bytes) -> Result<Vec<u8>, AllocEr
     ensures { IfOk result (λ part. part.items ≡ item_part item name.now) }
 {
     let mut part = Vec::from_slice(alloc, item_word(item))?;
-    part.extend_from_slice(b" ")?;
-    part.extend_from_slice(name.as_bytes())?;
+    push_named(&mut part, name.as_bytes())?;
     Ok(part)
 }
 
