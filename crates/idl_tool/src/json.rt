@@ -123,6 +123,7 @@ fn details_of(sources: &Sources, root: &Name, has_error: bool) -> Result<Details
     if has_error {
         return Ok(Details {
             entries: Seq::new(sources.allocator()),
+            declared: Seq::new(sources.allocator()),
             uses: Seq::new(sources.allocator()),
         });
     }
