@@ -1,4 +1,5 @@
 mod AlikeLaws
+mod BlockLaws
 mod CutAsks
 mod FactLaws
 mod IdLaws
