@@ -3,20 +3,19 @@ use Rattle.std.proofs.Common.{◌≡◌, ◌∙◌, ◌⊎◌, ◌+◌, ℕ, suc
 use Rattle.std.proofs.Math.Seq.{take-append_seam}
 use Rattle.std.proofs.lemmas.Bool.{and_parts}
 use Rattle.std.specs.List.{after_first, before_first, list_all, prefix_len}
-use Rattle.std.specs.Prelude.{◌&&◌, ◌↔◌, codes, flat_map, nat_eq, nat_le, not}
+use Rattle.std.specs.Prelude.{◌&&◌, ◌↔◌, codes, flat_map, nat_le, not}
 use Rattle.std.specs.Cmp.Lexicographic.{bytes_decides}
 use Rattle.std.specs.Option.{option_map}
 use Rattle.std.specs.Str.{bytes_eq}
 use Rattle.idl_base.specs.Exact.{same_number}
 use Rattle.idl_lex.specs.bytes.Byte.{is_digit}
 use Rattle.idl_lex.specs.kinds.Kind.{kind_of, name_by}
-use Rattle.idl_lex.specs.kinds.Literal.{literal_value}
 use Rattle.idl_lex.specs.kinds.Number.{number}
 use Rattle.idl_lex.specs.tokens.Tokens.{Token}
 use Rattle.idl_lex.specs.declared.kinds.kind.TokenKind.{TokenKind}
 use Rattle.idl_lex.specs.declared.kinds.kind.TokenKind.TheVariants.{Punctuation, String}
 use Rattle.idl_plain.specs.Pragma.{AreWords, IsPragma, IsText, IsVersion, name_token, name_tokens}
-use Rattle.idl_tree.specs.Pragma.{both, further_parts, id_of, is_dot, is_separator, name_before, name_from, named, only, part_by, part_of, pragma_by, pragma_of, prefix_of, text_by, text_of, version_number, version_of, versioned, with_part}
+use Rattle.idl_tree.specs.Pragma.{both, further_parts, id_of, is_dot, is_separator, name_before, name_from, named, only, part_by, part_of, pragma_of, prefix_of, text_by, text_of, version_number, version_of, versioned, with_part}
 use Rattle.idl_tree.specs.declared.name.ScopedName.{ScopedName}
 use Rattle.idl_tree.specs.declared.pragma.Pragma.{Pragma}
 use Rattle.idl_tree.specs.declared.pragma.Pragma.TheVariants.{Id, Prefix, Version}

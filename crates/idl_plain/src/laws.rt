@@ -2,7 +2,7 @@
 //!
 //! Each function does nothing: it carries its laws as clauses, which hold of any values.
 
-ghost use Rattle.std.specs.Prelude.{◌≡◌, ◌↔◌, ℕ, List, Option, None, Some, flat_map, length, map, true, if◌then◌else◌};
+ghost use Rattle.std.specs.Prelude.{◌≡◌, ◌↔◌, ℕ, ℤ, List, Option, None, Some, flat_map, length, map, true, if◌then◌else◌};
 ghost use Rattle.idl_check.specs.walk.Placing.{faulty_step, opened_kind};
 ghost use Rattle.idl_entity.specs.Kind.{kind_eq, stage_eq};
 ghost use Rattle.idl_entity.specs.declared.kind.Kind.{Kind};
@@ -22,8 +22,10 @@ ghost use Rattle.idl_event.specs.declared.told.event.Event.{Event};
 ghost use Rattle.idl_event.specs.declared.told.event.Item.{Item};
 ghost use Rattle.idl_event.specs.declared.told.event.Item.TheVariants.{Kept};
 ghost use Rattle.idl_lex.specs.tokens.Tokens.{Token, tokens_in, tokens_of};
+ghost use Rattle.idl_macro.specs.Condition.{value};
 ghost use Rattle.idl_macro.specs.Macros.{body_in};
 ghost use Rattle.idl_plain.specs.Additions.{named_by};
+ghost use Rattle.idl_plain.specs.Condition.{Means};
 ghost use Rattle.idl_plain.specs.Ending.{ends_before, is_heading};
 ghost use Rattle.idl_plain.specs.Pragma.{IsPragma};
 ghost use Rattle.idl_prep.specs.Include.{file_in};
@@ -32,6 +34,8 @@ ghost use Rattle.idl_tree.specs.declared.pragma.Pragma.{Pragma};
 ghost use Rattle.idl_unit.specs.Ending.{begins, closes, ends, role};
 ghost use Rattle.idl_unit.specs.Scoping.{brace_from, opening_brace};
 ghost use Rattle.idl_value.specs.Equal.{path_eq};
+
+use idl_macro::conditions::grammar;
 
 /// A unit ends where its first tokens and its braces say, and so it opens or closes a scope.
 pub fn units()
@@ -48,6 +52,14 @@ pub fn units()
 pub fn pragmas()
     ensures { (tokens : List Token) (p : Pragma) → (pragma_of tokens ≡ Some p) ↔ IsPragma tokens p }
 {}
+
+/// A condition has a value where its tokens spell an expression of C that has it; else it is faulty.
+pub fn conditions()
+    ensures { (tokens : List Token) (z : ℤ) → (value tokens ≡ Some z)
+        ↔ Means 1 tokens (Some z) }
+{
+    grammar();
+}
 
 /// A test whether values are one holds of one value alone.
 pub fn sameness()
