@@ -3,6 +3,7 @@ mod BlockLaws
 mod CutAsks
 mod FactLaws
 mod IdLaws
+mod LevelLaws
 mod NameLaws
 mod NamedLaws
 mod PartLaws

@@ -1,10 +1,11 @@
 -- What a block asks, as the table of LANGUAGE tells it: the keys that its units ask, each behind
 -- what stands before the block and what the block added before the unit, but for those at which the
 -- block has written by then.
-use Rattle.std.specs.Prelude.{◌≤◌, ◌<◌, ◌^◌, List, [], ◌∷◌, ◌++◌, Option, false, map, not}
+use Rattle.std.specs.Prelude.{◌≡◌, ◌≤◌, ◌<◌, ◌^◌, ℕ, zero, suc, List, [], ◌∷◌, ◌++◌, Option, false, map, not}
 use Rattle.std.specs.List.{filter, list_any}
 use Rattle.idl_block.specs.facts.Beneath.{start}
 use Rattle.idl_check_laws.specs.Closing.{AreTold}
+use Rattle.idl_check_laws.specs.idl_check.walk.Placing.{faulty_step}
 use Rattle.idl_check_laws.specs.idl_check.walk.Verdict.{verdict_over}
 use Rattle.idl_env.specs.Facts.{UnitFacts, World, after, answers, boundary, closing, count_in, key_of, nameless, path_around, scopes_in, unstopped, with_additions}
 use Rattle.idl_env.specs.Turns.{most_turns, turns_for}
@@ -21,6 +22,7 @@ use Rattle.idl_root_blocks.specs.Places.{facts_behind, facts_over, with_entering
 use Rattle.idl_root_blocks.specs.verdicts.Standing.{unit_asks}
 use Rattle.idl_root_blocks.specs.declared.text.BlockPart.{BlockPart}
 use Rattle.idl_root_blocks.specs.declared.text.BlockPart.TheVariants.{Text, Enters, Leaves}
+use Rattle.idl_unit.specs.declared.unit.UnitText.TheVariants.{Pragma, Tokens}
 
 -- what a part adds behind facts: a unit what its verdict writes
 abbrev pub added_at : List UnitFacts → BlockPart → UnitFacts
@@ -75,6 +77,21 @@ outer_keys before own (part ∷ text) =
 abbrev pub block_log : List UnitFacts → List BlockPart → List (Key × Option Answer)
 block_log before text =
     noted_all key_eq (answers before) [] (outer_keys before (boundary EntersFile ∷ []) text)
+
+-- This text may stand behind the beginning of a block that has opened so many scopes and entered so
+-- many files: each of its closings closes a scope of these or of its own, and it leaves these files
+-- and those that it enters, and no other. It may leave scopes open.
+abbrev pub IsLevel : ℕ → ℕ → List BlockPart → Type 0
+IsLevel scopes files [] = files ≡ 0
+IsLevel scopes files (Enters inside ∷ text) = IsLevel scopes (suc files) text
+IsLevel scopes zero (Leaves inside ∷ text) = ⊥
+IsLevel scopes (suc files) (Leaves inside ∷ text) = IsLevel scopes files text
+IsLevel scopes files (Text (Pragma tokens inside) ∷ text) = IsLevel scopes files text
+IsLevel scopes files (Text (Tokens tokens) ∷ text) = elim (faulty_step tokens) [
+  | Closes ↦ elim scopes [ zero ↦ ⊥ | suc n ↦ IsLevel n files text ]
+  | OpensNameless kind ↦ IsLevel (suc scopes) files text
+  | other ↦ IsLevel scopes files text
+]
 
 -- The text of a block behind facts that units told, where 64 bits count what it adds.
 pub record IsBlockOf (before : List UnitFacts) (text : List BlockPart) : Type 0 where

@@ -2,7 +2,7 @@
 
 ghost use Rattle.std.specs.Prelude.{◌≡◌, ◌↔◌, ◌≤◌, ◌<◌, ◌^◌, List, true, if◌then◌else◌, length};
 ghost use Rattle.std.specs.Option.{option_eq};
-ghost use Rattle.idl_asked.specs.Blocks.{AreBlocksOf, IsBlockOf, behind, block_log};
+ghost use Rattle.idl_asked.specs.Blocks.{AreBlocksOf, IsBlockOf, IsLevel, behind, block_log};
 ghost use Rattle.idl_check_laws.specs.Closing.{AreTold};
 ghost use Rattle.idl_env.specs.Facts.{UnitFacts, answers, count_in};
 ghost use Rattle.idl_env.specs.SameAnswer.{answer_eq};
@@ -11,7 +11,7 @@ ghost use Rattle.idl_env.specs.declared.keys.key.Key.TheVariants.{Nameless};
 ghost use Rattle.idl_env.specs.keys.Key.{key_eq};
 ghost use Rattle.idl_memo.specs.Fresh.{shared_at};
 ghost use Rattle.idl_memo.specs.Query.{HoldsIn};
-ghost use Rattle.idl_root_blocks.specs.Blocks.{AreCut, Pieces, plain_text, text_in};
+ghost use Rattle.idl_root_blocks.specs.Blocks.{AreCut, IsOfBlock, Pieces, plain_text, text_in};
 ghost use Rattle.idl_root_blocks.specs.Met.{MetBlock, MetUnit, alike_block, block_keys, is_known, shared_by, unit_text_eq};
 ghost use Rattle.idl_root_blocks.specs.Places.{BlockPlace, DeclarationPlace, block_result, facts_over};
 ghost use Rattle.idl_root_blocks.specs.declared.text.BlockPart.{BlockPart};
@@ -24,6 +24,7 @@ use idl_root_blocks::{logging, standing, taking};
 /// The log of a block that stands in a root has the keys of the table: those that its units ask and at which it has not written
 /// before. It is alike at a place of its text where that log holds.
 pub fn blocks()
+    ensures texts { (text : List BlockPart) → IsOfBlock text ↔ IsLevel 0 0 text }
     ensures facts { (facts : List UnitFacts) (text : List BlockPart)
         → facts_over facts text ≡ behind facts text }
     ensures kept { (before : List UnitFacts) (text : List BlockPart) → IsBlockOf before text

@@ -1,5 +1,5 @@
 -- Tables have what several definitions say.
-use Rattle.std.proofs.Common.{◌≡◌, ◌+◌, ℕ, Bool, true, false, cond, List, [], ◌∷◌, ◌++◌, Option, None, Some, drop, refl, ap}
+use Rattle.std.proofs.Common.{◌≡◌, ◌∙◌, ◌+◌, ℕ, Bool, true, false, cond, List, [], ◌∷◌, ◌++◌, Option, None, Some, drop, refl, ap}
 use Rattle.std.specs.Prelude.{codes, if◌then◌else◌, is_some}
 use Rattle.idl_check.specs.tables.Declaring.{Written, entity_of}
 use Rattle.idl_check.specs.tables.Using.{Bases, last_after, own_after, used_table, with_uses}
@@ -11,6 +11,11 @@ use Rattle.idl_env.specs.Facts.{World, after_step}
 use Rattle.idl_env.specs.declared.additions.addition.Step.{Step}
 use Rattle.idl_env.specs.declared.additions.addition.Step.TheVariants.{Closes, Enters, Leaves, Opens, OpensNameless, Prefixes, Stays}
 use Rattle.idl_env.specs.declared.answering.answer.Scope.{Scope}
+use Rattle.idl_event.specs.Items.{spend}
+use Rattle.idl_event.specs.declared.told.allowance.Allowance.{Allowance}
+use Rattle.idl_event.specs.declared.told.event.Event.TheVariants as event
+use Rattle.idl_event.specs.declared.told.event.Item.{Item}
+use Rattle.idl_event.specs.declared.told.event.Item.TheVariants as item
 use Rattle.idl_fault.specs.declared.code.Code.TheVariants.{LeftOut, LikeKeyword, MixedWidths, NestedTooDeep, WrongKind}
 use Rattle.idl_lex.specs.kinds.Keywords.{folded}
 use Rattle.idl_lex.specs.kinds.Number.{are_digits, based, integer_value, is_floating, kind_of_value, limited, number, number_kind}
@@ -22,8 +27,10 @@ use Rattle.idl_parts.specs.declared.part.Declaration.{Declaration}
 use Rattle.idl_parts.specs.declared.part.Declaration.TheVariants as way
 use Rattle.idl_parts.specs.declared.part.Use.{Use}
 use Rattle.idl_parts.specs.declared.part.Use.TheVariants as usage
+use Rattle.idl_plain.specs.Allowance.{left_behind}
 use Rattle.idl_plain.specs.Coded.{coded, form_of}
 use Rattle.idl_plain.specs.Declared.{declared}
+use Rattle.idl_plain.specs.Expression.{linked, read}
 use Rattle.idl_plain.specs.Operators.{before as at_one, between}
 use Rattle.idl_plain.specs.Steps.{stepped}
 use Rattle.idl_plain.specs.Tokens.{codes_behind, is_mixed, is_refused}
@@ -48,7 +55,8 @@ use Rattle.idl_tree.specs.declared.declarations.data_type.SizedInteger.TheVarian
 use Rattle.idl_tree.specs.declared.expression.UnaryOperator.{UnaryOperator}
 use Rattle.idl_unit.specs.TokenRules.{bad_codes, code_if, first, is_left_out, is_miscased, is_other_width, is_too_deep, token_codes}
 use Rattle.idl_value.specs.ConstantType.{integer_of, sized_kind, target_of}
-use Rattle.idl_value.specs.Evaluation.{combined, signed_value}
+use Rattle.idl_value.specs.Evaluation.{Operands, Read, behind, combined, read_links, read_operator, read_parenthesis, read_sign, read_term, signed_value}
+use Rattle.idl_value.specs.Term.{Chain, End, Link, Links, Literally, Named, Parenthesised, Signed, Term}
 use Rattle.idl_value.specs.integers.Integer.{is_signed, width}
 use Rattle.idl_value.specs.declared.constant_type.ConstantType.{ConstantType}
 use Rattle.idl_value.specs.declared.constant_type.ConstantType.TheVariants as target
@@ -57,6 +65,7 @@ use Rattle.idl_value.specs.declared.integer.IntegerKind.TheVariants as integer
 use Rattle.idl_value.specs.declared.operator.BinaryOperator.{BinaryOperator}
 use Rattle.idl_value.specs.declared.value.Value.{Value}
 use Rattle.idl_value.specs.declared.value.Value.TheVariants as value
+use Rattle.idl_value.specs.declared.walk.Passed.{Passed}
 
 -- ---- types
 
@@ -275,3 +284,31 @@ numbers-told spelling = by (are_digits (based spelling).0 (based spelling).1) (l
     by true None floats = refl
     by true (Some n) floats = refl
     by false n floats = refl
+
+-- ---- allowances
+
+pub allowances-told : (left : Allowance) (item : Item) → spend left item ≡ left_behind left item
+allowances-told left (item.Turn place) = refl
+allowances-told left (item.TooDeep place) = refl
+allowances-told left (item.Counted place) = refl
+allowances-told left (item.Kept (event.Emitted place token)) = refl
+allowances-told left (item.Kept e) = refl
+
+-- ---- expressions
+
+mutual
+  pub expressions-told : (target : ConstantType) (operands : Operands) (place : Passed) (t : Term) → read_term target operands place t ≡ read target operands place t
+  expressions-told target operands place (Named before) = refl
+  expressions-told target operands place (Literally l) = refl
+  expressions-told target operands place (Parenthesised inner) = ap read_parenthesis (expressions-told target operands (behind place 1 0) inner)
+  expressions-told target operands place (Signed sign operand) =
+      ap (read_sign target place.token sign) (expressions-told target operands (behind place 1 0) operand)
+  expressions-told target operands place (Chain first rest) =
+      ap (λ (r : Read). read_links target operands r rest) (expressions-told target operands place first)
+      ∙ links-told target operands (read target operands place first) rest
+
+  links-told : (target : ConstantType) (operands : Operands) (left : Read) (rest : Links) → read_links target operands left rest ≡ linked target operands left rest
+  links-told target operands left End = refl
+  links-told target operands left (Link operator t rest) =
+      ap (λ (r : Read). read_links target operands (read_operator target operator left r) rest) (expressions-told target operands (behind left.place 1 0) t)
+      ∙ links-told target operands (read_operator target operator left (read target operands (behind left.place 1 0) t)) rest

@@ -1,8 +1,10 @@
 pub mod Additions
+pub mod Allowance
 pub mod Coded
 pub mod Condition
 pub mod Declared
 pub mod Ending
+pub mod Expression
 pub mod Operators
 pub mod Pragma
 pub mod Steps

@@ -7,7 +7,7 @@ ghost use Rattle.idl_check.specs.walk.Placing.{faulty_step, opened_kind};
 ghost use Rattle.idl_entity.specs.Kind.{kind_eq, stage_eq};
 ghost use Rattle.idl_entity.specs.declared.kind.Kind.{Kind};
 ghost use Rattle.idl_entity.specs.declared.kind.Stage.{Stage};
-ghost use Rattle.idl_env.specs.Facts.{UnitFacts};
+ghost use Rattle.idl_env.specs.Facts.{UnitFacts, answer_of, key_of, operations_among};
 ghost use Rattle.idl_env.specs.Turns.{turns_among, turns_for};
 ghost use Rattle.idl_env.specs.declared.additions.addition.Addition.{Addition};
 ghost use Rattle.idl_env.specs.declared.additions.addition.Step.TheVariants.{Closes, OpensNameless, Stays};
@@ -24,7 +24,7 @@ ghost use Rattle.idl_event.specs.declared.told.event.Item.TheVariants.{Kept};
 ghost use Rattle.idl_lex.specs.tokens.Tokens.{Token, tokens_in, tokens_of};
 ghost use Rattle.idl_macro.specs.Condition.{value};
 ghost use Rattle.idl_macro.specs.Macros.{body_in};
-ghost use Rattle.idl_plain.specs.Additions.{named_by};
+ghost use Rattle.idl_plain.specs.Additions.{left_by, named_by, operation_by};
 ghost use Rattle.idl_plain.specs.Condition.{Means};
 ghost use Rattle.idl_plain.specs.Ending.{ends_before, is_heading};
 ghost use Rattle.idl_plain.specs.Pragma.{IsPragma};
@@ -70,12 +70,16 @@ pub fn sameness()
     ensures roots { (k other : RootKey) → (root_key_eq k other ≡ true) ↔ (k ≡ other) }
 {}
 
-/// A look-up needs as many turns as entities are declared and bases named.
+/// A look-up needs as many turns as entities are declared and bases named. Of each addition one line tells the key and the answer.
 pub fn additions()
     ensures turns { (additions : List Addition) → turns_among additions
         ≡ length (flat_map named_by additions) }
     ensures needed { (facts : List UnitFacts) → turns_for facts
         ≡ length (flat_map (λ f. flat_map named_by f.additions) facts) }
+    ensures keys { (a : Addition) → key_of a ≡ (left_by a).0 }
+    ensures answers { (a : Addition) → answer_of a ≡ (left_by a).1 }
+    ensures operations { (additions : List Addition) → operations_among additions
+        ≡ flat_map operation_by additions }
 {}
 
 /// An answer tells a file's lines, or the tokens of a macro's body, and an item an event, in one form alone.

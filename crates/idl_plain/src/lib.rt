@@ -11,4 +11,7 @@ mod tables;
 
 pub use forms::tests;
 pub use laws::{additions, answers, conditions, pragmas, sameness, units};
-pub use tables::{declarations, numbers, operators, steps, tokens, type_codes, types, uses};
+pub use tables::{
+    allowances, declarations, expressions, numbers, operators, steps, tokens, type_codes, types,
+    uses,
+};

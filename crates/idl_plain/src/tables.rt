@@ -10,6 +10,9 @@ ghost use Rattle.idl_entity.specs.declared.entity.Entity.{Entity};
 ghost use Rattle.idl_env.specs.Facts.{World, after_step};
 ghost use Rattle.idl_env.specs.declared.additions.addition.Step.{Step};
 ghost use Rattle.idl_env.specs.declared.answering.answer.Scope.{Scope};
+ghost use Rattle.idl_event.specs.Items.{spend};
+ghost use Rattle.idl_event.specs.declared.told.allowance.Allowance.{Allowance};
+ghost use Rattle.idl_event.specs.declared.told.event.Item.{Item};
 ghost use Rattle.idl_fault.specs.declared.code.Code.TheVariants.{WrongKind};
 ghost use Rattle.idl_lex.specs.kinds.Keywords.{folded};
 ghost use Rattle.idl_lex.specs.kinds.Number.{are_digits, based, integer_value, is_floating, number_kind};
@@ -18,8 +21,10 @@ ghost use Rattle.idl_lex.specs.declared.kinds.kind.TokenKind.{TokenKind};
 ghost use Rattle.idl_lex.specs.declared.kinds.kind.TokenKind.TheVariants.{Bad, Integer};
 ghost use Rattle.idl_parts.specs.declared.part.Declaration.{Declaration};
 ghost use Rattle.idl_parts.specs.declared.part.Use.{Use};
+ghost use Rattle.idl_plain.specs.Allowance.{left_behind};
 ghost use Rattle.idl_plain.specs.Coded.{coded};
 ghost use Rattle.idl_plain.specs.Declared.{declared, rules_of_declared};
+ghost use Rattle.idl_plain.specs.Expression.{read};
 ghost use Rattle.idl_plain.specs.Operators.{before, between};
 ghost use Rattle.idl_plain.specs.Steps.{stepped};
 ghost use Rattle.idl_plain.specs.Tokens.{codes_behind};
@@ -35,12 +40,14 @@ ghost use Rattle.idl_tree.specs.declared.expression.UnaryOperator.{UnaryOperator
 ghost use Rattle.idl_tree.specs.declared.name.ScopedName.{ScopedName};
 ghost use Rattle.idl_unit.specs.TokenRules.{token_codes};
 ghost use Rattle.idl_value.specs.ConstantType.{target_of};
-ghost use Rattle.idl_value.specs.Evaluation.{combined, signed_value};
+ghost use Rattle.idl_value.specs.Evaluation.{Operands, combined, read_term, signed_value};
+ghost use Rattle.idl_value.specs.Term.{Term};
 ghost use Rattle.idl_value.specs.integers.Integer.{is_signed, width};
 ghost use Rattle.idl_value.specs.declared.constant_type.ConstantType.{ConstantType};
 ghost use Rattle.idl_value.specs.declared.integer.IntegerKind.{IntegerKind};
 ghost use Rattle.idl_value.specs.declared.operator.BinaryOperator.{BinaryOperator};
 ghost use Rattle.idl_value.specs.declared.value.Value.{Value};
+ghost use Rattle.idl_value.specs.declared.walk.Passed.{Passed};
 
 /// Of each type of keywords that constants may have one line tells how it is spelled, what it is, and how wide.
 pub fn types()
@@ -107,4 +114,15 @@ pub fn numbers()
         ≡ (if is_some (integer_value spelling) then Integer
         else if are_digits (based spelling).0 (based spelling).1 then Bad IntegerTooLarge
         else if is_floating spelling then Bad FloatingLiteral else Bad MalformedInteger) }
+{}
+
+/// Of each item of an expansion one line tells what it leaves of the allowance.
+pub fn allowances()
+    ensures { (left : Allowance) (item : Item) → spend left item ≡ left_behind left item }
+{}
+
+/// Of each form of an expression one line tells what it comes to.
+pub fn expressions()
+    ensures { (target : ConstantType) (operands : Operands) (place : Passed) (term : Term)
+        → read_term target operands place term ≡ read target operands place term }
 {}

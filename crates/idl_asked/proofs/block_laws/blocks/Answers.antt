@@ -1,8 +1,12 @@
 use Rattle.std.proofs.Common.{refl}
 use Rattle.idl_asked.proofs.BlockLaws.{alike-plain, facts-behind, kept-plain, keys-plain, shared-plain}
+use Rattle.idl_asked.proofs.LevelLaws.{texts-told}
 use Rattle.idl_env.specs.Facts.{answers}
 use Rattle.idl_root_blocks.specs.Blocks.{parts_of}
 use Rattle.idl_asked.proofs.block_laws.blocks.Goals as goal
+
+pub returns-clause-texts : goal.returns-clause-texts
+returns-clause-texts c = texts-told
 
 pub returns-clause-facts : goal.returns-clause-facts
 returns-clause-facts c = facts-behind
