@@ -62,6 +62,11 @@ state row = (row.env.now, (row.text.items, row.log))
 abbrev pub Writes : Pieces → RowWriter → RowWriter → Type 0
 Writes pieces old new = Grows pieces (state old) (state new)
 
+-- the text of each, with commas between
+abbrev pub with_commas : {X : Type 0} → (X → List ℕ) → List X → List ℕ
+with_commas text [] = []
+with_commas text (x ∷ xs) = text x ++ flat_map (λ y. codes "," ++ text y) xs
+
 -- the pieces of each, with commas between
 abbrev pub commas : {X : Type 0} → (X → Pieces) → List X → Pieces
 commas pieces [] = []

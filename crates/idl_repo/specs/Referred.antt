@@ -2,14 +2,13 @@
 -- What is declared at such a path is not looked at.
 use Rattle.std.specs.Prelude.{ℕ, List, [], ◌∷◌, ◌++◌, flat_map, Option, None, Some, if◌then◌else◌}
 use Rattle.idl_repo.specs.Row.{raised_by_set_of, raised_of}
-use Rattle.idl_repo.specs.TypeCode.{kind_in, members_of}
-use Rattle.idl_repo.specs.declared.type_code.TypeCodeKind.{TypeCodeKind}
-use Rattle.idl_repo.specs.declared.type_code.TypeCodeKind.TheVariants as code
+use Rattle.idl_repo.specs.TypeCode.{head_of, members_of}
 use Rattle.idl_entity.specs.Kind.{kind_eq}
 use Rattle.idl_entity.specs.declared.data_type.DataType.{DataType}
 use Rattle.idl_entity.specs.declared.data_type.Element.{Element}
 use Rattle.idl_entity.specs.declared.data_type.Element.TheVariants as element
 use Rattle.idl_entity.specs.declared.entity.Entity.{Entity}
+use Rattle.idl_entity.specs.declared.kind.Kind.{Kind}
 use Rattle.idl_entity.specs.declared.kind.Kind.TheVariants as kind
 use Rattle.idl_entity.specs.declared.signature.Member.{Member}
 
@@ -33,35 +32,33 @@ abbrev pub named_by_labels : Member → Paths
 named_by_labels m = flat_map (λ label. named_by_member m) m.labels
 
 -- those in a TypeCode, behind its own id
-abbrev pub referred_in : TypeCodeKind → Entity → Paths
-referred_in code.Structure e = flat_map named_by_member (members_of e)
-referred_in code.Exception e = flat_map named_by_member (members_of e)
-referred_in code.Union e = named_by e.data_type ++ flat_map named_by_labels (members_of e)
-referred_in code.Alias e = named_by e.data_type
+abbrev pub referred_in : Kind → Entity → Paths
+referred_in kind.Structure e = flat_map named_by_member (members_of e)
+referred_in kind.Exception e = flat_map named_by_member (members_of e)
+referred_in kind.Union e = named_by e.data_type ++ flat_map named_by_labels (members_of e)
+referred_in kind.Alias e = named_by e.data_type
 referred_in other e = []
 
--- those of an interface's bases
+-- those of an interface's bases, and that of a struct's
 abbrev pub listed_bases : Entity → Paths
 listed_bases e =
     if kind_eq e.kind kind.Interface then e.bases
     else if kind_eq e.kind kind.Structure then e.bases else []
 
--- of a row with a TypeCode: its own path is told again there
-abbrev pub referred_by_coded : Entity → Paths
-referred_by_coded e =
-    elim (kind_in e) [ None ↦ [] | Some code ↦ e.path ∷ (referred_in code e ++ listed_bases e) ]
+-- of a row without a TypeCode
+abbrev pub referred_by_uncoded : Entity → Paths
+referred_by_uncoded e =
+    if kind_eq e.kind kind.Constant then named_by e.data_type
+    else if kind_eq e.kind kind.Attribute
+    then named_by e.data_type ++ (raised_of e ++ raised_by_set_of e)
+    else if kind_eq e.kind kind.Operation
+    then named_by e.data_type ++ (flat_map named_by_member (members_of e) ++ raised_of e)
+    else []
 
-abbrev pub referred_by_attribute : Entity → Paths
-referred_by_attribute e = named_by e.data_type ++ (raised_of e ++ raised_by_set_of e)
-
-abbrev pub referred_by_operation : Entity → Paths
-referred_by_operation e =
-    named_by e.data_type ++ (flat_map named_by_member (members_of e) ++ raised_of e)
-
--- those of a row, behind its own id
+-- those of a row, behind its own id: a TypeCode tells that again
 abbrev pub referred : Entity → Paths
 referred e =
-    if kind_eq e.kind kind.Constant then named_by e.data_type
-    else if kind_eq e.kind kind.Attribute then referred_by_attribute e
-    else if kind_eq e.kind kind.Operation then referred_by_operation e
-    else referred_by_coded e
+    elim (head_of e) [
+      | None ↦ referred_by_uncoded e
+      | Some head ↦ e.path ∷ (referred_in e.kind e ++ listed_bases e)
+    ]

@@ -1,7 +1,7 @@
 -- The rows of a listing: one equation for each line of the format.
-use Rattle.std.specs.Prelude.{ℕ, Bool, true, false, List, [], ◌∷◌, ◌++◌, codes, flat_map, None, Some, if◌then◌else◌}
-use Rattle.idl_repo.specs.Pieces.{Pieces, IdOf, Says, commas, says}
-use Rattle.idl_repo.specs.TypeCode.{code_pieces, kind_in, listed_value, members_of, reference, type_pieces, typed_pieces}
+use Rattle.std.specs.Prelude.{ℕ, Bool, true, false, List, [], ◌∷◌, ◌++◌, codes, None, Some, if◌then◌else◌}
+use Rattle.idl_repo.specs.Pieces.{Pieces, IdOf, Says, commas, says, with_commas}
+use Rattle.idl_repo.specs.TypeCode.{code_pieces, head_of, listed_value, members_of, reference, type_pieces, typed_pieces}
 use Rattle.idl_entity.specs.Kind.{kind_eq}
 use Rattle.idl_entity.specs.declared.entity.Entity.{Entity}
 use Rattle.idl_entity.specs.declared.kind.Kind.{Kind}
@@ -57,11 +57,6 @@ bases_pieces e =
     then Says (codes " bases(") ∷ (references e.bases ++ says (codes ")"))
     else if kind_eq e.kind kind.Structure then base_pieces e.bases else []
 
-abbrev pub coded_pieces : Entity → Pieces
-coded_pieces e =
-    elim (kind_in e)
-    [ None ↦ [] | Some code ↦ Says (codes " ") ∷ (code_pieces code e ++ bases_pieces e) ]
-
 -- ID TYPE VALUE
 abbrev pub value_pieces : Entity → Pieces
 value_pieces e = elim e.value [ None ↦ [] | Some v ↦ says (listed_value v) ]
@@ -98,11 +93,6 @@ parameter_pieces m =
 abbrev pub context_word : List ℕ → List ℕ
 context_word text = value_word (Text text)
 
-abbrev pub contexts_word : List (List ℕ) → List ℕ
-contexts_word [] = []
-contexts_word (text ∷ texts) =
-    context_word text ++ flat_map (λ more. codes "," ++ context_word more) texts
-
 -- ID [oneway ]TYPE (DIR NAME:TYPE,..) raises(REF,..) context(TEXT,..)
 abbrev pub operation_pieces : Entity → Pieces
 operation_pieces e =
@@ -112,14 +102,21 @@ operation_pieces e =
     ∷ (commas parameter_pieces (members_of e)
     ++ Says (codes ") raises(")
     ∷ (references (raised_of e)
-    ++ Says (codes ") context(") ∷ Says (contexts_word (contexts_of e)) ∷ says (codes ")"))))
+    ++ Says (codes ") context(")
+    ∷ Says (with_commas context_word (contexts_of e)) ∷ says (codes ")"))))
 
-abbrev pub behind_id : Entity → Pieces
-behind_id e =
+-- what stands behind the id of a name that has no TypeCode
+abbrev pub uncoded_pieces : Entity → Pieces
+uncoded_pieces e =
     if kind_eq e.kind kind.Constant then constant_pieces e
     else if kind_eq e.kind kind.Attribute then attribute_pieces e
     else if kind_eq e.kind kind.Operation then operation_pieces e
-    else coded_pieces e
+    else []
+
+abbrev pub behind_id : Entity → Pieces
+behind_id e =
+    elim (head_of e)
+    [ None ↦ uncoded_pieces e | Some head ↦ code_pieces head e ++ bases_pieces e ]
 
 -- a row: its word, the path, the id, and what stands behind that
 abbrev pub row_pieces : Entity → Pieces

@@ -9,7 +9,6 @@ ghost use Rattle.idl_repo.specs.Pieces.{asked_of, ids_in, text_over};
 ghost use Rattle.idl_repo.specs.Referred.{referred, referred_in};
 ghost use Rattle.idl_repo.specs.Row.{row_pieces};
 ghost use Rattle.idl_repo.specs.TypeCode.{code_pieces, element_pieces, written_type};
-ghost use Rattle.idl_repo.specs.declared.type_code.TypeCodeKind.{TypeCodeKind};
 ghost use Rattle.idl_entity.specs.DataType.{plain_type, with_arrays, with_layer};
 ghost use Rattle.idl_env.specs.Facts.{entity_in, entity_key};
 ghost use Rattle.idl_env.specs.declared.answering.answer.Answer.{Answer};
@@ -40,9 +39,9 @@ pub fn asked_ids()
 
 /// A TypeCode expands no named type: it tells its own id and those of the types that are named in it.
 pub fn references()
-    ensures { (kind : TypeCodeKind) (e : Entity) (bank : Key → Option Answer)
-        → ids_in bank (code_pieces kind e)
-        ≡ flat_map (asked_of bank) (e.path ∷ referred_in kind e) }
+    ensures { (head : List ℕ) (e : Entity) (bank : Key → Option Answer)
+        → ids_in bank (code_pieces head e)
+        ≡ flat_map (asked_of bank) (e.path ∷ referred_in e.kind e) }
 {}
 
 /// A type is written as it nests: a sequence or an array stands around what it is of, and of the lengths of an array the first

@@ -1,6 +1,6 @@
 -- The tree of a row, over a bank: each id is told as the bank answers.
-use Rattle.std.specs.Prelude.{ℕ, ◌+◌, List, [], ◌∷◌, flat_map, map, Option, None, Some, if◌then◌else◌}
-use Rattle.std.specs.Option.{option_map}
+use Rattle.std.specs.Prelude.{ℕ, List, [], flat_map, map, Option, None, Some, if◌then◌else◌}
+use Rattle.std.specs.Option.{option_map, option_map_or}
 use Rattle.idl_memo.specs.Query.{outcome}
 use Rattle.idl_repo.specs.declared.details.reference.Reference.{Reference}
 use Rattle.idl_repo.specs.declared.details.row_tree.AttributeTree.{AttributeTree}
@@ -15,7 +15,6 @@ use Rattle.idl_repo.specs.declared.details.type_code_tree.CaseTree.{CaseTree}
 use Rattle.idl_repo.specs.declared.details.type_code_tree.MemberTree.{MemberTree}
 use Rattle.idl_repo.specs.declared.details.type_code_tree.TypeCodeParts.{TypeCodeParts}
 use Rattle.idl_repo.specs.declared.details.type_code_tree.TypeCodeParts.TheVariants as parts
-use Rattle.idl_repo.specs.declared.details.type_code_tree.TypeCodeTree.{TypeCodeTree}
 use Rattle.idl_repo.specs.declared.details.type_code_tree.UnionTree.{UnionTree}
 use Rattle.idl_repo.specs.declared.details.type_tree.ElementTree.{ElementTree}
 use Rattle.idl_repo.specs.declared.details.type_tree.ElementTree.TheVariants as tree
@@ -26,15 +25,14 @@ use Rattle.idl_entity.specs.declared.data_type.DataType.{DataType}
 use Rattle.idl_entity.specs.declared.data_type.Element.{Element}
 use Rattle.idl_entity.specs.declared.data_type.Element.TheVariants as element
 use Rattle.idl_entity.specs.declared.entity.Entity.{Entity}
+use Rattle.idl_entity.specs.declared.kind.Kind.{Kind}
 use Rattle.idl_entity.specs.declared.kind.Kind.TheVariants as kind
 use Rattle.idl_entity.specs.declared.signature.Member.{Member}
 use Rattle.idl_env.specs.declared.answering.answer.Answer.{Answer}
 use Rattle.idl_env.specs.declared.keys.key.Key.{Key}
 use Rattle.idl_repo.specs.Referred.{listed_bases}
 use Rattle.idl_repo.specs.Row.{context_word, contexts_of, path_text, raised_by_set_of, raised_of}
-use Rattle.idl_repo.specs.TypeCode.{kind_in, listed_value, members_of}
-use Rattle.idl_repo.specs.declared.type_code.TypeCodeKind.{TypeCodeKind}
-use Rattle.idl_repo.specs.declared.type_code.TypeCodeKind.TheVariants as code
+use Rattle.idl_repo.specs.TypeCode.{default_of, listed_value, members_of}
 use Rattle.idl_scope.specs.Known.{id_of}
 use Rattle.idl_value.specs.declared.value.Value.{Value}
 
@@ -78,45 +76,35 @@ case_over bank m label =
 abbrev pub cases_of : Bank → Member → List CaseTree
 cases_of bank m = map (case_over bank m) m.labels
 
--- the number of the first case of `default`, if there is one, where the first has this number
-abbrev pub default_in : ℕ → List CaseTree → Option ℕ
-default_in n [] = None
-default_in n (case ∷ cases) =
-    elim case.label [ None ↦ Some n | Some text ↦ default_in (n + 1) cases ]
-
-abbrev pub cases_over : Bank → Entity → List CaseTree
-cases_over bank e = flat_map (cases_of bank) (members_of e)
-
 abbrev pub union_over : Bank → Entity → UnionTree
 union_over bank e = record {
   discriminator = type_over bank e.data_type;
-  default = default_in 0 (cases_over bank e);
-  cases = cases_over bank e;
+  default = default_of (members_of e);
+  cases = flat_map (cases_of bank) (members_of e);
 }
 
--- a TypeCode
-abbrev pub parts_over : Bank → TypeCodeKind → Entity → TypeCodeParts
-parts_over bank code.ObjectReference e = parts.ObjectReference
-parts_over bank code.LocalInterface e = parts.LocalInterface
-parts_over bank code.Native e = parts.Native
-parts_over bank code.Structure e = parts.Structure (members_over bank e)
-parts_over bank code.Exception e = parts.Exception (members_over bank e)
-parts_over bank code.Union e = parts.Union (union_over bank e)
-parts_over bank code.Enumeration e = parts.Enumeration e.enumerators
-parts_over bank code.Alias e = parts.Alias (type_over bank e.data_type)
-
-abbrev pub type_code_over : Bank → TypeCodeKind → Entity → TypeCodeTree
-type_code_over bank k e =
-    record { id = id_over bank e.path; name = name_of e.path; parts = parts_over bank k e }
+-- what a TypeCode is of, if there is one, and what it has behind its name
+abbrev pub parts_over : Bank → Kind → Entity → Option TypeCodeParts
+parts_over bank kind.Interface e =
+    Some (if e.is_local then parts.LocalInterface else parts.ObjectReference)
+parts_over bank kind.Native e = Some parts.Native
+parts_over bank kind.Structure e = Some (parts.Structure (members_over bank e))
+parts_over bank kind.Exception e = Some (parts.Exception (members_over bank e))
+parts_over bank kind.Union e = Some (parts.Union (union_over bank e))
+parts_over bank kind.Enumeration e = Some (parts.Enumeration e.enumerators)
+parts_over bank kind.Alias e = Some (parts.Alias (type_over bank e.data_type))
+parts_over bank other e = None
 
 -- what a row tells behind the id: of a name that has a TypeCode that, and the bases
-abbrev pub declared_over : Bank → TypeCodeKind → Entity → DeclaredType
-declared_over bank k e =
-    record { code = type_code_over bank k e; bases = references_over bank (listed_bases e) }
+abbrev pub declared_over : Bank → Entity → TypeCodeParts → DeclaredType
+declared_over bank e p = record {
+  code = record { id = id_over bank e.path; name = name_of e.path; parts = p };
+  bases = references_over bank (listed_bases e);
+}
 
 abbrev pub coded_over : Bank → Entity → RowDetails
 coded_over bank e =
-    elim (kind_in e) [ None ↦ row.Nothing | Some k ↦ row.Type (declared_over bank k e) ]
+    option_map_or (λ p. row.Type (declared_over bank e p)) (parts_over bank e.kind e) row.Nothing
 
 abbrev pub constant_over : Bank → Entity → ConstantTree
 constant_over bank e =

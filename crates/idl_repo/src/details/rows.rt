@@ -13,7 +13,8 @@ use crate::details::row_tree::{
 use crate::details::type_code_tree::TypeCodeTree;
 use crate::details::type_codes::parts_of;
 use crate::details::types::{id_at, listed, member_of, path_text, references_at, type_of};
-use crate::{contexts_of, members_of, push_context, raised_by_set_of, raised_of};
+use crate::shown::{contexts_of, members_of, raised_by_set_of, raised_of};
+use crate::words::push_context;
 use idl_base::{Bytes, Seq};
 use idl_entity::{Entity, Kind, Member, Path};
 use idl_env::Env;

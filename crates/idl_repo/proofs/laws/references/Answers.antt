@@ -1,4 +1,4 @@
-use Rattle.idl_repo.proofs.ReferredLemmas.{ids-code}
+use Rattle.idl_repo.proofs.ToldLemmas.{ids-code}
 use Rattle.idl_repo.proofs.laws.references.Goals as goal
 
 pub returns : goal.returns

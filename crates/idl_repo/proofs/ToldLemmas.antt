@@ -1,0 +1,219 @@
+-- What a row tells: its text, which is what its tree is printed as, and the ids.
+use Rattle.std.proofs.Common.{◌≡◌, ◌∙◌, ℕ, List, [], ◌∷◌, ◌++◌, Bool, true, false, Option, None, Some, codes, if◌then◌else◌, refl, sym, ap, append_assoc, flat_map, map}
+use Rattle.std.specs.Option.{option_map, option_map_or, unwrap_or}
+use Rattle.std.proofs.lemmas.Grind.{flat_map-append}
+use Rattle.std.proofs.lemmas.List.{append-nil}
+use Rattle.idl_repo.proofs.WriteLemmas.{ids_in-append, text_over-append}
+use Rattle.idl_repo.specs.Pieces.{IdOf, Pieces, Says, asked_of, commas, ids_in, says, text_over, with_commas}
+use Rattle.idl_repo.specs.Referred.{Paths, named_by, named_by_labels, named_by_member, named_in, referred, referred_in}
+use Rattle.idl_repo.specs.Row.{attribute_pieces, base_pieces, bases_pieces, behind_id, constant_pieces, context_word, contexts_of, direction_word, flag, kind_word, operation_pieces, parameter_pieces, path_text, raised_by_set_of, raised_of, references, row_pieces}
+use Rattle.idl_repo.specs.TypeCode.{code_pieces, default_of, default_word, element_pieces, entries_of, entry_pieces, label_word, labelled_pieces, layer_end, layers_begin, listed_value, member_pieces, members_of, part_pieces, reference, type_behind, type_pieces, typed_pieces}
+use Rattle.idl_repo.specs.details.Print.{attribute_text, base_text, case_behind, constant_text, details_text, element_text, member_behind, member_text, operation_text, parameter_text, parts_text, reference_text, references_text, row_of, type_text}
+use Rattle.idl_repo.specs.details.Tree.{Bank, attribute_over, case_over, cases_of, constant_over, details_over, element_over, id_over, member_over, operation_over, parameter_over, parts_over, reference_over, references_over, tree_over, type_over}
+use Rattle.idl_repo.specs.declared.details.type_code_tree.TypeCodeParts.TheVariants as parts
+use Rattle.idl_entity.specs.Path.{name_of}
+use Rattle.idl_entity.specs.declared.data_type.DataType.{DataType}
+use Rattle.idl_entity.specs.declared.data_type.Element.{Element}
+use Rattle.idl_entity.specs.declared.data_type.Element.TheVariants as element
+use Rattle.idl_entity.specs.declared.entity.Entity.{Entity}
+use Rattle.idl_entity.specs.declared.kind.Kind.{Kind}
+use Rattle.idl_entity.specs.declared.kind.Kind.TheVariants as kind
+use Rattle.idl_entity.specs.declared.signature.Member.{Member}
+use Rattle.idl_value.specs.declared.value.Value.{Value}
+
+-- over a bank pieces come to this text, and tell the ids of these paths, in order
+record Tell (bank : Bank) (p : Pieces) (w : List ℕ) (paths : Paths) : Type 0 where
+  pub is : text_over bank p ≡ w
+  pub ids : ids_in bank p ≡ flat_map (asked_of bank) paths
+
+tell-nothing : {bank : Bank} → Tell bank [] [] []
+unfolding text_over ids_in
+tell-nothing {bank} = record { is = refl; ids = refl }
+
+tell-text : {bank : Bank} {p : Pieces} {w : List ℕ} {a : Paths} (text : List ℕ) → Tell bank p w a → Tell bank (Says text ∷ p) (text ++ w) a
+unfolding text_over ids_in
+tell-text {bank} {p} {w} {a} text h = record { is = ap (λ x. text ++ x) h.is; ids = h.ids }
+
+tell-id : {bank : Bank} {p : Pieces} {w : List ℕ} {a : Paths} (path : List (List ℕ)) → Tell bank p w a → Tell bank (IdOf path ∷ p) (id_over bank path ++ w) (path ∷ a)
+unfolding text_over ids_in
+tell-id {bank} {p} {w} {a} path h = record { is = ap (λ x. id_over bank path ++ x) h.is; ids = ap (λ keys. asked_of bank path ++ keys) h.ids }
+
+tell-as : {bank : Bank} {p : Pieces} {v w : List ℕ} {a : Paths} → Tell bank p v a → v ≡ w → Tell bank p w a
+tell-as {bank} {p} {v} {w} {a} h e = record { is = h.is ∙ e; ids = h.ids }
+
+tell-of : {bank : Bank} {p : Pieces} {w : List ℕ} {a b : Paths} → Tell bank p w a → a ≡ b → Tell bank p w b
+tell-of {bank} {p} {w} {a} {b} h e = record { is = h.is; ids = h.ids ∙ ap (flat_map (asked_of bank)) e }
+
+tell-then : {bank : Bank} {p q : Pieces} {v w : List ℕ} {a b : Paths} → Tell bank p v a → Tell bank q w b → Tell bank (p ++ q) (v ++ w) (a ++ b)
+tell-then {bank} {p} {q} {v} {w} {a} {b} h g = record {
+  is = text_over-append bank p q ∙ ap (λ x. x ++ text_over bank q) h.is ∙ ap (λ x. v ++ x) g.is;
+  ids = ids_in-append bank p q ∙ ap (λ keys. keys ++ ids_in bank q) h.ids ∙ ap (λ keys. flat_map (asked_of bank) a ++ keys) g.ids ∙ sym (flat_map-append (asked_of bank) a b);
+}
+
+-- what tells no id behind it
+tell-last : {bank : Bank} {p q : Pieces} {v w : List ℕ} {a : Paths} → Tell bank p v a → Tell bank q w [] → Tell bank (p ++ q) (v ++ w) a
+tell-last {bank} {p} {q} {v} {w} {a} h g = tell-of (tell-then h g) (append-nil a)
+
+-- a text alone, and one at the end
+tell-only : {bank : Bank} (text : List ℕ) → Tell bank (says text) text []
+tell-only text = tell-as (tell-text text tell-nothing) (append-nil text)
+
+tell-end : {bank : Bank} {p : Pieces} {w : List ℕ} {a : Paths} (text : List ℕ) → Tell bank p w a → Tell bank (p ++ says text) (w ++ text) a
+tell-end text h = tell-last h (tell-only text)
+
+-- each of some
+tell-each : {bank : Bank} {X Y : Type 0} (f : X → Pieces) (g : X → Y) (text : Y → List ℕ) (h : X → Paths) → ((x : X) → Tell bank (f x) (text (g x)) (h x)) → (xs : List X) → Tell bank (flat_map f xs) (flat_map text (map g xs)) (flat_map h xs)
+tell-each f g text h each [] = tell-nothing
+tell-each f g text h each (x ∷ xs) = tell-then (each x) (tell-each f g text h each xs)
+
+tell-commas : {bank : Bank} {X Y : Type 0} (f : X → Pieces) (g : X → Y) (text : Y → List ℕ) (h : X → Paths) → ((x : X) → Tell bank (f x) (text (g x)) (h x)) → (xs : List X) → Tell bank (commas f xs) (with_commas text (map g xs)) (flat_map h xs)
+tell-commas f g text h each [] = tell-nothing
+tell-commas f g text h each (x ∷ xs) = tell-then (each x) (tell-each (λ y. Says (codes ",") ∷ f y) g (λ y. codes "," ++ text y) h (λ y. tell-text (codes ",") (each y)) xs)
+
+-- references
+tell-reference : {bank : Bank} (path : List (List ℕ)) → Tell bank (reference path) (reference_text (reference_over bank path)) (path ∷ [])
+tell-reference {bank} path = tell-text (codes "@") (tell-as (tell-id path tell-nothing) (append-nil (id_over bank path)))
+
+each-itself : (paths : Paths) → flat_map (λ p. p ∷ []) paths ≡ paths
+each-itself [] = refl
+each-itself (p ∷ paths) = ap (λ ps. p ∷ ps) (each-itself paths)
+
+tell-references : {bank : Bank} (paths : Paths) → Tell bank (references paths) (references_text (references_over bank paths)) paths
+tell-references {bank} paths = tell-of (tell-commas reference (reference_over bank) reference_text (λ p. p ∷ []) tell-reference paths) (each-itself paths)
+
+-- types
+tell-element : {bank : Bank} (t : Element) → Tell bank (element_pieces t) (element_text (element_over bank t)) (named_in t)
+tell-element (element.Constants t) = tell-only _
+tell-element (element.Named path) = tell-reference path
+tell-element (element.Unvalued u) = tell-only _
+
+tell-type : {bank : Bank} (t : Option DataType) → Tell bank (type_pieces t) (type_text (type_over bank t)) (named_by t)
+tell-type None = tell-text (codes "tk_void") tell-nothing
+tell-type (Some t) = tell-text (layers_begin t.layers) (tell-end (flat_map layer_end t.layers) (tell-element t.element))
+
+tell-type_behind : {bank : Bank} (t : Option DataType) → Tell bank (type_behind t) (codes "," ++ type_text (type_over bank t)) (named_by t)
+tell-type_behind t = tell-text (codes ",") (tell-type t)
+
+tell-typed : {bank : Bank} (m : Member) → Tell bank (typed_pieces m) (member_text (member_over bank m)) (named_by_member m)
+tell-typed m = tell-text m.name (tell-text (codes ":") (tell-type m.data_type))
+
+tell-members : {bank : Bank} (members : List Member) → Tell bank (flat_map member_pieces members) (flat_map member_behind (map (member_over bank) members)) (flat_map named_by_member members)
+tell-members {bank} members = tell-each member_pieces (member_over bank) member_behind named_by_member (λ m. tell-text (codes ",") (tell-typed m)) members
+
+-- the entries of a union's labels
+tell-entry : {bank : Bank} (m : Member) (label : Option Value) → Tell bank (entry_pieces label m) (case_behind (case_over bank m label)) (named_by_member m)
+tell-entry m label = tell-text (codes ",") (tell-text (label_word label) (tell-text (codes ":") (tell-typed m)))
+
+tell-labelled : {bank : Bank} (m : Member) → Tell bank (labelled_pieces m) (flat_map case_behind (cases_of bank m)) (named_by_labels m)
+tell-labelled {bank} m = tell-each (λ label. entry_pieces label m) (case_over bank m) case_behind (λ label. named_by_member m) (tell-entry m) m.labels
+
+tell-cases : {bank : Bank} (members : List Member) → Tell bank (flat_map labelled_pieces members) (flat_map case_behind (flat_map (cases_of bank) members)) (flat_map named_by_labels members)
+tell-cases [] = tell-nothing
+tell-cases {bank} (m ∷ members) = tell-as (tell-then (tell-labelled m) (tell-cases members)) (sym (flat_map-append case_behind (cases_of bank m) (flat_map (cases_of bank) members)))
+
+tell-entries : {bank : Bank} (members : List Member) → Tell bank (entries_of members) (codes "," ++ (default_word (default_of members) ++ flat_map case_behind (flat_map (cases_of bank) members))) (flat_map named_by_labels members)
+tell-entries members = tell-text (codes ",") (tell-text (default_word (default_of members)) (tell-cases members))
+
+-- TypeCodes
+interface-parts : (is_local : Bool) → [] ≡ parts_text (if is_local then parts.LocalInterface else parts.ObjectReference)
+interface-parts true = refl
+interface-parts false = refl
+
+tell-parts : {bank : Bank} (k : Kind) (e : Entity) → Tell bank (part_pieces k e) (option_map_or parts_text (parts_over bank k e) []) (referred_in k e)
+tell-parts kind.Interface e = tell-as tell-nothing (interface-parts e.is_local)
+tell-parts kind.Structure e = tell-members (members_of e)
+tell-parts kind.Exception e = tell-members (members_of e)
+tell-parts {bank} kind.Union e =
+    tell-as (tell-then (tell-type_behind e.data_type) (tell-entries (members_of e))) (append_assoc (codes ",") (type_text (type_over bank e.data_type)) _)
+tell-parts kind.Enumeration e = tell-only _
+tell-parts kind.Alias e = tell-type_behind e.data_type
+tell-parts other e = tell-nothing
+
+abbrev code_text : Bank → List ℕ → Entity → List ℕ
+code_text bank head e =
+    head ++ (id_over bank e.path ++ (codes "," ++ (name_of e.path ++ (option_map_or parts_text (parts_over bank e.kind e) [] ++ codes ")"))))
+
+tell-code : {bank : Bank} (head : List ℕ) (e : Entity) → Tell bank (code_pieces head e) (code_text bank head e) (e.path ∷ referred_in e.kind e)
+tell-code head e =
+    tell-text head (tell-id e.path (tell-text (codes ",") (tell-text (name_of e.path) (tell-end (codes ")") (tell-parts e.kind e)))))
+
+-- bases
+tell-base : {bank : Bank} (paths : Paths) → Tell bank (base_pieces paths) (base_text (references_over bank paths)) paths
+tell-base [] = tell-nothing
+tell-base (path ∷ paths) = tell-text (codes " base(") (tell-end (codes ")") (tell-references (path ∷ paths)))
+
+-- constants, attributes and operations
+tell-value : {bank : Bank} (v : Option Value) → Tell bank (elim v [ None ↦ [] | Some w ↦ says (listed_value w) ]) (unwrap_or (option_map listed_value v) []) []
+tell-value None = tell-nothing
+tell-value (Some v) = tell-only (listed_value v)
+
+tell-constant : {bank : Bank} (e : Entity) → Tell bank (constant_pieces e) (constant_text (constant_over bank e)) (named_by e.data_type)
+tell-constant e = tell-text (codes " ") (tell-last (tell-type e.data_type) (tell-text (codes " ") (tell-value e.value)))
+
+tell-attribute : {bank : Bank} (e : Entity) → Tell bank (attribute_pieces e) (attribute_text (attribute_over bank e)) (named_by e.data_type ++ (raised_of e ++ raised_by_set_of e))
+tell-attribute e =
+    tell-text (flag e.is_readonly (codes " readonly "))
+    (tell-then (tell-type e.data_type)
+    (tell-text (codes " get(")
+    (tell-then (tell-references (raised_of e))
+    (tell-text (codes ") set(") (tell-end (codes ")") (tell-references (raised_by_set_of e)))))))
+
+tell-parameter : {bank : Bank} (m : Member) → Tell bank (parameter_pieces m) (parameter_text (parameter_over bank m)) (named_by_member m)
+tell-parameter m = tell-text (direction_word m.goes_in m.comes_out) (tell-text (codes " ") (tell-typed m))
+
+contexts-rest : (texts : List (List ℕ)) → flat_map (λ more. codes "," ++ context_word more) texts ≡ flat_map (λ more. codes "," ++ more) (map context_word texts)
+contexts-rest [] = refl
+contexts-rest (text ∷ texts) = ap (λ w. (codes "," ++ context_word text) ++ w) (contexts-rest texts)
+
+contexts-text : (texts : List (List ℕ)) → with_commas context_word texts ≡ with_commas (λ text. text) (map context_word texts)
+contexts-text [] = refl
+contexts-text (text ∷ texts) = ap (λ w. context_word text ++ w) (contexts-rest texts)
+
+tell-contexts : {bank : Bank} (texts : List (List ℕ)) → Tell bank (Says (with_commas context_word texts) ∷ says (codes ")")) (with_commas (λ text. text) (map context_word texts) ++ codes ")") []
+tell-contexts texts = tell-as (tell-text (with_commas context_word texts) (tell-only (codes ")"))) (ap (λ w. w ++ codes ")") (contexts-text texts))
+
+tell-operation : {bank : Bank} (e : Entity) → Tell bank (operation_pieces e) (operation_text (operation_over bank e)) (named_by e.data_type ++ (flat_map named_by_member (members_of e) ++ raised_of e))
+tell-operation {bank} e =
+    tell-text (flag e.is_oneway (codes " oneway "))
+    (tell-then (tell-type e.data_type)
+    (tell-text (codes " (")
+    (tell-then (tell-commas parameter_pieces (parameter_over bank) parameter_text named_by_member tell-parameter (members_of e))
+    (tell-text (codes ") raises(")
+    (tell-last (tell-references (raised_of e)) (tell-text (codes ") context(") (tell-contexts (contexts_of e))))))))
+
+-- what stands behind the id, of each kind
+abbrev of_kind : Entity → Kind → Bool → Entity
+of_kind e k is_local = record e { kind = k; is_local = is_local }
+
+tell-coded : {bank : Bank} {w : List ℕ} {a : Paths} (head : List ℕ) (e : Entity) → Tell bank (bases_pieces e) w a → Tell bank (code_pieces head e ++ bases_pieces e) (code_text bank head e ++ w) (e.path ∷ (referred_in e.kind e ++ a))
+tell-coded head e bases = tell-then (tell-code head e) bases
+
+tell-behind : {bank : Bank} (e : Entity) (k : Kind) (b : Bool) → Tell bank (behind_id (of_kind e k b)) (details_text k (details_over bank (of_kind e k b))) (referred (of_kind e k b))
+tell-behind e kind.Interface true = tell-coded (codes " tk_local_interface(") (of_kind e kind.Interface true) (tell-text (codes " bases(") (tell-end (codes ")") (tell-references e.bases)))
+tell-behind e kind.Interface false = tell-coded (codes " tk_objref(") (of_kind e kind.Interface false) (tell-text (codes " bases(") (tell-end (codes ")") (tell-references e.bases)))
+tell-behind e kind.Structure b = tell-coded (codes " tk_struct(") (of_kind e kind.Structure b) (tell-base e.bases)
+tell-behind e kind.Union b = tell-coded (codes " tk_union(") (of_kind e kind.Union b) tell-nothing
+tell-behind e kind.Exception b = tell-coded (codes " tk_except(") (of_kind e kind.Exception b) tell-nothing
+tell-behind e kind.Enumeration b = tell-coded (codes " tk_enum(") (of_kind e kind.Enumeration b) tell-nothing
+tell-behind e kind.Alias b = tell-coded (codes " tk_alias(") (of_kind e kind.Alias b) tell-nothing
+tell-behind e kind.Native b = tell-coded (codes " tk_native(") (of_kind e kind.Native b) tell-nothing
+tell-behind e kind.Constant b = tell-constant (of_kind e kind.Constant b)
+tell-behind e kind.Attribute b = tell-attribute (of_kind e kind.Attribute b)
+tell-behind e kind.Operation b = tell-operation (of_kind e kind.Operation b)
+tell-behind e other b = tell-nothing
+
+tell-row : (bank : Bank) (e : Entity) → Tell bank (row_pieces e) (row_of (tree_over bank e)) (e.path ∷ referred e)
+tell-row bank e =
+    tell-text (kind_word e.kind) (tell-text (codes " ") (tell-text (path_text e.path) (tell-text (codes " ") (tell-id e.path (tell-behind e e.kind e.is_local)))))
+
+-- the row of what is declared so is what its tree is printed as
+pub row-printed : (bank : Bank) (e : Entity) → text_over bank (row_pieces e) ≡ row_of (tree_over bank e)
+row-printed bank e = (tell-row bank e).is
+
+-- it tells its own id and those of what it refers to
+pub ids-row : (e : Entity) (bank : Bank) → ids_in bank (row_pieces e) ≡ flat_map (asked_of bank) (e.path ∷ referred e)
+ids-row e bank = (tell-row bank e).ids
+
+-- a TypeCode its own and those of the types that it names
+pub ids-code : (head : List ℕ) (e : Entity) (bank : Bank) → ids_in bank (code_pieces head e) ≡ flat_map (asked_of bank) (e.path ∷ referred_in e.kind e)
+ids-code head e bank = let told : Tell bank (code_pieces head e) (code_text bank head e) (e.path ∷ referred_in e.kind e) = tell-code head e in told.ids
