@@ -6,8 +6,8 @@ use Rattle.std.proofs.lemmas.List.{append-nil}
 use Rattle.idl_repo.proofs.WriteLemmas.{ids_in-append, text_over-append}
 use Rattle.idl_repo.specs.Pieces.{IdOf, Pieces, Says, asked_of, commas, ids_in, says, text_over, with_commas}
 use Rattle.idl_repo.specs.Referred.{Paths, named_by, named_by_labels, named_by_member, named_in, referred, referred_in}
-use Rattle.idl_repo.specs.Row.{attribute_pieces, base_pieces, bases_pieces, behind_id, constant_pieces, context_word, contexts_of, direction_word, flag, kind_word, operation_pieces, parameter_pieces, path_text, raised_by_set_of, raised_of, references, row_pieces}
-use Rattle.idl_repo.specs.TypeCode.{code_pieces, default_of, default_word, element_pieces, entries_of, entry_pieces, label_word, labelled_pieces, layer_end, layers_begin, listed_value, member_pieces, members_of, part_pieces, reference, type_behind, type_pieces, typed_pieces}
+use Rattle.idl_repo.specs.Row.{attribute_pieces, base_pieces, bases_pieces, behind_id, constant_pieces, context_word, direction_word, flag, kind_word, operation_pieces, parameter_pieces, path_text, references, row_pieces}
+use Rattle.idl_repo.specs.TypeCode.{code_pieces, default_of, default_word, element_pieces, entries_of, entry_pieces, label_word, labelled_pieces, layer_end, layers_begin, listed_value, member_pieces, part_pieces, reference, shown, type_behind, type_pieces, typed_pieces}
 use Rattle.idl_repo.specs.details.Print.{attribute_text, base_text, case_behind, constant_text, details_text, element_text, member_behind, member_text, operation_text, parameter_text, parts_text, reference_text, references_text, row_of, type_text}
 use Rattle.idl_repo.specs.details.Tree.{Bank, attribute_over, case_over, cases_of, constant_over, details_over, element_over, id_over, member_over, operation_over, parameter_over, parts_over, reference_over, references_over, tree_over, type_over}
 use Rattle.idl_repo.specs.declared.details.type_code_tree.TypeCodeParts.TheVariants as parts
@@ -121,10 +121,10 @@ interface-parts false = refl
 
 tell-parts : {bank : Bank} (k : Kind) (e : Entity) → Tell bank (part_pieces k e) (option_map_or parts_text (parts_over bank k e) []) (referred_in k e)
 tell-parts kind.Interface e = tell-as tell-nothing (interface-parts e.is_local)
-tell-parts kind.Structure e = tell-members (members_of e)
-tell-parts kind.Exception e = tell-members (members_of e)
+tell-parts kind.Structure e = tell-members (shown e).members
+tell-parts kind.Exception e = tell-members (shown e).members
 tell-parts {bank} kind.Union e =
-    tell-as (tell-then (tell-type_behind e.data_type) (tell-entries (members_of e))) (append_assoc (codes ",") (type_text (type_over bank e.data_type)) _)
+    tell-as (tell-then (tell-type_behind e.data_type) (tell-entries (shown e).members)) (append_assoc (codes ",") (type_text (type_over bank e.data_type)) _)
 tell-parts kind.Enumeration e = tell-only _
 tell-parts kind.Alias e = tell-type_behind e.data_type
 tell-parts other e = tell-nothing
@@ -150,13 +150,13 @@ tell-value (Some v) = tell-only (listed_value v)
 tell-constant : {bank : Bank} (e : Entity) → Tell bank (constant_pieces e) (constant_text (constant_over bank e)) (named_by e.data_type)
 tell-constant e = tell-text (codes " ") (tell-last (tell-type e.data_type) (tell-text (codes " ") (tell-value e.value)))
 
-tell-attribute : {bank : Bank} (e : Entity) → Tell bank (attribute_pieces e) (attribute_text (attribute_over bank e)) (named_by e.data_type ++ (raised_of e ++ raised_by_set_of e))
+tell-attribute : {bank : Bank} (e : Entity) → Tell bank (attribute_pieces e) (attribute_text (attribute_over bank e)) (named_by e.data_type ++ ((shown e).raised ++ (shown e).raised_by_set))
 tell-attribute e =
     tell-text (flag e.is_readonly (codes " readonly "))
     (tell-then (tell-type e.data_type)
     (tell-text (codes " get(")
-    (tell-then (tell-references (raised_of e))
-    (tell-text (codes ") set(") (tell-end (codes ")") (tell-references (raised_by_set_of e)))))))
+    (tell-then (tell-references (shown e).raised)
+    (tell-text (codes ") set(") (tell-end (codes ")") (tell-references (shown e).raised_by_set))))))
 
 tell-parameter : {bank : Bank} (m : Member) → Tell bank (parameter_pieces m) (parameter_text (parameter_over bank m)) (named_by_member m)
 tell-parameter m = tell-text (direction_word m.goes_in m.comes_out) (tell-text (codes " ") (tell-typed m))
@@ -172,14 +172,14 @@ contexts-text (text ∷ texts) = ap (λ w. context_word text ++ w) (contexts-res
 tell-contexts : {bank : Bank} (texts : List (List ℕ)) → Tell bank (Says (with_commas context_word texts) ∷ says (codes ")")) (with_commas (λ text. text) (map context_word texts) ++ codes ")") []
 tell-contexts texts = tell-as (tell-text (with_commas context_word texts) (tell-only (codes ")"))) (ap (λ w. w ++ codes ")") (contexts-text texts))
 
-tell-operation : {bank : Bank} (e : Entity) → Tell bank (operation_pieces e) (operation_text (operation_over bank e)) (named_by e.data_type ++ (flat_map named_by_member (members_of e) ++ raised_of e))
+tell-operation : {bank : Bank} (e : Entity) → Tell bank (operation_pieces e) (operation_text (operation_over bank e)) (named_by e.data_type ++ (flat_map named_by_member (shown e).members ++ (shown e).raised))
 tell-operation {bank} e =
     tell-text (flag e.is_oneway (codes " oneway "))
     (tell-then (tell-type e.data_type)
     (tell-text (codes " (")
-    (tell-then (tell-commas parameter_pieces (parameter_over bank) parameter_text named_by_member tell-parameter (members_of e))
+    (tell-then (tell-commas parameter_pieces (parameter_over bank) parameter_text named_by_member tell-parameter (shown e).members)
     (tell-text (codes ") raises(")
-    (tell-last (tell-references (raised_of e)) (tell-text (codes ") context(") (tell-contexts (contexts_of e))))))))
+    (tell-last (tell-references (shown e).raised) (tell-text (codes ") context(") (tell-contexts (shown e).contexts)))))))
 
 -- what stands behind the id, of each kind
 abbrev of_kind : Entity → Kind → Bool → Entity

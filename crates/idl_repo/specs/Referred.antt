@@ -1,8 +1,7 @@
 -- The paths that a row refers to, in its order: those of named types, of bases, and of exceptions.
 -- What is declared at such a path is not looked at.
 use Rattle.std.specs.Prelude.{ℕ, List, [], ◌∷◌, ◌++◌, flat_map, Option, None, Some, if◌then◌else◌}
-use Rattle.idl_repo.specs.Row.{raised_by_set_of, raised_of}
-use Rattle.idl_repo.specs.TypeCode.{head_of, members_of}
+use Rattle.idl_repo.specs.TypeCode.{head_of, shown}
 use Rattle.idl_entity.specs.Kind.{kind_eq}
 use Rattle.idl_entity.specs.declared.data_type.DataType.{DataType}
 use Rattle.idl_entity.specs.declared.data_type.Element.{Element}
@@ -33,9 +32,9 @@ named_by_labels m = flat_map (λ label. named_by_member m) m.labels
 
 -- those in a TypeCode, behind its own id
 abbrev pub referred_in : Kind → Entity → Paths
-referred_in kind.Structure e = flat_map named_by_member (members_of e)
-referred_in kind.Exception e = flat_map named_by_member (members_of e)
-referred_in kind.Union e = named_by e.data_type ++ flat_map named_by_labels (members_of e)
+referred_in kind.Structure e = flat_map named_by_member (shown e).members
+referred_in kind.Exception e = flat_map named_by_member (shown e).members
+referred_in kind.Union e = named_by e.data_type ++ flat_map named_by_labels (shown e).members
 referred_in kind.Alias e = named_by e.data_type
 referred_in other e = []
 
@@ -50,9 +49,9 @@ abbrev pub referred_by_uncoded : Entity → Paths
 referred_by_uncoded e =
     if kind_eq e.kind kind.Constant then named_by e.data_type
     else if kind_eq e.kind kind.Attribute
-    then named_by e.data_type ++ (raised_of e ++ raised_by_set_of e)
+    then named_by e.data_type ++ ((shown e).raised ++ (shown e).raised_by_set)
     else if kind_eq e.kind kind.Operation
-    then named_by e.data_type ++ (flat_map named_by_member (members_of e) ++ raised_of e)
+    then named_by e.data_type ++ (flat_map named_by_member (shown e).members ++ (shown e).raised)
     else []
 
 -- those of a row, behind its own id: a TypeCode tells that again

@@ -1,7 +1,7 @@
 -- The rows of a listing: one equation for each line of the format.
 use Rattle.std.specs.Prelude.{ℕ, Bool, true, false, List, [], ◌∷◌, ◌++◌, codes, None, Some, if◌then◌else◌}
 use Rattle.idl_repo.specs.Pieces.{Pieces, IdOf, Says, commas, says, with_commas}
-use Rattle.idl_repo.specs.TypeCode.{code_pieces, head_of, listed_value, members_of, reference, type_pieces, typed_pieces}
+use Rattle.idl_repo.specs.TypeCode.{code_pieces, head_of, listed_value, reference, shown, type_pieces, typed_pieces}
 use Rattle.idl_entity.specs.Kind.{kind_eq}
 use Rattle.idl_entity.specs.declared.entity.Entity.{Entity}
 use Rattle.idl_entity.specs.declared.kind.Kind.{Kind}
@@ -33,16 +33,6 @@ path_text (name ∷ scope ∷ outer) = path_text (scope ∷ outer) ++ (codes "::
 
 abbrev pub references : List (List (List ℕ)) → Pieces
 references paths = commas reference paths
-
--- what an entity raises, what writing it raises, and the texts of its context
-abbrev pub raised_of : Entity → List (List (List ℕ))
-raised_of e = elim e.signature [ None ↦ [] | Some s ↦ s.raised ]
-
-abbrev pub raised_by_set_of : Entity → List (List (List ℕ))
-raised_by_set_of e = elim e.signature [ None ↦ [] | Some s ↦ s.raised_by_set ]
-
-abbrev pub contexts_of : Entity → List (List ℕ)
-contexts_of e = elim e.signature [ None ↦ [] | Some s ↦ s.contexts ]
 
 -- the base of a struct, if it has one
 abbrev pub base_pieces : List (List (List ℕ)) → Pieces
@@ -76,9 +66,9 @@ attribute_pieces e =
     Says (flag e.is_readonly (codes " readonly "))
     ∷ (type_pieces e.data_type
     ++ Says (codes " get(")
-    ∷ (references (raised_of e)
+    ∷ (references (shown e).raised
     ++ Says (codes ") set(")
-    ∷ (references (raised_by_set_of e) ++ says (codes ")"))))
+    ∷ (references (shown e).raised_by_set ++ says (codes ")"))))
 
 abbrev pub direction_word : Bool → Bool → List ℕ
 direction_word true true = codes "inout"
@@ -99,11 +89,11 @@ operation_pieces e =
     Says (flag e.is_oneway (codes " oneway "))
     ∷ (type_pieces e.data_type
     ++ Says (codes " (")
-    ∷ (commas parameter_pieces (members_of e)
+    ∷ (commas parameter_pieces (shown e).members
     ++ Says (codes ") raises(")
-    ∷ (references (raised_of e)
+    ∷ (references (shown e).raised
     ++ Says (codes ") context(")
-    ∷ Says (with_commas context_word (contexts_of e)) ∷ says (codes ")"))))
+    ∷ Says (with_commas context_word (shown e).contexts) ∷ says (codes ")"))))
 
 -- what stands behind the id of a name that has no TypeCode
 abbrev pub uncoded_pieces : Entity → Pieces

@@ -14,6 +14,7 @@ use Rattle.idl_entity.specs.declared.entity.Entity.{Entity}
 use Rattle.idl_entity.specs.declared.kind.Kind.{Kind}
 use Rattle.idl_entity.specs.declared.kind.Kind.TheVariants as kind
 use Rattle.idl_entity.specs.declared.signature.Member.{Member}
+use Rattle.idl_entity.specs.declared.signature.Signature.{Signature}
 use Rattle.idl_value.specs.Spelled.{value_word}
 use Rattle.idl_value.specs.declared.integer.IntegerKind.{IntegerKind}
 use Rattle.idl_value.specs.declared.integer.IntegerKind.TheVariants as integer
@@ -142,9 +143,10 @@ abbrev pub entries_of : List Member → Pieces
 entries_of members =
     Says (codes ",") ∷ Says (default_word (default_of members)) ∷ flat_map labelled_pieces members
 
--- the members of an entity, or its parameters
-abbrev pub members_of : Entity → List Member
-members_of e = elim e.signature [ None ↦ [] | Some s ↦ s.members ]
+-- what an entity shows behind its name: nothing, where that isn't told
+abbrev pub shown : Entity → Signature
+shown e =
+    unwrap_or e.signature (record { members = []; raised = []; raised_by_set = []; contexts = [] })
 
 abbrev pub enumerator_word : List ℕ → List ℕ
 enumerator_word name = codes "," ++ name
@@ -166,9 +168,9 @@ head_of e = code_head e.kind e.is_local
 
 -- what stands there behind the id and the name
 abbrev pub part_pieces : Kind → Entity → Pieces
-part_pieces kind.Structure e = flat_map member_pieces (members_of e)
-part_pieces kind.Exception e = flat_map member_pieces (members_of e)
-part_pieces kind.Union e = type_behind e.data_type ++ entries_of (members_of e)
+part_pieces kind.Structure e = flat_map member_pieces (shown e).members
+part_pieces kind.Exception e = flat_map member_pieces (shown e).members
+part_pieces kind.Union e = type_behind e.data_type ++ entries_of (shown e).members
 part_pieces kind.Enumeration e = says (flat_map enumerator_word e.enumerators)
 part_pieces kind.Alias e = type_behind e.data_type
 part_pieces other e = []

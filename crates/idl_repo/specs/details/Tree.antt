@@ -31,8 +31,8 @@ use Rattle.idl_entity.specs.declared.signature.Member.{Member}
 use Rattle.idl_env.specs.declared.answering.answer.Answer.{Answer}
 use Rattle.idl_env.specs.declared.keys.key.Key.{Key}
 use Rattle.idl_repo.specs.Referred.{listed_bases}
-use Rattle.idl_repo.specs.Row.{context_word, contexts_of, path_text, raised_by_set_of, raised_of}
-use Rattle.idl_repo.specs.TypeCode.{default_of, listed_value, members_of}
+use Rattle.idl_repo.specs.Row.{context_word, path_text}
+use Rattle.idl_repo.specs.TypeCode.{default_of, listed_value, shown}
 use Rattle.idl_scope.specs.Known.{id_of}
 use Rattle.idl_value.specs.declared.value.Value.{Value}
 
@@ -66,7 +66,7 @@ abbrev pub member_over : Bank → Member → MemberTree
 member_over bank m = record { name = m.name; data_type = type_over bank m.data_type }
 
 abbrev pub members_over : Bank → Entity → List MemberTree
-members_over bank e = map (member_over bank) (members_of e)
+members_over bank e = map (member_over bank) (shown e).members
 
 -- of a union an entry for each label of each member
 abbrev pub case_over : Bank → Member → Option Value → CaseTree
@@ -79,8 +79,8 @@ cases_of bank m = map (case_over bank m) m.labels
 abbrev pub union_over : Bank → Entity → UnionTree
 union_over bank e = record {
   discriminator = type_over bank e.data_type;
-  default = default_of (members_of e);
-  cases = flat_map (cases_of bank) (members_of e);
+  default = default_of (shown e).members;
+  cases = flat_map (cases_of bank) (shown e).members;
 }
 
 -- what a TypeCode is of, if there is one, and what it has behind its name
@@ -114,8 +114,8 @@ abbrev pub attribute_over : Bank → Entity → AttributeTree
 attribute_over bank e = record {
   is_readonly = e.is_readonly;
   data_type = type_over bank e.data_type;
-  raised = references_over bank (raised_of e);
-  raised_by_set = references_over bank (raised_by_set_of e);
+  raised = references_over bank (shown e).raised;
+  raised_by_set = references_over bank (shown e).raised_by_set;
 }
 
 abbrev pub parameter_over : Bank → Member → ParameterTree
@@ -126,9 +126,9 @@ abbrev pub operation_over : Bank → Entity → OperationTree
 operation_over bank e = record {
   is_oneway = e.is_oneway;
   data_type = type_over bank e.data_type;
-  parameters = map (parameter_over bank) (members_of e);
-  raised = references_over bank (raised_of e);
-  contexts = map context_word (contexts_of e);
+  parameters = map (parameter_over bank) (shown e).members;
+  raised = references_over bank (shown e).raised;
+  contexts = map context_word (shown e).contexts;
 }
 
 abbrev pub details_over : Bank → Entity → RowDetails
