@@ -93,7 +93,7 @@ module _ (bank : Key → Option Answer) where
     where
       by_answer : (o : Option Entity) → entity_in (bank (entity_key path)) ≡ o → IsIn k (asked (entry_in o) bank) → AsksEntry bank path k
       by_answer None is i = absurd i
-      by_answer (Some e) is i = let t = (each-asks (e.path ∷ referred e) k).0 (subst (IsIn k) (declared-ids e bank) i) in inr (e, is, t.0, t.1, t.2)
+      by_answer (Some e) is i = let t = (each-asks (e.path ∷ referred e.kind e) k).0 (subst (IsIn k) (declared-ids e bank) i) in inr (e, is, t.0, t.1, t.2)
 
       there : IsIn k (entity_key path ∷ asked (entry_in (entity_in (bank (entity_key path)))) bank) → AsksEntry bank path k
       there (inl e) = inl (sym e)
@@ -103,4 +103,4 @@ module _ (bank : Key → Option Answer) where
       back (inl e) = inl (sym e)
       back (inr a) =
           inr (subst (λ o. IsIn k (asked (entry_in o) bank)) (sym a.1)
-          (subst (IsIn k) (sym (declared-ids a.0 bank)) ((each-asks (a.0.path ∷ referred a.0) k).1 (a.2, a.3, a.4))))
+          (subst (IsIn k) (sym (declared-ids a.0 bank)) ((each-asks (a.0.path ∷ referred a.0.kind a.0) k).1 (a.2, a.3, a.4))))

@@ -12,4 +12,4 @@ abbrev pub AsksEntry : (Key → Option Answer) → List (List ℕ) → Key → T
 AsksEntry answers path k =
     (k ≡ entity_key path)
     ⊎ ((e : Entity) × (entity_in (answers (entity_key path)) ≡ Some e)
-    × (p : List (List ℕ)) × Contains (e.path ∷ referred e) p × AsksId answers p k)
+    × (p : List (List ℕ)) × Contains (e.path ∷ referred e.kind e) p × AsksId answers p k)

@@ -26,7 +26,7 @@ declared-outcome e bank = outcome-and_then (written [] (row_pieces e)) (λ text.
 pub declared-asked : (e : ScopeEntity) (bank : Key → Option Answer) → asked (declared_entry e) bank ≡ ids_in bank (row_pieces e)
 declared-asked e bank = asked-and_then (written [] (row_pieces e)) (λ text. Done (told_entry e text)) bank ∙ append-nil (asked (written [] (row_pieces e)) bank) ∙ asked-by-written bank [] (row_pieces e)
 
-pub declared-ids : (e : ScopeEntity) (bank : Key → Option Answer) → asked (declared_entry e) bank ≡ flat_map (asked_of bank) (e.path ∷ referred e)
+pub declared-ids : (e : ScopeEntity) (bank : Key → Option Answer) → asked (declared_entry e) bank ≡ flat_map (asked_of bank) (e.path ∷ referred e.kind e)
 declared-ids e bank = declared-asked e bank ∙ ids-row e bank
 
 -- of the name at a path
@@ -38,7 +38,7 @@ pub entry-unknown : (path : List (List ℕ)) (bank : Key → Option Answer) → 
 unfolding entry
 entry-unknown path bank is = ap (λ there. outcome (entry_in there) bank) is
 
-pub entry-asked : (path : List (List ℕ)) (bank : Key → Option Answer) (e : ScopeEntity) → entity_in (bank (entity_key path)) ≡ Some e → asked (entry path) bank ≡ entity_key path ∷ flat_map (asked_of bank) (e.path ∷ referred e)
+pub entry-asked : (path : List (List ℕ)) (bank : Key → Option Answer) (e : ScopeEntity) → entity_in (bank (entity_key path)) ≡ Some e → asked (entry path) bank ≡ entity_key path ∷ flat_map (asked_of bank) (e.path ∷ referred e.kind e)
 unfolding entry
 entry-asked path bank e is = ap (λ keys. entity_key path ∷ keys) (ap (λ there. asked (entry_in there) bank) is ∙ declared-ids e bank)
 

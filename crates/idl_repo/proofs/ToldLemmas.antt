@@ -1,15 +1,15 @@
 -- What a row tells: its text, which is what its tree is printed as, and the ids.
-use Rattle.std.proofs.Common.{◌≡◌, ◌∙◌, ℕ, List, [], ◌∷◌, ◌++◌, Bool, true, false, Option, None, Some, codes, if◌then◌else◌, refl, sym, ap, append_assoc, flat_map, map}
-use Rattle.std.specs.Option.{option_map, option_map_or, unwrap_or}
+use Rattle.std.proofs.Common.{◌≡◌, ◌∙◌, ℕ, List, [], ◌∷◌, ◌++◌, Bool, true, false, Option, None, Some, codes, refl, sym, ap, append_assoc, flat_map, map}
+use Rattle.std.specs.Option.{option_map, unwrap_or}
 use Rattle.std.proofs.lemmas.Grind.{flat_map-append}
 use Rattle.std.proofs.lemmas.List.{append-nil}
 use Rattle.idl_repo.proofs.WriteLemmas.{ids_in-append, text_over-append}
 use Rattle.idl_repo.specs.Pieces.{IdOf, Pieces, Says, asked_of, commas, ids_in, says, text_over, with_commas}
-use Rattle.idl_repo.specs.Referred.{Paths, named_by, named_by_labels, named_by_member, named_in, referred, referred_in}
+use Rattle.idl_repo.specs.Referred.{Paths, named_by, named_by_labels, named_by_member, named_in, referred}
 use Rattle.idl_repo.specs.Row.{attribute_pieces, base_pieces, bases_pieces, behind_id, constant_pieces, context_word, direction_word, flag, kind_word, operation_pieces, parameter_pieces, path_text, references, row_pieces}
-use Rattle.idl_repo.specs.TypeCode.{code_pieces, default_of, default_word, element_pieces, entries_of, entry_pieces, label_word, labelled_pieces, layer_end, layers_begin, listed_value, member_pieces, part_pieces, reference, shown, type_behind, type_pieces, typed_pieces}
+use Rattle.idl_repo.specs.TypeCode.{code_pieces, default_of, default_word, element_pieces, entries_of, entry_pieces, label_word, labelled_pieces, layer_end, layers_begin, listed_value, member_pieces, reference, shown, type_behind, type_pieces, typed_pieces}
 use Rattle.idl_repo.specs.details.Print.{attribute_text, base_text, case_behind, constant_text, details_text, element_text, member_behind, member_text, operation_text, parameter_text, parts_text, reference_text, references_text, row_of, type_text}
-use Rattle.idl_repo.specs.details.Tree.{Bank, attribute_over, case_over, cases_of, constant_over, details_over, element_over, id_over, member_over, operation_over, parameter_over, parts_over, reference_over, references_over, tree_over, type_over}
+use Rattle.idl_repo.specs.details.Tree.{Bank, attribute_over, case_over, cases_of, constant_over, details_over, element_over, id_over, member_over, operation_over, parameter_over, reference_over, references_over, tree_over, type_over, union_over}
 use Rattle.idl_repo.specs.declared.details.type_code_tree.TypeCodeParts.TheVariants as parts
 use Rattle.idl_entity.specs.Path.{name_of}
 use Rattle.idl_entity.specs.declared.data_type.DataType.{DataType}
@@ -114,33 +114,28 @@ tell-cases {bank} (m ∷ members) = tell-as (tell-then (tell-labelled m) (tell-c
 tell-entries : {bank : Bank} (members : List Member) → Tell bank (entries_of members) (codes "," ++ (default_word (default_of members) ++ flat_map case_behind (flat_map (cases_of bank) members))) (flat_map named_by_labels members)
 tell-entries members = tell-text (codes ",") (tell-text (default_word (default_of members)) (tell-cases members))
 
--- TypeCodes
-interface-parts : (is_local : Bool) → [] ≡ parts_text (if is_local then parts.LocalInterface else parts.ObjectReference)
-interface-parts true = refl
-interface-parts false = refl
-
-tell-parts : {bank : Bank} (k : Kind) (e : Entity) → Tell bank (part_pieces k e) (option_map_or parts_text (parts_over bank k e) []) (referred_in k e)
-tell-parts kind.Interface e = tell-as tell-nothing (interface-parts e.is_local)
-tell-parts kind.Structure e = tell-members (shown e).members
-tell-parts kind.Exception e = tell-members (shown e).members
-tell-parts {bank} kind.Union e =
+tell-union : {bank : Bank} (e : Entity) → Tell bank (type_behind e.data_type ++ entries_of (shown e).members) (parts_text (parts.Union (union_over bank e))) (named_by e.data_type ++ flat_map named_by_labels (shown e).members)
+tell-union {bank} e =
     tell-as (tell-then (tell-type_behind e.data_type) (tell-entries (shown e).members)) (append_assoc (codes ",") (type_text (type_over bank e.data_type)) _)
-tell-parts kind.Enumeration e = tell-only _
-tell-parts kind.Alias e = tell-type_behind e.data_type
-tell-parts other e = tell-nothing
 
-abbrev code_text : Bank → List ℕ → Entity → List ℕ
-code_text bank head e =
-    head ++ (id_over bank e.path ++ (codes "," ++ (name_of e.path ++ (option_map_or parts_text (parts_over bank e.kind e) [] ++ codes ")"))))
+-- TypeCodes
+abbrev code_text : Bank → List ℕ → Entity → List ℕ → List ℕ
+code_text bank head e w = head ++ (id_over bank e.path ++ (codes "," ++ (name_of e.path ++ (w ++ codes ")"))))
 
-tell-code : {bank : Bank} (head : List ℕ) (e : Entity) → Tell bank (code_pieces head e) (code_text bank head e) (e.path ∷ referred_in e.kind e)
-tell-code head e =
-    tell-text head (tell-id e.path (tell-text (codes ",") (tell-text (name_of e.path) (tell-end (codes ")") (tell-parts e.kind e)))))
+tell-code : {bank : Bank} {p : Pieces} {w : List ℕ} {a : Paths} (head : List ℕ) (e : Entity) → Tell bank p w a → Tell bank (code_pieces head e p) (code_text bank head e w) (e.path ∷ a)
+tell-code head e parts = tell-text head (tell-id e.path (tell-text (codes ",") (tell-text (name_of e.path) (tell-end (codes ")") parts))))
+
+-- one without bases
+tell-alone : {bank : Bank} {p : Pieces} {w : List ℕ} {a : Paths} (head : List ℕ) (e : Entity) → Tell bank p w a → Tell bank (code_pieces head e p) (code_text bank head e w ++ []) (e.path ∷ a)
+tell-alone {bank} {p} {w} {a} head e parts = tell-as (tell-code head e parts) (sym (append-nil (code_text bank head e w)))
 
 -- bases
 tell-base : {bank : Bank} (paths : Paths) → Tell bank (base_pieces paths) (base_text (references_over bank paths)) paths
 tell-base [] = tell-nothing
 tell-base (path ∷ paths) = tell-text (codes " base(") (tell-end (codes ")") (tell-references (path ∷ paths)))
+
+tell-bases : {bank : Bank} (paths : Paths) → Tell bank (bases_pieces paths) (codes " bases(" ++ (references_text (references_over bank paths) ++ codes ")")) paths
+tell-bases paths = tell-text (codes " bases(") (tell-end (codes ")") (tell-references paths))
 
 -- constants, attributes and operations
 tell-value : {bank : Bank} (v : Option Value) → Tell bank (elim v [ None ↦ [] | Some w ↦ says (listed_value w) ]) (unwrap_or (option_map listed_value v) []) []
@@ -185,35 +180,34 @@ tell-operation {bank} e =
 abbrev of_kind : Entity → Kind → Bool → Entity
 of_kind e k is_local = record e { kind = k; is_local = is_local }
 
-tell-coded : {bank : Bank} {w : List ℕ} {a : Paths} (head : List ℕ) (e : Entity) → Tell bank (bases_pieces e) w a → Tell bank (code_pieces head e ++ bases_pieces e) (code_text bank head e ++ w) (e.path ∷ (referred_in e.kind e ++ a))
-tell-coded head e bases = tell-then (tell-code head e) bases
-
-tell-behind : {bank : Bank} (e : Entity) (k : Kind) (b : Bool) → Tell bank (behind_id (of_kind e k b)) (details_text k (details_over bank (of_kind e k b))) (referred (of_kind e k b))
-tell-behind e kind.Interface true = tell-coded (codes " tk_local_interface(") (of_kind e kind.Interface true) (tell-text (codes " bases(") (tell-end (codes ")") (tell-references e.bases)))
-tell-behind e kind.Interface false = tell-coded (codes " tk_objref(") (of_kind e kind.Interface false) (tell-text (codes " bases(") (tell-end (codes ")") (tell-references e.bases)))
-tell-behind e kind.Structure b = tell-coded (codes " tk_struct(") (of_kind e kind.Structure b) (tell-base e.bases)
-tell-behind e kind.Union b = tell-coded (codes " tk_union(") (of_kind e kind.Union b) tell-nothing
-tell-behind e kind.Exception b = tell-coded (codes " tk_except(") (of_kind e kind.Exception b) tell-nothing
-tell-behind e kind.Enumeration b = tell-coded (codes " tk_enum(") (of_kind e kind.Enumeration b) tell-nothing
-tell-behind e kind.Alias b = tell-coded (codes " tk_alias(") (of_kind e kind.Alias b) tell-nothing
-tell-behind e kind.Native b = tell-coded (codes " tk_native(") (of_kind e kind.Native b) tell-nothing
-tell-behind e kind.Constant b = tell-constant (of_kind e kind.Constant b)
-tell-behind e kind.Attribute b = tell-attribute (of_kind e kind.Attribute b)
-tell-behind e kind.Operation b = tell-operation (of_kind e kind.Operation b)
+tell-behind : {bank : Bank} (e : Entity) (k : Kind) (b : Bool) → Tell bank (behind_id k (of_kind e k b)) (details_text k (details_over bank (of_kind e k b))) (referred k (of_kind e k b))
+tell-behind e kind.Interface true = tell-then (tell-code (codes " tk_local_interface(") (of_kind e kind.Interface true) tell-nothing) (tell-bases e.bases)
+tell-behind e kind.Interface false = tell-then (tell-code (codes " tk_objref(") (of_kind e kind.Interface false) tell-nothing) (tell-bases e.bases)
+tell-behind e kind.Structure b = tell-then (tell-code (codes " tk_struct(") (of_kind e kind.Structure b) (tell-members (shown e).members)) (tell-base e.bases)
+tell-behind e kind.Union b = tell-alone (codes " tk_union(") (of_kind e kind.Union b) (tell-union e)
+tell-behind e kind.Exception b = tell-alone (codes " tk_except(") (of_kind e kind.Exception b) (tell-members (shown e).members)
+tell-behind e kind.Enumeration b = tell-alone (codes " tk_enum(") (of_kind e kind.Enumeration b) (tell-only _)
+tell-behind e kind.Alias b = tell-alone (codes " tk_alias(") (of_kind e kind.Alias b) (tell-type_behind e.data_type)
+tell-behind e kind.Native b = tell-alone (codes " tk_native(") (of_kind e kind.Native b) tell-nothing
+tell-behind e kind.Constant b = tell-constant e
+tell-behind e kind.Attribute b = tell-attribute e
+tell-behind e kind.Operation b = tell-operation e
 tell-behind e other b = tell-nothing
 
-tell-row : (bank : Bank) (e : Entity) → Tell bank (row_pieces e) (row_of (tree_over bank e)) (e.path ∷ referred e)
+tell-told : (bank : Bank) (e : Entity) → Tell bank (behind_id e.kind e) (details_text e.kind (details_over bank e)) (referred e.kind e)
+tell-told bank e = tell-behind e e.kind e.is_local
+
+tell-row : (bank : Bank) (e : Entity) → Tell bank (row_pieces e) (row_of (tree_over bank e)) (e.path ∷ referred e.kind e)
 tell-row bank e =
-    tell-text (kind_word e.kind) (tell-text (codes " ") (tell-text (path_text e.path) (tell-text (codes " ") (tell-id e.path (tell-behind e e.kind e.is_local)))))
+    tell-text (kind_word e.kind) (tell-text (codes " ") (tell-text (path_text e.path) (tell-text (codes " ") (tell-id e.path (tell-told bank e)))))
 
 -- the row of what is declared so is what its tree is printed as
 pub row-printed : (bank : Bank) (e : Entity) → text_over bank (row_pieces e) ≡ row_of (tree_over bank e)
 row-printed bank e = (tell-row bank e).is
 
--- it tells its own id and those of what it refers to
-pub ids-row : (e : Entity) (bank : Bank) → ids_in bank (row_pieces e) ≡ flat_map (asked_of bank) (e.path ∷ referred e)
+-- it tells its own id, and behind it those of what it refers to
+pub ids-row : (e : Entity) (bank : Bank) → ids_in bank (row_pieces e) ≡ flat_map (asked_of bank) (e.path ∷ referred e.kind e)
 ids-row e bank = (tell-row bank e).ids
 
--- a TypeCode its own and those of the types that it names
-pub ids-code : (head : List ℕ) (e : Entity) (bank : Bank) → ids_in bank (code_pieces head e) ≡ flat_map (asked_of bank) (e.path ∷ referred_in e.kind e)
-ids-code head e bank = let told : Tell bank (code_pieces head e) (code_text bank head e) (e.path ∷ referred_in e.kind e) = tell-code head e in told.ids
+pub ids-behind : (e : Entity) (bank : Bank) → ids_in bank (behind_id e.kind e) ≡ flat_map (asked_of bank) (referred e.kind e)
+ids-behind e bank = (tell-told bank e).ids

@@ -1,8 +1,7 @@
 -- The rows of a listing: one equation for each line of the format.
-use Rattle.std.specs.Prelude.{ℕ, Bool, true, false, List, [], ◌∷◌, ◌++◌, codes, None, Some, if◌then◌else◌}
+use Rattle.std.specs.Prelude.{ℕ, Bool, true, false, List, [], ◌∷◌, ◌++◌, codes, flat_map, None, Some}
 use Rattle.idl_repo.specs.Pieces.{Pieces, IdOf, Says, commas, says, with_commas}
-use Rattle.idl_repo.specs.TypeCode.{code_pieces, head_of, listed_value, reference, shown, type_pieces, typed_pieces}
-use Rattle.idl_entity.specs.Kind.{kind_eq}
+use Rattle.idl_repo.specs.TypeCode.{code_pieces, entries_of, enumerator_word, interface_head, listed_value, member_pieces, reference, shown, type_behind, type_pieces, typed_pieces}
 use Rattle.idl_entity.specs.declared.entity.Entity.{Entity}
 use Rattle.idl_entity.specs.declared.kind.Kind.{Kind}
 use Rattle.idl_entity.specs.declared.kind.Kind.TheVariants as kind
@@ -34,18 +33,14 @@ path_text (name ∷ scope ∷ outer) = path_text (scope ∷ outer) ++ (codes "::
 abbrev pub references : List (List (List ℕ)) → Pieces
 references paths = commas reference paths
 
--- the base of a struct, if it has one
+-- the bases of an interface, and the base of a struct, if it has one
+abbrev pub bases_pieces : List (List (List ℕ)) → Pieces
+bases_pieces paths = Says (codes " bases(") ∷ (references paths ++ says (codes ")"))
+
 abbrev pub base_pieces : List (List (List ℕ)) → Pieces
 base_pieces [] = []
 base_pieces (path ∷ paths) =
     Says (codes " base(") ∷ (references (path ∷ paths) ++ says (codes ")"))
-
--- ID TC, of an interface ID TC bases(REF,..), and of a struct with a base ID TC base(REF)
-abbrev pub bases_pieces : Entity → Pieces
-bases_pieces e =
-    if kind_eq e.kind kind.Interface
-    then Says (codes " bases(") ∷ (references e.bases ++ says (codes ")"))
-    else if kind_eq e.kind kind.Structure then base_pieces e.bases else []
 
 -- ID TYPE VALUE
 abbrev pub value_pieces : Entity → Pieces
@@ -95,21 +90,28 @@ operation_pieces e =
     ++ Says (codes ") context(")
     ∷ Says (with_commas context_word (shown e).contexts) ∷ says (codes ")"))))
 
--- what stands behind the id of a name that has no TypeCode
-abbrev pub uncoded_pieces : Entity → Pieces
-uncoded_pieces e =
-    if kind_eq e.kind kind.Constant then constant_pieces e
-    else if kind_eq e.kind kind.Attribute then attribute_pieces e
-    else if kind_eq e.kind kind.Operation then operation_pieces e
-    else []
-
-abbrev pub behind_id : Entity → Pieces
-behind_id e =
-    elim (head_of e)
-    [ None ↦ uncoded_pieces e | Some head ↦ code_pieces head e ++ bases_pieces e ]
+-- what stands behind the id: TC, of an interface TC bases(REF,..), of a struct with a base TC base(REF)
+abbrev pub behind_id : Kind → Entity → Pieces
+behind_id kind.Interface e =
+    code_pieces (interface_head e.is_local) e [] ++ bases_pieces e.bases
+behind_id kind.Structure e =
+    code_pieces (codes " tk_struct(") e (flat_map member_pieces (shown e).members)
+    ++ base_pieces e.bases
+behind_id kind.Union e =
+    code_pieces (codes " tk_union(") e (type_behind e.data_type ++ entries_of (shown e).members)
+behind_id kind.Exception e =
+    code_pieces (codes " tk_except(") e (flat_map member_pieces (shown e).members)
+behind_id kind.Enumeration e =
+    code_pieces (codes " tk_enum(") e (says (flat_map enumerator_word e.enumerators))
+behind_id kind.Alias e = code_pieces (codes " tk_alias(") e (type_behind e.data_type)
+behind_id kind.Native e = code_pieces (codes " tk_native(") e []
+behind_id kind.Constant e = constant_pieces e
+behind_id kind.Attribute e = attribute_pieces e
+behind_id kind.Operation e = operation_pieces e
+behind_id other e = []
 
 -- a row: its word, the path, the id, and what stands behind that
 abbrev pub row_pieces : Entity → Pieces
 row_pieces e =
     Says (kind_word e.kind) ∷ Says (codes " ") ∷ Says (path_text e.path) ∷ Says (codes " ")
-    ∷ IdOf e.path ∷ behind_id e
+    ∷ IdOf e.path ∷ behind_id e.kind e

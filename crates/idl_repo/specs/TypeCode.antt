@@ -11,8 +11,6 @@ use Rattle.idl_entity.specs.declared.data_type.Layer.TheVariants.{Sequence, Arra
 use Rattle.idl_entity.specs.declared.unvalued.Unvalued.{Unvalued}
 use Rattle.idl_entity.specs.declared.unvalued.Unvalued.TheVariants as unvalued
 use Rattle.idl_entity.specs.declared.entity.Entity.{Entity}
-use Rattle.idl_entity.specs.declared.kind.Kind.{Kind}
-use Rattle.idl_entity.specs.declared.kind.Kind.TheVariants as kind
 use Rattle.idl_entity.specs.declared.signature.Member.{Member}
 use Rattle.idl_entity.specs.declared.signature.Signature.{Signature}
 use Rattle.idl_value.specs.Spelled.{value_word}
@@ -151,34 +149,14 @@ shown e =
 abbrev pub enumerator_word : List ℕ → List ℕ
 enumerator_word name = codes "," ++ name
 
--- how an entity's TypeCode begins behind a blank, if it has one: by its kind, and whether it is local
-abbrev pub code_head : Kind → Bool → Option (List ℕ)
-code_head kind.Interface true = Some (codes " tk_local_interface(")
-code_head kind.Interface false = Some (codes " tk_objref(")
-code_head kind.Structure is_local = Some (codes " tk_struct(")
-code_head kind.Union is_local = Some (codes " tk_union(")
-code_head kind.Exception is_local = Some (codes " tk_except(")
-code_head kind.Enumeration is_local = Some (codes " tk_enum(")
-code_head kind.Alias is_local = Some (codes " tk_alias(")
-code_head kind.Native is_local = Some (codes " tk_native(")
-code_head other is_local = None
+-- how the TypeCode of an interface begins, behind a blank
+abbrev pub interface_head : Bool → List ℕ
+interface_head true = codes " tk_local_interface("
+interface_head false = codes " tk_objref("
 
-abbrev pub head_of : Entity → Option (List ℕ)
-head_of e = code_head e.kind e.is_local
+-- a TypeCode that begins so, up to its parts, and with them
+abbrev pub begin_pieces : List ℕ → Entity → Pieces
+begin_pieces head e = Says head ∷ IdOf e.path ∷ Says (codes ",") ∷ says (name_of e.path)
 
--- what stands there behind the id and the name
-abbrev pub part_pieces : Kind → Entity → Pieces
-part_pieces kind.Structure e = flat_map member_pieces (shown e).members
-part_pieces kind.Exception e = flat_map member_pieces (shown e).members
-part_pieces kind.Union e = type_behind e.data_type ++ entries_of (shown e).members
-part_pieces kind.Enumeration e = says (flat_map enumerator_word e.enumerators)
-part_pieces kind.Alias e = type_behind e.data_type
-part_pieces other e = []
-
--- behind the id the name and the parts
-abbrev pub rest_pieces : Entity → Pieces
-rest_pieces e = Says (codes ",") ∷ Says (name_of e.path) ∷ (part_pieces e.kind e ++ says (codes ")"))
-
--- a TypeCode that begins so
-abbrev pub code_pieces : List ℕ → Entity → Pieces
-code_pieces head e = Says head ∷ IdOf e.path ∷ rest_pieces e
+abbrev pub code_pieces : List ℕ → Entity → Pieces → Pieces
+code_pieces head e parts = begin_pieces head e ++ (parts ++ says (codes ")"))

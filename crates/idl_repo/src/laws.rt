@@ -6,9 +6,9 @@ ghost use Rattle.std.specs.Prelude.{◌≡◌, ◌∷◌, ◌++◌, ℕ, List, N
 ghost use Rattle.idl_memo.specs.Query.{asked, outcome};
 ghost use Rattle.idl_repo.specs.Entry.{closing_fault, entry, no_entry};
 ghost use Rattle.idl_repo.specs.Pieces.{asked_of, ids_in, text_over};
-ghost use Rattle.idl_repo.specs.Referred.{referred, referred_in};
-ghost use Rattle.idl_repo.specs.Row.{row_pieces};
-ghost use Rattle.idl_repo.specs.TypeCode.{code_pieces, element_pieces, written_type};
+ghost use Rattle.idl_repo.specs.Referred.{referred};
+ghost use Rattle.idl_repo.specs.Row.{behind_id, row_pieces};
+ghost use Rattle.idl_repo.specs.TypeCode.{element_pieces, written_type};
 ghost use Rattle.idl_entity.specs.DataType.{plain_type, with_arrays, with_layer};
 ghost use Rattle.idl_env.specs.Facts.{entity_in, entity_key};
 ghost use Rattle.idl_env.specs.declared.answering.answer.Answer.{Answer};
@@ -34,14 +34,13 @@ pub fn listed_row()
 pub fn asked_ids()
     ensures { (path : List (List ℕ)) (bank : Key → Option Answer) (e : Entity)
         → entity_in (bank (entity_key path)) ≡ Some e
-        → asked (entry path) bank ≡ entity_key path ∷ flat_map (asked_of bank) (e.path ∷ referred e) }
+        → asked (entry path) bank ≡ entity_key path ∷ flat_map (asked_of bank) (e.path ∷ referred e.kind e) }
 {}
 
-/// A TypeCode expands no named type: it tells its own id and those of the types that are named in it.
+/// A TypeCode expands no named type: with the bases behind it, it tells its own id and those of the types that are named in it.
 pub fn references()
-    ensures { (head : List ℕ) (e : Entity) (bank : Key → Option Answer)
-        → ids_in bank (code_pieces head e)
-        ≡ flat_map (asked_of bank) (e.path ∷ referred_in e.kind e) }
+    ensures { (e : Entity) (bank : Key → Option Answer)
+        → ids_in bank (behind_id e.kind e) ≡ flat_map (asked_of bank) (referred e.kind e) }
 {}
 
 /// A type is written as it nests: a sequence or an array stands around what it is of, and of the lengths of an array the first

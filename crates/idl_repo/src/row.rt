@@ -1,13 +1,13 @@
 //! Rows of a listing.
 
 ghost use Rattle.std.specs.Prelude.{◌≡◌, ◌++◌, OnOk};
-ghost use Rattle.idl_repo.specs.Pieces.{Writes, commas, with_commas};
-ghost use Rattle.idl_repo.specs.Row.{attribute_pieces, base_pieces, bases_pieces, constant_pieces, context_word, flag, operation_pieces, parameter_pieces, references, row_pieces, uncoded_pieces};
+ghost use Rattle.idl_repo.specs.Pieces.{IsAsked, Writes, commas, with_commas};
+ghost use Rattle.idl_repo.specs.Row.{attribute_pieces, base_pieces, bases_pieces, behind_id, constant_pieces, context_word, flag, operation_pieces, parameter_pieces, references, row_pieces};
 
-use crate::piece::id_of;
+use crate::piece::{AnsweredId, id_of};
 use crate::row_writer::RowWriter;
 use crate::shown::{contexts_of, members_of, raised_by_set_of, raised_of};
-use crate::type_code::code_head;
+use crate::type_code::{interface_head, push_enumerators};
 use crate::words::{direction_word, kind_word, push_context, push_listed, push_path};
 use idl_base::Seq;
 use idl_entity::{Entity, Kind, Member, Path};
@@ -25,41 +25,62 @@ impl<'a> RowWriter<'a> {
         self.text.extend_from_slice(b" ")?;
         let id = id_of(self.env, &mut self.log, path)?;
         id.write(&mut self.text)?;
-        match code_head(entity) {
-            Some(head) => {
-                self.text.extend_from_slice(head)?;
-                id.write(&mut self.text)?;
-                self.push_rest(entity)?;
-                self.push_bases(entity)?;
+        self.push_behind(entity, id)?;
+        Ok(())
+    }
+
+    // What stands behind the id, which was asked.
+    fn push_behind(&mut self, entity: &Entity, id: AnsweredId<'_>) -> Result<(), AllocError>
+        requires { IsAsked id entity.now.path self.old }
+        ensures { OnOk result
+            (Writes (behind_id entity.now.kind entity.now) self.old self.new) }
+    {
+        match entity.kind() {
+            Kind::Interface => {
+                self.begin_code(interface_head(entity.is_local()), entity, id)?;
+                self.text.extend_from_slice(b")")?;
+                self.push_bases(entity.bases())?;
             }
-            None => self.push_uncoded(entity)?,
+            Kind::Structure => {
+                self.push_members_code(b" tk_struct(", entity, id)?;
+                self.push_base(entity.bases())?;
+            }
+            Kind::Union => {
+                self.begin_code(b" tk_union(", entity, id)?;
+                self.push_type_behind(entity.data_type())?;
+                self.push_entries(members_of(entity))?;
+                self.text.extend_from_slice(b")")?;
+            }
+            Kind::Exception => self.push_members_code(b" tk_except(", entity, id)?,
+            Kind::Enumeration => {
+                self.begin_code(b" tk_enum(", entity, id)?;
+                push_enumerators(&mut self.text, entity.enumerators())?;
+                self.text.extend_from_slice(b")")?;
+            }
+            Kind::Alias => {
+                self.begin_code(b" tk_alias(", entity, id)?;
+                self.push_type_behind(entity.data_type())?;
+                self.text.extend_from_slice(b")")?;
+            }
+            Kind::Native => {
+                self.begin_code(b" tk_native(", entity, id)?;
+                self.text.extend_from_slice(b")")?;
+            }
+            Kind::Constant => self.push_constant(entity)?,
+            Kind::Attribute => self.push_attribute(entity)?,
+            Kind::Operation => self.push_operation(entity)?,
+            Kind::Module | Kind::Enumerator | Kind::Parameter | Kind::Member => {}
         }
         Ok(())
     }
 
-    // What stands behind the id of a name that has no TypeCode.
-    fn push_uncoded(&mut self, entity: &Entity) -> Result<(), AllocError>
-        ensures { OnOk result (Writes (uncoded_pieces entity.now) self.old self.new) }
+    // The bases of an interface.
+    fn push_bases(&mut self, paths: &[Path]) -> Result<(), AllocError>
+        ensures { OnOk result (Writes (bases_pieces paths.now) self.old self.new) }
     {
-        match entity.kind() {
-            Kind::Constant => self.push_constant(entity),
-            Kind::Attribute => self.push_attribute(entity),
-            Kind::Operation => self.push_operation(entity),
-            _ => Ok(()),
-        }
-    }
-
-    // Behind the TypeCode of an interface its bases, and of a struct the base that it has.
-    fn push_bases(&mut self, entity: &Entity) -> Result<(), AllocError>
-        ensures { OnOk result (Writes (bases_pieces entity.now) self.old self.new) }
-    {
-        if entity.kind() == Kind::Interface {
-            self.text.extend_from_slice(b" bases(")?;
-            self.push_references(entity.bases())?;
-            self.text.extend_from_slice(b")")?;
-        } else if entity.kind() == Kind::Structure {
-            self.push_base(entity.bases())?;
-        }
+        self.text.extend_from_slice(b" bases(")?;
+        self.push_references(paths)?;
+        self.text.extend_from_slice(b")")?;
         Ok(())
     }
 

@@ -1,66 +1,65 @@
 //! TypeCodes, and how they and types are written.
 
 ghost use Rattle.std.specs.Prelude.{◌≡◌, ◌++◌, IfOk, OnOk, flat_map};
-ghost use Rattle.std.specs.Option.{option_copied};
-ghost use Rattle.idl_repo.specs.Pieces.{Writes};
-ghost use Rattle.idl_repo.specs.TypeCode.{default_of, element_pieces, entries_of, enumerator_word, head_of, label_word, labelled_pieces, member_pieces, part_pieces, reference, rest_pieces, type_behind, type_pieces, typed_pieces};
+ghost use Rattle.idl_repo.specs.Pieces.{IsAsked, Writes};
+ghost use Rattle.idl_repo.specs.TypeCode.{begin_pieces, code_pieces, default_of, element_pieces, entries_of, enumerator_word, interface_head, label_word, labelled_pieces, member_pieces, reference, shown, type_behind, type_pieces, typed_pieces};
 
+use crate::piece::AnsweredId;
 use crate::row_writer::RowWriter;
 use crate::shown::members_of;
 use crate::words::{
     begin_layers, end_layers, push_default, push_listed, push_target, unvalued_word,
 };
 use idl_base::{Bytes, Shared};
-use idl_entity::{DataType, Element, Entity, Kind, Member, Path};
+use idl_entity::{DataType, Element, Entity, Member, Path};
 use idl_value::Value;
 use std::alloc::AllocError;
 
-/// How the TypeCode of what is declared so begins behind a blank, if it has one: its word, and a parenthesis.
-pub fn code_head(entity: &Entity) -> Option<&'static [u8]>
-    ensures { option_copied result ≡ head_of entity.now }
+/// How the TypeCode of an interface begins, behind a blank.
+pub fn interface_head(is_local: bool) -> &'static [u8]
+    ensures { result.now ≡ interface_head is_local }
 {
-    let head: &'static [u8] = match entity.kind() {
-        Kind::Interface if entity.is_local() => b" tk_local_interface(",
-        Kind::Interface => b" tk_objref(",
-        Kind::Structure => b" tk_struct(",
-        Kind::Union => b" tk_union(",
-        Kind::Exception => b" tk_except(",
-        Kind::Enumeration => b" tk_enum(",
-        Kind::Alias => b" tk_alias(",
-        Kind::Native => b" tk_native(",
-        _ => return None,
-    };
-    Some(head)
+    if is_local {
+        b" tk_local_interface("
+    } else {
+        b" tk_objref("
+    }
 }
 
 impl<'a> RowWriter<'a> {
-    /// Writes what stands behind the id of a TypeCode: its name and its parts.
-    pub fn push_rest(&mut self, entity: &Entity) -> Result<(), AllocError>
-        ensures { OnOk result (Writes (rest_pieces entity.now) self.old self.new) }
+    /// Begins a TypeCode: what stands before its id, that, which was asked, and its name.
+    pub fn begin_code(
+        &mut self,
+        head: &[u8],
+        entity: &Entity,
+        id: AnsweredId<'_>,
+    ) -> Result<(), AllocError>
+        requires { IsAsked id entity.now.path self.old }
+        ensures { OnOk result (Writes (begin_pieces head.now entity.now) self.old self.new) }
     {
+        self.text.extend_from_slice(head)?;
+        id.write(&mut self.text)?;
         self.text.extend_from_slice(b",")?;
         self.text.extend_from_slice(entity.path().name())?;
-        self.push_parts(entity)?;
-        self.text.extend_from_slice(b")")?;
         Ok(())
     }
 
-    // What stands behind the name.
-    fn push_parts(&mut self, entity: &Entity) -> Result<(), AllocError>
-        ensures { OnOk result
-            (Writes (part_pieces entity.now.kind entity.now) self.old self.new) }
+    /// A TypeCode that begins so and has members.
+    pub fn push_members_code(
+        &mut self,
+        head: &[u8],
+        entity: &Entity,
+        id: AnsweredId<'_>,
+    ) -> Result<(), AllocError>
+        requires { IsAsked id entity.now.path self.old }
+        ensures { OnOk result (Writes
+            (code_pieces head.now entity.now (flat_map member_pieces (shown entity.now).members))
+            self.old self.new) }
     {
-        match entity.kind() {
-            Kind::Structure | Kind::Exception => self.push_members(members_of(entity)),
-            Kind::Union => {
-                self.push_type_behind(entity.data_type())?;
-                self.push_entries(members_of(entity))?;
-                Ok(())
-            }
-            Kind::Enumeration => push_enumerators(&mut self.text, entity.enumerators()),
-            Kind::Alias => self.push_type_behind(entity.data_type()),
-            _ => Ok(()),
-        }
+        self.begin_code(head, entity, id)?;
+        self.push_members(members_of(entity))?;
+        self.text.extend_from_slice(b")")?;
+        Ok(())
     }
 
     // Each member, with a comma before it.
@@ -84,8 +83,8 @@ impl<'a> RowWriter<'a> {
         Ok(())
     }
 
-    // The number of the entry of `default`, and an entry for each label of each member.
-    fn push_entries(&mut self, members: &[Member]) -> Result<(), AllocError>
+    /// The number of the entry of `default`, and an entry for each label of each member.
+    pub fn push_entries(&mut self, members: &[Member]) -> Result<(), AllocError>
         ensures { OnOk result (Writes (entries_of members.now) self.old self.new) }
     {
         self.text.extend_from_slice(b",")?;
@@ -110,8 +109,11 @@ impl<'a> RowWriter<'a> {
         Ok(())
     }
 
-    // A type, with a comma before it.
-    fn push_type_behind(&mut self, data_type: &Option<Shared<DataType>>) -> Result<(), AllocError>
+    /// A type, with a comma before it.
+    pub fn push_type_behind(
+        &mut self,
+        data_type: &Option<Shared<DataType>>,
+    ) -> Result<(), AllocError>
         ensures { OnOk result (Writes (type_behind data_type.now) self.old self.new) }
     {
         self.text.extend_from_slice(b",")?;
@@ -184,8 +186,8 @@ fn push_label(text: &mut Vec<u8>, label: &Option<Value>) -> Result<(), AllocErro
     }
 }
 
-// Each enumerator, with a comma before it.
-fn push_enumerators(text: &mut Vec<u8>, names: &[Bytes]) -> Result<(), AllocError>
+/// Each enumerator, with a comma before it.
+pub fn push_enumerators(text: &mut Vec<u8>, names: &[Bytes]) -> Result<(), AllocError>
     ensures { OnOk result
         (text.new.items
         ≡ text.old.items ++ flat_map enumerator_word names.now) }

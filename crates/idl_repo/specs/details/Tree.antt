@@ -5,7 +5,6 @@ use Rattle.idl_memo.specs.Query.{outcome}
 use Rattle.idl_repo.specs.declared.details.reference.Reference.{Reference}
 use Rattle.idl_repo.specs.declared.details.row_tree.AttributeTree.{AttributeTree}
 use Rattle.idl_repo.specs.declared.details.row_tree.ConstantTree.{ConstantTree}
-use Rattle.idl_repo.specs.declared.details.row_tree.DeclaredType.{DeclaredType}
 use Rattle.idl_repo.specs.declared.details.row_tree.OperationTree.{OperationTree}
 use Rattle.idl_repo.specs.declared.details.row_tree.ParameterTree.{ParameterTree}
 use Rattle.idl_repo.specs.declared.details.row_tree.RowDetails.{RowDetails}
@@ -30,7 +29,6 @@ use Rattle.idl_entity.specs.declared.kind.Kind.TheVariants as kind
 use Rattle.idl_entity.specs.declared.signature.Member.{Member}
 use Rattle.idl_env.specs.declared.answering.answer.Answer.{Answer}
 use Rattle.idl_env.specs.declared.keys.key.Key.{Key}
-use Rattle.idl_repo.specs.Referred.{listed_bases}
 use Rattle.idl_repo.specs.Row.{context_word, path_text}
 use Rattle.idl_repo.specs.TypeCode.{default_of, listed_value, shown}
 use Rattle.idl_scope.specs.Known.{id_of}
@@ -95,16 +93,22 @@ parts_over bank kind.Enumeration e = Some (parts.Enumeration e.enumerators)
 parts_over bank kind.Alias e = Some (parts.Alias (type_over bank e.data_type))
 parts_over bank other e = None
 
+-- the bases that are listed: an interface's, and that of a struct
+abbrev pub listed_bases : Entity → List (List (List ℕ))
+listed_bases e =
+    if kind_eq e.kind kind.Interface then e.bases
+    else if kind_eq e.kind kind.Structure then e.bases else []
+
 -- what a row tells behind the id: of a name that has a TypeCode that, and the bases
-abbrev pub declared_over : Bank → Entity → TypeCodeParts → DeclaredType
-declared_over bank e p = record {
+abbrev pub declared_over : Bank → Entity → TypeCodeParts → RowDetails
+declared_over bank e p = row.Type (record {
   code = record { id = id_over bank e.path; name = name_of e.path; parts = p };
   bases = references_over bank (listed_bases e);
-}
+})
 
 abbrev pub coded_over : Bank → Entity → RowDetails
 coded_over bank e =
-    option_map_or (λ p. row.Type (declared_over bank e p)) (parts_over bank e.kind e) row.Nothing
+    option_map_or (declared_over bank e) (parts_over bank e.kind e) row.Nothing
 
 abbrev pub constant_over : Bank → Entity → ConstantTree
 constant_over bank e =

@@ -1,10 +1,9 @@
 //! The trees of rows.
 
 ghost use Rattle.std.specs.Prelude.{◌≡◌, IfOk, map};
-ghost use Rattle.idl_repo.specs.details.Tree.{attribute_over, coded_over, constant_over, details_over, operation_over, parameter_over, tree_over};
+ghost use Rattle.idl_repo.specs.details.Tree.{attribute_over, coded_over, constant_over, details_over, listed_bases, operation_over, parameter_over, tree_over};
 ghost use Rattle.idl_env.specs.Facts.{answers};
 ghost use Rattle.std.specs.Option.{option_copied};
-ghost use Rattle.idl_repo.specs.Referred.{listed_bases};
 ghost use Rattle.idl_repo.specs.Row.{context_word};
 
 use crate::details::row_tree::{
