@@ -7,7 +7,7 @@ use Rattle.idl_repo.proofs.WriteLemmas.{ids_in-append, text_over-append}
 use Rattle.idl_repo.specs.Pieces.{IdOf, Pieces, Says, asked_of, commas, ids_in, says, text_over, with_commas}
 use Rattle.idl_repo.specs.Referred.{Paths, named_by, named_by_labels, named_by_member, named_in, referred}
 use Rattle.idl_repo.specs.Row.{attribute_pieces, base_pieces, bases_pieces, behind_id, constant_pieces, context_word, direction_word, flag, kind_word, operation_pieces, parameter_pieces, path_text, references, row_pieces}
-use Rattle.idl_repo.specs.TypeCode.{code_pieces, default_of, default_word, element_pieces, entries_of, entry_pieces, label_word, labelled_pieces, layer_end, layers_begin, listed_value, member_pieces, reference, shown, type_behind, type_pieces, typed_pieces}
+use Rattle.idl_repo.specs.TypeCode.{code_pieces, default_of, default_word, element_pieces, entries_of, entry_pieces, enumerator_word, label_word, labelled_pieces, layer_end, layers_begin, listed_value, member_pieces, reference, shown, type_behind, type_pieces, typed_pieces}
 use Rattle.idl_repo.specs.details.Print.{attribute_text, base_text, case_behind, constant_text, details_text, element_text, member_behind, member_text, operation_text, parameter_text, parts_text, reference_text, references_text, row_of, type_text}
 use Rattle.idl_repo.specs.details.Tree.{Bank, attribute_over, case_over, cases_of, constant_over, details_over, element_over, id_over, member_over, operation_over, parameter_over, reference_over, references_over, tree_over, type_over, union_over}
 use Rattle.idl_repo.specs.declared.details.type_code_tree.TypeCodeParts.TheVariants as parts
@@ -123,11 +123,11 @@ abbrev code_text : Bank → List ℕ → Entity → List ℕ → List ℕ
 code_text bank head e w = head ++ (id_over bank e.path ++ (codes "," ++ (name_of e.path ++ (w ++ codes ")"))))
 
 tell-code : {bank : Bank} {p : Pieces} {w : List ℕ} {a : Paths} (head : List ℕ) (e : Entity) → Tell bank p w a → Tell bank (code_pieces head e p) (code_text bank head e w) (e.path ∷ a)
-tell-code head e parts = tell-text head (tell-id e.path (tell-text (codes ",") (tell-text (name_of e.path) (tell-end (codes ")") parts))))
+tell-code head e inner = tell-text head (tell-id e.path (tell-text (codes ",") (tell-text (name_of e.path) (tell-end (codes ")") inner))))
 
 -- one without bases
 tell-alone : {bank : Bank} {p : Pieces} {w : List ℕ} {a : Paths} (head : List ℕ) (e : Entity) → Tell bank p w a → Tell bank (code_pieces head e p) (code_text bank head e w ++ []) (e.path ∷ a)
-tell-alone {bank} {p} {w} {a} head e parts = tell-as (tell-code head e parts) (sym (append-nil (code_text bank head e w)))
+tell-alone {bank} {p} {w} {a} head e inner = tell-as (tell-code head e inner) (sym (append-nil (code_text bank head e w)))
 
 -- bases
 tell-base : {bank : Bank} (paths : Paths) → Tell bank (base_pieces paths) (base_text (references_over bank paths)) paths
@@ -186,7 +186,7 @@ tell-behind e kind.Interface false = tell-then (tell-code (codes " tk_objref(") 
 tell-behind e kind.Structure b = tell-then (tell-code (codes " tk_struct(") (of_kind e kind.Structure b) (tell-members (shown e).members)) (tell-base e.bases)
 tell-behind e kind.Union b = tell-alone (codes " tk_union(") (of_kind e kind.Union b) (tell-union e)
 tell-behind e kind.Exception b = tell-alone (codes " tk_except(") (of_kind e kind.Exception b) (tell-members (shown e).members)
-tell-behind e kind.Enumeration b = tell-alone (codes " tk_enum(") (of_kind e kind.Enumeration b) (tell-only _)
+tell-behind e kind.Enumeration b = tell-alone (codes " tk_enum(") (of_kind e kind.Enumeration b) (tell-only (flat_map enumerator_word e.enumerators))
 tell-behind e kind.Alias b = tell-alone (codes " tk_alias(") (of_kind e kind.Alias b) (tell-type_behind e.data_type)
 tell-behind e kind.Native b = tell-alone (codes " tk_native(") (of_kind e kind.Native b) tell-nothing
 tell-behind e kind.Constant b = tell-constant e
