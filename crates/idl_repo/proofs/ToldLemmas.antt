@@ -1,5 +1,5 @@
 -- What a row tells: its text, which is what its tree is printed as, and the ids.
-use Rattle.std.proofs.Common.{◌≡◌, ◌∙◌, ℕ, List, [], ◌∷◌, ◌++◌, Bool, true, false, Option, None, Some, codes, refl, sym, ap, append_assoc, flat_map, map}
+use Rattle.std.proofs.Common.{◌≡◌, ◌∙◌, ℕ, List, [], ◌∷◌, ◌++◌, Bool, true, false, if◌then◌else◌, Option, None, Some, codes, refl, sym, ap, append_assoc, flat_map, map}
 use Rattle.std.specs.Option.{option_map, unwrap_or}
 use Rattle.std.proofs.lemmas.Grind.{flat_map-append}
 use Rattle.std.proofs.lemmas.List.{append-nil}
@@ -7,9 +7,9 @@ use Rattle.idl_repo.proofs.WriteLemmas.{ids_in-append, text_over-append}
 use Rattle.idl_repo.specs.Pieces.{IdOf, Pieces, Says, asked_of, commas, ids_in, says, text_over, with_commas}
 use Rattle.idl_repo.specs.Referred.{Paths, named_by, named_by_labels, named_by_member, named_in, referred}
 use Rattle.idl_repo.specs.Row.{attribute_pieces, base_pieces, bases_pieces, behind_id, constant_pieces, context_word, direction_word, flag, kind_word, operation_pieces, parameter_pieces, path_text, references, row_pieces}
-use Rattle.idl_repo.specs.TypeCode.{code_pieces, default_of, default_word, element_pieces, entries_of, entry_pieces, enumerator_word, label_word, labelled_pieces, layer_end, layers_begin, listed_value, member_pieces, reference, shown, type_behind, type_pieces, typed_pieces}
+use Rattle.idl_repo.specs.TypeCode.{code_pieces, default_of, default_word, element_pieces, entries_of, entry_pieces, enumerator_word, interface_head, label_word, labelled_pieces, layer_end, layers_begin, listed_value, member_pieces, reference, shown, type_behind, type_pieces, typed_pieces}
 use Rattle.idl_repo.specs.details.Print.{attribute_text, base_text, case_behind, constant_text, details_text, element_text, member_behind, member_text, operation_text, parameter_text, parts_text, reference_text, references_text, row_of, type_text}
-use Rattle.idl_repo.specs.details.Tree.{Bank, attribute_over, case_over, cases_of, constant_over, details_over, element_over, id_over, member_over, operation_over, parameter_over, reference_over, references_over, tree_over, type_over, union_over}
+use Rattle.idl_repo.specs.details.Tree.{Bank, attribute_over, case_over, cases_of, constant_over, declared_over, details_over, element_over, id_over, member_over, operation_over, parameter_over, reference_over, references_over, tree_over, type_over, union_over}
 use Rattle.idl_repo.specs.declared.details.type_code_tree.TypeCodeParts.TheVariants as parts
 use Rattle.idl_entity.specs.Path.{name_of}
 use Rattle.idl_entity.specs.declared.data_type.DataType.{DataType}
@@ -177,29 +177,26 @@ tell-operation {bank} e =
     (tell-last (tell-references (shown e).raised) (tell-text (codes ") context(") (tell-contexts (shown e).contexts)))))))
 
 -- what stands behind the id, of each kind
-abbrev of_kind : Entity → Kind → Bool → Entity
-of_kind e k is_local = record e { kind = k; is_local = is_local }
+tell-interface : {bank : Bank} (e : Entity) (is_local : Bool) → Tell bank (code_pieces (interface_head is_local) e [] ++ bases_pieces e.bases) (details_text kind.Interface (declared_over bank e e.bases (if is_local then parts.LocalInterface else parts.ObjectReference))) (e.path ∷ e.bases)
+tell-interface e true = tell-then (tell-code (codes " tk_local_interface(") e tell-nothing) (tell-bases e.bases)
+tell-interface e false = tell-then (tell-code (codes " tk_objref(") e tell-nothing) (tell-bases e.bases)
 
-tell-behind : {bank : Bank} (e : Entity) (k : Kind) (b : Bool) → Tell bank (behind_id k (of_kind e k b)) (details_text k (details_over bank (of_kind e k b))) (referred k (of_kind e k b))
-tell-behind e kind.Interface true = tell-then (tell-code (codes " tk_local_interface(") (of_kind e kind.Interface true) tell-nothing) (tell-bases e.bases)
-tell-behind e kind.Interface false = tell-then (tell-code (codes " tk_objref(") (of_kind e kind.Interface false) tell-nothing) (tell-bases e.bases)
-tell-behind e kind.Structure b = tell-then (tell-code (codes " tk_struct(") (of_kind e kind.Structure b) (tell-members (shown e).members)) (tell-base e.bases)
-tell-behind e kind.Union b = tell-alone (codes " tk_union(") (of_kind e kind.Union b) (tell-union e)
-tell-behind e kind.Exception b = tell-alone (codes " tk_except(") (of_kind e kind.Exception b) (tell-members (shown e).members)
-tell-behind e kind.Enumeration b = tell-alone (codes " tk_enum(") (of_kind e kind.Enumeration b) (tell-only (flat_map enumerator_word e.enumerators))
-tell-behind e kind.Alias b = tell-alone (codes " tk_alias(") (of_kind e kind.Alias b) (tell-type_behind e.data_type)
-tell-behind e kind.Native b = tell-alone (codes " tk_native(") (of_kind e kind.Native b) tell-nothing
-tell-behind e kind.Constant b = tell-constant e
-tell-behind e kind.Attribute b = tell-attribute e
-tell-behind e kind.Operation b = tell-operation e
-tell-behind e other b = tell-nothing
-
-tell-told : (bank : Bank) (e : Entity) → Tell bank (behind_id e.kind e) (details_text e.kind (details_over bank e)) (referred e.kind e)
-tell-told bank e = tell-behind e e.kind e.is_local
+tell-behind : {bank : Bank} (k : Kind) (e : Entity) → Tell bank (behind_id k e) (details_text k (details_over bank k e)) (referred k e)
+tell-behind kind.Interface e = tell-interface e e.is_local
+tell-behind kind.Structure e = tell-then (tell-code (codes " tk_struct(") e (tell-members (shown e).members)) (tell-base e.bases)
+tell-behind kind.Union e = tell-alone (codes " tk_union(") e (tell-union e)
+tell-behind kind.Exception e = tell-alone (codes " tk_except(") e (tell-members (shown e).members)
+tell-behind kind.Enumeration e = tell-alone (codes " tk_enum(") e (tell-only (flat_map enumerator_word e.enumerators))
+tell-behind kind.Alias e = tell-alone (codes " tk_alias(") e (tell-type_behind e.data_type)
+tell-behind kind.Native e = tell-alone (codes " tk_native(") e tell-nothing
+tell-behind kind.Constant e = tell-constant e
+tell-behind kind.Attribute e = tell-attribute e
+tell-behind kind.Operation e = tell-operation e
+tell-behind other e = tell-nothing
 
 tell-row : (bank : Bank) (e : Entity) → Tell bank (row_pieces e) (row_of (tree_over bank e)) (e.path ∷ referred e.kind e)
 tell-row bank e =
-    tell-text (kind_word e.kind) (tell-text (codes " ") (tell-text (path_text e.path) (tell-text (codes " ") (tell-id e.path (tell-told bank e)))))
+    tell-text (kind_word e.kind) (tell-text (codes " ") (tell-text (path_text e.path) (tell-text (codes " ") (tell-id e.path (tell-behind e.kind e)))))
 
 -- the row of what is declared so is what its tree is printed as
 pub row-printed : (bank : Bank) (e : Entity) → text_over bank (row_pieces e) ≡ row_of (tree_over bank e)
@@ -209,5 +206,7 @@ row-printed bank e = (tell-row bank e).is
 pub ids-row : (e : Entity) (bank : Bank) → ids_in bank (row_pieces e) ≡ flat_map (asked_of bank) (e.path ∷ referred e.kind e)
 ids-row e bank = (tell-row bank e).ids
 
-pub ids-behind : (e : Entity) (bank : Bank) → ids_in bank (behind_id e.kind e) ≡ flat_map (asked_of bank) (referred e.kind e)
-ids-behind e bank = (tell-told bank e).ids
+pub ids-behind : (k : Kind) (e : Entity) (bank : Bank) → ids_in bank (behind_id k e) ≡ flat_map (asked_of bank) (referred k e)
+ids-behind k e bank =
+    let told : Tell bank (behind_id k e) (details_text k (details_over bank k e)) (referred k e) = tell-behind k e in
+    told.ids

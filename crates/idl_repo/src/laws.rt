@@ -16,6 +16,7 @@ ghost use Rattle.idl_entity.specs.declared.data_type.DataType.{DataType};
 ghost use Rattle.idl_entity.specs.declared.data_type.Element.{Element};
 ghost use Rattle.idl_entity.specs.declared.data_type.Layer.TheVariants.{Array, Sequence};
 ghost use Rattle.idl_entity.specs.declared.entity.Entity.{Entity};
+ghost use Rattle.idl_entity.specs.declared.kind.Kind.{Kind};
 ghost use Rattle.idl_env.specs.declared.keys.key.Key.{Key};
 
 /// The entry of a declared name is its row with each id put in; where nothing is declared, there is
@@ -39,8 +40,8 @@ pub fn asked_ids()
 
 /// A TypeCode expands no named type: with the bases behind it, it tells its own id and those of the types that are named in it.
 pub fn references()
-    ensures { (e : Entity) (bank : Key → Option Answer)
-        → ids_in bank (behind_id e.kind e) ≡ flat_map (asked_of bank) (referred e.kind e) }
+    ensures { (kind : Kind) (e : Entity) (bank : Key → Option Answer)
+        → ids_in bank (behind_id kind e) ≡ flat_map (asked_of bank) (referred kind e) }
 {}
 
 /// A type is written as it nests: a sequence or an array stands around what it is of, and of the lengths of an array the first

@@ -1,6 +1,6 @@
 -- The tree of a row, over a bank: each id is told as the bank answers.
 use Rattle.std.specs.Prelude.{ℕ, List, [], flat_map, map, Option, None, Some, if◌then◌else◌}
-use Rattle.std.specs.Option.{option_map, option_map_or}
+use Rattle.std.specs.Option.{option_map}
 use Rattle.idl_memo.specs.Query.{outcome}
 use Rattle.idl_repo.specs.declared.details.reference.Reference.{Reference}
 use Rattle.idl_repo.specs.declared.details.row_tree.AttributeTree.{AttributeTree}
@@ -18,7 +18,6 @@ use Rattle.idl_repo.specs.declared.details.type_code_tree.UnionTree.{UnionTree}
 use Rattle.idl_repo.specs.declared.details.type_tree.ElementTree.{ElementTree}
 use Rattle.idl_repo.specs.declared.details.type_tree.ElementTree.TheVariants as tree
 use Rattle.idl_repo.specs.declared.details.type_tree.LayeredType.{LayeredType}
-use Rattle.idl_entity.specs.Kind.{kind_eq}
 use Rattle.idl_entity.specs.Path.{name_of}
 use Rattle.idl_entity.specs.declared.data_type.DataType.{DataType}
 use Rattle.idl_entity.specs.declared.data_type.Element.{Element}
@@ -81,35 +80,6 @@ union_over bank e = record {
   cases = flat_map (cases_of bank) (shown e).members;
 }
 
--- what a TypeCode is of, if there is one, and what it has behind its name
-abbrev pub parts_over : Bank → Kind → Entity → Option TypeCodeParts
-parts_over bank kind.Interface e =
-    Some (if e.is_local then parts.LocalInterface else parts.ObjectReference)
-parts_over bank kind.Native e = Some parts.Native
-parts_over bank kind.Structure e = Some (parts.Structure (members_over bank e))
-parts_over bank kind.Exception e = Some (parts.Exception (members_over bank e))
-parts_over bank kind.Union e = Some (parts.Union (union_over bank e))
-parts_over bank kind.Enumeration e = Some (parts.Enumeration e.enumerators)
-parts_over bank kind.Alias e = Some (parts.Alias (type_over bank e.data_type))
-parts_over bank other e = None
-
--- the bases that are listed: an interface's, and that of a struct
-abbrev pub listed_bases : Entity → List (List (List ℕ))
-listed_bases e =
-    if kind_eq e.kind kind.Interface then e.bases
-    else if kind_eq e.kind kind.Structure then e.bases else []
-
--- what a row tells behind the id: of a name that has a TypeCode that, and the bases
-abbrev pub declared_over : Bank → Entity → TypeCodeParts → RowDetails
-declared_over bank e p = row.Type (record {
-  code = record { id = id_over bank e.path; name = name_of e.path; parts = p };
-  bases = references_over bank (listed_bases e);
-})
-
-abbrev pub coded_over : Bank → Entity → RowDetails
-coded_over bank e =
-    option_map_or (declared_over bank e) (parts_over bank e.kind e) row.Nothing
-
 abbrev pub constant_over : Bank → Entity → ConstantTree
 constant_over bank e =
     record { data_type = type_over bank e.data_type; value = option_map listed_value e.value }
@@ -135,12 +105,29 @@ operation_over bank e = record {
   contexts = map context_word (shown e).contexts;
 }
 
-abbrev pub details_over : Bank → Entity → RowDetails
-details_over bank e =
-    if kind_eq e.kind kind.Constant then row.Constant (constant_over bank e)
-    else if kind_eq e.kind kind.Attribute then row.Attribute (attribute_over bank e)
-    else if kind_eq e.kind kind.Operation then row.Operation (operation_over bank e)
-    else coded_over bank e
+-- of a name that has a TypeCode: that, and the bases
+abbrev pub declared_over : Bank → Entity → List (List (List ℕ)) → TypeCodeParts → RowDetails
+declared_over bank e bases p = row.Type (record {
+  code = record { id = id_over bank e.path; name = name_of e.path; parts = p };
+  bases = references_over bank bases;
+})
+
+-- what a row tells behind the id
+abbrev pub details_over : Bank → Kind → Entity → RowDetails
+details_over bank kind.Interface e =
+    declared_over bank e e.bases
+    (if e.is_local then parts.LocalInterface else parts.ObjectReference)
+details_over bank kind.Structure e =
+    declared_over bank e e.bases (parts.Structure (members_over bank e))
+details_over bank kind.Union e = declared_over bank e [] (parts.Union (union_over bank e))
+details_over bank kind.Exception e = declared_over bank e [] (parts.Exception (members_over bank e))
+details_over bank kind.Enumeration e = declared_over bank e [] (parts.Enumeration e.enumerators)
+details_over bank kind.Alias e = declared_over bank e [] (parts.Alias (type_over bank e.data_type))
+details_over bank kind.Native e = declared_over bank e [] parts.Native
+details_over bank kind.Constant e = row.Constant (constant_over bank e)
+details_over bank kind.Attribute e = row.Attribute (attribute_over bank e)
+details_over bank kind.Operation e = row.Operation (operation_over bank e)
+details_over bank other e = row.Nothing
 
 -- the tree of what is declared so
 abbrev pub tree_over : Bank → Entity → RowTree
@@ -148,5 +135,5 @@ tree_over bank e = record {
   kind = e.kind;
   path = path_text e.path;
   id = id_over bank e.path;
-  details = details_over bank e;
+  details = details_over bank e.kind e;
 }

@@ -1,42 +1,21 @@
 //! The trees of TypeCodes.
 
 ghost use Rattle.std.specs.Prelude.{◌≡◌, ◌++◌, IfOk, OnOk};
-ghost use Rattle.idl_repo.specs.details.Tree.{case_over, cases_of, parts_over, union_over};
+ghost use Rattle.idl_repo.specs.details.Tree.{case_over, cases_of, union_over};
 ghost use Rattle.idl_env.specs.Facts.{answers};
 
-use crate::details::type_code_tree::{CaseTree, TypeCodeParts, UnionTree};
-use crate::details::types::{listed, member_of, member_trees, type_of};
+use crate::details::type_code_tree::{CaseTree, UnionTree};
+use crate::details::types::{listed, member_of, type_of};
 use crate::shown::members_of;
 use crate::type_code::default_at;
 use idl_base::Seq;
-use idl_entity::{Entity, Kind, Member};
+use idl_entity::{Entity, Member};
 use idl_env::Env;
 use idl_value::Value;
 use std::alloc::AllocError;
 
-/// What the TypeCode of a declared name has behind the name, if it has one.
-pub fn parts_of(env: &Env, entity: &Entity) -> Result<Option<TypeCodeParts>, AllocError>
-    ensures { IfOk result (λ parts.
-        parts ≡ parts_over (answers env.now) entity.now.kind entity.now) }
-{
-    Ok(Some(match entity.kind() {
-        Kind::Interface if entity.is_local() => TypeCodeParts::LocalInterface,
-        Kind::Interface => TypeCodeParts::ObjectReference,
-        Kind::Native => TypeCodeParts::Native,
-        Kind::Structure => TypeCodeParts::Structure(member_trees(env, members_of(entity))?),
-        Kind::Exception => TypeCodeParts::Exception(member_trees(env, members_of(entity))?),
-        Kind::Union => TypeCodeParts::Union(union_of(env, entity)?),
-        Kind::Enumeration => {
-            let names = Vec::from_clones(env.alloc(), entity.enumerators())?;
-            TypeCodeParts::Enumeration(Seq::from_vec(names))
-        }
-        Kind::Alias => TypeCodeParts::Alias(type_of(env, entity.data_type())?),
-        _ => return Ok(None),
-    }))
-}
-
-// That of a union: the type of its labels, and an entry for each label of each member.
-fn union_of(env: &Env, entity: &Entity) -> Result<UnionTree, AllocError>
+/// What the TypeCode of a union has behind the name: the type of its labels, and an entry for each label of each member.
+pub fn union_of(env: &Env, entity: &Entity) -> Result<UnionTree, AllocError>
     ensures { IfOk result (λ tree. tree ≡ union_over (answers env.now) entity.now) }
 {
     let members = members_of(entity);
