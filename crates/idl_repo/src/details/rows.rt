@@ -85,7 +85,7 @@ fn declared_of(
     parts: TypeCodeParts,
 ) -> Result<RowDetails, AllocError>
     ensures { IfOk result (λ details.
-        details ≡ declared_over (answers env.now) entity.now bases.now parts.entry) }
+        details ≡ declared_over (answers env.now) entity.now bases.now parts) }
 {
     let id = id_at(env, entity.path())?;
     let name = Bytes::from_slice(env.alloc(), entity.path().name())?;
