@@ -38,7 +38,8 @@ pub fn asked_ids()
         → asked (entry path) bank ≡ entity_key path ∷ flat_map (asked_of bank) (e.path ∷ referred e.kind e) }
 {}
 
-/// A TypeCode expands no named type: with the bases behind it, it tells its own id and those of the types that are named in it.
+/// A row expands no named type: behind its id stand those of the types that it names, of bases, and of exceptions, and in a TypeCode
+/// its own before them.
 pub fn references()
     ensures { (kind : Kind) (e : Entity) (bank : Key → Option Answer)
         → ids_in bank (behind_id kind e) ≡ flat_map (asked_of bank) (referred kind e) }

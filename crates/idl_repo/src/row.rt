@@ -7,7 +7,7 @@ ghost use Rattle.idl_repo.specs.Row.{attribute_pieces, base_pieces, bases_pieces
 use crate::piece::{AnsweredId, id_of};
 use crate::row_writer::RowWriter;
 use crate::shown::{contexts_of, members_of, raised_by_set_of, raised_of};
-use crate::type_code::{interface_head, push_enumerators};
+use crate::type_code::interface_head;
 use crate::words::{direction_word, kind_word, push_context, push_listed, push_path};
 use idl_base::Seq;
 use idl_entity::{Entity, Kind, Member, Path};
@@ -37,41 +37,23 @@ impl<'a> RowWriter<'a> {
     {
         match entity.kind() {
             Kind::Interface => {
-                self.begin_code(interface_head(entity.is_local()), entity, id)?;
-                self.text.extend_from_slice(b")")?;
-                self.push_bases(entity.bases())?;
+                self.push_code(interface_head(entity.is_local()), entity, id)?;
+                self.push_bases(entity.bases())
             }
             Kind::Structure => {
                 self.push_members_code(b" tk_struct(", entity, id)?;
-                self.push_base(entity.bases())?;
+                self.push_base(entity.bases())
             }
-            Kind::Union => {
-                self.begin_code(b" tk_union(", entity, id)?;
-                self.push_type_behind(entity.data_type())?;
-                self.push_entries(members_of(entity))?;
-                self.text.extend_from_slice(b")")?;
-            }
-            Kind::Exception => self.push_members_code(b" tk_except(", entity, id)?,
-            Kind::Enumeration => {
-                self.begin_code(b" tk_enum(", entity, id)?;
-                push_enumerators(&mut self.text, entity.enumerators())?;
-                self.text.extend_from_slice(b")")?;
-            }
-            Kind::Alias => {
-                self.begin_code(b" tk_alias(", entity, id)?;
-                self.push_type_behind(entity.data_type())?;
-                self.text.extend_from_slice(b")")?;
-            }
-            Kind::Native => {
-                self.begin_code(b" tk_native(", entity, id)?;
-                self.text.extend_from_slice(b")")?;
-            }
-            Kind::Constant => self.push_constant(entity)?,
-            Kind::Attribute => self.push_attribute(entity)?,
-            Kind::Operation => self.push_operation(entity)?,
-            Kind::Module | Kind::Enumerator | Kind::Parameter | Kind::Member => {}
+            Kind::Union => self.push_union(entity, id),
+            Kind::Exception => self.push_members_code(b" tk_except(", entity, id),
+            Kind::Enumeration => self.push_enumeration(entity, id),
+            Kind::Alias => self.push_alias(entity, id),
+            Kind::Native => self.push_code(b" tk_native(", entity, id),
+            Kind::Constant => self.push_constant(entity),
+            Kind::Attribute => self.push_attribute(entity),
+            Kind::Operation => self.push_operation(entity),
+            Kind::Module | Kind::Enumerator | Kind::Parameter | Kind::Member => Ok(()),
         }
-        Ok(())
     }
 
     // The bases of an interface.

@@ -1,8 +1,10 @@
 //! TypeCodes, and how they and types are written.
 
-ghost use Rattle.std.specs.Prelude.{◌≡◌, ◌++◌, IfOk, OnOk, flat_map};
+ghost use Rattle.std.specs.Prelude.{◌≡◌, ◌++◌, [], IfOk, OnOk, flat_map};
 ghost use Rattle.idl_repo.specs.Pieces.{IsAsked, Writes};
+ghost use Rattle.idl_repo.specs.Row.{behind_id};
 ghost use Rattle.idl_repo.specs.TypeCode.{begin_pieces, code_pieces, default_of, element_pieces, entries_of, enumerator_word, interface_head, label_word, labelled_pieces, member_pieces, reference, shown, type_behind, type_pieces, typed_pieces};
+ghost use Rattle.idl_entity.specs.declared.kind.Kind.TheVariants.{Alias, Enumeration, Union};
 
 use crate::piece::AnsweredId;
 use crate::row_writer::RowWriter;
@@ -27,8 +29,8 @@ pub fn interface_head(is_local: bool) -> &'static [u8]
 }
 
 impl<'a> RowWriter<'a> {
-    /// Begins a TypeCode: what stands before its id, that, which was asked, and its name.
-    pub fn begin_code(
+    // Begins a TypeCode: what stands before its id, that, which was asked, and its name.
+    fn begin_code(
         &mut self,
         head: &[u8],
         entity: &Entity,
@@ -41,6 +43,21 @@ impl<'a> RowWriter<'a> {
         id.write(&mut self.text)?;
         self.text.extend_from_slice(b",")?;
         self.text.extend_from_slice(entity.path().name())?;
+        Ok(())
+    }
+
+    /// A TypeCode that begins so and has nothing behind the name.
+    pub fn push_code(
+        &mut self,
+        head: &[u8],
+        entity: &Entity,
+        id: AnsweredId<'_>,
+    ) -> Result<(), AllocError>
+        requires { IsAsked id entity.now.path self.old }
+        ensures { OnOk result (Writes (code_pieces head.now entity.now []) self.old self.new) }
+    {
+        self.begin_code(head, entity, id)?;
+        self.text.extend_from_slice(b")")?;
         Ok(())
     }
 
@@ -58,6 +75,44 @@ impl<'a> RowWriter<'a> {
     {
         self.begin_code(head, entity, id)?;
         self.push_members(members_of(entity))?;
+        self.text.extend_from_slice(b")")?;
+        Ok(())
+    }
+
+    /// The TypeCode of a union.
+    pub fn push_union(&mut self, entity: &Entity, id: AnsweredId<'_>) -> Result<(), AllocError>
+        requires { IsAsked id entity.now.path self.old }
+        ensures { OnOk result (Writes (behind_id Union entity.now) self.old self.new) }
+    {
+        self.begin_code(b" tk_union(", entity, id)?;
+        self.push_type_behind(entity.data_type())?;
+        self.push_entries(members_of(entity))?;
+        self.text.extend_from_slice(b")")?;
+        Ok(())
+    }
+
+    /// That of an enum.
+    pub fn push_enumeration(
+        &mut self,
+        entity: &Entity,
+        id: AnsweredId<'_>,
+    ) -> Result<(), AllocError>
+        requires { IsAsked id entity.now.path self.old }
+        ensures { OnOk result (Writes (behind_id Enumeration entity.now) self.old self.new) }
+    {
+        self.begin_code(b" tk_enum(", entity, id)?;
+        push_enumerators(&mut self.text, entity.enumerators())?;
+        self.text.extend_from_slice(b")")?;
+        Ok(())
+    }
+
+    /// That of a typedef.
+    pub fn push_alias(&mut self, entity: &Entity, id: AnsweredId<'_>) -> Result<(), AllocError>
+        requires { IsAsked id entity.now.path self.old }
+        ensures { OnOk result (Writes (behind_id Alias entity.now) self.old self.new) }
+    {
+        self.begin_code(b" tk_alias(", entity, id)?;
+        self.push_type_behind(entity.data_type())?;
         self.text.extend_from_slice(b")")?;
         Ok(())
     }
@@ -83,8 +138,8 @@ impl<'a> RowWriter<'a> {
         Ok(())
     }
 
-    /// The number of the entry of `default`, and an entry for each label of each member.
-    pub fn push_entries(&mut self, members: &[Member]) -> Result<(), AllocError>
+    // The number of the entry of `default`, and an entry for each label of each member.
+    fn push_entries(&mut self, members: &[Member]) -> Result<(), AllocError>
         ensures { OnOk result (Writes (entries_of members.now) self.old self.new) }
     {
         self.text.extend_from_slice(b",")?;
@@ -109,11 +164,8 @@ impl<'a> RowWriter<'a> {
         Ok(())
     }
 
-    /// A type, with a comma before it.
-    pub fn push_type_behind(
-        &mut self,
-        data_type: &Option<Shared<DataType>>,
-    ) -> Result<(), AllocError>
+    // A type, with a comma before it.
+    fn push_type_behind(&mut self, data_type: &Option<Shared<DataType>>) -> Result<(), AllocError>
         ensures { OnOk result (Writes (type_behind data_type.now) self.old self.new) }
     {
         self.text.extend_from_slice(b",")?;
@@ -186,8 +238,8 @@ fn push_label(text: &mut Vec<u8>, label: &Option<Value>) -> Result<(), AllocErro
     }
 }
 
-/// Each enumerator, with a comma before it.
-pub fn push_enumerators(text: &mut Vec<u8>, names: &[Bytes]) -> Result<(), AllocError>
+// Each enumerator, with a comma before it.
+fn push_enumerators(text: &mut Vec<u8>, names: &[Bytes]) -> Result<(), AllocError>
     ensures { OnOk result
         (text.new.items
         ≡ text.old.items ++ flat_map enumerator_word names.now) }

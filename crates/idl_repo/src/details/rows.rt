@@ -42,39 +42,39 @@ fn details_of(env: &Env, entity: &Entity) -> Result<RowDetails, AllocError>
     ensures { IfOk result (λ details.
         details ≡ details_over (answers env.now) entity.now.kind entity.now) }
 {
-    Ok(match entity.kind() {
+    match entity.kind() {
         Kind::Interface if entity.is_local() => {
-            declared_of(env, entity, entity.bases(), TypeCodeParts::LocalInterface)?
+            declared_of(env, entity, entity.bases(), TypeCodeParts::LocalInterface)
         }
         Kind::Interface => {
-            declared_of(env, entity, entity.bases(), TypeCodeParts::ObjectReference)?
+            declared_of(env, entity, entity.bases(), TypeCodeParts::ObjectReference)
         }
         Kind::Structure => {
             let parts = TypeCodeParts::Structure(member_trees(env, members_of(entity))?);
-            declared_of(env, entity, entity.bases(), parts)?
+            declared_of(env, entity, entity.bases(), parts)
         }
         Kind::Union => {
             let parts = TypeCodeParts::Union(union_of(env, entity)?);
-            declared_of(env, entity, &[], parts)?
+            declared_of(env, entity, &[], parts)
         }
         Kind::Exception => {
             let parts = TypeCodeParts::Exception(member_trees(env, members_of(entity))?);
-            declared_of(env, entity, &[], parts)?
+            declared_of(env, entity, &[], parts)
         }
         Kind::Enumeration => {
             let names = Seq::from_vec(Vec::from_clones(env.alloc(), entity.enumerators())?);
-            declared_of(env, entity, &[], TypeCodeParts::Enumeration(names))?
+            declared_of(env, entity, &[], TypeCodeParts::Enumeration(names))
         }
         Kind::Alias => {
             let parts = TypeCodeParts::Alias(type_of(env, entity.data_type())?);
-            declared_of(env, entity, &[], parts)?
+            declared_of(env, entity, &[], parts)
         }
-        Kind::Native => declared_of(env, entity, &[], TypeCodeParts::Native)?,
-        Kind::Constant => RowDetails::Constant(constant_of(env, entity)?),
-        Kind::Attribute => RowDetails::Attribute(attribute_of(env, entity)?),
-        Kind::Operation => RowDetails::Operation(operation_of(env, entity)?),
-        Kind::Module | Kind::Enumerator | Kind::Parameter | Kind::Member => RowDetails::Nothing,
-    })
+        Kind::Native => declared_of(env, entity, &[], TypeCodeParts::Native),
+        Kind::Constant => Ok(RowDetails::Constant(constant_of(env, entity)?)),
+        Kind::Attribute => Ok(RowDetails::Attribute(attribute_of(env, entity)?)),
+        Kind::Operation => Ok(RowDetails::Operation(operation_of(env, entity)?)),
+        Kind::Module | Kind::Enumerator | Kind::Parameter | Kind::Member => Ok(RowDetails::Nothing),
+    }
 }
 
 // The same of a name that has a TypeCode, with these parts, and of these bases.
