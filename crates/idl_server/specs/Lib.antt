@@ -8,6 +8,7 @@ pub mod Loading
 pub mod Found
 pub mod Diagnostics
 pub mod Named
+pub mod Includes
 pub mod Roots
 pub mod Server
 pub mod Published
