@@ -64,8 +64,8 @@ impl Workspace {
         }
     }
 
-    // What is told of a token.
-    fn place_value(&self, token: &SitedToken) -> Result<Value, AllocError>
+    /// What is told of a token.
+    pub fn place_value(&self, token: &SitedToken) -> Result<Value, AllocError>
         ensures { IfOk result (λ value. view value
             ≡ location_json (uri_for self.now token.now.place.file)
             (token_range self.now.encoding self.now.session.project token.now)) }
@@ -159,6 +159,20 @@ fn hover_text(
         text.extend_from_slice(row)?;
     }
     Ok(text)
+}
+
+/// The path of what the name at a position denotes, and the last place where that is declared.
+pub(crate) fn named_at<'d>(
+    session: &Session,
+    encoding: Encoding,
+    details: &'d Details,
+    spot: DocumentPosition<'_>,
+) -> Option<(&'d Path, &'d DeclaredPlace)>
+    requires { spot.file.now.lines ≡ lines_of session.now.project
+        spot.file.now.name.now }
+{
+    let path = path_at(session, encoding, details, spot)?;
+    Some((path, last_declared(details, path)?))
 }
 
 // Where what the name at a position denotes is declared, by what is told of a root, if there is one.

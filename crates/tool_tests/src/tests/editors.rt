@@ -29,7 +29,7 @@ static SCRIPTS: [&str; 7] = [
 ={"error":{"code":-32002,"message":"not initialized"},"id":1,"jsonrpc":"2.0"}
 {"id":"a","method":"initialize","params":{"rootUri":"file:///p"}}
 ={"id":"a","jsonrpc":"2.0","result":{"capabilities":{"definitionProvider":true,"documentSymbolProvider":true,"hoverProvider":true,
-    "positionEncoding":"utf-16","textDocumentSync":{"change":2,"openClose":true,"save":true}},
+    "positionEncoding":"utf-16","referencesProvider":true,"textDocumentSync":{"change":2,"openClose":true,"save":true}},
     "serverInfo":{"name":"idltool","version":"0.1.0"}}}
 {"method":"textDocument/didOpen","params":{"textDocument":{"uri":"file:///p/%c3%bc.idl",
     "text":"#include \"b.idl\"\n\r/* é😀 */ module M { struct S { Mony x; }; };\n"}}}
@@ -69,7 +69,7 @@ static SCRIPTS: [&str; 7] = [
 {"id":1,"method":"initialize","params":{"capabilities":{"general":{"positionEncodings":["utf-16","utf-8"]}},
     "workspaceFolders":[{"uri":"file:///p/q/"}]}}
 ={"id":1,"jsonrpc":"2.0","result":{"capabilities":{"definitionProvider":true,"documentSymbolProvider":true,"hoverProvider":true,
-    "positionEncoding":"utf-8","textDocumentSync":{"change":2,"openClose":true,"save":true}},
+    "positionEncoding":"utf-8","referencesProvider":true,"textDocumentSync":{"change":2,"openClose":true,"save":true}},
     "serverInfo":{"name":"idltool","version":"0.1.0"}}}
 {"method":"textDocument/didOpen","params":{"textDocument":{"uri":"file:///p/q/a.idl","text":""}}}
 {"method":"textDocument/didChange","params":{"textDocument":{"uri":"file:///p/q/a.idl"},"contentChanges":[
@@ -90,7 +90,7 @@ static SCRIPTS: [&str; 7] = [
     r##"0 /p/inc/b.idl: typedef long Money;
 {"id":1,"method":"initialize","params":{"rootUri":"file:///p","initializationOptions":{"search":["/p/inc"]}}}
 ={"id":1,"jsonrpc":"2.0","result":{"capabilities":{"definitionProvider":true,"documentSymbolProvider":true,"hoverProvider":true,
-    "positionEncoding":"utf-16","textDocumentSync":{"change":2,"openClose":true,"save":true}},
+    "positionEncoding":"utf-16","referencesProvider":true,"textDocumentSync":{"change":2,"openClose":true,"save":true}},
     "serverInfo":{"name":"idltool","version":"0.1.0"}}}
 {"method":"textDocument/didOpen","params":{"textDocument":{"uri":"file:///p/a.idl",
     "text":"#include \"b.idl\"\nconst char C = 'é';\ntypedef Money X;\n"}}}
@@ -114,7 +114,7 @@ static SCRIPTS: [&str; 7] = [
     r##"1
 {"id":1,"method":"initialize","params":{"rootUri":"file:///p"}}
 ={"id":1,"jsonrpc":"2.0","result":{"capabilities":{"definitionProvider":true,"documentSymbolProvider":true,"hoverProvider":true,
-    "positionEncoding":"utf-16","textDocumentSync":{"change":2,"openClose":true,"save":true}},
+    "positionEncoding":"utf-16","referencesProvider":true,"textDocumentSync":{"change":2,"openClose":true,"save":true}},
     "serverInfo":{"name":"idltool","version":"0.1.0"}}}
 {"method":"textDocument/didOpen","params":{"textDocument":{"uri":"file:///p/a.idl",
     "text":"interface A { typedef long T; };\ninterface B { typedef long T; };\ninterface C { typedef long T; };\n
@@ -134,7 +134,7 @@ static SCRIPTS: [&str; 7] = [
 {"id":1,"method":"initialize","params":{"workspaceFolders":[{"uri":"file:///w/p"},{"uri":"file:///w/q"}],
     "initializationOptions":{"search":["inc",7],"define":"X"}}}
 ={"id":1,"jsonrpc":"2.0","result":{"capabilities":{"definitionProvider":true,"documentSymbolProvider":true,"hoverProvider":true,
-    "positionEncoding":"utf-16","textDocumentSync":{"change":2,"openClose":true,"save":true}},
+    "positionEncoding":"utf-16","referencesProvider":true,"textDocumentSync":{"change":2,"openClose":true,"save":true}},
     "serverInfo":{"name":"idltool","version":"0.1.0"}}}
 ={"jsonrpc":"2.0","method":"window/showMessage","params":{"message":"define: a list of texts is wanted, and what is none is left out",
     "type":1}}
@@ -147,7 +147,7 @@ static SCRIPTS: [&str; 7] = [
     r##"1 /w/c/b.idl: typedef long Money;
 {"id":1,"method":"initialize","params":{"rootUri":"file:///w/p"}}
 ={"id":1,"jsonrpc":"2.0","result":{"capabilities":{"definitionProvider":true,"documentSymbolProvider":true,"hoverProvider":true,
-    "positionEncoding":"utf-16","textDocumentSync":{"change":2,"openClose":true,"save":true}},
+    "positionEncoding":"utf-16","referencesProvider":true,"textDocumentSync":{"change":2,"openClose":true,"save":true}},
     "serverInfo":{"name":"idltool","version":"0.1.0"}}}
 {"method":"textDocument/didOpen","params":{"textDocument":{"uri":"file:///w/p/a.idl","text":"#include \"../c/b.idl\"\ntypedef Money T;\n"}}}
 {"id":2,"method":"textDocument/definition","params":{"textDocument":{"uri":"file:///w/p/a.idl"},"position":{"line":1,"character":9}}}
@@ -168,7 +168,7 @@ static SCRIPTS: [&str; 7] = [
     r##"1
 {"id":1,"method":"initialize","params":{"rootUri":"file:///p"}}
 ={"id":1,"jsonrpc":"2.0","result":{"capabilities":{"definitionProvider":true,"documentSymbolProvider":true,"hoverProvider":true,
-    "positionEncoding":"utf-16","textDocumentSync":{"change":2,"openClose":true,"save":true}},
+    "positionEncoding":"utf-16","referencesProvider":true,"textDocumentSync":{"change":2,"openClose":true,"save":true}},
     "serverInfo":{"name":"idltool","version":"0.1.0"}}}
 {"method":"textDocument/didOpen","params":{"textDocument":{"uri":"file:///p/a.idl",
     "text":"/* Colors\n   of a lamp. */\r\nenum Color { red, green };\r\n\n// No comment\n\n// of this.\nconst Color C =\n  green;\n
