@@ -1,43 +1,11 @@
--- How many items pass a test from the front on, as a loop counts them, and the first file along a
--- search list.
-use Rattle.std.proofs.Common.{◌≡◌, ◌≤◌, ◌<◌, ◌∙◌, ◌+◌, ℕ, zero, suc, Bool, true, false, cond, List, [], ◌∷◌, Option, None, Some, ap, arith, drop, get_or, is_some, length, refl, slice_get, sym}
+-- The first file along a search list, as a loop finds it.
+use Rattle.std.proofs.Common.{◌≡◌, ◌∙◌, ◌+◌, ℕ, zero, suc, Bool, true, false, cond, List, [], ◌∷◌, Option, None, Some, ap, arith, drop, is_some, refl, slice_get, sym}
 use Rattle.std.specs.FinMap as finite
-use Rattle.std.specs.List.{cons_option, prefix_len}
+use Rattle.std.specs.List.{cons_option}
 use Rattle.std.specs.Option.{option_to_list}
 use Rattle.idl_source.specs.names.Candidates.{along, found}
 use Rattle.idl_source.specs.names.Path.{joined_path}
 use Rattle.idl_source.specs.texts.Texts.{Texts}
-
-module _ {X : Type 0} (p : X → Bool) where
-  next : (i : ℕ) → i + 1 ≡ suc i
-  next i = omega arith
-
-  count-suc : (xs : List X) (i : ℕ) (x : X) → i < length xs → x ≡ get_or xs i x → p x ≡ true → prefix_len p (drop i xs) ≡ suc (prefix_len p (drop (suc i) xs))
-  count-suc [] i x within is passes = let no : ⊥ = omega (arith, within) in absurd no
-  count-suc (y ∷ ys) zero x within is passes = ap (λ z. prefix_len p (z ∷ ys)) (sym is) ∙ ap (λ b. cond b (1 + prefix_len p ys) 0) passes ∙ omega arith
-  count-suc (y ∷ ys) (suc i) x within is passes = count-suc ys i x (omega (arith, within)) is passes
-
-  -- one that passes
-  pub count-here : (xs : List X) (i : ℕ) (x : X) → i < length xs → x ≡ get_or xs i x → p x ≡ true → i + prefix_len p (drop i xs) ≡ i + 1 + prefix_len p (drop (i + 1) xs)
-  count-here xs i x within is passes =
-      let one = count-suc xs i x within is passes in
-      let same : prefix_len p (drop (i + 1) xs) ≡ prefix_len p (drop (suc i) xs) = ap (λ n. prefix_len p (drop n xs)) (next i) in
-      omega (arith, one, same)
-
-  -- one that doesn't
-  pub count-stop : (xs : List X) (i : ℕ) (x : X) → i < length xs → x ≡ get_or xs i x → p x ≡ false → prefix_len p (drop i xs) ≡ 0
-  count-stop [] i x within is fails = let no : ⊥ = omega (arith, within) in absurd no
-  count-stop (y ∷ ys) zero x within is fails = ap (λ z. prefix_len p (z ∷ ys)) (sym is) ∙ ap (λ b. cond b (1 + prefix_len p ys) 0) fails
-  count-stop (y ∷ ys) (suc i) x within is fails = count-stop ys i x (omega (arith, within)) is fails
-
-  -- none is left
-  pub count-end : (xs : List X) (i : ℕ) → length xs ≤ i → prefix_len p (drop i xs) ≡ 0
-  count-end [] zero past = refl
-  count-end [] (suc i) past = refl
-  count-end (y ∷ ys) zero past = let no : ⊥ = omega (arith, past) in absurd no
-  count-end (y ∷ ys) (suc i) past = count-end ys i (omega (arith, past))
-
--- ---- the first file
 
 module _ (files : Texts) (spelled : List ℕ) where
   by-here : (o : Option (List ℕ)) (names : List (List ℕ)) (name : List ℕ) → found files (option_to_list o) ≡ Some name → found files (cons_option o names) ≡ Some name

@@ -1,6 +1,6 @@
 -- The include on a line of a file, and the file that it finds (after ISO/IEC 9899, 6.10.2).
-use Rattle.std.specs.Prelude.{ℕ, suc, ◌+◌, Bool, ◌||◌, List, Option, None, Some, codes, drop, length, nat_eq, option_and_then, slice_get, slice_range, if◌then◌else◌}
-use Rattle.std.specs.List.{position, prefix_len, starts_with}
+use Rattle.std.specs.Prelude.{ℕ, suc, ◌+◌, ◌||◌, List, Option, None, Some, codes, drop, length, nat_eq, not, option_and_then, slice_get, slice_range, if◌then◌else◌}
+use Rattle.std.specs.List.{position, position_or_len, starts_with}
 use Rattle.std.specs.Option.{option_map}
 use Rattle.idl_source.specs.names.Candidates.{candidates, found}
 use Rattle.idl_inputs.specs.Project.{Project}
@@ -10,21 +10,21 @@ use Rattle.idl_editor.specs.declared.position.Position.{Position}
 use Rattle.idl_server.specs.Places.{is_at, lines_of}
 use Rattle.idl_server.specs.declared.includes.IncludeOperand.{IncludeOperand}
 
--- a blank, or a tab
-abbrev pub is_blank : ℕ → Bool
-is_blank b = nat_eq b 32 || nat_eq b 9
+-- how many blanks and tabs bytes begin with
+abbrev pub blank_count : List ℕ → ℕ
+blank_count bytes = position_or_len (λ b. not (nat_eq b 32 || nat_eq b 9)) bytes
 
 -- behind how many bytes of a line a word ends that stands behind so many of them, and blanks
 abbrev pub word_end : List ℕ → List ℕ → ℕ → Option ℕ
 word_end line word at =
-    let start = at + prefix_len is_blank (drop at line) in
+    let start = at + blank_count (drop at line) in
     if starts_with nat_eq (drop start line) word then Some (start + length word) else None
 
 -- the name that begins behind so many bytes, and ends before a mark
 abbrev pub operand_until : List ℕ → ℕ → ℕ → Option IncludeOperand
 operand_until line mark start =
     option_map (λ len. record { start = start; end = start + len; is_quoted = nat_eq mark 34 })
-    (position (nat_eq mark) (drop start line))
+    (position (λ b. nat_eq b mark) (drop start line))
 
 -- the name that stands behind so many: in quotes, or in `<` and `>`
 abbrev pub operand_behind : List ℕ → ℕ → Option IncludeOperand

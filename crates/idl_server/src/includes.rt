@@ -1,11 +1,10 @@
 //! The include at a position of a file, and the file that it finds.
 
-ghost use Rattle.std.specs.Prelude.{◌≡◌, ◌≤◌, IfSome, Some, length, nat_eq, slice_get};
-ghost use Rattle.std.specs.List.{position_or_len, prefix_len};
+ghost use Rattle.std.specs.Prelude.{◌≡◌, ◌≤◌, IfSome, Some, length, slice_get};
 ghost use Rattle.std.specs.Option.{option_to_list};
 ghost use Rattle.idl_source.specs.names.Candidates.{along, found};
 ghost use Rattle.idl_source.specs.names.Path.{joined_path};
-ghost use Rattle.idl_server.specs.Includes.{file_found, included_at, included_by, is_blank, operand_behind, operand_in, operand_until, word_end};
+ghost use Rattle.idl_server.specs.Includes.{blank_count, file_found, included_at, included_by, operand_behind, operand_in, operand_until, word_end};
 ghost use Rattle.idl_server.specs.Places.{lines_of};
 
 use crate::places::{DocumentPosition, is_at};
@@ -137,29 +136,12 @@ fn operand_until(line: &[u8], mark: u8, start: usize) -> Option<IncludeOperand>
     ensures within { IfSome result (λ operand.
         (operand.start ≤ operand.end) × (operand.end ≤ length line.now)) }
 {
-    let rest = &line[start..];
-    let len = count_until(mark, rest);
-    if len == rest.len() {
-        return None;
-    }
+    let len = line[start..].iter().position(|byte| *byte == mark)?;
     Some(IncludeOperand {
         start,
         end: start + len,
         is_quoted: mark == b'"',
     })
-}
-
-// How many bytes stand before a mark; all where there is none.
-fn count_until(mark: u8, bytes: &[u8]) -> usize
-    ensures count { result ≡ position_or_len (nat_eq mark) bytes.now }
-    ensures within { result ≤ length bytes.now }
-{
-    'bytes: for index in 0..bytes.len() {
-        if bytes[index] == mark {
-            return index;
-        }
-    }
-    bytes.len()
 }
 
 // Behind how many bytes of a line a word ends that stands behind so many of them, and blanks.
@@ -177,20 +159,11 @@ fn word_end(line: &[u8], word: &[u8], at: usize) -> Option<usize>
 
 // How many blanks bytes begin with.
 fn blank_count(bytes: &[u8]) -> usize
-    ensures count { result ≡ prefix_len is_blank bytes.now }
+    ensures count { result ≡ blank_count bytes.now }
     ensures within { result ≤ length bytes.now }
 {
-    'bytes: for index in 0..bytes.len() {
-        if !is_blank(bytes[index]) {
-            return index;
-        }
-    }
-    bytes.len()
-}
-
-// A blank, or a tab.
-fn is_blank(byte: u8) -> bool
-    ensures { result ≡ is_blank byte }
-{
-    byte == b' ' || byte == b'\t'
+    bytes
+        .iter()
+        .position(|byte| !matches!(*byte, b' ' | b'\t'))
+        .unwrap_or(bytes.len())
 }
