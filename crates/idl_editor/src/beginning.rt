@@ -37,6 +37,7 @@ fn capabilities(alloc: Global, encoding: Encoding) -> Result<Value, AllocError> 
         "definitionProvider": true,
         "documentSymbolProvider": true,
         "hoverProvider": true,
+        "referencesProvider": true,
         "positionEncoding": encoding,
     })
 }

@@ -9,5 +9,6 @@ pub mod CoveredLemmas
 pub mod PlaceLemmas
 pub mod DiagnosticLemmas
 pub mod NamedLemmas
+pub mod IncludeLemmas
 pub mod PublishedLemmas
 pub mod ServingLemmas

@@ -19,4 +19,5 @@ method_of name =
     else if bytes_eq name (codes "textDocument/documentSymbol") then method.DocumentSymbol
     else if bytes_eq name (codes "textDocument/definition") then method.Definition
     else if bytes_eq name (codes "textDocument/hover") then method.Hover
+    else if bytes_eq name (codes "textDocument/references") then method.References
     else method.Unknown

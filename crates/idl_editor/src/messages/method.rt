@@ -32,6 +32,8 @@ pub enum Method {
     Definition,
     /// `textDocument/hover`
     Hover,
+    /// `textDocument/references`
+    References,
     /// Any other.
     Unknown,
 }
@@ -55,6 +57,7 @@ pub fn method_of(name: &str) -> Method
         "textDocument/documentSymbol" => Method::DocumentSymbol,
         "textDocument/definition" => Method::Definition,
         "textDocument/hover" => Method::Hover,
+        "textDocument/references" => Method::References,
         _ => Method::Unknown,
     }
 }

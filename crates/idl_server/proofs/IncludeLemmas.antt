@@ -1,0 +1,52 @@
+-- The first file along a search list, as a loop finds it.
+use Rattle.std.proofs.Common.{◌≡◌, ◌∙◌, ◌+◌, ℕ, zero, suc, Bool, true, false, cond, List, [], ◌∷◌, Option, None, Some, ap, arith, drop, is_some, refl, slice_get, sym}
+use Rattle.std.specs.FinMap as finite
+use Rattle.std.specs.List.{cons_option}
+use Rattle.std.specs.Option.{option_to_list}
+use Rattle.idl_source.specs.names.Candidates.{along, found}
+use Rattle.idl_source.specs.names.Path.{joined_path}
+use Rattle.idl_source.specs.texts.Texts.{Texts}
+
+module _ (files : Texts) (spelled : List ℕ) where
+  by-here : (o : Option (List ℕ)) (names : List (List ℕ)) (name : List ℕ) → found files (option_to_list o) ≡ Some name → found files (cons_option o names) ≡ Some name
+  by-here None names name is = let no : None ≡ Some name = is in absurd (cc)
+  by-here (Some one) names name is = by (is_some (finite.get files one)) is
+    where
+      by : (b : Bool) → cond b (Some one) None ≡ Some name → cond b (Some one) (found files names) ≡ Some name
+      by true is = is
+      by false is = let no : None ≡ Some name = is in absurd (cc)
+
+  by-past : (o : Option (List ℕ)) (names : List (List ℕ)) → found files (option_to_list o) ≡ None → found files (cons_option o names) ≡ found files names
+  by-past None names is = refl
+  by-past (Some one) names is = by (is_some (finite.get files one)) is
+    where
+      by : (b : Bool) → cond b (Some one) None ≡ None → cond b (Some one) (found files names) ≡ found files names
+      by true is = let no : Some one ≡ None = is in absurd (cc)
+      by false is = refl
+
+  along-suc : (search : List (List ℕ)) (at : ℕ) (directory : List ℕ) → slice_get search at ≡ Some directory
+      → along (drop at search) spelled ≡ cons_option (joined_path directory spelled) (along (drop (suc at) search) spelled)
+  along-suc [] at directory is = let no : None ≡ Some directory = is in absurd (cc)
+  along-suc (d ∷ ds) zero directory is = ap (λ o. elim o [ None ↦ along ds spelled | Some e ↦ cons_option (joined_path e spelled) (along ds spelled) ]) is
+  along-suc (d ∷ ds) (suc at) directory is = along-suc ds at directory is
+
+  -- the one in the next directory
+  pub found-here : (search : List (List ℕ)) (at : ℕ) (directory name : List ℕ) → slice_get search at ≡ Some directory
+      → found files (option_to_list (joined_path directory spelled)) ≡ Some name → found files (along (drop at search) spelled) ≡ Some name
+  found-here search at directory name is here =
+      ap (found files) (along-suc search at directory is) ∙ by-here (joined_path directory spelled) (along (drop (suc at) search) spelled) name here
+
+  -- none is there
+  pub found-past : (search : List (List ℕ)) (at : ℕ) (directory : List ℕ) → slice_get search at ≡ Some directory
+      → found files (option_to_list (joined_path directory spelled)) ≡ None → found files (along (drop (at + 1) search) spelled) ≡ found files (along (drop at search) spelled)
+  found-past search at directory is past =
+      let on : at + 1 ≡ suc at = omega arith in
+      ap (λ n. found files (along (drop n search) spelled)) on
+      ∙ sym (ap (found files) (along-suc search at directory is) ∙ by-past (joined_path directory spelled) (along (drop (suc at) search) spelled) past)
+
+  -- no directory is left
+  pub found-end : (search : List (List ℕ)) (at : ℕ) → slice_get search at ≡ None → found files (along (drop at search) spelled) ≡ None
+  found-end [] zero is = refl
+  found-end [] (suc at) is = refl
+  found-end (d ∷ ds) zero is = let no : Some d ≡ None = is in absurd (cc)
+  found-end (d ∷ ds) (suc at) is = found-end ds at is
