@@ -35,6 +35,7 @@ fn capabilities(alloc: Global, encoding: Encoding) -> Result<Value, AllocError> 
     json!(in alloc; {
         "textDocumentSync": sync,
         "definitionProvider": true,
+        "documentHighlightProvider": true,
         "documentSymbolProvider": true,
         "hoverProvider": true,
         "referencesProvider": true,

@@ -263,16 +263,15 @@ begins-behind events l here names none b = record {
 -- names that are used declare nothing
 used-declare-none : (names : List NamedSite) → declared_paths (filter is_used names) ≡ []
 used-declare-none [] = refl
-used-declare-none (n ∷ names) = by n.role refl
+used-declare-none (n ∷ names) = by n.role refl (used-declare-none names)
   where
     uses : List NamedSite
     uses = filter is_used names
 
-    by : (role : NameRole) → n.role ≡ role → declared_paths (cond (is_used n) (n ∷ uses) uses) ≡ []
-    by Declared is = ap (λ r. declared_paths (cond (elim r [ Declared ↦ false | Used ↦ true ]) (n ∷ uses) uses)) is ∙ used-declare-none names
-    by Used is =
-        ap (λ r. declared_paths (cond (elim r [ Declared ↦ false | Used ↦ true ]) (n ∷ uses) uses)) is
-        ∙ ap (λ r. declared_as r n.path ++ declared_paths uses) is ∙ used-declare-none names
+    by : (role : NameRole) → n.role ≡ role → declared_paths uses ≡ [] → declared_paths (cond (is_used n) (n ∷ uses) uses) ≡ []
+    by Declared is rest = ap (λ r. declared_paths (cond (elim r [ Declared ↦ false | Used ↦ true ]) (n ∷ uses) uses)) is ∙ rest
+    by Used is rest =
+        ap (λ r. declared_paths (cond (elim r [ Declared ↦ false | Used ↦ true ]) (n ∷ uses) uses)) is ∙ ap (λ r. declared_as r n.path ++ declared_paths uses) is ∙ rest
 
 listed-each : (P : Listed → Type 0) (text : UnitText) (sites : List Site) (paths : List (List (List ℕ))) → ((path : List (List ℕ)) → IsIn path paths → P (record { path = path; text = text; sites = sites }))
     → AllByRecursion P (listed_with text sites paths)

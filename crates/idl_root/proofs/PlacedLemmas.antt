@@ -259,11 +259,11 @@ listed-all P text sites (path ∷ paths) each = (each path (inl refl), listed-al
 -- what holds of each holds of each that passes
 kept-each : {X : Type 0} (P : X → Type 0) (p : X → Bool) (xs : List X) → AllByRecursion P xs → AllByRecursion P (filter p xs)
 kept-each P p [] are = tt
-kept-each P p (x ∷ xs) are = by (p x)
+kept-each P p (x ∷ xs) are = by (p x) (kept-each P p xs are.1)
   where
-    by : (b : Bool) → AllByRecursion P (cond b (x ∷ filter p xs) (filter p xs))
-    by true = (are.0, kept-each P p xs are.1)
-    by false = kept-each P p xs are.1
+    by : (b : Bool) → AllByRecursion P (filter p xs) → AllByRecursion P (cond b (x ∷ filter p xs) (filter p xs))
+    by true rest = (are.0, rest)
+    by false rest = rest
 
 -- by the laws of names and of verdicts
 module _

@@ -10,5 +10,6 @@ pub mod PlaceLemmas
 pub mod DiagnosticLemmas
 pub mod NamedLemmas
 pub mod IncludeLemmas
+pub mod ReferenceLemmas
 pub mod PublishedLemmas
 pub mod ServingLemmas

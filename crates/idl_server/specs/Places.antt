@@ -1,5 +1,5 @@
 -- Places in files of a project as positions of an editor.
-use Rattle.std.specs.Prelude.{◌≡◌, ◌≤◌, ◌*◌, ◌&&◌, ℕ, Bool, List, [], Option, Some, length, slice_get, take, unwrap_or}
+use Rattle.std.specs.Prelude.{◌≡◌, ◌≤◌, ◌*◌, ◌&&◌, ℕ, All, Bool, List, [], Option, Some, length, slice_get, take, unwrap_or}
 use Rattle.std.specs.FinMap as finite
 use Rattle.std.specs.List.{sum_by}
 use Rattle.idl_source.specs.Limits.{longest_line}
@@ -26,6 +26,10 @@ abbrev pub AreCounts : List (List ℕ) → List ℕ → Type 0
 AreCounts lines counts =
     (index count : ℕ) → slice_get counts index ≡ Some count
     → (count ≡ sum_by returns (take index lines)) × (count ≤ longest_line * length lines)
+
+-- files that are counted, each of its name
+abbrev pub AreOfProject : Project → List (List ℕ × List (List ℕ)) → Type 0
+AreOfProject project files = All (λ file. file.1 ≡ lines_of project file.0) files
 
 -- a range goes from a position or from before through it
 abbrev pub is_at : Position → Range → Bool

@@ -9,7 +9,7 @@ ghost use Rattle.idl_server.specs.Places.{lines_of};
 
 use crate::places::{DocumentPosition, is_at};
 use idl_editor::Encoding;
-use idl_project::Session;
+use idl_project::{MAX_DIRECTORIES, Session};
 use idl_source::path::is_rooted;
 use idl_source::{Directory, Name, join};
 
@@ -43,9 +43,9 @@ fn included_by(
     spot: DocumentPosition<'_>,
     line: &[u8],
 ) -> Option<Name>
-    requires { spot.file.now.lines ≡ lines_of session.now.project
+    requires lines { spot.file.now.lines ≡ lines_of session.now.project
         spot.file.now.name.now }
-    requires { slice_get spot.file.now.lines spot.position.line ≡ Some line.now }
+    requires line { slice_get spot.file.now.lines spot.position.line ≡ Some line.now }
     ensures { result ≡ included_by encoding session.now.project
         spot.entry.file.now.name.now spot.entry.position line.now }
 {
@@ -83,13 +83,21 @@ fn present_along(session: &Session, spelled: &[u8]) -> Option<Name>
         (along session.now.project.inputs.search spelled.now) }
 {
     session.keeps_form();
-    'directories: for at in 0..usize::MAX {
-        let directory = Directory::new(session.directory(at)?)?;
+    'directories: for at in 0..MAX_DIRECTORIES {
+        let directory = directory_at(session, at)?;
         if let Some(found) = present(session, &directory, spelled) {
             return Some(found);
         }
     }
     None
+}
+
+// The directory at this place of the search list, if there is one.
+fn directory_at(session: &Session, at: usize) -> Option<Directory>
+    ensures { result ≡ slice_get session.now.project.inputs.search at }
+{
+    session.keeps_form();
+    Directory::new(session.directory(at)?)
 }
 
 // The file that an operand makes in a directory, where it is present.

@@ -64,8 +64,8 @@ impl Workspace {
         }
     }
 
-    /// What is told of a token.
-    pub fn place_value(&self, token: &SitedToken) -> Result<Value, AllocError>
+    // What is told of a token.
+    fn place_value(&self, token: &SitedToken) -> Result<Value, AllocError>
         ensures { IfOk result (λ value. view value
             ≡ location_json (uri_for self.now token.now.place.file)
             (token_range self.now.encoding self.now.session.project token.now)) }
@@ -161,20 +161,6 @@ fn hover_text(
     Ok(text)
 }
 
-/// The path of what the name at a position denotes, and the last place where that is declared.
-pub(crate) fn named_at<'d>(
-    session: &Session,
-    encoding: Encoding,
-    details: &'d Details,
-    spot: DocumentPosition<'_>,
-) -> Option<(&'d Path, &'d DeclaredPlace)>
-    requires { spot.file.now.lines ≡ lines_of session.now.project
-        spot.file.now.name.now }
-{
-    let path = path_at(session, encoding, details, spot)?;
-    Some((path, last_declared(details, path)?))
-}
-
 // Where what the name at a position denotes is declared, by what is told of a root, if there is one.
 fn defined_at<'d>(
     session: &Session,
@@ -208,8 +194,8 @@ fn declared_place<'d>(
     last_declared(details, path_at(session, encoding, details, spot)?)
 }
 
-// The last place where the name at a path is declared.
-fn last_declared<'d>(details: &'d Details, path: &Path) -> Option<&'d DeclaredPlace>
+/// The last place where the name at a path is declared.
+pub(crate) fn last_declared<'d>(details: &'d Details, path: &Path) -> Option<&'d DeclaredPlace>
     ensures { option_copied result ≡ last_declared details.now path.now }
 {
     let declared = details.declared.as_slice();
@@ -223,8 +209,8 @@ fn last_declared<'d>(details: &'d Details, path: &Path) -> Option<&'d DeclaredPl
     last
 }
 
-// The path of what the name at a position denotes: of what is declared there, and else of what the first name denotes that is used there.
-fn path_at<'d>(
+/// The path of what the name at a position denotes: of what is declared there, and else of what the first name denotes that is used there.
+pub(crate) fn path_at<'d>(
     session: &Session,
     encoding: Encoding,
     details: &'d Details,

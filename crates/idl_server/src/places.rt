@@ -9,9 +9,10 @@ ghost use Rattle.idl_editor.specs.Places.{line_range, position_in, range_between
 ghost use Rattle.idl_server.specs.Places.{is_at, lines_of, range_of};
 
 use idl_editor::{Encoding, Position, Range, is_up_to, position_behind, returns_in};
-use idl_fault::Place;
+use idl_fault::{FileName, Place};
 use idl_project::{Session, SitedToken};
 use idl_source::{Line, Name};
+use indexmap::IndexMap;
 use std::alloc::{AllocError, Global};
 use std::marker::Model;
 
@@ -152,6 +153,67 @@ pub(crate) struct DocumentPosition<'a> {
 pub(crate) struct CountedFile<'a> {
     name: &'a Name,
     lines: CountedLines<'a>,
+}
+
+/// Files of a session of which many places are asked for. The lines of a file are counted when the first of its places is asked for, and
+/// once. To every contract it is the session.
+pub(crate) struct CountedFiles<'a> {
+    session: &'a Session,
+    files: IndexMap<FileName, CountedLines<'a>>,
+}
+
+impl<'a> Model for CountedFiles<'a> {
+    ghost use Rattle.idl_project.specs.UpToDate.{State, state_code};
+    ghost use Rattle.idl_server.specs.Places.{AreOfProject};
+
+    ghost Value = { State };
+
+    ghost coded = { state_code };
+
+    ghost view = { λ counted. counted.session.now };
+
+    ghost invariant = { λ counted. AreOfProject counted.session.now.project counted.files.entries };
+}
+
+impl<'a> Drop for CountedFiles<'a> {
+    fn drop(self) {
+        let CountedFiles {
+            session: _session,
+            files: _files,
+        } = self;
+    }
+}
+
+impl<'a> CountedFiles<'a> {
+    /// Before the first is counted.
+    pub fn new(session: &'a Session) -> CountedFiles<'a>
+        ensures { result ≡ session.now }
+    {
+        CountedFiles {
+            session,
+            files: IndexMap::new(session.allocator()),
+        }
+    }
+
+    /// The range of a token, or of its whole line where it isn't known where it begins.
+    pub fn range_of(
+        &mut self,
+        encoding: Encoding,
+        token: LocatedToken<'_>,
+    ) -> Result<Range, AllocError>
+        ensures range { IfOk result (λ range. range ≡ range_of encoding self.old.project
+            token.entry.place.now token.entry.number token.entry.text.now) }
+        ensures same { self.new ≡ self.old }
+    {
+        let session = self.session;
+        if let Some(lines) = self.files.get(&token.place.file) {
+            return Ok(token_range(session, encoding, token, lines));
+        }
+        let lines = CountedLines::new(session.allocator(), lines_of(session, token.place))?;
+        let range = token_range(session, encoding, token, &lines);
+        self.files.insert(token.place.file.clone()?, lines)?;
+        Ok(range)
+    }
 }
 
 impl<'a> CountedFile<'a> {

@@ -34,6 +34,8 @@ pub enum Method {
     Hover,
     /// `textDocument/references`
     References,
+    /// `textDocument/documentHighlight`
+    DocumentHighlight,
     /// Any other.
     Unknown,
 }
@@ -58,6 +60,7 @@ pub fn method_of(name: &str) -> Method
         "textDocument/definition" => Method::Definition,
         "textDocument/hover" => Method::Hover,
         "textDocument/references" => Method::References,
+        "textDocument/documentHighlight" => Method::DocumentHighlight,
         _ => Method::Unknown,
     }
 }
