@@ -1,12 +1,13 @@
 -- The first file along a search list, as a loop finds it.
 use Rattle.std.proofs.Common.{◌≡◌, ◌≤◌, ◌∙◌, ◌+◌, ℕ, zero, suc, All, Bool, true, false, cond, IfSome, IsSome, IsTrue, List, [], ◌∷◌, Option, None, Some, ap, arith, drop, is_some, length, refl, slice_get, subst, sym}
 use Rattle.std.proofs.lemmas.Option.{get_or_from_slice_get, slice_get_within}
+use Rattle.std.specs.Prelude.{if◌then◌else◌}
 use Rattle.std.specs.FinMap as finite
 use Rattle.std.specs.List.{cons_option}
 use Rattle.std.specs.Option.{option_to_list}
-use Rattle.idl_source.specs.names.Candidates.{along, found}
-use Rattle.idl_source.specs.names.Directory.{is_directory}
-use Rattle.idl_source.specs.names.Path.{joined_path}
+use Rattle.idl_source.specs.names.Candidates.{along, candidates, found}
+use Rattle.idl_source.specs.names.Directory.{directory_of, is_directory}
+use Rattle.idl_source.specs.names.Path.{is_rooted, joined_path}
 use Rattle.idl_source.specs.texts.Texts.{Texts}
 
 module _ (files : Texts) (spelled : List ℕ) where
@@ -59,6 +60,33 @@ module _ (files : Texts) (spelled : List ℕ) where
   found-end [] (suc at) is = refl
   found-end (d ∷ ds) zero is = let no : Some d ≡ None = is in absurd (cc)
   found-end (d ∷ ds) (suc at) is = found-end ds at is
+
+-- ---- the names of an operand
+
+module _ (files : Texts) (search : List (List ℕ)) (from spelled : List ℕ) (quoted : Bool) where
+  named : (rooted q : Bool) → is_rooted spelled ≡ rooted → quoted ≡ q
+      → candidates search from spelled quoted
+      ≡ (if rooted then option_to_list (joined_path (directory_of from) spelled) else (if q then along (directory_of from ∷ search) spelled else along search spelled))
+  unfolding candidates
+  named rooted q is quotes = λ i. if is i then option_to_list (joined_path (directory_of from) spelled) else (if quotes i then along (directory_of from ∷ search) spelled else along search spelled)
+
+  -- it stands for itself
+  pub found-rooted : is_rooted spelled ≡ true → found files (option_to_list (joined_path (directory_of from) spelled)) ≡ found files (candidates search from spelled quoted)
+  found-rooted rooted = sym (ap (found files) (named true quoted rooted refl))
+
+  -- the one beside the including file
+  pub found-beside : is_rooted spelled ≡ false → quoted ≡ true → (name : List ℕ) → found files (option_to_list (joined_path (directory_of from) spelled)) ≡ Some name
+      → Some name ≡ found files (candidates search from spelled quoted)
+  found-beside plain quotes name there = sym (ap (found files) (named false true plain quotes) ∙ by-here files spelled (joined_path (directory_of from) spelled) (along search spelled) name there)
+
+  -- none is there
+  pub found-not_beside : is_rooted spelled ≡ false → quoted ≡ true → found files (option_to_list (joined_path (directory_of from) spelled)) ≡ None
+      → found files (along search spelled) ≡ found files (candidates search from spelled quoted)
+  found-not_beside plain quotes none = sym (ap (found files) (named false true plain quotes) ∙ by-past files spelled (joined_path (directory_of from) spelled) (along search spelled) none)
+
+  -- along the search list alone
+  pub found-angled : is_rooted spelled ≡ false → quoted ≡ false → found files (along search spelled) ≡ found files (candidates search from spelled quoted)
+  found-angled plain angled = sym (ap (found files) (named false false plain angled))
 
 -- ---- directories of the search list
 

@@ -1,7 +1,7 @@
 -- The include on a line of a file, and the file that it finds (after ISO/IEC 9899, 6.10.2).
-use Rattle.std.specs.Prelude.{ℕ, suc, ◌+◌, ◌||◌, List, Option, None, Some, codes, drop, length, nat_eq, not, option_and_then, slice_get, slice_range, if◌then◌else◌}
-use Rattle.std.specs.List.{position, position_or_len, starts_with}
-use Rattle.std.specs.Option.{option_map}
+use Rattle.std.specs.Prelude.{ℕ, suc, ◌+◌, ◌||◌, Bool, List, Option, None, Some, codes, drop, length, nat_eq, not, option_and_then, slice_get, slice_range, if◌then◌else◌}
+use Rattle.std.specs.List.{position, starts_with}
+use Rattle.std.specs.Option.{option_map, unwrap_or}
 use Rattle.idl_source.specs.names.Candidates.{candidates, found}
 use Rattle.idl_inputs.specs.Project.{Project}
 use Rattle.idl_editor.specs.Places.{range_between}
@@ -11,8 +11,11 @@ use Rattle.idl_server.specs.Places.{is_at, lines_of}
 use Rattle.idl_server.specs.declared.includes.IncludeOperand.{IncludeOperand}
 
 -- how many blanks and tabs bytes begin with
+abbrev pub is_blank : ℕ → Bool
+is_blank b = nat_eq b 32 || nat_eq b 9
+
 abbrev pub blank_count : List ℕ → ℕ
-blank_count bytes = position_or_len (λ b. not (nat_eq b 32 || nat_eq b 9)) bytes
+blank_count bytes = unwrap_or (position (λ b. not (is_blank b)) bytes) (length bytes)
 
 -- behind how many bytes of a line a word ends that stands behind so many of them, and blanks
 abbrev pub word_end : List ℕ → List ℕ → ℕ → Option ℕ

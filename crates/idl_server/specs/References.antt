@@ -76,13 +76,16 @@ references_at encoding project declared name position =
     option_map_or (named_with project declared details)
     (path_at encoding project details name position) []) (details_with project name) [])
 
--- where the first root that asks for the file names it in the file itself
+-- where the first root that asks for the file names it, and of that what is in the file itself
+abbrev pub named_at : Encoding → Project → List ℕ → Position → List FileRange
+named_at encoding project name position =
+    places_of encoding project (option_map_or (λ details.
+    option_map_or (λ path. named_as true path details)
+    (path_at encoding project details name position) []) (details_with project name) [])
+
 abbrev pub highlights_at : Encoding → Project → List ℕ → Position → List FileRange
 highlights_at encoding project name position =
-    filter (λ place. bytes_eq place.file name)
-    (places_of encoding project (option_map_or (λ details.
-    option_map_or (λ path. named_as true path details)
-    (path_at encoding project details name position) []) (details_with project name) []))
+    filter (λ place. bytes_eq place.file name) (named_at encoding project name position)
 
 -- what is told of a place, and of one in the file that is asked of
 abbrev pub told_of : Workspace → FileRange → Data

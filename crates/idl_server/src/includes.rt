@@ -1,10 +1,10 @@
 //! The include at a position of a file, and the file that it finds.
 
-ghost use Rattle.std.specs.Prelude.{◌≡◌, ◌≤◌, IfSome, Some, length, slice_get};
+ghost use Rattle.std.specs.Prelude.{◌≡◌, ◌≤◌, IfSome, Some, length, nat_eq, not, position, slice_get};
 ghost use Rattle.std.specs.Option.{option_to_list};
 ghost use Rattle.idl_source.specs.names.Candidates.{along, found};
 ghost use Rattle.idl_source.specs.names.Path.{joined_path};
-ghost use Rattle.idl_server.specs.Includes.{blank_count, file_found, included_at, included_by, operand_behind, operand_in, operand_until, word_end};
+ghost use Rattle.idl_server.specs.Includes.{blank_count, file_found, included_at, included_by, is_blank, operand_behind, operand_in, operand_until, word_end};
 ghost use Rattle.idl_server.specs.Places.{lines_of};
 
 use crate::places::{DocumentPosition, is_at};
@@ -144,7 +144,7 @@ fn operand_until(line: &[u8], mark: u8, start: usize) -> Option<IncludeOperand>
     ensures within { IfSome result (λ operand.
         (operand.start ≤ operand.end) × (operand.end ≤ length line.now)) }
 {
-    let len = line[start..].iter().position(|byte| *byte == mark)?;
+    let len = place_of(&line[start..], mark)?;
     Some(IncludeOperand {
         start,
         end: start + len,
@@ -170,8 +170,28 @@ fn blank_count(bytes: &[u8]) -> usize
     ensures count { result ≡ blank_count bytes.now }
     ensures within { result ≤ length bytes.now }
 {
-    bytes
-        .iter()
-        .position(|byte| !matches!(*byte, b' ' | b'\t'))
-        .unwrap_or(bytes.len())
+    place_past_blanks(bytes).unwrap_or(bytes.len())
+}
+
+// The place of the first byte that is no blank and no tab.
+fn place_past_blanks(bytes: &[u8]) -> Option<usize>
+    ensures place { result ≡ position (λ b. not (is_blank b)) bytes.now }
+    ensures within { IfSome result (λ i. i ≤ length bytes.now) }
+{
+    bytes.iter().position(|byte| !is_blank(*byte))
+}
+
+// Whether a byte is a blank or a tab.
+fn is_blank(byte: u8) -> bool
+    ensures { result ≡ is_blank byte }
+{
+    byte == b' ' || byte == b'\t'
+}
+
+// The place of the first byte that is this one.
+fn place_of(bytes: &[u8], mark: u8) -> Option<usize>
+    ensures place { result ≡ position (λ b. nat_eq b mark) bytes.now }
+    ensures within { IfSome result (λ i. i ≤ length bytes.now) }
+{
+    bytes.iter().position(|byte| *byte == mark)
 }

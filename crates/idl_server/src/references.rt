@@ -1,11 +1,9 @@
 //! Where what the name at a position denotes is named.
 
 ghost use Rattle.std.specs.Prelude.{◌≡◌, ◌∷◌, [], IfOk, OnOk, flat_map, map};
-ghost use Rattle.std.specs.List.{filter};
-ghost use Rattle.std.specs.Str.{bytes_eq};
 ghost use Rattle.serde_json.specs.Data.{array};
 ghost use Rattle.serde_json.specs.View.{items_of, view};
-ghost use Rattle.idl_server.specs.References.{AreAdded, declared_as, highlight_of, highlights_at, named_as, named_by, references_at, told_of, used_as};
+ghost use Rattle.idl_server.specs.References.{AreAdded, declared_as, highlight_of, highlights_at, named_as, named_at, named_by, references_at, told_of, used_as};
 
 use crate::named::{last_declared, path_at};
 use crate::places::{CountedFile, CountedFiles, DocumentPosition, LocatedToken};
@@ -70,7 +68,7 @@ impl<'a> NamedPlaces<'a> {
 
     // The places alone.
     fn into_places(self) -> IndexSet<FileRange>
-        ensures { result ≡ self.places }
+        ensures { result ≡ self.entry.places }
     {
         let NamedPlaces {
             encoding: _encoding,
@@ -101,11 +99,11 @@ impl<'a> NamedPlaces<'a> {
         ensures { OnOk result (AreAdded (declared_as path.now details.now) self.old self.new) }
     {
         let names = details.declared.as_slice();
-        'each: for one in names {
-            if *path != one.path {
+        'each: for declared in names {
+            if *path != declared.path {
                 continue;
             }
-            self.add(&one.place.name)?;
+            self.add(&declared.place.name)?;
         }
         Ok(())
     }
@@ -115,11 +113,11 @@ impl<'a> NamedPlaces<'a> {
         ensures { OnOk result (AreAdded (used_as path.now details.now) self.old self.new) }
     {
         let names = details.uses.as_slice();
-        'each: for one in names {
-            if *path != one.path {
+        'each: for used in names {
+            if *path != used.path {
                 continue;
             }
-            self.add(&one.name)?;
+            self.add(&used.name)?;
         }
         Ok(())
     }
@@ -211,8 +209,8 @@ impl Workspace {
 
     // Where it is named by the first root that asks for the file.
     fn named_at(&self, name: &Name, position: Position) -> Result<IndexSet<FileRange>, AllocError>
-        ensures { IfOk result (λ places. filter (λ place. bytes_eq place.file name.now) places.keys
-            ≡ highlights_at self.now.encoding self.now.session.project name.now position) }
+        ensures { IfOk result (λ places. places.keys
+            ≡ named_at self.now.encoding self.now.session.project name.now position) }
     {
         let mut named = NamedPlaces::new(self);
         let Some(told) = self.details_with(name)? else {
@@ -237,7 +235,7 @@ impl Workspace {
         sought: SoughtName<'_>,
     ) -> Result<(), AllocError>
         ensures { OnOk result (AreAdded (flat_map (named_by self.now.session.project
-            sought.declared sought.entry.path.now sought.entry.file.now)
+            sought.entry.declared sought.entry.path.now sought.entry.file.now)
             self.now.session.project.roots) named.old named.new) }
     {
         let roots = self.roots()?;
@@ -256,7 +254,7 @@ impl Workspace {
         root: &Name,
     ) -> Result<(), AllocError>
         ensures { OnOk result (AreAdded (named_by self.now.session.project
-            sought.declared sought.entry.path.now sought.entry.file.now root.now)
+            sought.entry.declared sought.entry.path.now sought.entry.file.now root.now)
             named.old named.new) }
     {
         let asked = self.session.asked(root.as_bytes())?;

@@ -28,7 +28,8 @@ static SCRIPTS: [&str; 8] = [
 {"id":1,"method":"textDocument/hover"}
 ={"error":{"code":-32002,"message":"not initialized"},"id":1,"jsonrpc":"2.0"}
 {"id":"a","method":"initialize","params":{"rootUri":"file:///p"}}
-={"id":"a","jsonrpc":"2.0","result":{"capabilities":{"definitionProvider":true,"documentSymbolProvider":true,"hoverProvider":true,
+={"id":"a","jsonrpc":"2.0","result":{"capabilities":{"definitionProvider":true,"documentHighlightProvider":true,
+    "documentSymbolProvider":true,"hoverProvider":true,
     "positionEncoding":"utf-16","referencesProvider":true,"textDocumentSync":{"change":2,"openClose":true,"save":true}},
     "serverInfo":{"name":"idltool","version":"0.1.0"}}}
 {"method":"textDocument/didOpen","params":{"textDocument":{"uri":"file:///p/%c3%bc.idl",
@@ -68,7 +69,8 @@ static SCRIPTS: [&str; 8] = [
     r##"1 /p/q/a.idl: typedef No T;
 {"id":1,"method":"initialize","params":{"capabilities":{"general":{"positionEncodings":["utf-16","utf-8"]}},
     "workspaceFolders":[{"uri":"file:///p/q/"}]}}
-={"id":1,"jsonrpc":"2.0","result":{"capabilities":{"definitionProvider":true,"documentSymbolProvider":true,"hoverProvider":true,
+={"id":1,"jsonrpc":"2.0","result":{"capabilities":{"definitionProvider":true,"documentHighlightProvider":true,
+    "documentSymbolProvider":true,"hoverProvider":true,
     "positionEncoding":"utf-8","referencesProvider":true,"textDocumentSync":{"change":2,"openClose":true,"save":true}},
     "serverInfo":{"name":"idltool","version":"0.1.0"}}}
 {"method":"textDocument/didOpen","params":{"textDocument":{"uri":"file:///p/q/a.idl","text":""}}}
@@ -89,7 +91,8 @@ static SCRIPTS: [&str; 8] = [
     // A header is found in a directory that is named by its whole path, and opened. What a message tells of is in its own letters.
     r##"0 /p/inc/b.idl: typedef long Money;
 {"id":1,"method":"initialize","params":{"rootUri":"file:///p","initializationOptions":{"search":["/p/inc"]}}}
-={"id":1,"jsonrpc":"2.0","result":{"capabilities":{"definitionProvider":true,"documentSymbolProvider":true,"hoverProvider":true,
+={"id":1,"jsonrpc":"2.0","result":{"capabilities":{"definitionProvider":true,"documentHighlightProvider":true,
+    "documentSymbolProvider":true,"hoverProvider":true,
     "positionEncoding":"utf-16","referencesProvider":true,"textDocumentSync":{"change":2,"openClose":true,"save":true}},
     "serverInfo":{"name":"idltool","version":"0.1.0"}}}
 {"method":"textDocument/didOpen","params":{"textDocument":{"uri":"file:///p/a.idl",
@@ -113,7 +116,8 @@ static SCRIPTS: [&str; 8] = [
     // Of several second places three are told, and how many more there are.
     r##"1
 {"id":1,"method":"initialize","params":{"rootUri":"file:///p"}}
-={"id":1,"jsonrpc":"2.0","result":{"capabilities":{"definitionProvider":true,"documentSymbolProvider":true,"hoverProvider":true,
+={"id":1,"jsonrpc":"2.0","result":{"capabilities":{"definitionProvider":true,"documentHighlightProvider":true,
+    "documentSymbolProvider":true,"hoverProvider":true,
     "positionEncoding":"utf-16","referencesProvider":true,"textDocumentSync":{"change":2,"openClose":true,"save":true}},
     "serverInfo":{"name":"idltool","version":"0.1.0"}}}
 {"method":"textDocument/didOpen","params":{"textDocument":{"uri":"file:///p/a.idl",
@@ -133,7 +137,8 @@ static SCRIPTS: [&str; 8] = [
     r##"1 /w/q/inc/b.idl: typedef long Money;
 {"id":1,"method":"initialize","params":{"workspaceFolders":[{"uri":"file:///w/p"},{"uri":"file:///w/q"}],
     "initializationOptions":{"search":["inc",7],"define":"X"}}}
-={"id":1,"jsonrpc":"2.0","result":{"capabilities":{"definitionProvider":true,"documentSymbolProvider":true,"hoverProvider":true,
+={"id":1,"jsonrpc":"2.0","result":{"capabilities":{"definitionProvider":true,"documentHighlightProvider":true,
+    "documentSymbolProvider":true,"hoverProvider":true,
     "positionEncoding":"utf-16","referencesProvider":true,"textDocumentSync":{"change":2,"openClose":true,"save":true}},
     "serverInfo":{"name":"idltool","version":"0.1.0"}}}
 ={"jsonrpc":"2.0","method":"window/showMessage","params":{"message":"define: a list of texts is wanted, and what is none is left out",
@@ -146,7 +151,8 @@ static SCRIPTS: [&str; 8] = [
     // A file beside the only folder is what an include of it finds, and has a plain path. What is found is told with the version.
     r##"1 /w/c/b.idl: typedef long Money;
 {"id":1,"method":"initialize","params":{"rootUri":"file:///w/p"}}
-={"id":1,"jsonrpc":"2.0","result":{"capabilities":{"definitionProvider":true,"documentSymbolProvider":true,"hoverProvider":true,
+={"id":1,"jsonrpc":"2.0","result":{"capabilities":{"definitionProvider":true,"documentHighlightProvider":true,
+    "documentSymbolProvider":true,"hoverProvider":true,
     "positionEncoding":"utf-16","referencesProvider":true,"textDocumentSync":{"change":2,"openClose":true,"save":true}},
     "serverInfo":{"name":"idltool","version":"0.1.0"}}}
 {"method":"textDocument/didOpen","params":{"textDocument":{"uri":"file:///w/p/a.idl","text":"#include \"../c/b.idl\"\ntypedef Money T;\n"}}}
@@ -167,7 +173,8 @@ static SCRIPTS: [&str; 8] = [
     // Enumerators and members are declared somewhere, too; a hover shows the lines of a declaration, and the comment above it.
     r##"1
 {"id":1,"method":"initialize","params":{"rootUri":"file:///p"}}
-={"id":1,"jsonrpc":"2.0","result":{"capabilities":{"definitionProvider":true,"documentSymbolProvider":true,"hoverProvider":true,
+={"id":1,"jsonrpc":"2.0","result":{"capabilities":{"definitionProvider":true,"documentHighlightProvider":true,
+    "documentSymbolProvider":true,"hoverProvider":true,
     "positionEncoding":"utf-16","referencesProvider":true,"textDocumentSync":{"change":2,"openClose":true,"save":true}},
     "serverInfo":{"name":"idltool","version":"0.1.0"}}}
 {"method":"textDocument/didOpen","params":{"textDocument":{"uri":"file:///p/a.idl",
@@ -188,7 +195,8 @@ static SCRIPTS: [&str; 8] = [
     // From an include to its file; where a name is declared and used; and what stands before a fault.
     r##"1 /p/b.idl: typedef long Money;
 {"id":1,"method":"initialize","params":{"rootUri":"file:///p"}}
-={"id":1,"jsonrpc":"2.0","result":{"capabilities":{"definitionProvider":true,"documentSymbolProvider":true,"hoverProvider":true,
+={"id":1,"jsonrpc":"2.0","result":{"capabilities":{"definitionProvider":true,"documentHighlightProvider":true,
+    "documentSymbolProvider":true,"hoverProvider":true,
     "positionEncoding":"utf-16","referencesProvider":true,"textDocumentSync":{"change":2,"openClose":true,"save":true}},
     "serverInfo":{"name":"idltool","version":"0.1.0"}}}
 {"method":"textDocument/didOpen","params":{"textDocument":{"uri":"file:///p/a.idl",
@@ -206,7 +214,13 @@ static SCRIPTS: [&str; 8] = [
     "context":{"includeDeclaration":true}}}
 ={"id":4,"jsonrpc":"2.0","result":[{"range":{"end":{"character":18,"line":0},"start":{"character":13,"line":0}},"uri":"file:///p/b.idl"},
     {"range":{"end":{"character":16,"line":1},"start":{"character":11,"line":1}},"uri":"file:///p/a.idl"},
-    {"range":{"end":{"character":16,"line":2},"start":{"character":11,"line":2}},"uri":"file:///p/a.idl"}]}"##,
+    {"range":{"end":{"character":16,"line":2},"start":{"character":11,"line":2}},"uri":"file:///p/a.idl"}]}
+{"id":5,"method":"textDocument/documentHighlight","params":{"textDocument":{"uri":"file:///p/a.idl"},"position":{"line":1,"character":13}}}
+={"id":5,"jsonrpc":"2.0","result":[{"range":{"end":{"character":16,"line":1},"start":{"character":11,"line":1}}},
+    {"range":{"end":{"character":16,"line":2},"start":{"character":11,"line":2}}}]}
+{"id":6,"method":"textDocument/references","params":{"textDocument":{"uri":"file:///p/a.idl"},"position":{"line":1,"character":8},
+    "context":{"includeDeclaration":false}}}
+={"id":6,"jsonrpc":"2.0","result":[]}"##,
 ];
 
 #[test]

@@ -7,4 +7,4 @@ use Rattle.idl_server.proofs.references.NamedPlaces.add_declared.Given as goal
 
 -- those of the names before
 abbrev pub invariant-each : goal.invariant-each
-invariant-each l = AreAdded (map (λ (one : PlacedName). one.place.name) (filter (λ (one : PlacedName). path_eq l.path one.path) (take l.one-index l.names))) l.fn.self l.self
+invariant-each l = AreAdded (map (λ (one : PlacedName). one.place.name) (filter (λ (one : PlacedName). path_eq l.path one.path) (take l.declared-index l.names))) l.fn.self l.self

@@ -7,4 +7,4 @@ use Rattle.idl_server.proofs.references.NamedPlaces.add_used.Given as goal
 
 -- those of the names before
 abbrev pub invariant-each : goal.invariant-each
-invariant-each l = AreAdded (map (λ (one : UsedName). one.name) (filter (λ (one : UsedName). path_eq l.path one.path) (take l.one-index l.names))) l.fn.self l.self
+invariant-each l = AreAdded (map (λ (one : UsedName). one.name) (filter (λ (one : UsedName). path_eq l.path one.path) (take l.used-index l.names))) l.fn.self l.self
