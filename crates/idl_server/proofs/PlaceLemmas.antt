@@ -1,5 +1,5 @@
 -- Ranges of lines, and of tokens.
-use Rattle.std.proofs.Common.{◌≡◌, ◌≤◌, ◌∙◌, ◌⊎◌, ℕ, zero, suc, ◌+◌, ◌*◌, All, Bool, true, false, cond, List, [], ◌∷◌, ◌++◌, None, Some, ap, arith, inl, inr, length, pred, refl, subst, sym, take}
+use Rattle.std.proofs.Common.{◌≡◌, ◌≤◌, ◌∙◌, ◌⊎◌, ℕ, zero, suc, ◌+◌, ◌*◌, All, Bool, true, false, cond, List, [], ◌∷◌, ◌++◌, Some, ap, arith, inl, inr, length, pred, refl, subst, sym, take}
 use Rattle.std.proofs.lemmas.List.{take_all}
 use Rattle.std.proofs.lemmas.List.Elements.{All-cons, All-head, All-nil, All-tail}
 use Rattle.std.proofs.lemmas.Option.{same_Some}

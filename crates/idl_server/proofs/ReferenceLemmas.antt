@@ -1,7 +1,7 @@
 -- Places of names, one token after another, and what is told of them.
-use Rattle.std.proofs.Common.{◌≡◌, ◌∙◌, ◌+◌, ◌<◌, ◌≤◌, ◌++◌, ℕ, Bool, true, false, cond, List, [], ◌∷◌, Option, None, Some, ap, append-nil, get_or, length, map, refl, subst, sym, take}
+use Rattle.std.proofs.Common.{◌≡◌, ◌∙◌, ◌+◌, ◌<◌, ◌++◌, ℕ, Bool, true, false, cond, List, [], ◌∷◌, Option, None, Some, ap, append-nil, get_or, length, map, refl, subst, sym, take}
 use Rattle.std.proofs.lemmas.Grind.{flat_map-append}
-use Rattle.std.proofs.lemmas.List.{map-append, take_all, take_more}
+use Rattle.std.proofs.lemmas.List.{map-append, take_more}
 use Rattle.std.proofs.lemmas.List.Elements.{filter-append}
 use Rattle.std.proofs.lemmas.List.Sums.{fold-append}
 use Rattle.std.specs.List.{filter, flat_map, fold}
@@ -13,10 +13,9 @@ use Rattle.idl_editor.specs.declared.column.Encoding.{Encoding}
 use Rattle.idl_editor.specs.declared.position.Position.{Position}
 use Rattle.idl_inputs.specs.Project.{Project}
 use Rattle.idl_project.specs.idl_sources.idl_root.declared.compiling.detailing.Details.{Details}
-use Rattle.idl_project.specs.idl_sources.idl_root.declared.compiling.places.DeclaredPlace.{DeclaredPlace}
 use Rattle.idl_project.specs.idl_sources.idl_root.declared.compiling.places.SitedToken.{SitedToken}
-use Rattle.idl_server.specs.Named.{details_with, last_declared, path_at}
-use Rattle.idl_server.specs.References.{AreAdded, highlights_at, named_as, named_by, named_with, place_of, places_of, references_at, with_place}
+use Rattle.idl_server.specs.Named.{details_with, path_at}
+use Rattle.idl_server.specs.References.{AreAdded, place_of, places_of, with_place}
 use Rattle.idl_server.specs.declared.references.FileRange.{FileRange}
 use Rattle.idl_server.specs.declared.references.NamedPlaces.{NamedPlaces}
 

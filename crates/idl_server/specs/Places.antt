@@ -37,4 +37,5 @@ is_at position range = is_up_to range.start position && is_up_to position range.
 
 -- the beginning of a file
 abbrev pub file_start : Range
-file_start = record { start = record { line = 0; column = 0 }; end = record { line = 0; column = 0 } }
+file_start =
+    let start : Position = record { line = 0; column = 0 } in record { start = start; end = start }

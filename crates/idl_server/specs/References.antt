@@ -44,7 +44,7 @@ with_place places one =
 abbrev pub places_of : Encoding → Project → List SitedToken → List FileRange
 places_of encoding project tokens = fold with_place [] (map (place_of encoding project) tokens)
 
--- the tokens that name a path, by what is told of a root: where it is declared, and where it is used
+-- the tokens that name a path, by what is told of a root: where it is declared, and where used
 abbrev pub declared_as : List (List ℕ) → Details → List SitedToken
 declared_as path details =
     map (λ one. one.place.name) (filter (λ one. path_eq path one.path) details.declared)

@@ -85,7 +85,8 @@ impl<'a> NamedPlaces<'a> {
         path: &Path,
         details: &Details,
     ) -> Result<(), AllocError>
-        ensures { OnOk result (AreAdded (named_as declared path.now details.now) self.old self.new) }
+        ensures { OnOk result
+            (AreAdded (named_as declared path.now details.now) self.old self.new) }
     {
         if !declared {
             return self.add_used(path, details);
@@ -143,7 +144,8 @@ impl Workspace {
         declared: bool,
     ) -> Result<Value, AllocError>
         ensures { IfOk result (λ value. view value ≡ array (items_of (map (told_of self.now)
-            (references_at self.now.encoding self.now.session.project declared name.now position)))) }
+            (references_at self.now.encoding self.now.session.project
+            declared name.now position)))) }
     {
         let places = self.references_of(name, position, declared)?;
         let held = places.as_slice();

@@ -1,5 +1,5 @@
 use Rattle.std.proofs.Common.{◌∙◌, sym}
-use Rattle.idl_server.proofs.IncludeLemmas.{found-end, found-here, found-past, found-past_all}
+use Rattle.idl_server.proofs.IncludeLemmas.{found-end, found-here, found-past}
 use Rattle.idl_server.proofs.includes.present_along.Goals as goal
 
 pub returns-in_err-directory : goal.returns-in_err-directory

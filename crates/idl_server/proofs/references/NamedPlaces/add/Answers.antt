@@ -1,7 +1,6 @@
 use Rattle.std.proofs.Common.{◌∙◌, refl}
 use Rattle.idl_server.specs.Places.{range_of}
 use Rattle.idl_server.specs.References.{with_place}
-use Rattle.idl_server.specs.declared.references.FileRange.{FileRange}
 use Rattle.idl_server.proofs.references.NamedPlaces.add.Goals as goal
 
 pub returns : goal.returns

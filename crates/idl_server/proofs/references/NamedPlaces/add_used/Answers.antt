@@ -1,10 +1,9 @@
-use Rattle.std.proofs.Common.{Bool, List, map, not, subst, sym, ◌∙◌}
+use Rattle.std.proofs.Common.{List, map, not, subst, sym, ◌∙◌}
 use Rattle.std.proofs.lemmas.Bool.{not-false, not-true}
 use Rattle.std.proofs.lemmas.List.{take_all}
 use Rattle.std.specs.List.{filter}
 use Rattle.idl_entity.specs.Path.{path_eq}
 use Rattle.idl_project.specs.idl_sources.idl_root.declared.compiling.places.UsedName.{UsedName}
-use Rattle.idl_project.specs.idl_sources.idl_root.declared.compiling.places.SitedToken.{SitedToken}
 use Rattle.idl_server.specs.References.{AreAdded}
 use Rattle.idl_server.proofs.ReferenceLemmas.{added-here, added-none, added-past}
 use Rattle.idl_server.proofs.references.NamedPlaces.add_used.Goals as goal
