@@ -1,12 +1,11 @@
--- The first file along a search list, as a loop finds it.
-use Rattle.std.proofs.Common.{◌≡◌, ◌≤◌, ◌∙◌, ◌+◌, ℕ, zero, suc, All, Bool, true, false, cond, IfSome, IsSome, IsTrue, List, [], ◌∷◌, Option, None, Some, ap, arith, drop, is_some, length, refl, slice_get, subst, sym}
-use Rattle.std.proofs.lemmas.Option.{get_or_from_slice_get, slice_get_within}
+-- The first file along a search list, as a loop finds it, and the one that an operand finds.
+use Rattle.std.proofs.Common.{◌≡◌, ◌∙◌, ◌+◌, ℕ, zero, suc, Bool, true, false, cond, List, [], ◌∷◌, Option, None, Some, ap, arith, drop, is_some, refl, slice_get, sym}
 use Rattle.std.specs.Prelude.{if◌then◌else◌}
 use Rattle.std.specs.FinMap as finite
 use Rattle.std.specs.List.{cons_option}
 use Rattle.std.specs.Option.{option_to_list}
 use Rattle.idl_source.specs.names.Candidates.{along, candidates, found}
-use Rattle.idl_source.specs.names.Directory.{directory_of, is_directory}
+use Rattle.idl_source.specs.names.Directory.{directory_of}
 use Rattle.idl_source.specs.names.Path.{is_rooted, joined_path}
 use Rattle.idl_source.specs.texts.Texts.{Texts}
 
@@ -47,13 +46,6 @@ module _ (files : Texts) (spelled : List ℕ) where
       ap (λ n. found files (along (drop n search) spelled)) on
       ∙ sym (ap (found files) (along-suc search at directory is) ∙ by-past (joined_path directory spelled) (along (drop (suc at) search) spelled) past)
 
-  -- all are gone through
-  pub found-past_all : (search : List (List ℕ)) (at : ℕ) → length search ≤ at → found files (along (drop at search) spelled) ≡ None
-  found-past_all [] zero past = refl
-  found-past_all [] (suc at) past = refl
-  found-past_all (d ∷ ds) zero past = let no : ⊥ = omega (arith, past) in absurd no
-  found-past_all (d ∷ ds) (suc at) past = found-past_all ds at (omega (arith, past))
-
   -- no directory is left
   pub found-end : (search : List (List ℕ)) (at : ℕ) → slice_get search at ≡ None → found files (along (drop at search) spelled) ≡ None
   found-end [] zero is = refl
@@ -87,13 +79,3 @@ module _ (files : Texts) (search : List (List ℕ)) (from spelled : List ℕ) (q
   -- along the search list alone
   pub found-angled : is_rooted spelled ≡ false → quoted ≡ false → found files (along search spelled) ≡ found files (candidates search from spelled quoted)
   found-angled plain angled = sym (ap (found files) (named false false plain angled))
-
--- ---- directories of the search list
-
-pub is-directory : (search : List (List ℕ)) (at : ℕ) (bytes : List ℕ) → All (λ directory. IsTrue (is_directory directory)) search → slice_get search at ≡ Some bytes
-    → IsTrue (is_directory bytes)
-is-directory search at bytes all is = subst (λ directory. IsTrue (is_directory directory)) (get_or_from_slice_get search at bytes [] is) (all at [] (slice_get_within search at bytes is))
-
-pub directory-there : (o : Option (List ℕ)) (bytes : List ℕ) → (IsTrue (is_directory bytes) → IsSome o) → IfSome o (λ directory. directory ≡ bytes) → IsTrue (is_directory bytes) → o ≡ Some bytes
-directory-there None bytes allowed same there = absurd (allowed there)
-directory-there (Some directory) bytes allowed same there = ap Some same

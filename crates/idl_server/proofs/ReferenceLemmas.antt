@@ -1,21 +1,14 @@
 -- Places of names, one token after another, and what is told of them.
-use Rattle.std.proofs.Common.{◌≡◌, ◌∙◌, ◌+◌, ◌<◌, ◌++◌, ℕ, Bool, true, false, cond, List, [], ◌∷◌, Option, None, Some, ap, append-nil, get_or, length, map, refl, subst, sym, take}
-use Rattle.std.proofs.lemmas.Grind.{flat_map-append}
+use Rattle.std.proofs.Common.{◌≡◌, ◌∙◌, ◌+◌, ◌<◌, ◌++◌, ℕ, Bool, true, false, cond, List, [], ◌∷◌, ap, append-nil, get_or, length, map, refl, subst, sym, take}
 use Rattle.std.proofs.lemmas.List.{map-append, take_more}
 use Rattle.std.proofs.lemmas.List.Elements.{filter-append}
 use Rattle.std.proofs.lemmas.List.Sums.{fold-append}
-use Rattle.std.specs.List.{filter, flat_map, fold}
-use Rattle.std.specs.Option.{option_map_or}
+use Rattle.std.specs.List.{filter, fold}
 use Rattle.serde_json.specs.Data.{Data}
 use Rattle.serde_json.specs.View.{view}
 use Rattle.serde_json.specs.declared.value.Value.{Value}
-use Rattle.idl_editor.specs.declared.column.Encoding.{Encoding}
-use Rattle.idl_editor.specs.declared.position.Position.{Position}
-use Rattle.idl_inputs.specs.Project.{Project}
-use Rattle.idl_project.specs.idl_sources.idl_root.declared.compiling.detailing.Details.{Details}
 use Rattle.idl_project.specs.idl_sources.idl_root.declared.compiling.places.SitedToken.{SitedToken}
-use Rattle.idl_server.specs.Named.{details_with, path_at}
-use Rattle.idl_server.specs.References.{AreAdded, place_of, places_of, with_place}
+use Rattle.idl_server.specs.References.{AreAdded, place_of, with_place}
 use Rattle.idl_server.specs.declared.references.FileRange.{FileRange}
 use Rattle.idl_server.specs.declared.references.NamedPlaces.{NamedPlaces}
 
@@ -54,16 +47,6 @@ module _ {X : Type 0} (f : X → SitedToken) (p : X → Bool) (xs : List X) (i :
       subst (λ (tokens : List SitedToken). AreAdded tokens a b)
       (sym (names-next ∙ ap (λ (t : Bool). map f (filter p (take i xs)) ++ map f (cond t (one ∷ []) [])) fails ∙ append-nil (map f (filter p (take i xs))))) are
 
--- ---- roots
-
-pub added-root : {X : Type 0} (g : X → List SitedToken) (xs : List X) (i : ℕ) (one : X) → i < length xs → one ≡ get_or xs i one → (a b c : NamedPlaces) → AreAdded (flat_map g (take i xs)) a b
-    → AreAdded (g one) b c → AreAdded (flat_map g (take (i + 1) xs)) a c
-added-root {X} g xs i one within is a b c are more =
-    let next : flat_map g (take (i + 1) xs) ≡ flat_map g (take i xs) ++ g one =
-    ap (flat_map g) (take_more xs i one within ∙ ap (λ (y : X). take i xs ++ y ∷ []) (sym is)) ∙ flat_map-append g (take i xs) (one ∷ [])
-    ∙ ap (λ (ts : List SitedToken). flat_map g (take i xs) ++ ts) (append-nil (g one)) in
-    subst (λ (tokens : List SitedToken). AreAdded tokens a c) (sym next) (added-more (flat_map g (take i xs)) (g one) a b c are more)
-
 -- ---- what is told
 
 module _ {X : Type 0} (g : X → Data) (xs : List X) (i : ℕ) (one : X) (within : i < length xs) (is : one ≡ get_or xs i one) (values : List Value) where
@@ -87,23 +70,3 @@ module _ {X : Type 0} (g : X → Data) (xs : List X) (i : ℕ) (one : X) (within
     pub told-past : p one ≡ false → map view values ≡ map g (filter p (take (i + 1) xs))
     told-past fails =
         so ∙ sym (told-more ∙ ap (λ (t : Bool). map g (filter p (take i xs)) ++ map g (cond t (one ∷ []) [])) fails ∙ append-nil (map g (filter p (take i xs))))
-
--- ---- from the name at a position
-
-module _ (encoding : Encoding) (project : Project) (name : List ℕ) (position : Position) (tokens : Details → List (List ℕ) → List SitedToken) where
-  tokens_by : Option Details → List SitedToken
-  tokens_by told = option_map_or (λ details. option_map_or (tokens details) (path_at encoding project details name position) []) told []
-
-  pub none-told : None ≡ details_with project name → [] ≡ places_of encoding project (tokens_by (details_with project name))
-  none-told none = ap (λ (told : Option Details). places_of encoding project (tokens_by told)) none
-
-  pub none-named : (details : Details) → Some details ≡ details_with project name → None ≡ path_at encoding project details name position
-      → [] ≡ places_of encoding project (tokens_by (details_with project name))
-  none-named details there none =
-      ap (λ (path : Option (List (List ℕ))). places_of encoding project (option_map_or (tokens details) path [])) none ∙ ap (λ (told : Option Details). places_of encoding project (tokens_by told)) there
-
-  pub all-named : (details : Details) (path : List (List ℕ)) → Some details ≡ details_with project name → Some path ≡ path_at encoding project details name position → (a b : NamedPlaces)
-      → a.files.project ≡ project → a.encoding ≡ encoding → a.places.keys ≡ [] → AreAdded (tokens details path) a b → b.places.keys ≡ places_of encoding project (tokens_by (details_with project name))
-  all-named details path there denoted a b files units none are =
-      are.places ∙ (λ i. fold with_place (none i) (map (place_of (units i) (files i)) (tokens details path)))
-      ∙ ap (λ (paths : Option (List (List ℕ))). places_of encoding project (option_map_or (tokens details) paths [])) denoted ∙ ap (λ (told : Option Details). places_of encoding project (tokens_by told)) there

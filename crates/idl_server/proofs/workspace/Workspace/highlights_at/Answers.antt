@@ -13,16 +13,16 @@ use Rattle.idl_server.proofs.workspace.Workspace.highlights_at.Goals as goal
 
 pub each-preserved-then-ne : goal.each-preserved-then-ne
 each-preserved-then-ne c =
-    let same : bytes_eq c.as_bytes.result.now c.as_bytes-2.result.now ≡ bytes_eq c.place-item.result.file c.args.name.now = λ i. bytes_eq (c.as_bytes.ensures.bytes i) (c.as_bytes-2.ensures.bytes i) in
+    let same : bytes_eq c.as_bytes.result.now c.as_bytes-in-each.result.now ≡ bytes_eq c.place-item.result.file c.args.name.now = λ i. bytes_eq (c.as_bytes.ensures.bytes i) (c.as_bytes-in-each.ensures.bytes i) in
     told-past highlight_of c.as_slice-held.result.now c.each.place-index c.place-item.result c.each-test.true c.place-item.is c.each.list.items (λ (place : FileRange). bytes_eq place.file c.args.name.now) c.each.invariant
-    (sym same ∙ not-true (bytes_eq c.as_bytes.result.now c.as_bytes-2.result.now) (sym c.ne.ensures ∙ c.if-ne.true))
+    (sym same ∙ not-true (bytes_eq c.as_bytes.result.now c.as_bytes-in-each.result.now) (sym c.ne.ensures ∙ c.if-ne.true))
 
 pub each-preserved : goal.each-preserved
 each-preserved c =
-    let same : bytes_eq c.as_bytes.result.now c.as_bytes-2.result.now ≡ bytes_eq c.place-item.result.file c.args.name.now = λ i. bytes_eq (c.as_bytes.ensures.bytes i) (c.as_bytes-2.ensures.bytes i) in
+    let same : bytes_eq c.as_bytes.result.now c.as_bytes-in-each.result.now ≡ bytes_eq c.place-item.result.file c.args.name.now = λ i. bytes_eq (c.as_bytes.ensures.bytes i) (c.as_bytes-in-each.ensures.bytes i) in
     told-here highlight_of c.as_slice-held.result.now c.each.place-index c.place-item.result c.each-test.true c.place-item.is c.each.list.items (λ (place : FileRange). bytes_eq place.file c.args.name.now) c.each.invariant
     c.push.new.self.items c.in_ok-highlight_value.field-0 c.in_ok-push.ensures.items c.in_ok-highlight_value.ensures
-    (sym same ∙ not-false (bytes_eq c.as_bytes.result.now c.as_bytes-2.result.now) (sym c.ne.ensures ∙ c.if-ne.false))
+    (sym same ∙ not-false (bytes_eq c.as_bytes.result.now c.as_bytes-in-each.result.now) (sym c.ne.ensures ∙ c.if-ne.false))
 
 pub returns : goal.returns
 returns c =
