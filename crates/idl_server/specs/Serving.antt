@@ -15,7 +15,7 @@ use Rattle.idl_loader.specs.declared.status.Status.{Status}
 use Rattle.idl_loader.specs.declared.status.Status.TheVariants.{Faulty, Sound}
 use Rattle.idl_server.specs.Messages.{IsAnswered, IsMessageOf}
 use Rattle.idl_server.specs.Published.{IsPublished}
-use Rattle.idl_server.specs.Server.{HasTaken, IsSettled, told_to}
+use Rattle.idl_server.specs.Server.{IsSettled, TakesIn, told_to}
 use Rattle.idl_server.specs.declared.server.Server.{Server}
 use Rattle.idl_server.specs.declared.server.StepOutcome.{StepOutcome}
 use Rattle.idl_server.specs.declared.server.StepOutcome.TheVariants.{BreaksOff, Ends, Goes}
@@ -25,7 +25,7 @@ pub record HasStepped (told : List ℕ → Holding) (body : List ℕ) (old : Ser
     (new : Server) (outcome : StepOutcome) : Type 0 where
   pub message : Message
   pub is_message : IsMessageOf body message
-  pub taken : HasTaken (told_to old body) old new
+  pub taken : TakesIn (told_to old body) old new
   pub settled : IsSettled told new
   pub published : All (IsPublished new.workspace) said
   pub answered : IsAnswered message old.phase new.phase [] said outcome
