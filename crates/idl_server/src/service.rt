@@ -39,6 +39,8 @@ impl Service for LanguageServer {
         source: &mut S,
         output: &mut O,
     ) -> Result<Status, ServiceFault>
+        requires reads { S.failures source.old < 2 ^ 64 - 1 }
+        requires writes { O.failures output.old < 2 ^ 64 - 1 }
         ensures well { OnOk result (O.failures output.new ≡ O.failures output.old) }
         ensures served { IfOk result (λ status. (first : Server) × IsNew first
             × IsServed (L.told_of loader.old) first (S.remaining source.old)
