@@ -22,7 +22,7 @@ use Rattle.idl_editor.specs.uris.Folders.{FolderNamed}
 use Rattle.idl_loader.specs.Holding.{Holding}
 use Rattle.idl_server.specs.Messages.{IsAnswered, IsMessageOf, answered, next_by, outcome_by}
 use Rattle.idl_server.specs.Published.{ArePublished, IsPublished}
-use Rattle.idl_server.specs.Server.{HasTaken, IsSettled, told_to}
+use Rattle.idl_server.specs.Server.{IsSettled, TakesIn, told_to}
 use Rattle.idl_server.specs.Serving.{AreServed, AreWritten, HasStepped, IsWritten, Serves, TakesMessages}
 use Rattle.idl_server.specs.declared.server.Phase.{Phase}
 use Rattle.idl_server.specs.declared.server.Phase.TheVariants.{Running, ShutDown, Waiting}
@@ -108,7 +108,7 @@ takes-more [] body old mid new before one = (new, subst (λ (stream : Option (Li
 takes-more (first ∷ bodies) body old mid new before one = (before.0, before.1, takes-more bodies body before.0 mid new before.2 one)
 
 -- what a step comes to, where nothing was to be said before
-pub steps-said : (told : List ℕ → Holding) (body : List ℕ) (old new : Server) (before said : List Data) (outcome : StepOutcome) → before ≡ [] → HasTaken (told_to old body) old new → IsSettled told new
+pub steps-said : (told : List ℕ → Holding) (body : List ℕ) (old new : Server) (before said : List Data) (outcome : StepOutcome) → before ≡ [] → TakesIn (told_to old body) old new → IsSettled told new
     → ArePublished new.workspace before said → (message : Message) × IsMessageOf body message × IsAnswered message old.phase new.phase before said outcome → HasStepped told body old said new outcome
 steps-said told body old new before said outcome none taken settled more answers = record {
   message = answers.0;
