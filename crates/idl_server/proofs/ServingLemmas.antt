@@ -5,9 +5,11 @@ use Rattle.std.proofs.lemmas.List.Elements.{Contains-append_left, Contains-push}
 use Rattle.std.specs.List.{Contains, flat_map}
 use Rattle.std.specs.Result.{IsErr, OnErr, OnOk}
 use Rattle.serde_json.specs.Data.{Data, null}
+use Rattle.std.specs.Prelude.{option_and_then}
+use Rattle.idl_editor.specs.documents.Documents.{Told}
 use Rattle.idl_source.specs.devices.Device.{append, prepend}
 use Rattle.idl_source.proofs.DeviceLemmas.{append-append}
-use Rattle.idl_editor.specs.documents.Notices.{json_of, told_by_notice}
+use Rattle.idl_editor.specs.documents.Notices.{json_of, told_by_message, told_by_notice}
 use Rattle.idl_editor.specs.frames.Reading.{TakesMessage}
 use Rattle.idl_editor.specs.frames.Written.{message_of}
 use Rattle.idl_editor.specs.messages.Answers.{answer_json, error_json, notice_json}
@@ -22,7 +24,7 @@ use Rattle.idl_editor.specs.uris.Folders.{FolderNamed}
 use Rattle.idl_loader.specs.Holding.{Holding}
 use Rattle.idl_server.specs.Messages.{IsAnswered, IsMessageOf, answered, next_by, outcome_by}
 use Rattle.idl_server.specs.Published.{ArePublished, IsPublished}
-use Rattle.idl_server.specs.Server.{IsSettled, TakesIn, told_to}
+use Rattle.idl_server.specs.Server.{CatchesUp, HasTaken, IsSettled, TakesIn, if_running, told_to}
 use Rattle.idl_server.specs.Serving.{AreServed, AreWritten, HasStepped, IsWritten, Serves, TakesMessages}
 use Rattle.idl_server.specs.declared.server.Phase.{Phase}
 use Rattle.idl_server.specs.declared.server.Phase.TheVariants.{Running, ShutDown, Waiting}
@@ -162,3 +164,17 @@ served-more told old mid new stream left rest before written after body said tex
   texts = written-both are.said said are.text text are.texts texts;
   written = next ∙ ap (λ (o : Option (List ℕ)). append o text) are.written ∙ append-append before are.text text;
 }
+
+-- ---- the session catches up
+
+pub told-caught : (old mid : Server) (body : List ℕ) → CatchesUp old mid → told_to mid body ≡ told_to old body
+told-caught old mid body (inl same) = ap (λ (server : Server). told_to server body) same
+told-caught old mid body (inr caught) = λ i. if_running (caught.phase i) (option_and_then (told_by_message (caught.set.folders i)) (json_of body))
+
+-- it did before
+pub takes-then : (told : Option Told) (old mid new : Server) → CatchesUp old mid → HasTaken told mid new → TakesIn told old new
+takes-then told old mid new caught taken = record { before = mid; after = new; first = caught; taken = taken; last = inl refl }
+
+-- it did after
+pub takes-before : (told : Option Told) (old mid new : Server) → HasTaken told old mid → CatchesUp mid new → TakesIn told old new
+takes-before told old mid new taken caught = record { before = old; after = mid; first = inl refl; taken = taken; last = caught }

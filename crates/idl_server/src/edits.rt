@@ -10,7 +10,7 @@ ghost use Rattle.idl_editor.specs.Splices.{IsSplice};
 ghost use Rattle.idl_loader.specs.Holding.{Holding};
 ghost use Rattle.idl_editor.specs.documents.Documents.{change_told, text_after_all, texts_of};
 ghost use Rattle.idl_server.specs.Documents.{OnlyRefusedIsBehind};
-ghost use Rattle.idl_server.specs.Files.{IsFiled, StaysBeside};
+ghost use Rattle.idl_server.specs.Files.{IsFiled, StaysBeside, StaysButText};
 ghost use Rattle.idl_editor.specs.declared.documents.document.Document.{Document};
 
 use crate::workspace::{Workspace, keep_all};
@@ -94,7 +94,7 @@ impl Workspace {
         version: Option<u64>,
         changes: &[ContentChange<'_>],
     ) -> Result<(), AllocError>
-        ensures beside { OnOk result (StaysBeside name.now self.old self.new) }
+        ensures stays { StaysButText name.now self.old self.new }
         ensures filed { (told : List ℕ → Holding) → IsFiled told self.old name.now
             → OnOk result (IsFiled told self.new name.now) }
         ensures text { OnOk result (texts_of self.new.documents.entries name.now
