@@ -1,10 +1,13 @@
 -- What a server says and is told, message after message.
-use Rattle.std.proofs.Common.{◌≡◌, ◌≢◌, ◌∙◌, ◌⊎◌, ◌++◌, ◌∷◌, [], ℕ, All, List, None, Ok, Err, Option, Result, Some, ap, append_assoc, append-nil, inl, inr, refl, subst, sym}
+use Rattle.std.proofs.Common.{◌≡◌, ◌≢◌, ◌∙◌, ◌⊎◌, ◌+◌, ◌<◌, ◌++◌, ◌∷◌, [], ℕ, All, List, None, Ok, Err, Option, Result, Some, ap, append_assoc, append-nil, get_or, inl, inr, length, map, refl, subst, sym, take}
 use Rattle.std.proofs.lemmas.Grind.{flat_map-append}
+use Rattle.std.proofs.lemmas.List.{map-append, take_more}
 use Rattle.std.proofs.lemmas.List.Elements.{Contains-append_left, Contains-push}
 use Rattle.std.specs.List.{Contains, flat_map}
 use Rattle.std.specs.Result.{IsErr, OnErr, OnOk}
-use Rattle.serde_json.specs.Data.{Data, null}
+use Rattle.serde_json.specs.Data.{Data}
+use Rattle.serde_json.specs.View.{view}
+use Rattle.serde_json.specs.declared.value.Value.{Value}
 use Rattle.std.specs.Prelude.{option_and_then}
 use Rattle.idl_editor.specs.documents.Documents.{Told}
 use Rattle.idl_source.specs.devices.Device.{append, prepend}
@@ -22,7 +25,7 @@ use Rattle.idl_editor.specs.declared.messages.method.Method.{Method}
 use Rattle.idl_editor.specs.declared.messages.method.Method.TheVariants.{Exit, Initialize, Shutdown}
 use Rattle.idl_editor.specs.uris.Folders.{FolderNamed}
 use Rattle.idl_loader.specs.Holding.{Holding}
-use Rattle.idl_server.specs.Messages.{IsAnswered, IsMessageOf, answered, next_by, outcome_by}
+use Rattle.idl_server.specs.Messages.{IsAnswered, IsMessageOf, answered, answered_by, next_by, outcome_by}
 use Rattle.idl_server.specs.Published.{ArePublished, IsPublished}
 use Rattle.idl_server.specs.Server.{CatchesUp, HasTaken, IsSettled, TakesIn, if_running, told_to}
 use Rattle.idl_server.specs.Serving.{AreServed, AreWritten, HasStepped, IsWritten, Serves, TakesMessages}
@@ -36,7 +39,7 @@ use Rattle.idl_server.specs.declared.workspace.Workspace.{Workspace}
 -- ---- which ids are answered
 
 pub answered-append : (a b : List Data) → answered (a ++ b) ≡ answered a ++ answered b
-answered-append a b = flat_map-append (λ json. answered (json ∷ [])) a b
+answered-append a b = flat_map-append answered_by a b
 
 -- one more message was said
 said-one : (before after : List Data) (json : Data) → after ≡ before ++ json ∷ [] → answered after ≡ answered before ++ answered (json ∷ [])
@@ -135,6 +138,15 @@ written-both (json ∷ said) more text rest some are = (
 
 pub written-one : (json : Data) (body : List ℕ) → IsWritten json body → AreWritten (json ∷ []) (message_of body)
 written-one json body is = (body, [], is, sym (append-nil (message_of body)), refl)
+
+-- one more value is written
+pub written-next : (values : List Value) (i : ℕ) (value : Value) (text body : List ℕ) → i < length values → value ≡ get_or values i value → AreWritten (map view (take i values)) text
+    → IsWritten (view value) body → AreWritten (map view (take (i + 1) values)) (text ++ message_of body)
+written-next values i value text body within is before one =
+    let more : take (i + 1) values ≡ take i values ++ value ∷ [] = take_more values i value within ∙ ap (λ (v : Value). take i values ++ v ∷ []) (sym is) in
+    let all : map view (take (i + 1) values) ≡ map view (take i values) ++ view value ∷ [] = ap (map view) more ∙ map-append view (take i values) (value ∷ []) in
+    subst (λ (said : List Data). AreWritten said (text ++ message_of body)) (sym all)
+    (written-both (map view (take i values)) (view value ∷ []) text (message_of body) before (written-one (view value) body one))
 
 pub prepend-none : (o : Option (List ℕ)) → o ≡ prepend [] o
 prepend-none None = refl
