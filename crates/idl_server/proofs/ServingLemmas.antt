@@ -3,17 +3,20 @@ use Rattle.std.proofs.Common.{◌≡◌, ◌≢◌, ◌∙◌, ◌⊎◌, ◌+�
 use Rattle.std.proofs.lemmas.Grind.{flat_map-append}
 use Rattle.std.proofs.lemmas.List.{map-append, take_more}
 use Rattle.std.proofs.lemmas.List.Elements.{Contains-append_left, Contains-push}
+use Rattle.std.specs.Global.{Global}
 use Rattle.std.specs.List.{Contains, flat_map}
+use Rattle.std.specs.Prelude.{Vec}
 use Rattle.std.specs.Result.{IsErr, OnErr, OnOk}
 use Rattle.serde_json.specs.Data.{Data}
 use Rattle.serde_json.specs.View.{view}
 use Rattle.serde_json.specs.declared.value.Value.{Value}
-use Rattle.std.specs.Prelude.{option_and_then}
-use Rattle.idl_editor.specs.documents.Documents.{Told}
 use Rattle.idl_source.specs.devices.Device.{append, prepend}
 use Rattle.idl_source.proofs.DeviceLemmas.{append-append}
-use Rattle.idl_editor.specs.documents.Notices.{json_of, told_by_message, told_by_notice}
-use Rattle.idl_editor.specs.frames.Reading.{TakesMessage}
+use Rattle.idl_editor.specs.documents.Notices.{json_of, told_by_notice}
+use Rattle.idl_editor.specs.frames.Reading.{Receives, TakesMessage}
+use Rattle.idl_editor.specs.declared.frames.reader.Received.{Received}
+use Rattle.idl_editor.specs.declared.frames.reader.Received.TheVariants.{Body, End, Unfinished, NoHead, OverLimit}
+use Rattle.idl_loader.specs.declared.status.Status.TheVariants.{Faulty}
 use Rattle.idl_editor.specs.frames.Written.{message_of}
 use Rattle.idl_editor.specs.messages.Answers.{answer_json, error_json, notice_json}
 use Rattle.idl_editor.specs.messages.Message.{IsMessage}
@@ -27,13 +30,13 @@ use Rattle.idl_editor.specs.uris.Folders.{FolderNamed}
 use Rattle.idl_loader.specs.Holding.{Holding}
 use Rattle.idl_server.specs.Messages.{IsAnswered, IsMessageOf, answered, answered_by, next_by, outcome_by}
 use Rattle.idl_server.specs.Published.{ArePublished, IsPublished}
-use Rattle.idl_server.specs.Server.{CatchesUp, HasTaken, IsSettled, TakesIn, if_running, told_to}
-use Rattle.idl_server.specs.Serving.{AreServed, AreWritten, HasStepped, IsWritten, Serves, TakesMessages}
+use Rattle.idl_server.specs.Server.{IsSettled, TakesIn, told_to}
+use Rattle.idl_server.specs.Serving.{AreServed, AreWritten, HasStepped, IsNoBody, IsServed, IsWritten, Serves, TakesMessages, status_by}
 use Rattle.idl_server.specs.declared.server.Phase.{Phase}
 use Rattle.idl_server.specs.declared.server.Phase.TheVariants.{Running, ShutDown, Waiting}
 use Rattle.idl_server.specs.declared.server.Server.{Server}
 use Rattle.idl_server.specs.declared.server.StepOutcome.{StepOutcome}
-use Rattle.idl_server.specs.declared.server.StepOutcome.TheVariants.{Goes}
+use Rattle.idl_server.specs.declared.server.StepOutcome.TheVariants.{BreaksOff, Ends, Goes}
 use Rattle.idl_server.specs.declared.workspace.Workspace.{Workspace}
 
 -- ---- which ids are answered
@@ -177,16 +180,46 @@ served-more told old mid new stream left rest before written after body said tex
   written = next ∙ ap (λ (o : Option (List ℕ)). append o text) are.written ∙ append-append before are.text text;
 }
 
--- ---- the session catches up
+-- no further message is there
+pub served-out : (told : List ℕ → Holding) (old new : Server) (stream left before after rest : Option (List ℕ)) (received : Received) → AreServed told old stream left before after new
+    → Receives received left rest → IsNoBody received → IsServed told old stream before after Faulty
+served-out told old new stream left before after rest received are none no_body = record {
+  left = left;
+  mid = after;
+  new = new;
+  served = are;
+  said = [];
+  text = [];
+  ends = inr (received, rest, none, no_body, refl, refl);
+  texts = refl;
+  written = append-none after;
+}
 
-pub told-caught : (old mid : Server) (body : List ℕ) → CatchesUp old mid → told_to mid body ≡ told_to old body
-told-caught old mid body (inl same) = ap (λ (server : Server). told_to server body) same
-told-caught old mid body (inr caught) = λ i. if_running (caught.phase i) (option_and_then (told_by_message (caught.set.folders i)) (json_of body))
+-- the last message ended it
+pub served-end : (told : List ℕ → Holding) (old mid new : Server) (stream left rest before written after : Option (List ℕ)) (body : List ℕ) (said : List Data) (text : List ℕ) (outcome : StepOutcome)
+    → AreServed told old stream left before written mid → TakesMessage body left rest → HasStepped told body mid said new outcome → outcome ≢ Goes → AreWritten said text → after ≡ append written text
+    → IsServed told old stream before after (status_by outcome)
+served-end told old mid new stream left rest before written after body said text outcome are one steps end texts next = record {
+  left = left;
+  mid = written;
+  new = mid;
+  served = are;
+  said = said;
+  text = text;
+  ends = inl (body, rest, new, outcome, one, steps, end, refl);
+  texts = texts;
+  written = next;
+}
 
--- it did before
-pub takes-then : (told : Option Told) (old mid new : Server) → CatchesUp old mid → HasTaken told mid new → TakesIn told old new
-takes-then told old mid new caught taken = record { before = mid; after = new; first = caught; taken = taken; last = inl refl }
+pub none-came : (received : Received) → ((body : Vec ℕ Global) → received ≢ Body body) → IsNoBody received
+none-came (Body body) not = absurd (not body refl)
+none-came End not = tt
+none-came Unfinished not = tt
+none-came NoHead not = tt
+none-came OverLimit not = tt
 
--- it did after
-pub takes-before : (told : Option Told) (old mid new : Server) → HasTaken told old mid → CatchesUp mid new → TakesIn told old new
-takes-before told old mid new taken caught = record { before = old; after = mid; first = inl refl; taken = taken; last = caught }
+pub ends-not : Ends ≢ Goes
+ends-not h = absurd (cc)
+
+pub breaks-not : BreaksOff ≢ Goes
+breaks-not h = absurd (cc)

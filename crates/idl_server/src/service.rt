@@ -6,7 +6,7 @@ ghost use Rattle.serde_json.specs.View.{view};
 ghost use Rattle.idl_source.specs.devices.Device.{append, prepend};
 ghost use Rattle.idl_editor.specs.frames.Reading.{IsNearer, Receives, fuel};
 ghost use Rattle.idl_server.specs.Server.{IsNew, IsSettled};
-ghost use Rattle.idl_server.specs.Serving.{AreWritten, HasStepped, IsServed, status_by};
+ghost use Rattle.idl_server.specs.Serving.{AreWritten, HasStepped, IsServed};
 ghost use Rattle.idl_server.specs.declared.server.Server.{Server};
 
 use crate::server::{Server, StepOutcome};
@@ -73,18 +73,9 @@ fn answer_messages<L: PathLoader, S: Source, O: Sink>(
         let message = (body.as_slice(), reader.has_message());
         match answer_message(server, loader, message, output)? {
             StepOutcome::Goes => {}
-            end => return Ok(status_by(end)),
+            StepOutcome::Ends => return Ok(Status::Sound),
+            StepOutcome::BreaksOff => return Ok(Status::Faulty),
         }
-    }
-}
-
-// How a program ends by what its last message came to.
-fn status_by(outcome: StepOutcome) -> Status
-    ensures { result ≡ status_by outcome }
-{
-    match outcome {
-        StepOutcome::Ends => Status::Sound,
-        _ => Status::Faulty,
     }
 }
 

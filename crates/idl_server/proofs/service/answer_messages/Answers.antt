@@ -1,10 +1,11 @@
-use Rattle.std.proofs.Common.{◌∙◌, [], ℕ, List, ap, inl, inr, refl, subst, sym}
+use Rattle.std.proofs.Common.{◌∙◌, ℕ, List, ap, refl, subst, sym}
 use Rattle.idl_source.specs.devices.Device.{prepend}
 use Rattle.idl_loader.specs.Holding.{Holding}
 use Rattle.idl_server.specs.Server.{IsSettled}
 use Rattle.idl_server.specs.Serving.{HasStepped}
-use Rattle.idl_server.specs.declared.server.StepOutcome.TheVariants.{Goes}
-use Rattle.idl_server.proofs.ServingLemmas.{append-none, prepend-none, served-more, served-none}
+use Rattle.idl_server.specs.declared.server.StepOutcome.{StepOutcome}
+use Rattle.idl_server.specs.declared.server.StepOutcome.TheVariants.{BreaksOff, Ends, Goes}
+use Rattle.idl_server.proofs.ServingLemmas.{breaks-not, ends-not, none-came, prepend-none, served-end, served-more, served-none, served-out}
 use Rattle.idl_server.proofs.service.answer_messages.Goals as goal
 
 pub messages-init : goal.messages-init
@@ -34,3 +35,22 @@ messages-preserved g c =
 
 pub messages-smaller : goal.messages-smaller
 messages-smaller g c = c.in_ok-received.ensures.nearer
+
+pub returns-in_default-clause-served : goal.returns-in_default-clause-served
+returns-in_default-clause-served g c =
+    served-out (g.L.PathLoader.told_of c.args.loader.now) c.args.server.now c.messages.server _ _ _ _ _ c.in_ok-received.field-0 c.messages.invariant.served c.in_ok-received.ensures.received
+    (none-came c.in_ok-received.field-0 c.in_default.not-Body)
+
+pub returns-in-Ends-clause-served : goal.returns-in-Ends-clause-served
+returns-in-Ends-clause-served g c =
+    let inv = c.messages.invariant in
+    let one = c.in_ok-answer_message.ensures.stepped in
+    served-end (g.L.PathLoader.told_of c.args.loader.now) c.args.server.now c.messages.server c.answer_message.new.server _ _ _ _ _ _ c.in-Body.body.items one.0 one.1 Ends inv.served c.in_ok-received.ensures.received
+    (subst (λ (outcome : StepOutcome). HasStepped _ _ _ one.0 _ outcome) c.in-Ends.is (subst (λ (told : List ℕ → Holding). HasStepped told _ _ one.0 _ _) inv.stays one.2)) ends-not one.3 one.4
+
+pub returns-in-BreaksOff-clause-served : goal.returns-in-BreaksOff-clause-served
+returns-in-BreaksOff-clause-served g c =
+    let inv = c.messages.invariant in
+    let one = c.in_ok-answer_message.ensures.stepped in
+    served-end (g.L.PathLoader.told_of c.args.loader.now) c.args.server.now c.messages.server c.answer_message.new.server _ _ _ _ _ _ c.in-Body.body.items one.0 one.1 BreaksOff inv.served c.in_ok-received.ensures.received
+    (subst (λ (outcome : StepOutcome). HasStepped _ _ _ one.0 _ outcome) c.in-BreaksOff.is (subst (λ (told : List ℕ → Holding). HasStepped told _ _ one.0 _ _) inv.stays one.2)) breaks-not one.3 one.4
