@@ -1,20 +1,139 @@
 -- The session gets the text of a document later.
-use Rattle.std.proofs.Common.{◌≡◌, ℕ, List, Option, ap, inl, inr, refl}
+use Rattle.std.proofs.Common.{◌≡◌, ◌∙◌, ◌⊎◌, ℕ, All, Bool, true, false, List, Option, None, Some, ap, inl, inr, is_some, refl, subst, sym, true≢false}
+use Rattle.std.proofs.lemmas.List.Elements.{All-weaker}
+use Rattle.std.specs.Cmp.Lexicographic.{bytes_decides}
+use Rattle.std.specs.FinMap as finite
+use Rattle.std.specs.List.{list_any}
+use Rattle.std.specs.Map.{lookup}
+use Rattle.std.specs.Option.{IsSome, option_map}
 use Rattle.std.specs.Prelude.{option_and_then}
-use Rattle.idl_editor.specs.documents.Documents.{Told}
+use Rattle.std.specs.Str.{bytes_eq}
+use Rattle.idl_project.specs.idl_sources.Compile.{compiled_root}
+use Rattle.idl_project.specs.UpToDate.{State}
+use Rattle.idl_editor.specs.documents.Documents.{AreSameBeside, Told, texts_of}
 use Rattle.idl_editor.specs.documents.Notices.{json_of, told_by_message}
-use Rattle.idl_server.specs.Server.{CatchesUp, HasTaken, TakesIn, if_running, told_to}
+use Rattle.idl_editor.specs.declared.documents.document.Document.{Document}
+use Rattle.idl_loader.specs.Holding.{Holding}
+use Rattle.idl_server.specs.Files.{AreFiled, AreTried, IsFiled, IsTried, StaysBeside, StaysButText, told_by}
+use Rattle.idl_server.specs.Roots.{AreCovered, AreRooted, IsCompiled, IsFull, IsOpen, IsThere}
+use Rattle.idl_server.specs.Server.{CatchesUp, HasTaken, IsSettled, TakesIn, if_running, told_to}
+use Rattle.idl_server.specs.declared.server.Phase.TheVariants.{Waiting}
 use Rattle.idl_server.specs.declared.server.Server.{Server}
+use Rattle.idl_server.specs.declared.workspace.Workspace.{Workspace}
+use Rattle.idl_server.proofs.CoveredLemmas.{text-open}
+use Rattle.idl_server.proofs.WorkspaceLemmas.{all-beside, filed-alike}
 
--- what a message tells is the same then
+-- ---- what a message tells
+
 pub told-caught : (old mid : Server) (body : List ℕ) → CatchesUp old mid → told_to mid body ≡ told_to old body
 told-caught old mid body (inl same) = ap (λ (server : Server). told_to server body) same
 told-caught old mid body (inr caught) = λ i. if_running (caught.phase i) (option_and_then (told_by_message (caught.set.folders i)) (json_of body))
 
--- it got it before
+-- the session got the text before
 pub takes-then : (told : Option Told) (old mid new : Server) → CatchesUp old mid → HasTaken told mid new → TakesIn told old new
 takes-then told old mid new caught taken = record { before = mid; after = new; first = caught; taken = taken; last = inl refl }
 
--- it got it after
+-- or after
 pub takes-before : (told : Option Told) (old mid new : Server) → HasTaken told old mid → CatchesUp mid new → TakesIn told old new
 takes-before told old mid new taken caught = record { before = old; after = mid; first = inl refl; taken = taken; last = caught }
+
+-- ---- a document whose text changed is open as before
+
+module _ (name : List ℕ) (f : List ℕ → List ℕ) (old new : Workspace) (beside : AreSameBeside name old.documents.entries new.documents.entries)
+    (text : texts_of new.documents.entries name ≡ option_map f (texts_of old.documents.entries name)) where
+  pub open-on : (other : List ℕ) → IsOpen old other → IsOpen new other
+  open-on other is = by (bytes_eq name other) refl
+    where
+      some : (found : Option Document) → lookup (bytes_eq name) old.documents.entries ≡ found → IsSome found → texts_of new.documents.entries name ≡ option_map f (option_map (λ d. d.text.items) found) → IsOpen new name
+      some (Some d) at there h = text-open new name (f d.text.items) h
+      some None at there h = absurd (true≢false (sym there))
+
+      by : (b : Bool) → bytes_eq name other ≡ b → IsOpen new other
+      by true alike =
+          let same = (bytes_decides name other).0 alike in
+          subst (λ (n : List ℕ). IsOpen new n) same (some (lookup (bytes_eq name) old.documents.entries) refl (subst (λ (n : List ℕ). IsOpen old n) (sym same) is) text)
+      by false apart = subst (λ (o : Option Document). IsSome o) (sym (beside other apart)) is
+
+  pub open-off : (other : List ℕ) → IsOpen new other → IsOpen old other
+  open-off other is = by (bytes_eq name other) refl
+    where
+      none : (d : Document) → option_map (λ (x : Document). x.text.items) (Some d) ≡ None → ⊥
+      none d h = absurd (cc)
+
+      some : (found now : Option Document) → lookup (bytes_eq name) old.documents.entries ≡ found → IsSome now → option_map (λ (d : Document). d.text.items) now ≡ option_map f (option_map (λ (d : Document). d.text.items) found)
+          → IsSome found
+      some (Some d) now at there h = refl
+      some None (Some d) at there h = absurd (none d h)
+      some None None at there h = absurd (true≢false (sym there))
+
+      by : (b : Bool) → bytes_eq name other ≡ b → IsOpen old other
+      by true alike =
+          let same = (bytes_decides name other).0 alike in
+          subst (λ (n : List ℕ). IsOpen old n) same
+          (some (lookup (bytes_eq name) old.documents.entries) (lookup (bytes_eq name) new.documents.entries) refl (subst (λ (n : List ℕ). IsOpen new n) (sym same) is) text)
+      by false apart = subst (λ (o : Option Document). IsSome o) (beside other apart) is
+
+-- ---- a text that is put off
+
+module _ (told : List ℕ → Holding) (name : List ℕ) (f : List ℕ → List ℕ) (old new : Server) (stays : StaysButText name old.workspace new.workspace)
+    (text : texts_of new.workspace.documents.entries name ≡ option_map f (texts_of old.workspace.documents.entries name)) where
+  w : Workspace
+  w = old.workspace
+
+  v : Workspace
+  v = new.workspace
+
+  on : (other : List ℕ) → IsOpen w other → IsOpen v other
+  on other is = open-on name f w v stays.documents text other is
+
+  off : (other : List ℕ) → IsOpen v other → IsOpen w other
+  off other is = open-off name f w v stays.documents text other is
+
+  filed : (t : List ℕ → Holding) → (IsFiled t w name → IsFiled t v name) → AreFiled t w → AreFiled t v
+  filed t here are = λ other. by other (bytes_eq name other) refl
+    where
+      by : (other : List ℕ) (b : Bool) → bytes_eq name other ≡ b → IsFiled t v other
+      by other true alike = subst (λ (n : List ℕ). IsFiled t v n) ((bytes_decides name other).0 alike) (here (are name))
+      by other false apart = filed-alike t other w v (record {
+        document = stays.documents other apart;
+        file = λ i. finite.get (stays.session i).project.inputs.files other;
+        tried = λ i. list_any (bytes_eq other) (stays.tried i).keys;
+        unread = λ i. list_any (bytes_eq other) (stays.unread i).keys;
+      }) (are other)
+
+  still-tried : (other : List ℕ) → IsTried w other → IsTried v other
+  still-tried other (inl there) = inl ((λ i. list_any (bytes_eq other) (stays.tried i).keys) ∙ there)
+  still-tried other (inr there) = inr (on other there)
+
+  tried : AreTried w → AreTried v
+  tried are =
+      subst (λ (s : State). All (λ root. All (IsTried v) (compiled_root s.project.inputs root).absent) s.project.roots) (sym stays.session)
+      (All-weaker (λ root. All (IsTried w) (compiled_root w.session.project.inputs root).absent) (λ root. All (IsTried v) (compiled_root w.session.project.inputs root).absent)
+      (λ root. All-weaker (IsTried w) (IsTried v) still-tried (compiled_root w.session.project.inputs root).absent) w.session.project.roots are)
+
+  rooted : AreRooted w → AreRooted v
+  rooted are = λ other root. on other (are other ((λ i. list_any (bytes_eq other) (sym stays.session i).project.roots) ∙ root))
+
+  covered : AreCovered w → AreCovered v
+  covered are = λ other opened there.
+      subst (λ (s : State). IsCompiled s.project other ⊎ IsFull s.project) (sym stays.session) (are other (off other opened) (subst (λ (s : State). IsThere s.project other) stays.session there))
+
+  pub put-off-settled : ((t : List ℕ → Holding) → IsFiled t w name → IsFiled t v name) → (new.phase ≡ Waiting → ⊥) → IsSettled told old → IsSettled told new
+  put-off-settled here runs is = record {
+    filed = subst (λ (t : List ℕ → Holding). AreFiled t v) (λ i. told_by (sym stays.folders i) told) (filed (told_by w.folders told) (here (told_by w.folders told)) is.filed);
+    tried = tried is.tried;
+    rooted = rooted is.rooted;
+    covered = covered is.covered;
+    blank = λ waiting. absurd (runs waiting);
+  }
+
+-- ---- a text that is put
+
+-- it is that of an open document, or nothing was done
+pub put-filed : (told : List ℕ → Holding) (name : List ℕ) (old new : Workspace) → StaysBeside name old new
+    → (IsSome (lookup (bytes_eq name) old.documents.entries) → (t : List ℕ → Holding) → IsFiled t new name) → (lookup (bytes_eq name) old.documents.entries ≡ None → new ≡ old) → AreFiled told old → AreFiled told new
+put-filed told name old new beside opened absent are = by (lookup (bytes_eq name) old.documents.entries) refl
+  where
+    by : (found : Option Document) → lookup (bytes_eq name) old.documents.entries ≡ found → AreFiled told new
+    by (Some d) at = all-beside told name old new beside (opened (ap (λ (o : Option Document). is_some o) at) told) are
+    by None at = subst (λ (x : Workspace). AreFiled told x) (sym (absent at)) are
