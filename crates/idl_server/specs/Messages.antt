@@ -8,7 +8,7 @@ use Rattle.idl_editor.specs.messages.Answers.{error_json}
 use Rattle.idl_editor.specs.messages.Message.{IsMessage, id_in}
 use Rattle.idl_editor.specs.declared.messages.answer.ErrorCode.TheVariants.{Internal, NoJson}
 use Rattle.idl_editor.specs.declared.messages.message.Message.{Message}
-use Rattle.idl_editor.specs.declared.messages.message.Message.TheVariants.{Request, Notice, Answer, Invalid}
+use Rattle.idl_editor.specs.declared.messages.message.Message.TheVariants.{Request, Notice, Invalid}
 use Rattle.idl_editor.specs.declared.messages.method.Method.{Method}
 use Rattle.idl_editor.specs.declared.messages.method.Method.TheVariants.{Exit, Initialize, Shutdown}
 use Rattle.idl_server.specs.declared.server.Phase.{Phase}

@@ -18,7 +18,7 @@ use Rattle.idl_server.specs.Published.{IsPublished}
 use Rattle.idl_server.specs.Server.{IsSettled, TakesIn, told_to}
 use Rattle.idl_server.specs.declared.server.Server.{Server}
 use Rattle.idl_server.specs.declared.server.StepOutcome.{StepOutcome}
-use Rattle.idl_server.specs.declared.server.StepOutcome.TheVariants.{BreaksOff, Ends, Goes}
+use Rattle.idl_server.specs.declared.server.StepOutcome.TheVariants.{Ends, Goes}
 
 -- a server took a body in, said this, and is between messages again
 pub record HasStepped (told : List ℕ → Holding) (body : List ℕ) (old : Server) (said : List Data)

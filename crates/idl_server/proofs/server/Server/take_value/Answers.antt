@@ -67,3 +67,30 @@ returns-in-Request-clause-answered g c = (
 pub returns-in-Answer-clause-answered : goal.returns-in-Answer-clause-answered
 returns-in-Answer-clause-answered g c =
     (Answer, c.in-Answer.ensures, record { answers = sym (append-nil (answered (said_by c.args.out.now))); led = refl; outcome = refl })
+
+-- what ends a server tells nothing of documents
+pub returns-in_default-clause-taken : goal.returns-in_default-clause-taken
+returns-in_default-clause-taken g c =
+    let old = c.args.self.now in
+    let folders = old.workspace.folders in
+    let method = c.in-Notice.method in
+    let told = told-notice folders (view c.args.value.now) method (seen c.in-Notice.params) c.in-Notice.ensures.0 c.in-Notice.ensures.1 c.in-Notice.ensures.2 in
+    taken-same _ old (ap (if_running old.phase) (told ∙ ends-told folders old.phase method _ (λ goes. c.in_default.not-Goes (c.outcome_by.ensures ∙ goes))) ∙ none-running old.phase)
+
+pub returns-in_default-clause-published : goal.returns-in_default-clause-published
+returns-in_default-clause-published g c =
+    none-published c.args.self.now.workspace (said_by c.args.out.now)
+
+pub returns-in_default-clause-answered : goal.returns-in_default-clause-answered
+returns-in_default-clause-answered g c = (
+  Notice c.in-Notice.method c.in-Notice.params,
+  c.in-Notice.ensures,
+  record { answers = sym (append-nil (answered (said_by c.args.out.now))); led = refl; outcome = c.outcome_by.ensures },
+)
+
+pub returns-in-Invalid-clause-answered : goal.returns-in-Invalid-clause-answered
+returns-in-Invalid-clause-answered g c = (
+  Invalid,
+  c.in-Invalid.ensures,
+  record { answers = answered-error (said_by c.args.out.now) (said_by c.refuse.new.self) _ _ c.in_ok-refuse-in-Invalid.ensures; led = refl; outcome = refl },
+)
