@@ -10,18 +10,21 @@ use Rattle.std.specs.Prelude.{option_and_then}
 use Rattle.std.specs.Str.{bytes_eq}
 use Rattle.idl_project.specs.idl_sources.Compile.{compiled_root}
 use Rattle.idl_project.specs.UpToDate.{State}
-use Rattle.idl_editor.specs.documents.Documents.{AreSameBeside, Told, texts_of}
+use Rattle.idl_editor.specs.documents.Documents.{AreSameBeside, HaveTexts, Told, texts_of}
 use Rattle.idl_editor.specs.documents.Notices.{json_of, told_by_message}
 use Rattle.idl_editor.specs.declared.documents.document.Document.{Document}
 use Rattle.idl_loader.specs.Holding.{Holding}
-use Rattle.idl_server.specs.Files.{AreFiled, AreTried, IsFiled, IsTried, StaysBeside, StaysButText, told_by}
+use Rattle.idl_server.specs.Documents.{OnlyRefusedIsBehind}
+use Rattle.idl_server.specs.Files.{AreFiled, AreTried, IsFiled, IsTried, StaysBeside, StaysButText, StaysSet, told_by}
 use Rattle.idl_server.specs.Roots.{AreCovered, AreRooted, IsCompiled, IsFull, IsOpen, IsThere}
-use Rattle.idl_server.specs.Server.{CatchesUp, HasTaken, IsSettled, TakesIn, if_running, told_to}
+use Rattle.idl_server.specs.Server.{CatchesUp, HasCaughtUp, HasTaken, IsSettled, TakesIn, if_running, told_to}
 use Rattle.idl_server.specs.declared.server.Phase.TheVariants.{Waiting}
 use Rattle.idl_server.specs.declared.server.Server.{Server}
 use Rattle.idl_server.specs.declared.workspace.Workspace.{Workspace}
-use Rattle.idl_server.proofs.CoveredLemmas.{text-open}
-use Rattle.idl_server.proofs.WorkspaceLemmas.{all-beside, filed-alike}
+use Rattle.idl_server.proofs.CoveredLemmas.{rooted-changed, text-open}
+use Rattle.idl_server.proofs.HeldLemmas.{held-after, held-beside, held-same}
+use Rattle.idl_server.proofs.ServerLemmas.{told-settled}
+use Rattle.idl_server.proofs.WorkspaceLemmas.{all-beside, filed-alike, set-both, set-same}
 
 -- ---- what a message tells
 
@@ -137,3 +140,55 @@ put-filed told name old new beside opened absent are = by (lookup (bytes_eq name
     by : (found : Option Document) → lookup (bytes_eq name) old.documents.entries ≡ found → AreFiled told new
     by (Some d) at = all-beside told name old new beside (opened (ap (λ (o : Option Document). is_some o) at) told) are
     by None at = subst (λ (x : Workspace). AreFiled told x) (sym (absent at)) are
+
+-- its documents have their texts
+pub put-texts : (name : List ℕ) (old new : List (List ℕ × Document)) → AreSameBeside name old new → texts_of new name ≡ texts_of old name → HaveTexts new (texts_of old)
+put-texts name old new beside here = λ other. by other (bytes_eq name other) refl
+  where
+    by : (other : List ℕ) (b : Bool) → bytes_eq name other ≡ b → texts_of new other ≡ texts_of old other
+    by other true alike = subst (λ (n : List ℕ). texts_of new n ≡ texts_of old n) ((bytes_decides name other).0 alike) here
+    by other false apart = λ i. option_map (λ (d : Document). d.text.items) (beside other apart i)
+
+same-text : (o : Option (List ℕ)) → option_map (λ (t : List ℕ). t) o ≡ o
+same-text None = refl
+same-text (Some t) = refl
+
+-- ---- the session catches up
+
+-- none is late
+pub caught-none : (old : Server) → HasCaughtUp old (record old { late = None })
+caught-none old = record {
+  texts = λ name. refl;
+  held = held-same old.workspace.session.project old.workspace.documents.entries old.workspace.documents.entries refl;
+  set = set-same old.workspace;
+  phase = refl;
+  none = refl;
+}
+
+pub settled-none : (told : List ℕ → Holding) (old : Server) → IsSettled told old → IsSettled told (record old { late = None })
+settled-none told old is = record { filed = is.filed; tried = is.tried; rooted = is.rooted; covered = is.covered; blank = is.blank }
+
+-- the text of the late one was put, and then what roots ask for was loaded
+module _ (told : List ℕ → Holding) (name : List ℕ) (old : Server) (put w : Workspace) (beside : StaysBeside name old.workspace put)
+    (text : texts_of put.documents.entries name ≡ texts_of old.workspace.documents.entries name) (set : StaysSet put w) where
+  same : told_by put.folders told ≡ told_by old.workspace.folders told
+  same = λ i. told_by (beside.set.folders i) told
+
+  pub caught-settled : (IsSome (lookup (bytes_eq name) old.workspace.documents.entries) → (t : List ℕ → Holding) → IsFiled t put name)
+      → (lookup (bytes_eq name) old.workspace.documents.entries ≡ None → put ≡ old.workspace) → (AreFiled (told_by put.folders told) put → AreFiled (told_by put.folders told) w) → AreTried w
+      → (AreRooted put → AreRooted w) → AreCovered w → (old.phase ≡ Waiting → ⊥) → IsSettled told old → IsSettled told (record old { workspace = w })
+  caught-settled opened absent filed tried rooted covered runs is =
+      let before = put-filed (told_by old.workspace.folders told) name old.workspace put beside opened absent is.filed in
+      let after = subst (λ (t : List ℕ → Holding). AreFiled t w) same (filed (subst (λ (t : List ℕ → Holding). AreFiled t put) (sym same) before)) in
+      let opens = rooted-changed name (λ (t : List ℕ). t) old.workspace put beside.roots beside.documents (text ∙ sym (same-text (texts_of old.workspace.documents.entries name))) is.rooted in
+      told-settled told old w (set-both old.workspace put w beside.set set) after tried (rooted opens) covered runs
+
+  pub caught-up : w.documents ≡ put.documents → OnlyRefusedIsBehind old.workspace.session.project name put.documents.entries → HasCaughtUp old (record old { workspace = w; late = None })
+  caught-up documents held = record {
+    texts = λ other. (λ i. texts_of (documents i).entries other) ∙ put-texts name old.workspace.documents.entries put.documents.entries beside.documents text other;
+    held = held-after old.workspace.session.project _ _ _ (λ i. (documents i).entries)
+        (held-beside old.workspace.session.project name old.workspace.documents.entries put.documents.entries beside.documents held);
+    set = set-both old.workspace put w beside.set set;
+    phase = refl;
+    none = refl;
+  }

@@ -235,7 +235,9 @@ impl Server {
         ensures phase { self.new.phase ≡ self.old.phase }
         ensures stays { L.told_of loader.new ≡ L.told_of loader.old }
     {
-        let Some(name) = &self.late else {
+        // A text is put off only where the server runs.
+        let (Some(name), Phase::Running) = (&self.late, self.phase) else {
+            self.late = None;
             return Ok(());
         };
         self.workspace.put_whole(name)?;
