@@ -34,7 +34,8 @@ pub record HasStepped (told : List ℕ → Holding) (body : List ℕ) (old : Ser
 abbrev pub Serves : (List ℕ → Holding) → Server → List (List ℕ) → List Data → Server → Type 0
 Serves told old [] said new = (said ≡ []) × (new ≡ old)
 Serves told old (body ∷ bodies) said new =
-    (mid : Server) × (first rest : List Data) × HasStepped told body old first mid Goes
+    (mid : Server) × (first : List Data) × (rest : List Data)
+    × HasStepped told body old first mid Goes
     × (said ≡ first ++ rest) × Serves told mid bodies rest new
 
 -- messages of these bodies went, one after another
@@ -51,8 +52,8 @@ IsWritten json body =
 abbrev pub AreWritten : List Data → List ℕ → Type 0
 AreWritten [] text = text ≡ []
 AreWritten (json ∷ said) text =
-    (body rest : List ℕ) × IsWritten json body × (text ≡ message_of body ++ rest)
-    × AreWritten said rest
+    (body : List ℕ) × (rest : List ℕ) × IsWritten json body
+    × (text ≡ message_of body ++ rest) × AreWritten said rest
 
 -- no message came
 abbrev pub IsNoBody : Received → Type 0
@@ -73,7 +74,7 @@ IsEnded told server stream said status =
     ⊎ ((received : Received) × (left : Option (List ℕ)) × Receives received stream left
     × IsNoBody received × (said ≡ []) × (status ≡ Faulty))
 
--- messages of a stream were served from the first one on: each was taken in once and answered once, in
+-- messages of a stream were served from the first one on: each was taken in and answered once, in
 -- order, and what was said is what was written
 pub record AreServed (told : List ℕ → Holding) (old : Server)
     (stream left before after : Option (List ℕ)) (new : Server) : Type 0 where
