@@ -55,8 +55,8 @@ impl Reader {
 
     /// Whether a whole message is held, which is then taken next, without a read.
     pub fn has_message(&self) -> bool
-        ensures whole { result ≡ true → (message body rest : List ℕ) × IsMessage message body
-            × (self.now ≡ message ++ rest) }
+        ensures whole { result ≡ true → (message : List ℕ) × (body : List ℕ) × (rest : List ℕ)
+            × IsMessage message body × (self.now ≡ message ++ rest) }
         ensures part { result ≡ false → HasNoMessage self.now }
     {
         match head_of(&self.held) {
