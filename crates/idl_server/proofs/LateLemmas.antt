@@ -8,16 +8,19 @@ use Rattle.std.specs.Map.{lookup}
 use Rattle.std.specs.Option.{IsSome, option_map}
 use Rattle.std.specs.Prelude.{option_and_then}
 use Rattle.std.specs.Str.{bytes_eq}
+use Rattle.serde_json.specs.Data.{Data}
 use Rattle.idl_project.specs.idl_sources.Compile.{compiled_root}
 use Rattle.idl_project.specs.UpToDate.{State}
 use Rattle.idl_editor.specs.documents.Documents.{AreSameBeside, HaveTexts, Told, texts_of}
-use Rattle.idl_editor.specs.documents.Notices.{json_of, told_by_message}
+use Rattle.idl_editor.specs.documents.Notices.{json_of, name_in, told_by_message}
 use Rattle.idl_editor.specs.declared.documents.document.Document.{Document}
 use Rattle.idl_loader.specs.Holding.{Holding}
 use Rattle.idl_server.specs.Documents.{OnlyRefusedIsBehind}
 use Rattle.idl_server.specs.Files.{AreFiled, AreTried, IsFiled, IsTried, StaysBeside, StaysButText, StaysSet, told_by}
 use Rattle.idl_server.specs.Roots.{AreCovered, AreRooted, IsCompiled, IsFull, IsOpen, IsThere}
-use Rattle.idl_server.specs.Server.{CatchesUp, HasCaughtUp, HasTaken, IsSettled, TakesIn, if_running, told_to}
+use Rattle.idl_server.specs.Late.{CatchesUp, HasCaughtUp, IsChangeOf, TakesIn}
+use Rattle.idl_server.specs.Published.{ArePublished}
+use Rattle.idl_server.specs.Server.{HasTaken, IsSettled, if_running, told_to}
 use Rattle.idl_server.specs.declared.server.Phase.TheVariants.{Waiting}
 use Rattle.idl_server.specs.declared.server.Server.{Server}
 use Rattle.idl_server.specs.declared.workspace.Workspace.{Workspace}
@@ -33,12 +36,26 @@ told-caught old mid body (inl same) = ap (λ (server : Server). told_to server b
 told-caught old mid body (inr caught) = λ i. if_running (caught.phase i) (option_and_then (told_by_message (caught.set.folders i)) (json_of body))
 
 -- the session got the text before
-pub takes-then : (told : Option Told) (old mid new : Server) → CatchesUp old mid → HasTaken told mid new → TakesIn told old new
-takes-then told old mid new caught taken = record { before = mid; after = new; first = caught; taken = taken; last = inl refl }
+pub takes-then : (told : Option Told) (old mid new : Server) (before between after : List Data) → CatchesUp old mid → HasTaken told mid new → ArePublished mid.workspace before between → ArePublished new.workspace between after
+    → TakesIn told old new before after
+takes-then told old mid new before between after caught taken early later =
+    record { caught = mid; moved = new; between = between; first = caught; taken = taken; last = inl refl; early = early; later = later }
 
 -- or after
-pub takes-before : (told : Option Told) (old mid new : Server) → HasTaken told old mid → CatchesUp mid new → TakesIn told old new
-takes-before told old mid new taken caught = record { before = old; after = mid; first = inl refl; taken = taken; last = caught }
+pub takes-before : (told : Option Told) (old mid new : Server) (before between after : List Data) → HasTaken told old mid → CatchesUp mid new → ArePublished old.workspace before between → ArePublished new.workspace between after
+    → TakesIn told old new before after
+takes-before told old mid new before between after taken caught early later =
+    record { caught = old; moved = mid; between = between; first = inl refl; taken = taken; last = caught; early = early; later = later }
+
+-- parameters are about the same open document then
+pub change-caught : (old mid : Server) (name : List ℕ) (params : Data) → CatchesUp old mid → IsChangeOf old.workspace name params → IsChangeOf mid.workspace name params
+change-caught old mid name params (inl same) is = subst (λ (server : Server). IsChangeOf server.workspace name params) (sym same) is
+change-caught old mid name params (inr caught) is =
+    ((λ i. name_in (caught.set.folders i) params) ∙ is.0, by (lookup (bytes_eq name) old.workspace.documents.entries) refl is.1)
+  where
+    by : (found : Option Document) → lookup (bytes_eq name) old.workspace.documents.entries ≡ found → IsSome found → IsOpen mid.workspace name
+    by (Some d) at there = text-open mid.workspace name d.text.items (caught.texts name ∙ ap (λ (o : Option Document). option_map (λ (x : Document). x.text.items) o) at)
+    by None at there = absurd (true≢false (sym there))
 
 -- ---- a document whose text changed is open as before
 

@@ -1,17 +1,14 @@
 -- What holds of a server between messages.
-use Rattle.std.specs.Prelude.{◌≡◌, ◌⊎◌, ℕ, List, [], Option, None, Some, option_and_then}
+use Rattle.std.specs.Prelude.{◌≡◌, ℕ, List, [], Option, None, option_and_then}
 use Rattle.std.specs.FinMap as finite
 use Rattle.idl_loader.specs.Holding.{Holding}
 use Rattle.idl_inputs.specs.Project.{Inputs, Project}
 use Rattle.idl_editor.specs.uris.Folders.{FolderNamed}
 use Rattle.idl_editor.specs.documents.Documents.{HaveTexts, Open, Told, open_after_told, texts_of}
-use Rattle.idl_server.specs.Documents.{OnlyLateIsBehind, OnlyRefusedAreBehind}
+use Rattle.idl_server.specs.Documents.{OnlyLateIsBehind}
 use Rattle.idl_server.specs.Files.{AreFiled, AreTried, StaysSet, told_by}
-use Rattle.idl_editor.specs.documents.Notices.{json_of, name_in, told_by_message}
-use Rattle.idl_editor.specs.messages.Message.{id_in, method_in, params_in}
-use Rattle.idl_editor.specs.declared.messages.method.Method.TheVariants.{DidChange}
-use Rattle.serde_json.specs.Data.{Data}
-use Rattle.idl_server.specs.Roots.{AreCovered, AreRooted, IsOpen}
+use Rattle.idl_editor.specs.documents.Notices.{json_of, told_by_message}
+use Rattle.idl_server.specs.Roots.{AreCovered, AreRooted}
 use Rattle.idl_server.specs.declared.server.Phase.{Phase}
 use Rattle.idl_server.specs.declared.server.Phase.TheVariants.{Running, ShutDown, Waiting}
 use Rattle.idl_server.specs.declared.server.Server.{Server}
@@ -66,36 +63,6 @@ pub record HasTaken (told : Option Told) (old new : Server) : Type 0 where
   pub held : OnlyLateIsBehind old.workspace.session.project new.late
       old.workspace.documents.entries new.workspace.documents.entries
   pub set : old.phase ≡ Running → StaysSet old.workspace new.workspace
-
--- a message changes a document, by these parameters
-abbrev pub IsChange : Data → Data → Type 0
-IsChange json params =
-    (id_in json ≡ None) × (method_in json ≡ Some DidChange) × (params_in json ≡ Some params)
-
--- parameters are about this open document
-abbrev pub IsChangeOf : Workspace → List ℕ → Data → Type 0
-IsChangeOf w name params = (name_in w.folders params ≡ Some name) × IsOpen w name
-
--- the session got the text of the document that was late, or refused it, and all is as it was else
-pub record HasCaughtUp (old new : Server) : Type 0 where
-  pub texts : HaveTexts new.workspace.documents.entries (open_in old)
-  pub held : OnlyRefusedAreBehind old.workspace.session.project
-      old.workspace.documents.entries new.workspace.documents.entries
-  pub set : StaysSet old.workspace new.workspace
-  pub phase : new.phase ≡ old.phase
-  pub none : new.late ≡ None
-
--- no document was late, or the session caught up
-abbrev pub CatchesUp : Server → Server → Type 0
-CatchesUp old new = (new ≡ old) ⊎ HasCaughtUp old new
-
--- a server took this in, and the session may have caught up before, or after
-pub record TakesIn (told : Option Told) (old new : Server) : Type 0 where
-  pub before : Server
-  pub after : Server
-  pub first : CatchesUp old before
-  pub taken : HasTaken told before after
-  pub last : CatchesUp after new
 
 -- a server that was told nothing
 pub record IsNew (server : Server) : Type 0 where

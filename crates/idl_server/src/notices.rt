@@ -13,7 +13,7 @@ ghost use Rattle.idl_editor.specs.declared.documents.refused.RefusedReason.TheVa
 ghost use Rattle.idl_editor.specs.documents.Notices.{told_by_notice};
 ghost use Rattle.idl_editor.specs.documents.Refused.{IsAdded};
 ghost use Rattle.idl_server.specs.Roots.{AreRooted};
-ghost use Rattle.idl_server.specs.Server.{IsChangeOf};
+ghost use Rattle.idl_server.specs.Late.{IsChangeOf};
 
 use crate::workspace::Workspace;
 use idl_editor::documents::{RefusedReason, changes_told, name_for, name_in, push_reason};

@@ -12,7 +12,8 @@ ghost use Rattle.idl_editor.specs.declared.messages.message.Message.{Message};
 ghost use Rattle.idl_server.specs.Messages.{IsAnswered, IsMessageOf, IsRead, answered, next_by, outcome_by};
 ghost use Rattle.idl_server.specs.Published.{ArePublished};
 ghost use Rattle.idl_editor.specs.declared.messages.method.Method.TheVariants.{DidChange};
-ghost use Rattle.idl_server.specs.Server.{CatchesUp, HasTaken, IsChange, IsChangeOf, IsNew, IsSettled, TakesIn, if_running, told_to};
+ghost use Rattle.idl_server.specs.Late.{CatchesUp, IsChange, IsChangeOf, TakesIn};
+ghost use Rattle.idl_server.specs.Server.{HasTaken, IsNew, IsSettled, if_running, told_to};
 ghost use Rattle.idl_server.specs.declared.server.Phase.TheVariants.{Running};
 ghost use Rattle.idl_server.specs.declared.workspace.Workspace.{Workspace};
 
@@ -112,10 +113,9 @@ impl Server {
     ) -> Result<StepOutcome, AllocError>
         ensures settled { IsSettled (L.told_of loader.old) self.old
             → OnOk result (IsSettled (L.told_of loader.old) self.new) }
-        ensures taken { OnOk result (TakesIn (told_to self.old body.now) self.old self.new) }
-        ensures on_time { OnOk result (self.new.late ≡ None) }
-        ensures published { OnOk result (ArePublished self.new.workspace
+        ensures taken { OnOk result (TakesIn (told_to self.old body.now) self.old self.new
             (said_by out.old) (said_by out.new)) }
+        ensures on_time { OnOk result (self.new.late ≡ None) }
         ensures answered { IfOk result (λ outcome. (message : Message)
             × IsMessageOf body.now message × IsAnswered message self.old.phase self.new.phase
             (said_by out.old) (said_by out.new) outcome) }
@@ -145,8 +145,7 @@ impl Server {
     ) -> Result<StepOutcome, AllocError>
         ensures settled { IsSettled (L.told_of loader.old) self.old
             → OnOk result (IsSettled (L.told_of loader.old) self.new) }
-        ensures taken { OnOk result (TakesIn (told_to self.old body.now) self.old self.new) }
-        ensures published { OnOk result (ArePublished self.new.workspace
+        ensures taken { OnOk result (TakesIn (told_to self.old body.now) self.old self.new
             (said_by out.old) (said_by out.new)) }
         ensures answered { IfOk result (λ outcome. (message : Message)
             × IsMessageOf body.now message × IsAnswered message self.old.phase self.new.phase
@@ -160,9 +159,11 @@ impl Server {
             self.catch_up(loader, out)?;
             return self.take_value(loader, &value, out);
         };
-        if !self.is_late(&name) {
-            self.catch_up(loader, out)?;
+        if self.is_late(&name) {
+            self.put_off(&name, params, out)?;
+            return Ok(StepOutcome::Goes);
         }
+        self.catch_up(loader, out)?;
         self.put_off(&name, params, out)?;
         Ok(StepOutcome::Goes)
     }
@@ -208,15 +209,12 @@ impl Server {
         ensures answers { OnOk result (answered (said_by out.new) ≡ answered (said_by out.old)) }
         ensures phase { self.new.phase ≡ self.old.phase }
     {
-        match changes_told(out.alloc(), params)? {
-            Some(changes) => {
-                self.late = Some(name.copied());
-                self.workspace
-                    .put_off(name, version_of(params), &changes)?;
-            }
-            None => self.workspace.keep_bad_change(name)?,
-        }
-        show_refused(&mut self.workspace.refused, out)
+        let Some(changes) = changes_told(out.alloc(), params)? else {
+            self.workspace.keep_bad_change(name)?;
+            return show_refused(&mut self.workspace.refused, out);
+        };
+        self.late = Some(name.copied());
+        self.workspace.put_off(name, version_of(params), &changes)
     }
 
     // Hands the session the text of the document that is late, and tells what is found then.
