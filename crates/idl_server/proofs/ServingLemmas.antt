@@ -7,7 +7,7 @@ use Rattle.std.specs.Global.{Global}
 use Rattle.std.specs.List.{Contains}
 use Rattle.std.specs.Prelude.{Vec}
 use Rattle.std.specs.Result.{IsErr, OnErr, OnOk}
-use Rattle.serde_json.specs.Data.{Data}
+use Rattle.serde_json.specs.Data.{Data, null}
 use Rattle.serde_json.specs.View.{view}
 use Rattle.serde_json.specs.declared.value.Value.{Value}
 use Rattle.idl_source.specs.devices.Device.{append, prepend}
@@ -54,6 +54,10 @@ answered-answer before after id outcome is = said-one before after (answer_json 
 
 pub answered-error : (before after : List Data) (id : Data) (code : ErrorCode) → after ≡ before ++ error_json id code ∷ [] → answered after ≡ answered before ++ id ∷ []
 answered-error before after id code is = said-one before after (error_json id code) is
+
+-- what is no message has no id
+pub answered-null : (before after : List Data) (id : Data) (code : ErrorCode) → id ≡ null → after ≡ before ++ error_json id code ∷ [] → answered after ≡ answered before ++ null ∷ []
+answered-null before after id code none is = answered-error before after id code is ∙ ap (λ (i : Data). answered before ++ i ∷ []) none
 
 pub answered-notice : (before after : List Data) (method : List ℕ) (params : Data) → after ≡ before ++ notice_json method params ∷ [] → answered after ≡ answered before
 answered-notice before after method params is = said-one before after (notice_json method params) is ∙ append-nil (answered before)

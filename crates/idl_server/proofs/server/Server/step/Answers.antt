@@ -3,11 +3,11 @@ use Rattle.std.specs.Result.{OnOk}
 use Rattle.serde_json.specs.View.{view}
 use Rattle.idl_editor.specs.documents.Documents.{Told}
 use Rattle.idl_server.specs.Server.{HasTaken, told_to}
-use Rattle.idl_server.proofs.NoticeLemmas.{json-none, json-some, taken-same, told-json, told-nothing}
+use Rattle.idl_server.proofs.NoticeLemmas.{json-none, json-some, taken-same, told-json, told-nothing, view-Null}
 use Rattle.std.proofs.lemmas.Result.{IfOk-weaker}
 use Rattle.idl_editor.specs.messages.Said.{said_by}
 use Rattle.idl_editor.specs.declared.messages.message.Message.TheVariants.{Invalid}
-use Rattle.idl_server.proofs.ServingLemmas.{answered-error, message-none, message-some}
+use Rattle.idl_server.proofs.ServingLemmas.{answered-null, message-none, message-some}
 use Rattle.idl_server.proofs.server.Server.step.Goals as goal
 
 pub returns-in-Ok-clause-taken : goal.returns-in-Ok-clause-taken
@@ -36,5 +36,5 @@ pub returns-in_ok-refuse-in-Err-clause-answered : goal.returns-in_ok-refuse-in-E
 returns-in_ok-refuse-in-Err-clause-answered g c = (
   Invalid,
   message-none c.args.body.now (json-none c.args.body.now (c.in-Err.ensures.err (λ memory. absurd (true≢false (sym (c.is_memory.ensures.1 memory) ∙ c.if-is_memory.false))))),
-  record { answers = answered-error (said_by c.args.out.now) (said_by c.refuse-in-Err.new.self) _ _ c.in_ok-refuse-in-Err.ensures; led = refl; outcome = refl },
+  record { answers = answered-null (said_by c.args.out.now) (said_by c.refuse-in-Err.new.self) _ _ view-Null c.in_ok-refuse-in-Err.ensures; led = refl; outcome = refl },
 )

@@ -11,7 +11,7 @@ use Rattle.std.proofs.lemmas.List.{append-nil}
 use Rattle.idl_editor.specs.declared.messages.message.Message.TheVariants.{Answer, Invalid, Notice, Request}
 use Rattle.idl_server.specs.Messages.{answered}
 use Rattle.idl_server.proofs.NoticeLemmas.{taken-same}
-use Rattle.idl_server.proofs.ServingLemmas.{answered-error, ends-told}
+use Rattle.idl_server.proofs.ServingLemmas.{answered-null, ends-told}
 use Rattle.idl_server.proofs.server.Server.take_value.Goals as goal
 
 pub returns-in-Request-clause-settled : goal.returns-in-Request-clause-settled
@@ -92,5 +92,5 @@ pub returns-in-Invalid-clause-answered : goal.returns-in-Invalid-clause-answered
 returns-in-Invalid-clause-answered g c = (
   Invalid,
   c.in-Invalid.ensures,
-  record { answers = answered-error (said_by c.args.out.now) (said_by c.refuse.new.self) _ _ c.in_ok-refuse-in-Invalid.ensures; led = refl; outcome = refl },
+  record { answers = answered-null (said_by c.args.out.now) (said_by c.refuse.new.self) _ _ view-Null c.in_ok-refuse-in-Invalid.ensures; led = refl; outcome = refl },
 )
