@@ -174,9 +174,10 @@ impl Server {
             × IsChange (view value.now) (view change.1.now)
             × IsChangeOf self.now.workspace change.0 (view change.1.now))) }
     {
-        let (Phase::Running, Message::Notice(Method::DidChange, Some(params))) =
-            (self.phase, message_of(value))
-        else {
+        let Phase::Running = self.phase else {
+            return Ok(None);
+        };
+        let Some(params) = change_in(value) else {
             return Ok(None);
         };
         match self.workspace.open_in(params)? {
@@ -379,6 +380,16 @@ fn value_of(body: &[u8], out: &mut Outbox) -> Result<Option<Value>, AllocError>
             out.refuse(&Value::Null, ErrorCode::NoJson)?;
             Ok(None)
         }
+    }
+}
+
+// The parameters by which a message changes a document.
+fn change_in(value: &Value) -> Option<&Value>
+    ensures { IfSome result (λ params. IsChange (view value.now) (view params.now)) }
+{
+    match message_of(value) {
+        Message::Notice(method, params) if method == Method::DidChange => params,
+        _ => None,
     }
 }
 
