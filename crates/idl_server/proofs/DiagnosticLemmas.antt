@@ -38,7 +38,7 @@ zip-found R found i one values after value within is pushed are next =
 
 module _ (encoding : Encoding) (project : Project) (found : List RootFinding) where
   count : length (findings_in found) ≡ length found
-  count = length-map (λ (r : RootFinding). r.finding.now) found
+  count = length-map found (λ (r : RootFinding). r.finding.now)
 
   -- all are told
   pub rest-none : length found ≤ 1000 → rest_told encoding project (findings_in found) ≡ []
