@@ -70,7 +70,8 @@ fn answer_messages<L: PathLoader, S: Source, O: Sink>(
         let Received::Body(body) = received(&mut reader, source)? else {
             return Ok(Status::Faulty);
         };
-        match answer_message(server, loader, &body, output)? {
+        let message = (body.as_slice(), reader.has_message());
+        match answer_message(server, loader, message, output)? {
             StepOutcome::Goes => {}
             StepOutcome::Ends => return Ok(Status::Sound),
             StepOutcome::BreaksOff => return Ok(Status::Faulty),
@@ -97,23 +98,28 @@ fn received<S: Source>(reader: &mut Reader, source: &mut S) -> Result<Received, 
     }
 }
 
-// Does what a message asks for, and writes what is to be said.
+// Does what a message asks for, behind which another one may be there, and writes what is to be said.
 fn answer_message<L: PathLoader, O: Sink>(
     server: &mut Server,
     loader: &mut L,
-    body: &[u8],
+    message: (&[u8], bool),
     output: &mut O,
 ) -> Result<StepOutcome, ServiceFault>
     requires writes { O.failures output.old < 2 ^ 64 - 1 }
     requires settled { IsSettled (L.told_of loader.old) server.old }
     ensures ok { OnOk result (O.failures output.new ≡ O.failures output.old) }
     ensures stepped { IfOk result (λ outcome. (said : List Data) × (text : List ℕ)
-        × HasStepped (L.told_of loader.old) body.now server.old said server.new outcome
+        × HasStepped (L.told_of loader.old) message.0.now server.old said server.new outcome
         × AreWritten said text × (O.written output.new ≡ append (O.written output.old) text)) }
     ensures stays { L.told_of loader.new ≡ L.told_of loader.old }
 {
     let mut out = Outbox::new(server.workspace.session.allocator());
-    let next = server.step(loader, body, &mut out)?;
+    let (body, is_followed) = message;
+    let next = if is_followed {
+        server.step_early(loader, body, &mut out)?
+    } else {
+        server.step(loader, body, &mut out)?
+    };
     write_messages(server.workspace.session.allocator(), out.messages(), output)?;
     Ok(next)
 }

@@ -1,6 +1,7 @@
 //! Messages one after another, of a source that gives its bytes in any pieces.
 
 ghost use Rattle.std.specs.Prelude.{◌≡◌, ◌≤◌, ◌<◌, ◌+◌, ◌-◌, ◌^◌, ◌++◌, [], List, ℕ, Option, IfOk, OnOk, OnErr, length, true, false};
+ghost use Rattle.idl_editor.specs.frames.Message.{HasNoMessage, IsMessage};
 ghost use Rattle.idl_source.specs.devices.Device.{prepend};
 ghost use Rattle.idl_editor.specs.frames.Heads.{HasNoHead, IsHeadAt};
 ghost use Rattle.idl_editor.specs.frames.Message.{longest_body};
@@ -13,7 +14,7 @@ use std::alloc::{AllocError, Global};
 use std::marker::Model;
 
 // Bytes that are read at once.
-const PIECE: usize = 8192;
+const PIECE: usize = 65_536;
 
 /// What came next of a stream.
 #[derive(Drop)]
@@ -49,6 +50,18 @@ impl Reader {
     {
         Reader {
             held: Vec::new(alloc),
+        }
+    }
+
+    /// Whether a whole message is held, which is then taken next, without a read.
+    pub fn has_message(&self) -> bool
+        ensures whole { result ≡ true → (message : List ℕ) × (body : List ℕ) × (rest : List ℕ)
+            × IsMessage message body × (self.now ≡ message ++ rest) }
+        ensures part { result ≡ false → HasNoMessage self.now }
+    {
+        match head_of(&self.held) {
+            Head::Whole(len, count) => len + count <= self.held.len(),
+            Head::Begun | Head::Missing | Head::OverLimit => false,
         }
     }
 

@@ -15,7 +15,7 @@ returns-clause-stepped g c =
       said,
       wrote.0,
       steps-said (g.L.PathLoader.told_of c.args.loader.now) c.args.body.now old c.step.new.self (said_by c.new-out.result) said c.in_ok-next.next (ap (map view) c.new-out.ensures) step.taken
-          (step.settled c.requires.settled) step.published step.answered,
+          (step.settled c.requires.settled) step.answered,
       subst (λ (values : List Value). AreWritten (map view values) wrote.0) c.messages.ensures wrote.1,
       wrote.2,
     )
