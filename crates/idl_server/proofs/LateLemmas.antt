@@ -1,5 +1,5 @@
 -- The session gets the text of a document later.
-use Rattle.std.proofs.Common.{◌≡◌, ◌∙◌, ◌⊎◌, ℕ, All, Bool, true, false, List, Option, None, Some, ap, inl, inr, is_some, refl, subst, sym, true≢false}
+use Rattle.std.proofs.Common.{◌≡◌, ◌∙◌, ◌⊎◌, ◌++◌, ◌∷◌, [], ℕ, All, Bool, true, false, List, Option, None, Err, Ok, Result, Some, ap, append-nil, inl, inr, is_some, refl, subst, sym, true≢false}
 use Rattle.std.proofs.lemmas.List.Elements.{All-weaker}
 use Rattle.std.specs.Cmp.Lexicographic.{bytes_decides}
 use Rattle.std.specs.FinMap as finite
@@ -7,27 +7,45 @@ use Rattle.std.specs.List.{list_any}
 use Rattle.std.specs.Map.{lookup}
 use Rattle.std.specs.Option.{IsSome, option_map}
 use Rattle.std.specs.Prelude.{option_and_then}
+use Rattle.std.specs.Borrow.{Bor}
+use Rattle.std.specs.Result.{OnOk}
 use Rattle.std.specs.Str.{bytes_eq}
-use Rattle.serde_json.specs.Data.{Data}
+use Rattle.serde_json.specs.Data.{Data, null}
+use Rattle.serde_json.specs.View.{view}
+use Rattle.serde_json.specs.declared.value.Value.{Value}
 use Rattle.idl_project.specs.idl_sources.Compile.{compiled_root}
 use Rattle.idl_project.specs.UpToDate.{State}
-use Rattle.idl_editor.specs.documents.Documents.{AreSameBeside, HaveTexts, Told, texts_of}
-use Rattle.idl_editor.specs.documents.Notices.{json_of, name_in, told_by_message}
+use Rattle.idl_editor.specs.documents.Documents.{AreSameBeside, Changed, HaveTexts, TextChange, Told, text_after_all, texts_of}
+use Rattle.idl_editor.specs.documents.Notices.{changes_told, json_of, name_in, told_by_message, told_by_notice}
+use Rattle.idl_editor.specs.messages.Params.{both}
+use Rattle.idl_editor.specs.uris.Folders.{FolderNamed}
+use Rattle.idl_editor.specs.messages.Answers.{error_json}
+use Rattle.idl_editor.specs.declared.messages.answer.ErrorCode.TheVariants.{NoJson}
+use Rattle.idl_editor.specs.declared.messages.message.Message.{Message}
+use Rattle.idl_editor.specs.declared.messages.message.Message.TheVariants.{Invalid, Notice}
+use Rattle.idl_editor.specs.declared.messages.method.Method.TheVariants.{DidChange}
 use Rattle.idl_editor.specs.declared.documents.document.Document.{Document}
 use Rattle.idl_loader.specs.Holding.{Holding}
 use Rattle.idl_server.specs.Documents.{OnlyRefusedIsBehind}
-use Rattle.idl_server.specs.Files.{AreFiled, AreTried, IsFiled, IsTried, StaysBeside, StaysButText, StaysSet, told_by}
+use Rattle.idl_server.specs.Files.{AreFiled, AreTried, IsFiled, IsKept, IsTried, StaysBeside, StaysButText, StaysSet, told_by}
 use Rattle.idl_server.specs.Roots.{AreCovered, AreRooted, IsCompiled, IsFull, IsOpen, IsThere}
-use Rattle.idl_server.specs.Late.{CatchesUp, HasCaughtUp, IsChangeOf, TakesIn}
+use Rattle.idl_server.specs.Late.{CatchesUp, HasCaughtUp, IsChange, IsChangeOf, TakesIn}
+use Rattle.idl_server.specs.Messages.{IsAnswered, IsMessageOf, answered, asked_by, outcome_by}
 use Rattle.idl_server.specs.Published.{ArePublished}
 use Rattle.idl_server.specs.Server.{HasTaken, IsSettled, if_running, told_to}
-use Rattle.idl_server.specs.declared.server.Phase.TheVariants.{Waiting}
+use Rattle.idl_server.specs.declared.server.Phase.{Phase}
+use Rattle.idl_server.specs.declared.server.Phase.TheVariants.{Running, Waiting}
 use Rattle.idl_server.specs.declared.server.Server.{Server}
+use Rattle.idl_server.specs.declared.server.StepOutcome.{StepOutcome}
+use Rattle.idl_server.specs.declared.server.StepOutcome.TheVariants.{Goes}
 use Rattle.idl_server.specs.declared.workspace.Workspace.{Workspace}
 use Rattle.idl_server.proofs.CoveredLemmas.{rooted-changed, text-open}
-use Rattle.idl_server.proofs.HeldLemmas.{held-after, held-beside, held-same}
+use Rattle.idl_server.proofs.HeldLemmas.{held-after, held-beside, held-same, late-beside}
+use Rattle.idl_server.proofs.NoticeLemmas.{both-lost, taken-kept, taken-same, texts-with, told-json, told-nothing, told-notice}
+use Rattle.idl_server.proofs.PublishedLemmas.{error-published, one-published}
 use Rattle.idl_server.proofs.ServerLemmas.{told-settled}
-use Rattle.idl_server.proofs.WorkspaceLemmas.{all-beside, filed-alike, set-both, set-same}
+use Rattle.idl_server.proofs.ServingLemmas.{answered-null, message-none, message-some}
+use Rattle.idl_server.proofs.WorkspaceLemmas.{all-beside, filed-alike, on_ok_both, set-both, set-same}
 
 -- ---- what a message tells
 
@@ -147,6 +165,13 @@ module _ (told : List ℕ → Holding) (name : List ℕ) (f : List ℕ → List 
     blank = λ waiting. absurd (runs waiting);
   }
 
+-- the same where memory may lack
+pub late-settled : {T E : Type 0} (result : Result T E) (told : List ℕ → Holding) (name : List ℕ) (f : List ℕ → List ℕ) (old new : Server) → StaysButText name old.workspace new.workspace
+    → OnOk result (texts_of new.workspace.documents.entries name ≡ option_map f (texts_of old.workspace.documents.entries name))
+    → ((t : List ℕ → Holding) → IsFiled t old.workspace name → OnOk result (IsFiled t new.workspace name)) → (new.phase ≡ Waiting → ⊥) → IsSettled told old → OnOk result (IsSettled told new)
+late-settled (Ok x) told name f old new stays text filed runs is = put-off-settled told name f old new stays text filed runs is
+late-settled (Err e) told name f old new stays text filed runs is = tt
+
 -- ---- a text that is put
 
 -- it is that of an open document, or nothing was done
@@ -209,3 +234,77 @@ module _ (told : List ℕ → Holding) (name : List ℕ) (old : Server) (put w :
     phase = refl;
     none = refl;
   }
+
+-- ---- what a step comes to
+
+-- what a change tells
+pub change-told : (server : Server) (body : List ℕ) (json params : Data) → json_of body ≡ Some json → IsChange json params → server.phase ≡ Running
+    → told_to server body ≡ told_by_notice server.workspace.folders DidChange params
+change-told server body json params some is runs =
+    told-json server body json some ∙ ap (λ (phase : Phase). if_running phase (told_by_message server.workspace.folders json)) runs
+    ∙ told-notice server.workspace.folders json DidChange (Some params) is.0 is.1 is.2
+
+-- nothing is taken in of a body that is no JSON
+pub takes-nothing : (old new : Server) (body : List ℕ) (before between after : List Data) → json_of body ≡ None → between ≡ before ++ error_json null NoJson ∷ [] → CatchesUp old new
+    → ArePublished new.workspace between after → TakesIn (told_to old body) old new before after
+takes-nothing old new body before between after none is caught later =
+    takes-before (told_to old body) old old new before between after (taken-same (told_to old body) old (told-nothing old body none)) caught
+    (one-published old.workspace before between (error_json null NoJson) is (error-published old.workspace null NoJson)) later
+
+-- what is taken in behind the text before
+pub takes-on : {T E : Type 0} (result : Result T E) (told : Option Told) (old mid new : Server) (body : List ℕ) (before between after : List Data) → told_to mid body ≡ told → CatchesUp old mid
+    → ArePublished mid.workspace before between → OnOk result (HasTaken told mid new) → OnOk result (ArePublished new.workspace between after) → OnOk result (TakesIn (told_to old body) old new before after)
+takes-on result told old mid new body before between after is caught early taken later =
+    on_ok_both result
+    (λ (has : HasTaken told mid new) (more : ArePublished new.workspace between after).
+    takes-then (told_to old body) old mid new before between after caught
+    (subst (λ (t : Option Told). HasTaken t mid new) (sym is ∙ told-caught old mid body caught) has) early more) taken later
+
+-- who is answered by a change
+pub change-answered : (body : List ℕ) (json : Data) (params : Bor Value) (old new : Phase) (before after : List Data) → json_of body ≡ Some json → IsChange json (view params.now) → old ≡ Running → new ≡ old
+    → answered after ≡ answered before → (message : Message) × IsMessageOf body message × IsAnswered message old new before after Goes
+change-answered body json params old new before after some is runs led same = (
+  Notice DidChange (Some params),
+  message-some body json (Notice DidChange (Some params)) some is,
+  record { answers = same ∙ sym (append-nil (answered before)); led = led; ends = sym (ap (λ (phase : Phase). outcome_by phase DidChange) runs) },
+)
+
+-- and by a body that is no JSON
+pub unread-answered : (body : List ℕ) (old new : Phase) (before between after : List Data) → json_of body ≡ None → between ≡ before ++ error_json null NoJson ∷ [] → new ≡ old → answered after ≡ answered between
+    → (message : Message) × IsMessageOf body message × IsAnswered message old new before after Goes
+unread-answered body old new before between after none is led same =
+    (Invalid, message-none body none, record { answers = same ∙ answered-null before between null NoJson refl is; led = led; ends = refl })
+
+-- the session caught up before
+pub answered-on : (message : Message) (old mid new : Phase) (before between after : List Data) (outcome : StepOutcome) → mid ≡ old → answered between ≡ answered before → IsAnswered message mid new between after outcome
+    → IsAnswered message old new before after outcome
+answered-on message old mid new before between after outcome same said is =
+    let at = subst (λ (phase : Phase). IsAnswered message phase new between after outcome) same is in
+    record { answers = at.answers ∙ ap (λ (ids : List Data). ids ++ asked_by message) said; led = at.led; ends = at.ends }
+
+-- ---- what a text that is put off takes in
+
+-- a change of this document
+pub changed-told : (folders : List FolderNamed) (params : Data) (name : List ℕ) (changes : List TextChange) → name_in folders params ≡ Some name → changes_told params ≡ Some changes
+    → told_by_notice folders DidChange params ≡ Some (Changed name changes)
+changed-told folders params name changes named told = λ i. both Changed (named i) (told i)
+
+pub taken-late : (told : Option Told) (name : List ℕ) (changes : List TextChange) (old new : Server) → told ≡ Some (Changed name changes) → StaysButText name old.workspace new.workspace
+    → texts_of new.workspace.documents.entries name ≡ option_map (λ text. text_after_all old.workspace.encoding text changes) (texts_of old.workspace.documents.entries name) → new.late ≡ Some name → HasTaken told old new
+taken-late told name changes old new is stays text late =
+    subst (λ (t : Option Told). HasTaken t old new) (sym is) (record {
+      texts = texts-with name _ old.workspace.documents.entries new.workspace.documents.entries stays.documents text;
+      held = late-beside old.workspace.session.project name new.late old.workspace.documents.entries new.workspace.documents.entries stays.documents late;
+      set = λ runs. record {
+        encoding = stays.encoding;
+        folders = stays.folders;
+        macros = λ i. (stays.session i).project.inputs.macros;
+        search = λ i. (stays.session i).project.inputs.search;
+      };
+    })
+
+-- one that makes no sense
+pub taken-bad : (folders : List FolderNamed) (params : Data) (old new : Server) → changes_told params ≡ None → IsKept old.workspace new.workspace → HasTaken (told_by_notice folders DidChange params) old new
+taken-bad folders params old new none kept =
+    let nothing : told_by_notice folders DidChange params ≡ None = ap (both Changed (name_in folders params)) none ∙ both-lost Changed (name_in folders params) in
+    subst (λ (t : Option Told). HasTaken t old new) (sym nothing) (taken-kept old new kept)

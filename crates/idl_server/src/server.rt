@@ -262,6 +262,7 @@ impl Server {
         ensures answered { IfOk result (λ outcome. (message : Message)
             × IsMessage (view value.now) message × IsAnswered message self.old.phase self.new.phase
             (said_by out.old) (said_by out.new) outcome) }
+        ensures late { self.new.late ≡ self.old.late }
         ensures stays { L.told_of loader.new ≡ L.told_of loader.old }
     {
         let nothing = Value::Null;
@@ -303,6 +304,7 @@ impl Server {
         ensures led { OnOk result ((self.new.phase ≡ next_by self.old.phase method)
             ⊎ ((self.new.phase ≡ self.old.phase)
             × Contains (said_by out.new) (error_json (view id.now) Internal))) }
+        ensures late { self.new.late ≡ self.old.late }
     {
         say_outcome(id, self.outcome(method, params), out)?;
         show_refused(&mut self.workspace.refused, out)
@@ -315,6 +317,7 @@ impl Server {
         ensures taken { HasTaken None self.old self.new }
         ensures led { OnOk result (self.new.phase ≡ next_by self.old.phase method) }
         ensures kept { OnErr result (self.new.phase ≡ self.old.phase) }
+        ensures late { self.new.late ≡ self.old.late }
     {
         match self.phase {
             Phase::Waiting => match method {
@@ -354,6 +357,7 @@ impl Server {
             (said_by out.old) (said_by out.new)) }
         ensures answers { OnOk result (answered (said_by out.new) ≡ answered (said_by out.old)) }
         ensures phase { self.new.phase ≡ self.old.phase }
+        ensures late { self.new.late ≡ self.old.late }
         ensures stays { L.told_of loader.new ≡ L.told_of loader.old }
     {
         let Phase::Running = self.phase else {

@@ -61,7 +61,7 @@ impl Reader {
     {
         match head_of(&self.held) {
             Head::Whole(len, count) => len + count <= self.held.len(),
-            Head::Begun | Head::Missing | Head::OverLimit => false,
+            _ => false,
         }
     }
 
