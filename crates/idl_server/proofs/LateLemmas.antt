@@ -45,7 +45,7 @@ use Rattle.idl_server.proofs.NoticeLemmas.{both-lost, taken-kept, taken-same, te
 use Rattle.idl_server.proofs.PublishedLemmas.{error-published, one-published}
 use Rattle.idl_server.proofs.ServerLemmas.{told-settled}
 use Rattle.idl_server.proofs.ServingLemmas.{answered-null, message-none, message-some}
-use Rattle.idl_server.proofs.WorkspaceLemmas.{all-beside, filed-alike, on_ok_both, set-both, set-same}
+use Rattle.idl_server.proofs.WorkspaceLemmas.{all-beside, filed-alike, on_ok_both, set-both, set-kept, set-same}
 
 -- ---- what a message tells
 
@@ -234,6 +234,16 @@ module _ (told : List ℕ → Holding) (name : List ℕ) (old : Server) (put w :
     phase = refl;
     none = refl;
   }
+
+-- what is shown of it changes nothing
+pub caught-kept : (old mid new : Server) → new.phase ≡ mid.phase → new.late ≡ mid.late → IsKept mid.workspace new.workspace → HasCaughtUp old mid → HasCaughtUp old new
+caught-kept old mid new phase late kept caught = record {
+  texts = λ name. (λ i. texts_of (kept.documents i).entries name) ∙ caught.texts name;
+  held = held-after old.workspace.session.project _ _ _ (λ i. (kept.documents i).entries) caught.held;
+  set = set-both old.workspace mid.workspace new.workspace caught.set (set-kept mid.workspace new.workspace kept);
+  phase = phase ∙ caught.phase;
+  none = late ∙ caught.none;
+}
 
 -- ---- what a step comes to
 

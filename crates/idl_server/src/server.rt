@@ -125,15 +125,13 @@ impl Server {
             self.catch_up(loader, out)?;
             return Ok(StepOutcome::Goes);
         };
-        if let Some((name, params)) = self.changed_by(&value)?
-            && self.is_late(&name)
-        {
-            self.put_off(&name, params, out)?;
+        let Some((name, params)) = self.late_change(&value)? else {
             self.catch_up(loader, out)?;
-            return Ok(StepOutcome::Goes);
-        }
+            return self.take_value(loader, &value, out);
+        };
+        self.put_off(&name, params, out)?;
         self.catch_up(loader, out)?;
-        self.take_value(loader, &value, out)
+        Ok(StepOutcome::Goes)
     }
 
     /// The same for a message behind which another one is there: after a change of a document that may be late.
@@ -184,6 +182,22 @@ impl Server {
             Some(name) => Ok(Some((name, params))),
             None => Ok(None),
         }
+    }
+
+    // The same of the document that is late.
+    fn late_change<'v>(&self, value: &'v Value) -> Result<Option<(Name, &'v Value)>, AllocError>
+        ensures { IfOk result (λ found. IfSome found (λ change. (self.now.phase ≡ Running)
+            × IsChange (view value.now) (view change.1.now)
+            × IsChangeOf self.now.workspace change.0 (view change.1.now)
+            × (self.now.late ≡ Some change.0))) }
+    {
+        let Some((name, params)) = self.changed_by(value)? else {
+            return Ok(None);
+        };
+        if !self.is_late(&name) {
+            return Ok(None);
+        }
+        Ok(Some((name, params)))
     }
 
     // Whether this document is late.
