@@ -115,10 +115,10 @@ module _ (name : List ℕ) (f : List ℕ → List ℕ) (old new : Workspace) (be
 
 module _ (told : List ℕ → Holding) (name : List ℕ) (f : List ℕ → List ℕ) (old new : Server) (stays : StaysButText name old.workspace new.workspace)
     (text : texts_of new.workspace.documents.entries name ≡ option_map f (texts_of old.workspace.documents.entries name)) where
-  w : Workspace
+  abbrev w : Workspace
   w = old.workspace
 
-  v : Workspace
+  abbrev v : Workspace
   v = new.workspace
 
   on : (other : List ℕ) → IsOpen w other → IsOpen v other

@@ -1,11 +1,11 @@
-use Rattle.std.proofs.Common.{◌≡◌, ◌∙◌, None, Option, Some, ap, map, refl, sym}
+use Rattle.std.proofs.Common.{◌≡◌, ◌∙◌, Option, Some, ap, map, sym}
 use Rattle.std.proofs.lemmas.Result.{on_ok_weaker}
 use Rattle.std.specs.Global.{Global}
 use Rattle.std.specs.Option.{option_map}
 use Rattle.std.specs.Prelude.{Vec}
 use Rattle.serde_json.specs.View.{view}
 use Rattle.idl_editor.specs.declared.change.ContentChange.{ContentChange}
-use Rattle.idl_editor.specs.documents.Documents.{TextChange, change_told}
+use Rattle.idl_editor.specs.documents.Documents.{change_told}
 use Rattle.idl_editor.specs.messages.Said.{said_by}
 use Rattle.idl_server.specs.declared.server.Phase.TheVariants.{Waiting}
 use Rattle.idl_server.proofs.LateLemmas.{changed-told, late-settled, taken-bad, taken-late}
