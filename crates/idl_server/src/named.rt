@@ -3,9 +3,10 @@
 ghost use Rattle.std.specs.Prelude.{◌≡◌, IfOk};
 ghost use Rattle.std.specs.Option.{option_copied, option_map};
 ghost use Rattle.serde_json.specs.View.{view};
+ghost use Rattle.idl_server.specs.Places.{lines_of};
 ghost use Rattle.idl_server.specs.Named.{declared_entry, declared_place, definition_at, definition_json, details_with, entry_at, entry_of, entry_text, has_path, is_declared_at, stands_at, used_at};
 
-use crate::places::{LocatedToken, range_of};
+use crate::places::{CountedFile, LocatedToken, range_near, range_of};
 use crate::workspace::Workspace;
 use idl_editor::documents::uri_for;
 use idl_editor::told::{hover_value, location_value};
@@ -33,22 +34,21 @@ impl Drop for RootDetails {
     }
 }
 
-/// A position in a file.
+// A position in a file.
 #[derive(Clone, Copy)]
-pub(crate) struct DocumentPosition<'a> {
-    pub name: &'a Name,
-    pub position: Position,
+struct DocumentPosition<'a> {
+    file: &'a CountedFile<'a>,
+    position: Position,
 }
 
 impl Workspace {
-    /// Where what the name at a position denotes is declared, and else nothing.
-    pub fn definition_at(&self, spot: DocumentPosition<'_>) -> Result<Value, AllocError>
+    /// Where what the name at a position of a file denotes is declared, and else nothing.
+    pub fn definition_at(&self, name: &Name, position: Position) -> Result<Value, AllocError>
         ensures { IfOk result (λ value. view value ≡ definition_json self.now
-            (definition_at self.now.encoding self.now.session.project
-            spot.entry.name.now spot.entry.position)) }
+            (definition_at self.now.encoding self.now.session.project name.now position)) }
     {
-        match self.details_with(spot.name)? {
-            Some(told) => self.definition_in(&told.details, spot),
+        match self.details_with(name)? {
+            Some(told) => self.definition_in(&told.details, name, position),
             None => Ok(Value::Null),
         }
     }
@@ -57,12 +57,18 @@ impl Workspace {
     fn definition_in(
         &self,
         details: &Details,
-        spot: DocumentPosition<'_>,
+        name: &Name,
+        position: Position,
     ) -> Result<Value, AllocError>
         ensures { IfOk result (λ value. view value ≡ definition_json self.now
             (declared_place self.now.encoding self.now.session.project details.now
-            spot.entry.name.now spot.entry.position)) }
+            name.now position)) }
     {
+        let file = CountedFile::new(&self.session, name)?;
+        let spot = DocumentPosition {
+            file: &file,
+            position,
+        };
         let Some(declared) = declared_place(&self.session, self.encoding, details, spot)? else {
             return Ok(Value::Null);
         };
@@ -72,10 +78,15 @@ impl Workspace {
         location_value(self.session.allocator(), &uri, range)
     }
 
-    /// What the name at a position denotes, and else nothing.
-    pub fn hover_at(&self, spot: DocumentPosition<'_>) -> Result<Value, AllocError> {
-        let Some(told) = self.details_with(spot.name)? else {
+    /// What the name at a position of a file denotes, and else nothing.
+    pub fn hover_at(&self, name: &Name, position: Position) -> Result<Value, AllocError> {
+        let Some(told) = self.details_with(name)? else {
             return Ok(Value::Null);
+        };
+        let file = CountedFile::new(&self.session, name)?;
+        let spot = DocumentPosition {
+            file: &file,
+            position,
         };
         let Some(entry) = entry_at(&self.session, self.encoding, &told.details, spot)? else {
             return Ok(Value::Null);
@@ -134,9 +145,11 @@ fn declared_place<'d>(
     details: &'d Details,
     spot: DocumentPosition<'_>,
 ) -> Result<Option<&'d DeclaredPlace>, AllocError>
+    requires { spot.file.now.lines ≡ lines_of session.now.project
+        spot.file.now.name.now }
     ensures { IfOk result (λ place. option_copied place
         ≡ declared_place encoding session.now.project details.now
-        spot.entry.name.now spot.entry.position) }
+        spot.entry.file.now.name.now spot.entry.position) }
 {
     match entry_at(session, encoding, details, spot)? {
         Some(entry) => Ok(entry.places.as_slice().last()),
@@ -151,8 +164,10 @@ fn entry_at<'d>(
     details: &'d Details,
     spot: DocumentPosition<'_>,
 ) -> Result<Option<&'d DetailedEntry>, AllocError>
+    requires { spot.file.now.lines ≡ lines_of session.now.project
+        spot.file.now.name.now }
     ensures { IfOk result (λ entry. option_copied entry ≡ entry_at encoding session.now.project
-        details.now spot.entry.name.now spot.entry.position) }
+        details.now spot.entry.file.now.name.now spot.entry.position) }
 {
     if let Some(entry) = declared_entry(session, encoding, details, spot) {
         return Ok(Some(entry));
@@ -172,8 +187,10 @@ fn declared_entry<'d>(
     details: &'d Details,
     spot: DocumentPosition<'_>,
 ) -> Option<&'d DetailedEntry>
+    requires { spot.file.now.lines ≡ lines_of session.now.project
+        spot.file.now.name.now }
     ensures { option_copied result ≡ declared_entry encoding session.now.project
-        spot.entry.name.now spot.entry.position details.now }
+        spot.entry.file.now.name.now spot.entry.position details.now }
 {
     let entries = details.entries.as_slice();
     'each: for index in 0..entries.len() {
@@ -192,8 +209,10 @@ fn used_at<'d>(
     details: &'d Details,
     spot: DocumentPosition<'_>,
 ) -> Option<&'d UsedName>
+    requires { spot.file.now.lines ≡ lines_of session.now.project
+        spot.file.now.name.now }
     ensures { option_copied result ≡ used_at encoding session.now.project
-        spot.entry.name.now spot.entry.position details.now }
+        spot.entry.file.now.name.now spot.entry.position details.now }
 {
     let uses = details.uses.as_slice();
     'each: for index in 0..uses.len() {
@@ -233,8 +252,10 @@ fn is_declared_at(
     entry: &DetailedEntry,
     spot: DocumentPosition<'_>,
 ) -> bool
+    requires { spot.file.now.lines ≡ lines_of session.now.project
+        spot.file.now.name.now }
     ensures { result ≡ is_declared_at encoding session.now.project
-        spot.entry.name.now spot.entry.position entry.now }
+        spot.entry.file.now.name.now spot.entry.position entry.now }
 {
     let places = entry.places.as_slice();
     'each: for index in 0..places.len() {
@@ -253,17 +274,19 @@ fn stands_at(
     token: &SitedToken,
     spot: DocumentPosition<'_>,
 ) -> bool
+    requires { spot.file.now.lines ≡ lines_of session.now.project
+        spot.file.now.name.now }
     ensures { result ≡ stands_at encoding session.now.project
-        spot.entry.name.now spot.entry.position token.now }
+        spot.entry.file.now.name.now spot.entry.position token.now }
 {
-    if token.place.file.as_bytes() != spot.name.as_bytes() {
+    if token.place.file.as_bytes() != spot.file.name().as_bytes() {
         return false;
     }
     let column = session.column(&token.place, token.number, token.text.as_bytes());
     if column.is_none() {
         return false;
     }
-    let range = range_of(session, encoding, LocatedToken::of(token));
+    let range = range_near(session, encoding, LocatedToken::of(token), spot.file);
     is_up_to(range.start, spot.position) && is_up_to(spot.position, range.end)
 }
 

@@ -5,4 +5,4 @@ use Rattle.idl_server.proofs.named.declared_entry.Given as goal
 
 -- none of those before
 abbrev pub invariant-each : goal.invariant-each
-invariant-each l = let p = is_declared_at l.encoding l.session.project l.spot.name.now l.spot.position in find p (drop l.index l.entries) ≡ find p l.entries
+invariant-each l = let p = is_declared_at l.encoding l.session.project l.spot.file.now.name.now l.spot.position in find p (drop l.index l.entries) ≡ find p l.entries

@@ -6,4 +6,4 @@ use Rattle.idl_server.proofs.named.is_declared_at.Given as goal
 
 -- none of those before
 abbrev pub invariant-each : goal.invariant-each
-invariant-each l = let p = (λ (declared : DeclaredPlace). stands_at l.encoding l.session.project l.spot.name.now l.spot.position declared.name) in list_any p (drop l.index l.places) ≡ list_any p l.places
+invariant-each l = let p = (λ (declared : DeclaredPlace). stands_at l.encoding l.session.project l.spot.file.now.name.now l.spot.position declared.name) in list_any p (drop l.index l.places) ≡ list_any p l.places
