@@ -39,43 +39,46 @@ returns-in_default-clause-answered g c =
 
 pub returns-in_default-2-clause-settled : goal.returns-in_default-2-clause-settled
 returns-in_default-2-clause-settled g c = λ is.
-    subst (λ (t : List ℕ → Holding). IsSettled t c.catch_up.new.self → OnOk c.take_value.result (IsSettled t c.take_value.new.self)) c.catch_up.ensures.stays c.take_value.ensures.settled
-    (c.in_ok-catch_up.ensures.settled is)
+    subst (λ (t : List ℕ → Holding). IsSettled t c.catch_up-2.new.self → OnOk c.take_value.result (IsSettled t c.take_value.new.self)) c.catch_up-2.ensures.stays c.take_value.ensures.settled
+    (c.in_ok-catch_up-2.ensures.settled is)
 
 pub returns-in_default-2-clause-taken : goal.returns-in_default-2-clause-taken
 returns-in_default-2-clause-taken g c =
     let body = c.args.body.now in
-    let mid = c.catch_up.new.self in
+    let mid = c.catch_up-2.new.self in
     let json = view c.in-Some.value in
     let before = said_by c.args.out.now in
-    let between = said_by c.catch_up.new.out in
+    let between = said_by c.catch_up-2.new.out in
     let read = subst (λ (found : Option Value). IsRead body found before (said_by c.value_of.new.out)) c.in-Some.is c.in_ok-value.ensures in
     takes-on c.take_value.result (if_running mid.phase (told_by_message mid.workspace.folders json)) c.args.self.now mid c.take_value.new.self body before between (said_by c.take_value.new.out)
-    (told-json mid body json read.0) c.in_ok-catch_up.ensures.caught (subst (λ (said : List Data). ArePublished mid.workspace said between) read.1 c.in_ok-catch_up.ensures.published)
+    (told-json mid body json read.0) c.in_ok-catch_up-2.ensures.caught (subst (λ (said : List Data). ArePublished mid.workspace said between) read.1 c.in_ok-catch_up-2.ensures.published)
     c.take_value.ensures.taken c.take_value.ensures.published
 
 pub returns-in_default-2-clause-on_time : goal.returns-in_default-2-clause-on_time
-returns-in_default-2-clause-on_time g c = on_ok c.take_value.result (c.take_value.ensures.late ∙ c.in_ok-catch_up.ensures.on_time)
+returns-in_default-2-clause-on_time g c = on_ok c.take_value.result (c.take_value.ensures.late ∙ c.in_ok-catch_up-2.ensures.on_time)
 
 pub returns-in_default-2-clause-answered : goal.returns-in_default-2-clause-answered
 returns-in_default-2-clause-answered g c =
     let body = c.args.body.now in
     let json = view c.in-Some.value in
     let before = said_by c.args.out.now in
-    let between = said_by c.catch_up.new.out in
+    let between = said_by c.catch_up-2.new.out in
     let read = subst (λ (found : Option Value). IsRead body found before (said_by c.value_of.new.out)) c.in-Some.is c.in_ok-value.ensures in
     IfOk-weaker c.take_value.result _ _
     (λ outcome some. (
       some.0,
       message-some body json some.0 read.0 some.1,
-      answered-on some.0 c.args.self.now.phase c.catch_up.new.self.phase c.take_value.new.self.phase before between (said_by c.take_value.new.out) outcome c.catch_up.ensures.phase
-          (c.in_ok-catch_up.ensures.answers ∙ ap answered read.1) some.2,
+      answered-on some.0 c.args.self.now.phase c.catch_up-2.new.self.phase c.take_value.new.self.phase before between (said_by c.take_value.new.out) outcome c.catch_up-2.ensures.phase
+          (c.in_ok-catch_up-2.ensures.answers ∙ ap answered read.1) some.2,
     )) c.take_value.ensures.answered
 
 -- ---- a change of it
 
 pub put_off-requires-clause-alone : goal.put_off-requires-clause-alone
 put_off-requires-clause-alone g c = inr c.in-Some-2.ensures.3
+
+pub returns-clause-settled : goal.returns-clause-settled
+returns-clause-settled g c = λ is. c.in_ok-catch_up-3.ensures.settled (c.in_ok-put_off.ensures.settled (g.L.PathLoader.told_of c.args.loader.now) is)
 
 pub returns-clause-taken : goal.returns-clause-taken
 returns-clause-taken g c =
@@ -88,13 +91,13 @@ returns-clause-taken g c =
     let between = said_by c.put_off.new.out in
     let read = subst (λ (found : Option Value). IsRead body found before (said_by c.value_of.new.out)) c.in-Some.is c.in_ok-value.ensures in
     let told = change-told old body json params read.0 c.in-Some-2.ensures.1 c.in-Some-2.ensures.0 in
-    takes-before _ old mid c.catch_up.new.self before between (said_by c.catch_up.new.out) (subst (λ (t : Option Told). HasTaken t old mid) (sym told) c.in_ok-put_off.ensures.taken)
-    c.in_ok-catch_up.ensures.caught (subst (λ (said : List Data). ArePublished old.workspace said between) read.1 (c.in_ok-put_off.ensures.published old.workspace)) c.in_ok-catch_up.ensures.published
+    takes-before _ old mid c.catch_up-3.new.self before between (said_by c.catch_up-3.new.out) (subst (λ (t : Option Told). HasTaken t old mid) (sym told) c.in_ok-put_off.ensures.taken)
+    c.in_ok-catch_up-3.ensures.caught (subst (λ (said : List Data). ArePublished old.workspace said between) read.1 (c.in_ok-put_off.ensures.published old.workspace)) c.in_ok-catch_up-3.ensures.published
 
 pub returns-clause-answered : goal.returns-clause-answered
 returns-clause-answered g c =
     let body = c.args.body.now in
     let before = said_by c.args.out.now in
     let read = subst (λ (found : Option Value). IsRead body found before (said_by c.value_of.new.out)) c.in-Some.is c.in_ok-value.ensures in
-    change-answered body (view c.in-Some.value) c.in-Some-2.params c.args.self.now.phase c.catch_up.new.self.phase before (said_by c.catch_up.new.out) read.0 c.in-Some-2.ensures.1 c.in-Some-2.ensures.0
-    (c.catch_up.ensures.phase ∙ c.put_off.ensures.phase) (c.in_ok-catch_up.ensures.answers ∙ c.in_ok-put_off.ensures.answers ∙ ap answered read.1)
+    change-answered body (view c.in-Some.value) c.in-Some-2.params c.args.self.now.phase c.catch_up-3.new.self.phase before (said_by c.catch_up-3.new.out) read.0 c.in-Some-2.ensures.1 c.in-Some-2.ensures.0
+    (c.catch_up-3.ensures.phase ∙ c.put_off.ensures.phase) (c.in_ok-catch_up-3.ensures.answers ∙ c.in_ok-put_off.ensures.answers ∙ ap answered read.1)

@@ -1,4 +1,4 @@
-use Rattle.std.proofs.Common.{◌∙◌, ℕ, List, Option, ap, inl, refl, subst, sym}
+use Rattle.std.proofs.Common.{◌∙◌, ℕ, List, Option, ap, inl, inr, refl, subst, sym}
 use Rattle.std.proofs.lemmas.Result.{IfOk-weaker}
 use Rattle.std.specs.Result.{OnOk}
 use Rattle.serde_json.specs.Data.{Data}
@@ -11,7 +11,7 @@ use Rattle.idl_loader.specs.Holding.{Holding}
 use Rattle.idl_server.specs.Messages.{IsRead, answered}
 use Rattle.idl_server.specs.Published.{ArePublished}
 use Rattle.idl_server.specs.Server.{HasTaken, IsSettled, if_running}
-use Rattle.idl_server.proofs.LateLemmas.{answered-on, change-answered, change-caught, change-told, takes-before, takes-nothing, takes-on, unread-answered}
+use Rattle.idl_server.proofs.LateLemmas.{answered-on, change-answered, change-caught, change-told, takes-before, takes-nothing, takes-on, takes-then, told-caught, unread-answered}
 use Rattle.idl_server.proofs.NoticeLemmas.{told-json}
 use Rattle.idl_server.proofs.PublishedLemmas.{none-published}
 use Rattle.idl_server.proofs.ServingLemmas.{message-some}
@@ -73,6 +73,12 @@ returns-in_default-2-clause-answered g c =
 
 -- ---- a change of the document that is late
 
+pub put_off-requires-clause-alone : goal.put_off-requires-clause-alone
+put_off-requires-clause-alone g c = inr (c.is_late.ensures c.if-is_late.true)
+
+pub returns-then-is_late-clause-settled : goal.returns-then-is_late-clause-settled
+returns-then-is_late-clause-settled g c = c.in_ok-put_off.ensures.settled (g.L.PathLoader.told_of c.args.loader.now)
+
 pub returns-then-is_late-clause-taken : goal.returns-then-is_late-clause-taken
 returns-then-is_late-clause-taken g c =
     let old = c.args.self.now in
@@ -95,11 +101,36 @@ returns-then-is_late-clause-answered g c =
 
 -- ---- a change of another one
 
-pub put_off-2-requires : goal.put_off-2-requires
-put_off-2-requires g c =
+pub put_off-2-requires-clause-change : goal.put_off-2-requires-clause-change
+put_off-2-requires-clause-change g c = change-caught c.args.self.now c.catch_up-2.new.self c.in-Some-2.name (view c.in-Some-2.params.now) c.in_ok-catch_up-2.ensures.caught c.in-Some-2.ensures.2
+
+pub put_off-2-requires-clause-runs : goal.put_off-2-requires-clause-runs
+put_off-2-requires-clause-runs g c = c.catch_up-2.ensures.phase ∙ c.in-Some-2.ensures.0
+
+pub put_off-2-requires-clause-alone : goal.put_off-2-requires-clause-alone
+put_off-2-requires-clause-alone g c = inl c.in_ok-catch_up-2.ensures.on_time
+
+pub returns-clause-settled : goal.returns-clause-settled
+returns-clause-settled g c = λ is. c.in_ok-put_off-2.ensures.settled (g.L.PathLoader.told_of c.args.loader.now) (c.in_ok-catch_up-2.ensures.settled is)
+
+pub returns-clause-taken : goal.returns-clause-taken
+returns-clause-taken g c =
+    let old = c.args.self.now in
+    let mid = c.catch_up-2.new.self in
+    let new = c.put_off-2.new.self in
+    let body = c.args.body.now in
+    let before = said_by c.args.out.now in
+    let between = said_by c.catch_up-2.new.out in
+    let read = subst (λ (found : Option Value). IsRead body found before (said_by c.value_of.new.out)) c.in-Some.is c.in_ok-value.ensures in
     let caught = c.in_ok-catch_up-2.ensures.caught in
-    record {
-      change = change-caught c.args.self.now c.catch_up-2.new.self c.in-Some-2.name (view c.in-Some-2.params.now) caught c.in-Some-2.ensures.2;
-      runs = c.catch_up-2.ensures.phase ∙ c.in-Some-2.ensures.0;
-      alone = inl c.in_ok-catch_up-2.ensures.on_time;
-    }
+    let told = change-told mid body (view c.in-Some.value) (view c.in-Some-2.params.now) read.0 c.in-Some-2.ensures.1 (c.catch_up-2.ensures.phase ∙ c.in-Some-2.ensures.0) in
+    takes-then _ old mid new before between (said_by c.put_off-2.new.out) caught (subst (λ (t : Option Told). HasTaken t mid new) (sym told ∙ told-caught old mid body caught) c.in_ok-put_off-2.ensures.taken)
+    (subst (λ (said : List Data). ArePublished mid.workspace said between) read.1 c.in_ok-catch_up-2.ensures.published) (c.in_ok-put_off-2.ensures.published new.workspace)
+
+pub returns-clause-answered : goal.returns-clause-answered
+returns-clause-answered g c =
+    let body = c.args.body.now in
+    let before = said_by c.args.out.now in
+    let read = subst (λ (found : Option Value). IsRead body found before (said_by c.value_of.new.out)) c.in-Some.is c.in_ok-value.ensures in
+    change-answered body (view c.in-Some.value) c.in-Some-2.params c.args.self.now.phase c.put_off-2.new.self.phase before (said_by c.put_off-2.new.out) read.0 c.in-Some-2.ensures.1 c.in-Some-2.ensures.0
+    (c.put_off-2.ensures.phase ∙ c.catch_up-2.ensures.phase) (c.in_ok-put_off-2.ensures.answers ∙ c.in_ok-catch_up-2.ensures.answers ∙ ap answered read.1)
