@@ -74,9 +74,3 @@ message-front held len n at within whole =
       within = omega (arith, size, within);
       text = take-add len n held;
     }
-
--- nor where the head announces more bytes than a body may have
-pub over-message : (bytes : List ℕ) (len n : ℕ) → IsHeadAt bytes len n → longest_body < n → HasNoMessage bytes
-over-message bytes len n at over message body rest e m =
-    let same = heads-unique (take len bytes) m.head n (length body) (drop len bytes) (body ++ rest) at.1 m.is_head (take-append-drop len bytes ∙ e ∙ front-of message body rest m) in
-    omega (arith, same.1, m.within, over)

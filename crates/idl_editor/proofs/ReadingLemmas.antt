@@ -3,11 +3,9 @@ use Rattle.std.proofs.Common.{◌≡◌, ◌≢◌, ◌∙◌, ◌+◌, ◌-◌,
 use Rattle.std.proofs.lemmas.List.{append-nil, take-append-drop, take-append-le}
 use Rattle.idl_source.specs.devices.Device.{prepend}
 use Rattle.idl_editor.specs.frames.Message.{HasNoMessage, IsHead, IsMessage, longest_body}
-use Rattle.idl_editor.specs.frames.Heads.{HasNoHead, NeverHasHead, IsHeadAt, Tells}
-use Rattle.idl_editor.specs.declared.frames.head.Head.{Head}
-use Rattle.idl_editor.specs.declared.frames.head.Head.TheVariants.{Whole, Begun, OverLimit, Missing}
+use Rattle.idl_editor.specs.frames.Heads.{HasNoHead, NeverHasHead, IsHeadAt}
 use Rattle.idl_editor.specs.frames.Reading.{BeginsNoMessage, BeginsOverLimit, EndsWithin, IsOver, TakesMessage}
-use Rattle.idl_editor.proofs.MessageLemmas.{head-some, message-front, never-message, no-message, over-message, short-message}
+use Rattle.idl_editor.proofs.MessageLemmas.{head-some, message-front, never-message, no-message, short-message}
 
 -- two pieces that are to come are one
 pub prepend-prepend : (rest : Option (List ℕ)) (xs ys : List ℕ) → prepend xs (prepend ys rest) ≡ prepend (xs ++ ys) rest
@@ -52,16 +50,3 @@ begins-none rest held never = (held, rest, refl, never-message held never)
 
 pub begins-over : (rest : Option (List ℕ)) (held : List ℕ) (len n : ℕ) → IsHeadAt held len n → longest_body < n → BeginsOverLimit (prepend held rest)
 begins-over rest held len n at over = (take len held, n, prepend (drop len held) rest, prepend-parts rest held len, at.1, over)
-
--- a message was read whole
-pub front-held : (held : List ℕ) (len n : ℕ) → IsHeadAt held len n → n ≤ longest_body → len + n ≤ length held
-    → (message : List ℕ) × (body : List ℕ) × (rest : List ℕ) × IsMessage message body × (held ≡ message ++ rest)
-front-held held len n at within whole =
-    (take (len + n) held, take n (drop len held), drop (len + n) held, message-front held len n at within whole, sym (take-append-drop (len + n) held))
-
--- where no head of a message is told there is no message
-pub tells-none : (bytes : List ℕ) (head : Head) → Tells bytes head → ((len n : ℕ) → head ≡ Whole len n → ⊥) → HasNoMessage bytes
-tells-none bytes (Whole len n) tells not = absurd (not len n refl)
-tells-none bytes Begun none not = no-message bytes none
-tells-none bytes OverLimit over not = over-message bytes over.0 over.1 over.2 over.3
-tells-none bytes Missing never not = subst HasNoMessage (append-nil bytes) (never-message bytes never [])

@@ -71,7 +71,7 @@ pub struct Server {
     phase: Phase,
     pub(crate) workspace: Workspace,
     told: PublishedDiagnostics,
-    // The document that changed while a further message was there: the session gets its text later.
+    // The document that changed while more was there to be taken in: the session gets its text later.
     late: Option<Name>,
 }
 
@@ -134,7 +134,7 @@ impl Server {
         Ok(StepOutcome::Goes)
     }
 
-    /// The same for a message behind which another one is there: after a change of a document that may be late.
+    /// The same for a message behind which more has come: after a change of a document that may be late.
     pub fn step_early<L: PathLoader>(
         &mut self,
         loader: &mut L,

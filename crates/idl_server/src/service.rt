@@ -74,7 +74,7 @@ fn answer_messages<L: PathLoader, S: Source, O: Sink>(
         let Received::Body(body) = received(&mut reader, source)? else {
             return Ok(Status::Faulty);
         };
-        let message = (body.as_slice(), reader.has_message());
+        let message = (body.as_slice(), !reader.is_empty());
         match answer_message(server, loader, message, output)? {
             StepOutcome::Goes => {}
             StepOutcome::Ends => return Ok(Status::Sound),
@@ -102,7 +102,7 @@ fn received<S: Source>(reader: &mut Reader, source: &mut S) -> Result<Received, 
     }
 }
 
-// A step by a message, behind which another one may be there.
+// A step by a message, and whether more has come behind it.
 fn step_by<L: PathLoader>(
     server: &mut Server,
     loader: &mut L,
@@ -126,7 +126,7 @@ fn step_by<L: PathLoader>(
     server.step(loader, body, out)
 }
 
-// Does what a message asks for, behind which another one may be there, and writes what is to be said.
+// Does what a message asks for, by whether more has come behind it, and writes what is to be said.
 fn answer_message<L: PathLoader, O: Sink>(
     server: &mut Server,
     loader: &mut L,

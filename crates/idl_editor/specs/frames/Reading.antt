@@ -40,7 +40,7 @@ Receives OverLimit old new = BeginsOverLimit old × (new ≡ old)
 
 -- a bound on how often a byte may still come
 abbrev pub fuel : ℕ → List ℕ → ℕ
-fuel reads held = reads * 65537 + length held
+fuel reads held = reads * 8193 + length held
 
 -- a message was taken, so less is to come
 abbrev pub IsNearer : Received → ℕ → ℕ → Type 0

@@ -1,7 +1,6 @@
 //! Messages one after another, of a source that gives its bytes in any pieces.
 
-ghost use Rattle.std.specs.Prelude.{◌≡◌, ◌≤◌, ◌<◌, ◌+◌, ◌-◌, ◌^◌, ◌++◌, [], List, ℕ, Option, IfOk, OnOk, OnErr, length, true, false};
-ghost use Rattle.idl_editor.specs.frames.Message.{HasNoMessage, IsMessage};
+ghost use Rattle.std.specs.Prelude.{◌≡◌, ◌≤◌, ◌<◌, ◌+◌, ◌-◌, ◌^◌, ◌++◌, ◌↔◌, [], List, ℕ, Option, IfOk, OnOk, OnErr, IsTrue, length, true, false};
 ghost use Rattle.idl_source.specs.devices.Device.{prepend};
 ghost use Rattle.idl_editor.specs.frames.Heads.{HasNoHead, IsHeadAt};
 ghost use Rattle.idl_editor.specs.frames.Message.{longest_body};
@@ -14,7 +13,7 @@ use std::alloc::{AllocError, Global};
 use std::marker::Model;
 
 // Bytes that are read at once.
-const PIECE: usize = 65_536;
+const PIECE: usize = 8192;
 
 /// What came next of a stream.
 #[derive(Drop)]
@@ -53,16 +52,11 @@ impl Reader {
         }
     }
 
-    /// Whether a whole message is held, which is then taken next, without a read.
-    pub fn has_message(&self) -> bool
-        ensures whole { result ≡ true → (message : List ℕ) × (body : List ℕ) × (rest : List ℕ)
-            × IsMessage message body × (self.now ≡ message ++ rest) }
-        ensures part { result ≡ false → HasNoMessage self.now }
+    /// Whether nothing is held: else more of the stream has come than the messages that were taken.
+    pub fn is_empty(&self) -> bool
+        ensures { IsTrue result ↔ (self.now ≡ []) }
     {
-        match head_of(&self.held) {
-            Head::Whole(len, count) => len + count <= self.held.len(),
-            _ => false,
-        }
+        self.held.is_empty()
     }
 
     /// Takes the next message. Where there is none, or a read or memory failed, nothing is taken.
