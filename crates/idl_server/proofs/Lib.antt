@@ -11,3 +11,4 @@ pub mod DiagnosticLemmas
 pub mod NamedLemmas
 pub mod PublishedLemmas
 pub mod ServingLemmas
+pub mod LateLemmas

@@ -22,7 +22,7 @@ use Rattle.idl_server.specs.declared.server.Phase.{Phase}
 use Rattle.idl_server.specs.declared.server.Phase.TheVariants.{Running, ShutDown, Waiting}
 use Rattle.idl_server.specs.declared.server.Server.{Server}
 use Rattle.idl_editor.specs.uris.Folders.{FolderNamed}
-use Rattle.idl_server.proofs.HeldLemmas.{held-after, held-same}
+use Rattle.idl_server.proofs.HeldLemmas.{held-late, held-same, late-after}
 use Rattle.idl_server.proofs.WorkspaceLemmas.{set-both, set-kept}
 
 -- one document's text is this one, and the others' are as they were
@@ -96,7 +96,7 @@ params-given params nothing given is seen-null = ap (λ (b : Bor Value). view b.
 pub taken-kept : (old new : Server) → IsKept old.workspace new.workspace → HasTaken None old new
 taken-kept old new kept = record {
   texts = λ name i. texts_of (kept.documents i).entries name;
-  held = held-same old.workspace.session.project _ _ (λ i. (kept.documents i).entries);
+  held = held-late old.workspace.session.project new.late _ _ (held-same old.workspace.session.project _ _ (λ i. (kept.documents i).entries));
   set = λ runs. set-kept old.workspace new.workspace kept;
 }
 
@@ -109,7 +109,7 @@ taken-same told server none =
 pub taken-set : (old new : Server) → OnlySets old.workspace new.workspace → old.phase ≡ Waiting → HasTaken None old new
 taken-set old new sets waiting = record {
   texts = λ name i. texts_of (sets.documents i).entries name;
-  held = held-same old.workspace.session.project _ _ (λ i. (sets.documents i).entries);
+  held = held-late old.workspace.session.project new.late _ _ (held-same old.workspace.session.project _ _ (λ i. (sets.documents i).entries));
   set = λ runs. absurd (apart (sym waiting ∙ runs));
 }
   where
@@ -117,9 +117,9 @@ taken-set old new sets waiting = record {
     apart h = absurd (cc)
 
 -- what is shown of it changes nothing
-pub taken-before : (told : Option Told) (old mid new : Server) → IsKept mid.workspace new.workspace → HasTaken told old mid → HasTaken told old new
-taken-before told old mid new kept has = record {
+pub taken-before : (told : Option Told) (old mid new : Server) → new.late ≡ mid.late → IsKept mid.workspace new.workspace → HasTaken told old mid → HasTaken told old new
+taken-before told old mid new late kept has = record {
   texts = λ name. (λ i. texts_of (kept.documents i).entries name) ∙ has.texts name;
-  held = held-after old.workspace.session.project _ _ _ (λ i. (kept.documents i).entries) has.held;
+  held = late-after old.workspace.session.project mid.late new.late _ _ _ late (λ i. (kept.documents i).entries) has.held;
   set = λ runs. set-both old.workspace mid.workspace new.workspace (has.set runs) (set-kept mid.workspace new.workspace kept);
 }

@@ -29,8 +29,9 @@ use Rattle.idl_editor.specs.declared.messages.method.Method.TheVariants.{Exit, I
 use Rattle.idl_editor.specs.uris.Folders.{FolderNamed}
 use Rattle.idl_loader.specs.Holding.{Holding}
 use Rattle.idl_server.specs.Messages.{IsAnswered, IsMessageOf, answered, answered_by, next_by, outcome_by}
-use Rattle.idl_server.specs.Published.{ArePublished, IsPublished}
-use Rattle.idl_server.specs.Server.{HasTaken, IsSettled, told_to}
+use Rattle.idl_server.specs.Published.{ArePublished}
+use Rattle.idl_server.specs.Late.{TakesIn}
+use Rattle.idl_server.specs.Server.{IsSettled, told_to}
 use Rattle.idl_server.specs.Serving.{AreServed, AreWritten, HasStepped, IsNoBody, IsServed, IsWritten, Serves, TakesMessages, status_by}
 use Rattle.idl_server.specs.declared.server.Phase.{Phase}
 use Rattle.idl_server.specs.declared.server.Phase.TheVariants.{Running, ShutDown, Waiting}
@@ -123,14 +124,13 @@ takes-more [] body old mid new before one = (new, subst (λ (stream : Option (Li
 takes-more (first ∷ bodies) body old mid new before one = (before.0, before.1, takes-more bodies body before.0 mid new before.2 one)
 
 -- what a step comes to, where nothing was to be said before
-pub steps-said : (told : List ℕ → Holding) (body : List ℕ) (old new : Server) (before said : List Data) (outcome : StepOutcome) → before ≡ [] → HasTaken (told_to old body) old new → IsSettled told new
-    → ArePublished new.workspace before said → (message : Message) × IsMessageOf body message × IsAnswered message old.phase new.phase before said outcome → HasStepped told body old said new outcome
-steps-said told body old new before said outcome none taken settled more answers = record {
+pub steps-said : (told : List ℕ → Holding) (body : List ℕ) (old new : Server) (before said : List Data) (outcome : StepOutcome) → before ≡ [] → TakesIn (told_to old body) old new before said → IsSettled told new
+    → (message : Message) × IsMessageOf body message × IsAnswered message old.phase new.phase before said outcome → HasStepped told body old said new outcome
+steps-said told body old new before said outcome none taken settled answers = record {
   message = answers.0;
   is_message = answers.1;
-  taken = taken;
+  taken = subst (λ (b : List Data). TakesIn (told_to old body) old new b said) none taken;
   settled = settled;
-  published = subst (All (IsPublished new.workspace)) (sym (more.1 ∙ ap (λ (b : List Data). b ++ more.0) none)) more.2;
   answered = subst (λ (b : List Data). IsAnswered answers.0 old.phase new.phase b said outcome) none answers.2;
 }
 

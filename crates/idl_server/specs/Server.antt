@@ -3,7 +3,7 @@ use Rattle.std.specs.Prelude.{◌≡◌, ℕ, List, [], Option, None, option_and
 use Rattle.std.specs.FinMap as finite
 use Rattle.idl_loader.specs.Holding.{Holding}
 use Rattle.idl_editor.specs.documents.Documents.{HaveTexts, Open, Told, open_after_told, texts_of}
-use Rattle.idl_server.specs.Documents.{OnlyRefusedAreBehind}
+use Rattle.idl_server.specs.Documents.{OnlyLateIsBehind}
 use Rattle.idl_server.specs.Files.{AreFiled, AreTried, StaysSet, told_by}
 use Rattle.idl_editor.specs.documents.Notices.{json_of, told_by_message}
 use Rattle.idl_server.specs.Roots.{AreCovered, AreRooted}
@@ -54,11 +54,11 @@ abbrev pub open_in : Server → Open
 open_in server = texts_of server.workspace.documents.entries
 
 -- a server took this in: its documents have the texts that it makes of them; none that isn't as it was is
--- behind, unless the project refuses its text; and what was set when the server began stays
+-- behind, unless it is late or the project refuses its text; and what was set when the server began stays
 pub record HasTaken (told : Option Told) (old new : Server) : Type 0 where
   pub texts : HaveTexts new.workspace.documents.entries
       (open_after_told old.workspace.encoding (open_in old) told)
-  pub held : OnlyRefusedAreBehind old.workspace.session.project
+  pub held : OnlyLateIsBehind old.workspace.session.project new.late
       old.workspace.documents.entries new.workspace.documents.entries
   pub set : old.phase ≡ Running → StaysSet old.workspace new.workspace
 

@@ -1,5 +1,5 @@
 -- What a server does from the first message to the last.
-use Rattle.std.specs.Prelude.{◌≡◌, ◌≢◌, ◌≤◌, ◌⊎◌, ◌++◌, ℕ, List, [], ◌∷◌, All, Option, Some}
+use Rattle.std.specs.Prelude.{◌≡◌, ◌≢◌, ◌≤◌, ◌⊎◌, ◌++◌, ℕ, List, [], ◌∷◌, Option, Some}
 use Rattle.std.specs.Str.{IsUtf8}
 use Rattle.serde_json.specs.Data.{Data, depth}
 use Rattle.serde_json.specs.Read.{max_depth, read}
@@ -14,8 +14,8 @@ use Rattle.idl_loader.specs.Holding.{Holding}
 use Rattle.idl_loader.specs.declared.status.Status.{Status}
 use Rattle.idl_loader.specs.declared.status.Status.TheVariants.{Faulty, Sound}
 use Rattle.idl_server.specs.Messages.{IsAnswered, IsMessageOf}
-use Rattle.idl_server.specs.Published.{IsPublished}
-use Rattle.idl_server.specs.Server.{HasTaken, IsSettled, told_to}
+use Rattle.idl_server.specs.Late.{TakesIn}
+use Rattle.idl_server.specs.Server.{IsSettled, told_to}
 use Rattle.idl_server.specs.declared.server.Server.{Server}
 use Rattle.idl_server.specs.declared.server.StepOutcome.{StepOutcome}
 use Rattle.idl_server.specs.declared.server.StepOutcome.TheVariants.{Ends, Goes}
@@ -25,9 +25,8 @@ pub record HasStepped (told : List ℕ → Holding) (body : List ℕ) (old : Ser
     (new : Server) (outcome : StepOutcome) : Type 0 where
   pub message : Message
   pub is_message : IsMessageOf body message
-  pub taken : HasTaken (told_to old body) old new
+  pub taken : TakesIn (told_to old body) old new [] said
   pub settled : IsSettled told new
-  pub published : All (IsPublished new.workspace) said
   pub answered : IsAnswered message old.phase new.phase [] said outcome
 
 -- a server took in one body after another, and said this
