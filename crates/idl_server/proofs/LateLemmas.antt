@@ -29,10 +29,11 @@ use Rattle.idl_loader.specs.Holding.{Holding}
 use Rattle.idl_server.specs.Documents.{OnlyRefusedIsBehind}
 use Rattle.idl_server.specs.Files.{AreFiled, AreTried, IsFiled, IsKept, IsTried, StaysBeside, StaysButText, StaysSet, told_by}
 use Rattle.idl_server.specs.Roots.{AreCovered, AreRooted, IsCompiled, IsFull, IsOpen, IsThere}
-use Rattle.idl_server.specs.Late.{CatchesUp, HasCaughtUp, IsChange, IsChangeOf, TakesIn}
+use Rattle.idl_editor.specs.messages.Message.{id_in}
+use Rattle.idl_server.specs.Late.{CatchesUp, FindsNoneLate, HasCaughtUp, IsChange, IsChangeOf, TakesIn}
 use Rattle.idl_server.specs.Messages.{IsAnswered, IsMessageOf, answered, asked_by, outcome_by}
 use Rattle.idl_server.specs.Published.{ArePublished}
-use Rattle.idl_server.specs.Server.{HasTaken, IsSettled, if_running, told_to}
+use Rattle.idl_server.specs.Server.{HasTaken, IsLate, IsSettled, if_running, told_to}
 use Rattle.idl_server.specs.declared.server.Phase.{Phase}
 use Rattle.idl_server.specs.declared.server.Phase.TheVariants.{Running, Waiting}
 use Rattle.idl_server.specs.declared.server.Server.{Server}
@@ -40,7 +41,7 @@ use Rattle.idl_server.specs.declared.server.StepOutcome.{StepOutcome}
 use Rattle.idl_server.specs.declared.server.StepOutcome.TheVariants.{Goes}
 use Rattle.idl_server.specs.declared.workspace.Workspace.{Workspace}
 use Rattle.idl_server.proofs.CoveredLemmas.{rooted-changed, text-open}
-use Rattle.idl_server.proofs.HeldLemmas.{held-after, held-beside, held-same, late-beside}
+use Rattle.idl_server.proofs.HeldLemmas.{caught-beside, late-after, late-beside}
 use Rattle.idl_server.proofs.NoticeLemmas.{both-lost, taken-kept, taken-same, texts-with, told-json, told-nothing, told-notice}
 use Rattle.idl_server.proofs.PublishedLemmas.{error-published, one-published}
 use Rattle.idl_server.proofs.ServerLemmas.{told-settled}
@@ -54,16 +55,33 @@ told-caught old mid body (inl same) = ap (λ (server : Server). told_to server b
 told-caught old mid body (inr caught) = λ i. if_running (caught.phase i) (option_and_then (told_by_message (caught.set.folders i)) (json_of body))
 
 -- the session got the text before
-pub takes-then : (told : Option Told) (old mid new : Server) (before between after : List Data) → CatchesUp old mid → HasTaken told mid new → ArePublished mid.workspace before between → ArePublished new.workspace between after
-    → TakesIn told old new before after
-takes-then told old mid new before between after caught taken early later =
-    record { caught = mid; moved = new; between = between; first = caught; taken = taken; last = inl refl; early = early; later = later }
+pub takes-then : (old mid new : Server) (body : List ℕ) (before between after : List Data) → CatchesUp old mid → FindsNoneLate body mid → HasTaken (told_to old body) mid new → ArePublished mid.workspace before between
+    → ArePublished new.workspace between after → TakesIn body old new before after
+takes-then old mid new body before between after caught on_time taken early later =
+    record { caught = mid; moved = new; between = between; first = caught; on_time = on_time; taken = taken; last = inl refl; early = early; later = later }
 
 -- or after
-pub takes-before : (told : Option Told) (old mid new : Server) (before between after : List Data) → HasTaken told old mid → CatchesUp mid new → ArePublished old.workspace before between → ArePublished new.workspace between after
-    → TakesIn told old new before after
-takes-before told old mid new before between after taken caught early later =
-    record { caught = old; moved = mid; between = between; first = inl refl; taken = taken; last = caught; early = early; later = later }
+pub takes-before : (old mid new : Server) (body : List ℕ) (before between after : List Data) → FindsNoneLate body old → HasTaken (told_to old body) old mid → CatchesUp mid new → ArePublished old.workspace before between
+    → ArePublished new.workspace between after → TakesIn body old new before after
+takes-before old mid new body before between after on_time taken caught early later =
+    record { caught = old; moved = mid; between = between; first = inl refl; on_time = on_time; taken = taken; last = caught; early = early; later = later }
+
+-- no request is what is no JSON
+pub unread-asks : (body : List ℕ) (server : Server) → json_of body ≡ None → FindsNoneLate body server
+unread-asks body server none = λ json id some asks. absurd (no-json json (sym none ∙ some))
+  where
+    no-json : (json : Data) → ◌≡◌ {A = Option Data} None (Some json) → ⊥
+    no-json json h = absurd (cc)
+
+-- nor is a change
+pub change-asks : (body : List ℕ) (json params : Data) (server : Server) → json_of body ≡ Some json → IsChange json params → FindsNoneLate body server
+change-asks body json params server some is = λ other id there asks. absurd (no-id id (sym is.0 ∙ ap id_in (one json other (sym some ∙ there)) ∙ asks))
+  where
+    no-id : (id : Data) → ◌≡◌ {A = Option Data} None (Some id) → ⊥
+    no-id id h = absurd (cc)
+
+    one : (json other : Data) → ◌≡◌ {A = Option Data} (Some json) (Some other) → json ≡ other
+    one json other h = cc
 
 -- parameters are about the same open document then
 pub change-caught : (old mid : Server) (name : List ℕ) (params : Data) → CatchesUp old mid → IsChangeOf old.workspace name params → IsChangeOf mid.workspace name params
@@ -198,10 +216,10 @@ same-text (Some t) = refl
 -- ---- the session catches up
 
 -- none is late
-pub caught-none : (old : Server) → HasCaughtUp old (record old { late = None })
-caught-none old = record {
+pub caught-none : (old : Server) → ((name : List ℕ) → IsLate old name → ⊥) → HasCaughtUp old (record old { late = None })
+caught-none old never = record {
   texts = λ name. refl;
-  held = held-same old.workspace.session.project old.workspace.documents.entries old.workspace.documents.entries refl;
+  held = λ name. inl (refl, λ was. absurd (never name was));
   set = set-same old.workspace;
   phase = refl;
   none = refl;
@@ -225,11 +243,11 @@ module _ (told : List ℕ → Holding) (name : List ℕ) (old : Server) (put w :
       let opens = rooted-changed name (λ (t : List ℕ). t) old.workspace put beside.roots beside.documents (text ∙ sym (same-text (texts_of old.workspace.documents.entries name))) is.rooted in
       told-settled told old w (set-both old.workspace put w beside.set set) after tried (rooted opens) covered runs
 
-  pub caught-up : w.documents ≡ put.documents → OnlyRefusedIsBehind old.workspace.session.project name put.documents.entries → HasCaughtUp old (record old { workspace = w; late = None })
-  caught-up documents held = record {
+  pub caught-up : w.documents ≡ put.documents → old.late ≡ Some name → OnlyRefusedIsBehind old.workspace.session.project name put.documents.entries → HasCaughtUp old (record old { workspace = w; late = None })
+  caught-up documents is held = record {
     texts = λ other. (λ i. texts_of (documents i).entries other) ∙ put-texts name old.workspace.documents.entries put.documents.entries beside.documents text other;
-    held = held-after old.workspace.session.project _ _ _ (λ i. (documents i).entries)
-        (held-beside old.workspace.session.project name old.workspace.documents.entries put.documents.entries beside.documents held);
+    held = late-after old (record old { workspace = put; late = None }) (record old { workspace = w; late = None }) refl refl (λ i. (documents i).entries)
+        (caught-beside old (record old { workspace = put; late = None }) name beside.documents is held);
     set = set-both old.workspace put w beside.set set;
     phase = refl;
     none = refl;
@@ -239,7 +257,7 @@ module _ (told : List ℕ → Holding) (name : List ℕ) (old : Server) (put w :
 pub caught-kept : (old mid new : Server) → new.phase ≡ mid.phase → new.late ≡ mid.late → IsKept mid.workspace new.workspace → HasCaughtUp old mid → HasCaughtUp old new
 caught-kept old mid new phase late kept caught = record {
   texts = λ name. (λ i. texts_of (kept.documents i).entries name) ∙ caught.texts name;
-  held = held-after old.workspace.session.project _ _ _ (λ i. (kept.documents i).entries) caught.held;
+  held = late-after old mid new phase late (λ i. (kept.documents i).entries) caught.held;
   set = set-both old.workspace mid.workspace new.workspace caught.set (set-kept mid.workspace new.workspace kept);
   phase = phase ∙ caught.phase;
   none = late ∙ caught.none;
@@ -256,19 +274,18 @@ change-told server body json params some is runs =
 
 -- nothing is taken in of a body that is no JSON
 pub takes-nothing : (old new : Server) (body : List ℕ) (before between after : List Data) → json_of body ≡ None → between ≡ before ++ error_json null NoJson ∷ [] → CatchesUp old new
-    → ArePublished new.workspace between after → TakesIn (told_to old body) old new before after
+    → ArePublished new.workspace between after → TakesIn body old new before after
 takes-nothing old new body before between after none is caught later =
-    takes-before (told_to old body) old old new before between after (taken-same (told_to old body) old (told-nothing old body none)) caught
+    takes-before old old new body before between after (unread-asks body old none) (taken-same (told_to old body) old (told-nothing old body none)) caught
     (one-published old.workspace before between (error_json null NoJson) is (error-published old.workspace null NoJson)) later
 
 -- what is taken in behind the text before
-pub takes-on : {T E : Type 0} (result : Result T E) (told : Option Told) (old mid new : Server) (body : List ℕ) (before between after : List Data) → told_to mid body ≡ told → CatchesUp old mid
-    → ArePublished mid.workspace before between → OnOk result (HasTaken told mid new) → OnOk result (ArePublished new.workspace between after) → OnOk result (TakesIn (told_to old body) old new before after)
-takes-on result told old mid new body before between after is caught early taken later =
+pub takes-on : {T E : Type 0} (result : Result T E) (told : Option Told) (old mid new : Server) (body : List ℕ) (before between after : List Data) → told_to mid body ≡ told → CatchesUp old mid → mid.late ≡ None
+    → ArePublished mid.workspace before between → OnOk result (HasTaken told mid new) → OnOk result (ArePublished new.workspace between after) → OnOk result (TakesIn body old new before after)
+takes-on result told old mid new body before between after is caught none early taken later =
     on_ok_both result
     (λ (has : HasTaken told mid new) (more : ArePublished new.workspace between after).
-    takes-then (told_to old body) old mid new before between after caught
-    (subst (λ (t : Option Told). HasTaken t mid new) (sym is ∙ told-caught old mid body caught) has) early more) taken later
+    takes-then old mid new body before between after caught (λ json id some asks. none) (subst (λ (t : Option Told). HasTaken t mid new) (sym is ∙ told-caught old mid body caught) has) early more) taken later
 
 -- who is answered by a change
 pub change-answered : (body : List ℕ) (json : Data) (params : Bor Value) (old new : Phase) (before after : List Data) → json_of body ≡ Some json → IsChange json (view params.now) → old ≡ Running → new ≡ old
@@ -299,12 +316,12 @@ pub changed-told : (folders : List FolderNamed) (params : Data) (name : List ℕ
     → told_by_notice folders DidChange params ≡ Some (Changed name changes)
 changed-told folders params name changes named told = λ i. both Changed (named i) (told i)
 
-pub taken-late : (told : Option Told) (name : List ℕ) (changes : List TextChange) (old new : Server) → told ≡ Some (Changed name changes) → StaysButText name old.workspace new.workspace
-    → texts_of new.workspace.documents.entries name ≡ option_map (λ text. text_after_all old.workspace.encoding text changes) (texts_of old.workspace.documents.entries name) → new.late ≡ Some name → HasTaken told old new
-taken-late told name changes old new is stays text late =
+pub taken-late : (told : Option Told) (name : List ℕ) (changes : List TextChange) (old new : Server) → (old.late ≡ None) ⊎ (old.late ≡ Some name) → told ≡ Some (Changed name changes) → StaysButText name old.workspace new.workspace
+    → texts_of new.workspace.documents.entries name ≡ option_map (λ text. text_after_all old.workspace.encoding text changes) (texts_of old.workspace.documents.entries name) → IsLate new name → HasTaken told old new
+taken-late told name changes old new alone is stays text late =
     subst (λ (t : Option Told). HasTaken t old new) (sym is) (record {
       texts = texts-with name _ old.workspace.documents.entries new.workspace.documents.entries stays.documents text;
-      held = late-beside old.workspace.session.project name new.late old.workspace.documents.entries new.workspace.documents.entries stays.documents late;
+      held = late-beside old new name stays.documents late alone;
       set = λ runs. record {
         encoding = stays.encoding;
         folders = stays.folders;
@@ -314,7 +331,7 @@ taken-late told name changes old new is stays text late =
     })
 
 -- one that makes no sense
-pub taken-bad : (folders : List FolderNamed) (params : Data) (old new : Server) → changes_told params ≡ None → IsKept old.workspace new.workspace → HasTaken (told_by_notice folders DidChange params) old new
-taken-bad folders params old new none kept =
+pub taken-bad : (folders : List FolderNamed) (params : Data) (old new : Server) → ((name : List ℕ) → IsLate old name → IsLate new name) → changes_told params ≡ None → IsKept old.workspace new.workspace → HasTaken (told_by_notice folders DidChange params) old new
+taken-bad folders params old new late none kept =
     let nothing : told_by_notice folders DidChange params ≡ None = ap (both Changed (name_in folders params)) none ∙ both-lost Changed (name_in folders params) in
-    subst (λ (t : Option Told). HasTaken t old new) (sym nothing) (taken-kept old new kept)
+    subst (λ (t : Option Told). HasTaken t old new) (sym nothing) (taken-kept old new late kept)

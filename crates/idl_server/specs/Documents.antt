@@ -1,5 +1,5 @@
 -- Documents whose texts are refused.
-use Rattle.std.specs.Prelude.{◌≡◌, ◌⊎◌, ℕ, true, List, Option, Err, Some}
+use Rattle.std.specs.Prelude.{◌≡◌, ◌⊎◌, ℕ, true, List, Err, Some}
 use Rattle.std.specs.Map.{lookup}
 use Rattle.std.specs.Str.{bytes_eq}
 use Rattle.idl_source.specs.declared.refusal.Refusal.{Refusal}
@@ -18,14 +18,6 @@ abbrev pub OnlyRefusedIsBehind : Project → List ℕ → List (List ℕ × Docu
 OnlyRefusedIsBehind project name documents =
     (document : Document) → lookup (bytes_eq name) documents ≡ Some document
     → document.is_behind ≡ true → IsRefusedText project name document.text.items
-
--- each document is as it was, or the one that is late, or behind only where a project refuses its
--- text
-abbrev pub OnlyLateIsBehind : Project → Option (List ℕ) → List (List ℕ × Document)
-    → List (List ℕ × Document) → Type 0
-OnlyLateIsBehind project late old new =
-    (name : List ℕ) → (lookup (bytes_eq name) new ≡ lookup (bytes_eq name) old)
-    ⊎ (late ≡ Some name) ⊎ OnlyRefusedIsBehind project name new
 
 -- each document is as it was, or behind only where a project refuses its text
 abbrev pub OnlyRefusedAreBehind : Project → List (List ℕ × Document) → List (List ℕ × Document) → Type 0

@@ -1,15 +1,14 @@
 -- Texts that the session gets later.
 use Rattle.std.specs.Prelude.{◌≡◌, ◌⊎◌, ℕ, List, Option, None, Some}
 use Rattle.serde_json.specs.Data.{Data}
-use Rattle.idl_editor.specs.documents.Documents.{HaveTexts, Told}
-use Rattle.idl_editor.specs.documents.Notices.{name_in}
+use Rattle.idl_editor.specs.documents.Documents.{HaveTexts}
+use Rattle.idl_editor.specs.documents.Notices.{json_of, name_in}
 use Rattle.idl_editor.specs.messages.Message.{id_in, method_in, params_in}
 use Rattle.idl_editor.specs.declared.messages.method.Method.TheVariants.{DidChange}
-use Rattle.idl_server.specs.Documents.{OnlyRefusedAreBehind}
 use Rattle.idl_server.specs.Files.{StaysSet}
 use Rattle.idl_server.specs.Published.{ArePublished}
 use Rattle.idl_server.specs.Roots.{IsOpen}
-use Rattle.idl_server.specs.Server.{HasTaken, open_in}
+use Rattle.idl_server.specs.Server.{HasTaken, OnlyLateIsBehind, open_in, told_to}
 use Rattle.idl_server.specs.declared.server.Server.{Server}
 use Rattle.idl_server.specs.declared.workspace.Workspace.{Workspace}
 
@@ -25,8 +24,7 @@ IsChangeOf w name params = (name_in w.folders params ≡ Some name) × IsOpen w 
 -- the session got the text of the document that was late, or refused it, and all is as it was else
 pub record HasCaughtUp (old new : Server) : Type 0 where
   pub texts : HaveTexts new.workspace.documents.entries (open_in old)
-  pub held : OnlyRefusedAreBehind old.workspace.session.project
-      old.workspace.documents.entries new.workspace.documents.entries
+  pub held : (name : List ℕ) → OnlyLateIsBehind old new name
   pub set : StaysSet old.workspace new.workspace
   pub phase : new.phase ≡ old.phase
   pub none : new.late ≡ None
@@ -35,14 +33,20 @@ pub record HasCaughtUp (old new : Server) : Type 0 where
 abbrev pub CatchesUp : Server → Server → Type 0
 CatchesUp old new = (new ≡ old) ⊎ HasCaughtUp old new
 
--- a server took this in, and the session may have caught up before, or after. What is published of a
--- file is what roots find in it where the session has caught up, or at the end
-pub record TakesIn (told : Option Told) (old new : Server) (before after : List Data) : Type 0 where
+-- a request finds no document late
+abbrev pub FindsNoneLate : List ℕ → Server → Type 0
+FindsNoneLate body server =
+    (json id : Data) → json_of body ≡ Some json → id_in json ≡ Some id → server.late ≡ None
+
+-- a server took this body in, and the session may have caught up before, or after. What is published of
+-- a file is what roots find in it where the session has caught up, or at the end
+pub record TakesIn (body : List ℕ) (old new : Server) (before after : List Data) : Type 0 where
   pub caught : Server
   pub moved : Server
   pub between : List Data
   pub first : CatchesUp old caught
-  pub taken : HasTaken told caught moved
+  pub on_time : FindsNoneLate body caught
+  pub taken : HasTaken (told_to old body) caught moved
   pub last : CatchesUp moved new
   pub early : ArePublished caught.workspace before between
   pub later : ArePublished new.workspace between after

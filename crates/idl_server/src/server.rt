@@ -13,7 +13,7 @@ ghost use Rattle.idl_server.specs.Messages.{IsAnswered, IsMessageOf, IsRead, ans
 ghost use Rattle.idl_server.specs.Published.{ArePublished};
 ghost use Rattle.idl_editor.specs.declared.messages.method.Method.TheVariants.{DidChange};
 ghost use Rattle.idl_server.specs.Late.{CatchesUp, IsChange, IsChangeOf, TakesIn};
-ghost use Rattle.idl_server.specs.Server.{HasTaken, IsNew, IsSettled, if_running, told_to};
+ghost use Rattle.idl_server.specs.Server.{HasTaken, IsNew, IsSettled, if_running};
 ghost use Rattle.idl_server.specs.declared.server.Phase.TheVariants.{Running};
 ghost use Rattle.idl_server.specs.declared.workspace.Workspace.{Workspace};
 
@@ -113,7 +113,7 @@ impl Server {
     ) -> Result<StepOutcome, AllocError>
         ensures settled { IsSettled (L.told_of loader.old) self.old
             → OnOk result (IsSettled (L.told_of loader.old) self.new) }
-        ensures taken { OnOk result (TakesIn (told_to self.old body.now) self.old self.new
+        ensures taken { OnOk result (TakesIn body.now self.old self.new
             (said_by out.old) (said_by out.new)) }
         ensures on_time { OnOk result (self.new.late ≡ None) }
         ensures answered { IfOk result (λ outcome. (message : Message)
@@ -143,7 +143,7 @@ impl Server {
     ) -> Result<StepOutcome, AllocError>
         ensures settled { IsSettled (L.told_of loader.old) self.old
             → OnOk result (IsSettled (L.told_of loader.old) self.new) }
-        ensures taken { OnOk result (TakesIn (told_to self.old body.now) self.old self.new
+        ensures taken { OnOk result (TakesIn body.now self.old self.new
             (said_by out.old) (said_by out.new)) }
         ensures answered { IfOk result (λ outcome. (message : Message)
             × IsMessageOf body.now message × IsAnswered message self.old.phase self.new.phase
@@ -267,6 +267,7 @@ impl Server {
         value: &Value,
         out: &mut Outbox,
     ) -> Result<StepOutcome, AllocError>
+        requires on_time { self.old.late ≡ None }
         ensures settled { IsSettled (L.told_of loader.old) self.old
             → OnOk result (IsSettled (L.told_of loader.old) self.new) }
         ensures taken { OnOk result (HasTaken (if_running self.old.phase
@@ -308,6 +309,7 @@ impl Server {
         params: &Value,
         out: &mut Outbox,
     ) -> Result<(), AllocError>
+        requires on_time { self.old.late ≡ None }
         ensures settled { (told : List ℕ → Holding)
             → IsSettled told self.old → OnOk result (IsSettled told self.new) }
         ensures taken { OnOk result (HasTaken None self.old self.new) }
@@ -326,6 +328,7 @@ impl Server {
 
     // What comes of a request.
     fn outcome(&mut self, method: Method, params: &Value) -> Result<RequestOutcome, AllocError>
+        requires on_time { self.old.late ≡ None }
         ensures settled { (told : List ℕ → Holding)
             → IsSettled told self.old → IsSettled told self.new }
         ensures taken { HasTaken None self.old self.new }
@@ -362,6 +365,7 @@ impl Server {
         params: &Value,
         out: &mut Outbox,
     ) -> Result<(), AllocError>
+        requires on_time { self.old.late ≡ None }
         ensures settled { IsSettled (L.told_of loader.old) self.old
             → OnOk result (IsSettled (L.told_of loader.old) self.new) }
         ensures taken { OnOk result (HasTaken (if_running self.old.phase

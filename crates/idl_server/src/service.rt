@@ -1,6 +1,6 @@
 //! The language server over its streams: messages of an editor are read, and what is to be said is written.
 
-ghost use Rattle.std.specs.Prelude.{◌≡◌, ◌<◌, ◌≤◌, ◌-◌, ◌^◌, ℕ, List, [], map, Option, IfOk, OnOk};
+ghost use Rattle.std.specs.Prelude.{◌≡◌, ◌<◌, ◌≤◌, ◌-◌, ◌^◌, ℕ, List, [], map, Option, None, IfOk, OnOk, false};
 ghost use Rattle.serde_json.specs.Data.{Data};
 ghost use Rattle.serde_json.specs.View.{view};
 ghost use Rattle.idl_source.specs.devices.Device.{append, prepend};
@@ -9,7 +9,7 @@ ghost use Rattle.idl_editor.specs.messages.Said.{said_by};
 ghost use Rattle.idl_editor.specs.declared.messages.message.Message.{Message};
 ghost use Rattle.idl_server.specs.Late.{TakesIn};
 ghost use Rattle.idl_server.specs.Messages.{IsAnswered, IsMessageOf};
-ghost use Rattle.idl_server.specs.Server.{IsNew, IsSettled, told_to};
+ghost use Rattle.idl_server.specs.Server.{IsNew, IsSettled};
 ghost use Rattle.idl_server.specs.Serving.{AreWritten, HasStepped, IsServed};
 ghost use Rattle.idl_server.specs.declared.server.Server.{Server};
 
@@ -65,6 +65,7 @@ fn answer_messages<L: PathLoader, S: Source, O: Sink>(
     requires reads { S.failures source.old < 2 ^ 64 - 1 }
     requires writes { O.failures output.old < 2 ^ 64 - 1 }
     requires settled { IsSettled (L.told_of loader.old) server.old }
+    requires on_time { server.old.late ≡ None }
     ensures well { OnOk result (O.failures output.new ≡ O.failures output.old) }
     ensures served { IfOk result (λ status. IsServed (L.told_of loader.old) server.old
         (S.remaining source.old) (O.written output.old) (O.written output.new) status) }
@@ -111,8 +112,9 @@ fn step_by<L: PathLoader>(
 ) -> Result<StepOutcome, AllocError>
     ensures settled { IsSettled (L.told_of loader.old) server.old
         → OnOk result (IsSettled (L.told_of loader.old) server.new) }
-    ensures taken { OnOk result (TakesIn (told_to server.old message.entry.0.now)
-        server.old server.new (said_by out.old) (said_by out.new)) }
+    ensures taken { OnOk result (TakesIn message.entry.0.now server.old server.new
+        (said_by out.old) (said_by out.new)) }
+    ensures on_time { message.entry.1 ≡ false → OnOk result (server.new.late ≡ None) }
     ensures answered { IfOk result (λ outcome. (asked : Message)
         × IsMessageOf message.entry.0.now asked
         × IsAnswered asked server.old.phase server.new.phase
@@ -139,6 +141,7 @@ fn answer_message<L: PathLoader, O: Sink>(
     ensures stepped { IfOk result (λ outcome. (said : List Data) × (text : List ℕ)
         × HasStepped (L.told_of loader.old) message.entry.0.now server.old said server.new outcome
         × AreWritten said text × (O.written output.new ≡ append (O.written output.old) text)) }
+    ensures on_time { message.entry.1 ≡ false → OnOk result (server.new.late ≡ None) }
     ensures stays { L.told_of loader.new ≡ L.told_of loader.old }
 {
     let mut out = Outbox::new(server.workspace.session.allocator());

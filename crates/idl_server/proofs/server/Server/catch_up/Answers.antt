@@ -12,7 +12,7 @@ pub returns-in_default-clause-settled : goal.returns-in_default-clause-settled
 returns-in_default-clause-settled g c = λ is. settled-none (g.L.PathLoader.told_of c.args.loader.now) c.args.self.now is
 
 pub returns-in_default-clause-caught : goal.returns-in_default-clause-caught
-returns-in_default-clause-caught g c = inr (caught-none c.args.self.now)
+returns-in_default-clause-caught g c = inr (caught-none c.args.self.now (λ name was. absurd (cc)))
 
 pub returns-in_default-clause-published : goal.returns-in_default-clause-published
 returns-in_default-clause-published g c = none-published c.args.self.now.workspace (said_by c.args.out.now)
@@ -47,7 +47,7 @@ returns-clause-caught g c =
     on_ok c.publish.result
     (inr (caught-kept old shown _ refl refl c.publish.ensures.kept
     (caught-kept old done shown refl refl (record { encoding = refl; folders = refl; session = refl; documents = refl; tried = refl; unread = refl })
-    (caught-up told c.in-Some.name.now old put w puts.beside puts.text settles.set settles.documents puts.held))))
+    (caught-up told c.in-Some.name.now old put w puts.beside puts.text settles.set settles.documents c.in-Some.is puts.held))))
 
 pub returns-clause-published : goal.returns-clause-published
 returns-clause-published g c =

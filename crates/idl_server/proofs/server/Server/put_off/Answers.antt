@@ -26,7 +26,7 @@ returns-in_default-clause-taken c =
     let kept = c.keep_bad_change.ensures.kept in
     let none = sym c.in_ok-changes.ensures ∙ ap (λ (o : Option (Vec ContentChange Global)). option_map (λ (list : Vec ContentChange Global). map change_told list.items) o) c.in_default.is in
     on_ok c.show_refused.result
-    (taken-bad c.args.self.now.workspace.folders (view c.args.params.now) c.args.self.now _ none
+    (taken-bad c.args.self.now.workspace.folders (view c.args.params.now) c.args.self.now _ (λ name is. is) none
     (record { encoding = kept.encoding; folders = kept.folders; session = kept.session; documents = kept.documents; tried = kept.tried; unread = kept.unread }))
 
 pub returns-clause-settled : goal.returns-clause-settled
@@ -42,7 +42,7 @@ returns-clause-taken c =
     let some = sym c.in_ok-changes.ensures ∙ ap (λ (o : Option (Vec ContentChange Global)). option_map (λ (list : Vec ContentChange Global). map change_told list.items) o) c.in-Some.is
     ∙ ap (λ items. Some (map change_told items)) (sym c.deref.ensures.value) in
     on_ok_weaker c.put_off.result
-    (λ text. taken-late _ c.args.name.now changes c.args.self.now _ (changed-told folders params c.args.name.now changes c.requires.change.0 some) c.put_off.ensures.stays text (ap Some c.copied.ensures)) c.put_off.ensures.text
+    (λ text. taken-late _ c.args.name.now changes c.args.self.now _ c.requires.alone (changed-told folders params c.args.name.now changes c.requires.change.0 some) c.put_off.ensures.stays text (c.requires.runs, ap Some c.copied.ensures)) c.put_off.ensures.text
 
 pub returns-clause-published : goal.returns-clause-published
 returns-clause-published c = λ w. on_ok c.put_off.result (none-published w (said_by c.args.out.now))

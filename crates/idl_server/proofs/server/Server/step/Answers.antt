@@ -11,7 +11,7 @@ use Rattle.idl_loader.specs.Holding.{Holding}
 use Rattle.idl_server.specs.Messages.{IsRead, answered}
 use Rattle.idl_server.specs.Published.{ArePublished}
 use Rattle.idl_server.specs.Server.{HasTaken, IsSettled, if_running}
-use Rattle.idl_server.proofs.LateLemmas.{answered-on, change-answered, change-told, takes-before, takes-nothing, takes-on, unread-answered}
+use Rattle.idl_server.proofs.LateLemmas.{answered-on, change-answered, change-asks, change-told, takes-before, takes-nothing, takes-on, unread-answered}
 use Rattle.idl_server.proofs.NoticeLemmas.{told-json}
 use Rattle.idl_server.proofs.ServingLemmas.{message-some}
 use Rattle.idl_server.proofs.WorkspaceLemmas.{on_ok}
@@ -51,7 +51,7 @@ returns-in_default-2-clause-taken g c =
     let between = said_by c.catch_up-2.new.out in
     let read = subst (λ (found : Option Value). IsRead body found before (said_by c.value_of.new.out)) c.in-Some.is c.in_ok-value.ensures in
     takes-on c.take_value.result (if_running mid.phase (told_by_message mid.workspace.folders json)) c.args.self.now mid c.take_value.new.self body before between (said_by c.take_value.new.out)
-    (told-json mid body json read.0) c.in_ok-catch_up-2.ensures.caught (subst (λ (said : List Data). ArePublished mid.workspace said between) read.1 c.in_ok-catch_up-2.ensures.published)
+    (told-json mid body json read.0) c.in_ok-catch_up-2.ensures.caught c.in_ok-catch_up-2.ensures.on_time (subst (λ (said : List Data). ArePublished mid.workspace said between) read.1 c.in_ok-catch_up-2.ensures.published)
     c.take_value.ensures.taken c.take_value.ensures.published
 
 pub returns-in_default-2-clause-on_time : goal.returns-in_default-2-clause-on_time
@@ -91,7 +91,7 @@ returns-clause-taken g c =
     let between = said_by c.put_off.new.out in
     let read = subst (λ (found : Option Value). IsRead body found before (said_by c.value_of.new.out)) c.in-Some.is c.in_ok-value.ensures in
     let told = change-told old body json params read.0 c.in-Some-2.ensures.1 c.in-Some-2.ensures.0 in
-    takes-before _ old mid c.catch_up-3.new.self before between (said_by c.catch_up-3.new.out) (subst (λ (t : Option Told). HasTaken t old mid) (sym told) c.in_ok-put_off.ensures.taken)
+    takes-before old mid c.catch_up-3.new.self body before between (said_by c.catch_up-3.new.out) (change-asks body json params old read.0 c.in-Some-2.ensures.1) (subst (λ (t : Option Told). HasTaken t old mid) (sym told) c.in_ok-put_off.ensures.taken)
     c.in_ok-catch_up-3.ensures.caught (subst (λ (said : List Data). ArePublished old.workspace said between) read.1 (c.in_ok-put_off.ensures.published old.workspace)) c.in_ok-catch_up-3.ensures.published
 
 pub returns-clause-answered : goal.returns-clause-answered
