@@ -30,7 +30,7 @@ use Rattle.idl_server.specs.Documents.{OnlyRefusedIsBehind}
 use Rattle.idl_server.specs.Files.{AreFiled, AreTried, IsFiled, IsKept, IsTried, StaysBeside, StaysButText, StaysSet, told_by}
 use Rattle.idl_server.specs.Roots.{AreCovered, AreRooted, IsCompiled, IsFull, IsOpen, IsThere}
 use Rattle.idl_editor.specs.messages.Message.{id_in}
-use Rattle.idl_server.specs.Late.{CatchesUp, FindsNoneLate, HasCaughtUp, IsChange, IsChangeOf, TakesIn}
+use Rattle.idl_server.specs.Late.{ArePublishedOnTime, CatchesUp, FindsNoneLate, HasCaughtUp, IsChange, IsChangeOf, TakesIn}
 use Rattle.idl_server.specs.Messages.{IsAnswered, IsMessageOf, answered, asked_by, outcome_by}
 use Rattle.idl_server.specs.Published.{ArePublished}
 use Rattle.idl_server.specs.Server.{HasTaken, IsLate, IsSettled, if_running, told_to}
@@ -55,14 +55,14 @@ told-caught old mid body (inl same) = ap (λ (server : Server). told_to server b
 told-caught old mid body (inr caught) = λ i. if_running (caught.phase i) (option_and_then (told_by_message (caught.set.folders i)) (json_of body))
 
 -- the session got the text before
-pub takes-then : (old mid new : Server) (body : List ℕ) (before between after : List Data) → CatchesUp old mid → FindsNoneLate body mid → HasTaken (told_to old body) mid new → ArePublished mid.workspace before between
-    → ArePublished new.workspace between after → TakesIn body old new before after
+pub takes-then : (old mid new : Server) (body : List ℕ) (before between after : List Data) → CatchesUp old mid → FindsNoneLate body mid → HasTaken (told_to old body) mid new → ArePublishedOnTime mid before between
+    → ArePublishedOnTime new between after → TakesIn body old new before after
 takes-then old mid new body before between after caught on_time taken early later =
     record { caught = mid; moved = new; between = between; first = caught; on_time = on_time; taken = taken; last = inl refl; early = early; later = later }
 
 -- or after
-pub takes-before : (old mid new : Server) (body : List ℕ) (before between after : List Data) → FindsNoneLate body old → HasTaken (told_to old body) old mid → CatchesUp mid new → ArePublished old.workspace before between
-    → ArePublished new.workspace between after → TakesIn body old new before after
+pub takes-before : (old mid new : Server) (body : List ℕ) (before between after : List Data) → FindsNoneLate body old → HasTaken (told_to old body) old mid → CatchesUp mid new → ArePublishedOnTime old before between
+    → ArePublishedOnTime new between after → TakesIn body old new before after
 takes-before old mid new body before between after on_time taken caught early later =
     record { caught = old; moved = mid; between = between; first = inl refl; on_time = on_time; taken = taken; last = caught; early = early; later = later }
 
@@ -274,18 +274,18 @@ change-told server body json params some is runs =
 
 -- nothing is taken in of a body that is no JSON
 pub takes-nothing : (old new : Server) (body : List ℕ) (before between after : List Data) → json_of body ≡ None → between ≡ before ++ error_json null NoJson ∷ [] → CatchesUp old new
-    → ArePublished new.workspace between after → TakesIn body old new before after
+    → ArePublishedOnTime new between after → TakesIn body old new before after
 takes-nothing old new body before between after none is caught later =
     takes-before old old new body before between after (unread-asks body old none) (taken-same (told_to old body) old (told-nothing old body none)) caught
-    (one-published old.workspace before between (error_json null NoJson) is (error-published old.workspace null NoJson)) later
+    (inr (λ w. one-published w before between (error_json null NoJson) is (error-published w null NoJson))) later
 
 -- what is taken in behind the text before
 pub takes-on : {T E : Type 0} (result : Result T E) (told : Option Told) (old mid new : Server) (body : List ℕ) (before between after : List Data) → told_to mid body ≡ told → CatchesUp old mid → mid.late ≡ None
-    → ArePublished mid.workspace before between → OnOk result (HasTaken told mid new) → OnOk result (ArePublished new.workspace between after) → OnOk result (TakesIn body old new before after)
-takes-on result told old mid new body before between after is caught none early taken later =
+    → new.late ≡ mid.late → ArePublished mid.workspace before between → OnOk result (HasTaken told mid new) → OnOk result (ArePublished new.workspace between after) → OnOk result (TakesIn body old new before after)
+takes-on result told old mid new body before between after is caught none late early taken later =
     on_ok_both result
     (λ (has : HasTaken told mid new) (more : ArePublished new.workspace between after).
-    takes-then old mid new body before between after caught (λ json id some asks. none) (subst (λ (t : Option Told). HasTaken t mid new) (sym is ∙ told-caught old mid body caught) has) early more) taken later
+    takes-then old mid new body before between after caught (λ json id some asks. none) (subst (λ (t : Option Told). HasTaken t mid new) (sym is ∙ told-caught old mid body caught) has) (inl (none, early)) (inl (late ∙ none, more))) taken later
 
 -- who is answered by a change
 pub change-answered : (body : List ℕ) (json : Data) (params : Bor Value) (old new : Phase) (before after : List Data) → json_of body ≡ Some json → IsChange json (view params.now) → old ≡ Running → new ≡ old

@@ -38,8 +38,13 @@ abbrev pub FindsNoneLate : List ℕ → Server → Type 0
 FindsNoneLate body server =
     (json id : Data) → json_of body ≡ Some json → id_in json ≡ Some id → server.late ≡ None
 
--- a server took this body in, and the session may have caught up before, or after. What is published of
--- a file is what roots find in it where the session has caught up, or at the end
+-- what is published since is what roots find where no document is late, or nothing is
+abbrev pub ArePublishedOnTime : Server → List Data → List Data → Type 0
+ArePublishedOnTime server before after =
+    ((server.late ≡ None) × ArePublished server.workspace before after)
+    ⊎ ((w : Workspace) → ArePublished w before after)
+
+-- a server took this body in, and the session may have caught up before, or after
 pub record TakesIn (body : List ℕ) (old new : Server) (before after : List Data) : Type 0 where
   pub caught : Server
   pub moved : Server
@@ -48,5 +53,5 @@ pub record TakesIn (body : List ℕ) (old new : Server) (before after : List Dat
   pub on_time : FindsNoneLate body caught
   pub taken : HasTaken (told_to old body) caught moved
   pub last : CatchesUp moved new
-  pub early : ArePublished caught.workspace before between
-  pub later : ArePublished new.workspace between after
+  pub early : ArePublishedOnTime caught before between
+  pub later : ArePublishedOnTime new between after

@@ -1,4 +1,4 @@
-use Rattle.std.proofs.Common.{◌∙◌, ℕ, List, Option, ap, inr, subst, sym}
+use Rattle.std.proofs.Common.{◌∙◌, ℕ, List, Option, ap, inl, inr, subst, sym}
 use Rattle.std.proofs.lemmas.Result.{IfOk-weaker}
 use Rattle.std.specs.Result.{OnOk}
 use Rattle.serde_json.specs.Data.{Data}
@@ -25,7 +25,8 @@ returns-in_default-clause-taken g c =
     let before = said_by c.args.out.now in
     let between = said_by c.value_of.new.out in
     let read = subst (λ (found : Option Value). IsRead body found before between) c.in_default.is c.in_ok-value.ensures in
-    takes-nothing c.args.self.now c.catch_up.new.self body before between (said_by c.catch_up.new.out) read.0 read.1 c.in_ok-catch_up.ensures.caught c.in_ok-catch_up.ensures.published
+    takes-nothing c.args.self.now c.catch_up.new.self body before between (said_by c.catch_up.new.out) read.0 read.1 c.in_ok-catch_up.ensures.caught
+    (inl (c.in_ok-catch_up.ensures.on_time, c.in_ok-catch_up.ensures.published))
 
 pub returns-in_default-clause-answered : goal.returns-in_default-clause-answered
 returns-in_default-clause-answered g c =
@@ -51,7 +52,7 @@ returns-in_default-2-clause-taken g c =
     let between = said_by c.catch_up-2.new.out in
     let read = subst (λ (found : Option Value). IsRead body found before (said_by c.value_of.new.out)) c.in-Some.is c.in_ok-value.ensures in
     takes-on c.take_value.result (if_running mid.phase (told_by_message mid.workspace.folders json)) c.args.self.now mid c.take_value.new.self body before between (said_by c.take_value.new.out)
-    (told-json mid body json read.0) c.in_ok-catch_up-2.ensures.caught c.in_ok-catch_up-2.ensures.on_time (subst (λ (said : List Data). ArePublished mid.workspace said between) read.1 c.in_ok-catch_up-2.ensures.published)
+    (told-json mid body json read.0) c.in_ok-catch_up-2.ensures.caught c.in_ok-catch_up-2.ensures.on_time c.take_value.ensures.late (subst (λ (said : List Data). ArePublished mid.workspace said between) read.1 c.in_ok-catch_up-2.ensures.published)
     c.take_value.ensures.taken c.take_value.ensures.published
 
 pub returns-in_default-2-clause-on_time : goal.returns-in_default-2-clause-on_time
@@ -92,7 +93,8 @@ returns-clause-taken g c =
     let read = subst (λ (found : Option Value). IsRead body found before (said_by c.value_of.new.out)) c.in-Some.is c.in_ok-value.ensures in
     let told = change-told old body json params read.0 c.in-Some-2.ensures.1 c.in-Some-2.ensures.0 in
     takes-before old mid c.catch_up-3.new.self body before between (said_by c.catch_up-3.new.out) (change-asks body json params old read.0 c.in-Some-2.ensures.1) (subst (λ (t : Option Told). HasTaken t old mid) (sym told) c.in_ok-put_off.ensures.taken)
-    c.in_ok-catch_up-3.ensures.caught (subst (λ (said : List Data). ArePublished old.workspace said between) read.1 (c.in_ok-put_off.ensures.published old.workspace)) c.in_ok-catch_up-3.ensures.published
+    c.in_ok-catch_up-3.ensures.caught (inr (λ w. subst (λ (said : List Data). ArePublished w said between) read.1 (c.in_ok-put_off.ensures.published w)))
+    (inl (c.in_ok-catch_up-3.ensures.on_time, c.in_ok-catch_up-3.ensures.published))
 
 pub returns-clause-answered : goal.returns-clause-answered
 returns-clause-answered g c =

@@ -26,7 +26,7 @@ returns-in_default-clause-taken g c =
     let before = said_by c.args.out.now in
     let after = said_by c.value_of.new.out in
     let read = subst (λ (found : Option Value). IsRead body found before after) c.in_default.is c.in_ok-value.ensures in
-    takes-nothing old old body before after after read.0 read.1 (inl refl) (none-published old.workspace after)
+    takes-nothing old old body before after after read.0 read.1 (inl refl) (inr (λ w. none-published w after))
 
 pub returns-in_default-clause-answered : goal.returns-in_default-clause-answered
 returns-in_default-clause-answered g c =
@@ -53,7 +53,7 @@ returns-in_default-2-clause-taken g c =
     let between = said_by c.catch_up.new.out in
     let read = subst (λ (found : Option Value). IsRead body found before (said_by c.value_of.new.out)) c.in-Some.is c.in_ok-value.ensures in
     takes-on c.take_value.result (if_running mid.phase (told_by_message mid.workspace.folders json)) c.args.self.now mid c.take_value.new.self body before between (said_by c.take_value.new.out)
-    (told-json mid body json read.0) c.in_ok-catch_up.ensures.caught c.in_ok-catch_up.ensures.on_time (subst (λ (said : List Data). ArePublished mid.workspace said between) read.1 c.in_ok-catch_up.ensures.published)
+    (told-json mid body json read.0) c.in_ok-catch_up.ensures.caught c.in_ok-catch_up.ensures.on_time c.take_value.ensures.late (subst (λ (said : List Data). ArePublished mid.workspace said between) read.1 c.in_ok-catch_up.ensures.published)
     c.take_value.ensures.taken c.take_value.ensures.published
 
 pub returns-in_default-2-clause-answered : goal.returns-in_default-2-clause-answered
@@ -89,7 +89,7 @@ returns-then-is_late-clause-taken g c =
     let read = subst (λ (found : Option Value). IsRead body found before (said_by c.value_of.new.out)) c.in-Some.is c.in_ok-value.ensures in
     let told = change-told old body (view c.in-Some.value) (view c.in-Some-2.params.now) read.0 c.in-Some-2.ensures.1 c.in-Some-2.ensures.0 in
     takes-before old new new body before after after (change-asks body (view c.in-Some.value) (view c.in-Some-2.params.now) old read.0 c.in-Some-2.ensures.1) (subst (λ (t : Option Told). HasTaken t old new) (sym told) c.in_ok-put_off.ensures.taken) (inl refl)
-    (subst (λ (said : List Data). ArePublished old.workspace said after) read.1 (c.in_ok-put_off.ensures.published old.workspace)) (none-published new.workspace after)
+    (inr (λ w. subst (λ (said : List Data). ArePublished w said after) read.1 (c.in_ok-put_off.ensures.published w))) (inr (λ w. none-published w after))
 
 pub returns-then-is_late-clause-answered : goal.returns-then-is_late-clause-answered
 returns-then-is_late-clause-answered g c =
@@ -125,7 +125,7 @@ returns-clause-taken g c =
     let caught = c.in_ok-catch_up-2.ensures.caught in
     let told = change-told mid body (view c.in-Some.value) (view c.in-Some-2.params.now) read.0 c.in-Some-2.ensures.1 (c.catch_up-2.ensures.phase ∙ c.in-Some-2.ensures.0) in
     takes-then old mid new body before between (said_by c.put_off-2.new.out) caught (change-asks body (view c.in-Some.value) (view c.in-Some-2.params.now) mid read.0 c.in-Some-2.ensures.1) (subst (λ (t : Option Told). HasTaken t mid new) (sym told ∙ told-caught old mid body caught) c.in_ok-put_off-2.ensures.taken)
-    (subst (λ (said : List Data). ArePublished mid.workspace said between) read.1 c.in_ok-catch_up-2.ensures.published) (c.in_ok-put_off-2.ensures.published new.workspace)
+    (inl (c.in_ok-catch_up-2.ensures.on_time, subst (λ (said : List Data). ArePublished mid.workspace said between) read.1 c.in_ok-catch_up-2.ensures.published)) (inr c.in_ok-put_off-2.ensures.published)
 
 pub returns-clause-answered : goal.returns-clause-answered
 returns-clause-answered g c =
