@@ -249,8 +249,11 @@ impl Server {
         ensures stays { L.told_of loader.new ≡ L.told_of loader.old }
     {
         // A text is put off only where the server runs.
-        let (Some(name), Phase::Running) = (&self.late, self.phase) else {
+        let Phase::Running = self.phase else {
             self.late = None;
+            return Ok(());
+        };
+        let Some(name) = &self.late else {
             return Ok(());
         };
         self.workspace.put_whole(name)?;

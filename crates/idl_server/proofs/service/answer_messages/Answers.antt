@@ -32,7 +32,7 @@ messages-preserved g c =
     let takes = subst (λ (r : Received). Receives r left rest) c.in-Body.is c.in_ok-body.ensures.received in
     let one = c.in_ok-answer_message.ensures.stepped in
     let steps =
-    stepped-as (g.L.PathLoader.told_of c.messages.loader) told c.deref.result.now body old new one.0 c.in_ok-answer_message.field-0 Goes inv.stays c.deref.ensures.value c.in-Goes.is one.2 in
+    stepped-as (g.L.PathLoader.told_of c.messages.loader) told c.as_slice.result.now body old new one.0 c.in_ok-answer_message.field-0 Goes inv.stays c.as_slice.ensures.value c.in-Goes.is one.2 in
     let on_time : rest ≡ Some [] → new.late ≡ None = λ over.
     let empty : c.is_empty.result ≡ true = c.is_empty.ensures.1 (held-none c.received.new.reader (g.S.Source.remaining c.received.new.source) over) in
     c.in_ok-answer_message.ensures.on_time (ap not empty)
@@ -71,7 +71,7 @@ returns-in-Ends-clause-served g c =
     let takes = subst (λ (r : Received). Receives r left rest) c.in-Body.is c.in_ok-body.ensures.received in
     let one = c.in_ok-answer_message.ensures.stepped in
     let steps =
-    stepped-as (g.L.PathLoader.told_of c.messages.loader) told c.deref.result.now body old new one.0 c.in_ok-answer_message.field-0 Ends inv.stays c.deref.ensures.value c.in-Ends.is one.2 in
+    stepped-as (g.L.PathLoader.told_of c.messages.loader) told c.as_slice.result.now body old new one.0 c.in_ok-answer_message.field-0 Ends inv.stays c.as_slice.ensures.value c.in-Ends.is one.2 in
     served-end told c.args.server.now old new (g.S.Source.remaining c.args.source.now) left rest (g.O.Sink.written c.args.output.now) (g.O.Sink.written c.messages.output)
     (g.O.Sink.written c.answer_message.new.output) body one.0 one.1 Ends inv.served takes steps ends-not one.3 one.4
 
@@ -87,6 +87,6 @@ returns-in-BreaksOff-clause-served g c =
     let takes = subst (λ (r : Received). Receives r left rest) c.in-Body.is c.in_ok-body.ensures.received in
     let one = c.in_ok-answer_message.ensures.stepped in
     let steps =
-    stepped-as (g.L.PathLoader.told_of c.messages.loader) told c.deref.result.now body old new one.0 c.in_ok-answer_message.field-0 BreaksOff inv.stays c.deref.ensures.value c.in-BreaksOff.is one.2 in
+    stepped-as (g.L.PathLoader.told_of c.messages.loader) told c.as_slice.result.now body old new one.0 c.in_ok-answer_message.field-0 BreaksOff inv.stays c.as_slice.ensures.value c.in-BreaksOff.is one.2 in
     served-end told c.args.server.now old new (g.S.Source.remaining c.args.source.now) left rest (g.O.Sink.written c.args.output.now) (g.O.Sink.written c.messages.output)
     (g.O.Sink.written c.answer_message.new.output) body one.0 one.1 BreaksOff inv.served takes steps breaks-not one.3 one.4

@@ -14,7 +14,7 @@ use Rattle.idl_server.specs.Server.{HasTaken, IsSettled, if_running}
 use Rattle.idl_server.proofs.LateLemmas.{answered-on, change-answered, change-asks, change-told, takes-before, takes-nothing, takes-on, unread-answered}
 use Rattle.idl_server.proofs.NoticeLemmas.{told-json}
 use Rattle.idl_server.proofs.ServingLemmas.{message-some}
-use Rattle.idl_server.proofs.WorkspaceLemmas.{on_ok}
+use Rattle.idl_server.proofs.WorkspaceLemmas.{on_ok, some_of}
 use Rattle.idl_server.proofs.server.Server.step.Goals as goal
 
 -- ---- no JSON
@@ -40,16 +40,16 @@ returns-in_default-clause-answered g c =
 
 pub returns-in_default-2-clause-settled : goal.returns-in_default-2-clause-settled
 returns-in_default-2-clause-settled g c = λ is.
-    subst (λ (t : List ℕ → Holding). IsSettled t c.catch_up-2.new.self → OnOk c.take_value.result (IsSettled t c.take_value.new.self)) c.catch_up-2.ensures.stays c.take_value.ensures.settled
+    subst (λ (t : List ℕ → Holding). IsSettled t c.catch_up-in_default-2.new.self → OnOk c.take_value.result (IsSettled t c.take_value.new.self)) c.catch_up-in_default-2.ensures.stays c.take_value.ensures.settled
     (c.in_ok-catch_up-2.ensures.settled is)
 
 pub returns-in_default-2-clause-taken : goal.returns-in_default-2-clause-taken
 returns-in_default-2-clause-taken g c =
     let body = c.args.body.now in
-    let mid = c.catch_up-2.new.self in
+    let mid = c.catch_up-in_default-2.new.self in
     let json = view c.in-Some.value in
     let before = said_by c.args.out.now in
-    let between = said_by c.catch_up-2.new.out in
+    let between = said_by c.catch_up-in_default-2.new.out in
     let read = subst (λ (found : Option Value). IsRead body found before (said_by c.value_of.new.out)) c.in-Some.is c.in_ok-value.ensures in
     takes-on c.take_value.result (if_running mid.phase (told_by_message mid.workspace.folders json)) c.args.self.now mid c.take_value.new.self body before between (said_by c.take_value.new.out)
     (told-json mid body json read.0) c.in_ok-catch_up-2.ensures.caught c.in_ok-catch_up-2.ensures.on_time c.take_value.ensures.late (subst (λ (said : List Data). ArePublished mid.workspace said between) read.1 c.in_ok-catch_up-2.ensures.published)
@@ -63,20 +63,20 @@ returns-in_default-2-clause-answered g c =
     let body = c.args.body.now in
     let json = view c.in-Some.value in
     let before = said_by c.args.out.now in
-    let between = said_by c.catch_up-2.new.out in
+    let between = said_by c.catch_up-in_default-2.new.out in
     let read = subst (λ (found : Option Value). IsRead body found before (said_by c.value_of.new.out)) c.in-Some.is c.in_ok-value.ensures in
     IfOk-weaker c.take_value.result _ _
     (λ outcome some. (
       some.0,
       message-some body json some.0 read.0 some.1,
-      answered-on some.0 c.args.self.now.phase c.catch_up-2.new.self.phase c.take_value.new.self.phase before between (said_by c.take_value.new.out) outcome c.catch_up-2.ensures.phase
+      answered-on some.0 c.args.self.now.phase c.catch_up-in_default-2.new.self.phase c.take_value.new.self.phase before between (said_by c.take_value.new.out) outcome c.catch_up-in_default-2.ensures.phase
           (c.in_ok-catch_up-2.ensures.answers ∙ ap answered read.1) some.2,
     )) c.take_value.ensures.answered
 
 -- ---- a change of it
 
 pub put_off-requires-clause-alone : goal.put_off-requires-clause-alone
-put_off-requires-clause-alone g c = inr c.in-Some-2.ensures.3
+put_off-requires-clause-alone g c = inr (some_of c.in_ok-name.field-0 (c.in-Some-2.name, c.in-Some-2.params) _ c.in-Some-2.is c.in_ok-name.ensures).3
 
 pub returns-clause-settled : goal.returns-clause-settled
 returns-clause-settled g c = λ is. c.in_ok-catch_up-3.ensures.settled (c.in_ok-put_off.ensures.settled (g.L.PathLoader.told_of c.args.loader.now) is)
@@ -91,8 +91,9 @@ returns-clause-taken g c =
     let before = said_by c.args.out.now in
     let between = said_by c.put_off.new.out in
     let read = subst (λ (found : Option Value). IsRead body found before (said_by c.value_of.new.out)) c.in-Some.is c.in_ok-value.ensures in
-    let told = change-told old body json params read.0 c.in-Some-2.ensures.1 c.in-Some-2.ensures.0 in
-    takes-before old mid c.catch_up-3.new.self body before between (said_by c.catch_up-3.new.out) (change-asks body json params old read.0 c.in-Some-2.ensures.1) (subst (λ (t : Option Told). HasTaken t old mid) (sym told) c.in_ok-put_off.ensures.taken)
+    let change = some_of c.in_ok-name.field-0 (c.in-Some-2.name, c.in-Some-2.params) _ c.in-Some-2.is c.in_ok-name.ensures in
+    let told = change-told old body json params read.0 change.1 change.0 in
+    takes-before old mid c.catch_up-2.new.self body before between (said_by c.catch_up-2.new.out) (change-asks body json params old read.0 change.1) (subst (λ (t : Option Told). HasTaken t old mid) (sym told) c.in_ok-put_off.ensures.taken)
     c.in_ok-catch_up-3.ensures.caught (inr (λ w. subst (λ (said : List Data). ArePublished w said between) read.1 (c.in_ok-put_off.ensures.published w)))
     (inl (c.in_ok-catch_up-3.ensures.on_time, c.in_ok-catch_up-3.ensures.published))
 
@@ -101,5 +102,6 @@ returns-clause-answered g c =
     let body = c.args.body.now in
     let before = said_by c.args.out.now in
     let read = subst (λ (found : Option Value). IsRead body found before (said_by c.value_of.new.out)) c.in-Some.is c.in_ok-value.ensures in
-    change-answered body (view c.in-Some.value) c.in-Some-2.params c.args.self.now.phase c.catch_up-3.new.self.phase before (said_by c.catch_up-3.new.out) read.0 c.in-Some-2.ensures.1 c.in-Some-2.ensures.0
-    (c.catch_up-3.ensures.phase ∙ c.put_off.ensures.phase) (c.in_ok-catch_up-3.ensures.answers ∙ c.in_ok-put_off.ensures.answers ∙ ap answered read.1)
+    let change = some_of c.in_ok-name.field-0 (c.in-Some-2.name, c.in-Some-2.params) _ c.in-Some-2.is c.in_ok-name.ensures in
+    change-answered body (view c.in-Some.value) c.in-Some-2.params c.args.self.now.phase c.catch_up-2.new.self.phase before (said_by c.catch_up-2.new.out) read.0 change.1 change.0
+    (c.catch_up-2.ensures.phase ∙ c.put_off.ensures.phase) (c.in_ok-catch_up-3.ensures.answers ∙ c.in_ok-put_off.ensures.answers ∙ ap answered read.1)

@@ -15,6 +15,7 @@ use Rattle.idl_server.proofs.LateLemmas.{answered-on, change-answered, change-as
 use Rattle.idl_server.proofs.NoticeLemmas.{told-json}
 use Rattle.idl_server.proofs.PublishedLemmas.{none-published}
 use Rattle.idl_server.proofs.ServingLemmas.{message-some}
+use Rattle.idl_server.proofs.WorkspaceLemmas.{some_of}
 use Rattle.idl_server.proofs.server.Server.step_early.Goals as goal
 
 -- ---- no JSON
@@ -87,8 +88,9 @@ returns-then-is_late-clause-taken g c =
     let before = said_by c.args.out.now in
     let after = said_by c.put_off.new.out in
     let read = subst (λ (found : Option Value). IsRead body found before (said_by c.value_of.new.out)) c.in-Some.is c.in_ok-value.ensures in
-    let told = change-told old body (view c.in-Some.value) (view c.in-Some-2.params.now) read.0 c.in-Some-2.ensures.1 c.in-Some-2.ensures.0 in
-    takes-before old new new body before after after (change-asks body (view c.in-Some.value) (view c.in-Some-2.params.now) old read.0 c.in-Some-2.ensures.1) (subst (λ (t : Option Told). HasTaken t old new) (sym told) c.in_ok-put_off.ensures.taken) (inl refl)
+    let change = some_of c.in_ok-name.field-0 (c.in-Some-2.name, c.in-Some-2.params) _ c.in-Some-2.is c.in_ok-name.ensures in
+    let told = change-told old body (view c.in-Some.value) (view c.in-Some-2.params.now) read.0 change.1 change.0 in
+    takes-before old new new body before after after (change-asks body (view c.in-Some.value) (view c.in-Some-2.params.now) old read.0 change.1) (subst (λ (t : Option Told). HasTaken t old new) (sym told) c.in_ok-put_off.ensures.taken) (inl refl)
     (inr (λ w. subst (λ (said : List Data). ArePublished w said after) read.1 (c.in_ok-put_off.ensures.published w))) (inr (λ w. none-published w after))
 
 pub returns-then-is_late-clause-answered : goal.returns-then-is_late-clause-answered
@@ -96,19 +98,21 @@ returns-then-is_late-clause-answered g c =
     let body = c.args.body.now in
     let before = said_by c.args.out.now in
     let read = subst (λ (found : Option Value). IsRead body found before (said_by c.value_of.new.out)) c.in-Some.is c.in_ok-value.ensures in
-    change-answered body (view c.in-Some.value) c.in-Some-2.params c.args.self.now.phase c.put_off.new.self.phase before (said_by c.put_off.new.out) read.0 c.in-Some-2.ensures.1 c.in-Some-2.ensures.0
+    let change = some_of c.in_ok-name.field-0 (c.in-Some-2.name, c.in-Some-2.params) _ c.in-Some-2.is c.in_ok-name.ensures in
+    change-answered body (view c.in-Some.value) c.in-Some-2.params c.args.self.now.phase c.put_off.new.self.phase before (said_by c.put_off.new.out) read.0 change.1 change.0
     c.put_off.ensures.phase (c.in_ok-put_off.ensures.answers ∙ ap answered read.1)
 
 -- ---- a change of another one
 
-pub put_off-2-requires-clause-change : goal.put_off-2-requires-clause-change
-put_off-2-requires-clause-change g c = change-caught c.args.self.now c.catch_up-2.new.self c.in-Some-2.name (view c.in-Some-2.params.now) c.in_ok-catch_up-2.ensures.caught c.in-Some-2.ensures.2
+pub put_off-requires-2-clause-change : goal.put_off-requires-2-clause-change
+put_off-requires-2-clause-change g c = change-caught c.args.self.now c.catch_up-2.new.self c.in-Some-2.name (view c.in-Some-2.params.now) c.in_ok-catch_up-2.ensures.caught
+    (some_of c.in_ok-name.field-0 (c.in-Some-2.name, c.in-Some-2.params) _ c.in-Some-2.is c.in_ok-name.ensures).2
 
-pub put_off-2-requires-clause-runs : goal.put_off-2-requires-clause-runs
-put_off-2-requires-clause-runs g c = c.catch_up-2.ensures.phase ∙ c.in-Some-2.ensures.0
+pub put_off-requires-2-clause-runs : goal.put_off-requires-2-clause-runs
+put_off-requires-2-clause-runs g c = c.catch_up-2.ensures.phase ∙ (some_of c.in_ok-name.field-0 (c.in-Some-2.name, c.in-Some-2.params) _ c.in-Some-2.is c.in_ok-name.ensures).0
 
-pub put_off-2-requires-clause-alone : goal.put_off-2-requires-clause-alone
-put_off-2-requires-clause-alone g c = inl c.in_ok-catch_up-2.ensures.on_time
+pub put_off-requires-2-clause-alone : goal.put_off-requires-2-clause-alone
+put_off-requires-2-clause-alone g c = inl c.in_ok-catch_up-2.ensures.on_time
 
 pub returns-clause-settled : goal.returns-clause-settled
 returns-clause-settled g c = λ is. c.in_ok-put_off-2.ensures.settled (g.L.PathLoader.told_of c.args.loader.now) (c.in_ok-catch_up-2.ensures.settled is)
@@ -122,9 +126,10 @@ returns-clause-taken g c =
     let before = said_by c.args.out.now in
     let between = said_by c.catch_up-2.new.out in
     let read = subst (λ (found : Option Value). IsRead body found before (said_by c.value_of.new.out)) c.in-Some.is c.in_ok-value.ensures in
+    let change = some_of c.in_ok-name.field-0 (c.in-Some-2.name, c.in-Some-2.params) _ c.in-Some-2.is c.in_ok-name.ensures in
     let caught = c.in_ok-catch_up-2.ensures.caught in
-    let told = change-told mid body (view c.in-Some.value) (view c.in-Some-2.params.now) read.0 c.in-Some-2.ensures.1 (c.catch_up-2.ensures.phase ∙ c.in-Some-2.ensures.0) in
-    takes-then old mid new body before between (said_by c.put_off-2.new.out) caught (change-asks body (view c.in-Some.value) (view c.in-Some-2.params.now) mid read.0 c.in-Some-2.ensures.1) (subst (λ (t : Option Told). HasTaken t mid new) (sym told ∙ told-caught old mid body caught) c.in_ok-put_off-2.ensures.taken)
+    let told = change-told mid body (view c.in-Some.value) (view c.in-Some-2.params.now) read.0 change.1 (c.catch_up-2.ensures.phase ∙ change.0) in
+    takes-then old mid new body before between (said_by c.put_off-2.new.out) caught (change-asks body (view c.in-Some.value) (view c.in-Some-2.params.now) mid read.0 change.1) (subst (λ (t : Option Told). HasTaken t mid new) (sym told ∙ told-caught old mid body caught) c.in_ok-put_off-2.ensures.taken)
     (inl (c.in_ok-catch_up-2.ensures.on_time, subst (λ (said : List Data). ArePublished mid.workspace said between) read.1 c.in_ok-catch_up-2.ensures.published)) (inr c.in_ok-put_off-2.ensures.published)
 
 pub returns-clause-answered : goal.returns-clause-answered
@@ -132,5 +137,6 @@ returns-clause-answered g c =
     let body = c.args.body.now in
     let before = said_by c.args.out.now in
     let read = subst (λ (found : Option Value). IsRead body found before (said_by c.value_of.new.out)) c.in-Some.is c.in_ok-value.ensures in
-    change-answered body (view c.in-Some.value) c.in-Some-2.params c.args.self.now.phase c.put_off-2.new.self.phase before (said_by c.put_off-2.new.out) read.0 c.in-Some-2.ensures.1 c.in-Some-2.ensures.0
+    let change = some_of c.in_ok-name.field-0 (c.in-Some-2.name, c.in-Some-2.params) _ c.in-Some-2.is c.in_ok-name.ensures in
+    change-answered body (view c.in-Some.value) c.in-Some-2.params c.args.self.now.phase c.put_off-2.new.self.phase before (said_by c.put_off-2.new.out) read.0 change.1 change.0
     (c.put_off-2.ensures.phase ∙ c.catch_up-2.ensures.phase) (c.in_ok-put_off-2.ensures.answers ∙ c.in_ok-catch_up-2.ensures.answers ∙ ap answered read.1)
