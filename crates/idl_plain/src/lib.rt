@@ -12,6 +12,5 @@ mod tables;
 pub use forms::tests;
 pub use laws::{additions, answers, conditions, pragmas, sameness, units};
 pub use tables::{
-    allowances, declarations, expressions, numbers, operators, steps, tokens, type_codes, types,
-    uses,
+    allowances, declarations, expressions, numbers, operators, steps, tokens, types, uses,
 };
