@@ -18,8 +18,8 @@ pub(crate) struct Like<'a> {
 impl<'a> Test<Held<PlainEnv, BlockTask>> for Like<'a> {
     ghost passes = { λ like kept. is_like (like.text.now, answers like.env.now) kept };
 
-    fn passes(&self, held: &Held<PlainEnv, BlockTask>) -> bool {
-        let kept = held.shared();
+    fn passes(&self, one: &Held<PlainEnv, BlockTask>) -> bool {
+        let kept = one.shared();
         kept.text().is_like(self.text) && kept.log().first_other(self.env).is_none()
     }
 }
