@@ -31,7 +31,8 @@ returns-clause-ok g c =
       c.vacant_key-number.result,
       record {
         free = sym (same c.vacant_key-number.result) ∙ c.vacant_key-number.ensures.vacant;
-        changed = subst (λ k. get c.insert_reserved.new.self k ≡ Some (record { result = c.args.kept; uses = 1; bucket = c.args.gap.bucket })) key put.changed;
+        place = c.len-place.result;
+        changed = subst (λ k. get c.insert_reserved.new.self k ≡ Some (record { result = c.args.kept; uses = 1; bucket = c.args.gap.bucket; place = c.len-place.result })) key put.changed;
         others = λ n other. put.others n (λ h. other (h ∙ key)) ∙ same n;
       },
       drafts-more c.args.drafts.now.items (vec_len c.args.drafts.now) c.args.drafts.now.ok.0 c.in-Some.draft.now (c.in-Some.ensures.variant.0 refl) c.in-Some.ensures.value c.push_reserved.new.self (c.vacant_key-number.result ∷ []) items,

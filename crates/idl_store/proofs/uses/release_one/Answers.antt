@@ -7,8 +7,8 @@ use Rattle.idl_store.proofs.uses.release_one.Goals as goal
 pub returns-then-uses-gt1-clause-indexed : goal.returns-then-uses-gt1-clause-indexed
 returns-then-uses-gt1-clause-indexed g c =
     let u = c.index_mut.result.now in
-    indexed-same c.args.used.now (with_value c.args.used.now c.args.number (record { result = u.result; uses = c.index.result.now.uses - 1; bucket = u.bucket })) c.args.index.now
-    (kept-written c.args.used.now c.args.number u (c.index.result.now.uses - 1) c.index_mut.ensures.value) c.requires.indexed
+    indexed-same c.args.used.now (with_value c.args.used.now c.args.number (record { result = u.result; uses = c.index.result.now.uses - 1; bucket = u.bucket; place = u.place })) c.args.index.now
+    (kept-written c.args.used.now c.args.number u (c.index.result.now.uses - 1) u.place c.index_mut.ensures.value) c.requires.indexed
 
 pub remove-requires : goal.remove-requires
 remove-requires g c = indexed-alone c.args.used.now c.args.index.now c.remove-last.result.bucket c.args.number c.requires.indexed
