@@ -96,8 +96,8 @@ fn part<X>(items: &[X], place: usize, count: usize) -> &[X]
     &rest[..count.min(rest.len())]
 }
 
-// A spot at which a number stands: at this place of a list or draft, or else in the last draft that has it, or in the last list. Where
-// it was put last it mostly stands still, so no list is gone through for it.
+// A spot at which a number stands: at this place, or near where the list that the last draft is to be goes on, or else in the last
+// draft that has it, or in the last list. Most of what an edit finds stands where it was put last, so no list is gone through for it.
 pub(crate) fn spot_of(
     lists: &[Vec<usize>],
     drafts: &[Draft],
@@ -109,7 +109,7 @@ pub(crate) fn spot_of(
     ensures none { result ≡ None
         → times number (results_in (numbers_of lists.now drafts.now)) ≡ 0 }
 {
-    if let Some(spot) = spot_at(lists, drafts, number, place) {
+    if let Some(spot) = spot_beside(lists, drafts, number, place) {
         return Some(spot);
     }
     if let Some(spot) = spot_among(lists, drafts, true, number) {
@@ -118,18 +118,35 @@ pub(crate) fn spot_of(
     spot_among(lists, drafts, false, number)
 }
 
-// A spot at this place at which a number stands, in the last draft or list that has it there.
-fn spot_at(lists: &[Vec<usize>], drafts: &[Draft], number: usize, place: usize) -> Option<Spot>
+// A spot at which a number stands, which `spot_at` or `spot_near` finds.
+fn spot_beside(
+    lists: &[Vec<usize>],
+    drafts: &[Draft],
+    number: usize,
+    place: usize,
+) -> Option<Spot>
     ensures { IfSome result (λ spot.
         result_on (numbers_of lists.now drafts.now) spot ≡ Some number) }
 {
-    let found = spot_there(lists, drafts, number, place)?;
-    let other = number_on(lists, drafts, found)?;
-    if other == number { Some(found) } else { None }
+    let spot = match spot_at(lists, drafts, number, place) {
+        Some(spot) => spot,
+        None => spot_near(lists, drafts, number)?,
+    };
+    let found = number_on(lists, drafts, spot)?;
+    if found == number { Some(spot) } else { None }
 }
 
-// The same, whatever may be said of it.
-fn spot_there(lists: &[Vec<usize>], drafts: &[Draft], number: usize, place: usize) -> Option<Spot> {
+// A spot at this place at which a number stands: in the list that the last draft is to be, or in the last draft or list that has it
+// there.
+fn spot_at(lists: &[Vec<usize>], drafts: &[Draft], number: usize, place: usize) -> Option<Spot> {
+    let own = drafts.last()?.at;
+    if number_at(lists, own, place) == Some(number) {
+        return Some(Spot {
+            is_draft: false,
+            list: own,
+            place,
+        });
+    }
     for is_draft in [true, false] {
         let count = count_among(lists, drafts, is_draft);
         for behind in 0..count {
@@ -142,6 +159,32 @@ fn spot_there(lists: &[Vec<usize>], drafts: &[Draft], number: usize, place: usiz
             if number_on(lists, drafts, spot) == Some(number) {
                 return Some(spot);
             }
+        }
+    }
+    None
+}
+
+// A spot at which a number stands in the list that the last draft is to be, near where that goes on.
+fn spot_near(lists: &[Vec<usize>], drafts: &[Draft], number: usize) -> Option<Spot> {
+    let draft = drafts.last()?;
+    let place = place_near(lists.get(draft.at)?, draft.numbers.len(), number)?;
+    Some(Spot {
+        is_draft: false,
+        list: draft.at,
+        place,
+    })
+}
+
+// The place of a number, at this place or not far from it, or nothing.
+fn place_near(numbers: &[usize], near: usize, number: usize) -> Option<usize> {
+    for far in 0..numbers.len() {
+        let behind = near.saturating_add(far);
+        if numbers.get(behind).copied() == Some(number) {
+            return Some(behind);
+        }
+        let before = near.saturating_sub(far);
+        if numbers.get(before).copied() == Some(number) {
+            return Some(before);
         }
     }
     None
