@@ -133,7 +133,7 @@ next-used numbers i d used left below so all =
 
 -- other uses are written
 pub kept-written : {R : Type 0} (old : Slab (Used R)) (number : ℕ) (u : Used R) (uses place : ℕ) → get old number ≡ Some u → (n : ℕ) → kept_at (with_value old number (record { result = u.result; uses = uses; bucket = u.bucket; place = place })) n ≡ kept_at old n
-kept-written {R} old number u uses here n = by (cases_eq n number)
+kept-written {R} old number u uses place here n = by (cases_eq n number)
   where
     updates : Updates old (with_value old number (record { result = u.result; uses = uses; bucket = u.bucket; place = place })) number (Some (record { result = u.result; uses = uses; bucket = u.bucket; place = place }))
     updates = Updates-with_value old number (record { result = u.result; uses = uses; bucket = u.bucket; place = place }) (ap is_some here)
@@ -144,7 +144,7 @@ kept-written {R} old number u uses here n = by (cases_eq n number)
 
 -- a use more is written
 pub more-written : {R : Type 0} (old : Slab (Used R)) (number : ℕ) (u : Used R) (uses place : ℕ) (before after : List ℕ) → get old number ≡ Some u → uses ≡ u.uses + 1 → ((n : ℕ) → times n after ≡ times n before + times n (number ∷ [])) → AreMore old (with_value old number (record { result = u.result; uses = uses; bucket = u.bucket; place = place })) before after
-more-written {R} old number u uses before after here more parts = record { uses = λ n. uses_by n (cases_eq n number); kept = λ n. kept_by n (cases_eq n number) }
+more-written {R} old number u uses place before after here more parts = record { uses = λ n. uses_by n (cases_eq n number); kept = λ n. kept_by n (cases_eq n number) }
   where
     updates : Updates old (with_value old number (record { result = u.result; uses = uses; bucket = u.bucket; place = place })) number (Some (record { result = u.result; uses = uses; bucket = u.bucket; place = place }))
     updates = Updates-with_value old number (record { result = u.result; uses = uses; bucket = u.bucket; place = place }) (ap is_some here)

@@ -119,12 +119,7 @@ pub(crate) fn spot_of(
 }
 
 // A spot at which a number stands, which `spot_at` or `spot_near` finds.
-fn spot_beside(
-    lists: &[Vec<usize>],
-    drafts: &[Draft],
-    number: usize,
-    place: usize,
-) -> Option<Spot>
+fn spot_beside(lists: &[Vec<usize>], drafts: &[Draft], number: usize, place: usize) -> Option<Spot>
     ensures { IfSome result (λ spot.
         result_on (numbers_of lists.now drafts.now) spot ≡ Some number) }
 {

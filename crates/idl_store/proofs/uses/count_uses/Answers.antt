@@ -6,8 +6,8 @@ use Rattle.idl_store.proofs.Times.{times-length}
 use Rattle.idl_store.proofs.Using.{more-then, more-written}
 use Rattle.idl_store.proofs.uses.count_uses.Goals as goal
 
-pub overflow_add-uses : goal.overflow_add-uses
-overflow_add-uses g c =
+pub overflow_add-one : goal.overflow_add-uses
+overflow_add-one g c =
     let numbers = c.args.numbers.now in
     let i = c.loop-number.number-index in
     let item = get_or numbers i 0 in
