@@ -6,7 +6,7 @@ use Rattle.idl_store.proofs.Times.{times-length}
 use Rattle.idl_store.proofs.Using.{more-then, more-written}
 use Rattle.idl_store.proofs.uses.count_uses.Goals as goal
 
-pub overflow_add-one : goal.overflow_add-uses
+pub overflow_add-one : goal.overflow_add-one
 overflow_add-one g c =
     let numbers = c.args.numbers.now in
     let i = c.loop-number.number-index in
