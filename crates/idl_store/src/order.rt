@@ -8,7 +8,7 @@ ghost use Rattle.std.specs.Prelude.{◌≡◌};
 ghost use Rattle.std.specs.Option.{option_cmp};
 ghost use Rattle.idl_store.specs.Order.{bank_cmp, logs_cmp, place_cmp, results_cmp};
 
-use idl_memo::{Kept, KeptLog, LentBank, LogEntries, PlainBank};
+use idl_memo::{Kept, KeptLog, LentBank, PlainBank};
 use std::cmp::Ordering;
 
 // How a kept result stands to a place: by the texts, and then by the first of its answers that isn't the bank's.
@@ -57,18 +57,8 @@ where
     B::Answer: Ord,
     ensures { result ≡ logs_cmp (option_cmp B.Answer.cmp) log.now other.now }
 {
-    order_of_entries(&mut log.entries(), &mut other.entries())
-}
-
-// The same of the entries that are still to come.
-fn order_of_entries<B: PlainBank>(
-    these: &mut LogEntries<'_, B>,
-    those: &mut LogEntries<'_, B>,
-) -> Ordering
-where
-    B::Answer: Ord,
-    ensures { result ≡ logs_cmp (option_cmp B.Answer.cmp) these.old those.old }
-{
+    let mut these = log.entries();
+    let mut those = other.entries();
     'entries: while let Some(mine) = these.next() {
         let Some(theirs) = those.next() else {
             return Ordering::Greater;

@@ -119,7 +119,7 @@ where
 }
 
 /// A place: a task, and a bank.
-#[derive(Clone, Copy)]
+#[derive(Drop)]
 pub(crate) struct Place<'a, B, T> {
     pub(crate) task: &'a T,
     pub(crate) bank: &'a B,

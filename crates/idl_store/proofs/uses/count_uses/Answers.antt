@@ -4,6 +4,7 @@ use Rattle.std.proofs.lemmas.List.{length-take-le, take_more}
 use Rattle.idl_store.specs.Numbers.{AreMore, uses_of}
 use Rattle.idl_store.proofs.Times.{times-length}
 use Rattle.idl_store.proofs.Using.{more-then, more-written}
+use Rattle.std.proofs.lemmas.Grind.{common_steps}
 use Rattle.idl_store.proofs.uses.count_uses.Goals as goal
 
 pub overflow_add-one : goal.overflow_add-one
@@ -23,3 +24,9 @@ loop-number-preserved g c =
     let u = c.index_mut-one.result.now in
     let one = more-written c.loop-number.used item u (u.uses + 1) c.loop-number.place [] (item ∷ []) c.index_mut-one.ensures.value refl (λ n. omega arith) in
     subst (AreMore c.args.used.now _ []) (sym (take_more numbers i 0 c.loop-number-test.true)) (more-then c.args.used.now c.loop-number.used _ (take i numbers) (item ∷ []) c.loop-number.invariant one)
+
+pub returns : goal.returns
+returns g c = grind (arith, common_steps)
+
+pub loop-number-init : goal.loop-number-init
+loop-number-init g c = grind (arith, common_steps)
