@@ -119,10 +119,18 @@ where
 }
 
 /// A place: a task, and a bank.
-#[derive(Drop)]
 pub(crate) struct Place<'a, B, T> {
     pub(crate) task: &'a T,
     pub(crate) bank: &'a B,
+}
+
+impl<'a, B, T> Drop for Place<'a, B, T> {
+    fn drop(self) {
+        let Place {
+            task: _task,
+            bank: _bank,
+        } = self;
+    }
 }
 
 impl<'a, B: LentBank, T: Task<B>> Probe<Held<B, T>> for Place<'a, B, T>
