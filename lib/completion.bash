@@ -27,12 +27,16 @@ _idlc() {
 _idltool() {
     local word=${COMP_WORDS[COMP_CWORD]} before=${COMP_WORDS[COMP_CWORD - 1]}
     if [ "$COMP_CWORD" = 1 ]; then
-        mapfile -t COMPREPLY < <(compgen -W 'explain deps check json diff lsp --help --version' -- "$word")
+        mapfile -t COMPREPLY < <(compgen -W 'explain deps check json diff lsp help --help --version' -- "$word")
         return
     fi
     case ${COMP_WORDS[1]} in
+        help) mapfile -t COMPREPLY < <(compgen -W 'explain deps check json diff lsp' -- "$word") ;;
         explain)
             mapfile -t COMPREPLY < <(compgen -W "$(idltool explain 2>/dev/null | sed 's/^refused //; s/:.*//')" -- "${word^}")
+            ;;
+        lsp)
+            mapfile -t COMPREPLY < <(compgen -W '--stdio --help' -- "$word")
             ;;
         deps)
             case $before in
@@ -40,7 +44,7 @@ _idltool() {
                 -D | -U | -t) ;;
                 *)
                     case $word in
-                        -*) mapfile -t COMPREPLY < <(compgen -W '-D -U -I -t --generated --help' -- "$word") ;;
+                        -*) mapfile -t COMPREPLY < <(compgen -W '-D -U -I -t --generated --present --help' -- "$word") ;;
                         *) _idl_files "$word" ;;
                     esac
                     ;;
@@ -51,8 +55,9 @@ _idltool() {
                 -I) _idl_directories "$word" ;;
                 -D | -U) ;;
                 *)
-                    case $word in
-                        -*) mapfile -t COMPREPLY < <(compgen -W '-D -U -I --help' -- "$word") ;;
+                    case ${COMP_WORDS[1]}$word in
+                        check-*) mapfile -t COMPREPLY < <(compgen -W '-D -U -I --werror --help' -- "$word") ;;
+                        json-*) mapfile -t COMPREPLY < <(compgen -W '-D -U -I --help' -- "$word") ;;
                         *) _idl_files "$word" ;;
                     esac
                     ;;
@@ -62,9 +67,10 @@ _idltool() {
             case $before in
                 -I | --old-I | --new-I) _idl_directories "$word" ;;
                 -D | -U) ;;
+                --fail-on) mapfile -t COMPREPLY < <(compgen -W 'never wire client servant names new' -- "$word") ;;
                 *)
                     case $word in
-                        -*) mapfile -t COMPREPLY < <(compgen -W '-D -U -I --old-I --new-I --help' -- "$word") ;;
+                        -*) mapfile -t COMPREPLY < <(compgen -W '-D -U -I --old-I --new-I --fail-on --help' -- "$word") ;;
                         *) _idl_files "$word" ;;
                     esac
                     ;;

@@ -1,11 +1,11 @@
 # Prints the rows of listings again from what `idltool json` writes, as `idlc --listing` does:
 #     idltool json FILE.. | jq -r -f rows.jq
 
-def reference: "@" + .;
+def reference: "@" + .ref;
 def references: map(reference) | join(",");
 
 def typed:
-    if has("ref") then .ref | reference
+    if has("ref") then reference
     elif .kind == "tk_string" or .kind == "tk_wstring" then "\(.kind)(\(.bound))"
     elif .kind == "tk_sequence" then "tk_sequence(\(.element | typed),\(.bound))"
     elif .kind == "tk_array" then

@@ -1,142 +1,139 @@
--- Entries by their ids and numbers, one more after those before.
-use Rattle.std.proofs.Common.{Bor, ◌≤◌, MatchOption, ◌≡◌, ◌∙◌, ◌+◌, ◌<◌, ◌++◌, ◌∷◌, [], ℕ, ◌&&◌, Bool, List, None, Option, Some, ap, ap₂, append_assoc, cond, flat_map, get_or, length, map, nat_eq, refl, sym, take, true, false, unwrap_or, if◌then◌else◌, arith, zero, suc}
+-- Where an entry belongs to another one, that belongs to it.
+use Rattle.std.proofs.Common.{◌≡◌, ◌∙◌, ◌+◌, ◌&&◌, ℕ, Bool, List, None, Option, Some, ap, ap₂, arith, false, filter, if◌then◌else◌, is_none, length, nat_eq, not, refl, subst, sym, take, true}
+use Rattle.std.specs.Cmp.{nat_eq_equiv}
 use Rattle.std.specs.Cmp.Lexicographic.{bytes_decides}
-use Rattle.std.specs.List.{HoldsAt, slice_get}
-use Rattle.std.specs.Map.{lookup}
-use Rattle.std.specs.Option.{option_and_then, option_copied}
+use Rattle.std.specs.List.{slice_get}
+use Rattle.std.specs.Option.{option_and_then, option_eq, option_map_or, option_or}
 use Rattle.std.specs.Str.{bytes_eq}
-use Rattle.std.proofs.lemmas.Bool.Decides.{nat_tests}
-use Rattle.std.proofs.lemmas.List.{append-nil, length-map, length-take-le, map-append, take_more}
-use Rattle.std.proofs.lemmas.List.Concat.{flat_map-append}
-use Rattle.std.proofs.lemmas.Option.{slice_get_past, slice_get_read}
-use Rattle.idl_changes.specs.Joined.{joined, joined_behind, of_id, partner}
-use Rattle.idl_changes.specs.Numbered.{AreCounts, ArePlaces, numbered_eq, place_of}
-use Rattle.idl_changes.specs.declared.change.Change.{Change}
-use Rattle.idl_changes.specs.declared.joined.EntryKey.{EntryKey}
+use Rattle.std.proofs.lemmas.Option.{same_Some}
+use Rattle.idl_base.specs.Exact.{both, same_number, same_option}
+use Rattle.idl_changes.specs.Listing.{by_id, has_id, is_called, place_of, places_where}
+use Rattle.idl_changes.specs.Partners.{by_path, is_left, is_of_kind, joined}
+use Rattle.idl_changes.proofs.EntryLemmas.{not-true, own-place, place-found}
+use Rattle.idl_changes.proofs.HasLemmas.{passing-place}
+use Rattle.idl_entity.specs.Kind.{kind_eq, kind_number, same_kind}
 use Rattle.idl_repo.specs.declared.details.row_tree.RowTree.{RowTree}
 
--- ---- one entry more
+-- one listing beside another, with an entry of the first at its place
+module _ (old new : List RowTree) (i : ℕ) (e : RowTree) (at : slice_get old i ≡ Some e) (other : is_called e ≡ false) where
+  pub uncalled-joined : joined old new i ≡ option_or (by_id old new i e) (by_path old new i e)
+  unfolding joined
+  uncalled-joined =
+      ap (option_and_then (λ (f : RowTree). if is_called f then None else option_or (by_id old new i f) (by_path old new i f))) at
+      ∙ ap (λ (b : Bool). if b then None else option_or (by_id old new i e) (by_path old new i e)) other
 
-pub length-of_id-more : (id : List ℕ) (trees : List RowTree) (tree : RowTree)
-    → length (of_id id (trees ++ tree ∷ [])) ≡ (if bytes_eq id tree.id then length (of_id id trees) + 1 else length (of_id id trees))
-length-of_id-more id [] tree = elim (bytes_eq id tree.id) as (λ b. length (cond b (tree ∷ []) []) ≡ (if b then 0 + 1 else 0)) [ true ↦ refl | false ↦ refl ]
-length-of_id-more id (t ∷ trees) tree =
-    by (bytes_eq id t.id) (bytes_eq id tree.id) (length-of_id-more id trees tree)
+  pub uncalled-by_id : by_id old new i e ≡ slice_get (places_where (has_id e.id) new) (length (filter (has_id e.id) (take i old)))
+  unfolding by_id
+  uncalled-by_id = ap (λ (b : Bool). if b then None else slice_get (places_where (has_id e.id) new) (length (filter (has_id e.id) (take i old)))) other
+
+-- what is joined isn't called, nor is what it is joined with
+pub joined-from : (old new : List RowTree) (i k : ℕ) → joined old new i ≡ Some k → (e : RowTree) × (slice_get old i ≡ Some e) × (is_called e ≡ false)
+unfolding joined
+joined-from old new i k is = by (slice_get old i) refl is
   where
-    by : (b d : Bool) → length (of_id id (trees ++ tree ∷ [])) ≡ (if d then length (of_id id trees) + 1 else length (of_id id trees))
-        → length (cond b (t ∷ of_id id (trees ++ tree ∷ [])) (of_id id (trees ++ tree ∷ [])))
-        ≡ (if d then length (cond b (t ∷ of_id id trees) (of_id id trees)) + 1 else length (cond b (t ∷ of_id id trees) (of_id id trees)))
-    by true true h = omega (arith, h)
-    by true false h = omega (arith, h)
-    by false d h = h
+    test : (e : RowTree) (b : Bool) → is_called e ≡ b → slice_get old i ≡ Some e
+        → (if b then None else option_or (by_id old new i e) (by_path old new i e)) ≡ Some k → (f : RowTree) × (slice_get old i ≡ Some f) × (is_called f ≡ false)
+    test e true c at h = cc
+    test e false c at h = (e, at, c)
 
--- there are no more of an id than entries
-few-of_id : (id : List ℕ) (trees : List RowTree) → length (of_id id trees) ≤ length trees
-few-of_id id [] = omega arith
-few-of_id id (t ∷ trees) = by (bytes_eq id t.id) (few-of_id id trees)
+    by : (entry : Option RowTree) → slice_get old i ≡ entry
+        → option_and_then (λ (f : RowTree). if is_called f then None else option_or (by_id old new i f) (by_path old new i f)) entry ≡ Some k
+        → (f : RowTree) × (slice_get old i ≡ Some f) × (is_called f ≡ false)
+    by None at h = cc
+    by (Some e) at h = test e (is_called e) refl at h
+
+-- by ids
+pub by_id-back : (old new : List RowTree) (i k : ℕ) (e : RowTree) → slice_get old i ≡ Some e → is_called e ≡ false → by_id old new i e ≡ Some k
+    → (f : RowTree) × (slice_get new k ≡ Some f) × (is_called f ≡ false) × (f.id ≡ e.id) × (by_id new old k f ≡ Some i)
+by_id-back old new i k e at other is =
+    let found = passing-place (has_id e.id) 0 new (length (filter (has_id e.id) (take i old))) k (sym (uncalled-by_id old new i e at other) ∙ is) in
+    let f = found.1 in
+    let place : k ≡ found.0 = omega (arith, found.2) in
+    let parts = both (not (is_called f)) (bytes_eq e.id f.id) found.4 in
+    let uncalled = not-true (is_called f) parts.0 in
+    let id : e.id ≡ f.id = (bytes_decides e.id f.id).0 parts.1 in
+    let there : slice_get new k ≡ Some f = ap (slice_get new) place ∙ found.3 in
+    let own : has_id e.id e ≡ true = ap₂ (λ (a b : Bool). not a && b) other ((bytes_decides e.id e.id).1 refl) in
+    let from-zero : 0 + i ≡ i = omega arith in
+    let count : length (filter (has_id f.id) (take k new)) ≡ length (filter (has_id e.id) (take i old)) =
+    ap₂ (λ (d : List ℕ) (j : ℕ). length (filter (has_id d) (take j new))) (sym id) place ∙ sym found.5
+    in
+    let back : by_id new old k f ≡ Some i =
+    uncalled-by_id new old k f there uncalled
+    ∙ ap₂ (λ (d : List ℕ) (m : ℕ). slice_get (places_where (has_id d) old) m) (sym id) count
+    ∙ own-place (has_id e.id) 0 i old e at own ∙ ap Some from-zero
+    in
+    (f, there, uncalled, sym id, back)
+
+-- by paths
+kind-back : (e f : RowTree) → kind_eq e.kind f.kind ≡ true → kind_eq f.kind e.kind ≡ true
+kind-back e f is = ap₂ (λ (a b : ℕ). nat_eq a b) (sym (ap kind_number (same_kind e.kind f.kind is))) (ap kind_number (same_kind e.kind f.kind is)) ∙ is
+
+-- what the parts of the rule by paths say
+pub by_path-says : (old new : List RowTree) (i k : ℕ) (e : RowTree) → by_path old new i e ≡ Some k
+    → (place_of new e.path ≡ Some k) × (place_of old e.path ≡ Some i) × (is_of_kind new k e ≡ true) × (is_left new old k ≡ true)
+unfolding by_path
+by_path-says old new i k e is = by (place_of new e.path) refl is
   where
-    by : (b : Bool) → length (of_id id trees) ≤ length trees → length (cond b (t ∷ of_id id trees) (of_id id trees)) ≤ length (t ∷ trees)
-    by true few = omega (arith, few)
-    by false few = omega (arith, few)
+    test : (n : ℕ) (b : Bool) → ((option_eq nat_eq (place_of old e.path) (Some i) && is_of_kind new n e) && is_left new old n) ≡ b → place_of new e.path ≡ Some n
+        → (if b then Some n else None) ≡ Some k
+        → (place_of new e.path ≡ Some k) × (place_of old e.path ≡ Some i) × (is_of_kind new k e ≡ true) × (is_left new old k ≡ true)
+    test n false c at h = cc
+    test n true c at h =
+        let same = same_Some n k h in
+        let outer = both (option_eq nat_eq (place_of old e.path) (Some i) && is_of_kind new n e) (is_left new old n) c in
+        let inner = both (option_eq nat_eq (place_of old e.path) (Some i)) (is_of_kind new n e) outer.0 in
+        (at ∙ ap Some same, same_option nat_eq same_number (place_of old e.path) (Some i) inner.0, subst (λ (m : ℕ). is_of_kind new m e ≡ true) same inner.1, subst (λ (m : ℕ). is_left new old m ≡ true) same outer.1)
 
-pub count-within : (trees : List (Bor RowTree)) (i : ℕ) (counts : List (List ℕ × ℕ)) (id : List ℕ) → AreCounts (map (λ t. t.now) (take i trees)) counts → i < length trees
-    → unwrap_or (lookup (bytes_eq id) counts) 0 ≤ i
-count-within trees i counts id are within =
-    let count = are id in
-    let few = few-of_id id (map (λ (t : Bor RowTree). t.now) (take i trees)) in
-    omega (arith, length-map (take i trees) (λ (t : Bor RowTree). t.now), length-take-le i trees)
+    by : (place : Option ℕ) → place_of new e.path ≡ place
+        → option_and_then (λ (n : ℕ). if (option_eq nat_eq (place_of old e.path) (Some i) && is_of_kind new n e) && is_left new old n then Some n else None) place ≡ Some k
+        → (place_of new e.path ≡ Some k) × (place_of old e.path ≡ Some i) × (is_of_kind new k e ≡ true) × (is_left new old k ≡ true)
+    by None at h = cc
+    by (Some n) at h = test n ((option_eq nat_eq (place_of old e.path) (Some i) && is_of_kind new n e) && is_left new old n) refl at h
 
--- it counts
-pub counts-more : (trees : List RowTree) (tree : RowTree) (old new : List (List ℕ × ℕ)) (n : ℕ) → AreCounts trees old
-    → n ≡ unwrap_or (lookup (bytes_eq tree.id) old) 0
-    → ((id : List ℕ) → lookup (bytes_eq id) new ≡ (if bytes_eq id tree.id then Some (n + 1) else lookup (bytes_eq id) old))
-    → AreCounts (trees ++ tree ∷ []) new
-counts-more trees tree old new n are number counted id =
-    let value = ap (λ (o : Option ℕ). unwrap_or o 0) (counted id) in
-    value ∙ by (bytes_eq id tree.id) (bytes_decides id tree.id).0 ∙ sym (length-of_id-more id trees tree)
+by_path-is : (old new : List RowTree) (i k : ℕ) (e : RowTree)
+    → place_of new e.path ≡ Some k → place_of old e.path ≡ Some i → is_of_kind new k e ≡ true → is_left new old k ≡ true → by_path old new i e ≡ Some k
+unfolding by_path
+by_path-is old new i k e there here kind left =
+    let first : option_eq nat_eq (place_of old e.path) (Some i) ≡ true = ap (λ (o : Option ℕ). option_eq nat_eq o (Some i)) here ∙ nat_eq_equiv.refl i in
+    ap (option_and_then (λ (n : ℕ). if (option_eq nat_eq (place_of old e.path) (Some i) && is_of_kind new n e) && is_left new old n then Some n else None)) there
+    ∙ ap (λ (b : Bool). if b then Some k else None) (ap₂ (λ (a b : Bool). a && b) (ap₂ (λ (a b : Bool). a && b) first kind) left)
+
+none-of : (o : Option ℕ) → is_none o ≡ true → o ≡ None
+none-of None is = refl
+none-of (Some n) is = cc
+
+pub by_path-back : (old new : List RowTree) (i k : ℕ) (e : RowTree) → slice_get old i ≡ Some e → is_called e ≡ false → by_id old new i e ≡ None → by_path old new i e ≡ Some k
+    → (f : RowTree) × (slice_get new k ≡ Some f) × (is_called f ≡ false) × (by_id new old k f ≡ None) × (by_path new old k f ≡ Some i)
+by_path-back old new i k e at other none is =
+    let says = by_path-says old new i k e is in
+    let found = place-found new e.path k says.0 in
+    let f = found.0 in
+    let there = found.1 in
+    let path : e.path ≡ f.path = found.3 in
+    let kind : kind_eq e.kind f.kind ≡ true = sym (ap (λ (o : Option RowTree). option_map_or (λ (g : RowTree). kind_eq e.kind g.kind) o false) there) ∙ says.2 in
+    let lone : by_id new old k f ≡ None = none-of (by_id new old k f) (sym (ap (λ (o : Option RowTree). option_map_or (λ (g : RowTree). is_none (by_id new old k g)) o false) there) ∙ says.3) in
+    let kind-of : is_of_kind old i f ≡ true = ap (λ (o : Option RowTree). option_map_or (λ (g : RowTree). kind_eq f.kind g.kind) o false) at ∙ kind-back e f kind in
+    let left : is_left old new i ≡ true =
+    ap (λ (o : Option RowTree). option_map_or (λ (g : RowTree). is_none (by_id old new i g)) o false) at ∙ ap is_none none
+    in
+    let back = by_path-is new old k i f (ap (place_of old) (sym path) ∙ says.1) (ap (place_of new) (sym path) ∙ says.0) kind-of left in
+    (f, there, found.2, lone, back)
+
+pub joined-back : (old new : List RowTree) (i k : ℕ) → joined old new i ≡ Some k
+    → (f : RowTree) × (slice_get new k ≡ Some f) × (is_called f ≡ false) × (joined new old k ≡ Some i)
+joined-back old new i k is =
+    let own = joined-from old new i k is in
+    by own.0 own.1 own.2 (by_id old new i own.0) refl (sym (uncalled-joined old new i own.0 own.1 own.2) ∙ is)
   where
-    by : (b : Bool) → (b ≡ true → id ≡ tree.id)
-        → unwrap_or (if b then Some (n + 1) else lookup (bytes_eq id) old) 0 ≡ (if b then length (of_id id trees) + 1 else length (of_id id trees))
-    by true same =
-        let e : n ≡ length (of_id id trees) = number ∙ ap (λ (i : List ℕ). unwrap_or (lookup (bytes_eq i) old) 0) (sym (same refl)) ∙ are id in
-        ap (λ (k : ℕ). k + 1) e
-    by false same = are id
-
--- where it stands
-place_of-more : (id : List ℕ) (n : ℕ) (trees : List RowTree) (tree : RowTree)
-    → place_of id n (trees ++ tree ∷ []) ≡ (if bytes_eq id tree.id && nat_eq n (length (of_id id trees)) then Some (length trees) else place_of id n trees)
-place_of-more id zero [] tree = grind (arith, nat_tests)
-place_of-more id (suc n) [] tree = grind (arith, nat_tests)
-place_of-more id zero (t ∷ trees) tree = grind (arith, nat_tests, place_of-more id zero trees tree)
-place_of-more id (suc n) (t ∷ trees) tree = grind (arith, nat_tests, place_of-more id n trees tree, place_of-more id (suc n) trees tree)
-
-pub places-more : (trees : List RowTree) (tree : RowTree) (place : ℕ) (old new : List (EntryKey × ℕ)) (key : EntryKey) → place ≡ length trees
-    → ArePlaces trees old → key.id ≡ tree.id → key.number ≡ length (of_id tree.id trees)
-    → ((k : EntryKey) → lookup (numbered_eq k) new ≡ (if numbered_eq k key then Some place else lookup (numbered_eq k) old))
-    → ArePlaces (trees ++ tree ∷ []) new
-places-more trees tree place old new key at are same number put id n =
-    let k : EntryKey = record { id = id; number = n } in
-    put k ∙ by (bytes_eq id key.id) (bytes_eq id tree.id) (ap (bytes_eq id) same) (bytes_decides id tree.id).0 ∙ sym (place_of-more id n trees tree)
-  where
-    by : (b d : Bool) → b ≡ d → (d ≡ true → id ≡ tree.id)
-        → (if b && nat_eq n key.number then Some place else lookup (numbered_eq (record { id = id; number = n })) old)
-        ≡ (if d && nat_eq n (length (of_id id trees)) then Some (length trees) else place_of id n trees)
-    by true true h is =
-        let e : key.number ≡ length (of_id id trees) = number ∙ ap (λ (i : List ℕ). length (of_id i trees)) (sym (is refl)) in
-        ap₂ (λ (m p : ℕ). if nat_eq n m then Some p else lookup (numbered_eq (record { id = id; number = n })) old) e at
-        ∙ ap (λ (o : Option ℕ). if nat_eq n (length (of_id id trees)) then Some (length trees) else o) (are id n)
-    by false false h is = are id n
-    by true false h is = cc
-    by false true h is = cc
-
--- what `get` finds
-pub got-entry : {X : Type 0} (xs : List X) (i : ℕ) (found : Option (Bor X))
-    → MatchOption found (length xs ≤ i) (λ x. (i < length xs) × HoldsAt (λ y. x.now ≡ y) xs i)
-    → option_copied found ≡ slice_get xs i
-got-entry xs i None past = sym (slice_get_past xs i past)
-got-entry xs i (Some x) at = sym (slice_get_read xs (length xs) i x.now refl at.0 (at.1 x.now))
-
--- the entry that stands there
-pub slice_get-place_of : (id : List ℕ) (n : ℕ) (trees : List RowTree) → option_and_then (slice_get trees) (place_of id n trees) ≡ slice_get (of_id id trees) n
-slice_get-place_of id n [] = refl
-slice_get-place_of id zero (t ∷ trees) = grind (arith, nat_tests, slice_get-place_of id zero trees)
-slice_get-place_of id (suc n) (t ∷ trees) = grind (arith, nat_tests, slice_get-place_of id n trees, slice_get-place_of id (suc n) trees)
-
--- ---- what belongs together
-
-joined_behind-more : (others before trees : List RowTree) (tree : RowTree)
-    → joined_behind others before (trees ++ tree ∷ []) ≡ joined_behind others before trees ++ (tree, partner others (before ++ trees) tree) ∷ []
-joined_behind-more others before [] tree = ap (λ (b : List RowTree). (tree, partner others b tree) ∷ []) (sym (append-nil before))
-joined_behind-more others before (t ∷ trees) tree =
-    ap (λ (ps : List (RowTree × Option RowTree)). (t, partner others before t) ∷ ps) (joined_behind-more others (before ++ t ∷ []) trees tree)
-    ∙ ap (λ (b : List RowTree). (t, partner others before t) ∷ (joined_behind others (before ++ t ∷ []) trees ++ (tree, partner others b tree) ∷ [])) (append_assoc before (t ∷ []) trees)
-
--- what is told of one entry more
-pub told-more : (told : RowTree → Option RowTree → List Change) (others trees : List RowTree) (tree : RowTree)
-    → flat_map (λ (p : RowTree × Option RowTree). told p.0 p.1) (joined others (trees ++ tree ∷ []))
-    ≡ flat_map (λ (p : RowTree × Option RowTree). told p.0 p.1) (joined others trees) ++ told tree (partner others trees tree)
-told-more told others trees tree =
-    let f = λ (p : RowTree × Option RowTree). told p.0 p.1 in
-    ap (flat_map f) (joined_behind-more others [] trees tree)
-    ∙ flat_map-append f (joined others trees) ((tree, partner others trees tree) ∷ [])
-    ∙ ap (λ (l : List Change). flat_map f (joined others trees) ++ l) (append-nil (told tree (partner others trees tree)))
-
--- the entries before and one more
-pub take-next : (trees : List (Bor RowTree)) (i : ℕ) (tree : Bor RowTree) → i < length trees → tree ≡ get_or trees i tree
-    → map (λ t. t.now) (take (i + 1) trees) ≡ map (λ t. t.now) (take i trees) ++ tree.now ∷ []
-take-next trees i tree within is =
-    let now = λ (t : Bor RowTree). t.now in
-    ap (map now) (take_more trees i tree within) ∙ map-append now (take i trees) (get_or trees i tree ∷ []) ∙ ap (λ (t : Bor RowTree). map now (take i trees) ++ t.now ∷ []) (sym is)
-
-pub told-next : (told : RowTree → Option RowTree → List Change) (others trees : List RowTree) (tree : RowTree) (key : EntryKey) (found : Option RowTree)
-    → (before mid after : List Change) → key.id ≡ tree.id → key.number ≡ length (of_id tree.id trees)
-    → found ≡ slice_get (of_id key.id others) key.number
-    → mid ≡ before ++ flat_map (λ (p : RowTree × Option RowTree). told p.0 p.1) (joined others trees)
-    → after ≡ mid ++ told tree found
-    → after ≡ before ++ flat_map (λ (p : RowTree × Option RowTree). told p.0 p.1) (joined others (trees ++ tree ∷ []))
-told-next told others trees tree key found before mid after same number is so_far more =
-    let f = flat_map (λ (p : RowTree × Option RowTree). told p.0 p.1) in
-    let there : found ≡ partner others trees tree = is ∙ ap₂ (λ (id : List ℕ) (n : ℕ). slice_get (of_id id others) n) same number in
-    more ∙ ap₂ (λ (m : List Change) (o : Option RowTree). m ++ told tree o) so_far there
-    ∙ append_assoc before (f (joined others trees)) (told tree (partner others trees tree))
-    ∙ ap (λ (l : List Change). before ++ l) (sym (told-more told others trees tree))
+    by : (e : RowTree) → slice_get old i ≡ Some e → is_called e ≡ false → (found : Option ℕ) → by_id old new i e ≡ found
+        → option_or (by_id old new i e) (by_path old new i e) ≡ Some k
+        → (f : RowTree) × (slice_get new k ≡ Some f) × (is_called f ≡ false) × (joined new old k ≡ Some i)
+    by e at other None none h =
+        let path : by_path old new i e ≡ Some k = sym (ap (λ (o : Option ℕ). option_or o (by_path old new i e)) none) ∙ h in
+        let back = by_path-back old new i k e at other none path in
+        (back.0, back.1, back.2, uncalled-joined new old k back.0 back.1 back.2 ∙ ap₂ (λ (a b : Option ℕ). option_or a b) back.3 back.4)
+    by e at other (Some m) some h =
+        let same : m ≡ k = same_Some m k (sym (ap (λ (o : Option ℕ). option_or o (by_path old new i e)) some) ∙ h) in
+        let back = by_id-back old new i k e at other (some ∙ ap Some same) in
+        (back.0, back.1, back.2, uncalled-joined new old k back.0 back.1 back.2 ∙ ap (λ (o : Option ℕ). option_or o (by_path new old k back.0)) back.4)

@@ -1,6 +1,27 @@
-pub mod AllLemmas
-pub mod ChangeLemmas
-pub mod DifferenceLemmas
-pub mod JoinedLemmas
-pub mod SameLemmas
-pub mod SetLemmas
+mod AllLemmas
+mod TableLemmas
+mod ChosenLemmas
+mod SetLemmas
+mod StepLemmas
+mod ListingLemmas
+mod HasLemmas
+mod EntryLemmas
+mod NothingLemmas
+mod NameLemmas
+mod InheritLemmas
+mod AncestorLemmas
+mod OfferLemmas
+mod JoinedLemmas
+mod WeightLemmas
+mod ServantLemmas
+mod ClientLemmas
+mod PlainLemmas
+mod SideLemmas
+mod MatchLemmas
+mod LayoutLemmas
+mod SentLemmas
+mod UnionLemmas
+mod PathLemmas
+mod LineLemmas
+mod NumberLemmas
+mod SpeakLemmas

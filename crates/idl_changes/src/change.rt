@@ -1,28 +1,59 @@
-//! Changes.
+//! Changes as data: which entries they are of, of which part, what became of it, and for whom it counts.
 
+use crate::rows::Weights;
 use idl_base::Text;
 
-/// How a change counts.
-#[derive(Clone, Copy, PartialEq, Eq)]
-pub enum Weight {
-    /// Who was built against the old listing can't go on with the new one.
-    Breaks,
-    /// Names alone are others, which don't go over the wire: that of the entry, or those of parameters.
-    Names,
-    /// The entry is new.
+/// What became of a part.
+pub enum Turn {
+    Gone,
     New,
+    /// It is new, and the one with this number of its list.
+    NewAt(usize),
+    /// What it was, and what it is now.
+    Changed(Text, Text),
 }
 
-/// A change: how it counts, and its row.
-#[derive(Drop)]
-pub struct Change {
-    pub weight: Weight,
-    pub row: Text,
-}
-
-/// What differs between two entries of one id: how it counts, and what is told of it.
-#[derive(Drop)]
+/// What differs between two entries. A whole entry that is gone or new has no part.
 pub struct Difference {
-    pub weight: Weight,
-    pub text: Text,
+    pub weights: Weights,
+    pub part: Text,
+    pub turn: Turn,
+}
+
+/// A change, with the places of the entries of the old listing and the new one that it is of.
+pub struct Change {
+    pub before: Option<usize>,
+    pub after: Option<usize>,
+    pub difference: Difference,
+}
+
+impl Drop for Turn {
+    fn drop(self) {
+        match self {
+            Turn::Gone => {}
+            Turn::New => {}
+            Turn::NewAt(_number) => {}
+            Turn::Changed(_was, _is) => {}
+        }
+    }
+}
+
+impl Drop for Difference {
+    fn drop(self) {
+        let Difference {
+            weights: _weights,
+            part: _part,
+            turn: _turn,
+        } = self;
+    }
+}
+
+impl Drop for Change {
+    fn drop(self) {
+        let Change {
+            before: _before,
+            after: _after,
+            difference: _difference,
+        } = self;
+    }
 }

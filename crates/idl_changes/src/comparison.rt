@@ -1,15 +1,13 @@
 //! The changes from one listing to another.
 
-ghost use Rattle.std.specs.Prelude.{◌≡◌, ◌++◌, ◌∷◌, [], IfOk, None, OnOk, Some, flat_map, map};
-ghost use Rattle.idl_changes.specs.Changes.{changes, head, told_change, told_new, told_old, weight_word};
-ghost use Rattle.idl_changes.specs.Joined.{joined};
+ghost use Rattle.std.specs.Prelude.{◌≡◌, ◌++◌, IfOk, OnOk, flat_map, map};
+ghost use Rattle.std.specs.List.{enumerate_from};
+ghost use Rattle.idl_changes.specs.Changes.{change_at, changes, told_new, told_old, told_with};
 
-use crate::change::{Change, Difference, Weight};
-use crate::details::differences;
-use crate::joined::{entry_at, key_of, places};
-use idl_base::Text;
-use idl_map::Map;
-use idl_repo::details::{RowTree, kind_word};
+use crate::change::{Change, Difference};
+use crate::entries::{added_differences, differences, gone_differences};
+use crate::sides::Sides;
+use idl_repo::details::RowTree;
 use std::alloc::{AllocError, Global};
 
 /// The changes from one listing to another: of each old entry in order, and then of each that is new.
@@ -17,124 +15,91 @@ pub fn changes(alloc: Global, old: &[&RowTree], new: &[&RowTree]) -> Result<Vec<
     ensures { IfOk result (λ told.
         told.items ≡ changes (map (λ tree. tree.now) old.now) (map (λ tree. tree.now) new.now)) }
 {
+    let sides = Sides::new(alloc, old, new)?;
     let mut out = Vec::new(alloc);
-    tell_old(old, new, &mut out)?;
-    tell_new(old, new, &mut out)?;
+    tell_old(&sides, &mut out)?;
+    tell_new(&sides, &mut out)?;
     Ok(out)
 }
 
 // Tells of each old entry.
-fn tell_old(old: &[&RowTree], new: &[&RowTree], out: &mut Vec<Change>) -> Result<(), AllocError>
-    ensures { let pairs = joined (map (λ tree. tree.now) new.now) (map (λ tree. tree.now) old.now) in
-        OnOk result
-        (out.new.items ≡ out.old.items ++ flat_map (λ pair. told_old pair.0 pair.1) pairs) }
+fn tell_old(sides: &Sides<'_>, out: &mut Vec<Change>) -> Result<(), AllocError>
+    ensures { OnOk result (out.new.items ≡ out.old.items
+        ++ flat_map (λ p. told_old sides.now.0 sides.now.1 p.0 p.1)
+        (enumerate_from 0 sides.now.0)) }
 {
-    let places = places(*out.allocator(), new)?;
-    let mut counts = Map::new(*out.allocator())?;
-    for tree in old {
-        let key = key_of(&mut counts, tree)?;
-        match entry_at(&places, new, &key) {
-            Some(partner) => push_differences(tree, partner, out)?,
-            None => push_gone(tree, out)?,
-        }
+    let trees = sides.before().listing().trees();
+    for (place, entry) in trees.iter().enumerate() {
+        tell_entry(sides, place, entry, out)?;
     }
     Ok(())
+}
+
+// Tells how an entry differs from the one to which it belongs, or that it is gone.
+fn tell_entry(
+    sides: &Sides<'_>,
+    place: usize,
+    entry: &RowTree,
+    out: &mut Vec<Change>,
+) -> Result<(), AllocError>
+    ensures { OnOk result (out.new.items
+        ≡ out.old.items ++ told_old sides.now.0 sides.now.1 place entry.now) }
+{
+    match sides.partner(place) {
+        Some(partner) => tell_differences(sides, (place, partner), entry, out),
+        None => {
+            let told = gone_differences(*out.allocator(), sides, place, entry)?;
+            push_all((Some(place), None), told, out)
+        }
+    }
+}
+
+// Tells how an entry differs from the one to which it belongs.
+fn tell_differences(
+    sides: &Sides<'_>,
+    places: (usize, usize),
+    entry: &RowTree,
+    out: &mut Vec<Change>,
+) -> Result<(), AllocError>
+    ensures { OnOk result (out.new.items ≡ out.old.items
+        ++ told_with sides.now.0 sides.now.1 places.0 entry.now places.1) }
+{
+    let Some(partner) = sides.after().listing().entry(places.1) else {
+        return Ok(());
+    };
+    let told = differences(*out.allocator(), sides, places, (entry, partner))?;
+    push_all((Some(places.0), Some(places.1)), told, out)
 }
 
 // Tells of each entry that is new.
-fn tell_new(old: &[&RowTree], new: &[&RowTree], out: &mut Vec<Change>) -> Result<(), AllocError>
-    ensures { let pairs = joined (map (λ tree. tree.now) old.now) (map (λ tree. tree.now) new.now) in
-        OnOk result
-        (out.new.items ≡ out.old.items ++ flat_map (λ pair. told_new pair.0 pair.1) pairs) }
+fn tell_new(sides: &Sides<'_>, out: &mut Vec<Change>) -> Result<(), AllocError>
+    ensures { OnOk result (out.new.items ≡ out.old.items
+        ++ flat_map (λ p. told_new sides.now.0 sides.now.1 p.0 p.1)
+        (enumerate_from 0 sides.now.1)) }
 {
-    let places = places(*out.allocator(), old)?;
-    let mut counts = Map::new(*out.allocator())?;
-    for tree in new {
-        let key = key_of(&mut counts, tree)?;
-        match entry_at(&places, old, &key) {
-            Some(_partner) => {}
-            None => push_new(tree, out)?,
-        }
+    let trees = sides.after().listing().trees();
+    for (place, entry) in trees.iter().enumerate() {
+        let told = added_differences(*out.allocator(), sides, place, entry)?;
+        push_all((None, Some(place)), told, out)?;
     }
     Ok(())
 }
 
-// Tells how an entry differs from the one that belongs to it.
-fn push_differences(
-    tree: &RowTree,
-    partner: &RowTree,
+// Tells these differences of entries at these places.
+fn push_all(
+    places: (Option<usize>, Option<usize>),
+    told: Vec<Difference>,
     out: &mut Vec<Change>,
 ) -> Result<(), AllocError>
     ensures { OnOk result (out.new.items
-        ≡ out.old.items ++ told_old tree.now (Some partner.now)) }
+        ≡ out.old.items ++ map (change_at places.0 places.1) told.items) }
 {
-    let told = differences(*out.allocator(), tree, partner)?;
-    for difference in &told {
-        push_difference(tree, difference, out)?;
+    for difference in told {
+        out.push(Change {
+            before: places.0,
+            after: places.1,
+            difference,
+        })?;
     }
     Ok(())
-}
-
-fn push_difference(
-    tree: &RowTree,
-    difference: &Difference,
-    out: &mut Vec<Change>,
-) -> Result<(), AllocError>
-    ensures { OnOk result (out.new.items
-        ≡ out.old.items ++ told_change tree.now difference.now ∷ []) }
-{
-    let mut row = head(*out.allocator(), difference.weight, tree)?;
-    row.extend_from_slice(b": ")?;
-    row.extend_from_slice(difference.text.as_bytes())?;
-    push(difference.weight, row, out)
-}
-
-// Tells that an entry is gone.
-fn push_gone(tree: &RowTree, out: &mut Vec<Change>) -> Result<(), AllocError>
-    ensures { OnOk result (out.new.items ≡ out.old.items ++ told_old tree.now None) }
-{
-    let mut row = head(*out.allocator(), Weight::Breaks, tree)?;
-    row.extend_from_slice(b": gone")?;
-    push(Weight::Breaks, row, out)
-}
-
-// Tells that an entry is new.
-fn push_new(tree: &RowTree, out: &mut Vec<Change>) -> Result<(), AllocError>
-    ensures { OnOk result (out.new.items ≡ out.old.items ++ told_new tree.now None) }
-{
-    let row = head(*out.allocator(), Weight::New, tree)?;
-    push(Weight::New, row, out)
-}
-
-fn push(weight: Weight, row: Vec<u8>, out: &mut Vec<Change>) -> Result<(), AllocError>
-    ensures { OnOk result (out.new.items
-        ≡ out.old.items ++ record { weight = weight; row = row.items } ∷ []) }
-{
-    let row = Text::from_vec(row);
-    out.push(Change { weight, row })?;
-    Ok(())
-}
-
-// The beginning of a row: how the change counts, and which entry it is of.
-fn head(alloc: Global, weight: Weight, tree: &RowTree) -> Result<Vec<u8>, AllocError>
-    ensures { IfOk result (λ row. row.items ≡ head weight tree.now) }
-{
-    let mut row = Vec::from_slice(alloc, weight_word(weight))?;
-    row.extend_from_slice(tree.id.as_bytes())?;
-    row.extend_from_slice(b" ")?;
-    row.extend_from_slice(kind_word(tree.kind))?;
-    row.extend_from_slice(b" ")?;
-    row.extend_from_slice(tree.path.as_bytes())?;
-    Ok(row)
-}
-
-// The word with which a row begins.
-fn weight_word(weight: Weight) -> &'static [u8]
-    ensures { result.now ≡ weight_word weight }
-{
-    match weight {
-        Weight::Breaks => b"breaks ",
-        Weight::Names => b"names  ",
-        Weight::New => b"new    ",
-    }
 }

@@ -1,198 +1,209 @@
-//! What entries of one id tell behind it.
+//! What entries that belong together tell behind their ids.
 
-ghost use Rattle.std.specs.Prelude.{◌≡◌, ◌++◌, IfOk, OnOk};
-ghost use Rattle.idl_changes.specs.Differences.{attribute_differences, constant_differences, declared_differences, details_differences, differences, kind_differences, operation_differences, parts_differences, type_code_differences, union_differences};
+ghost use Rattle.std.specs.Prelude.{◌≡◌, ◌++◌, OnOk};
+ghost use Rattle.idl_changes.specs.Differences.{attribute_differences, constant_differences, declared_differences, details_differences, members_differences, operation_differences, parts_differences, readonly_line, set_differences};
 
-use crate::change::{Difference, Weight};
-use crate::lists::compare_lists;
-use crate::parts::{
-    compare_defaults, compare_flags, compare_options, compare_texts, compare_types, push_changed,
-};
-use crate::sets::compare_sets;
+use crate::change::Difference;
+use crate::lists::{Lists, compare_lists};
+use crate::parts::{compare_contexts, compare_flags, compare_values, push_changed};
+use crate::rows::{Item, Line};
+use crate::sets::{compare_bases, compare_references};
+use crate::sides::Sides;
+use crate::types::{compare_constant_types, compare_types};
+use crate::unions::compare_unions;
+use idl_base::Seq;
 use idl_repo::details::{
-    AttributeTree, ConstantTree, DeclaredType, OperationTree, RowDetails, RowTree, TypeCodeParts,
-    TypeCodeTree, UnionTree, code_word, kind_word,
+    AttributeTree, ConstantTree, DeclaredType, MemberTree, OperationTree, RowDetails,
+    TypeCodeParts, code_word,
 };
-use std::alloc::{AllocError, Global};
+use std::alloc::AllocError;
 
-/// How an entry differs from another one.
-pub fn differences(
-    alloc: Global,
-    old: &RowTree,
-    new: &RowTree,
-) -> Result<Vec<Difference>, AllocError>
-    ensures { IfOk result (λ told. told.items ≡ differences old.now new.now) }
-{
-    let mut out = Vec::new(alloc);
-    let paths = (old.path.as_bytes(), new.path.as_bytes());
-    compare_texts(Weight::Names, b"path", paths, &mut out)?;
-    compare_kinds(old, new, &mut out)?;
-    Ok(out)
-}
-
-// Compares kinds, and where they are one what is told of them.
-fn compare_kinds(old: &RowTree, new: &RowTree, out: &mut Vec<Difference>) -> Result<(), AllocError>
-    ensures { OnOk result (out.new.items ≡ out.old.items ++ kind_differences old.now new.now) }
-{
-    if old.kind == new.kind {
-        return compare_details(&old.details, &new.details, out);
-    }
-    let kinds = (kind_word(old.kind), kind_word(new.kind));
-    push_changed(Weight::Breaks, b"kind", kinds, out)
-}
-
-fn compare_details(
+/// Compares what two rows of one kind tell, which isn't that of interfaces.
+pub fn compare_details(
+    sides: &Sides<'_>,
     old: &RowDetails,
     new: &RowDetails,
     out: &mut Vec<Difference>,
 ) -> Result<(), AllocError>
-    ensures { OnOk result (out.new.items ≡ out.old.items ++ details_differences old.now new.now) }
+    ensures { OnOk result (out.new.items ≡ out.old.items
+        ++ details_differences sides.now.0 sides.now.1 old.now new.now) }
 {
     match (old, new) {
         (RowDetails::Nothing, RowDetails::Nothing) => Ok(()),
-        (RowDetails::Type(old), RowDetails::Type(new)) => compare_declared(old, new, out),
+        (RowDetails::Type(old), RowDetails::Type(new)) => compare_declared(sides, old, new, out),
         (RowDetails::Constant(old), RowDetails::Constant(new)) => {
-            compare_constants(old, new, out)
+            compare_constants(sides, old, new, out)
         }
         (RowDetails::Attribute(old), RowDetails::Attribute(new)) => {
-            compare_attributes(old, new, out)
+            compare_attributes(sides, old, new, out)
         }
         (RowDetails::Operation(old), RowDetails::Operation(new)) => {
-            compare_operations(old, new, out)
+            compare_operations(sides, old, new, out)
         }
-        _ => push_changed(Weight::Breaks, b"row", (b"old", b"new"), out),
+        _ => {
+            let was: &[u8] = b"old";
+            let is: &[u8] = b"new";
+            push_changed(Line::Kind, b"row", (was, is), out)
+        }
     }
 }
 
+// Compares names that have a TypeCode.
 fn compare_declared(
+    sides: &Sides<'_>,
     old: &DeclaredType,
     new: &DeclaredType,
     out: &mut Vec<Difference>,
 ) -> Result<(), AllocError>
-    ensures { OnOk result (out.new.items ≡ out.old.items ++ declared_differences old.now new.now) }
+    ensures { OnOk result (out.new.items ≡ out.old.items
+        ++ declared_differences sides.now.0 sides.now.1 old.now new.now) }
 {
-    compare_type_codes(&old.code, &new.code, out)?;
-    compare_sets(b"base", old.bases.as_slice(), new.bases.as_slice(), out)
-}
-
-fn compare_type_codes(
-    old: &TypeCodeTree,
-    new: &TypeCodeTree,
-    out: &mut Vec<Difference>,
-) -> Result<(), AllocError>
-    ensures { OnOk result (out.new.items ≡ out.old.items ++ type_code_differences old.now new.now) }
-{
-    let ids = (old.id.as_bytes(), new.id.as_bytes());
-    compare_texts(Weight::Breaks, b"id in the TypeCode", ids, out)?;
-    let names = (old.name.as_bytes(), new.name.as_bytes());
-    compare_texts(Weight::Breaks, b"name in the TypeCode", names, out)?;
-    compare_parts(&old.parts, &new.parts, out)
+    let was = (old, &old.code.parts);
+    compare_parts(sides, was, (new, &new.code.parts), out)
 }
 
 // Compares what stands behind the names in TypeCodes.
 fn compare_parts(
-    old: &TypeCodeParts,
-    new: &TypeCodeParts,
+    sides: &Sides<'_>,
+    old: (&DeclaredType, &TypeCodeParts),
+    new: (&DeclaredType, &TypeCodeParts),
     out: &mut Vec<Difference>,
 ) -> Result<(), AllocError>
-    ensures { OnOk result (out.new.items ≡ out.old.items ++ parts_differences old.now new.now) }
+    ensures { OnOk result (out.new.items ≡ out.old.items
+        ++ parts_differences sides.now.0 sides.now.1 old.entry.0.now new.entry.0.now
+        old.entry.1.now new.entry.1.now) }
 {
-    match (old, new) {
+    match (old.1, new.1) {
         (TypeCodeParts::ObjectReference, TypeCodeParts::ObjectReference)
         | (TypeCodeParts::LocalInterface, TypeCodeParts::LocalInterface)
         | (TypeCodeParts::Native, TypeCodeParts::Native) => Ok(()),
-        (TypeCodeParts::Structure(old), TypeCodeParts::Structure(new))
-        | (TypeCodeParts::Exception(old), TypeCodeParts::Exception(new)) => {
-            compare_lists(b"member", old.as_slice(), new.as_slice(), out)
+        (TypeCodeParts::Structure(was), TypeCodeParts::Structure(is))
+        | (TypeCodeParts::Exception(was), TypeCodeParts::Exception(is)) => {
+            compare_members(sides, (old.0, was), (new.0, is), out)
         }
-        (TypeCodeParts::Union(old), TypeCodeParts::Union(new)) => compare_unions(old, new, out),
-        (TypeCodeParts::Enumeration(old), TypeCodeParts::Enumeration(new)) => {
-            compare_lists(b"enumerator", old.as_slice(), new.as_slice(), out)
+        (TypeCodeParts::Union(was), TypeCodeParts::Union(is)) => {
+            compare_unions(sides, was, is, out)
         }
-        (TypeCodeParts::Alias(old), TypeCodeParts::Alias(new)) => {
-            compare_types(b"type", old, new, out)
+        (TypeCodeParts::Enumeration(was), TypeCodeParts::Enumeration(is)) => {
+            let lists = Lists {
+                item: Item::Enumerator,
+                before: was.as_slice(),
+                after: is.as_slice(),
+            };
+            compare_lists(sides, &lists, out)
+        }
+        (TypeCodeParts::Alias(was), TypeCodeParts::Alias(is)) => {
+            compare_types(sides, b"type", (was, is), out)
         }
         _ => push_changed(
-            Weight::Breaks,
+            Line::Kind,
             b"TypeCode",
-            (code_word(old), code_word(new)),
+            (code_word(old.1), code_word(new.1)),
             out,
         ),
     }
 }
 
-fn compare_unions(
-    old: &UnionTree,
-    new: &UnionTree,
+// Compares the bases and members of structs, and the members of exceptions.
+fn compare_members(
+    sides: &Sides<'_>,
+    old: (&DeclaredType, &Seq<MemberTree>),
+    new: (&DeclaredType, &Seq<MemberTree>),
     out: &mut Vec<Difference>,
 ) -> Result<(), AllocError>
-    ensures { OnOk result (out.new.items ≡ out.old.items ++ union_differences old.now new.now) }
+    ensures { OnOk result (out.new.items ≡ out.old.items
+        ++ members_differences sides.now.0 sides.now.1 old.entry.0.now new.entry.0.now
+        old.entry.1.now new.entry.1.now) }
 {
-    compare_types(
-        b"discriminator",
-        &old.discriminator,
-        &new.discriminator,
-        out,
-    )?;
-    compare_defaults(old.default, new.default, out)?;
-    compare_lists(b"case", old.cases.as_slice(), new.cases.as_slice(), out)
+    compare_bases(sides, old.0.bases.as_slice(), new.0.bases.as_slice(), out)?;
+    let lists = Lists {
+        item: Item::Member,
+        before: old.1.as_slice(),
+        after: new.1.as_slice(),
+    };
+    compare_lists(sides, &lists, out)
 }
 
+// Compares constants.
 fn compare_constants(
+    sides: &Sides<'_>,
     old: &ConstantTree,
     new: &ConstantTree,
     out: &mut Vec<Difference>,
 ) -> Result<(), AllocError>
-    ensures { OnOk result (out.new.items ≡ out.old.items ++ constant_differences old.now new.now) }
+    ensures { OnOk result (out.new.items ≡ out.old.items
+        ++ constant_differences sides.now.0 sides.now.1 old.now new.now) }
 {
-    compare_types(b"type", &old.data_type, &new.data_type, out)?;
-    compare_options(b"value", b"", (&old.value, &new.value), out)
+    compare_constant_types(sides, &old.data_type, &new.data_type, out)?;
+    compare_values(&old.value, &new.value, out)
 }
 
+// Compares attributes: what reading them raises, and where both may be written, what that does.
 fn compare_attributes(
+    sides: &Sides<'_>,
     old: &AttributeTree,
     new: &AttributeTree,
     out: &mut Vec<Difference>,
 ) -> Result<(), AllocError>
-    ensures { OnOk result (out.new.items ≡ out.old.items ++ attribute_differences old.now new.now) }
+    ensures { OnOk result (out.new.items ≡ out.old.items
+        ++ attribute_differences sides.now.0 sides.now.1 old.now new.now) }
 {
-    compare_flags(b"readonly", old.is_readonly, new.is_readonly, out)?;
-    compare_types(b"type", &old.data_type, &new.data_type, out)?;
-    compare_sets(
-        b"exception of get",
-        old.raised.as_slice(),
-        new.raised.as_slice(),
-        out,
-    )?;
-    let raised = (old.raised_by_set.as_slice(), new.raised_by_set.as_slice());
-    compare_sets(b"exception of set", raised.0, raised.1, out)
+    compare_types(sides, b"type", (&old.data_type, &new.data_type), out)?;
+    let flags = (old.is_readonly, new.is_readonly);
+    compare_flags(readonly_line(old.is_readonly), b"readonly", flags, out)?;
+    let raised = (old.raised.as_slice(), new.raised.as_slice());
+    compare_references(sides, b"exception of get", raised, out)?;
+    compare_writing(sides, old, new, out)
 }
 
+// The line of readonly, where it is taken off or put on.
+fn readonly_line(was: bool) -> Line
+    ensures { result ≡ readonly_line was }
+{
+    if was {
+        Line::ReadonlyOff
+    } else {
+        Line::ReadonlyOn
+    }
+}
+
+// Compares what writing attributes raises, where both may be written.
+fn compare_writing(
+    sides: &Sides<'_>,
+    old: &AttributeTree,
+    new: &AttributeTree,
+    out: &mut Vec<Difference>,
+) -> Result<(), AllocError>
+    ensures { OnOk result (out.new.items ≡ out.old.items
+        ++ set_differences sides.now.0 sides.now.1 old.now new.now) }
+{
+    if old.is_readonly || new.is_readonly {
+        return Ok(());
+    }
+    let raised = (old.raised_by_set.as_slice(), new.raised_by_set.as_slice());
+    compare_references(sides, b"exception of set", raised, out)
+}
+
+// Compares operations.
 fn compare_operations(
+    sides: &Sides<'_>,
     old: &OperationTree,
     new: &OperationTree,
     out: &mut Vec<Difference>,
 ) -> Result<(), AllocError>
-    ensures { OnOk result (out.new.items ≡ out.old.items ++ operation_differences old.now new.now) }
+    ensures { OnOk result (out.new.items ≡ out.old.items
+        ++ operation_differences sides.now.0 sides.now.1 old.now new.now) }
 {
-    compare_flags(b"oneway", old.is_oneway, new.is_oneway, out)?;
-    compare_types(b"type", &old.data_type, &new.data_type, out)?;
-    compare_lists(
-        b"parameter",
-        old.parameters.as_slice(),
-        new.parameters.as_slice(),
-        out,
-    )?;
-    compare_sets(
-        b"exception",
-        old.raised.as_slice(),
-        new.raised.as_slice(),
-        out,
-    )?;
-    compare_lists(
-        b"context",
-        old.contexts.as_slice(),
-        new.contexts.as_slice(),
-        out,
-    )
+    compare_types(sides, b"type", (&old.data_type, &new.data_type), out)?;
+    let lists = Lists {
+        item: Item::Parameter,
+        before: old.parameters.as_slice(),
+        after: new.parameters.as_slice(),
+    };
+    compare_lists(sides, &lists, out)?;
+    let flags = (old.is_oneway, new.is_oneway);
+    compare_flags(Line::Oneway, b"oneway", flags, out)?;
+    let raised = (old.raised.as_slice(), new.raised.as_slice());
+    compare_references(sides, b"exception", raised, out)?;
+    compare_contexts(old.contexts.as_slice(), new.contexts.as_slice(), out)
 }

@@ -1,20 +1,30 @@
-//! What it means that no change is told.
+//! What it means that no change has a weight.
 
-ghost use Rattle.std.specs.Prelude.{◌≡◌, [], All, List};
-ghost use Rattle.idl_changes.specs.Changes.{IsKept, IsThere, NoneBreaks, NoneNames, changes};
+ghost use Rattle.std.specs.Prelude.{◌≡◌, [], List};
+ghost use Rattle.idl_changes.specs.Changes.{changes};
+ghost use Rattle.idl_changes.specs.Laws.{Finds, NoneHas, Serves};
+ghost use Rattle.idl_changes.specs.Speaks.{IsDeclared, Speaks};
 ghost use Rattle.idl_repo.specs.declared.details.row_tree.RowTree.{RowTree};
 
-/// Where no change breaks anything, each old id is in the new listing, with the same kind and wire form. This does nothing: it
-/// carries the law.
-pub fn nothing_breaks()
-    ensures { (old new : List RowTree) → NoneBreaks (changes old new) → All (IsKept new) old }
+/// Where no change counts on the wire, programs that are built from the two listings speak with each other, if these are declared as
+/// IDL asks for. This does nothing: it carries the law.
+pub fn nothing_on_the_wire()
+    ensures { (old new : List RowTree) → IsDeclared old → IsDeclared new
+        → NoneHas (λ weights. weights.wire) (changes old new) → Speaks old new }
 {}
 
-/// Where besides no change is one of names, each old entry is in the new listing as it was, but for the order of its bases and of
-/// the exceptions that it raises. This does nothing: it carries the law.
-pub fn nothing_is_renamed()
+/// Where no change counts for servants, who implements an old interface implements all that the new one offers, by name. This does
+/// nothing: it carries the law.
+pub fn nothing_for_servants()
     ensures { (old new : List RowTree)
-        → NoneBreaks (changes old new) → NoneNames (changes old new) → All (IsThere new) old }
+        → NoneHas (λ weights. weights.servant) (changes old new) → Serves old new }
+{}
+
+/// Where no change counts for clients, all that the old listing has is in the new one by its path and with its kind, and what an
+/// interface offers its partner offers. This does nothing: it carries the law.
+pub fn nothing_for_clients()
+    ensures { (old new : List RowTree)
+        → NoneHas (λ weights. weights.client) (changes old new) → Finds old new }
 {}
 
 /// From a listing to itself there is no change. This does nothing: it carries the law.

@@ -1,168 +1,155 @@
 //! Parts of entries that have no parts.
 
-ghost use Rattle.std.specs.Prelude.{◌≡◌, ◌++◌, ◌∷◌, [], OnOk, unwrap_or};
-ghost use Rattle.idl_changes.specs.Differences.{added, changed, default_differences, flag_differences, gone, option_differences, text_differences, type_differences, yes_or_no};
+ghost use Rattle.std.specs.Prelude.{◌≡◌, ◌++◌, [], IfOk, OnOk, unwrap_or};
+ghost use Rattle.idl_changes.specs.Differences.{changed, context_differences, flag_differences, in_a_row, text_differences, told, value_differences, yes_or_no};
 
-use crate::change::{Difference, Weight};
+use crate::change::{Difference, Turn};
+use crate::matched::Named;
+use crate::rows::{Line, weights_of};
 use idl_base::{Bytes, Text};
-use idl_repo::details::{LayeredType, push_type};
-use idl_repo::push_default;
-use std::alloc::AllocError;
+use std::alloc::{AllocError, Global};
+
+/// Tells a line of the table of a part.
+pub fn push_told(
+    line: Line,
+    part: &[u8],
+    turn: Turn,
+    out: &mut Vec<Difference>,
+) -> Result<(), AllocError>
+    ensures { OnOk result (out.new.items ≡ out.old.items ++ told line part.now turn) }
+{
+    let part = Text::from_slice(*out.allocator(), part)?;
+    let weights = weights_of(line);
+    out.push(Difference {
+        weights,
+        part,
+        turn,
+    })?;
+    Ok(())
+}
 
 /// Tells that a part was this text and is that one.
 pub fn push_changed(
-    weight: Weight,
+    line: Line,
     part: &[u8],
     texts: (&[u8], &[u8]),
     out: &mut Vec<Difference>,
 ) -> Result<(), AllocError>
     ensures { OnOk result (out.new.items
-        ≡ out.old.items ++ changed weight part.now texts.entry.0.now texts.entry.1.now ∷ []) }
+        ≡ out.old.items ++ changed line part.now texts.entry.0.now texts.entry.1.now) }
 {
-    let (old, new) = texts;
-    let mut text = Vec::from_slice(*out.allocator(), part)?;
-    text.extend_from_slice(b", ")?;
-    text.extend_from_slice(old)?;
-    text.extend_from_slice(b" -> ")?;
-    text.extend_from_slice(new)?;
-    push(weight, text, out)
-}
-
-/// Tells that a part with this name is gone.
-pub fn push_gone(part: &[u8], old: &[u8], out: &mut Vec<Difference>) -> Result<(), AllocError>
-    ensures { OnOk result (out.new.items ≡ out.old.items ++ gone part.now old.now ∷ []) }
-{
-    let mut text = Vec::from_slice(*out.allocator(), part)?;
-    text.extend_from_slice(b", ")?;
-    text.extend_from_slice(old)?;
-    text.extend_from_slice(b", is gone")?;
-    push(Weight::Breaks, text, out)
-}
-
-/// Tells that a part with this name is new.
-pub fn push_added(part: &[u8], new: &[u8], out: &mut Vec<Difference>) -> Result<(), AllocError>
-    ensures { OnOk result (out.new.items ≡ out.old.items ++ added part.now new.now ∷ []) }
-{
-    let mut text = Vec::from_slice(*out.allocator(), part)?;
-    text.extend_from_slice(b", ")?;
-    text.extend_from_slice(new)?;
-    text.extend_from_slice(b", is new")?;
-    push(Weight::Breaks, text, out)
-}
-
-fn push(weight: Weight, text: Vec<u8>, out: &mut Vec<Difference>) -> Result<(), AllocError>
-    ensures { OnOk result (out.new.items
-        ≡ out.old.items ++ record { weight = weight; text = text.items } ∷ []) }
-{
-    let text = Text::from_vec(text);
-    out.push(Difference { weight, text })?;
-    Ok(())
+    let was = Text::from_slice(*out.allocator(), texts.0)?;
+    let is = Text::from_slice(*out.allocator(), texts.1)?;
+    push_told(line, part, Turn::Changed(was, is), out)
 }
 
 /// Compares a part that has a text.
 pub fn compare_texts(
-    weight: Weight,
+    line: Line,
     part: &[u8],
     texts: (&[u8], &[u8]),
     out: &mut Vec<Difference>,
 ) -> Result<(), AllocError>
     ensures { OnOk result (out.new.items ≡ out.old.items
-        ++ text_differences weight part.now texts.entry.0.now texts.entry.1.now) }
+        ++ text_differences line part.now texts.entry.0.now texts.entry.1.now) }
 {
     if texts.0 == texts.1 {
         return Ok(());
     }
-    push_changed(weight, part, texts, out)
-}
-
-/// Compares a part that may have a text; this one stands for none.
-pub fn compare_options(
-    part: &[u8],
-    none: &[u8],
-    texts: (&Option<Bytes>, &Option<Bytes>),
-    out: &mut Vec<Difference>,
-) -> Result<(), AllocError>
-    ensures { OnOk result (out.new.items ≡ out.old.items
-        ++ option_differences part.now none.now texts.entry.0.now texts.entry.1.now) }
-{
-    let (old, new) = texts;
-    if *old == *new {
-        return Ok(());
-    }
-    let texts = (text_or(old, none), text_or(new, none));
-    push_changed(Weight::Breaks, part, texts, out)
-}
-
-// A text, or this one for none.
-fn text_or<'a>(text: &'a Option<Bytes>, none: &'a [u8]) -> &'a [u8]
-    ensures { result.now ≡ unwrap_or text.now none.now }
-{
-    match text {
-        Some(text) => text.as_bytes(),
-        None => none,
-    }
+    push_changed(line, part, texts, out)
 }
 
 /// Compares whether a word stands there.
 pub fn compare_flags(
+    line: Line,
     part: &[u8],
-    old: bool,
-    new: bool,
+    flags: (bool, bool),
     out: &mut Vec<Difference>,
 ) -> Result<(), AllocError>
-    ensures { OnOk result (out.new.items ≡ out.old.items ++ flag_differences part.now old new) }
+    ensures { OnOk result (out.new.items
+        ≡ out.old.items ++ flag_differences line part.now flags.0 flags.1) }
 {
-    if old == new {
+    if flags.0 == flags.1 {
         return Ok(());
     }
-    push_changed(Weight::Breaks, part, (yes_or_no(old), yes_or_no(new)), out)
+    push_changed(line, part, (yes_or_no(flags.0), yes_or_no(flags.1)), out)
 }
 
-fn yes_or_no(stands: bool) -> &'static [u8]
+/// Whether a word stands there.
+pub fn yes_or_no(stands: bool) -> &'static [u8]
     ensures { result.now ≡ yes_or_no stands }
 {
     if stands { b"yes" } else { b"no" }
 }
 
-/// Compares a type.
-pub fn compare_types(
-    part: &[u8],
-    old: &LayeredType,
-    new: &LayeredType,
+/// Compares values.
+pub fn compare_values(
+    old: &Option<Bytes>,
+    new: &Option<Bytes>,
     out: &mut Vec<Difference>,
 ) -> Result<(), AllocError>
     ensures { OnOk result (out.new.items
-        ≡ out.old.items ++ type_differences part.now old.now new.now) }
+        ≡ out.old.items ++ value_differences old.now new.now) }
 {
     if *old == *new {
         return Ok(());
     }
-    let mut was = Vec::new(*out.allocator());
-    push_type(&mut was, old)?;
-    let mut is = Vec::new(*out.allocator());
-    push_type(&mut is, new)?;
-    push_changed(Weight::Breaks, part, (was.as_slice(), is.as_slice()), out)
+    let texts = (text_or_none(old), text_or_none(new));
+    push_changed(Line::ConstantValue, b"value", texts, out)
 }
 
-/// Compares the number of a union's case of `default`.
-pub fn compare_defaults(
-    old: Option<usize>,
-    new: Option<usize>,
+// A text, if there is one.
+fn text_or_none(text: &Option<Bytes>) -> &[u8]
+    ensures { result.now ≡ unwrap_or text.now [] }
+{
+    match text {
+        Some(text) => text.as_bytes(),
+        None => &[],
+    }
+}
+
+/// Compares contexts.
+pub fn compare_contexts(
+    old: &[Bytes],
+    new: &[Bytes],
     out: &mut Vec<Difference>,
 ) -> Result<(), AllocError>
-    ensures { OnOk result (out.new.items ≡ out.old.items ++ default_differences old new) }
+    ensures { OnOk result (out.new.items
+        ≡ out.old.items ++ context_differences old.now new.now) }
 {
     if old == new {
         return Ok(());
     }
-    let mut was = Vec::new(*out.allocator());
-    push_default(&mut was, old)?;
-    let mut is = Vec::new(*out.allocator());
-    push_default(&mut is, new)?;
+    let was = in_a_row(*out.allocator(), old)?;
+    let is = in_a_row(*out.allocator(), new)?;
     push_changed(
-        Weight::Breaks,
-        b"default",
+        Line::Context,
+        b"context",
         (was.as_slice(), is.as_slice()),
         out,
     )
+}
+
+/// Names in a row, or `none`.
+pub fn in_a_row<T: Named>(alloc: Global, items: &[T]) -> Result<Vec<u8>, AllocError>
+    ensures { IfOk result (λ row. row.items ≡ in_a_row T.name_of items.now) }
+{
+    let Some((first, others)) = items.split_first() else {
+        return Vec::from_slice(alloc, b"none");
+    };
+    let mut row = Vec::from_slice(alloc, first.name().as_bytes())?;
+    for item in others {
+        row.extend_from_slice(b" ")?;
+        row.extend_from_slice(item.name().as_bytes())?;
+    }
+    Ok(row)
+}
+
+/// A name of a part: a word, and a name behind it.
+pub fn part_of(alloc: Global, word: &[u8], name: &Bytes) -> Result<Vec<u8>, AllocError>
+    ensures { IfOk result (λ part. part.items ≡ word.now ++ name.now) }
+{
+    let mut part = Vec::from_slice(alloc, word)?;
+    part.extend_from_slice(name.as_bytes())?;
+    Ok(part)
 }

@@ -9,7 +9,7 @@ use Rattle.std.specs.Io.KnownBytes.{Consumes, IsAtEnd}
 use Rattle.std.proofs.lemmas.List.Elements.{All-append, All-cons, All-head, All-nil, All-tail}
 use Rattle.idl_source.specs.texts.Cut.{begun_with, cut_lines, is_at_newline}
 use Rattle.idl_disk.specs.Extent.{Measures, ends_in_return, has_begun, without_return}
-use Rattle.idl_disk.specs.Reading.{AreAllowed, ArePastLimits, AreUpToLimits}
+use Rattle.idl_disk.specs.Reading.{AreAllowed, ArePastLimits, AreUpToLimits, IsTextOf, without_mark}
 use Rattle.idl_disk.specs.declared.reading.Extent.{Extent}
 
 -- what the bytes are cut into where the first is no newline
@@ -322,18 +322,27 @@ consumed-none first mid last xs ys n a b none =
     subst (Consumes first last) (append-nil xs)
     (consumed-more first mid last xs [] a (subst (λ k. Consumes mid last (take k ys)) none b))
 
+-- bytes none of which is past the limits are read whole
+whole-read : (bytes : List ℕ) → ((n : ℕ) → n ≤ length bytes → ArePastLimits (take n bytes) → ⊥) → AreUpToLimits bytes bytes
+whole-read bytes none = record {
+  begin = take_all (length bytes) bytes (omega arith);
+  end = inl refl;
+  first = λ n less. none n (omega (arith, less));
+}
+
 -- no byte is left
-pub all-consumed : (first last : Option (List ℕ)) (bytes : List ℕ) → Consumes first last bytes → IsAtEnd last
-    → ((n : ℕ) → n ≤ length bytes → ArePastLimits (take n bytes) → ⊥) → IfSome first (λ all. AreUpToLimits all bytes)
-all-consumed None last bytes a end none = tt
-all-consumed (Some all) None bytes a end none = absurd a
-all-consumed (Some all) (Some rest) bytes a end none =
-    let same : all ≡ bytes = a ∙ ap (λ l. bytes ++ l) end ∙ append-nil bytes in
-    record {
-      begin = ap (take (length bytes)) same ∙ take_all (length bytes) bytes (omega arith);
-      end = inl (sym same);
-      first = λ n less. none n (omega (arith, less));
-    }
+pub all-read : (first last : Option (List ℕ)) (bytes text : List ℕ) → Consumes first last bytes → IsAtEnd last
+    → ((n : ℕ) → n ≤ length bytes → ArePastLimits (take n bytes) → ⊥) → text ≡ without_mark bytes → IfSome first (λ all. IsTextOf all text)
+all-read None last bytes text a end none is = tt
+all-read (Some all) None bytes text a end none is = absurd a
+all-read (Some all) (Some rest) bytes text a end none is =
+    let same : bytes ≡ all = sym (a ∙ ap (λ l. bytes ++ l) end ∙ append-nil bytes) in
+    inl (subst (λ (l : List ℕ). AreUpToLimits l l) same (whole-read bytes none), is ∙ ap without_mark same)
+
+-- the limits are passed
+pub past-read : (first : Option (List ℕ)) (bytes : List ℕ) → ArePastLimits bytes → IfSome first (λ all. AreUpToLimits all bytes) → IfSome first (λ all. IsTextOf all bytes)
+past-read None bytes past are = tt
+past-read (Some all) bytes past are = inr (are, past)
 
 -- none of the first bytes is past the limits, where part of a piece comes behind
 pub none-before : (bytes part got : List ℕ) (w : ℕ) → got ≡ take w part → w ≤ length part

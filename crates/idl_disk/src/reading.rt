@@ -3,20 +3,23 @@
 ghost use Rattle.std.specs.Prelude.{◌≡◌, ◌↔◌, ◌≤◌, ◌<◌, ◌++◌, ◌∷◌, ◌⊎◌, [], ℕ, List, IfOk, IfSome, IsTrue, length, take, false};
 ghost use Rattle.std.specs.Io.KnownBytes.{Consumes, IsAtEnd};
 ghost use Rattle.idl_disk.specs.Extent.{Measures, has_begun};
-ghost use Rattle.idl_disk.specs.Reading.{ArePastLimits, AreUpToLimits};
+ghost use Rattle.idl_disk.specs.Reading.{ArePastLimits, IsTextOf, without_mark};
 
 use idl_source::{MAX_LINE, MAX_LINES, NEWLINE};
-use std::alloc::Global;
+use std::alloc::{AllocError, Global};
 use std::io::{self, ErrorKind, Read};
 
 // Bytes that are read at once.
 const PIECE: usize = 8192;
 
+// What some editors put at the front of a file.
+const BYTE_ORDER_MARK: &[u8] = b"\xef\xbb\xbf";
+
 /// The bytes of a reader to its end, or to where they are past the limits of a file whatever comes behind: at the first byte of a
-/// line that is too long, or of a line more than there may be.
+/// line that is too long, or of a line more than there may be. Of bytes to the end a byte order mark at the front is left out.
 pub fn read_file<R: Read>(alloc: Global, reader: &mut R) -> io::Result<Vec<u8>>
     ensures { IfSome (R.remaining reader.old) (λ all.
-        IfOk result (λ bytes. AreUpToLimits all bytes.items)) }
+        IfOk result (λ text. IsTextOf all text.items)) }
 {
     let mut bytes = Vec::new(alloc);
     let mut extent = Extent::new();
@@ -24,7 +27,8 @@ pub fn read_file<R: Read>(alloc: Global, reader: &mut R) -> io::Result<Vec<u8>>
     'pieces: for _ in 0..u64::MAX {
         let count = read_piece(reader, &mut piece)?;
         if count == 0 {
-            return Ok(bytes);
+            let text = without_mark(bytes)?;
+            return Ok(text);
         }
         let within = extent.add(&piece[..count]);
         bytes.extend_from_slice(&piece[..within])?;
@@ -33,6 +37,16 @@ pub fn read_file<R: Read>(alloc: Global, reader: &mut R) -> io::Result<Vec<u8>>
         }
     }
     Err(io::Error::from(ErrorKind::Other))
+}
+
+// These bytes, but for a byte order mark at their front.
+fn without_mark(bytes: Vec<u8>) -> Result<Vec<u8>, AllocError>
+    ensures { IfOk result (λ text. text.items ≡ without_mark bytes.items) }
+{
+    let Some(text) = bytes.strip_prefix(BYTE_ORDER_MARK) else {
+        return Ok(bytes);
+    };
+    Vec::from_slice(*bytes.allocator(), text)
 }
 
 // Reads bytes, and reads again where that was interrupted.

@@ -1,6 +1,6 @@
 -- A name leads back to the path that it was made of.
-use Rattle.std.proofs.Common.{◌≡◌, ◌∙◌, ◌+◌, ◌<◌, ◌≤◌, ◌&&◌, not, ℕ, suc, Bool, true, false, List, [], ◌∷◌, ◌++◌, length, take, drop, slice_index_or, Option, None, Some, refl, sym, ap, subst, arith, inl, inr}
-use Rattle.std.specs.Prelude.{All, IfSome, MatchOption, is_none, option_and_then, if◌then◌else◌}
+use Rattle.std.proofs.Common.{◌≡◌, ◌∙◌, ◌+◌, ◌<◌, ◌≤◌, ◌&&◌, ◌||◌, not, ℕ, suc, Bool, true, false, true≢false, List, [], ◌∷◌, ◌++◌, length, get_or, take, drop, slice_index_or, Option, None, Some, refl, sym, ap, append_assoc, subst, arith, inl, inr}
+use Rattle.std.specs.Prelude.{All, IfSome, MatchOption, codes, is_none, is_some, option_and_then, if◌then◌else◌}
 use Rattle.std.specs.List.{list_all}
 use Rattle.std.specs.Option.{option_map, option_or, unwrap_or}
 use Rattle.std.proofs.lemmas.Bool.{cases_lt, cond-true, cond-false}
@@ -13,7 +13,7 @@ use Rattle.percent_encoding.specs.AsciiSet.{contains, should_percent_encode}
 use Rattle.percent_encoding.specs.Percent.{percent_decode, percent_encode, percent_encode_byte}
 use Rattle.percent_encoding.proofs.PercentLemmas.{percent_encode-nil, percent_encode_escaped, percent_encode_kept, round_trip}
 use Rattle.idl_editor.specs.uris.Uri.{behind}
-use Rattle.idl_editor.specs.uris.Folders.{AreApart, FolderNamed, are_apart, escaped, name_among, name_behind, name_in, name_of, path_among, path_for, path_in, stands_in_names}
+use Rattle.idl_editor.specs.uris.Folders.{AreApart, FolderNamed, are_apart, are_told_apart, escaped, goes_up, leads_out, name_among, name_behind, name_in, name_of, path_among, path_for, path_in, stands_in_names, staying}
 use Rattle.idl_editor.specs.declared.uris.folders.TheConstants.{ESCAPED_IN_NAMES}
 use Rattle.idl_editor.proofs.UriLemmas.{all-escaped, behind-front, behind-some, rooted-kept}
 
@@ -49,6 +49,18 @@ not_so : (a : Bool) → not a ≡ true → a ≡ false
 not_so true e = absurd (cc)
 not_so false e = refl
 
+neither : (a b : Bool) → (a || b) ≡ false → (a ≡ false) × (b ≡ false)
+neither true b e = absurd (true≢false e)
+neither false b e = (refl, e)
+
+second_so : (a b : Bool) → b ≡ true → (a || b) ≡ true
+second_so true b e = refl
+second_so false b e = e
+
+other_so : (a b : Bool) → a ≡ false → (a || b) ≡ true → b ≡ true
+other_so true b none e = absurd (true≢false none)
+other_so false b none e = e
+
 -- ---- folders that were added one after another
 
 no_folder : FolderNamed
@@ -57,14 +69,14 @@ no_folder = record { path = []; front = [] }
 apart-tail : (f : FolderNamed) (fs : List FolderNamed) → AreApart (f ∷ fs) → AreApart fs
 apart-tail f fs apart k d within =
     let g = slice_index_or fs k d in
-    let whole = both_so (not (is_rooted g.front)) (are_apart f.front g.front && list_all (λ h. are_apart h.front g.front) (take k fs)) (apart (suc k) d (omega arith)) in
-    both (not (is_rooted g.front)) (list_all (λ h. are_apart h.front g.front) (take k fs)) whole.0 (both_so (are_apart f.front g.front) (list_all (λ h. are_apart h.front g.front) (take k fs)) whole.1).1
+    let whole = both_so (not (is_rooted g.front)) (are_told_apart f.front g.front && list_all (λ h. are_told_apart h.front g.front) (take k fs)) (apart (suc k) d (omega arith)) in
+    both (not (is_rooted g.front)) (list_all (λ h. are_told_apart h.front g.front) (take k fs)) whole.0 (both_so (are_told_apart f.front g.front) (list_all (λ h. are_told_apart h.front g.front) (take k fs)) whole.1).1
 
-apart-head : (f : FolderNamed) (fs : List FolderNamed) → AreApart (f ∷ fs) → (k : ℕ) (d : FolderNamed) → k < length fs → are_apart f.front (slice_index_or fs k d).front ≡ true
+apart-head : (f : FolderNamed) (fs : List FolderNamed) → AreApart (f ∷ fs) → (k : ℕ) (d : FolderNamed) → k < length fs → are_told_apart f.front (slice_index_or fs k d).front ≡ true
 apart-head f fs apart k d within =
     let g = slice_index_or fs k d in
-    let whole = both_so (not (is_rooted g.front)) (are_apart f.front g.front && list_all (λ h. are_apart h.front g.front) (take k fs)) (apart (suc k) d (omega arith)) in
-    (both_so (are_apart f.front g.front) (list_all (λ h. are_apart h.front g.front) (take k fs)) whole.1).0
+    let whole = both_so (not (is_rooted g.front)) (are_told_apart f.front g.front && list_all (λ h. are_told_apart h.front g.front) (take k fs)) (apart (suc k) d (omega arith)) in
+    (both_so (are_told_apart f.front g.front) (list_all (λ h. are_told_apart h.front g.front) (take k fs)) whole.1).0
 
 apart-plain : (f : FolderNamed) (fs : List FolderNamed) → AreApart (f ∷ fs) → is_rooted f.front ≡ false
 apart-plain f fs apart = not_so (is_rooted f.front) (both_so (not (is_rooted f.front)) true (apart 0 f (omega arith))).0
@@ -86,16 +98,16 @@ apart-clash a b x y apart e =
 
 abbrev Inside : FolderNamed → List ℕ → List ℕ → Type 0
 Inside f path name =
-    (rest : List ℕ) × (path ≡ f.path ++ 47 ∷ rest) × (is_rooted rest ≡ false) × (name ≡ f.front ++ escaped rest)
+    (rest : List ℕ) × (path ≡ f.path ++ 47 ∷ rest) × (leads_out rest ≡ false) × (name ≡ f.front ++ escaped rest)
 
-inside-rest : (f : FolderNamed) (path rest name : List ℕ) → path ≡ f.path ++ 47 ∷ rest → (t : Bool) → is_rooted rest ≡ t → (if t then None else Some (f.front ++ escaped rest)) ≡ Some name → Inside f path name
+inside-rest : (f : FolderNamed) (path rest name : List ℕ) → path ≡ f.path ++ 47 ∷ rest → (t : Bool) → leads_out rest ≡ t → (if t then None else Some (f.front ++ escaped rest)) ≡ Some name → Inside f path name
 inside-rest f path rest name whole true is e = absurd (cc)
 inside-rest f path rest name whole false is e = (rest, whole, is, (cc))
 
 inside-slash : (f : FolderNamed) (path more name : List ℕ) → path ≡ f.path ++ more → (o : Option (List ℕ)) → behind (47 ∷ []) more ≡ o → name_behind f o ≡ Some name → Inside f path name
 inside-slash f path more name whole None is e = absurd (cc)
 inside-slash f path more name whole (Some rest) is e =
-    inside-rest f path rest name (whole ∙ ap (λ t. f.path ++ t) (behind-some (47 ∷ []) more rest is)) (is_rooted rest) refl e
+    inside-rest f path rest name (whole ∙ ap (λ t. f.path ++ t) (behind-some (47 ∷ []) more rest is)) (leads_out rest) refl e
 
 inside-path : (f : FolderNamed) (path name : List ℕ) (o : Option (List ℕ)) → behind f.path path ≡ o → name_behind f (option_and_then (behind (47 ∷ [])) o) ≡ Some name → Inside f path name
 inside-path f path name None is e = absurd (cc)
@@ -128,6 +140,60 @@ encoded-plain (b ∷ path) plain = by_test (should_percent_encode ESCAPED_IN_NAM
 escaped-plain : (path : List ℕ) → is_rooted path ≡ false → is_rooted (escaped path) ≡ false
 escaped-plain path plain = ap is_rooted (sym (name_escaped path)) ∙ encoded-plain path plain
 
+-- ---- steps up
+
+percent-first : (c b : ℕ) (x more : List ℕ) → percent_encode_byte c ++ x ≡ b ∷ more → 37 ≡ b
+unfolding percent_encode_byte
+percent-first c b x more e = ap (λ (l : List ℕ). get_or l 0 0) e
+
+-- what is escaped begins with another byte than `%` only where that stood there before
+first-kept : (b : ℕ) → (37 ≡ b → ⊥) → (rest more : List ℕ) → escaped rest ≡ b ∷ more → (r : List ℕ) × (rest ≡ b ∷ r) × (escaped r ≡ more)
+first-kept b other [] more e = absurd (cc)
+first-kept b other (c ∷ rest) more e = by (stands_in_names c) e
+  where
+    by : (t : Bool) → (if t then c ∷ [] else percent_encode_byte c) ++ escaped rest ≡ b ∷ more → (r : List ℕ) × (c ∷ rest ≡ b ∷ r) × (escaped r ≡ more)
+    by true e = (rest, ap (λ (l : List ℕ). get_or l 0 0 ∷ rest) e, ap (λ (l : List ℕ). drop 1 l) e)
+    by false e = absurd (other (percent-first c b (escaped rest) more e))
+
+up-kept : (rest z : List ℕ) → escaped rest ≡ 46 ∷ 46 ∷ 47 ∷ z → (r : List ℕ) × (rest ≡ 46 ∷ 46 ∷ 47 ∷ r)
+up-kept rest z e =
+    let one = first-kept 46 (λ h. omega (arith, h)) rest (46 ∷ 47 ∷ z) e in
+    let two = first-kept 46 (λ h. omega (arith, h)) one.0 (47 ∷ z) one.2 in
+    let three = first-kept 47 (λ h. omega (arith, h)) two.0 z two.2 in
+    (three.0, one.1 ∙ ap (λ (r : List ℕ). 46 ∷ r) two.1 ∙ ap (λ (r : List ℕ). 46 ∷ 46 ∷ r) three.1)
+
+not-up : (rest : List ℕ) → is_some (behind (codes "../") rest) ≡ false → is_some (behind (codes "../") (escaped rest)) ≡ false
+not-up rest none = by (behind (codes "../") (escaped rest)) refl
+  where
+    by : (o : Option (List ℕ)) → behind (codes "../") (escaped rest) ≡ o → is_some o ≡ false
+    by None is = refl
+    by (Some z) is =
+        let back = up-kept rest z (behind-some (codes "../") (escaped rest) z is) in
+        let there : behind (codes "../") rest ≡ Some back.0 = ap (behind (codes "../")) back.1 ∙ behind-front (codes "../") back.0 in
+        absurd (true≢false (sym (ap (λ (o : Option (List ℕ)). is_some o) there) ∙ none))
+
+-- what stays in a folder does so where it is escaped
+stays-in : (rest : List ℕ) → leads_out rest ≡ false → leads_out (escaped rest) ≡ false
+stays-in rest stays =
+    let parts = neither (is_rooted rest) (is_some (behind (codes "../") rest)) stays in
+    λ i. escaped-plain rest parts.0 i || not-up rest parts.1 i
+
+-- what begins with a step up leads out
+up-leads : (y w : List ℕ) → y ≡ codes "../" ++ w → leads_out y ≡ true
+up-leads y w is =
+    second_so (is_rooted y) (is_some (behind (codes "../") y)) (ap (λ (o : Option (List ℕ)). is_some o) (ap (behind (codes "../")) is ∙ behind-front (codes "../") w))
+
+-- a front that goes up from another one
+step-behind : (a b rest : List ℕ) → behind a b ≡ Some rest → (p : Option (List ℕ)) → behind (codes "../") rest ≡ p → is_some p ≡ true → (z : List ℕ) × (b ≡ a ++ (codes "../" ++ z))
+step-behind a b rest e None is some = absurd (true≢false (sym some))
+step-behind a b rest e (Some z) is some = (z, behind-some a b rest e ∙ ap (λ (t : List ℕ). a ++ t) (behind-some (codes "../") rest z is))
+
+goes-on : (a b : List ℕ) → (o : Option (List ℕ)) → behind a b ≡ o → is_some (option_and_then (behind (codes "../")) o) ≡ true → (z : List ℕ) × (b ≡ a ++ (codes "../" ++ z))
+goes-on a b None is some = absurd (true≢false (sym some))
+goes-on a b (Some rest) is some = step-behind a b rest is (behind (codes "../") rest) refl some
+
+-- ---- a name in a folder leads back
+
 joined-plain : (front rest : List ℕ) → is_rooted front ≡ false → is_rooted rest ≡ false → is_rooted (front ++ rest) ≡ false
 joined-plain [] rest p q = q
 joined-plain (b ∷ front) rest p q = p
@@ -141,7 +207,8 @@ back : (f : FolderNamed) (path name : List ℕ) → All (λ b. b < 256) path →
 back f path name bytes in_ =
     let small = rest-bytes f.path in_.0 (subst (All (λ b. b < 256)) in_.1 bytes) in
     ap (path_in f) in_.3
-    ∙ ap (option_map (λ rest. f.path ++ 47 ∷ percent_decode rest)) (behind-front f.front (escaped in_.0))
+    ∙ ap (λ (o : Option (List ℕ)). option_map (λ rest. f.path ++ 47 ∷ percent_decode rest) (staying o)) (behind-front f.front (escaped in_.0))
+    ∙ ap (option_map (λ rest. f.path ++ 47 ∷ percent_decode rest)) (cond-false _ _ _ (stays-in in_.0 in_.2))
     ∙ ap (λ rest. Some (f.path ++ 47 ∷ rest)) (escaped-reads in_.0 small)
     ∙ ap Some (sym in_.1)
 
@@ -152,11 +219,28 @@ Led folders path name =
     (k : ℕ) × (x : List ℕ) × (k < length folders) × (name ≡ (slice_index_or folders k no_folder).front ++ x)
     × (is_rooted name ≡ false) × (path_among folders name ≡ Some path)
 
+-- a name that goes up from a folder isn't that of a file in it
+passes-up : (f : FolderNamed) (others : Option (List ℕ)) (path front x y name : List ℕ) → goes_up f.front front ≡ true → name ≡ front ++ x → behind f.front name ≡ Some y → others ≡ Some path
+    → option_or (option_map (λ rest. f.path ++ 47 ∷ percent_decode rest) (staying (Some y))) others ≡ Some path
+passes-up f others path front x y name goes is there led =
+    let on = goes-on f.front front (behind f.front front) refl goes in
+    let whole : name ≡ f.front ++ (codes "../" ++ (on.0 ++ x)) = is ∙ ap (λ (t : List ℕ). t ++ x) on.1 ∙ append_assoc f.front (codes "../" ++ on.0) x in
+    let some : Some y ≡ Some (codes "../" ++ (on.0 ++ x)) = sym there ∙ ap (behind f.front) whole ∙ behind-front f.front (codes "../" ++ (on.0 ++ x)) in
+    let same : y ≡ codes "../" ++ (on.0 ++ x) = cc in
+    ap (λ (o : Option (List ℕ)). option_or (option_map (λ rest. f.path ++ 47 ∷ percent_decode rest) o) others) (cond-true _ _ _ (up-leads y (on.0 ++ x) same)) ∙ led
+
 passes-by : (f : FolderNamed) (fs : List FolderNamed) (path name : List ℕ) → AreApart (f ∷ fs) → (led : Led fs path name) → (o : Option (List ℕ)) → behind f.front name ≡ o
-    → option_or (option_map (λ rest. f.path ++ 47 ∷ percent_decode rest) o) (path_among fs name) ≡ Some path
+    → option_or (option_map (λ rest. f.path ++ 47 ∷ percent_decode rest) (staying o)) (path_among fs name) ≡ Some path
 passes-by f fs path name apart led None is = led.5
-passes-by f fs path name apart led (Some y) is =
-    absurd (apart-clash f.front (slice_index_or fs led.0 no_folder).front y led.1 (apart-head f fs apart led.0 no_folder led.2) (sym (behind-some f.front name y is) ∙ led.3))
+passes-by f fs path name apart led (Some y) is = by (are_apart f.front front) refl
+  where
+    front : List ℕ
+    front = (slice_index_or fs led.0 no_folder).front
+
+    by : (t : Bool) → are_apart f.front front ≡ t → option_or (option_map (λ rest. f.path ++ 47 ∷ percent_decode rest) (staying (Some y))) (path_among fs name) ≡ Some path
+    by true so = absurd (apart-clash f.front front y led.1 so (sym (behind-some f.front name y is) ∙ led.3))
+    by false not_apart =
+        passes-up f (path_among fs name) path front led.1 y name (other_so (are_apart f.front front) (goes_up f.front front) not_apart (apart-head f fs apart led.0 no_folder led.2)) led.3 is led.5
 
 leads-first : (f : FolderNamed) (fs : List FolderNamed) (path name : List ℕ) → AreApart (f ∷ fs) → All (λ b. b < 256) path → (name_among fs path ≡ Some name → Led fs path name)
     → (o : Option (List ℕ)) → name_in f path ≡ o → option_or o (name_among fs path) ≡ Some name → Led (f ∷ fs) path name
@@ -170,7 +254,7 @@ leads-first f fs path name apart bytes later (Some n) is e =
       escaped in_.0,
       omega arith,
       in_.3,
-      ap is_rooted in_.3 ∙ joined-plain f.front (escaped in_.0) (apart-plain f fs apart) (escaped-plain in_.0 in_.2),
+      ap is_rooted in_.3 ∙ joined-plain f.front (escaped in_.0) (apart-plain f fs apart) (escaped-plain in_.0 (neither (is_rooted in_.0) _ in_.2).0),
       ap (λ o. option_or o (path_among fs name)) (back f path name bytes in_),
     )
 

@@ -1,149 +1,128 @@
--- Findings in the order of lines, of which the first ones are told.
-use Rattle.std.proofs.Common.{◌≡◌, ◌∙◌, ◌+◌, ◌≤◌, ◌&&◌, ◌||◌, ℕ, zero, suc, Bool, true, false, cond, not, List, [], ◌∷◌, ap, arith, refl, sym, take}
-use Rattle.std.proofs.lemmas.Bool.{eqb-true, false≢true, le-ltb, ltb-false, ltb-true, true≢false}
-use Rattle.std.specs.List.{fold, insert, list_any, position_or_len}
-use Rattle.std.specs.Prelude.{if◌then◌else◌, ⊤}
+-- Findings in the order of lines, each once.
+use Rattle.std.proofs.Common.{◌≡◌, ◌∙◌, ◌+◌, ◌<◌, ◌≤◌, ◌&&◌, ◌||◌, ◌==◌, ℕ, zero, suc, Bool, true, false, cond, not, List, [], ◌∷◌, ◌++◌, None, Less, Equal, Greater, nat_cmp, is_lt, nat_eq, nat_lt, filter, length, get_or, map, take, ap, arith, refl, sym, tests}
+use Rattle.std.proofs.lemmas.Bool.{not-false, not-true}
+use Rattle.std.proofs.lemmas.List.{map-append, take_more}
+use Rattle.std.proofs.lemmas.List.Sums.{fold-append}
+use Rattle.std.specs.List.{list_any}
+use Rattle.std.specs.List.Sorted.{IsNonDecreasingBy, IsStableByKey}
+use Rattle.std.specs.Option.{option_eq}
+use Rattle.std.specs.Prelude.{if◌then◌else◌}
+use Rattle.std.specs.Str.{bytes_eq}
+use Rattle.indexmap.specs.IndexSet.{insert_key}
+use Rattle.idl_fault.specs.Code.{number_of}
+use Rattle.idl_fault.specs.declared.code.Code.TheVariants.{OpenScope}
 use Rattle.idl_finding.specs.declared.finding.Finding.{Finding}
-use Rattle.idl_editor.specs.told.Found.{findings_in, is_later, is_same, most_told, put_in_order, told_with, with_one}
+use Rattle.idl_editor.specs.contracts.told.found.FindingKeyPartialEq.TheImpl.{ghosts}
+use Rattle.idl_editor.specs.declared.told.found.FindingKey.{FindingKey}
 use Rattle.idl_editor.specs.declared.told.found.RootFinding.{RootFinding}
+use Rattle.idl_editor.specs.told.Found.{AreFrom, AreInOrder, each_once, findings_in, is_on, is_same, key_of, with_one}
+
+-- ---- each once
+
+same-key : (x f : Finding) → ghosts.eq (key_of x) (key_of f) ≡ is_same x f
+same-key x f =
+    nested (nat_eq x.place.line f.place.line) (nat_eq (number_of x.code) (number_of f.code)) (option_eq bytes_eq x.text f.text) (option_eq nat_eq x.number f.number)
+  where
+    nested : (a b c d : Bool) → a && (b && (c && d)) ≡ (a && b) && (c && d)
+    nested true true c d = refl
+    nested true false c d = refl
+    nested false b c d = refl
+
+any-key : (x : Finding) (fs : List Finding) → list_any (ghosts.eq (key_of x)) (map key_of fs) ≡ list_any (is_same x) fs
+any-key x [] = refl
+any-key x (f ∷ fs) = λ i. same-key x f i || any-key x fs i
+
+module _ (found : List RootFinding) (i : ℕ) (one : RootFinding) (once : List RootFinding) (keys : List FindingKey) (key : FindingKey) (b : Bool)
+    (within : i < length found) (is : one ≡ get_or found i one) (are : keys ≡ map key_of (findings_in once)) (so : findings_in once ≡ each_once (findings_in (take i found)))
+    (of : key ≡ key_of one.finding.now) (added : b ≡ not (list_any (ghosts.eq key) keys)) where
+  any-told : list_any (ghosts.eq key) keys ≡ list_any (is_same one.finding.now) (findings_in once)
+  any-told = (λ j. list_any (ghosts.eq (of j)) (are j)) ∙ any-key one.finding.now (findings_in once)
+
+  each-next : each_once (findings_in (take (i + 1) found)) ≡ with_one (findings_in once) one.finding.now
+  each-next =
+      ap (λ (rs : List RootFinding). each_once (findings_in rs)) (take_more found i one within ∙ ap (λ (y : RootFinding). take i found ++ y ∷ []) (sym is))
+      ∙ ap each_once (map-append (λ (r : RootFinding). r.finding.now) (take i found) (one ∷ []))
+      ∙ fold-append with_one [] (findings_in (take i found)) (one.finding.now ∷ [])
+      ∙ ap (λ (fs : List Finding). with_one fs one.finding.now) (sym so)
+
+  -- one that tells another thing goes last
+  pub once-new : (next : List FindingKey) (after : List RootFinding) → b ≡ true → next ≡ insert_key ghosts.eq keys key → after ≡ once ++ one ∷ []
+      → (next ≡ map key_of (findings_in after)) × (findings_in after ≡ each_once (findings_in (take (i + 1) found)))
+  once-new next after new inserted pushed =
+      let none : list_any (ghosts.eq key) keys ≡ false = not-true _ (sym added ∙ new) in
+      let more : findings_in after ≡ findings_in once ++ one.finding.now ∷ [] = ap findings_in pushed ∙ map-append (λ (r : RootFinding). r.finding.now) once (one ∷ []) in (
+        inserted ∙ ap (λ (c : Bool). if c then keys else keys ++ key ∷ []) none ∙ (λ j. are j ++ of j ∷ [])
+            ∙ sym (map-append key_of (findings_in once) (one.finding.now ∷ [])) ∙ ap (map key_of) (sym more),
+        more ∙ sym (ap (λ (c : Bool). if c then findings_in once else findings_in once ++ one.finding.now ∷ []) (sym any-told ∙ none)) ∙ sym each-next,
+      )
+
+  -- one that tells the same is left out
+  pub once-old : (next : List FindingKey) → b ≡ false → next ≡ insert_key ghosts.eq keys key
+      → (next ≡ map key_of (findings_in once)) × (findings_in once ≡ each_once (findings_in (take (i + 1) found)))
+  once-old next old inserted =
+      let some : list_any (ghosts.eq key) keys ≡ true = not-false _ (sym added ∙ old) in (
+        inserted ∙ ap (λ (c : Bool). if c then keys else keys ++ key ∷ []) some ∙ are,
+        sym (ap (λ (c : Bool). if c then findings_in once else findings_in once ++ one.finding.now ∷ []) (sym any-told ∙ some)) ∙ sym each-next,
+      )
 
 -- ---- the order of lines
 
--- in the order of lines, from this one on
-abbrev pub IsFrom : ℕ → List Finding → Type 0
-IsFrom line [] = ⊤
-IsFrom line (f ∷ fs) = (line ≤ f.place.line) × IsFrom f.place.line fs
+-- where a finding of a root stands
+abbrev pub line_of : RootFinding → ℕ
+line_of one = one.finding.now.place.line
 
-put-from : (line : ℕ) (fs : List Finding) (x : Finding) → line ≤ x.place.line → IsFrom line fs → IsFrom line (put_in_order fs x)
-put-from line [] x le h = (le, tt)
-put-from line (f ∷ fs) x le h = by (is_later x.place.line f) refl (λ le. put-from f.place.line fs x le h.1)
+rises-from : (line : ℕ) (found : List RootFinding) → ((k : ℕ) (d : RootFinding) → k < length found → line ≤ line_of (get_or found k d)) → IsNonDecreasingBy line_of found
+    → AreFrom line (findings_in found)
+rises-from line [] from up = tt
+rises-from line (f ∷ found) from up =
+    (from 0 f (omega arith), rises-from (line_of f) found (λ k d lt. up 0 (suc k) d (omega arith) (omega arith)) (λ i j d le lt. up (suc i) (suc j) d (omega arith) (omega arith)))
+
+filter-findings : (p : Finding → Bool) (found : List RootFinding) → filter p (findings_in found) ≡ findings_in (filter (λ (r : RootFinding). p r.finding.now) found)
+filter-findings p [] = refl
+filter-findings p (f ∷ found) = by (p f.finding.now) (filter-findings p found)
   where
-    by : (b : Bool) → is_later x.place.line f ≡ b → (f.place.line ≤ x.place.line → IsFrom f.place.line (put_in_order fs x))
-        → IsFrom line (if b then x ∷ (f ∷ fs) else f ∷ put_in_order fs x)
-    by true later rest = (le, (omega (arith, ltb-true x.place.line f.place.line later), h.1))
-    by false now rest = (h.0, rest (ltb-false x.place.line f.place.line now))
+    by : (b : Bool) → filter p (findings_in found) ≡ findings_in (filter (λ (r : RootFinding). p r.finding.now) found)
+        → cond b (f.finding.now ∷ filter p (findings_in found)) (filter p (findings_in found))
+        ≡ findings_in (cond b (f ∷ filter (λ (r : RootFinding). p r.finding.now) found) (filter (λ (r : RootFinding). p r.finding.now) found))
+    by true rest = ap (λ (fs : List Finding). f.finding.now ∷ fs) rest
+    by false rest = rest
 
-with-from : (fs : List Finding) (x : Finding) → IsFrom 0 fs → IsFrom 0 (with_one fs x)
-with-from fs x h = by (list_any (is_same x) fs)
+less : (a b : ℕ) → is_lt (nat_cmp a b) ≡ nat_lt a b
+less a b = by (nat_lt a b) (a == b)
   where
-    by : (b : Bool) → IsFrom 0 (if b then fs else put_in_order fs x)
-    by true = h
-    by false = put-from 0 fs x (omega arith) h
+    by : (p q : Bool) → is_lt (cond p Less (cond q Equal Greater)) ≡ p
+    by true q = refl
+    by false true = refl
+    by false false = refl
 
--- what tells the same stands on the same line
-left : (a b : Bool) → (a && b) ≡ true → a ≡ true
-left true b h = refl
-left false b h = absurd (false≢true h)
+-- numbers that tie are one
+tied : (a b : ℕ) → not (is_lt (nat_cmp a b)) && not (is_lt (nat_cmp b a)) ≡ nat_eq a b
+tied a b = (λ i. not (less a b i) && not (less b a i)) ∙ grind (arith, tests)
 
-same-line : (x f : Finding) → is_same x f ≡ true → x.place.line ≡ f.place.line
-same-line x f h = eqb-true x.place.line f.place.line (left _ _ (left _ _ h))
-
-any-from : (line : ℕ) (fs : List Finding) (x : Finding) → IsFrom line fs → list_any (is_same x) fs ≡ true → line ≤ x.place.line
-any-from line [] x h any = absurd (false≢true any)
-any-from line (f ∷ fs) x h any = by (is_same x f) refl any (any-from f.place.line fs x h.1)
+-- what a stable sort by the line gives
+pub in-order : (found once ordered : List RootFinding) → findings_in once ≡ each_once (findings_in found) → IsNonDecreasingBy line_of ordered → IsStableByKey line_of nat_cmp once ordered
+    → AreInOrder (each_once (findings_in found)) (findings_in ordered)
+in-order found once ordered so up stable = record {
+  lines = rises-from 0 ordered (λ k d lt. omega arith) up;
+  same = λ line.
+      filter-findings (is_on line) ordered ∙ ap findings_in (on line ordered once (stable (of line))) ∙ sym (filter-findings (is_on line) once) ∙ ap (filter (is_on line)) so;
+}
   where
-    by : (b : Bool) → is_same x f ≡ b → (b || list_any (is_same x) fs) ≡ true → (list_any (is_same x) fs ≡ true → f.place.line ≤ x.place.line) → line ≤ x.place.line
-    by true same any rest = omega (arith, h.0, same-line x f same)
-    by false same any rest = omega (arith, h.0, rest any)
+    of : ℕ → RootFinding
+    of line = record {
+      root = 0;
+      index = 0;
+      finding = record { ref_ptr = (0, 0); now = record { place = record { file = []; line = line }; code = OpenScope; text = None; number = None } };
+    }
+
+    on : (line : ℕ) (a b : List RootFinding)
+        → filter (λ g. not (is_lt (nat_cmp line (line_of g))) && not (is_lt (nat_cmp (line_of g) line))) a ≡ filter (λ g. not (is_lt (nat_cmp line (line_of g))) && not (is_lt (nat_cmp (line_of g) line))) b
+        → filter (λ (g : RootFinding). is_on line g.finding.now) a ≡ filter (λ (g : RootFinding). is_on line g.finding.now) b
+    on line a b h = (sym (λ i. filter (λ g. tied line (line_of g) i) a)) ∙ h ∙ (λ i. filter (λ g. tied line (line_of g) i) b)
 
 -- ---- the first ones
-
-take-less : (n : ℕ) (fs : List Finding) → take n (take (suc n) fs) ≡ take n fs
-take-less zero fs = refl
-take-less (suc n) [] = refl
-take-less (suc n) (f ∷ fs) = ap (λ gs. f ∷ gs) (take-less n fs)
-
-take-once : (n : ℕ) (f : Finding) (fs : List Finding) → take n (f ∷ take n fs) ≡ take n (f ∷ fs)
-take-once zero f fs = refl
-take-once (suc n) f fs = ap (λ gs. f ∷ gs) (take-less n fs)
-
-put-take : (n : ℕ) (fs : List Finding) (x : Finding) → take n (put_in_order (take n fs) x) ≡ take n (put_in_order fs x)
-put-take zero fs x = refl
-put-take (suc n) [] x = refl
-put-take (suc n) (f ∷ fs) x = by (is_later x.place.line f) (put-take n fs x)
-  where
-    by : (b : Bool) → take n (put_in_order (take n fs) x) ≡ take n (put_in_order fs x)
-        → take (suc n) (if b then x ∷ (f ∷ take n fs) else f ∷ put_in_order (take n fs) x) ≡ take (suc n) (if b then x ∷ (f ∷ fs) else f ∷ put_in_order fs x)
-    by true rest = ap (λ gs. x ∷ gs) (take-once n f fs)
-    by false rest = ap (λ gs. f ∷ gs) rest
-
-any-take : (p : Finding → Bool) (n : ℕ) (fs : List Finding) → list_any p fs ≡ false → list_any p (take n fs) ≡ false
-any-take p zero fs none = refl
-any-take p (suc n) [] none = refl
-any-take p (suc n) (f ∷ fs) none = by (p f) none (any-take p n fs)
-  where
-    by : (b : Bool) → (b || list_any p fs) ≡ false → (list_any p fs ≡ false → list_any p (take n fs) ≡ false) → (b || list_any p (take n fs)) ≡ false
-    by true none rest = absurd (true≢false none)
-    by false none rest = rest none
-
--- one that a later one tells isn't among the first ones either
-told-same : (n line : ℕ) (fs : List Finding) (x : Finding) → IsFrom line fs → list_any (is_same x) fs ≡ true → list_any (is_same x) (take n fs) ≡ false
-    → take n (put_in_order (take n fs) x) ≡ take n fs
-told-same zero line fs x h any none = refl
-told-same (suc n) line [] x h any none = absurd (false≢true any)
-told-same (suc n) line (f ∷ fs) x h any none = by (is_same x f) any none (told-same n f.place.line fs x h.1)
-  where
-    by : (b : Bool) → (b || list_any (is_same x) fs) ≡ true → (b || list_any (is_same x) (take n fs)) ≡ false
-        → (list_any (is_same x) fs ≡ true → list_any (is_same x) (take n fs) ≡ false → take n (put_in_order (take n fs) x) ≡ take n fs)
-        → take (suc n) (put_in_order (f ∷ take n fs) x) ≡ f ∷ take n fs
-    by true any none rest = absurd (true≢false none)
-    by false any none rest =
-        let now : is_later x.place.line f ≡ false = le-ltb x.place.line f.place.line (any-from f.place.line fs x h.1 any) in
-        ap (λ b. take (suc n) (if b then x ∷ (f ∷ take n fs) else f ∷ put_in_order (take n fs) x)) now
-        ∙ ap (λ gs. f ∷ gs) (rest any none)
-
--- what is told so far, with one more
-abbrev pub with_told : ℕ → List Finding → Finding → List Finding
-with_told n fs x = if list_any (is_same x) fs then fs else take n (put_in_order fs x)
-
-told-step : (n : ℕ) (fs : List Finding) (x : Finding) → IsFrom 0 fs → with_told n (take n fs) x ≡ take n (with_one fs x)
-told-step n fs x h = by (list_any (is_same x) fs) refl (list_any (is_same x) (take n fs)) refl
-  where
-    by : (b : Bool) → list_any (is_same x) fs ≡ b → (c : Bool) → list_any (is_same x) (take n fs) ≡ c
-        → (if c then take n fs else take n (put_in_order (take n fs) x)) ≡ take n (if b then fs else put_in_order fs x)
-    by true any true first = refl
-    by true any false gone = told-same n 0 fs x h any gone
-    by false free true first = absurd (false≢true (sym (any-take (is_same x) n fs free) ∙ first))
-    by false free false gone = put-take n fs x
-
-pub told-all : (n : ℕ) (fs xs : List Finding) → IsFrom 0 fs → fold (with_told n) (take n fs) xs ≡ take n (fold with_one fs xs)
-told-all n fs [] h = refl
-told-all n fs (x ∷ xs) h =
-    ap (λ gs. fold (with_told n) gs xs) (told-step n fs x h) ∙ told-all n (with_one fs x) xs (with-from fs x h)
-
--- ---- one more
-
-pub put-placed : (fs : List Finding) (x : Finding) → put_in_order fs x ≡ insert fs (position_or_len (is_later x.place.line) fs) x
-put-placed [] x = refl
-put-placed (f ∷ fs) x = by (is_later x.place.line f) (put-placed fs x)
-  where
-    by : (b : Bool) → put_in_order fs x ≡ insert fs (position_or_len (is_later x.place.line) fs) x
-        → (if b then x ∷ (f ∷ fs) else f ∷ put_in_order fs x) ≡ insert (f ∷ fs) (cond (not b) (1 + position_or_len (is_later x.place.line) fs) 0) x
-    by true rest = refl
-    by false rest =
-        let k = position_or_len (is_later x.place.line) fs in
-        let next : suc k ≡ 1 + k = omega arith in
-        ap (λ gs. f ∷ gs) rest ∙ ap (λ n. insert (f ∷ fs) n x) next
-
-pub findings-insert : (found : List RootFinding) (place : ℕ) (one : RootFinding) → findings_in (insert found place one) ≡ insert (findings_in found) place one.finding.now
-findings-insert found zero one = refl
-findings-insert [] (suc place) one = refl
-findings-insert (first ∷ found) (suc place) one = ap (λ gs. first.finding.now ∷ gs) (findings-insert found place one)
 
 pub findings-take : (n : ℕ) (found : List RootFinding) → findings_in (take n found) ≡ take n (findings_in found)
 findings-take zero found = refl
 findings-take (suc n) [] = refl
 findings-take (suc n) (first ∷ found) = ap (λ gs. first.finding.now ∷ gs) (findings-take n found)
-
--- ---- one finding more
-
--- one that is put in, of which the first ones stay
-pub put-told : (found inserted after : List RootFinding) (one : RootFinding) (place : ℕ) → list_any (is_same one.finding.now) (findings_in found) ≡ false
-    → place ≡ position_or_len (is_later one.finding.now.place.line) (findings_in found) → inserted ≡ insert found place one → after ≡ take most_told inserted
-    → findings_in after ≡ told_with (findings_in found) one.finding.now
-put-told found inserted after one place none at put cut =
-    let x = one.finding.now in
-    let fs = findings_in found in
-    ap findings_in cut ∙ findings-take most_told inserted ∙ ap (λ put. take most_told (findings_in put)) put ∙ ap (take most_told) (findings-insert found place one)
-    ∙ ap (λ n. take most_told (insert fs n x)) at ∙ ap (take most_told) (sym (put-placed fs x))
-    ∙ ap (λ b. if b then fs else take most_told (put_in_order fs x)) (sym none)

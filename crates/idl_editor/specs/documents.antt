@@ -1,3 +1,4 @@
 pub mod Documents
 pub mod Uris
 pub mod Notices
+pub mod Refused

@@ -3,13 +3,19 @@
 //! Nothing here defines a macro, or has files searched.
 
 use crate::column::Encoding;
-use crate::documents::{RefusedEdit, push_refused};
+use crate::documents::{RefusedEdit, RefusedReason, push_reason, push_refused};
 use crate::messages::{items_at, text_at};
 use crate::uris::{Folders, path_of};
 use idl_source::path::{directory_at, is_rooted};
-use idl_source::{Directory, Name, Refusal};
+use idl_source::{Directory, MAX_NAME, Name, Refusal};
 use serde_json::{Value, json};
 use std::alloc::{AllocError, Global};
+
+// What leads from a folder to the one around it.
+const STEP_UP: &[u8] = b"../";
+
+// So many steps up a name has at most.
+const MOST_STEPS: usize = MAX_NAME / 3;
 
 /// What the server can do.
 pub fn abilities(alloc: Global, encoding: Encoding) -> Result<Value, AllocError> {
@@ -35,7 +41,8 @@ fn capabilities(alloc: Global, encoding: Encoding) -> Result<Value, AllocError> 
     })
 }
 
-/// Adds the folders of the workspace: names in the only one begin with nothing, and of several with the folder's own.
+/// Adds the folders of the workspace. Names in the only one begin with nothing, and names around it with steps up, as includes have
+/// them; of several they begin with the folder's own name.
 pub fn add_folders(alloc: Global, folders: &mut Folders, params: &Value) -> Result<(), AllocError> {
     match items_at(params, "workspaceFolders") {
         [] => add_only(alloc, folders, text_at(params, "rootUri")),
@@ -49,8 +56,25 @@ fn add_only(alloc: Global, folders: &mut Folders, uri: Option<&str>) -> Result<(
     let Some(uri) = uri else {
         return Ok(());
     };
-    if let Some(path) = path_of(alloc, uri.as_bytes())? {
-        folders.add(without_slash(&path), b"")?;
+    let Some(path) = path_of(alloc, uri.as_bytes())? else {
+        return Ok(());
+    };
+    let path = without_slash(&path);
+    folders.add(path, b"")?;
+    add_around(alloc, folders, path)
+}
+
+// Adds the folders around a folder, from within outward, as far as a name can lead.
+fn add_around(alloc: Global, folders: &mut Folders, folder: &[u8]) -> Result<(), AllocError> {
+    let mut front = Vec::new(alloc);
+    let mut path = folder;
+    'around: for _ in 0..MOST_STEPS {
+        let Some(place) = memchr::memrchr(b'/', path) else {
+            return Ok(());
+        };
+        path = &path[..place];
+        front.extend_from_slice(STEP_UP)?;
+        folders.add(path, &front)?;
     }
     Ok(())
 }
@@ -92,36 +116,116 @@ fn front_of(alloc: Global, folder: &Name) -> Result<Vec<u8>, AllocError> {
     Ok(front)
 }
 
-/// The directories among words. Those that are none are refused.
+/// Refuses options that are no object.
+pub fn check_options(refused: &mut Vec<RefusedEdit>, options: &Value) -> Result<(), AllocError> {
+    if options.is_object() || is_empty(options) {
+        return Ok(());
+    }
+    push_reason(refused, b"initializationOptions", RefusedReason::NoObject)
+}
+
+/// The texts of the list under a key of options. Where something else stands there, or in the list, that is refused.
+pub fn texts_in<'a>(
+    alloc: Global,
+    refused: &mut Vec<RefusedEdit>,
+    options: &'a Value,
+    key: &str,
+) -> Result<Vec<&'a [u8]>, AllocError> {
+    let mut texts = Vec::new(alloc);
+    let mut is_bad = is_no_list(options.get(key));
+    'items: for item in items_at(options, key) {
+        match item.as_str() {
+            Some(text) => texts.push(text.as_bytes())?,
+            None => is_bad = true,
+        }
+    }
+    if is_bad {
+        push_reason(refused, key.as_bytes(), RefusedReason::NoTexts)?;
+    }
+    Ok(texts)
+}
+
+// Whether what stands under a key is something else than a list.
+fn is_no_list(value: Option<&Value>) -> bool {
+    match value {
+        Some(value) => !value.is_array() && !is_empty(value),
+        None => false,
+    }
+}
+
+// Whether a value is nothing, or what some editors send in the place of an empty list or object: the other one.
+fn is_empty(value: &Value) -> bool {
+    if let Some(items) = value.as_array() {
+        return items.is_empty();
+    }
+    if let Some(members) = value.as_object() {
+        return members.is_empty();
+    }
+    value.is_null()
+}
+
+/// The directories that words are, each in every folder, or that of a whole path. Words that are none are refused.
 pub fn directories_in(
     alloc: Global,
     folders: &Folders,
     refused: &mut Vec<RefusedEdit>,
-    words: &[Value],
+    words: &[&[u8]],
 ) -> Result<Vec<Directory>, AllocError> {
     let mut directories = Vec::new(alloc);
-    'words: for value in words {
-        let Some(word) = value.as_str() else {
-            continue;
-        };
-        match directory_named(alloc, folders, word.as_bytes())? {
-            Some(directory) => directories.push(directory)?,
-            None => push_refused(refused, word.as_bytes(), Refusal::BadName)?,
+    'words: for word in words {
+        if !push_named(folders, *word, &mut directories)? {
+            push_refused(refused, *word, Refusal::BadName)?;
         }
     }
     Ok(directories)
 }
 
-// The directory that a word is, if it is one: a whole path as it stands in the names of the files in it.
-fn directory_named(
+// Puts in the directories that a word is, and tells whether it is one wherever it counts from.
+fn push_named(
+    folders: &Folders,
+    word: &[u8],
+    directories: &mut Vec<Directory>,
+) -> Result<bool, AllocError> {
+    let alloc = *directories.allocator();
+    if is_rooted(word) {
+        return push_if(whole_directory(alloc, folders, word)?, directories);
+    }
+    if folders.as_slice().is_empty() {
+        return push_if(directory_at(word), directories);
+    }
+    let mut is_one = true;
+    'folders: for folder in folders.as_slice() {
+        // One around the only folder isn't the editor's.
+        if folder.front().starts_with(STEP_UP) {
+            continue;
+        }
+        let mut path = Vec::from_slice(alloc, folder.front())?;
+        path.extend_from_slice(word)?;
+        if !push_if(directory_at(&path), directories)? {
+            is_one = false;
+        }
+    }
+    Ok(is_one)
+}
+
+// Puts in a directory, if there is one, and tells so.
+fn push_if(found: Option<Directory>, directories: &mut Vec<Directory>) -> Result<bool, AllocError> {
+    match found {
+        Some(directory) => {
+            directories.push(directory)?;
+            Ok(true)
+        }
+        None => Ok(false),
+    }
+}
+
+// The directory of a whole path, if it is one, as it stands in the names of the files in it.
+fn whole_directory(
     alloc: Global,
     folders: &Folders,
     word: &[u8],
 ) -> Result<Option<Directory>, AllocError> {
     let found = directory_at(word);
-    if !is_rooted(word) {
-        return Ok(found);
-    }
     let path = match &found {
         Some(directory) => directory.as_bytes(),
         None => word,

@@ -1,4 +1,4 @@
-//! Documents that an editor has open: their texts, names and URIs, what it tells of them, and edits that are refused.
+//! Documents that an editor has open: their texts, names and URIs, what it tells of them, and what isn't done.
 //!
 //! Nothing here compiles a text, or has the files that texts are of.
 
@@ -9,5 +9,5 @@ mod refused;
 
 pub use changes::{changes_told, text_after_all};
 pub use document::{Document, set_behind, set_text};
-pub use naming::{name_for, name_in, uri_for};
-pub use refused::{RefusedEdit, push_refused, shown_params};
+pub use naming::{name_for, name_in, uri_for, version_for};
+pub use refused::{RefusedEdit, RefusedReason, push_reason, push_refused, shown_params};

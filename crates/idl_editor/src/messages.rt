@@ -16,4 +16,4 @@ pub use items::{items_at, opened_text};
 pub use message::{Message, message_of};
 pub use method::{Method, method_of};
 pub use outbox::Outbox;
-pub use params::{change_of, changes_of, position_at, uri_of};
+pub use params::{change_of, changes_of, position_at, uri_of, version_of};

@@ -10,8 +10,8 @@ mod ranges;
 mod shown;
 mod symbols;
 
-pub use diagnostics::{SecondWords, diagnostic_value, message_of, second_value};
-pub use found::{MOST_TOLD, RootFinding, put_all};
+pub use diagnostics::{SecondWords, diagnostic_value, message_of, more_value, second_value};
+pub use found::{MOST_RELATED, MOST_TOLD, RootFinding, first_told, in_order, put_all};
 pub use hover::hover_value;
 pub use published::found_params;
 pub use ranges::{location_value, range_value};

@@ -12,6 +12,7 @@ use Rattle.idl_entity.specs.declared.data_type.Layer.{Layer}
 use Rattle.idl_entity.specs.declared.data_type.Layer.TheVariants.{Sequence, Array}
 use Rattle.idl_entity.specs.declared.unvalued.Unvalued.TheVariants as unvalued
 use Rattle.idl_value.specs.declared.constant_type.ConstantType.TheVariants as target
+use Rattle.idl_repo.specs.declared.details.reference.Reference.{Reference}
 use Rattle.idl_repo.specs.declared.details.row_tree.ParameterTree.{ParameterTree}
 use Rattle.idl_repo.specs.declared.details.row_tree.RowDetails.{RowDetails}
 use Rattle.idl_repo.specs.declared.details.row_tree.RowDetails.TheVariants as row
@@ -29,7 +30,7 @@ use Rattle.idl_json.specs.Objects.{list_json, number_json, object_of, with_field
 use Rattle.idl_json.specs.Rows.{json_of, parameter_json, value_json}
 use Rattle.idl_json.specs.Text.{text_json}
 use Rattle.idl_json.specs.TypeCodes.{case_json, member_json, type_code_json}
-use Rattle.idl_json.specs.Types.{arrays_json, bound_json, element_json, layered, sequence_json, type_json}
+use Rattle.idl_json.specs.Types.{arrays_json, bound_json, element_json, layered, reference_json, sequence_json, type_json}
 
 neither : (x y : Bool) → (x || y) ≡ false → (x ≡ false) × (y ≡ false)
 neither false y is = (refl, is)
@@ -57,6 +58,9 @@ texts-plain texts = list-plain text_json (λ text. refl) texts
 
 -- ---- types
 
+references-plain : (rs : List Reference) → items_have_float (items_of (map reference_json rs)) ≡ false
+references-plain rs = list-plain reference_json (λ r. refl) rs
+
 bound-plain : (bound : Option ℕ) → has_float (bound_json bound) ≡ false
 bound-plain None = refl
 bound-plain (Some zero) = refl
@@ -76,7 +80,7 @@ element-plain (tree.Unvalued unvalued.Double) = refl
 element-plain (tree.Unvalued unvalued.LongDouble) = refl
 element-plain (tree.Unvalued unvalued.Any) = refl
 element-plain (tree.Unvalued unvalued.Object) = refl
-element-plain (tree.Named id) = refl
+element-plain (tree.Named r) = refl
 
 arrays-plain : (lengths : List ℕ) (json : Data) → has_float json ≡ false → has_float (arrays_json lengths json) ≡ false
 arrays-plain [] json plain = plain
@@ -139,13 +143,13 @@ row-by : (t : RowTree) (details : RowDetails) → has_float (json_of (record t {
 row-by t row.Nothing = refl
 row-by t (row.Type declared) = by declared.code declared.bases
   where
-    by : (c : TypeCodeTree) (bases : List (List ℕ)) → has_float (json_of (record t { details = row.Type (record { code = c; bases = bases }) })) ≡ false
+    by : (c : TypeCodeTree) (bases : List Reference) → has_float (json_of (record t { details = row.Type (record { code = c; bases = bases }) })) ≡ false
     by c [] = rw (code-by c.id c.name c.parts) refl
-    by c (base ∷ bases) = rw (code-by c.id c.name c.parts, texts-plain bases) refl
+    by c (base ∷ bases) = rw (code-by c.id c.name c.parts, references-plain bases) refl
 row-by t (row.Constant c) = rw (type-plain c.data_type, value-plain c.value) refl
-row-by t (row.Attribute a) = rw (type-plain a.data_type, texts-plain a.raised, texts-plain a.raised_by_set) refl
+row-by t (row.Attribute a) = rw (type-plain a.data_type, references-plain a.raised, references-plain a.raised_by_set) refl
 row-by t (row.Operation o) =
-    rw (type-plain o.data_type, parameters-plain o.parameters, texts-plain o.raised, texts-plain o.contexts) refl
+    rw (type-plain o.data_type, parameters-plain o.parameters, references-plain o.raised, texts-plain o.contexts) refl
 
 pub row-plain : (t : RowTree) → has_float (json_of t) ≡ false
 row-plain t = row-by t t.details

@@ -3,4 +3,5 @@ mod TextLemmas
 mod LineLemmas
 mod ListLemmas
 mod ListedLemmas
+mod ChangeLemmas
 mod ReadingLemmas

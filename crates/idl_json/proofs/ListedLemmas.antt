@@ -10,7 +10,7 @@ use Rattle.idl_repo.specs.declared.details.row_tree.RowDetails.{RowDetails}
 use Rattle.idl_repo.specs.declared.details.row_tree.RowDetails.TheVariants as detail
 use Rattle.idl_json.specs.Listed.{LocatedRow, NamePlace, column_field, kept_column, place_fields, row_json}
 use Rattle.idl_json.specs.Objects.{number_json, with_fields}
-use Rattle.idl_json.specs.Reading.{attribute_of, constant_of, declared_of, details_of, got_details, operation_of, texts_at, texts_of, tree_of, typed_details, valued_details}
+use Rattle.idl_json.specs.Reading.{attribute_of, constant_of, declared_of, details_of, got_details, operation_of, references_at, references_of, tree_of, typed_details, valued_details}
 use Rattle.idl_json.specs.Rows.{json_of, row_fields}
 use Rattle.idl_json.specs.Text.{text_json}
 use Rattle.idl_json.proofs.FloatLemmas.{put-plain, row-plain}
@@ -53,8 +53,8 @@ by-same f n m s t d e none some json =
 -- ---- a tree is read of these members alone
 
 module _ (j k : Data) (type-same : get (codes "type") j ≡ get (codes "type") k) where
-  bases-same : get (codes "bases") j ≡ get (codes "bases") k → texts_at (codes "bases") j ≡ texts_at (codes "bases") k
-  bases-same same = ap (λ (d : Option Data). elim d [ None ↦ Some [] | Some texts ↦ texts_of texts ]) same
+  bases-same : get (codes "bases") j ≡ get (codes "bases") k → references_at (codes "bases") j ≡ references_at (codes "bases") k
+  bases-same same = ap (λ (d : Option Data). elim d [ None ↦ Some [] | Some rs ↦ references_of rs ]) same
 
   declared-same : get (codes "bases") j ≡ get (codes "bases") k → declared_of j ≡ declared_of k
   declared-same bs = rw (type-same, bases-same bs) refl
@@ -110,7 +110,7 @@ named-plain : (ms : Members) (f l m : Data) → members_have_float ms ≡ false 
 named-plain ms f l m plain ff ll mm =
     put-plain (codes "main") m (put (codes "line") l (put (codes "file") f ms)) mm (put-plain (codes "line") l (put (codes "file") f ms) ll (put-plain (codes "file") f ms ff plain))
 
-column-plain : (ms : Members) (c : Option ℕ) → members_have_float ms ≡ false → members_have_float (with_fields ms (column_field c)) ≡ false
+pub column-plain : (ms : Members) (c : Option ℕ) → members_have_float ms ≡ false → members_have_float (with_fields ms (column_field c)) ≡ false
 column-plain ms None plain = plain
 column-plain ms (Some before) plain = put-plain (codes "column") (number_json (before + 1)) ms refl plain
 

@@ -13,6 +13,7 @@ use Rattle.idl_value.specs.declared.integer.IntegerKind.{IntegerKind}
 use Rattle.idl_value.specs.declared.integer.IntegerKind.TheVariants as integer
 use Rattle.idl_value.specs.declared.constant_type.ConstantType.{ConstantType}
 use Rattle.idl_value.specs.declared.constant_type.ConstantType.TheVariants as target
+use Rattle.idl_repo.specs.declared.details.reference.Reference.{Reference}
 use Rattle.idl_repo.specs.declared.details.row_tree.ParameterTree.{ParameterTree}
 use Rattle.idl_repo.specs.declared.details.row_tree.RowDetails.{RowDetails}
 use Rattle.idl_repo.specs.declared.details.row_tree.RowDetails.TheVariants as row
@@ -28,11 +29,11 @@ use Rattle.idl_repo.specs.declared.details.type_tree.ElementTree.TheVariants as 
 use Rattle.idl_repo.specs.declared.details.type_tree.LayeredType.{LayeredType}
 use Rattle.idl_repo.specs.TypeCode.{integer_word}
 use Rattle.idl_json.specs.Objects.{list_json, number_json}
-use Rattle.idl_json.specs.Reading.{around, bound_of, case_of, element_of, element_of_word, found_in, kind_words, list_of, member_of, number_of, parameter_of, plain, text_of, texts_of, tree_of, type_code_of, type_of, value_of}
+use Rattle.idl_json.specs.Reading.{around, bound_of, case_of, element_of, element_of_word, found_in, kind_words, list_of, member_of, number_of, parameter_of, plain, reference_of, references_of, text_of, texts_of, tree_of, type_code_of, type_of, value_of}
 use Rattle.idl_json.specs.Rows.{json_of, kind_name, parameter_json, value_json}
 use Rattle.idl_json.specs.Text.{text_json, texts_json}
 use Rattle.idl_json.specs.TypeCodes.{case_json, member_json, type_code_json}
-use Rattle.idl_json.specs.Types.{arrays_json, bound_json, constants_json, element_json, layered, sequence_json, type_json, unvalued_json, word_json}
+use Rattle.idl_json.specs.Types.{arrays_json, bound_json, constants_json, element_json, layered, reference_json, references_json, sequence_json, type_json, unvalued_json, word_json}
 use Rattle.idl_json.proofs.TextLemmas.{read-characters}
 
 pub read-text : (text : List ℕ) → text_of (text_json text) ≡ Some text
@@ -49,6 +50,12 @@ pub read-numbers : (numbers : List ℕ) → list_of number_of (list_json number_
 read-numbers numbers = read-list number_json number_of (λ n. refl) numbers
 
 -- ---- types
+
+read-reference : (r : Reference) → reference_of (reference_json r) ≡ Some r
+read-reference r = rw (read-characters r.id) (rw (read-characters r.path) refl)
+
+read-references : (rs : List Reference) → references_of (references_json rs) ≡ Some rs
+read-references rs = read-list reference_json reference_of read-reference rs
 
 read-word : (word : List ℕ) (element : ElementTree) → element_of_word (word_json word) word ≡ Some element → element_of (word_json word) ≡ Some element
 read-word word element is = rw (read-characters word) is
@@ -89,7 +96,7 @@ read-element : (element : ElementTree) → element_of (element_json element) ≡
 read-element tree.Void = read-word (codes "tk_void") _ refl
 read-element (tree.Constants t) = read-constants t
 read-element (tree.Unvalued u) = read-unvalued u
-read-element (tree.Named id) = rw (read-characters id) refl
+read-element (tree.Named r) = ap (option_map (λ (s : Reference). tree.Named s)) (read-reference r)
 
 -- an element alone has no element in it
 plain-type : (element : ElementTree) → type_of (element_json element) ≡ option_map plain (element_of (element_json element))
@@ -106,7 +113,7 @@ plain-type (tree.Unvalued unvalued.Double) = refl
 plain-type (tree.Unvalued unvalued.LongDouble) = refl
 plain-type (tree.Unvalued unvalued.Any) = refl
 plain-type (tree.Unvalued unvalued.Object) = refl
-plain-type (tree.Named id) = refl
+plain-type (tree.Named r) = refl
 
 around-more : (t : LayeredType) (xs ys : List Layer) → around (around t xs) ys ≡ around t (xs ++ ys)
 around-more t xs ys = ap (λ ls. record { element = t.element; layers = ls }) (append_assoc t.layers xs ys)
@@ -221,18 +228,18 @@ tree-by k path id row.Nothing =
     rw (read-characters (kind_name k)) (rw (found-kind k) (rw (read-characters path) (rw (read-characters id) refl)))
 tree-by k path id (row.Type t) = by t.code t.bases
   where
-    by : (c : TypeCodeTree) (bases : List (List ℕ)) → let t : RowTree = record { kind = k; path = path; id = id; details = row.Type (record { code = c; bases = bases }) } in tree_of (json_of t) ≡ Some t
+    by : (c : TypeCodeTree) (bases : List Reference) → let t : RowTree = record { kind = k; path = path; id = id; details = row.Type (record { code = c; bases = bases }) } in tree_of (json_of t) ≡ Some t
     by c [] =
         rw (read-characters (kind_name k)) (rw (found-kind k) (rw (read-characters path) (rw (read-characters id) (rw (read-type-code c) refl))))
     by c (base ∷ bases) =
-        rw (read-characters (kind_name k)) (rw (found-kind k) (rw (read-characters path) (rw (read-characters id) (rw (read-type-code c) (rw (read-texts (base ∷ bases)) refl)))))
+        rw (read-characters (kind_name k)) (rw (found-kind k) (rw (read-characters path) (rw (read-characters id) (rw (read-type-code c) (rw (read-references (base ∷ bases)) refl)))))
 tree-by k path id (row.Constant c) =
     rw (read-characters (kind_name k)) (rw (found-kind k) (rw (read-characters path) (rw (read-characters id) (rw (read-type c.data_type) (rw (read-value c.value) refl)))))
 tree-by k path id (row.Attribute a) =
-    rw (read-characters (kind_name k)) (rw (found-kind k) (rw (read-characters path) (rw (read-characters id) (rw (read-type a.data_type) (rw (read-texts a.raised) (rw (read-texts a.raised_by_set) refl))))))
+    rw (read-characters (kind_name k)) (rw (found-kind k) (rw (read-characters path) (rw (read-characters id) (rw (read-type a.data_type) (rw (read-references a.raised) (rw (read-references a.raised_by_set) refl))))))
 tree-by k path id (row.Operation o) =
     rw (read-characters (kind_name k)) (rw (found-kind k) (rw (read-characters path) (rw (read-characters id)
-    (rw (read-type o.data_type) (rw (read-parameters o.parameters) (rw (read-texts o.raised) (rw (read-texts o.contexts) refl)))))))
+    (rw (read-type o.data_type) (rw (read-parameters o.parameters) (rw (read-references o.raised) (rw (read-texts o.contexts) refl)))))))
 
 pub read-tree : (t : RowTree) → tree_of (json_of t) ≡ Some t
 read-tree t = tree-by t.kind t.path t.id t.details

@@ -4,6 +4,7 @@ pub mod Types
 pub mod TypeCodes
 pub mod Rows
 pub mod Listed
+pub mod Change
 pub mod Reading
 pub mod Diagnostic
 pub mod Root

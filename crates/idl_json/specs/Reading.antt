@@ -12,6 +12,7 @@ use Rattle.idl_entity.specs.declared.unvalued.Unvalued.TheVariants as unvalued
 use Rattle.idl_value.specs.declared.integer.IntegerKind.{IntegerKind}
 use Rattle.idl_value.specs.declared.integer.IntegerKind.TheVariants as integer
 use Rattle.idl_value.specs.declared.constant_type.ConstantType.TheVariants as target
+use Rattle.idl_repo.specs.declared.details.reference.Reference.{Reference}
 use Rattle.idl_repo.specs.declared.details.row_tree.AttributeTree.{AttributeTree}
 use Rattle.idl_repo.specs.declared.details.row_tree.ConstantTree.{ConstantTree}
 use Rattle.idl_repo.specs.declared.details.row_tree.DeclaredType.{DeclaredType}
@@ -80,6 +81,14 @@ kind_in json = field (codes "kind") text_of json
 
 -- ---- types
 
+abbrev pub reference_of : Data → Option Reference
+reference_of json =
+    both (λ id path. record { id = id; path = path })
+    (field (codes "ref") text_of json) (field (codes "path") text_of json)
+
+abbrev pub references_of : Data → Option (List Reference)
+references_of = list_of reference_of
+
 abbrev pub integer_entry : IntegerKind → List ℕ × ElementTree
 integer_entry k = (integer_word k, tree.Constants (target.Integer k))
 
@@ -133,7 +142,7 @@ element_of_word json word =
 abbrev pub element_of : Data → Option ElementTree
 element_of json =
     elim (get (codes "ref") json) [
-      | Some id ↦ option_map (λ text. tree.Named text) (text_of id)
+      | Some id ↦ option_map (λ r. tree.Named r) (reference_of json)
       | None ↦ option_and_then (element_of_word json) (kind_in json)
     ]
 
@@ -234,14 +243,14 @@ kind_words =
 abbrev pub kind_of : Data → Option Kind
 kind_of json = option_and_then (found_in kind_words) (kind_in json)
 
--- the texts at a key, which is left out where there are none
-abbrev pub texts_at : List ℕ → Data → Option (List (List ℕ))
-texts_at key json = elim (get key json) [ None ↦ Some [] | Some texts ↦ texts_of texts ]
+-- the references at a key, which is left out where there are none
+abbrev pub references_at : List ℕ → Data → Option (List Reference)
+references_at key json = elim (get key json) [ None ↦ Some [] | Some rs ↦ references_of rs ]
 
 abbrev pub declared_of : Data → Option DeclaredType
 declared_of json =
-    both (λ c ids. record { code = c; bases = ids })
-    (field (codes "type") type_code_of json) (texts_at (codes "bases") json)
+    both (λ c rs. record { code = c; bases = rs })
+    (field (codes "type") type_code_of json) (references_at (codes "bases") json)
 
 abbrev pub value_of : Data → Option (Option (List ℕ))
 value_of null = Some None
@@ -256,19 +265,19 @@ constant_of json =
 abbrev pub pair : {A B : Type 0} → A → B → A × B
 pair a b = (a, b)
 
-abbrev pub attribute_from : Bool → LayeredType → (List (List ℕ) × List (List ℕ)) → AttributeTree
-attribute_from is_readonly t ids = record {
+abbrev pub attribute_from : Bool → LayeredType → (List Reference × List Reference) → AttributeTree
+attribute_from is_readonly t raised = record {
   is_readonly = is_readonly;
   data_type = t;
-  raised = ids.0;
-  raised_by_set = ids.1;
+  raised = raised.0;
+  raised_by_set = raised.1;
 }
 
 abbrev pub attribute_of : Data → Option AttributeTree
 attribute_of json =
     all_three attribute_from (field (codes "readonly") as_bool json)
     (field (codes "type") type_of json)
-    (both pair (field (codes "get") texts_of json) (field (codes "set") texts_of json))
+    (both pair (field (codes "get") references_of json) (field (codes "set") references_of json))
 
 -- whether a parameter goes in, and whether it comes out
 abbrev pub directions : List (List ℕ × (Bool × Bool))
@@ -285,12 +294,12 @@ parameter_of json =
     (field (codes "direction") direction_of json) (member_of json)
 
 abbrev pub Told : Type 0
-Told = List ParameterTree × (List (List ℕ) × List (List ℕ))
+Told = List ParameterTree × (List Reference × List (List ℕ))
 
 abbrev pub told_of : Data → Option Told
 told_of json =
     both pair (field (codes "parameters") (list_of parameter_of) json)
-    (both pair (field (codes "raises") texts_of json) (field (codes "context") texts_of json))
+    (both pair (field (codes "raises") references_of json) (field (codes "context") texts_of json))
 
 abbrev pub operation_from : Bool → LayeredType → Told → OperationTree
 operation_from is_oneway t told = record {
@@ -325,7 +334,7 @@ abbrev pub got_details : Data → Option RowDetails
 got_details json =
     elim (get (codes "get") json) [
       | None ↦ valued_details json
-      | Some ids ↦ option_map (λ a. row.Attribute a) (attribute_of json)
+      | Some rs ↦ option_map (λ a. row.Attribute a) (attribute_of json)
     ]
 
 abbrev pub details_of : Data → Option RowDetails

@@ -4,6 +4,7 @@ use Rattle.serde_json.specs.Data.{Data, boolean, null}
 use Rattle.idl_entity.specs.declared.kind.Kind.{Kind}
 use Rattle.idl_entity.specs.declared.kind.Kind.TheVariants as kind
 use Rattle.idl_repo.specs.Row.{direction_word, kind_word}
+use Rattle.idl_repo.specs.declared.details.reference.Reference.{Reference}
 use Rattle.idl_repo.specs.declared.details.row_tree.AttributeTree.{AttributeTree}
 use Rattle.idl_repo.specs.declared.details.row_tree.ConstantTree.{ConstantTree}
 use Rattle.idl_repo.specs.declared.details.row_tree.DeclaredType.{DeclaredType}
@@ -15,7 +16,7 @@ use Rattle.idl_repo.specs.declared.details.row_tree.RowTree.{RowTree}
 use Rattle.idl_json.specs.Objects.{Field, list_json, object_of}
 use Rattle.idl_json.specs.Text.{text_json, texts_json}
 use Rattle.idl_json.specs.TypeCodes.{member_fields, type_code_json}
-use Rattle.idl_json.specs.Types.{type_json}
+use Rattle.idl_json.specs.Types.{references_json, type_json}
 
 -- the word of a row; what has no row has a word as well
 abbrev pub kind_name : Kind → List ℕ
@@ -25,9 +26,9 @@ kind_name kind.Member = codes "member"
 kind_name other = kind_word other
 
 -- the bases, if there are any
-abbrev pub bases_fields : List (List ℕ) → List Field
+abbrev pub bases_fields : List Reference → List Field
 bases_fields [] = []
-bases_fields (id ∷ ids) = (codes "bases", texts_json (id ∷ ids)) ∷ []
+bases_fields (r ∷ rs) = (codes "bases", references_json (r ∷ rs)) ∷ []
 
 abbrev pub declared_fields : DeclaredType → List Field
 declared_fields t = (codes "type", type_code_json t.code) ∷ bases_fields t.bases
@@ -44,8 +45,8 @@ abbrev pub attribute_fields : AttributeTree → List Field
 attribute_fields a =
     (codes "type", type_json a.data_type)
     ∷ (codes "readonly", boolean a.is_readonly)
-    ∷ (codes "get", texts_json a.raised)
-    ∷ (codes "set", texts_json a.raised_by_set) ∷ []
+    ∷ (codes "get", references_json a.raised)
+    ∷ (codes "set", references_json a.raised_by_set) ∷ []
 
 -- a parameter goes in or comes out, or both
 abbrev pub direction_name : Bool → Bool → List ℕ
@@ -61,7 +62,7 @@ operation_fields o =
     (codes "type", type_json o.data_type)
     ∷ (codes "oneway", boolean o.is_oneway)
     ∷ (codes "parameters", list_json parameter_json o.parameters)
-    ∷ (codes "raises", texts_json o.raised)
+    ∷ (codes "raises", references_json o.raised)
     ∷ (codes "context", texts_json o.contexts) ∷ []
 
 -- what a row tells behind its id

@@ -8,6 +8,7 @@ use Rattle.idl_entity.specs.declared.unvalued.Unvalued.TheVariants.{Object}
 use Rattle.idl_value.specs.declared.constant_type.ConstantType.{ConstantType}
 use Rattle.idl_value.specs.declared.constant_type.ConstantType.TheVariants as target
 use Rattle.idl_repo.specs.TypeCode.{integer_word, unvalued_word}
+use Rattle.idl_repo.specs.declared.details.reference.Reference.{Reference}
 use Rattle.idl_repo.specs.declared.details.type_tree.ElementTree.{ElementTree}
 use Rattle.idl_repo.specs.declared.details.type_tree.ElementTree.TheVariants as tree
 use Rattle.idl_repo.specs.declared.details.type_tree.LayeredType.{LayeredType}
@@ -50,11 +51,18 @@ abbrev pub unvalued_json : Unvalued → Data
 unvalued_json Object = object_json
 unvalued_json other = word_json (unvalued_word other)
 
+-- a reference: the id that is listed, and the path
+abbrev pub reference_json : Reference → Data
+reference_json r = object_of ((codes "ref", text_json r.id) ∷ (codes "path", text_json r.path) ∷ [])
+
+abbrev pub references_json : List Reference → Data
+references_json = list_json reference_json
+
 abbrev pub element_json : ElementTree → Data
 element_json tree.Void = word_json (codes "tk_void")
 element_json (tree.Constants t) = constants_json t
 element_json (tree.Unvalued u) = unvalued_json u
-element_json (tree.Named id) = object_of ((codes "ref", text_json id) ∷ [])
+element_json (tree.Named r) = reference_json r
 
 abbrev pub sequence_json : ℕ → Data → Data
 sequence_json bound element = object_of (

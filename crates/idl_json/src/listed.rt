@@ -64,8 +64,8 @@ fn put_name(object: &mut Object, name: NamePlace<'_>) -> Result<(), AllocError>
     put_column(object, kept_column(name.column))
 }
 
-// The column, where readers keep that number.
-fn kept_column(column: Option<usize>) -> Option<usize>
+/// The column, where readers keep that number.
+pub(crate) fn kept_column(column: Option<usize>) -> Option<usize>
     ensures { result ≡ kept_column column }
 {
     match column {
@@ -74,8 +74,8 @@ fn kept_column(column: Option<usize>) -> Option<usize>
     }
 }
 
-// Puts in the column, if it is known: so many bytes of its line are before a name.
-fn put_column(object: &mut Object, column: Option<usize>) -> Result<(), AllocError>
+/// Puts in the column, if it is known: so many bytes of its line are before a name.
+pub(crate) fn put_column(object: &mut Object, column: Option<usize>) -> Result<(), AllocError>
     requires { kept_column column ≡ column }
     ensures { OnOk result (members_view object.new.members.entries
         ≡ with_fields (members_view object.old.members.entries) (column_field column)) }

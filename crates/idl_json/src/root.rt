@@ -117,8 +117,8 @@ fn push_text(out: &mut Vec<u8>, text: &[u8]) -> Result<(), AllocError>
     push_value(out, &value)
 }
 
-// Writes a value that has no float.
-fn push_value(out: &mut Vec<u8>, value: &Value) -> Result<(), AllocError>
+/// Writes a value that has no float.
+pub(crate) fn push_value(out: &mut Vec<u8>, value: &Value) -> Result<(), AllocError>
     requires { has_float (view value.now) ≡ false }
     ensures { OnOk result (out.new.items ≡ out.old.items ++ compact_text (view value.now)) }
 {

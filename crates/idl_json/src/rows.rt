@@ -12,12 +12,12 @@ ghost use Rattle.idl_json.specs.Rows.{attribute_fields, bases_fields, constant_f
 use crate::objects::Object;
 use crate::text::text_value;
 use crate::type_codes::{put_member, type_code_value};
-use crate::types::type_value;
+use crate::types::{references_value, type_value};
 use idl_base::Bytes;
 use idl_entity::Kind;
 use idl_repo::details::{
-    AttributeTree, ConstantTree, DeclaredType, OperationTree, ParameterTree, RowDetails, RowTree,
-    direction_word, kind_word,
+    AttributeTree, ConstantTree, DeclaredType, OperationTree, ParameterTree, Reference, RowDetails,
+    RowTree, direction_word, kind_word,
 };
 use serde_json::Value;
 use std::alloc::{AllocError, Global};
@@ -69,18 +69,18 @@ fn put_declared(
         ≡ with_fields (members_view object.old.members.entries) (declared_fields declared.now)) }
 {
     object.put("type", type_code_value(alloc, &declared.code)?)?;
-    put_bases(object, declared.bases.as_slice())
+    put_bases(alloc, object, declared.bases.as_slice())
 }
 
 // Puts in the bases, if there are any.
-fn put_bases(object: &mut Object, bases: &[Bytes]) -> Result<(), AllocError>
+fn put_bases(alloc: Global, object: &mut Object, bases: &[Reference]) -> Result<(), AllocError>
     ensures { OnOk result (members_view object.new.members.entries
         ≡ with_fields (members_view object.old.members.entries) (bases_fields bases.now)) }
 {
     if bases.is_empty() {
         return Ok(());
     }
-    object.put_texts("bases", bases)
+    object.put("bases", references_value(alloc, bases)?)
 }
 
 // Puts in what a constant tells.
@@ -117,8 +117,11 @@ fn put_attribute(
 {
     object.put("type", type_value(alloc, &attribute.data_type)?)?;
     object.put("readonly", Value::Bool(attribute.is_readonly))?;
-    object.put_texts("get", attribute.raised.as_slice())?;
-    object.put_texts("set", attribute.raised_by_set.as_slice())
+    object.put("get", references_value(alloc, attribute.raised.as_slice())?)?;
+    object.put(
+        "set",
+        references_value(alloc, attribute.raised_by_set.as_slice())?,
+    )
 }
 
 // Puts in what an operation tells.
@@ -136,7 +139,10 @@ fn put_operation(
         "parameters",
         parameters_value(alloc, operation.parameters.as_slice())?,
     )?;
-    object.put_texts("raises", operation.raised.as_slice())?;
+    object.put(
+        "raises",
+        references_value(alloc, operation.raised.as_slice())?,
+    )?;
     object.put_texts("context", operation.contexts.as_slice())
 }
 

@@ -1,15 +1,15 @@
-//! Types in JSON.
+//! Types in JSON, and references.
 
 ghost use Rattle.std.specs.Prelude.{◌≡◌, [], IfOk, reverse};
 ghost use Rattle.serde_json.specs.View.{view};
 ghost use Rattle.idl_json.specs.Objects.{list_json, number_json};
-ghost use Rattle.idl_json.specs.Types.{arrays_json, bound_json, constants_json, element_json, layered, object_json, sequence_json, string_json, type_json, unvalued_json, word_json};
+ghost use Rattle.idl_json.specs.Types.{arrays_json, bound_json, constants_json, element_json, layered, object_json, reference_json, references_json, sequence_json, string_json, type_json, unvalued_json, word_json};
 
 use crate::objects::Object;
 use crate::text::texts_value;
 use idl_base::Bytes;
 use idl_entity::{Layer, Unvalued};
-use idl_repo::details::{ElementTree, LayeredType};
+use idl_repo::details::{ElementTree, LayeredType, Reference};
 use idl_repo::{integer_word, unvalued_word};
 use idl_value::ConstantType;
 use serde_json::Value;
@@ -88,17 +88,29 @@ fn element_value(alloc: Global, element: &ElementTree) -> Result<Value, AllocErr
         ElementTree::Void => word_value(alloc, b"tk_void"),
         ElementTree::Constants(target) => constants_value(alloc, target),
         ElementTree::Unvalued(kind) => unvalued_value(alloc, *kind),
-        ElementTree::Named(id) => named_value(alloc, id),
+        ElementTree::Named(reference) => reference_value(alloc, reference),
     }
 }
 
-// The type that has this id.
-fn named_value(alloc: Global, id: &Bytes) -> Result<Value, AllocError>
-    ensures { IfOk result (λ value. view value ≡ element_json (ElementTree.Named id.now)) }
+// A reference.
+fn reference_value(alloc: Global, reference: &Reference) -> Result<Value, AllocError>
+    ensures { IfOk result (λ value. view value ≡ reference_json reference.now) }
 {
     let mut object = Object::new(alloc);
-    object.put_text("ref", id.as_bytes())?;
+    object.put_text("ref", reference.id.as_bytes())?;
+    object.put_text("path", reference.path.as_bytes())?;
     Ok(object.into_value())
+}
+
+/// References, in order.
+pub(crate) fn references_value(alloc: Global, references: &[Reference]) -> Result<Value, AllocError>
+    ensures { IfOk result (λ value. view value ≡ references_json references.now) }
+{
+    let mut values = Vec::with_capacity(alloc, references.len())?;
+    'references: for reference in references {
+        values.push(reference_value(alloc, reference)?)?;
+    }
+    Ok(Value::Array(values))
 }
 
 // A type of keywords of which there are constants.

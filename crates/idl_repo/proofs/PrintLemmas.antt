@@ -5,7 +5,7 @@ use Rattle.std.proofs.lemmas.Grind.{flat_map-append}
 use Rattle.std.proofs.lemmas.List.{append-nil}
 use Rattle.idl_repo.specs.details.Print.{attribute_text, base_text, bases_text, case_behind, constant_text, details_text, element_text, member_behind, member_text, operation_text, parameter_text, parts_kind, parts_text, reference_text, references_text, row_of, type_code_text, type_text, with_commas}
 use Rattle.idl_repo.specs.declared.details.type_code_tree.CaseTree.{CaseTree}
-use Rattle.idl_repo.specs.details.Tree.{Bank, attribute_over, case_over, cases_of, coded_over, constant_over, declared_over, default_in, details_over, element_over, id_over, ids_over, member_over, operation_over, parameter_over, parts_over, tree_over, type_code_over, type_over}
+use Rattle.idl_repo.specs.details.Tree.{Bank, attribute_over, case_over, cases_of, coded_over, constant_over, declared_over, default_in, details_over, element_over, id_over, member_over, operation_over, parameter_over, parts_over, reference_over, references_over, tree_over, type_code_over, type_over}
 use Rattle.idl_repo.specs.declared.details.row_tree.RowDetails.{RowDetails}
 use Rattle.idl_repo.specs.declared.details.row_tree.RowDetails.TheVariants as row
 use Rattle.idl_entity.specs.Kind.{kind_eq}
@@ -61,8 +61,8 @@ show-only text = show-as (show-text text show-nothing) (append-nil text)
 show-end : {bank : Bank} {p : Pieces} {w : List ℕ} (text : List ℕ) → Show bank p w → Show bank (p ++ says text) (w ++ text)
 show-end text h = show-then h (show-only text)
 
--- an id alone
-show-reference : {bank : Bank} (path : List (List ℕ)) → Show bank (reference path) (reference_text (id_over bank path))
+-- a reference
+show-reference : {bank : Bank} (path : List (List ℕ)) → Show bank (reference path) (reference_text (reference_over bank path))
 show-reference {bank} path = show-text (codes "@") (show-as (show-id path show-nothing) (append-nil (id_over bank path)))
 
 -- each of some
@@ -74,8 +74,8 @@ show-commas : {bank : Bank} {X Y : Type 0} (f : X → Pieces) (g : X → Y) (tex
 show-commas f g text each [] = show-nothing
 show-commas f g text each (x ∷ xs) = show-then (each x) (show-each (λ y. Says (codes ",") ∷ f y) g (λ y. codes "," ++ text y) (λ y. show-text (codes ",") (each y)) xs)
 
-show-references : {bank : Bank} (paths : List (List (List ℕ))) → Show bank (references paths) (references_text (ids_over bank paths))
-show-references {bank} paths = show-commas reference (id_over bank) reference_text show-reference paths
+show-references : {bank : Bank} (paths : List (List (List ℕ))) → Show bank (references paths) (references_text (references_over bank paths))
+show-references {bank} paths = show-commas reference (reference_over bank) reference_text show-reference paths
 
 -- types
 show-element : {bank : Bank} (t : Element) → Show bank (element_pieces t) (element_text (element_over bank t))
@@ -155,16 +155,16 @@ show-code {bank} k e =
     (ap (λ (c : TypeCodeKind). code_word c ++ (codes "(" ++ (id_over bank e.path ++ (codes "," ++ (name_of e.path ++ (parts_text (parts_over bank k e) ++ codes ")")))))) (kind-parts bank k e))
 
 -- bases
-show-base : {bank : Bank} (paths : List (List (List ℕ))) → Show bank (base_pieces paths) (base_text (ids_over bank paths))
+show-base : {bank : Bank} (paths : List (List (List ℕ))) → Show bank (base_pieces paths) (base_text (references_over bank paths))
 show-base [] = show-nothing
 show-base (path ∷ paths) = show-text (codes " base(") (show-end (codes ")") (show-references (path ∷ paths)))
 
-by-bases : {bank : Bank} (k : Kind) (paths : List (List (List ℕ))) → Show bank (if kind_eq k kind.Interface then Says (codes " bases(") ∷ (references paths ++ says (codes ")")) else if kind_eq k kind.Structure then base_pieces paths else []) (bases_text k (ids_over bank (if kind_eq k kind.Interface then paths else if kind_eq k kind.Structure then paths else [])))
+by-bases : {bank : Bank} (k : Kind) (paths : List (List (List ℕ))) → Show bank (if kind_eq k kind.Interface then Says (codes " bases(") ∷ (references paths ++ says (codes ")")) else if kind_eq k kind.Structure then base_pieces paths else []) (bases_text k (references_over bank (if kind_eq k kind.Interface then paths else if kind_eq k kind.Structure then paths else [])))
 by-bases kind.Interface paths = show-text (codes " bases(") (show-end (codes ")") (show-references paths))
 by-bases kind.Structure paths = show-base paths
 by-bases other paths = show-nothing
 
-show-bases : {bank : Bank} (e : Entity) → Show bank (bases_pieces e) (bases_text e.kind (ids_over bank (listed_bases e)))
+show-bases : {bank : Bank} (e : Entity) → Show bank (bases_pieces e) (bases_text e.kind (references_over bank (listed_bases e)))
 show-bases e = by-bases e.kind e.bases
 
 show-declared : {bank : Bank} (k : Option TypeCodeKind) (e : Entity) → Show bank (elim k [ None ↦ [] | Some c ↦ Says (codes " ") ∷ (code_pieces c e ++ bases_pieces e) ]) (details_text e.kind (elim k [ None ↦ row.Nothing | Some c ↦ row.Type (declared_over bank c e) ]))

@@ -4,6 +4,7 @@
 //! facts of a root came about.
 
 mod laws;
+mod reference;
 mod row_tree;
 mod rows;
 mod type_code_tree;
@@ -13,6 +14,7 @@ mod types;
 mod words;
 
 pub use laws::printing;
+pub use reference::Reference;
 pub use row_tree::{
     AttributeTree, ConstantTree, DeclaredType, OperationTree, ParameterTree, RowDetails, RowTree,
 };

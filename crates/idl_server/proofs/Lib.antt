@@ -10,3 +10,4 @@ pub mod PlaceLemmas
 pub mod DiagnosticLemmas
 pub mod NamedLemmas
 pub mod PublishedLemmas
+pub mod ServingLemmas

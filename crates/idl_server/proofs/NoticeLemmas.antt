@@ -11,7 +11,9 @@ use Rattle.serde_json.specs.View.{view}
 use Rattle.serde_json.specs.declared.value.Value.{Value, Null, the_lemmas}
 use Rattle.idl_editor.specs.messages.Message.{id_in, method_in, params_in, seen}
 use Rattle.idl_editor.specs.declared.messages.method.Method.{Method}
-use Rattle.idl_editor.specs.documents.Documents.{AreSameBeside, HaveTexts, Told, texts_of, with_text}
+use Rattle.idl_editor.specs.declared.column.Encoding.{Encoding}
+use Rattle.idl_editor.specs.documents.Documents.{AreSameBeside, HaveTexts, Told, open_after_told, texts_of, with_text}
+use Rattle.idl_editor.specs.messages.Params.{both}
 use Rattle.idl_server.specs.Files.{IsKept}
 use Rattle.idl_editor.specs.documents.Notices.{json_of, told_by_message, told_by_notice}
 use Rattle.idl_server.specs.Server.{HasTaken, OnlySets, if_running, told_to}
@@ -30,6 +32,16 @@ texts-with name text old new beside here = λ other. by other (bytes_eq name oth
     by : (other : List ℕ) (b : Bool) → bytes_eq name other ≡ b → texts_of new other ≡ (if b then text else texts_of old other)
     by other true alike = subst (λ (n : List ℕ). texts_of new n ≡ text) ((bytes_decides name other).0 alike) here
     by other false apart = λ i. option_map (λ document. document.text.items) (beside other apart i)
+
+-- nothing is told where one of two isn't there
+pub both-lost : {A B C : Type 0} (f : A → B → C) (a : Option A) → both f a None ≡ None
+both-lost f None = refl
+both-lost f (Some a) = refl
+
+-- documents that are the same have their texts where nothing is told
+pub texts-kept : (encoding : Encoding) (told : Option Told) (old new : List (List ℕ × Document)) → new ≡ old → told ≡ None → HaveTexts new (open_after_told encoding (texts_of old) told)
+texts-kept encoding told old new same none =
+    subst (λ (t : Option Told). HaveTexts new (open_after_told encoding (texts_of old) t)) (sym none) (λ name i. texts_of (same i) name)
 
 -- ---- what bytes are
 

@@ -1,6 +1,7 @@
 -- Ranges of lines, and of tokens.
-use Rattle.std.proofs.Common.{◌≡◌, ◌≤◌, ◌∙◌, ℕ, zero, suc, ◌+◌, All, List, [], ◌∷◌, ap, arith, length, pred, refl, sym, take}
+use Rattle.std.proofs.Common.{◌≡◌, ◌≤◌, ◌∙◌, ◌⊎◌, ℕ, zero, suc, ◌+◌, ◌*◌, All, List, [], ◌∷◌, ◌++◌, Some, ap, arith, inl, inr, length, pred, refl, subst, sym, take}
 use Rattle.std.proofs.lemmas.List.{take_all}
+use Rattle.std.proofs.lemmas.Option.{same_Some}
 use Rattle.std.specs.List.{slice_get, sum_by}
 use Rattle.std.specs.Option.{unwrap_or}
 use Rattle.idl_source.specs.Limits.{longest_line}
@@ -9,6 +10,7 @@ use Rattle.idl_editor.specs.declared.change.Range.{Range}
 use Rattle.idl_editor.specs.declared.column.Encoding.{Encoding}
 use Rattle.idl_editor.specs.declared.position.Position.{Position}
 use Rattle.idl_editor.specs.Places.{line_range, position_behind, position_in, returns}
+use Rattle.idl_server.specs.Places.{AreCounts}
 
 -- a line of a file, and one that isn't there
 abbrev line_at : List (List ℕ) → ℕ → List ℕ
@@ -41,3 +43,27 @@ line-range encoding lines number past range allowed le start end =
     let short = short-line lines (pred number) allowed.long in
     range-of_ends range (position_in encoding lines number 0) (position_in encoding lines number (length (line_at lines (pred number)))) start
     (end ∙ position-past encoding lines number past (length (line_at lines (pred number))) (omega (arith, short, le)) (omega arith))
+
+-- ---- what was counted
+
+pub none-counted : (lines : List (List ℕ)) → AreCounts lines []
+none-counted lines index count found = absurd (cc)
+
+get-pushed : (xs : List ℕ) (x m y : ℕ) → slice_get (xs ++ x ∷ []) m ≡ Some y → (slice_get xs m ≡ Some y) ⊎ ((m ≡ length xs) × (x ≡ y))
+get-pushed [] x zero y h = inr (refl, same_Some x y h)
+get-pushed [] x (suc m) y h = absurd (cc)
+get-pushed (z ∷ xs) x zero y h = inl h
+get-pushed (z ∷ xs) x (suc m) y h = by (get-pushed xs x m y h)
+  where
+    by : (slice_get xs m ≡ Some y) ⊎ ((m ≡ length xs) × (x ≡ y)) → (slice_get (z ∷ xs) (suc m) ≡ Some y) ⊎ ((suc m ≡ length (z ∷ xs)) × (x ≡ y))
+    by (inl found) = inl found
+    by (inr last) = inr (ap suc last.0, last.1)
+
+pub counts-more : (lines : List (List ℕ)) (counts : List ℕ) (i count : ℕ) → AreCounts lines counts → length counts ≡ i → count ≡ sum_by returns (take i lines) → count ≤ longest_line * length lines
+    → AreCounts lines (counts ++ count ∷ [])
+counts-more lines counts i count are many is few index other found = by (get-pushed counts count index other found)
+  where
+    by : (slice_get counts index ≡ Some other) ⊎ ((index ≡ length counts) × (count ≡ other)) → (other ≡ sum_by returns (take index lines)) × (other ≤ longest_line * length lines)
+    by (inl before) = are index other before
+    by (inr last) =
+        (sym last.1 ∙ is ∙ ap (λ (n : ℕ). sum_by returns (take n lines)) (sym (last.0 ∙ many)), subst (λ (n : ℕ). n ≤ longest_line * length lines) last.1 few)

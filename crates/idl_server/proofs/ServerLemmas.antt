@@ -1,5 +1,5 @@
 -- What holds of a server between messages.
-use Rattle.std.proofs.Common.{◌≡◌, ◌≢◌, ◌∙◌, ℕ, All, true, false, List, Option, None, Some, is_some, refl, sym, subst, true≢false}
+use Rattle.std.proofs.Common.{◌≡◌, ◌∙◌, ℕ, All, List, Option, None, Some, is_some, refl, sym, subst, true≢false}
 use Rattle.std.proofs.lemmas.List.Elements.{All-nil}
 use Rattle.std.specs.FinMap as finite
 use Rattle.std.specs.List.{list_any}

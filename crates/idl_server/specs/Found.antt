@@ -1,10 +1,10 @@
--- What is found in a file: by all roots, each once, in the order of lines, and of that the first ones.
-use Rattle.std.specs.Prelude.{ℕ, List, [], flat_map, fold, take}
+-- What is found in a file: by all roots, each once, in the order of lines.
+use Rattle.std.specs.Prelude.{ℕ, List, flat_map}
 use Rattle.std.specs.List.{filter}
 use Rattle.idl_finding.specs.declared.finding.Finding.{Finding}
 use Rattle.idl_project.specs.idl_sources.Compile.{compiled_root}
 use Rattle.idl_inputs.specs.Project.{Inputs, Project}
-use Rattle.idl_editor.specs.told.Found.{is_in, most_told, with_one}
+use Rattle.idl_editor.specs.told.Found.{AreInOrder, each_once, is_in}
 
 -- what a root finds, and what of it is in a file
 abbrev pub findings_by : Inputs → List ℕ → List Finding
@@ -15,9 +15,8 @@ found_by inputs name root = filter (is_in name) (findings_by inputs root)
 
 -- what all roots find in a file
 abbrev pub all_found : Project → List ℕ → List Finding
-all_found project name =
-    fold with_one [] (flat_map (found_by project.inputs name) project.roots)
+all_found project name = flat_map (found_by project.inputs name) project.roots
 
--- and of that what is told
-unfoldable pub found_in : Project → List ℕ → List Finding
-found_in project name = take most_told (all_found project name)
+-- and that as it is told: each once, in the order of lines
+abbrev pub AreFoundIn : Project → List ℕ → List Finding → Type 0
+AreFoundIn project name found = AreInOrder (each_once (all_found project name)) found

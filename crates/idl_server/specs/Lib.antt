@@ -11,4 +11,6 @@ pub mod Named
 pub mod Roots
 pub mod Server
 pub mod Published
+pub mod Messages
+pub mod Serving
 pub use Rattle.idl_loader.specs as idl_loader

@@ -1,7 +1,9 @@
 -- Places in files of a project as positions of an editor.
-use Rattle.std.specs.Prelude.{ℕ, List, [], Option, length, unwrap_or}
+use Rattle.std.specs.Prelude.{◌≡◌, ◌≤◌, ◌*◌, ℕ, List, [], Option, Some, length, slice_get, take, unwrap_or}
 use Rattle.std.specs.FinMap as finite
-use Rattle.idl_editor.specs.Places.{range_in}
+use Rattle.std.specs.List.{sum_by}
+use Rattle.idl_source.specs.Limits.{longest_line}
+use Rattle.idl_editor.specs.Places.{range_in, returns}
 use Rattle.idl_editor.specs.declared.change.Range.{Range}
 use Rattle.idl_editor.specs.declared.column.Encoding.{Encoding}
 use Rattle.idl_fault.specs.declared.place.Place.{Place}
@@ -17,3 +19,9 @@ abbrev pub range_of : Encoding → Project → Place → Option ℕ → List ℕ
 range_of encoding project place number text =
     range_in encoding (lines_of project place.file) place.line
     (column_of project place number text) (length text)
+
+-- for each of the first lines of a file, how many carriage returns are before it
+abbrev pub AreCounts : List (List ℕ) → List ℕ → Type 0
+AreCounts lines counts =
+    (index count : ℕ) → slice_get counts index ≡ Some count
+    → (count ≡ sum_by returns (take index lines)) × (count ≤ longest_line * length lines)

@@ -2,8 +2,6 @@
 use Rattle.std.specs.Prelude.{◌≡◌, ℕ, List, [], Option, None, option_and_then}
 use Rattle.std.specs.FinMap as finite
 use Rattle.idl_loader.specs.Holding.{Holding}
-use Rattle.idl_inputs.specs.Project.{Inputs, Project}
-use Rattle.idl_editor.specs.uris.Folders.{FolderNamed}
 use Rattle.idl_editor.specs.documents.Documents.{HaveTexts, Open, Told, open_after_told, texts_of}
 use Rattle.idl_server.specs.Documents.{OnlyRefusedAreBehind}
 use Rattle.idl_server.specs.Files.{AreFiled, AreTried, StaysSet, told_by}
@@ -63,3 +61,8 @@ pub record HasTaken (told : Option Told) (old new : Server) : Type 0 where
   pub held : OnlyRefusedAreBehind old.workspace.session.project
       old.workspace.documents.entries new.workspace.documents.entries
   pub set : old.phase ≡ Running → StaysSet old.workspace new.workspace
+
+-- a server that was told nothing
+pub record IsNew (server : Server) : Type 0 where
+  pub waits : server.phase ≡ Waiting
+  pub blank : IsBlank server.workspace

@@ -3,9 +3,10 @@
 ghost use Rattle.idl_server.specs.Server.{OnlySets};
 
 use crate::workspace::Workspace;
-use idl_editor::beginning::{abilities, add_folders, directories_in, encoding_in};
+use idl_editor::beginning::{
+    abilities, add_folders, check_options, directories_in, encoding_in, texts_in,
+};
 use idl_editor::documents::push_refused;
-use idl_editor::messages::items_at;
 use idl_source::{Line, Refusal, first_part};
 use serde_json::Value;
 use std::alloc::AllocError;
@@ -18,20 +19,29 @@ impl Workspace {
         self.encoding = encoding_in(params);
         add_folders(self.session.allocator(), &mut self.folders, params)?;
         if let Some(options) = params.get("initializationOptions") {
-            self.define_all(items_at(options, "define"))?;
-            self.search_all(items_at(options, "search"))?;
+            self.set_options(options)?;
         }
         abilities(self.session.allocator(), self.encoding)
     }
 
-    // Defines macros, each by `NAME` or `NAME=BODY`.
-    fn define_all(&mut self, words: &[Value]) -> Result<(), AllocError>
+    // Defines macros and has directories searched, as an editor sets them.
+    fn set_options(&mut self, options: &Value) -> Result<(), AllocError>
         ensures { OnlySets self.old self.new }
     {
-        'words: for value in words {
-            if let Some(word) = value.as_str() {
-                self.define(word.as_bytes())?;
-            }
+        let alloc = self.session.allocator();
+        check_options(&mut self.refused, options)?;
+        let defines = texts_in(alloc, &mut self.refused, options, "define")?;
+        self.define_all(&defines)?;
+        let directories = texts_in(alloc, &mut self.refused, options, "search")?;
+        self.search_all(&directories)
+    }
+
+    // Defines macros, each by `NAME` or `NAME=BODY`.
+    fn define_all(&mut self, words: &[&[u8]]) -> Result<(), AllocError>
+        ensures { OnlySets self.old self.new }
+    {
+        'words: for word in words {
+            self.define(*word)?;
         }
         Ok(())
     }
@@ -55,7 +65,7 @@ impl Workspace {
     }
 
     // Has included files searched in these directories.
-    fn search_all(&mut self, words: &[Value]) -> Result<(), AllocError>
+    fn search_all(&mut self, words: &[&[u8]]) -> Result<(), AllocError>
         ensures { OnlySets self.old self.new }
     {
         let alloc = self.session.allocator();

@@ -1,15 +1,21 @@
 //! What is found, as an editor is told.
 
-ghost use Rattle.std.specs.Prelude.{◌≡◌, ◌<◌, [], IfOk, length};
+ghost use Rattle.std.specs.Prelude.{◌≡◌, ◌<◌, ◌++◌, [], IfOk, OnOk, length, map, take};
+ghost use Rattle.std.specs.List.{AllZip};
 ghost use Rattle.serde_json.specs.View.{view};
-ghost use Rattle.idl_server.specs.Diagnostics.{AreDiagnostics, finding_range};
+ghost use Rattle.idl_editor.specs.told.Found.{findings_in, most_told};
+ghost use Rattle.idl_server.specs.Diagnostics.{AreDiagnostics, IsToldOf, finding_range, rest_told};
+ghost use Rattle.idl_server.specs.Places.{lines_of};
 
 use crate::found::found_in;
-use crate::places::{LocatedToken, line_range, lines_of, range_of};
+use crate::places::{CountedFile, LocatedToken, line_near, line_of, range_near, range_of};
 use crate::workspace::Workspace;
 use idl_base::Seq;
 use idl_editor::documents::uri_for;
-use idl_editor::told::{SecondWords, diagnostic_value, message_of, second_value};
+use idl_editor::told::{
+    MOST_RELATED, MOST_TOLD, RootFinding, SecondWords, diagnostic_value, first_told, message_of,
+    more_value, second_value,
+};
 use idl_editor::{Encoding, Range};
 use idl_project::{Finding, Session, related_in};
 use idl_related::Related;
@@ -36,26 +42,52 @@ fn related_of(root: &RootRelated, index: usize) -> &[Related] {
 }
 
 impl Workspace {
-    /// What is found in a file, as it is told.
+    /// What is found in a file, as it is told: the first findings, and how many more there are.
     pub fn diagnostics_in(&self, name: &Name) -> Result<Value, AllocError>
         ensures { IfOk result (λ value. AreDiagnostics self.now.encoding
             self.now.session.project name.now (view value)) }
     {
-        let alloc = self.session.allocator();
         let found = found_in(&self.session, name)?;
-        let mut roots = Vec::new(alloc);
         let held = found.as_slice();
+        let mut list = self.first_values(name, held)?;
+        push_rest(&self.session, self.encoding, held, &mut list)?;
+        Ok(Value::Array(list))
+    }
+
+    // The first of these findings in a file, as they are told.
+    fn first_values(&self, name: &Name, found: &[RootFinding<'_>]) -> Result<Vec<Value>, AllocError>
+        ensures { IfOk result (λ list.
+            AllZip (IsToldOf self.now.encoding self.now.session.project)
+            (take most_told (findings_in found.entry.now)) (map view list.items)) }
+    {
+        let alloc = self.session.allocator();
+        let file = CountedFile::new(&self.session, name)?;
+        let mut roots = Vec::new(alloc);
+        let held = first_told(found);
         let mut list = Vec::with_capacity(alloc, held.len())?;
         'each: for index in 0..held.len() {
             let one = held[index];
-            let at = self.place_of_related(&mut roots, one.root)?;
+            let related = self.seconds_of(&mut roots, index, one)?;
             let message = message_of(alloc, one.finding)?;
             let said = message.as_slice();
-            let related = self.related_value(related_of(&roots[at], one.index))?;
-            let range = finding_range(&self.session, self.encoding, one.finding);
+            let range = finding_range(&self.session, self.encoding, one.finding, &file);
             list.push(diagnostic_value(alloc, range, one.finding, said, related)?)?;
         }
-        Ok(Value::Array(list))
+        Ok(list)
+    }
+
+    // The second places of the finding of this number, as they are told: of many findings those of the first ones.
+    fn seconds_of(
+        &self,
+        roots: &mut Vec<RootRelated>,
+        number: usize,
+        one: RootFinding<'_>,
+    ) -> Result<Value, AllocError> {
+        if number >= MOST_RELATED {
+            return Ok(Value::Array(Vec::new(self.session.allocator())));
+        }
+        let at = self.place_of_related(roots, one.root)?;
+        self.related_value(related_of(&roots[at], one.index))
     }
 
     // At which place the second places of a root are, which are put there if they aren't.
@@ -103,8 +135,35 @@ impl Workspace {
     }
 }
 
-// The range of what a finding is about.
-fn finding_range(session: &Session, encoding: Encoding, finding: &Finding) -> Range
+// Puts in how many more are found than are told, if any are.
+fn push_rest(
+    session: &Session,
+    encoding: Encoding,
+    found: &[RootFinding<'_>],
+    list: &mut Vec<Value>,
+) -> Result<(), AllocError>
+    ensures { OnOk result (map view list.new.items ≡ map view list.old.items
+        ++ rest_told encoding session.now.project (findings_in found.entry.now)) }
+{
+    if found.len() <= MOST_TOLD {
+        return Ok(());
+    }
+    let at = MOST_TOLD - 1;
+    let last = found[at];
+    let left = found.len() - MOST_TOLD;
+    let range = line_of(session, encoding, &last.finding.place);
+    let more = more_value(session.allocator(), range, left)?;
+    Ok(list.push(more)?)
+}
+
+// The range of what a finding is about, by the lines of a file, if it is in that.
+fn finding_range(
+    session: &Session,
+    encoding: Encoding,
+    finding: &Finding,
+    file: &CountedFile<'_>,
+) -> Range
+    requires { file.now.lines ≡ lines_of session.now.project file.now.name.now }
     ensures { result ≡ finding_range encoding session.now.project finding.now }
 {
     match &finding.text {
@@ -114,11 +173,8 @@ fn finding_range(session: &Session, encoding: Encoding, finding: &Finding) -> Ra
                 number: finding.number,
                 text: text.as_bytes(),
             };
-            range_of(session, encoding, token)
+            range_near(session, encoding, token, file)
         }
-        None => {
-            let lines = lines_of(session, &finding.place);
-            line_range(encoding, lines, finding.place.line)
-        }
+        None => line_near(session, encoding, &finding.place, file),
     }
 }

@@ -21,7 +21,13 @@ use std::alloc::AllocError;
 
 impl Workspace {
     /// A document is opened.
-    pub fn open_document(&mut self, name: &Name, uri: &str, text: &str) -> Result<(), AllocError>
+    pub fn open_document(
+        &mut self,
+        name: &Name,
+        uri: &str,
+        version: Option<u64>,
+        text: &str,
+    ) -> Result<(), AllocError>
         ensures beside { OnOk result (StaysBeside name.now self.old self.new) }
         ensures filed { OnOk result ((told : List ℕ → Holding) → IsFiled told self.new name.now) }
         ensures text { OnOk result (texts_of self.new.documents.entries name.now ≡ Some text.now) }
@@ -32,7 +38,7 @@ impl Workspace {
         let uri = String::from_str(alloc, uri)?;
         let text = Vec::from_slice(alloc, text.as_bytes())?;
         self.documents
-            .insert(name.copied(), Document::new(uri, text))?;
+            .insert(name.copied(), Document::new(uri, version, text))?;
         self.tried.shift_remove(name);
         self.unread.shift_remove(name);
         self.turned_away.shift_remove(name);
@@ -43,6 +49,7 @@ impl Workspace {
     pub fn change_document(
         &mut self,
         name: &Name,
+        version: Option<u64>,
         changes: &[ContentChange<'_>],
     ) -> Result<(), AllocError>
         ensures beside { OnOk result (StaysBeside name.now self.old self.new) }
@@ -67,7 +74,7 @@ impl Workspace {
                 &document.text,
                 *change,
             )?;
-            set_text(&mut self.documents, name, after.text);
+            set_text(&mut self.documents, name, version, after.text);
             return self.splice(name, after.splice);
         }
         let text = text_after_all(
@@ -76,7 +83,7 @@ impl Workspace {
             &document.text,
             changes,
         )?;
-        set_text(&mut self.documents, name, text);
+        set_text(&mut self.documents, name, version, text);
         self.put_whole(name)
     }
 

@@ -1,6 +1,6 @@
 //! What an editor tells: documents that are opened, changed, saved and closed, and files that became others.
 
-ghost use Rattle.std.specs.Prelude.{◌≡◌, ℕ, All, List, IfOk, None, OnOk};
+ghost use Rattle.std.specs.Prelude.{◌≡◌, ℕ, All, List, IfOk, IsSome, None, OnOk};
 ghost use Rattle.std.specs.Map.{lookup};
 ghost use Rattle.std.specs.Str.{bytes_eq};
 ghost use Rattle.serde_json.specs.View.{view};
@@ -8,13 +8,15 @@ ghost use Rattle.idl_editor.specs.declared.messages.method.Method.TheVariants.{D
 ghost use Rattle.idl_loader.specs.Holding.{Holding};
 ghost use Rattle.idl_editor.specs.documents.Documents.{HaveTexts, open_after_told, texts_of};
 ghost use Rattle.idl_server.specs.Documents.{OnlyRefusedAreBehind};
-ghost use Rattle.idl_server.specs.Files.{AreFiled, StaysSet, told_by};
+ghost use Rattle.idl_server.specs.Files.{AreFiled, IsKept, StaysSet, told_by};
+ghost use Rattle.idl_editor.specs.declared.documents.refused.RefusedReason.TheVariants.{BadChange};
 ghost use Rattle.idl_editor.specs.documents.Notices.{told_by_notice};
+ghost use Rattle.idl_editor.specs.documents.Refused.{IsAdded};
 ghost use Rattle.idl_server.specs.Roots.{AreRooted};
 
 use crate::workspace::Workspace;
-use idl_editor::documents::{changes_told, name_for, name_in};
-use idl_editor::messages::{Method, items_at, opened_text, text_at, uri_of};
+use idl_editor::documents::{RefusedReason, changes_told, name_for, name_in, push_reason};
+use idl_editor::messages::{Method, items_at, opened_text, text_at, uri_of, version_of};
 use idl_loader::PathLoader;
 use idl_source::{Line, Name};
 use indexmap::IndexSet;
@@ -22,7 +24,7 @@ use serde_json::Value;
 use std::alloc::AllocError;
 
 impl Workspace {
-    /// Takes in what a notice tells of documents and files. One that makes no sense is passed over.
+    /// Takes in what a notice tells of documents and files. One that makes no sense is passed over, and of a change it is kept to be shown.
     pub fn take_told<L: PathLoader>(
         &mut self,
         loader: &mut L,
@@ -66,7 +68,7 @@ impl Workspace {
             return Ok(());
         };
         match name_for(self.session.allocator(), &self.folders, uri)? {
-            Some(name) => self.open_document(&name, uri, text),
+            Some(name) => self.open_document(&name, uri, version_of(params), text),
             None => Ok(()),
         }
     }
@@ -87,9 +89,22 @@ impl Workspace {
             return Ok(());
         };
         match changes_told(self.session.allocator(), params)? {
-            Some(changes) => self.change_document(&name, &changes),
-            None => Ok(()),
+            Some(changes) => self.change_document(&name, version_of(params), &changes),
+            None => self.keep_bad_change(&name),
         }
+    }
+
+    // Keeps, to show it, that a change of an open document makes no sense.
+    fn keep_bad_change(&mut self, name: &Name) -> Result<(), AllocError>
+        ensures kept { IsKept self.old self.new }
+        ensures told { IsSome (lookup (bytes_eq name.now) self.old.documents.entries)
+            → OnOk result (IsAdded name.now BadChange
+            self.old.refused.items self.new.refused.items) }
+    {
+        if !self.documents.contains_key(name) {
+            return Ok(());
+        }
+        push_reason(&mut self.refused, name.as_bytes(), RefusedReason::BadChange)
     }
 
     // A document is closed.

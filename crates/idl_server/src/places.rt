@@ -1,8 +1,8 @@
 //! Places in files of a session as positions of an editor.
 
-ghost use Rattle.std.specs.Prelude.{◌≡◌, ◌≤◌, ◌*◌, length};
+ghost use Rattle.std.specs.Prelude.{◌≡◌, ◌+◌, ◌*◌, ◌<◌, ◌≤◌, [], IfOk, IfSome, length, slice_get, take, unwrap_or};
 ghost use Rattle.std.specs.List.{sum_by};
-ghost use Rattle.idl_source.specs.Limits.{longest_line};
+ghost use Rattle.idl_source.specs.Limits.{longest_line, most_lines};
 ghost use Rattle.idl_inputs.specs.WithinLimits.{IsAllowedFile};
 ghost use Rattle.idl_editor.specs.Places.{line_range, position_in, returns};
 ghost use Rattle.idl_server.specs.Places.{lines_of, range_of};
@@ -10,7 +10,9 @@ ghost use Rattle.idl_server.specs.Places.{lines_of, range_of};
 use idl_editor::{Encoding, Position, Range, position_behind, returns_in};
 use idl_fault::Place;
 use idl_project::{Session, SitedToken};
-use idl_source::Line;
+use idl_source::{Line, Name};
+use std::alloc::{AllocError, Global};
+use std::marker::Model;
 
 /// A token of a file: the line on which it is found, its number there, and how it is spelled.
 #[derive(Clone, Copy)]
@@ -41,67 +43,241 @@ pub(crate) fn range_of(session: &Session, encoding: Encoding, token: LocatedToke
         token.entry.place.now token.entry.number token.entry.text.now }
 {
     let lines = lines_of(session, token.place);
-    match session.column(token.place, token.number, token.text) {
-        Some(column) => {
-            let end = column.saturating_add(token.text.len());
-            range_between(encoding, lines, token.place.line, (column, end))
-        }
-        None => line_range(encoding, lines, token.place.line),
+    let lines = CountedLines::uncounted(session.allocator(), lines);
+    token_range(session, encoding, token, &lines)
+}
+
+/// The same by the lines of a file, if it is in that.
+pub(crate) fn range_near(
+    session: &Session,
+    encoding: Encoding,
+    token: LocatedToken<'_>,
+    file: &CountedFile<'_>,
+) -> Range
+    requires { file.now.lines ≡ lines_of session.now.project file.now.name.now }
+    ensures { result ≡ range_of encoding session.now.project
+        token.entry.place.now token.entry.number token.entry.text.now }
+{
+    match file.lines_at(token.place) {
+        Some(lines) => token_range(session, encoding, token, lines),
+        None => range_of(session, encoding, token),
     }
 }
 
-/// The range of a line of a file.
-pub(crate) fn line_range(encoding: Encoding, lines: &[Line], number: u32) -> Range
-    requires { IsAllowedFile lines.now }
-    ensures { result ≡ line_range encoding lines.now number }
+// The same by the lines of its file.
+fn token_range(
+    session: &Session,
+    encoding: Encoding,
+    token: LocatedToken<'_>,
+    lines: &CountedLines<'_>,
+) -> Range
+    requires { lines.now ≡ lines_of session.now.project token.place.now.file }
+    ensures { result ≡ range_of encoding session.now.project
+        token.entry.place.now token.entry.number token.entry.text.now }
 {
-    range_between(encoding, lines, number, (0, usize::MAX))
+    lines.keeps_form();
+    match session.column(token.place, token.number, token.text) {
+        Some(column) => {
+            let end = column.saturating_add(token.text.len());
+            lines.between(encoding, token.place.line, (column, end))
+        }
+        None => lines.line(encoding, token.place.line),
+    }
 }
 
-/// The lines of the file in which a place is.
-pub(crate) fn lines_of<'a>(session: &'a Session, place: &Place) -> &'a [Line]
+/// The range of the line of a place.
+pub(crate) fn line_of(session: &Session, encoding: Encoding, place: &Place) -> Range
+    ensures { result ≡ line_range encoding (lines_of session.now.project place.now.file)
+        place.now.line }
+{
+    let lines = lines_of(session, place);
+    let lines = CountedLines::uncounted(session.allocator(), lines);
+    lines.line(encoding, place.line)
+}
+
+/// The same by the lines of a file, if it is in that.
+pub(crate) fn line_near(
+    session: &Session,
+    encoding: Encoding,
+    place: &Place,
+    file: &CountedFile<'_>,
+) -> Range
+    requires { file.now.lines ≡ lines_of session.now.project file.now.name.now }
+    ensures { result ≡ line_range encoding (lines_of session.now.project place.now.file)
+        place.now.line }
+{
+    match file.lines_at(place) {
+        Some(lines) => lines.line(encoding, place.line),
+        None => line_of(session, encoding, place),
+    }
+}
+
+// The lines of the file in which a place is.
+fn lines_of<'a>(session: &'a Session, place: &Place) -> &'a [Line]
     ensures lines { result.now ≡ lines_of session.now.project place.now.file }
     ensures allowed { IsAllowedFile result.now }
 {
+    lines_named(session, place.file.as_bytes())
+}
+
+// The lines of the file of this name.
+fn lines_named<'a>(session: &'a Session, name: &[u8]) -> &'a [Line]
+    ensures lines { result.now ≡ lines_of session.now.project name.now }
+    ensures allowed { IsAllowedFile result.now }
+{
     session.keeps_form();
-    match session.file(place.file.as_bytes()) {
+    match session.file(name) {
         Some(lines) => lines,
         None => &[],
     }
 }
 
-// From behind so many bytes of a line up to behind so many.
-fn range_between(encoding: Encoding, lines: &[Line], number: u32, columns: (usize, usize)) -> Range
-    requires { IsAllowedFile lines.now }
-    ensures start { result.start ≡ position_in encoding lines.now number columns.0 }
-    ensures end { result.end ≡ position_in encoding lines.now number columns.1 }
-{
-    Range {
-        start: position_in(encoding, lines, number, columns.0),
-        end: position_in(encoding, lines, number, columns.1),
+/// A file of which many places are asked for.
+#[derive(Drop)]
+pub(crate) struct CountedFile<'a> {
+    name: &'a Name,
+    lines: CountedLines<'a>,
+}
+
+impl<'a> CountedFile<'a> {
+    /// The file of this name, or one without lines.
+    pub fn new(session: &'a Session, name: &'a Name) -> Result<CountedFile<'a>, AllocError>
+        ensures { IfOk result (λ file.
+            file.lines ≡ lines_of session.now.project file.name.now) }
+    {
+        let lines = lines_named(session, name.as_bytes());
+        let lines = CountedLines::new(session.allocator(), lines)?;
+        Ok(CountedFile { name, lines })
+    }
+
+    // Its lines, if a place is in it.
+    fn lines_at(&self, place: &Place) -> Option<&CountedLines<'a>>
+        ensures { IfSome result (λ lines. (place.now.file ≡ self.now.name.now)
+            × (lines.now ≡ self.now.lines)) }
+    {
+        if place.file.as_bytes() == self.name.as_bytes() {
+            return Some(&self.lines);
+        }
+        None
     }
 }
 
-/// The position behind so many bytes of a line of a file: the line has a number from 1 on. Each carriage return that is left in a line
-/// ends one, to an editor.
-pub(crate) fn position_in(
-    encoding: Encoding,
-    lines: &[Line],
-    number: u32,
-    column: usize,
-) -> Position
-    requires { IsAllowedFile lines.now }
-    ensures { result ≡ position_in encoding lines.now number column }
+// The lines of a file, and where these were counted the carriage returns before each: to an editor one that is left in a line ends a
+// line. To every contract it is the lines.
+#[derive(Drop)]
+struct CountedLines<'a> {
+    lines: &'a [Line],
+    // Those before the first lines.
+    counts: Vec<usize>,
+}
+
+impl<'a> Model for CountedLines<'a> {
+    ghost use Rattle.std.specs.Prelude.{List, ℕ};
+    ghost use Rattle.idl_inputs.specs.WithinLimits.{IsAllowedFile};
+    ghost use Rattle.idl_server.specs.Places.{AreCounts};
+
+    ghost Value = { List (List ℕ) };
+
+    ghost view = { λ counted. counted.lines.now };
+
+    ghost invariant = { λ counted. IsAllowedFile counted.lines.now
+        × AreCounts counted.lines.now counted.counts.items };
+}
+
+impl<'a> CountedLines<'a> {
+    // Before any is counted: who asks for a place goes through the lines before it. It takes no memory.
+    fn uncounted(alloc: Global, lines: &'a [Line]) -> CountedLines<'a>
+        requires { IsAllowedFile lines.now }
+        ensures { result ≡ lines.now }
+    {
+        let counts = Vec::new(alloc);
+        CountedLines { lines, counts }
+    }
+
+    // For who asks for many places: all are counted.
+    fn new(alloc: Global, lines: &'a [Line]) -> Result<CountedLines<'a>, AllocError>
+        requires { IsAllowedFile lines.now }
+        ensures { IfOk result (λ counted. counted ≡ lines.now) }
+    {
+        let mut counts = Vec::with_capacity(alloc, lines.len())?;
+        let mut count = 0;
+        'lines: for index in 0..lines.len() {
+            counts.push(count)?;
+            count = count_behind(lines, index, count);
+        }
+        Ok(CountedLines { lines, counts })
+    }
+
+    // Tells that the lines are within the limits.
+    fn keeps_form(&self)
+        ensures { IsAllowedFile self.now }
+    {
+        let _lines = &self.lines;
+    }
+
+    // The range of a line, by its number from 1 on.
+    fn line(&self, encoding: Encoding, number: u32) -> Range
+        ensures { result ≡ line_range encoding self.now number }
+    {
+        self.keeps_form();
+        self.between(encoding, number, (0, usize::MAX))
+    }
+
+    // From behind so many bytes of a line up to behind so many.
+    fn between(&self, encoding: Encoding, number: u32, columns: (usize, usize)) -> Range
+        ensures start { result.start ≡ position_in encoding self.now number columns.0 }
+        ensures end { result.end ≡ position_in encoding self.now number columns.1 }
+    {
+        Range {
+            start: self.position(encoding, number, columns.0),
+            end: self.position(encoding, number, columns.1),
+        }
+    }
+
+    // The position behind so many bytes of a line.
+    fn position(&self, encoding: Encoding, number: u32, column: usize) -> Position
+        ensures { result ≡ position_in encoding self.now number column }
+    {
+        let Some(index) = (number as usize).checked_sub(1) else {
+            return Position { line: 0, column: 0 };
+        };
+        let before = index + self.returns_before(index);
+        let bytes = self.bytes_of(index);
+        position_behind(encoding, before, &bytes[..column.min(bytes.len())])
+    }
+
+    // The bytes of the line with this index, or none.
+    fn bytes_of(&self, index: usize) -> &[u8]
+        ensures { result.now ≡ unwrap_or (slice_get self.now index) [] }
+    {
+        match self.lines.get(index) {
+            Some(line) => line.as_bytes(),
+            None => b"",
+        }
+    }
+
+    // How many carriage returns are before the line with this index.
+    fn returns_before(&self, index: usize) -> usize
+        ensures value { result ≡ sum_by returns (take index self.now) }
+        ensures few { result ≤ longest_line * most_lines }
+    {
+        match self.counts.get(index) {
+            Some(count) => *count,
+            None => returns_in_all(&self.lines[..index.min(self.lines.len())]),
+        }
+    }
+}
+
+// How many carriage returns are before the line behind one, of so many before that.
+fn count_behind(lines: &[Line], index: usize, before: usize) -> usize
+    requires allowed { IsAllowedFile lines.now }
+    requires within { index < length lines.now }
+    requires before { before ≡ sum_by returns (take index lines.now) }
+    requires few { before ≤ longest_line * index }
+    ensures value { result ≡ sum_by returns (take (index + 1) lines.now) }
+    ensures few { result ≤ longest_line * (index + 1) }
 {
-    let Some(index) = (number as usize).checked_sub(1) else {
-        return Position { line: 0, column: 0 };
-    };
-    let before = index + returns_in_all(&lines[..index.min(lines.len())]);
-    let bytes = match lines.get(index) {
-        Some(line) => line.as_bytes(),
-        None => b"",
-    };
-    position_behind(encoding, before, &bytes[..column.min(bytes.len())])
+    before + returns_in(lines[index].as_bytes())
 }
 
 // How many carriage returns these lines have.

@@ -1,12 +1,13 @@
 //! What is found is told, of each file of which it has become another.
 
-ghost use Rattle.std.specs.Prelude.{OnOk};
+ghost use Rattle.std.specs.Prelude.{◌≡◌, OnOk};
 ghost use Rattle.idl_server.specs.Files.{IsKept};
 ghost use Rattle.idl_editor.specs.messages.Said.{said_by};
+ghost use Rattle.idl_server.specs.Messages.{answered};
 ghost use Rattle.idl_server.specs.Published.{ArePublished};
 
 use crate::workspace::Workspace;
-use idl_editor::documents::uri_for;
+use idl_editor::documents::{uri_for, version_for};
 use idl_editor::messages::Outbox;
 use idl_editor::told::found_params;
 use idl_project::Finding;
@@ -39,6 +40,7 @@ impl PublishedDiagnostics {
         ensures kept { IsKept workspace.old workspace.new }
         ensures published { OnOk result (ArePublished workspace.new
             (said_by out.old) (said_by out.new)) }
+        ensures answers { OnOk result (answered (said_by out.new) ≡ answered (said_by out.old)) }
     {
         self.gather(workspace)?;
         workspace.touched.clear();
@@ -101,8 +103,9 @@ impl PublishedDiagnostics {
         name: &Name,
         out: &mut Outbox,
     ) -> Result<(), AllocError>
-        ensures { OnOk result (ArePublished workspace.now
+        ensures published { OnOk result (ArePublished workspace.now
             (said_by out.old) (said_by out.new)) }
+        ensures answers { OnOk result (answered (said_by out.new) ≡ answered (said_by out.old)) }
     {
         let list = workspace.diagnostics_in(name)?;
         let text = list.to_vec(out.alloc())?;
@@ -110,7 +113,8 @@ impl PublishedDiagnostics {
             return Ok(());
         }
         let uri = uri_for(&workspace.documents, &workspace.folders, name)?;
-        let params = found_params(out.alloc(), uri, list)?;
+        let version = version_for(&workspace.documents, name);
+        let params = found_params(out.alloc(), uri, version, list)?;
         out.tell("textDocument/publishDiagnostics", &params)?;
         self.texts.insert(name.copied(), text)?;
         Ok(())

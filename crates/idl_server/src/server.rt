@@ -1,12 +1,17 @@
 //! The server: a step of it for each message.
 
-ghost use Rattle.std.specs.Prelude.{◌≡◌, ℕ, List, None, OnOk};
+ghost use Rattle.std.specs.Prelude.{◌≡◌, ◌⊎◌, ◌++◌, ◌∷◌, [], ℕ, List, Contains, None, IfOk, IsErr, OnErr, OnOk};
 ghost use Rattle.serde_json.specs.View.{view};
 ghost use Rattle.idl_loader.specs.Holding.{Holding};
 ghost use Rattle.idl_editor.specs.messages.Said.{said_by};
 ghost use Rattle.idl_editor.specs.documents.Notices.{told_by_message, told_by_notice};
+ghost use Rattle.idl_editor.specs.messages.Answers.{error_json};
+ghost use Rattle.idl_editor.specs.messages.Message.{IsMessage};
+ghost use Rattle.idl_editor.specs.declared.messages.answer.ErrorCode.TheVariants.{Internal};
+ghost use Rattle.idl_editor.specs.declared.messages.message.Message.{Message};
+ghost use Rattle.idl_server.specs.Messages.{IsAnswered, IsMessageOf, answered, next_by, outcome_by};
 ghost use Rattle.idl_server.specs.Published.{ArePublished};
-ghost use Rattle.idl_server.specs.Server.{HasTaken, IsSettled, if_running, told_to};
+ghost use Rattle.idl_server.specs.Server.{HasTaken, IsNew, IsSettled, if_running, told_to};
 ghost use Rattle.idl_server.specs.declared.workspace.Workspace.{Workspace};
 
 use crate::publishing::PublishedDiagnostics;
@@ -33,11 +38,14 @@ enum Phase {
 }
 
 impl Phase {
-    // What `exit` comes to.
-    fn end(self) -> StepOutcome {
-        match self {
-            Phase::ShutDown => StepOutcome::Ends,
-            Phase::Waiting | Phase::Running => StepOutcome::BreaksOff,
+    // What a notice comes to.
+    fn outcome_by(self, method: Method) -> StepOutcome
+        ensures { result ≡ outcome_by self method }
+    {
+        match (self, method) {
+            (Phase::ShutDown, Method::Exit) => StepOutcome::Ends,
+            (_, Method::Exit) => StepOutcome::BreaksOff,
+            _ => StepOutcome::Goes,
         }
     }
 }
@@ -64,7 +72,8 @@ pub struct Server {
 impl Server {
     /// A server that was told nothing.
     pub fn new(alloc: Global) -> Server
-        ensures { (told : List ℕ → Holding) → IsSettled told result }
+        ensures settled { (told : List ℕ → Holding) → IsSettled told result }
+        ensures first { IsNew result }
     {
         let session = Session::new(alloc);
         let documents = IndexMap::new(alloc);
@@ -100,6 +109,9 @@ impl Server {
         ensures taken { OnOk result (HasTaken (told_to self.old body.now) self.old self.new) }
         ensures published { OnOk result (ArePublished self.new.workspace
             (said_by out.old) (said_by out.new)) }
+        ensures answered { IfOk result (λ outcome. (message : Message)
+            × IsMessageOf body.now message × IsAnswered message self.old.phase self.new.phase
+            (said_by out.old) (said_by out.new) outcome) }
         ensures stays { L.told_of loader.new ≡ L.told_of loader.old }
     {
         match Value::from_slice(out.alloc(), body) {
@@ -127,6 +139,9 @@ impl Server {
             (told_by_message self.old.workspace.folders (view value.now))) self.old self.new) }
         ensures published { OnOk result (ArePublished self.new.workspace
             (said_by out.old) (said_by out.new)) }
+        ensures answered { IfOk result (λ outcome. (message : Message)
+            × IsMessage (view value.now) message × IsAnswered message self.old.phase self.new.phase
+            (said_by out.old) (said_by out.new) outcome) }
         ensures stays { L.told_of loader.new ≡ L.told_of loader.old }
     {
         let nothing = Value::Null;
@@ -135,11 +150,13 @@ impl Server {
                 self.take_request(id, method, params.unwrap_or(&nothing), out)?;
                 Ok(StepOutcome::Goes)
             }
-            Message::Notice(Method::Exit, _) => Ok(self.phase.end()),
-            Message::Notice(method, params) => {
-                self.take_notice(loader, method, params.unwrap_or(&nothing), out)?;
-                Ok(StepOutcome::Goes)
-            }
+            Message::Notice(method, params) => match self.phase.outcome_by(method) {
+                StepOutcome::Goes => {
+                    self.take_notice(loader, method, params.unwrap_or(&nothing), out)?;
+                    Ok(StepOutcome::Goes)
+                }
+                end => Ok(end),
+            },
             Message::Answer => Ok(StepOutcome::Goes),
             Message::Invalid => {
                 out.refuse(&Value::Null, ErrorCode::NoMessage)?;
@@ -161,6 +178,11 @@ impl Server {
         ensures taken { OnOk result (HasTaken None self.old self.new) }
         ensures published { (w : Workspace)
             → OnOk result (ArePublished w (said_by out.old) (said_by out.new)) }
+        ensures answers { OnOk result (answered (said_by out.new)
+            ≡ answered (said_by out.old) ++ view id.now ∷ []) }
+        ensures led { OnOk result ((self.new.phase ≡ next_by self.old.phase method)
+            ⊎ ((self.new.phase ≡ self.old.phase)
+            × Contains (said_by out.new) (error_json (view id.now) Internal))) }
     {
         say_outcome(id, self.outcome(method, params), out)?;
         show_refused(&mut self.workspace.refused, out)
@@ -171,22 +193,27 @@ impl Server {
         ensures settled { (told : List ℕ → Holding)
             → IsSettled told self.old → IsSettled told self.new }
         ensures taken { HasTaken None self.old self.new }
+        ensures led { OnOk result (self.new.phase ≡ next_by self.old.phase method) }
+        ensures kept { OnErr result (self.new.phase ≡ self.old.phase) }
     {
-        match (self.phase, method) {
-            (Phase::Waiting, Method::Initialize) => {
-                let abilities = self.workspace.begin(params)?;
-                self.phase = Phase::Running;
-                Ok(RequestOutcome::Done(abilities))
-            }
-            (Phase::Waiting, _) => Ok(RequestOutcome::Refused(ErrorCode::NotInitialized)),
-            (Phase::Running, Method::Shutdown) => {
-                self.phase = Phase::ShutDown;
-                Ok(RequestOutcome::Done(Value::Null))
-            }
-            (Phase::ShutDown, _) | (Phase::Running, Method::Initialize) => {
-                Ok(RequestOutcome::Refused(ErrorCode::NoMessage))
-            }
-            (Phase::Running, _) => self.workspace.answer(method, params),
+        match self.phase {
+            Phase::Waiting => match method {
+                Method::Initialize => {
+                    let abilities = self.workspace.begin(params)?;
+                    self.phase = Phase::Running;
+                    Ok(RequestOutcome::Done(abilities))
+                }
+                _ => Ok(RequestOutcome::Refused(ErrorCode::NotInitialized)),
+            },
+            Phase::Running => match method {
+                Method::Initialize => Ok(RequestOutcome::Refused(ErrorCode::NoMessage)),
+                Method::Shutdown => {
+                    self.phase = Phase::ShutDown;
+                    Ok(RequestOutcome::Done(Value::Null))
+                }
+                _ => self.workspace.answer(method, params),
+            },
+            Phase::ShutDown => Ok(RequestOutcome::Refused(ErrorCode::NoMessage)),
         }
     }
 
@@ -205,6 +232,8 @@ impl Server {
             self.old self.new) }
         ensures published { OnOk result (ArePublished self.new.workspace
             (said_by out.old) (said_by out.new)) }
+        ensures answers { OnOk result (answered (said_by out.new) ≡ answered (said_by out.old)) }
+        ensures phase { self.new.phase ≡ self.old.phase }
         ensures stays { L.told_of loader.new ≡ L.told_of loader.old }
     {
         let Phase::Running = self.phase else {
@@ -219,8 +248,9 @@ impl Server {
 
 // Shows what was refused.
 fn show_refused(refused: &mut Vec<RefusedEdit>, out: &mut Outbox) -> Result<(), AllocError>
-    ensures { (w : Workspace)
+    ensures published { (w : Workspace)
         → OnOk result (ArePublished w (said_by out.old) (said_by out.new)) }
+    ensures answers { OnOk result (answered (said_by out.new) ≡ answered (said_by out.old)) }
 {
     'refused: for one in refused.as_slice() {
         let params = shown_params(out.alloc(), one)?;
@@ -236,8 +266,12 @@ fn say_outcome(
     outcome: Result<RequestOutcome, AllocError>,
     out: &mut Outbox,
 ) -> Result<(), AllocError>
-    ensures { (w : Workspace)
+    ensures published { (w : Workspace)
         → OnOk result (ArePublished w (said_by out.old) (said_by out.new)) }
+    ensures answers { OnOk result (answered (said_by out.new)
+        ≡ answered (said_by out.old) ++ view id.now ∷ []) }
+    ensures memory { IsErr outcome
+        → OnOk result (Contains (said_by out.new) (error_json (view id.now) Internal)) }
 {
     match outcome {
         Ok(RequestOutcome::Done(value)) => out.answer(id, &value),

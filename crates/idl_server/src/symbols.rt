@@ -1,11 +1,14 @@
 //! The names that are declared in a document.
 
-use crate::places::{LocatedToken, range_of};
+ghost use Rattle.std.specs.Prelude.{◌≡◌};
+ghost use Rattle.idl_server.specs.Places.{lines_of};
+
+use crate::places::{CountedFile, LocatedToken, range_near};
 use crate::workspace::Workspace;
 use idl_editor::told::{DocumentSymbol, nested};
-use idl_editor::{Range, is_around};
+use idl_editor::{Encoding, Range, is_around};
 use idl_entity::Kind;
-use idl_project::{DeclaredPlace, DetailedEntry};
+use idl_project::{DeclaredPlace, DetailedEntry, Session};
 use idl_source::Name;
 use serde_json::Value;
 use std::alloc::AllocError;
@@ -18,20 +21,37 @@ impl Workspace {
         let Some(told) = self.details_with(name)? else {
             return Ok(Value::Null);
         };
+        let file = CountedFile::new(session, name)?;
         let mut symbols = Vec::new(alloc);
         'entries: for entry in told.details.entries.as_slice() {
             'places: for declared in entry.places.as_slice() {
                 if declared.name.place.file.as_bytes() == name.as_bytes() {
-                    let token = range_of(session, encoding, LocatedToken::of(&declared.name));
-                    let first = range_of(session, encoding, LocatedToken::of(&declared.first));
-                    let last = range_of(session, encoding, LocatedToken::of(&declared.last));
-                    let (start, end) = (first.start, last.end);
-                    symbols.push(symbol_of(entry, declared, token, Range { start, end }))?;
+                    let (here, whole) = ranges_of(session, encoding, declared, &file);
+                    symbols.push(symbol_of(entry, declared, here, whole))?;
                 }
             }
         }
         nested(alloc, &symbols)
     }
+}
+
+// The range of a name where it is declared, and from the first token of what is declared through its last one.
+fn ranges_of(
+    session: &Session,
+    encoding: Encoding,
+    declared: &DeclaredPlace,
+    file: &CountedFile<'_>,
+) -> (Range, Range)
+    requires { file.now.lines ≡ lines_of session.now.project file.now.name.now }
+{
+    let name = LocatedToken::of(&declared.name);
+    let first = range_near(session, encoding, LocatedToken::of(&declared.first), file);
+    let last = range_near(session, encoding, LocatedToken::of(&declared.last), file);
+    let whole = Range {
+        start: first.start,
+        end: last.end,
+    };
+    (range_near(session, encoding, name, file), whole)
 }
 
 // A name where it is declared, by its range. What is declared goes from its first token through its last one, where these are known.

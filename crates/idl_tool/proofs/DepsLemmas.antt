@@ -8,14 +8,12 @@ use Rattle.clap.proofs.WalkLemmas.{list_any-map}
 use Rattle.idl_tool.specs.make_rules.Make.{IfThere, IsMakeRule, Need, Rule, There, is_make_name, name_in, rule_text, rules_text}
 use Rattle.idl_loader.specs.Lines.{whole_line}
 use Rattle.idl_source.specs.texts.Texts.{Texts}
-use Rattle.idl_inputs.specs.Asked.{asked_over}
-use Rattle.idl_inputs.specs.Bank.{bank_of}
 use Rattle.idl_driver.specs.idl_sources.Compile.{compiled_root}
 use Rattle.idl_inputs.specs.Project.{Inputs}
 use Rattle.idl_driver.specs.idl_sources.declared.compile.CompiledRoot.{CompiledRoot}
 use Rattle.idl_driver.specs.Compiled.{errors_in, is_faulty, lines_of}
 use Rattle.idl_driver.specs.Rows.{are_faulty, lines_with}
-use Rattle.idl_tool.specs.Deps.{empty_rule, is_other, is_there, need_of, needs_in, needs_of, rules_for, rules_in, target_of}
+use Rattle.idl_tool.specs.Deps.{empty_rule, is_other, is_there, need_of, needs_in, needs_of, rules_for, rules_in, target_of, wanted_in}
 use Rattle.idl_tool.specs.declared.request.Deps.{Deps}
 
 pub rules_text-append : (xs ys : List Rule) → rules_text (xs ++ ys) ≡ rules_text xs ++ rules_text ys
@@ -73,7 +71,7 @@ needs_of-empties (name ∷ names) = needs_of-empties names
 
 needs_of-rules : (deps : Deps) (inputs : Inputs) (root : List ℕ) → needs_of (rules_in deps inputs root) ≡ needs_in deps inputs root
 needs_of-rules deps inputs root =
-    let others = filter (is_other inputs.files root) (asked_over (bank_of inputs) root) in
+    let others = filter (is_other inputs.files root) (wanted_in deps inputs root) in
     ap (λ (needs : List Need). needs_in deps inputs root ++ needs) (needs_of-empties others) ∙ append-nil (needs_in deps inputs root)
 
 -- it is what the roots ask for

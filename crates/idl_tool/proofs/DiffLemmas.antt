@@ -1,29 +1,26 @@
 -- Two versions, and what is told of them.
-use Rattle.std.proofs.Common.{◌≡◌, ◌≢◌, ◌∙◌, ◌||◌, ◌∷◌, [], ℕ, Bool, List, None, Option, Some, ap, ap₂, false, flat_map, if◌then◌else◌, map, refl, sym, true}
-use Rattle.std.proofs.lemmas.Bool.{false≢true, or_parts}
-use Rattle.std.proofs.lemmas.List.{append-nil}
+use Rattle.std.proofs.Common.{Bor, MatchOption, ◌≡◌, ◌∙◌, ◌+◌, ◌<◌, ◌≤◌, ◌++◌, ◌&&◌, ◌||◌, ◌∷◌, [], ℕ, Bool, List, None, Option, Some, ap, ap₂, append_assoc, false, flat_map, get_or, if◌then◌else◌, length, map, refl, sym, take, true}
+use Rattle.std.specs.List.{HoldsAt, slice_get}
+use Rattle.std.specs.Option.{option_copied, option_map}
+use Rattle.std.proofs.lemmas.Bool.{or_parts}
+use Rattle.std.proofs.lemmas.List.{append-nil, take_more}
+use Rattle.std.proofs.lemmas.List.Concat.{flat_map-append}
 use Rattle.std.proofs.lemmas.List.Elements.{All-cons, All-nil}
-use Rattle.std.proofs.lemmas.List.Folds.{flat_map-map}
-use Rattle.idl_changes.specs.Changes.{NoneBreaks}
+use Rattle.std.proofs.lemmas.Option.{slice_get-map, slice_get_past, slice_get_read}
+use Rattle.idl_changes.specs.Chosen.{meets}
+use Rattle.idl_changes.specs.Laws.{NoneHas}
 use Rattle.idl_changes.specs.declared.change.Change.{Change}
-use Rattle.idl_changes.specs.declared.change.Weight.{Weight}
-use Rattle.idl_changes.specs.declared.change.Weight.TheVariants.{Breaks}
+use Rattle.idl_changes.specs.declared.rows.Weights.{Weights}
 use Rattle.idl_source.specs.devices.Device.{append}
-use Rattle.idl_inputs.specs.Bank.{bank_of}
-use Rattle.idl_driver.specs.idl_sources.Details.{details_over}
-use Rattle.idl_inputs.specs.Project.{Inputs}
 use Rattle.idl_driver.specs.Compilations.{IsCompilation, HasCompiled}
 use Rattle.idl_loader.specs.Holding.{Holding}
+use Rattle.idl_loader.specs.Lines.{whole_line}
 use Rattle.idl_driver.specs.Rows.{are_faulty}
 use Rattle.idl_driver.specs.declared.options.Options.{Options}
 use Rattle.idl_driver.specs.declared.compilation.Compilation.{Compilation}
 use Rattle.idl_loader.specs.declared.status.Status.TheVariants.{Failed, Faulty, Sound}
-use Rattle.idl_tool.specs.Compared.{IsVersion, Version, all_trees, are_breaking, change_lines, changes_between, ending_of, has_error, is_breaking, seen, shown_between, trees_in}
+use Rattle.idl_tool.specs.Compared.{IsVersion, Version, are_failing, ending_by, ending_of, has_error, lines_between, seen, shown_between}
 use Rattle.idl_tool.proofs.DepsLemmas.{ending-of}
-
--- the trees of what the roots tell
-pub trees-of-all : (inputs : Inputs) (roots : List (List ℕ)) → flat_map trees_in (map (details_over (bank_of inputs)) roots) ≡ all_trees inputs roots
-trees-of-all inputs roots = flat_map-map trees_in (details_over (bank_of inputs)) roots
 
 -- what options ask for, compiled, is the version that they ask for
 pub version-of : (told : List ℕ → Holding) (options : Options) (all : Compilation) → IsCompilation told options all → IsVersion told options (seen all)
@@ -41,32 +38,57 @@ append-none None = refl
 append-none (Some bytes) = ap Some (sym (append-nil bytes))
 
 -- of versions with an error nothing is shown
-pub shown-none : (old new : Version) → has_error old new ≡ true → (shown_between old new ≡ []) × (ending_of old new ≡ Failed)
-shown-none old new is = (
-  ap (λ (b : Bool). if b then [] else change_lines (changes_between old new)) is,
-  ap (λ (b : Bool). if b then Failed else if are_breaking (changes_between old new) then Faulty else Sound) is,
+pub shown-none : (fails : Weights) (old new : Version) → has_error old new ≡ true → (shown_between fails old new ≡ []) × (ending_of fails old new ≡ Failed)
+shown-none fails old new is = (
+  ap (λ (b : Bool). if b then [] else lines_between fails old new) is,
+  ap (λ (b : Bool). if b then Failed else ending_by fails old new) is,
 )
 
 -- and of others the changes
-pub shown-all : (old new : Version) → has_error old new ≡ false
-    → (shown_between old new ≡ change_lines (changes_between old new)) × (ending_of old new ≡ (if are_breaking (changes_between old new) then Faulty else Sound))
-shown-all old new is = (
-  ap (λ (b : Bool). if b then [] else change_lines (changes_between old new)) is,
-  ap (λ (b : Bool). if b then Failed else if are_breaking (changes_between old new) then Faulty else Sound) is,
+pub shown-all : (fails : Weights) (old new : Version) → has_error old new ≡ false
+    → (shown_between fails old new ≡ lines_between fails old new) × (ending_of fails old new ≡ ending_by fails old new)
+shown-all fails old new is = (
+  ap (λ (b : Bool). if b then [] else lines_between fails old new) is,
+  ap (λ (b : Bool). if b then Failed else ending_by fails old new) is,
 )
 
--- of changes none of which breaks anything
-breaking-is : (w : Weight) → is_breaking w ≡ false → w ≢ Breaks
-breaking-is w is same = false≢true (sym is ∙ ap is_breaking same)
+-- of changes none of which is an error none counts on the wire, where that would be one
+pub none-failing : (fails : Weights) → fails.wire ≡ true → (told : List Change) → are_failing fails told ≡ false → NoneHas (λ w. w.wire) told
+none-failing fails wire [] is = All-nil (λ (c : Change). c.difference.weights.wire ≡ false)
+none-failing fails wire (change ∷ rest) is =
+    let parts = or_parts (meets change.difference.weights fails) (are_failing fails rest) is in
+    let own = unmet change.difference.weights.wire fails.wire _ wire parts.0 in
+    All-cons (λ (c : Change). c.difference.weights.wire ≡ false) change rest own (none-failing fails wire rest parts.1)
+  where
+    unmet : (a b more : Bool) → b ≡ true → ((a && b) || more) ≡ false → a ≡ false
+    unmet true true more e h = cc
+    unmet false b more e h = refl
+    unmet true false more e h = cc
 
-pub none-breaking : (told : List Change) → are_breaking told ≡ false → NoneBreaks told
-none-breaking [] is = All-nil (λ (c : Change). c.weight ≢ Breaks)
-none-breaking (change ∷ rest) is =
-    let parts = or_parts (is_breaking change.weight) (are_breaking rest) is in
-    All-cons (λ (c : Change). c.weight ≢ Breaks) change rest (breaking-is change.weight parts.0) (none-breaking rest parts.1)
-
--- none breaks anything where the program ends soundly
-pub sound-none : (faulty breaking : Bool) → (if faulty then Failed else if breaking then Faulty else Sound) ≡ Sound → breaking ≡ false
-sound-none true breaking is = absurd (cc)
+-- none is an error where the program ends soundly
+pub sound-none : (faulty failing : Bool) → (if faulty then Failed else if failing then Faulty else Sound) ≡ Sound → failing ≡ false
+sound-none true failing is = absurd (cc)
 sound-none false true is = absurd (cc)
 sound-none false false is = refl
+
+-- one line more
+pub line-next : (line : Change → List ℕ) (told : List Change) (i : ℕ) (change : Change) (text head row whole place grade words : List ℕ)
+    → i < length told → change ≡ get_or told i change → text ≡ flat_map (λ c. whole_line (line c)) (take i told)
+    → head ≡ text ++ (place ++ grade) → row ≡ head ++ words → whole ≡ row ++ 10 ∷ [] → line change ≡ place ++ (grade ++ words)
+    → whole ≡ flat_map (λ c. whole_line (line c)) (take (i + 1) told)
+line-next line told i change text head row whole place grade words within is so_far before put end says =
+    let f = λ (c : Change). whole_line (line c) in
+    let next : row ≡ text ++ line change =
+    put ∙ ap (λ (t : List ℕ). t ++ words) before ∙ append_assoc text (place ++ grade) words
+    ∙ ap (λ (t : List ℕ). text ++ t) (append_assoc place grade words ∙ sym says)
+    in
+    end ∙ ap (λ (t : List ℕ). t ++ 10 ∷ []) next ∙ append_assoc text (line change) (10 ∷ [])
+    ∙ ap₂ (λ (a b : List ℕ). a ++ b) so_far (sym (append-nil (whole_line (line change))))
+    ∙ sym (flat_map-append f (take i told) (change ∷ []))
+    ∙ ap (flat_map f) (sym (take_more told i change within ∙ ap (λ (c : Change). take i told ++ c ∷ []) (sym is)))
+
+-- what `get` finds among rows, by the rows of the definition
+pub got-row : {X Y : Type 0} (row : X → Y) (xs : List X) (i : ℕ) (found : Option (Bor X)) → MatchOption found (length xs ≤ i) (λ x. (i < length xs) × HoldsAt (λ y. x.now ≡ y) xs i)
+    → slice_get (map row xs) i ≡ option_map row (option_copied found)
+got-row row xs i None past = slice_get-map row xs i ∙ ap (option_map row) (slice_get_past xs i past)
+got-row row xs i (Some x) at = slice_get-map row xs i ∙ ap (option_map row) (slice_get_read xs (length xs) i x.now refl at.0 (at.1 x.now))

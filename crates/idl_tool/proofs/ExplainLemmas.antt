@@ -1,15 +1,17 @@
 -- Explanations that are listed, one after another.
-use Rattle.std.proofs.Common.{◌≡◌, ◌∙◌, ◌+◌, ◌<◌, ◌++◌, ◌∷◌, [], ℕ, Contains, List, ap, append_assoc, codes, get_or, length, refl, subst, sym, take}
-use Rattle.std.proofs.lemmas.List.{append-nil, take_more}
+use Rattle.std.proofs.Common.{◌≡◌, ◌∙◌, ◌+◌, ◌<◌, ◌++◌, ◌∷◌, [], ℕ, Contains, List, ap, append_assoc, codes, flat_map, get_or, length, map, refl, subst, sym, take}
+use Rattle.std.proofs.lemmas.List.{append-nil, map-append, take_more}
 use Rattle.std.proofs.lemmas.List.Concat.{flat_map-append}
 use Rattle.std.proofs.lemmas.List.Elements.{Contains-append_left, Contains-append_right}
 use Rattle.idl_fault.specs.declared.code.Code.{Code}
 use Rattle.idl_source.specs.declared.refusal.Refusal.{Refusal}
-use Rattle.idl_explain.specs.Explained.{headline, topic_of}
+use Rattle.std.specs.List.{AllZip}
+use Rattle.idl_explain.specs.Explained.{Names, headline, shown, topic_of}
 use Rattle.idl_explain.specs.declared.explanation.Explanation.{Explanation}
 use Rattle.idl_explain.specs.declared.explanation.Topic.{Topic}
 use Rattle.idl_explain.specs.declared.explanation.Topic.TheVariants as topic
-use Rattle.idl_tool.specs.Answered.{AreAllListed, AreListed, lines_of, topics_in}
+use Rattle.idl_tool.specs.Answered.{AreAllListed, AreListed, AreShown, lines_of, topics_in}
+use Rattle.idl_tool.proofs.JsonLemmas.{zip-push}
 
 topics_in-append : (es fs : List Explanation) → topics_in (es ++ fs) ≡ topics_in es ++ topics_in fs
 topics_in-append [] fs = refl
@@ -39,6 +41,22 @@ pub listed-at : (ts : List Topic) (i : ℕ) (d : Topic) (e : Explanation) (befor
 listed-at ts i d e before mid after within are is more =
     subst (λ (us : List Topic). AreListed us before after) (sym (take_more ts i d within))
     (listed-both (take i ts) (get_or ts i d ∷ []) before mid after are (listed-one (get_or ts i d) e mid after is more))
+
+-- what is shown of a word more
+pub shown-at : {W : Type 0} (f : W → List ℕ) (ws : List W) (i : ℕ) (d : W) (e : Explanation) (before mid after : List ℕ) → i < length ws → AreShown (map f (take i ws)) before mid
+    → Names (f (get_or ws i d)) (topic_of e.told) → after ≡ (mid ++ 10 ∷ []) ++ shown e → AreShown (map f (take (i + 1) ws)) before after
+shown-at f ws i d e before mid after within are names more =
+    let es = are.0 in
+    let word = f (get_or ws i d) in
+    let tell : Explanation → List ℕ = λ x. 10 ∷ shown x in
+    let words : map f (take (i + 1) ws) ≡ map f (take i ws) ++ word ∷ [] = ap (map f) (take_more ws i d within) ∙ map-append f (take i ws) (get_or ws i d ∷ []) in
+    let zipped = zip-push Names (map f (take i ws)) (topics_in es) word (topic_of e.told) are.1 names in
+    let both = subst (λ (ts : List Topic). AllZip Names (map f (take i ws) ++ word ∷ []) ts) (sym (topics_in-append es (e ∷ []))) zipped in
+    let all = ap (λ text. flat_map tell es ++ text) (sym (append-nil (tell e))) ∙ sym (flat_map-append tell es (e ∷ [])) in (
+      es ++ e ∷ [],
+      subst (λ (us : List (List ℕ)). AllZip Names us (topics_in (es ++ e ∷ []))) (sym words) both,
+      more ∙ append_assoc mid (10 ∷ []) (shown e) ∙ ap (λ text. text ++ tell e) are.2 ∙ append_assoc before (flat_map tell es) (tell e) ∙ ap (λ text. before ++ text) all,
+    )
 
 -- lines of all codes and all refusals are those of all topics
 pub listed-all : (codes_listed refusals_listed : List Topic) (before mid after : List ℕ) → AreListed codes_listed before mid → AreListed refusals_listed mid after

@@ -6,3 +6,4 @@ mod FailureLemmas
 mod JsonLemmas
 mod RequestLemmas
 mod RuleLemmas
+mod ShownLemmas

@@ -1,6 +1,6 @@
 -- What `explain` answers.
-use Rattle.std.specs.Prelude.{◌≡◌, ◌++◌, ℕ, List, [], Contains, Option, None, Some, codes, map}
-use Rattle.std.specs.List.{flat_map}
+use Rattle.std.specs.Prelude.{◌≡◌, ◌++◌, ◌∷◌, ℕ, List, [], Contains, Option, codes, map}
+use Rattle.std.specs.List.{AllZip, flat_map}
 use Rattle.idl_source.specs.devices.Device.{append}
 use Rattle.idl_explain.specs.Explained.{Names, headline, shown, topic_of}
 use Rattle.idl_explain.specs.declared.explanation.Explanation.{Explanation}
@@ -20,6 +20,12 @@ IsShown word before after =
     (explanation : Explanation) × Names word (topic_of explanation.told)
     × (after ≡ before ++ shown explanation)
 
+-- all that is shown of what each of these words names does, behind an empty line each
+abbrev pub AreShown : List (List ℕ) → List ℕ → List ℕ → Type 0
+AreShown words before after =
+    (explanations : List Explanation) × AllZip Names words (topics_in explanations)
+    × (after ≡ before ++ flat_map (λ e. 10 ∷ shown e) explanations)
+
 -- a line of each of these topics does
 abbrev pub AreListed : List Topic → List ℕ → List ℕ → Type 0
 AreListed topics before after =
@@ -33,8 +39,13 @@ AreAllListed before after =
     × ((topic : Topic) → Contains (topics_in explanations) topic)
     × (after ≡ before ++ lines_of explanations)
 
--- what went out for a word, or without one
-abbrev pub IsExplained : Option (List ℕ) → Option (List ℕ) → Option (List ℕ) → Type 0
-IsExplained word before after =
-    (text : List ℕ) × (after ≡ append before text)
-    × elim word [ None ↦ AreAllListed [] text | Some named ↦ IsShown named [] text ]
+-- what words name is shown behind a text, with an empty line between; without a word all is listed
+abbrev pub AreExplained : List (List ℕ) → List ℕ → List ℕ → Type 0
+AreExplained [] before after = AreAllListed before after
+AreExplained (word ∷ words) before after =
+    (first : List ℕ) × IsShown word before first × AreShown words first after
+
+-- what went out for words
+abbrev pub IsExplained : List (List ℕ) → Option (List ℕ) → Option (List ℕ) → Type 0
+IsExplained words before after =
+    (text : List ℕ) × (after ≡ append before text) × AreExplained words [] text

@@ -1,5 +1,5 @@
 -- What `check` tells of files.
-use Rattle.std.specs.Prelude.{◌≡◌, ◌++◌, ◌∷◌, ℕ, zero, suc, List, [], All, Contains, Option, None, flat_map, fold, map, not, option_and_then, slice_get, if◌then◌else◌}
+use Rattle.std.specs.Prelude.{◌≡◌, ◌&&◌, ◌||◌, ◌++◌, ◌∷◌, ℕ, zero, suc, Bool, List, [], All, Contains, Option, None, flat_map, fold, length, map, nat_eq, not, option_and_then, slice_get, if◌then◌else◌}
 use Rattle.std.specs.FinMap as finite
 use Rattle.std.specs.List.{AllZip, filter, list_any, zip}
 use Rattle.std.specs.Map.{keys_of}
@@ -17,18 +17,18 @@ use Rattle.idl_source.specs.texts.Texts.{Texts}
 use Rattle.idl_inputs.specs.Bank.{bank_of}
 use Rattle.idl_inputs.specs.Columns.{column_at}
 use Rattle.idl_driver.specs.idl_sources.Compile.{compiled_root}
+use Rattle.idl_driver.specs.idl_sources.declared.compile.CompiledRoot.{CompiledRoot}
 use Rattle.idl_inputs.specs.Made.{rootless}
 use Rattle.idl_inputs.specs.Project.{Inputs}
 use Rattle.idl_inputs.specs.WellFormed.{IsWellFormed}
 use Rattle.idl_driver.specs.Written.{Written}
-use Rattle.idl_driver.specs.Compiled.{is_faulty}
 use Rattle.idl_loader.specs.Holding.{Holding}
 use Rattle.idl_driver.specs.Loading.{AreLoaded, AreComplete}
 use Rattle.idl_driver.specs.Options.{AreAsked}
 use Rattle.idl_loader.specs.declared.status.Status.{Status}
 use Rattle.idl_loader.specs.declared.status.Status.TheVariants.{Sound, Faulty}
-use Rattle.idl_driver.specs.declared.options.Options.{Options}
 use Rattle.idl_tool.specs.Report.{report, second_line}
+use Rattle.idl_tool.specs.declared.request.Check.{Check}
 
 -- the line with this number, from 1 on
 abbrev pub numbered_line : List (List ℕ) → ℕ → Option (List ℕ)
@@ -125,24 +125,33 @@ IsReportText inputs roots text =
     × (reports : List Entry) × AreReported inputs.files (all_of told) [] reports
     × (text ≡ flat_map entry_text reports)
 
+-- what is found in a root is a fault: an error, or where warnings count, too, anything
+abbrev pub is_fault : Bool → CompiledRoot → Bool
+is_fault counts_warnings root =
+    root.rows.is_faulty || (counts_warnings && not (nat_eq (length root.rows.findings) 0))
+
+abbrev pub are_faults : Bool → List CompiledRoot → Bool
+are_faults counts_warnings roots = list_any (is_fault counts_warnings) roots
+
 -- what went out of the roots over these inputs, and how the program ends
-pub record AreReportsWritten (inputs : Inputs) (roots : List (List ℕ)) (before after : Written)
-    (status : Status) : Type 0 where
+pub record AreReportsWritten (counts_warnings : Bool) (inputs : Inputs) (roots : List (List ℕ))
+    (before after : Written) (status : Status) : Type 0 where
   pub told : List (List Told)
   pub each : AreToldOf inputs roots told
   pub reports : List Entry
   pub reported : AreReported inputs.files (all_of told) [] reports
   pub output : after.output ≡ append before.output (flat_map entry_text reports)
   pub errors : after.errors ≡ before.errors
-  pub ending : status ≡ (if is_faulty inputs roots then Faulty else Sound)
+  pub ending : status
+      ≡ (if are_faults counts_warnings (map (compiled_root inputs) roots) then Faulty else Sound)
 
--- the options are served, over the files that the loader tells of and within the limits
-pub record IsChecked (told : List ℕ → Holding) (options : Options) (before after : Written)
+-- what is asked for is told, over the files that the loader tells of and within the limits
+pub record IsChecked (told : List ℕ → Holding) (check : Check) (before after : Written)
     (status : Status) : Type 0 where
   pub inputs : Inputs
   pub roots : List (List ℕ)
-  pub asked : AreAsked options inputs roots
+  pub asked : AreAsked check.options inputs roots
   pub formed : IsWellFormed (rootless inputs)
   pub loaded : AreLoaded told inputs.files
   pub complete : AreComplete told inputs roots
-  pub reports : AreReportsWritten inputs roots before after status
+  pub reports : AreReportsWritten check.counts_warnings inputs roots before after status

@@ -47,25 +47,30 @@ empty_rule name = record { target = name; needs = [] }
 abbrev pub is_other : Texts → List ℕ → List ℕ → Bool
 is_other files root name = not (bytes_eq name root) && is_there files name
 
--- a root's rule stands on all that the root asks for, in order, and each other file that is there
--- has an empty one
+-- a root's rule stands on these files, in order, and each other one that is there has an empty one
 abbrev pub rules_for : Deps → Texts → List ℕ → List (List ℕ) → List Rule
 rules_for deps files root asked =
     record { target = target_of deps root; needs = map (need_of deps.has_generated files) asked }
     ∷ map empty_rule (filter (is_other files root) asked)
 
+-- all that a root asks for, or what is there of it
+abbrev pub wanted_in : Deps → Inputs → List ℕ → List (List ℕ)
+wanted_in deps inputs root =
+    let asked = asked_over (bank_of inputs) root in
+    if deps.leaves_absent then filter (is_there inputs.files) asked else asked
+
 abbrev pub rules_in : Deps → Inputs → List ℕ → List Rule
-rules_in deps inputs root = rules_for deps inputs.files root (asked_over (bank_of inputs) root)
+rules_in deps inputs root = rules_for deps inputs.files root (wanted_in deps inputs root)
 
 -- what rules stand on, one after the other
 abbrev pub needs_of : List Rule → List Need
 needs_of rules = flat_map (λ rule. rule.needs) rules
 
--- what compiling a root asks for, in order: files that have to be there, and files that count if
--- they are
+-- what is wanted of what compiling a root asks for, in order: files that have to be there, and
+-- files that count if they are
 abbrev pub needs_in : Deps → Inputs → List ℕ → List Need
 needs_in deps inputs root =
-    map (need_of deps.has_generated inputs.files) (asked_over (bank_of inputs) root)
+    map (need_of deps.has_generated inputs.files) (wanted_in deps inputs root)
 
 -- what went out of the roots over these inputs, and how the program ends
 pub record AreRuled (deps : Deps) (inputs : Inputs) (roots : List (List ℕ))

@@ -3,7 +3,6 @@ use Rattle.std.specs.Prelude.{◌≡◌, ℕ, Bool, List, [], map, slice_get, if
 use Rattle.std.specs.List.{AllZip, concat, zip}
 use Rattle.std.specs.Option.{option_map}
 use Rattle.std.specs.Str.{bytes_eq}
-use Rattle.idl_repo.specs.declared.details.row_tree.RowTree.{RowTree}
 use Rattle.idl_json.specs.Diagnostic.{Located, Second}
 use Rattle.idl_json.specs.Listed.{LocatedRow, NamePlace}
 use Rattle.idl_json.specs.Root.{IsRootLine, Root}
@@ -52,10 +51,6 @@ located_in files (finding, related) = record {
   column = column_of files finding;
   related = map (second_at files) related;
 }
-
--- the trees of what a root declares
-abbrev pub trees_of : Inputs → List ℕ → List RowTree
-trees_of inputs root = map (λ entry. entry.tree) (details_over (bank_of inputs) root).entries
 
 -- where a name of a root is declared, over these files
 abbrev pub declared_in : Texts → List ℕ → DeclaredPlace → NamePlace

@@ -1,6 +1,5 @@
 -- What the program does with a request.
-use Rattle.std.specs.Prelude.{◌≡◌, ℕ, List, Option}
-use Rattle.std.specs.Option.{option_map}
+use Rattle.std.specs.Prelude.{◌≡◌, ℕ, List, map}
 use Rattle.std.specs.String.{string_bytes}
 use Rattle.idl_driver.specs.Written.{Written}
 use Rattle.idl_loader.specs.Holding.{Holding}
@@ -15,20 +14,20 @@ use Rattle.idl_tool.specs.Json.{IsWritten}
 use Rattle.idl_tool.specs.declared.request.ToolRequest.{ToolRequest}
 use Rattle.idl_tool.specs.declared.request.ToolRequest.TheVariants.{Show, Explain, Deps, Check, Json, Diff, Serve}
 
--- what a word asks for, or nothing else, was explained
-pub record IsToldOf (word : Option (List ℕ)) (before after : Written) (status : Status)
+-- what words ask for, or nothing else, was explained
+pub record IsToldOf (words : List (List ℕ)) (before after : Written) (status : Status)
     : Type 0 where
-  pub output : IsExplained word before.output after.output
+  pub output : IsExplained words before.output after.output
   pub errors : after.errors ≡ before.errors
   pub sound : status ≡ Sound
 
 -- what is asked for was done
 abbrev pub IsDone : (List ℕ → Holding) → Written → Written → Status → ToolRequest → Type 0
 IsDone told before after status (Show text) = IsShownText (string_bytes text) before after status
-IsDone told before after status (Explain word) =
-    IsToldOf (option_map (λ w. w.now) word) before after status
+IsDone told before after status (Explain words) =
+    IsToldOf (map (λ w. w.now) words.items) before after status
 IsDone told before after status (Deps deps) = IsServed told deps before after status
-IsDone told before after status (Check options) = IsChecked told options before after status
+IsDone told before after status (Check check) = IsChecked told check before after status
 IsDone told before after status (Json options) = IsWritten told options before after status
 IsDone told before after status (Diff diff) = IsCompared told diff before after status
 -- what an editor is told is no affair of standard error

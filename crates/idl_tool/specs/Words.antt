@@ -1,6 +1,6 @@
 -- What the words behind the program's name ask for: the options that there are, and what each word
 -- is to them by clap's `subcommand_of`, or what is wrong with the words by its `fault_of`.
-use Rattle.std.specs.Prelude.{◌≡◌, ◌≢◌, ◌⊎◌, List, [], ◌∷◌, ◌++◌, Option, Some, true, codes, map}
+use Rattle.std.specs.Prelude.{◌≡◌, ◌≢◌, ◌⊎◌, List, [], ◌∷◌, ◌++◌, Option, None, Some, true, codes, map}
 use Rattle.std.specs.Option.{option_map, option_to_list}
 use Rattle.clap.specs.Words.{App, Kinds, Row, Rule, Shape, Text, fault_of, first_of, new_app, new_rule, subcommand_of, with_subcommand}
 use Rattle.clap.specs.Simple.{new_shape, on_top}
@@ -8,14 +8,18 @@ use Rattle.clap.specs.declared.builder.action.ArgAction.TheVariants.{Append, Set
 use Rattle.idl_driver.specs.Parsed.{IsDisplay, IsRefusal, Tells}
 use Rattle.idl_driver.specs.Words.{AreOptionsOf, file_rule, flag_rule, option_rules, stands, values_of}
 use Rattle.idl_driver.specs.declared.options.Options.{Options}
+use Rattle.idl_changes.specs.Chosen.{weights_named}
+use Rattle.idl_changes.specs.Rows.{callers}
+use Rattle.idl_changes.specs.declared.rows.Weights.{Weights}
 use Rattle.idl_tool.specs.declared.request.Deps.{Deps}
 use Rattle.idl_tool.specs.declared.request.Diff.{Diff}
+use Rattle.idl_tool.specs.declared.request.Check.{Check}
 use Rattle.idl_tool.specs.declared.request.ToolRequest.{ToolRequest}
 use Rattle.idl_tool.specs.declared.request.ToolRequest.TheVariants as request
 
--- the word of `explain`, once at most
+-- words of `explain`
 abbrev pub word_rule : Rule
-word_rule = record (new_rule (codes "word")) { action = Some Set; value_names = 1 }
+word_rule = record (new_rule (codes "word")) { action = Some Append; value_names = 1 }
 
 abbrev pub explain_shape : Shape
 explain_shape = record (new_shape (codes "explain")) { rules = word_rule ∷ [] }
@@ -28,20 +32,26 @@ target_rule =
 abbrev pub generated_rule : Rule
 generated_rule = record (flag_rule (codes "generated")) { long = Some (codes "generated") }
 
--- `-D`, `-U`, `-I`, these two, and FILEs, of which there is one at least
+abbrev pub present_rule : Rule
+present_rule = record (flag_rule (codes "present")) { long = Some (codes "present") }
+
+-- `-D`, `-U`, `-I`, these three, and FILEs, of which there is one at least
 abbrev pub deps_shape : Shape
 deps_shape = record (new_shape (codes "deps")) {
   rules = option_rules
-      ++ target_rule ∷ generated_rule ∷ record file_rule { required = true } ∷ [];
+      ++ target_rule ∷ generated_rule ∷ present_rule ∷ record file_rule { required = true } ∷ [];
+}
+
+abbrev pub werror_rule : Rule
+werror_rule = record (flag_rule (codes "werror")) { long = Some (codes "werror") }
+
+-- `-D`, `-U`, `-I`, this one, and FILEs, of which there is one at least
+abbrev pub check_shape : Shape
+check_shape = record (new_shape (codes "check")) {
+  rules = option_rules ++ werror_rule ∷ record file_rule { required = true } ∷ [];
 }
 
 -- `-D`, `-U`, `-I`, and FILEs, of which there is one at least
-abbrev pub check_shape : Shape
-check_shape = record (new_shape (codes "check")) {
-  rules = option_rules ++ record file_rule { required = true } ∷ [];
-}
-
--- the same
 abbrev pub json_shape : Shape
 json_shape = record (new_shape (codes "json")) {
   rules = option_rules ++ record file_rule { required = true } ∷ [];
@@ -56,25 +66,36 @@ side_rule id long =
 abbrev pub version_rule : Text → Rule
 version_rule id = record (new_rule id) { required = true; action = Some Set; value_names = 1 }
 
--- `-D`, `-U`, `-I`, these two, OLD and NEW
+-- `--fail-on WEIGHT[,WEIGHT..]`, or `--fail-on never`, once at most
+abbrev pub fails_rule : Rule
+fails_rule = record (new_rule (codes "fail-on")) {
+  long = Some (codes "fail-on");
+  action = Some Set;
+  value_names = 1;
+}
+
+-- `-D`, `-U`, `-I`, these three, OLD and NEW
 abbrev pub diff_shape : Shape
 diff_shape = record (new_shape (codes "diff")) {
   rules = option_rules
       ++ side_rule (codes "old-directory") (codes "old-I")
       ∷ side_rule (codes "new-directory") (codes "new-I")
-      ∷ version_rule (codes "old") ∷ version_rule (codes "new") ∷ [];
+      ∷ fails_rule ∷ version_rule (codes "old") ∷ version_rule (codes "new") ∷ [];
 }
 
--- no words of its own
-abbrev pub lsp_shape : Shape
-lsp_shape = new_shape (codes "lsp")
+-- `--stdio`, which changes nothing
+abbrev pub stdio_rule : Rule
+stdio_rule = record (flag_rule (codes "stdio")) { long = Some (codes "stdio") }
 
--- a program whose words are all its own, which has a version, and of which a subcommand is wanted
+abbrev pub lsp_shape : Shape
+lsp_shape = record (new_shape (codes "lsp")) { rules = stdio_rule ∷ [] }
+
+-- a program whose words are all its own, which has a version, and of which a subcommand is wanted;
+-- `help` is one by itself
 abbrev pub bare : App
 bare = on_top (λ top. record top {
   no_binary_name = true;
   has_version = true;
-  disable_help_subcommand = true;
   subcommand_required = true;
   arg_required_else_help = true;
 }) (new_app (codes "idltool"))
@@ -107,6 +128,11 @@ pub record AreDepsOf (rows : List Row) (deps : Deps) : Type 0 where
   pub options : AreOptionsOf rows deps.options
   pub target : option_map (λ w. w.now) deps.target ≡ first_of (codes "target") rows
   pub generated : deps.has_generated ≡ stands (codes "generated") rows
+  pub present : deps.leaves_absent ≡ stands (codes "present") rows
+
+pub record AreCheckOf (rows : List Row) (check : Check) : Type 0 where
+  pub options : AreOptionsOf rows check.options
+  pub warnings : check.counts_warnings ≡ stands (codes "werror") rows
 
 -- what is asked for of one of two files: the one that this argument names, with the directories of
 -- this option before those of `-I`
@@ -117,21 +143,30 @@ pub record AreSideOf (file directory : Text) (rows : List Row) (options : Option
       ≡ values_of directory rows ++ values_of (codes "directory") rows
   pub files : map (λ w. w.now) options.files.items ≡ option_to_list (first_of file rows)
 
+-- the weights with which a change is an error: on the wire and for clients, where none are named
+abbrev pub fails_of : Option Text → Option Weights
+fails_of None = Some callers
+fails_of (Some text) = weights_named text
+
+abbrev pub fails_in : List Row → Option Weights
+fails_in rows = fails_of (first_of (codes "fail-on") rows)
+
 pub record AreDiffOf (rows : List Row) (diff : Diff) : Type 0 where
   pub old : AreSideOf (codes "old") (codes "old-directory") rows diff.old
   pub new : AreSideOf (codes "new") (codes "new-directory") rows diff.new
+  pub fails : fails_in rows ≡ Some diff.fails
 
--- what words ask for: to show a text, to explain a word or all, to write rules, to check files, to
+-- what words ask for: to show a text, to explain words or all, to write rules, to check files, to
 -- write JSON, to tell what changes, or to serve an editor
 abbrev pub IsRequestOf : List Text → ToolRequest → Type 0
 IsRequestOf words (request.Show text) = Tells IsDisplay (faults_in words)
-IsRequestOf words (request.Explain word) =
+IsRequestOf words (request.Explain topics) =
     (rows : List Row) × Enters (codes "explain") words rows
-    × (option_map (λ w. w.now) word ≡ first_of (codes "word") rows)
+    × (map (λ w. w.now) topics.items ≡ values_of (codes "word") rows)
 IsRequestOf words (request.Deps deps) =
     (rows : List Row) × Enters (codes "deps") words rows × AreDepsOf rows deps
-IsRequestOf words (request.Check options) =
-    (rows : List Row) × Enters (codes "check") words rows × AreOptionsOf rows options
+IsRequestOf words (request.Check check) =
+    (rows : List Row) × Enters (codes "check") words rows × AreCheckOf rows check
 IsRequestOf words (request.Json options) =
     (rows : List Row) × Enters (codes "json") words rows × AreOptionsOf rows options
 IsRequestOf words (request.Diff diff) =
@@ -148,6 +183,12 @@ NamesNone words = (faults_in words ≡ [])
     × ((rows : List Row) → entered_in words ≢ Some (codes "diff", rows))
     × ((rows : List Row) → entered_in words ≢ Some (codes "lsp", rows))
 
+-- clap takes the words, and `--fail-on` has a word that is no weight
+abbrev pub NamesNoWeight : List Text → Type 0
+NamesNoWeight words =
+    (rows : List Row) × Enters (codes "diff") words rows × (fails_in rows ≡ None)
+
 -- words that ask for nothing
 abbrev pub AreWrong : List Text → Type 0
-AreWrong words = Tells IsRefusal (faults_in words) ⊎ NamesNone words
+AreWrong words =
+    Tells IsRefusal (faults_in words) ⊎ (NamesNone words ⊎ NamesNoWeight words)

@@ -8,14 +8,15 @@ ghost use Rattle.idl_driver.specs.Compilations.{HasCompiled};
 ghost use Rattle.idl_driver.specs.Rows.{are_faulty};
 ghost use Rattle.idl_loader.specs.declared.status.Status.TheVariants.{Faulty, Sound};
 ghost use Rattle.idl_driver.specs.idl_sources.Compile.{compiled_root};
-ghost use Rattle.idl_tool.specs.Checked.{AreReported, AreToldOf, Explains, IsChecked, IsReportText, IsToldOf, Told, all_of, column_of, entry_text, in_order, line_at, report_in, seconds_in};
+ghost use Rattle.idl_tool.specs.Checked.{AreReported, AreToldOf, Explains, IsChecked, IsReportText, IsToldOf, Told, all_of, are_faults, column_of, entry_text, in_order, is_fault, line_at, report_in, seconds_in};
 ghost use Rattle.idl_tool.specs.ToldAt.{told_at};
 
 use crate::failure::ToolFailure;
 use crate::report::{LocatedFinding, push_second};
+use crate::request::Check;
 use idl_base::{Bytes, Seq};
 use idl_driver::idl_sources::{CompiledRoot, Finding, Sources, related_over};
-use idl_driver::{Compilation, Devices, Options, compile_files};
+use idl_driver::{Compilation, Devices, compile_files};
 use idl_explain::{Topic, explanation_of};
 use idl_fault::Place;
 use idl_inputs::Columns;
@@ -30,12 +31,12 @@ use std::mem::forget;
 /// Writes a report of each finding of these files, and what several of them tell alike once.
 pub fn check<'a, L: Loader, S, O: Sink, E: Sink>(
     alloc: Global,
-    options: &Options<'a>,
+    asked: &Check<'a>,
     devices: &mut Devices<L, S, O, E>,
 ) -> Result<Status, ToolFailure<'a>>
     requires writes { O.failures devices.old.output < 2 ^ 64 - 1 }
 
-    ensures checked { IfOk result (λ status. IsChecked (L.told devices.old.loader) options.now
+    ensures checked { IfOk result (λ status. IsChecked (L.told devices.old.loader) asked.now
         (record { errors = E.written devices.old.errors; output = O.written devices.old.output })
         (record { errors = E.written devices.new.errors; output = O.written devices.new.output })
         status) }
@@ -43,9 +44,9 @@ pub fn check<'a, L: Loader, S, O: Sink, E: Sink>(
     ensures same { E.failures devices.new.errors ≡ E.failures devices.old.errors }
     ensures kept { E.written devices.new.errors ≡ E.written devices.old.errors }
 {
-    let all = compile_files(alloc, options, &mut devices.loader)?;
+    let all = compile_files(alloc, &asked.options, &mut devices.loader)?;
     let text = report_text(&all)?;
-    let status = status_of(&all.compiled);
+    let status = ending_of(&all.compiled, asked.counts_warnings);
     write_all(&mut devices.output, &text)?;
     // The program ends here, and all memory goes back at once.
     forget(all);
@@ -235,7 +236,26 @@ fn joined(alloc: Global, reports: &IndexMap<Bytes, Bytes>) -> Result<Vec<u8>, Al
     Ok(all)
 }
 
-/// How the program ends, by what is found in these roots.
+// How the program ends, by what is found in these roots, and whether warnings count.
+fn ending_of(compiled: &[CompiledRoot], counts_warnings: bool) -> Status
+    ensures { result ≡ (if are_faults counts_warnings compiled.now then Faulty else Sound) }
+{
+    'roots: for root in compiled {
+        if is_fault(root, counts_warnings) {
+            return Status::Faulty;
+        }
+    }
+    Status::Sound
+}
+
+// Whether what is found in a root is a fault: an error, or anything where warnings count.
+fn is_fault(root: &CompiledRoot, counts_warnings: bool) -> bool
+    ensures { result ≡ is_fault counts_warnings root.now }
+{
+    root.rows.is_faulty || (counts_warnings && !root.rows.findings.as_slice().is_empty())
+}
+
+/// How the program ends, by the errors of these roots.
 pub(crate) fn status_of(compiled: &[CompiledRoot]) -> Status
     ensures { result ≡ (if are_faulty compiled.now then Faulty else Sound) }
 {

@@ -5,7 +5,7 @@ ghost use Rattle.idl_source.specs.devices.Device.{append};
 ghost use Rattle.idl_driver.specs.Rows.{are_faulty, lines_with};
 ghost use Rattle.idl_driver.specs.Written.{WritesSome};
 ghost use Rattle.idl_loader.specs.declared.status.Status.TheVariants.{Faulty, Sound};
-ghost use Rattle.idl_tool.specs.Deps.{IsServed, empty_rule, is_other, need_of, rules_in, stem, target_of};
+ghost use Rattle.idl_tool.specs.Deps.{IsServed, empty_rule, is_other, is_there, need_of, rules_in, stem, target_of, wanted_in};
 ghost use Rattle.idl_tool.specs.make_rules.Make.{IsMakeRule, is_make_name, need_text, rules_text, target_text};
 
 use crate::failure::ToolFailure;
@@ -67,7 +67,7 @@ fn rules_of<'a>(
     Ok(out)
 }
 
-// Writes the rule of a root, and an empty one for each other file that it asks for and that is there.
+// Writes the rule of a root, and an empty one for each other file that this stands on and that is there.
 fn push_rules<'a>(
     sources: &Sources,
     root: &Name,
@@ -78,12 +78,37 @@ fn push_rules<'a>(
         ≡ out.old.items ++ rules_text (rules_in deps.now sources.now root.now)) }
     ensures readable { OnOk result (All IsMakeRule (rules_in deps.now sources.now root.now)) }
 {
-    let asked = sources.asked(root)?;
+    let asked = wanted_of(sources, root, deps)?;
     refuse_names(&asked)?;
     push_target_of(root, deps, out)?;
     push_needs(sources, &asked, deps, out)?;
     push_empty_rules(sources, root, &asked, out)?;
     Ok(())
+}
+
+// The files that a root's rule stands on: those that it asks for, or those of them that are there.
+fn wanted_of(sources: &Sources, root: &Name, deps: &Deps<'_>) -> Result<Vec<Name>, AllocError>
+    ensures { IfOk result (λ names. names.items ≡ wanted_in deps.now sources.now root.now) }
+{
+    let asked = sources.asked(root)?;
+    if deps.leaves_absent {
+        return present_of(sources, &asked);
+    }
+    Ok(asked)
+}
+
+// Those of these files that are there.
+fn present_of(sources: &Sources, asked: &[Name]) -> Result<Vec<Name>, AllocError>
+    ensures { IfOk result (λ names.
+        names.items ≡ filter (is_there sources.now.files) asked.now) }
+{
+    let mut present = Vec::new(sources.allocator());
+    'names: for name in asked {
+        if sources.has_file(name) {
+            present.push(name.copied())?;
+        }
+    }
+    Ok(present)
 }
 
 // Refuses names that no rule can have in it.

@@ -1,6 +1,7 @@
 //! What changes from one version of a file to another.
 
-ghost use Rattle.std.specs.Prelude.{◌≡◌, ◌≤◌, ◌<◌, ◌+◌, ◌-◌, ◌^◌, IfOk, OnErr, OnOk, flat_map, if◌then◌else◌, map};
+ghost use Rattle.std.specs.Prelude.{◌≡◌, ◌≤◌, ◌<◌, ◌+◌, ◌++◌, ◌-◌, ◌^◌, IfOk, OnErr, OnOk, if◌then◌else◌, map};
+ghost use Rattle.std.specs.Option.{option_map};
 ghost use Rattle.idl_source.specs.devices.Device.{append};
 ghost use Rattle.idl_inputs.specs.Bank.{bank_of};
 ghost use Rattle.idl_driver.specs.idl_sources.Details.{details_over};
@@ -8,16 +9,19 @@ ghost use Rattle.idl_loader.specs.declared.status.Status.TheVariants.{Faulty, So
 ghost use Rattle.idl_driver.specs.Compilations.{HasCompiled};
 ghost use Rattle.idl_driver.specs.Rows.{are_faulty};
 ghost use Rattle.idl_driver.specs.Written.{WritesSome};
-ghost use Rattle.idl_tool.specs.Compared.{IsCompared, are_breaking, change_lines, changes_between, ending_of, has_error, is_breaking, seen, shown_between, trees_in};
+ghost use Rattle.idl_json.specs.Listed.{place_of, row_of};
+ghost use Rattle.idl_tool.specs.Compared.{IsCompared, all_rows, are_failing, change_lines, changes_of, ending_by, ending_of, grade, has_error, lines_between, place_at, place_before, seen, shown_between, shown_place, trees_of};
 
 use crate::check::status_of;
 use crate::deps::tell_errors;
 use crate::failure::ToolFailure;
-use crate::json::trees_of;
+use crate::json::rows_of;
+use crate::report::push_place;
 use crate::request::Diff;
-use idl_changes::{Change, Weight, changes};
+use idl_changes::{Change, Weights, changes, push_change};
 use idl_driver::idl_sources::{CompiledRoot, Details, Sources};
 use idl_driver::{Compilation, Devices, compile_files};
+use idl_json::{ListedRow, NamePlace};
 use idl_loader::{Loader, Status};
 use idl_repo::details::RowTree;
 use idl_source::devices::write_all;
@@ -50,7 +54,7 @@ pub fn write_diff<'a, L: Loader, S, O: Sink, E: Sink>(
     let new = compile_files(alloc, &diff.new, &mut devices.loader)?;
     tell_errors(&old.compiled, &mut devices.errors)?;
     tell_errors(&new.compiled, &mut devices.errors)?;
-    let status = write_between(alloc, &old, &new, &mut devices.output)?;
+    let status = write_between(diff.fails, &old, &new, &mut devices.output)?;
     // The program ends here, and all memory goes back at once.
     forget((old, new));
     Ok(status)
@@ -58,7 +62,7 @@ pub fn write_diff<'a, L: Loader, S, O: Sink, E: Sink>(
 
 // Writes the changes from one version to another, unless one of them has an error.
 fn write_between<'a, K: Sink>(
-    alloc: Global,
+    fails: Weights,
     old: &Compilation,
     new: &Compilation,
     output: &mut K,
@@ -68,14 +72,15 @@ fn write_between<'a, K: Sink>(
     requires counts { K.failures output.old < 2 ^ 64 - 1 }
 
     ensures written { OnOk result (K.written output.new
-        ≡ append (K.written output.old) (shown_between (seen old.now) (seen new.now))) }
-    ensures status { IfOk result (λ status. status ≡ ending_of (seen old.now) (seen new.now)) }
+        ≡ append (K.written output.old) (shown_between fails (seen old.now) (seen new.now))) }
+    ensures status { IfOk result (λ status.
+        status ≡ ending_of fails (seen old.now) (seen new.now)) }
     ensures well { OnOk result (K.failures output.new ≡ K.failures output.old) }
 {
     if has_error(old, new) {
         return Ok(Status::Failed);
     }
-    write_changes(alloc, old, new, output)
+    write_changes(fails, old, new, output)
 }
 
 // Whether one of two versions has an error.
@@ -101,43 +106,66 @@ fn are_faulty(compiled: &[CompiledRoot]) -> bool
 
 // Writes the changes from one version to another.
 fn write_changes<'a, K: Sink>(
-    alloc: Global,
+    fails: Weights,
     old: &Compilation,
     new: &Compilation,
     output: &mut K,
 ) -> Result<Status, ToolFailure<'a>>
     requires counts { K.failures output.old < 2 ^ 64 - 1 }
 
-    ensures written { let told = changes_between (seen old.now) (seen new.now) in
-        OnOk result (K.written output.new ≡ append (K.written output.old) (change_lines told)) }
-    ensures status { let told = changes_between (seen old.now) (seen new.now) in
-        IfOk result (λ status. status ≡ (if are_breaking told then Faulty else Sound)) }
+    ensures written { OnOk result (K.written output.new
+        ≡ append (K.written output.old) (lines_between fails (seen old.now) (seen new.now))) }
+    ensures status { IfOk result (λ status.
+        status ≡ ending_by fails (seen old.now) (seen new.now)) }
     ensures well { OnOk result (K.failures output.new ≡ K.failures output.old) }
-{
-    let told = changes_between(alloc, old, new)?;
-    let text = lines_of(alloc, &told)?;
-    write_all(output, &text)?;
-    if are_breaking(&told) {
-        Ok(Status::Faulty)
-    } else {
-        Ok(Status::Sound)
-    }
-}
-
-// The changes from one version to another.
-fn changes_between(
-    alloc: Global,
-    old: &Compilation,
-    new: &Compilation,
-) -> Result<Vec<Change>, AllocError>
-    ensures { IfOk result (λ told.
-        told.items ≡ changes_between (seen old.now) (seen new.now)) }
 {
     let before = details_of(&old.sources, old.roots.as_slice())?;
     let after = details_of(&new.sources, new.roots.as_slice())?;
-    let old_trees = all_trees(alloc, &before)?;
-    let new_trees = all_trees(alloc, &after)?;
-    changes(alloc, &old_trees, &new_trees)
+    let was = all_rows(&old.sources, old.roots.as_slice(), &before)?;
+    let is = all_rows(&new.sources, new.roots.as_slice(), &after)?;
+    let (text, status) = told_between(old.sources.allocator(), fails, &was, &is)?;
+    write_all(output, &text)?;
+    Ok(status)
+}
+
+// The lines of the changes from one listing to another, and how the program ends by them.
+fn told_between(
+    alloc: Global,
+    fails: Weights,
+    old: &[ListedRow<'_>],
+    new: &[ListedRow<'_>],
+) -> Result<(Vec<u8>, Status), AllocError>
+    ensures lines { IfOk result (λ told. told.0.items
+        ≡ change_lines fails (map row_of old.now) (map row_of new.now)
+        (changes_of (map row_of old.now) (map row_of new.now))) }
+    ensures status { IfOk result (λ told. told.1
+        ≡ (if are_failing fails (changes_of (map row_of old.now) (map row_of new.now))
+        then Faulty else Sound)) }
+{
+    let old_trees = trees_of(alloc, old)?;
+    let new_trees = trees_of(alloc, new)?;
+    let was = old_trees.as_slice();
+    let is = new_trees.as_slice();
+    let told = changes(alloc, was, is)?;
+    let mut text = Vec::new(alloc);
+    'lines: for change in &told {
+        push_head(&mut text, fails, (old, new), change)?;
+        push_change(&mut text, was, is, change)?;
+        text.extend_from_slice(b"\n")?;
+    }
+    let status = ending_by(fails, &told);
+    Ok((text, status))
+}
+
+// How the program ends by changes.
+fn ending_by(fails: Weights, told: &[Change]) -> Status
+    ensures { result ≡ (if are_failing fails told.now then Faulty else Sound) }
+{
+    if are_failing(fails, told) {
+        Status::Faulty
+    } else {
+        Status::Sound
+    }
 }
 
 // What the listings of these roots tell.
@@ -152,47 +180,110 @@ fn details_of(sources: &Sources, roots: &[Name]) -> Result<Vec<Details>, AllocEr
     Ok(all)
 }
 
-// The trees of details, one after the other.
-fn all_trees<'d>(alloc: Global, all: &'d [Details]) -> Result<Vec<&'d RowTree>, AllocError>
-    ensures { IfOk result (λ trees.
-        map (λ tree. tree.now) trees.items ≡ flat_map trees_in all.entry.now) }
+// The rows of these roots' listings, one after the other, each with where it is declared.
+fn all_rows<'d>(
+    sources: &Sources,
+    roots: &[Name],
+    all: &'d [Details],
+) -> Result<Vec<ListedRow<'d>>, AllocError>
+    requires { all.now ≡ map (details_over (bank_of sources.now)) roots.now }
+    ensures { IfOk result (λ rows. map row_of rows.items ≡ all_rows sources.now roots.now) }
 {
-    let mut trees = Vec::new(alloc);
-    'all: for details in all {
-        trees.extend_from_slice(&trees_of(alloc, details.entries.as_slice())?)?;
+    let mut columns = sources.columns();
+    let mut rows = Vec::new(sources.allocator());
+    'roots: for index in 0..roots.len() {
+        let entries = all[index].entries.as_slice();
+        let listed = rows_of(&mut columns, &roots[index], entries)?;
+        rows.extend_from_slice(&listed)?;
+    }
+    Ok(rows)
+}
+
+// The trees of rows.
+fn trees_of<'d>(alloc: Global, rows: &[ListedRow<'d>]) -> Result<Vec<&'d RowTree>, AllocError>
+    ensures { IfOk result (λ trees.
+        map (λ tree. tree.now) trees.items ≡ trees_of (map row_of rows.now)) }
+{
+    let mut trees = Vec::with_capacity(alloc, rows.len())?;
+    'rows: for row in rows {
+        trees.push(row.tree)?;
     }
     Ok(trees)
 }
 
-// The rows of changes, each on a line of its own.
-fn lines_of(alloc: Global, told: &[Change]) -> Result<Vec<u8>, AllocError>
-    ensures { IfOk result (λ text. text.items ≡ change_lines told.now) }
+// Writes what stands before the row of a change: where its entry is declared, and how it is graded.
+fn push_head(
+    text: &mut Vec<u8>,
+    fails: Weights,
+    rows: (&[ListedRow<'_>], &[ListedRow<'_>]),
+    change: &Change,
+) -> Result<(), AllocError>
+    ensures { OnOk result (text.new.items ≡ text.old.items
+        ++ (place_before
+        (shown_place (map row_of rows.entry.0.now) (map row_of rows.entry.1.now) change.now)
+        ++ grade fails change.now.difference.weights)) }
 {
-    let mut text = Vec::new(alloc);
-    'told: for change in told {
-        text.extend_from_slice(change.row.as_bytes())?;
-        text.extend_from_slice(b"\n")?;
-    }
-    Ok(text)
+    push_shown(text, shown_place(rows.0, rows.1, change))?;
+    text.extend_from_slice(grade(fails, change.difference.weights))
 }
 
-// Whether one of these changes breaks something.
-fn are_breaking(told: &[Change]) -> bool
-    ensures { result ≡ are_breaking told.now }
+// Where the entry of a change is declared: that of the new listing, or of the old one where it is gone.
+fn shown_place<'d>(
+    old: &[ListedRow<'d>],
+    new: &[ListedRow<'d>],
+    change: &Change,
+) -> Option<NamePlace<'d>>
+    ensures { option_map place_of result
+        ≡ shown_place (map row_of old.entry.now) (map row_of new.entry.now) change.now }
+{
+    match (change.after, change.before) {
+        (Some(place), _) => place_at(new, place),
+        (None, Some(place)) => place_at(old, place),
+        (None, None) => None,
+    }
+}
+
+// Where the row at a place is declared, if there is one and that is known.
+fn place_at<'d>(rows: &[ListedRow<'d>], place: usize) -> Option<NamePlace<'d>>
+    ensures { option_map place_of result ≡ place_at (map row_of rows.entry.now) place }
+{
+    match rows.get(place) {
+        Some(row) => row.declared,
+        None => None,
+    }
+}
+
+// Writes where something is declared, if that is known.
+fn push_shown(text: &mut Vec<u8>, declared: Option<NamePlace<'_>>) -> Result<(), AllocError>
+    ensures { OnOk result (text.new.items
+        ≡ text.old.items ++ place_before (option_map place_of declared.entry)) }
+{
+    let Some(name) = declared else {
+        return Ok(());
+    };
+    push_place(name.place, name.column, text)?;
+    text.extend_from_slice(b": ")
+}
+
+// How a change is graded that counts for these.
+fn grade(fails: Weights, weights: Weights) -> &'static [u8]
+    ensures { result.now ≡ grade fails weights }
+{
+    if weights.meets(fails) {
+        b"error: "
+    } else {
+        b"note: "
+    }
+}
+
+// Whether one of these changes is an error.
+fn are_failing(fails: Weights, told: &[Change]) -> bool
+    ensures { result ≡ are_failing fails told.now }
 {
     'told: for change in told {
-        if is_breaking(change.weight) {
+        if change.difference.weights.meets(fails) {
             return true;
         }
     }
     false
-}
-
-fn is_breaking(weight: Weight) -> bool
-    ensures { result ≡ is_breaking weight }
-{
-    match weight {
-        Weight::Breaks => true,
-        Weight::Names | Weight::New => false,
-    }
 }

@@ -19,7 +19,6 @@ use idl_inputs::Columns;
 use idl_json::{Diagnostic, ListedRow, NamePlace, RootTold, SecondPlace, root_line};
 use idl_loader::{Loader, Status};
 use idl_related::Related;
-use idl_repo::details::RowTree;
 use idl_source::devices::write_all;
 use idl_source::{Name, Sink};
 use std::alloc::{AllocError, Global};
@@ -120,8 +119,8 @@ fn details_of(sources: &Sources, root: &Name, has_error: bool) -> Result<Details
     sources.details(root)
 }
 
-// The rows of entries, each with where its name is declared first.
-fn rows_of<'d>(
+/// The rows of entries, each with where its name is declared first.
+pub(crate) fn rows_of<'d>(
     columns: &mut Columns<'_>,
     root: &Name,
     entries: &'d [DetailedEntry],
@@ -176,21 +175,6 @@ fn declared_in<'d>(
         column: columns.column(place, *number, text.as_bytes())?,
         is_main: place.file.as_bytes() == root.as_bytes(),
     })
-}
-
-/// The trees of entries.
-pub(crate) fn trees_of<'d>(
-    alloc: Global,
-    entries: &'d [DetailedEntry],
-) -> Result<Vec<&'d RowTree>, AllocError>
-    ensures { IfOk result (λ trees.
-        map (λ tree. tree.now) trees.items ≡ map (λ entry. entry.tree) entries.entry.now) }
-{
-    let mut trees = Vec::with_capacity(alloc, entries.len())?;
-    'entries: for entry in entries {
-        trees.push(&entry.tree)?;
-    }
-    Ok(trees)
 }
 
 // What is found, each with its column and its second places.

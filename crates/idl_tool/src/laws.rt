@@ -1,6 +1,6 @@
 //! Laws of the rules, of the reports and of the changes that go out.
 
-ghost use Rattle.std.specs.Prelude.{◌≡◌, ℕ, All, List, [], flat_map};
+ghost use Rattle.std.specs.Prelude.{◌≡◌, ℕ, All, List, [], flat_map, true};
 ghost use Rattle.std.specs.List.{IsDistinct};
 ghost use Rattle.std.specs.Map.{keys_of};
 ghost use Rattle.std.specs.Str.{bytes_eq};
@@ -10,16 +10,17 @@ ghost use Rattle.idl_driver.specs.Written.{Written};
 ghost use Rattle.idl_loader.specs.declared.status.Status.{Status};
 ghost use Rattle.idl_loader.specs.declared.status.Status.TheVariants.{Sound};
 ghost use Rattle.idl_tool.specs.Checked.{AreReported, Entry, IsTold, Told};
-ghost use Rattle.idl_tool.specs.Compared.{AreCompared, AreKept, Version};
+ghost use Rattle.idl_tool.specs.Compared.{AreCompared, DoSpeak, Version};
 ghost use Rattle.idl_tool.specs.Deps.{needs_in, needs_of, rules_in};
 ghost use Rattle.idl_tool.specs.declared.request.Deps.{Deps};
 ghost use Rattle.idl_inputs.specs.Project.{Inputs};
+ghost use Rattle.idl_changes.specs.declared.rows.Weights.{Weights};
 
 use crate::make_rules::rules_read_back;
-use idl_changes::nothing_breaks;
+use idl_changes::nothing_on_the_wire;
 
-/// Who reads the rules of roots finds what compiling the roots asks for: each file, in order, and whether it has to be there. This
-/// does nothing: it carries the law.
+/// Who reads the rules of roots finds what compiling the roots asks for, or what is there of it: each file, in order, and whether it has
+/// to be there. This does nothing: it carries the law.
 pub fn rules_tell_what_is_asked()
     ensures { (deps : Deps) (inputs : Inputs) (roots : List (List ℕ))
         → All IsMakeRule (flat_map (rules_in deps inputs) roots)
@@ -38,12 +39,13 @@ pub fn findings_are_told_once()
         → AreReported files told [] reports → IsDistinct bytes_eq (keys_of reports) }
 {}
 
-/// Where comparing two versions ends soundly, each entry of the old one is in the new one, with its kind, and goes over the wire as it
-/// did. This does nothing: it carries the law.
-pub fn sound_changes_break_nothing()
-    ensures { (old new : Version) (before after : Written) (status : Status)
-        → AreCompared old new before after status → status ≡ Sound → AreKept old new }
+/// Where comparing two versions ends soundly, and a change on the wire is an error, programs that are built from them speak with each
+/// other, if they are declared as IDL asks for. This does nothing: it carries the law.
+pub fn sound_changes_speak()
+    ensures { (fails : Weights) (old new : Version) (before after : Written) (status : Status)
+        → AreCompared fails old new before after status → fails.wire ≡ true → status ≡ Sound
+        → DoSpeak old new }
 {
-    // It does nothing: it carries the law of changes that break nothing.
-    nothing_breaks();
+    // It does nothing: it carries the law of changes none of which counts on the wire.
+    nothing_on_the_wire();
 }

@@ -17,5 +17,5 @@ mod report;
 mod request;
 
 pub use idl_driver;
-pub use laws::{findings_are_told_once, rules_tell_what_is_asked, sound_changes_break_nothing};
+pub use laws::{findings_are_told_once, rules_tell_what_is_asked, sound_changes_speak};
 pub use program::run_tool;

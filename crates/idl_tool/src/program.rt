@@ -120,12 +120,12 @@ fn fulfil<'a, L: Loader + PathLoader, S: Source, O: Sink, E: Sink, V: Service>(
             write_all(&mut devices.output, text.as_bytes())?;
             Ok(Status::Sound)
         }
-        ToolRequest::Explain(word) => {
-            explain(alloc, *word, &mut devices.output)?;
+        ToolRequest::Explain(words) => {
+            explain(alloc, words, &mut devices.output)?;
             Ok(Status::Sound)
         }
         ToolRequest::Deps(deps) => write_deps(alloc, deps, devices),
-        ToolRequest::Check(options) => check(alloc, options, devices),
+        ToolRequest::Check(asked) => check(alloc, asked, devices),
         ToolRequest::Json(options) => write_json(alloc, options, devices),
         ToolRequest::Diff(diff) => write_diff(alloc, diff, devices),
         ToolRequest::Serve => {

@@ -1,9 +1,11 @@
 //! The report of a finding: where it is and what it says, its line, and marks below its token.
 
-ghost use Rattle.std.specs.Prelude.{◌≡◌, ◌++◌, ◌<◌, IfOk, OnOk, map};
+ghost use Rattle.std.specs.Prelude.{◌≡◌, ◌++◌, ◌<◌, IfOk, OnOk, flat_map};
 ghost use Rattle.std.specs.Option.{option_copied};
-ghost use Rattle.idl_tool.specs.Report.{beginning, column_text, excerpt, gap_below, heading, hex_digit, line_byte, mark_below, more_text, place_text, report, saying, second_line, severity, shown_byte, shown_line, shown_token, token_in};
+ghost use Rattle.bstr.specs.Utf8.{decoded};
+ghost use Rattle.idl_tool.specs.Report.{beginning, column_text, excerpt, gap_below, heading, hex_digit, is_shown, line_byte, line_text, mark_below, marked, marks, more_text, note_beginning, note_saying, numbered, other_byte, place_text, report, saying, second_line, severity, shown_first, shown_piece, shown_text, token_in};
 
+use bstr::decode_utf8;
 use idl_driver::idl_sources::Finding;
 use idl_explain::Words;
 use idl_fault::{Code, Place};
@@ -63,14 +65,14 @@ fn push_beginning(
 fn push_saying(finding: &Finding, words: Words, out: &mut Vec<u8>) -> Result<(), AllocError>
     ensures { OnOk result (out.new.items ≡ out.old.items ++ saying finding.now words) }
 {
-    let token = shown_token(*out.allocator(), token_in(finding))?;
+    let token = shown_text(*out.allocator(), token_in(finding), false)?;
     words.push(&token, out)?;
     out.extend_from_slice(b" [")?;
     out.extend_from_slice(&finding.code.text())?;
     out.extend_from_slice(b"]\n")
 }
 
-/// Writes the line of a second place: `  near: TOKEN, FILE:LINE:COLUMN`, and how many more were found than are told.
+/// Writes the line of a second place: `FILE:LINE:COLUMN: note: near: TOKEN`, and how many more were found than are told.
 pub fn push_second(
     second: &Related,
     column: Option<usize>,
@@ -79,13 +81,27 @@ pub fn push_second(
     ensures { OnOk result
         (out.new.items ≡ out.old.items ++ second_line second.now column) }
 {
-    let token = shown_token(*out.allocator(), second.text.as_bytes())?;
-    out.extend_from_slice(b"  ")?;
+    push_note(&second.place, column, out)?;
+    push_reason(second, out)
+}
+
+// Writes `FILE:LINE:COLUMN: note: `.
+fn push_note(place: &Place, column: Option<usize>, out: &mut Vec<u8>) -> Result<(), AllocError>
+    ensures { OnOk result
+        (out.new.items ≡ out.old.items ++ note_beginning place.now column) }
+{
+    push_place(place, column, out)?;
+    out.extend_from_slice(b": note: ")
+}
+
+// Writes `near: TOKEN`, how many more there are, and the line's end.
+fn push_reason(second: &Related, out: &mut Vec<u8>) -> Result<(), AllocError>
+    ensures { OnOk result (out.new.items ≡ out.old.items ++ note_saying second.now) }
+{
+    let token = shown_text(*out.allocator(), second.text.as_bytes(), false)?;
     out.extend_from_slice(second.reason.words())?;
     out.extend_from_slice(b": ")?;
     out.extend_from_slice(&token)?;
-    out.extend_from_slice(b", ")?;
-    push_place(&second.place, column, out)?;
     push_more(second.more, out)?;
     out.extend_from_slice(b"\n")
 }
@@ -113,15 +129,29 @@ fn token_in(finding: &Finding) -> &[u8]
     }
 }
 
-// Writes `FILE:LINE:COLUMN`, or `FILE:LINE`.
-fn push_place(place: &Place, column: Option<usize>, out: &mut Vec<u8>) -> Result<(), AllocError>
+/// Writes `FILE:LINE:COLUMN`, or `FILE:LINE`.
+pub(crate) fn push_place(
+    place: &Place,
+    column: Option<usize>,
+    out: &mut Vec<u8>,
+) -> Result<(), AllocError>
     ensures { OnOk result (out.new.items ≡ out.old.items ++ place_text place.now column) }
 {
-    let mut number = Buffer::new();
     out.extend_from_slice(place.file.as_bytes())?;
-    out.extend_from_slice(b":")?;
-    out.extend_from_slice(number.format(place.line).as_bytes())?;
+    push_line(place.line, out)?;
     push_column(column, out)
+}
+
+// Writes the number of a line, unless it is 0.
+fn push_line(line: u32, out: &mut Vec<u8>) -> Result<(), AllocError>
+    ensures { OnOk result (out.new.items ≡ out.old.items ++ line_text line) }
+{
+    if line == 0 {
+        return Ok(());
+    }
+    let mut number = Buffer::new();
+    out.extend_from_slice(b":")?;
+    out.extend_from_slice(number.format(line).as_bytes())
 }
 
 // Writes a column, where it is known: people count from 1.
@@ -156,67 +186,153 @@ fn push_excerpt(
     ensures { OnOk result
         (out.new.items ≡ out.old.items ++ excerpt line.now column token.now) }
 {
-    let shown = shown_line(*out.allocator(), line)?;
+    let shown = shown_text(*out.allocator(), line, true)?;
     out.extend_from_slice(&shown)?;
     out.extend_from_slice(b"\n")?;
     let Some(column) = column else {
         return Ok(());
     };
-    push_marks(line.get(..column).unwrap_or(line), token, out)?;
+    push_marks(line, column, token.len(), out)?;
     out.extend_from_slice(b"\n")
 }
 
-// Writes a gap below what stands before a token, and marks below the token.
-fn push_marks(before: &[u8], token: &[u8], out: &mut Vec<u8>) -> Result<(), AllocError>
-    ensures { OnOk result (out.new.items ≡ out.old.items
-        ++ map gap_below (shown_line before.now) ++ map mark_below (shown_line token.now)) }
+// Writes a gap below what stands before a column, and marks below so many bytes from there on.
+fn push_marks(line: &[u8], column: usize, size: usize, out: &mut Vec<u8>) -> Result<(), AllocError>
+    ensures { OnOk result (out.new.items ≡ out.old.items ++ marks line.now column size) }
 {
-    let before = shown_line(*out.allocator(), before)?;
-    let token = shown_line(*out.allocator(), token)?;
+    let alloc = *out.allocator();
+    let end = column.min(line.len());
+    let before = shown_text(alloc, &line[..end], true)?;
+    let below = shown_text(alloc, marked(line, column, size), true)?;
     push_gap(&before, out)?;
-    push_carets(&token, out)
+    push_carets(&below, out)
 }
 
-// Writes what is as wide as these bytes, and shows nothing.
+// What is marked of a line: so many bytes from a column on, or the character that begins there, if that has more.
+fn marked(line: &[u8], column: usize, size: usize) -> &[u8]
+    ensures { result.now ≡ marked line.entry.now column size }
+{
+    let text = &line[column.min(line.len())..];
+    let (_character, whole) = decode_utf8(text);
+    text.get(..size.max(whole)).unwrap_or(text)
+}
+
+// Writes what is as wide as these characters, and shows nothing.
 fn push_gap(shown: &[u8], out: &mut Vec<u8>) -> Result<(), AllocError>
-    ensures { OnOk result (out.new.items ≡ out.old.items ++ map gap_below shown.now) }
+    ensures { OnOk result (out.new.items ≡ out.old.items ++ flat_map gap_below shown.now) }
 {
     'bytes: for b in shown {
-        out.push(if *b == b'\t' { b'\t' } else { b' ' })?;
+        push_gap_below(*b, out)?;
     }
     Ok(())
 }
 
-// Writes a mark below each of these bytes.
+fn push_gap_below(b: u8, out: &mut Vec<u8>) -> Result<(), AllocError>
+    ensures { OnOk result (out.new.items ≡ out.old.items ++ gap_below b) }
+{
+    match b {
+        128..=191 => Ok(()),
+        b'\t' => out.extend_from_slice(b"\t"),
+        _ => out.extend_from_slice(b" "),
+    }
+}
+
+// Writes a mark below each of these characters.
 fn push_carets(shown: &[u8], out: &mut Vec<u8>) -> Result<(), AllocError>
-    ensures { OnOk result (out.new.items ≡ out.old.items ++ map mark_below shown.now) }
+    ensures { OnOk result (out.new.items ≡ out.old.items ++ flat_map mark_below shown.now) }
 {
-    'bytes: for _ in shown {
-        out.push(b'^')?;
+    'bytes: for b in shown {
+        push_mark_below(*b, out)?;
     }
     Ok(())
 }
 
-// Bytes of a line as a terminal can show them.
-fn shown_line(alloc: Global, bytes: &[u8]) -> Result<Vec<u8>, AllocError>
-    ensures { IfOk result (λ shown. shown.items ≡ shown_line bytes.now) }
+fn push_mark_below(b: u8, out: &mut Vec<u8>) -> Result<(), AllocError>
+    ensures { OnOk result (out.new.items ≡ out.old.items ++ mark_below b) }
+{
+    match b {
+        128..=191 => Ok(()),
+        _ => out.extend_from_slice(b"^"),
+    }
+}
+
+// A line, or a token, as a terminal can show it.
+fn shown_text(alloc: Global, text: &[u8], is_line: bool) -> Result<Vec<u8>, AllocError>
+    ensures { IfOk result (λ shown. shown.items ≡ shown_text is_line text.now) }
 {
     let mut shown = Vec::new(alloc);
-    'bytes: for b in bytes {
-        push_line_byte(*b, &mut shown)?;
+    let mut at = 0;
+    'pieces: while at < text.len() {
+        let size = push_first(&text[at..], is_line, &mut shown)?;
+        at += size;
     }
     Ok(shown)
 }
 
-// A token as a terminal can show it.
-fn shown_token(alloc: Global, token: &[u8]) -> Result<Vec<u8>, AllocError>
-    ensures { IfOk result (λ shown. shown.items ≡ shown_token token.now) }
+// Writes what is shown of the first piece of a text, a character or bytes that are none, and answers how many bytes it has.
+fn push_first(text: &[u8], is_line: bool, out: &mut Vec<u8>) -> Result<usize, AllocError>
+    ensures shown { OnOk result
+        (out.new.items ≡ out.old.items ++ shown_first is_line text.now) }
+    ensures size { IfOk result (λ size. size ≡ (decoded text.now).size) }
 {
-    let mut shown = Vec::new(alloc);
-    'bytes: for b in token {
-        push_byte(*b, &mut shown)?;
+    let (character, size) = decode_utf8(text);
+    let end = size.min(text.len());
+    push_piece(character, &text[..end], is_line, out)?;
+    Ok(size)
+}
+
+// Writes what is shown of a piece of these bytes.
+#[tactic(auto, unfolding(crate::specs::Report::shown_piece))]
+fn push_piece(
+    character: Option<char>,
+    bytes: &[u8],
+    is_line: bool,
+    out: &mut Vec<u8>,
+) -> Result<(), AllocError>
+    ensures { OnOk result
+        (out.new.items ≡ out.old.items ++ shown_piece is_line character bytes.now) }
+{
+    if is_shown(character) {
+        return out.extend_from_slice(bytes);
     }
-    Ok(shown)
+    push_others(bytes, is_line, out)
+}
+
+// The marks of the direction of text: what has Unicode's property Bidi_Control.
+const BIDI_CONTROLS: &[char] = &[
+    '\u{61c}', '\u{200e}', '\u{200f}', '\u{202a}', '\u{202b}', '\u{202c}', '\u{202d}', '\u{202e}',
+    '\u{2066}', '\u{2067}', '\u{2068}', '\u{2069}',
+];
+
+// Whether a character is shown as it is.
+fn is_shown(character: Option<char>) -> bool
+    ensures { result ≡ is_shown character }
+{
+    match character {
+        Some(character) => !(character.is_control() || BIDI_CONTROLS.contains(&character)),
+        None => false,
+    }
+}
+
+// Writes bytes that aren't shown as they are.
+fn push_others(bytes: &[u8], is_line: bool, out: &mut Vec<u8>) -> Result<(), AllocError>
+    ensures { OnOk result
+        (out.new.items ≡ out.old.items ++ flat_map (other_byte is_line) bytes.now) }
+{
+    'bytes: for b in bytes {
+        push_other(*b, is_line, out)?;
+    }
+    Ok(())
+}
+
+fn push_other(b: u8, is_line: bool, out: &mut Vec<u8>) -> Result<(), AllocError>
+    ensures { OnOk result (out.new.items ≡ out.old.items ++ other_byte is_line b) }
+{
+    if is_line {
+        push_line_byte(b, out)
+    } else {
+        push_number(b, out)
+    }
 }
 
 // Writes a byte of a line: a tab stays, and what else is white is a blank.
@@ -226,17 +342,14 @@ fn push_line_byte(b: u8, out: &mut Vec<u8>) -> Result<(), AllocError>
     match b {
         b'\t' => out.extend_from_slice(b"\t"),
         11..=13 => out.extend_from_slice(b" "),
-        _ => push_byte(b, out),
+        _ => push_number(b, out),
     }
 }
 
-// Writes a byte, or its number where a terminal can't show it.
-fn push_byte(b: u8, out: &mut Vec<u8>) -> Result<(), AllocError>
-    ensures { OnOk result (out.new.items ≡ out.old.items ++ shown_byte b) }
+// Writes the number of a byte.
+fn push_number(b: u8, out: &mut Vec<u8>) -> Result<(), AllocError>
+    ensures { OnOk result (out.new.items ≡ out.old.items ++ numbered b) }
 {
-    if 32 <= b && b <= 126 {
-        return out.extend_from_slice(&[b]);
-    }
     out.extend_from_slice(b"\\x")?;
     out.extend_from_slice(&[hex_digit(b / 16), hex_digit(b % 16)])
 }

@@ -1,18 +1,28 @@
 //! The words that the program is given.
 
-ghost use Rattle.std.specs.Prelude.{◌≡◌, IfErr, IfOk, [], codes, false, map, true};
+ghost use Rattle.std.specs.Prelude.{◌≡◌, IfErr, IfOk, [], Some, codes, false, map, true};
 ghost use Rattle.std.specs.Option.{option_to_list};
 ghost use Rattle.clap.specs.Words.{app_of, first_of, found_of, rows_of, rule_of, shape_of, subcommand_rows_of};
 ghost use Rattle.clap.specs.declared.builder.command.Command.TheViews.{out-Command as fields_of};
 ghost use Rattle.idl_driver.specs.Parsed.{SaysWrong};
 ghost use Rattle.idl_driver.specs.Words.{file_rule};
-ghost use Rattle.idl_tool.specs.Words.{AreDepsOf, AreWrong, AreDiffOf, AreSideOf, IsRequestOf, bare, check_shape, deps_shape, diff_shape, lsp_shape, entered_in, explain_shape, faults_in, generated_rule, idltool, json_shape, side_rule, target_rule, version_rule, word_rule};
+ghost use Rattle.idl_tool.specs.Words.{AreCheckOf, AreDepsOf, AreWrong, AreDiffOf, AreSideOf, IsRequestOf, bare, check_shape, deps_shape, diff_shape, lsp_shape, entered_in, explain_shape, fails_in, fails_rule, faults_in, generated_rule, idltool, json_shape, present_rule, side_rule, stdio_rule, target_rule, version_rule, werror_rule, word_rule};
 
 use clap::{Arg, ArgAction, ArgMatches, Command};
+use idl_changes::Weights;
 use idl_driver::{
     Options, ParsedWords, WordsFault, options_of, parse_words, values_of, with_options,
 };
 use std::alloc::{AllocError, Global};
+
+/// What is to be told of files, and how the program ends then.
+#[derive(Drop)]
+pub struct Check<'a> {
+    /// The files, and what they are compiled over.
+    pub options: Options<'a>,
+    /// Whether warnings count as errors do.
+    pub counts_warnings: bool,
+}
 
 /// Whose rules of make are to be written, and how.
 #[derive(Drop)]
@@ -23,15 +33,19 @@ pub struct Deps<'a> {
     pub target: Option<&'a str>,
     /// Whether a file that isn't there is one that another rule makes.
     pub has_generated: bool,
+    /// Whether a file that isn't there is left out.
+    pub leaves_absent: bool,
 }
 
-/// Which files are to be compared, and what each is compiled over.
+/// Which files are to be compared, what each is compiled over, and which changes are errors.
 #[derive(Drop)]
 pub struct Diff<'a> {
     /// The old file.
     pub old: Options<'a>,
     /// The new one.
     pub new: Options<'a>,
+    /// The weights with which a change is an error.
+    pub fails: Weights,
 }
 
 /// What the words ask for.
@@ -39,12 +53,12 @@ pub struct Diff<'a> {
 pub enum ToolRequest<'a> {
     /// To show a text, which tells how the program is used or its version.
     Show(String),
-    /// To explain the code or the refusal that a word names, or all without one.
-    Explain(Option<&'a str>),
+    /// To explain the codes and refusals that words name, or all without a word.
+    Explain(Vec<&'a str>),
     /// To write rules of make.
     Deps(Deps<'a>),
     /// To tell what is found in files.
-    Check(Options<'a>),
+    Check(Check<'a>),
     /// To write what is told of files as JSON.
     Json(Options<'a>),
     /// To tell what changes from one file to another.
@@ -78,13 +92,13 @@ fn chosen<'a>(
     ensures wrong { IfErr result (SaysWrong (AreWrong (map (λ w. w.now) words.entry.now))) }
 {
     if let Some(explain) = matches.subcommand_matches("explain") {
-        return Ok(ToolRequest::Explain(explain.get_str("word")));
+        return Ok(ToolRequest::Explain(values_of(alloc, explain, "word")?));
     }
     if let Some(deps) = matches.subcommand_matches("deps") {
         return Ok(ToolRequest::Deps(deps_of(alloc, deps)?));
     }
     if let Some(check) = matches.subcommand_matches("check") {
-        return Ok(ToolRequest::Check(options_of(alloc, check)?));
+        return Ok(ToolRequest::Check(check_of(alloc, check)?));
     }
     if let Some(json) = matches.subcommand_matches("json") {
         return Ok(ToolRequest::Json(options_of(alloc, json)?));
@@ -93,7 +107,16 @@ fn chosen<'a>(
         return Ok(ToolRequest::Serve);
     }
     match matches.subcommand_matches("diff") {
-        Some(diff) => Ok(ToolRequest::Diff(diff_of(alloc, diff)?)),
+        Some(diff) => match fails_of(diff) {
+            Some(fails) => Ok(ToolRequest::Diff(diff_of(alloc, diff, fails)?)),
+            None => {
+                let text = String::from_str(
+                    alloc,
+                    "--fail-on: never, or of wire, client, servant, names and new, with commas between",
+                )?;
+                Err(WordsFault::Wrong(text))
+            }
+        },
         // One of the six is wanted.
         None => Err(WordsFault::Wrong(String::new(alloc))),
     }
@@ -122,7 +145,6 @@ fn bare<'a>(alloc: Global) -> Command<'a>
 {
     Command::new(alloc, "idltool")
         .no_binary_name(true)
-        .disable_help_subcommand(true)
         .subcommand_required(true)
         .arg_required_else_help(true)
         .version("0.1.0")
@@ -130,7 +152,7 @@ fn bare<'a>(alloc: Global) -> Command<'a>
             "Checks files, tells what the rows of idlc mean, what files stand on and what changes from one to another, and writes JSON.",
         )
         .after_help(
-            "The status is 0; or 1 where a FILE has errors, or a change breaks something; or 2 for wrong words and other trouble, which standard error tells.",
+            "The status is 0; or 1 where a FILE has errors, or a change is one; or 2 for wrong words and other trouble, which standard error tells.",
         )
 }
 
@@ -139,8 +161,8 @@ fn explain_command<'a>(alloc: Global) -> Result<Command<'a>, AllocError>
     ensures local { IfOk result (λ command. (fields_of command).has_globals ≡ false) }
 {
     Command::new(alloc, "explain")
-        .about("Explains the code of a row, or a refusal, with an example")
-        .override_usage("idltool explain [CODE|NUMBER]")
+        .about("Explains codes of rows, and refusals, with examples")
+        .override_usage("idltool explain [CODE|NUMBER]..")
         .arg(word(alloc))
 }
 
@@ -154,6 +176,7 @@ fn deps_command<'a>(alloc: Global) -> Result<Command<'a>, AllocError>
     with_options(alloc, command)?
         .arg(target(alloc))?
         .arg(generated(alloc))?
+        .arg(present(alloc))?
         .arg(file(alloc))
 }
 
@@ -164,7 +187,9 @@ fn check_command<'a>(alloc: Global) -> Result<Command<'a>, AllocError>
     let command = Command::new(alloc, "check")
         .about("Tells the errors and warnings of each FILE, with their lines")
         .override_usage("idltool check [OPTIONS] FILE..");
-    with_options(alloc, command)?.arg(file(alloc))
+    with_options(alloc, command)?
+        .arg(werror(alloc))?
+        .arg(file(alloc))
 }
 
 fn json_command<'a>(alloc: Global) -> Result<Command<'a>, AllocError>
@@ -184,11 +209,12 @@ fn diff_command<'a>(alloc: Global) -> Result<Command<'a>, AllocError>
     ensures local { IfOk result (λ command. (fields_of command).has_globals ≡ false) }
 {
     let command = Command::new(alloc, "diff")
-        .about("Tells what changes from one version of a FILE to another, and what of that breaks")
+        .about("Tells what changes from one version of a FILE to another, and for whom it counts")
         .override_usage("idltool diff [OPTIONS] OLD NEW");
     with_options(alloc, command)?
         .arg(old_directory(alloc))?
         .arg(new_directory(alloc))?
+        .arg(fails(alloc))?
         .arg(old_file(alloc))?
         .arg(new_file(alloc))
 }
@@ -197,11 +223,10 @@ fn lsp_command<'a>(alloc: Global) -> Result<Command<'a>, AllocError>
     ensures shape { IfOk result (λ command. shape_of command ≡ lsp_shape) }
     ensures local { IfOk result (λ command. (fields_of command).has_globals ≡ false) }
 {
-    Ok(
-        Command::new(alloc, "lsp")
-            .about("Serves an editor over standard input and output, as a language server")
-            .override_usage("idltool lsp"),
-    )
+    Command::new(alloc, "lsp")
+        .about("Serves an editor over standard input and output, as a language server")
+        .override_usage("idltool lsp [--stdio]")
+        .arg(stdio(alloc))
 }
 
 fn word<'a>(alloc: Global) -> Arg<'a>
@@ -210,7 +235,7 @@ fn word<'a>(alloc: Global) -> Arg<'a>
 {
     Arg::new(alloc, "word")
         .value_name("CODE|NUMBER")
-        .action(ArgAction::Set)
+        .action(ArgAction::Append)
         .help("A code, as E35, or the number of a refusal; without it all are told, in a line each")
 }
 
@@ -233,6 +258,36 @@ fn generated<'a>(alloc: Global) -> Arg<'a>
         .long("generated")
         .action(ArgAction::Count)
         .help("Takes each file that isn't there for one that another rule makes")
+}
+
+fn present<'a>(alloc: Global) -> Arg<'a>
+    ensures rule { rule_of result ≡ present_rule }
+    ensures global { result.global ≡ false }
+{
+    Arg::new(alloc, "present")
+        .long("present")
+        .action(ArgAction::Count)
+        .help("Leaves out each file that isn't there, as for ninja, CMake and Meson")
+}
+
+fn werror<'a>(alloc: Global) -> Arg<'a>
+    ensures rule { rule_of result ≡ werror_rule }
+    ensures global { result.global ≡ false }
+{
+    Arg::new(alloc, "werror")
+        .long("werror")
+        .action(ArgAction::Count)
+        .help("Ends with the status 1 where there are warnings, too")
+}
+
+fn stdio<'a>(alloc: Global) -> Arg<'a>
+    ensures rule { rule_of result ≡ stdio_rule }
+    ensures global { result.global ≡ false }
+{
+    Arg::new(alloc, "stdio")
+        .long("stdio")
+        .action(ArgAction::Count)
+        .help("Changes nothing: some clients add it")
 }
 
 fn file<'a>(alloc: Global) -> Arg<'a>
@@ -268,6 +323,17 @@ fn new_directory<'a>(alloc: Global) -> Arg<'a>
         .help("Searches DIR, before those of -I, for files that NEW includes")
 }
 
+fn fails<'a>(alloc: Global) -> Arg<'a>
+    ensures rule { rule_of result ≡ fails_rule }
+    ensures global { result.global ≡ false }
+{
+    Arg::new(alloc, "fail-on")
+        .long("fail-on")
+        .value_name("WEIGHT[,WEIGHT..]")
+        .action(ArgAction::Set)
+        .help("The weights of a change that is an error, or never; without it wire,client")
+}
+
 fn old_file<'a>(alloc: Global) -> Arg<'a>
     ensures rule { rule_of result ≡ version_rule (codes "old") }
     ensures global { result.global ≡ false }
@@ -290,6 +356,15 @@ fn new_file<'a>(alloc: Global) -> Arg<'a>
         .help("The file as it is")
 }
 
+fn check_of<'a>(alloc: Global, matches: &ArgMatches<'a>) -> Result<Check<'a>, AllocError>
+    ensures { IfOk result (AreCheckOf (rows_of (found_of matches.now))) }
+{
+    Ok(Check {
+        options: options_of(alloc, matches)?,
+        counts_warnings: matches.get_count("werror") > 0,
+    })
+}
+
 fn deps_of<'a>(alloc: Global, matches: &ArgMatches<'a>) -> Result<Deps<'a>, AllocError>
     ensures { IfOk result (AreDepsOf (rows_of (found_of matches.now))) }
 {
@@ -297,15 +372,31 @@ fn deps_of<'a>(alloc: Global, matches: &ArgMatches<'a>) -> Result<Deps<'a>, Allo
         options: options_of(alloc, matches)?,
         target: matches.get_str("target"),
         has_generated: matches.get_count("generated") > 0,
+        leaves_absent: matches.get_count("present") > 0,
     })
 }
 
-fn diff_of<'a>(alloc: Global, matches: &ArgMatches<'a>) -> Result<Diff<'a>, AllocError>
+// The weights with which a change is an error.
+fn fails_of(matches: &ArgMatches<'_>) -> Option<Weights>
+    ensures { result ≡ fails_in (rows_of (found_of matches.now)) }
+{
+    match matches.get_str("fail-on") {
+        Some(text) => Weights::named(text.as_bytes()),
+        None => Some(Weights::of_callers()),
+    }
+}
+
+fn diff_of<'a>(
+    alloc: Global,
+    matches: &ArgMatches<'a>,
+    fails: Weights,
+) -> Result<Diff<'a>, AllocError>
+    requires { fails_in (rows_of (found_of matches.now)) ≡ Some fails }
     ensures { IfOk result (AreDiffOf (rows_of (found_of matches.now))) }
 {
     let old = side_of(alloc, matches, "old", "old-directory")?;
     let new = side_of(alloc, matches, "new", "new-directory")?;
-    Ok(Diff { old, new })
+    Ok(Diff { old, new, fails })
 }
 
 // What is asked for of the file that this argument names, and of which this option has the directories.

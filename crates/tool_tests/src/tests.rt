@@ -4,5 +4,6 @@ mod checks;
 mod diffs;
 mod editors;
 mod explains;
+mod jsons;
 mod rules;
 mod support;

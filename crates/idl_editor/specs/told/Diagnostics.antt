@@ -1,5 +1,5 @@
 -- What is found, as an editor is told. The keys stand in their order.
-use Rattle.std.specs.Prelude.{◌≡◌, ℕ, List, [], codes, if◌then◌else◌, unwrap_or}
+use Rattle.std.specs.Prelude.{◌≡◌, ◌++◌, ◌∷◌, ℕ, List, [], codes, decimal, if◌then◌else◌, unwrap_or}
 use Rattle.serde_json.specs.Data.{Data, member, no_members, number, object, string, unsigned}
 use Rattle.idl_explain.specs.Explained.{said, topic_of}
 use Rattle.idl_explain.specs.declared.explanation.Explanation.{Explanation}
@@ -14,11 +14,15 @@ use Rattle.idl_editor.specs.told.Json.{range_json, shown_json}
 abbrev pub severity : Code → ℕ
 severity code = if is_error code then 1 else 2
 
--- what a finding says is what explains its code, with its token
+-- what is said of a token, and on a line behind it what helps
+abbrev pub said_with_hint : Explanation → List ℕ → List ℕ
+said_with_hint explanation token = said explanation.words token ++ 10 ∷ explanation.hint.now
+
+-- what a finding says is that of what explains its code, with its token
 abbrev pub IsSaid : Finding → List ℕ → Type 0
 IsSaid finding message =
     (explanation : Explanation) × (topic_of explanation.told ≡ topic.Code finding.code)
-    × (message ≡ said explanation.words (unwrap_or finding.text []))
+    × (message ≡ said_with_hint explanation (unwrap_or finding.text []))
 
 -- what is told of a finding that says this, with what is told of its second places
 abbrev pub diagnostic_json : Finding → Range → List ℕ → Data → Data
@@ -29,3 +33,15 @@ diagnostic_json finding range message related = object
     (member (codes "relatedInformation") related
     (member (codes "severity") (number (unsigned (severity finding.code)))
     (member (codes "source") (string (codes "idltool")) no_members))))))
+
+-- what is told of so many findings that aren't told one by one
+abbrev pub more_text : ℕ → List ℕ
+more_text count = codes ".. and " ++ decimal count ++ codes " more in this file"
+
+-- and that at this range, as information: it is no finding, and has no code
+abbrev pub more_json : Range → ℕ → Data
+more_json range count = object
+    (member (codes "message") (shown_json (more_text count))
+    (member (codes "range") (range_json range)
+    (member (codes "severity") (number (unsigned 3))
+    (member (codes "source") (string (codes "idltool")) no_members))))

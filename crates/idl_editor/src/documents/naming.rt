@@ -3,7 +3,7 @@
 ghost use Rattle.std.specs.Prelude.{◌≡◌, IfOk, string_bytes};
 ghost use Rattle.serde_json.specs.View.{view};
 ghost use Rattle.idl_editor.specs.documents.Notices.{name_in};
-ghost use Rattle.idl_editor.specs.documents.Uris.{name_for, uri_among};
+ghost use Rattle.idl_editor.specs.documents.Uris.{name_for, uri_among, version_among};
 
 use crate::documents::document::Document;
 use crate::messages;
@@ -49,5 +49,15 @@ pub fn uri_for(
     match folders.path_for(name.as_bytes())? {
         Some(path) => uri_of(alloc, &path),
         None => uri_of(alloc, name.as_bytes()),
+    }
+}
+
+/// The version of a document that is open and that the session has, if the editor told one.
+pub fn version_for(documents: &IndexMap<Name, Document>, name: &Name) -> Option<u64>
+    ensures { result ≡ version_among documents.now.entries name.now }
+{
+    match documents.get(name) {
+        Some(document) if !document.is_behind => document.version,
+        _ => None,
     }
 }

@@ -3,7 +3,7 @@
 ghost use Rattle.std.specs.Prelude.{◌≡◌};
 ghost use Rattle.std.specs.Option.{option_copied, option_map};
 ghost use Rattle.serde_json.specs.View.{items_view, view};
-ghost use Rattle.idl_editor.specs.messages.Params.{changes_in, position_at, position_of, range_of, told_in, uri_in};
+ghost use Rattle.idl_editor.specs.messages.Params.{changes_in, position_at, position_of, range_of, told_in, uri_in, version_in};
 
 use crate::messages::fields::{number_at, text_at};
 use crate::{ContentChange, Position, Range};
@@ -15,6 +15,16 @@ pub fn uri_of(params: &Value) -> Option<&str>
 {
     match params.get("textDocument") {
         Some(document) => text_at(document, "uri"),
+        None => None,
+    }
+}
+
+/// The version of the document that parameters are about.
+pub fn version_of(params: &Value) -> Option<u64>
+    ensures { result ≡ version_in (view params.now) }
+{
+    match params.get("textDocument") {
+        Some(document) => number_at(document, "version"),
         None => None,
     }
 }
@@ -58,6 +68,7 @@ pub fn change_of(value: &Value) -> Option<ContentChange<'_>>
     let text = text_at(value, "text")?;
     let range = match value.get("range") {
         None => None,
+        Some(range) if range.is_null() => None,
         Some(range) => Some(range_of(range)?),
     };
     Some(ContentChange {

@@ -1,18 +1,21 @@
 //! What is found, as an editor is told.
 
-ghost use Rattle.std.specs.Prelude.{◌≡◌, [], IfOk, unwrap_or};
+ghost use Rattle.std.specs.Prelude.{◌≡◌, ◌++◌, [], IfOk, OnOk, unwrap_or};
 ghost use Rattle.serde_json.specs.View.{view};
-ghost use Rattle.idl_editor.specs.told.Diagnostics.{IsSaid, diagnostic_json, severity};
+ghost use Rattle.idl_editor.specs.told.Diagnostics.{IsSaid, diagnostic_json, more_json, more_text, said_with_hint, severity};
 
 use crate::change::Range;
 use crate::told::ranges::{location_value, range_value};
 use crate::told::shown::shown_value;
-use idl_explain::{Topic, explanation_of};
+use idl_explain::{Explanation, Topic, explanation_of};
 use idl_fault::Code;
 use idl_finding::Finding;
 use itoa::Buffer;
 use serde_json::{Value, json};
 use std::alloc::{AllocError, Global};
+
+// The number of what is no error and no warning.
+const INFORMATION: u8 = 3;
 
 /// A second place, as it is told: why it is, its token, and how many more were found than are told.
 #[derive(Clone, Copy)]
@@ -57,15 +60,53 @@ pub fn diagnostic_value(
     })
 }
 
-/// What a finding says.
+/// How many findings of a file aren't told, at a range.
+pub fn more_value(alloc: Global, range: Range, count: usize) -> Result<Value, AllocError>
+    ensures { IfOk result (λ value. view value ≡ more_json range count) }
+{
+    let text = more_text(alloc, count)?;
+    json!(in alloc; {
+        "message": shown_value(alloc, &text)?,
+        "range": range_value(alloc, range)?,
+        "severity": INFORMATION,
+        "source": "idltool",
+    })
+}
+
+// What is told of so many findings.
+fn more_text(alloc: Global, count: usize) -> Result<Vec<u8>, AllocError>
+    ensures { IfOk result (λ text. text.items ≡ more_text count) }
+{
+    let mut number = Buffer::new();
+    let mut text = Vec::from_slice(alloc, b".. and ")?;
+    text.extend_from_slice(number.format(count).as_bytes())?;
+    text.extend_from_slice(b" more in this file")?;
+    Ok(text)
+}
+
+/// What a finding says, and on a line behind it what helps.
 pub fn message_of(alloc: Global, finding: &Finding) -> Result<Vec<u8>, AllocError>
     ensures { IfOk result (λ message. IsSaid finding.now message.items) }
 {
     let explanation = explanation_of(Topic::Code(finding.code));
     let token = token_of(finding);
     let mut message = Vec::new(alloc);
-    explanation.words.push(token, &mut message)?;
+    push_said(explanation, token, &mut message)?;
     Ok(message)
+}
+
+// Puts in what is said of a token, and what helps.
+fn push_said(
+    explanation: &Explanation,
+    token: &[u8],
+    message: &mut Vec<u8>,
+) -> Result<(), AllocError>
+    ensures { OnOk result (message.new.items
+        ≡ message.old.items ++ said_with_hint explanation.now token.now) }
+{
+    explanation.words.push(token, message)?;
+    message.extend_from_slice(b"\n")?;
+    message.extend_from_slice(explanation.hint.as_bytes())
 }
 
 // The token of a finding, if it tells one.

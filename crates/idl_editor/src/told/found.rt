@@ -1,15 +1,23 @@
 //! Findings of a file in the order of lines, each once: the first ones are told.
+//!
+//! Those that tell the same are found by a hash of what they tell, and the rest is sorted once, so that many take no longer
+//! than their number. A list in order into which one was put after another would be gone through for each.
 
-ghost use Rattle.std.specs.Prelude.{◌≡◌, ◌≤◌, OnOk, fold, length};
-ghost use Rattle.std.specs.List.{filter, list_any, position_or_len};
-ghost use Rattle.idl_editor.specs.told.Found.{findings_in, is_in, is_later, is_same, told_if, told_with};
+ghost use Rattle.std.specs.Prelude.{◌≡◌, ◌++◌, ◌∷◌, [], IfOk, OnOk, if◌then◌else◌, take};
+ghost use Rattle.std.specs.List.{filter};
+ghost use Rattle.idl_editor.specs.told.Found.{AreInOrder, each_once, findings_in, is_in, key_of, most_told};
 
+use idl_base::Bytes;
 use idl_finding::Finding;
 use idl_source::Name;
-use std::alloc::AllocError;
+use indexmap::IndexSet;
+use std::alloc::{AllocError, Global};
 
 /// How many findings of a file are told.
-pub const MOST_TOLD: usize = 20;
+pub const MOST_TOLD: usize = 1000;
+
+/// Of how many of them the second places are told.
+pub const MOST_RELATED: usize = 20;
 
 /// What a root finds: the number of the root, and that of the finding among those of the root.
 #[derive(Clone, Copy)]
@@ -17,6 +25,15 @@ pub struct RootFinding<'a> {
     pub root: usize,
     pub index: usize,
     pub finding: &'a Finding,
+}
+
+// What a finding tells of its file.
+#[derive(PartialEq, Eq, Hash, Drop)]
+struct FindingKey {
+    line: u32,
+    code: u8,
+    text: Option<Bytes>,
+    number: Option<usize>,
 }
 
 /// Puts in what a root finds in a file.
@@ -27,8 +44,7 @@ pub fn put_all<'a>(
     findings: &'a [Finding],
 ) -> Result<(), AllocError>
     ensures { OnOk result (findings_in found.new.items
-        ≡ fold told_with (findings_in found.old.items)
-        (filter (is_in name.now) findings.entry.now)) }
+        ≡ findings_in found.old.items ++ filter (is_in name.now) findings.entry.now) }
 {
     'findings: for index in 0..findings.len() {
         let one = RootFinding {
@@ -48,60 +64,77 @@ fn put_if_in<'a>(
     one: RootFinding<'a>,
 ) -> Result<(), AllocError>
     ensures { OnOk result (findings_in found.new.items
-        ≡ told_if (is_in name.now one.entry.finding.now)
-        (findings_in found.old.items) one.entry.finding.now) }
+        ≡ (if is_in name.now one.entry.finding.now
+        then findings_in found.old.items ++ one.entry.finding.now ∷ []
+        else findings_in found.old.items)) }
 {
     if one.finding.place.file.as_bytes() == name.as_bytes() {
-        return put_in_order(found, one);
+        return Ok(found.push(one)?);
     }
     Ok(())
 }
 
-// Puts one in behind those of its line and before those of later ones, unless one of them tells the same: the first ones stay.
-fn put_in_order<'a>(
-    found: &mut Vec<RootFinding<'a>>,
-    one: RootFinding<'a>,
-) -> Result<(), AllocError>
-    ensures { OnOk result (findings_in found.new.items
-        ≡ told_with (findings_in found.old.items) one.entry.finding.now) }
+/// These findings of a file in the order of lines: of those that tell the same the first.
+pub fn in_order<'a>(
+    alloc: Global,
+    found: &[RootFinding<'a>],
+) -> Result<Vec<RootFinding<'a>>, AllocError>
+    ensures { IfOk result (λ ordered.
+        AreInOrder (each_once (findings_in found.now)) (findings_in ordered.items)) }
 {
-    let held = found.as_slice();
-    let is_told = is_among(held, one.finding);
-    let place = place_behind(held, one.finding.place.line);
-    if is_told {
-        return Ok(());
-    }
-    found.insert(place, one)?;
-    found.truncate(MOST_TOLD);
-    Ok(())
+    let mut ordered = each_once(alloc, found)?;
+    ordered.sort_by_key(|one| one.finding.place.line)?;
+    Ok(ordered)
 }
 
-// How many of these are before those of later lines.
-fn place_behind(found: &[RootFinding<'_>], line: u32) -> usize
-    ensures place { result ≡ position_or_len (is_later line) (findings_in found.entry.now) }
-    ensures within { result ≤ length found.entry.now }
+/// The first of these findings, which are told.
+pub fn first_told<'s, 'a>(found: &'s [RootFinding<'a>]) -> &'s [RootFinding<'a>]
+    ensures { result.now ≡ take most_told found.now }
 {
-    match found {
-        [first, rest @ ..] if first.finding.place.line <= line => 1 + place_behind(rest, line),
-        _ => 0,
+    if found.len() <= MOST_TOLD {
+        return found;
     }
+    &found[..MOST_TOLD]
 }
 
-// Whether one of these tells what a finding does.
-fn is_among(found: &[RootFinding<'_>], finding: &Finding) -> bool
-    ensures { result ≡ list_any (is_same finding.now) (findings_in found.entry.now) }
+// Of findings that tell the same the first.
+fn each_once<'a>(
+    alloc: Global,
+    found: &[RootFinding<'a>],
+) -> Result<Vec<RootFinding<'a>>, AllocError>
+    ensures { IfOk result (λ once. findings_in once.items ≡ each_once (findings_in found.now)) }
 {
-    match found {
-        [first, rest @ ..] => is_same(finding, first.finding) || is_among(rest, finding),
-        [] => false,
+    let mut keys = IndexSet::new(alloc);
+    let mut once = Vec::new(alloc);
+    'each: for one in found {
+        let key = key_of(one.finding)?;
+        let is_new = keys.insert(key)?;
+        if !is_new {
+            continue;
+        }
+        once.push(*one)?;
     }
+    Ok(once)
 }
 
-// Whether two findings of a file tell the same.
-fn is_same(one: &Finding, other: &Finding) -> bool
-    ensures { result ≡ is_same one.now other.now }
+// What a finding tells of its file.
+fn key_of(finding: &Finding) -> Result<FindingKey, AllocError>
+    ensures { IfOk result (λ key. key ≡ key_of finding.now) }
 {
-    one.place.line == other.place.line
-        && one.code.number() == other.code.number()
-        && (one.text == other.text && one.number == other.number)
+    Ok(FindingKey {
+        line: finding.place.line,
+        code: finding.code.number(),
+        text: shared(&finding.text)?,
+        number: finding.number,
+    })
+}
+
+// The same text, which shares its memory.
+fn shared(text: &Option<Bytes>) -> Result<Option<Bytes>, AllocError>
+    ensures { IfOk result (λ same. same ≡ text.now) }
+{
+    match text {
+        Some(text) => Ok(Some(text.clone()?)),
+        None => Ok(None),
+    }
 }

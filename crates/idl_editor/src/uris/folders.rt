@@ -1,9 +1,9 @@
 //! The folders of a workspace, and the names that files have in it.
 
 ghost use Rattle.std.specs.Prelude.{◌≡◌, ◌↔◌, ◌∷◌, ◌++◌, [], true, false, IfOk, IfSome, IsTrue, MatchOption, OnErr, OnOk, Some, if◌then◌else◌};
-ghost use Rattle.std.specs.Option.{option_map};
+ghost use Rattle.std.specs.Option.{option_copied, option_map};
 ghost use Rattle.idl_source.specs.names.Path.{is_rooted};
-ghost use Rattle.idl_editor.specs.uris.Folders.{AreApart, escaped, may_be_added, name_in, name_of, named, path_for};
+ghost use Rattle.idl_editor.specs.uris.Folders.{AreApart, are_apart, are_told_apart, escaped, goes_up, leads_out, may_be_added, name_in, name_of, named, path_for, rest_in};
 
 use crate::uris::behind::behind;
 use idl_source::Name;
@@ -30,7 +30,8 @@ impl Model for Folder {
     ghost view = { λ folder. record { path = folder.path.items; front = folder.front.items } };
 }
 
-/// The folders of a workspace. What names in one begin with doesn't begin those of another one.
+/// The folders of a workspace. Of names in one and in another one neither's front begins the other's, but for steps up behind that of
+/// an earlier one.
 #[derive(Drop)]
 pub struct Folders {
     folders: Vec<Folder>,
@@ -57,8 +58,15 @@ impl Folders {
         }
     }
 
+    /// The folders, in the order in which they were added.
+    pub fn as_slice(&self) -> &[Folder]
+        ensures { result.now ≡ self.now }
+    {
+        self.folders.as_slice()
+    }
+
     /// Adds a folder at this path, with what the names of its files begin with, unless that begins the names of another one, or
-    /// another one's begin it, or it begins with `/`. Tells whether it was added.
+    /// another one's begin it, or it begins with `/`. It may go on from another one's with `../`. Tells whether it was added.
     pub fn add(&mut self, path: &[u8], front: &[u8]) -> Result<bool, AllocError>
         ensures added { IfOk result (λ added. self.new
             ≡ (if added then self.old ++ (record { path = path.now; front = front.now }) ∷ []
@@ -85,7 +93,7 @@ impl Folders {
             return false;
         }
         for folder in &self.folders {
-            if behind(&folder.front, front).is_some() || behind(front, &folder.front).is_some() {
+            if !are_told_apart(&folder.front, front) {
                 return false;
             }
         }
@@ -134,7 +142,7 @@ impl Folders {
             return Ok(Some(path));
         }
         for folder in &self.folders {
-            if let Some(rest) = behind(&folder.front, name) {
+            if let Some(rest) = folder.rest_of(name) {
                 path.extend_from_slice(&folder.path)?;
                 path.push(b'/')?;
                 percent_decode(rest).append_to(&mut path)?;
@@ -146,6 +154,23 @@ impl Folders {
 }
 
 impl Folder {
+    /// What the names of its files begin with.
+    pub fn front(&self) -> &[u8]
+        ensures { result.now ≡ self.now.front }
+    {
+        self.front.as_slice()
+    }
+
+    // What stands in a name behind the front, if it is the name of a file in the folder.
+    fn rest_of<'n>(&self, name: &'n [u8]) -> Option<&'n [u8]>
+        ensures { option_copied result ≡ rest_in self.now name.now }
+    {
+        match behind(&self.front, name) {
+            Some(rest) if !leads_out(rest) => Some(rest),
+            _ => None,
+        }
+    }
+
     // Puts in the name of the file at a path, if that is in the folder, and tells so.
     fn push_name(&self, path: &[u8], name: &mut Vec<u8>) -> Result<bool, AllocError>
         ensures { IfOk result (λ is_in. MatchOption (name_in self.now path.now)
@@ -158,12 +183,43 @@ impl Folder {
         let Some(rest) = behind(b"/", rest) else {
             return Ok(false);
         };
-        if is_rooted(rest) {
+        if leads_out(rest) {
             return Ok(false);
         }
         name.extend_from_slice(&self.front)?;
         push_escaped(rest, name)?;
         Ok(true)
+    }
+}
+
+// Whether a path leads out of where it counts from.
+fn leads_out(path: &[u8]) -> bool
+    ensures { result ≡ leads_out path.now }
+{
+    is_rooted(path) || behind(b"../", path).is_some()
+}
+
+// Whether what stays in a folder and begins with one text doesn't begin with the other one.
+fn are_told_apart(one: &[u8], other: &[u8]) -> bool
+    ensures { result ≡ are_told_apart one.now other.now }
+{
+    are_apart(one, other) || goes_up(one, other)
+}
+
+// Whether neither of two texts begins the other one.
+fn are_apart(one: &[u8], other: &[u8]) -> bool
+    ensures { result ≡ are_apart one.now other.now }
+{
+    behind(one, other).is_none() && behind(other, one).is_none()
+}
+
+// Whether the other text is the one with a step up behind it, and maybe more.
+fn goes_up(one: &[u8], other: &[u8]) -> bool
+    ensures { result ≡ goes_up one.now other.now }
+{
+    match behind(one, other) {
+        Some(rest) => behind(b"../", rest).is_some(),
+        None => false,
     }
 }
 

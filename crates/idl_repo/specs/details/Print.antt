@@ -1,6 +1,7 @@
 -- The row that a tree is printed as: one equation for each line of the format.
 use Rattle.std.specs.Prelude.{ℕ, List, [], ◌∷◌, ◌++◌, codes, flat_map, if◌then◌else◌}
 use Rattle.std.specs.Option.{unwrap_or}
+use Rattle.idl_repo.specs.declared.details.reference.Reference.{Reference}
 use Rattle.idl_repo.specs.declared.details.row_tree.AttributeTree.{AttributeTree}
 use Rattle.idl_repo.specs.declared.details.row_tree.ConstantTree.{ConstantTree}
 use Rattle.idl_repo.specs.declared.details.row_tree.OperationTree.{OperationTree}
@@ -30,18 +31,18 @@ with_commas text [] = []
 with_commas text (x ∷ xs) = text x ++ flat_map (λ y. codes "," ++ text y) xs
 
 -- a reference: `@` and the id
-abbrev pub reference_text : List ℕ → List ℕ
-reference_text id = codes "@" ++ id
+abbrev pub reference_text : Reference → List ℕ
+reference_text r = codes "@" ++ r.id
 
-abbrev pub references_text : List (List ℕ) → List ℕ
-references_text ids = with_commas reference_text ids
+abbrev pub references_text : List Reference → List ℕ
+references_text rs = with_commas reference_text rs
 
 -- a type
 abbrev pub element_text : ElementTree → List ℕ
 element_text tree.Void = codes "tk_void"
 element_text (tree.Constants t) = target_word t
 element_text (tree.Unvalued u) = unvalued_word u
-element_text (tree.Named id) = reference_text id
+element_text (tree.Named r) = reference_text r
 
 abbrev pub type_text : LayeredType → List ℕ
 type_text t = layers_begin t.layers ++ (element_text t.element ++ flat_map layer_end t.layers)
@@ -89,15 +90,15 @@ type_code_text c =
     ++ (codes "(" ++ (c.id ++ (codes "," ++ (c.name ++ (parts_text c.parts ++ codes ")")))))
 
 -- of an interface bases(REF,..), and of a struct with a base base(REF)
-abbrev pub base_text : List (List ℕ) → List ℕ
+abbrev pub base_text : List Reference → List ℕ
 base_text [] = []
-base_text (id ∷ ids) = codes " base(" ++ (references_text (id ∷ ids) ++ codes ")")
+base_text (r ∷ rs) = codes " base(" ++ (references_text (r ∷ rs) ++ codes ")")
 
-abbrev pub bases_text : Kind → List (List ℕ) → List ℕ
-bases_text k ids =
+abbrev pub bases_text : Kind → List Reference → List ℕ
+bases_text k rs =
     if kind_eq k kind.Interface
-    then codes " bases(" ++ (references_text ids ++ codes ")")
-    else base_text ids
+    then codes " bases(" ++ (references_text rs ++ codes ")")
+    else base_text rs
 
 -- ID TYPE VALUE
 abbrev pub constant_text : ConstantTree → List ℕ

@@ -1,15 +1,28 @@
--- When two types are one.
+-- When two references are one, and two types.
 use Rattle.std.specs.Prelude.{◌≡◌, Bool, true, ◌&&◌, refl}
 use Rattle.std.specs.Cmp.Lexicographic.{bytes_decides, pointwise}
+use Rattle.std.specs.Str.{bytes_eq}
 use Rattle.std.proofs.Common.{ap}
 use Rattle.idl_base.specs.Exact.{both, same_list}
 use Rattle.idl_repo.specs.contracts.details.type_tree.ElementTreePartialEq.TheImpl.{ghosts as element_ghosts}
+use Rattle.idl_repo.specs.declared.details.reference.Reference.{Reference}
 use Rattle.idl_repo.specs.declared.details.type_tree.ElementTree.{ElementTree}
 use Rattle.idl_repo.specs.declared.details.type_tree.ElementTree.TheVariants as tree
 use Rattle.idl_repo.specs.declared.details.type_tree.LayeredType.{LayeredType}
 use Rattle.idl_entity.specs.DataType.{layer_eq, same_layer}
 use Rattle.idl_entity.specs.Unvalued.{same_unvalued}
 use Rattle.idl_value.specs.Exact.{same_target}
+
+-- whether two references are one: their paths as well as their ids
+abbrev pub reference_eq : Reference → Reference → Bool
+reference_eq r s = bytes_eq r.id s.id && bytes_eq r.path s.path
+
+pub same_reference : (r s : Reference) → reference_eq r s ≡ true → r ≡ s
+same_reference r s h =
+    let a = both _ _ h in
+    let id = (bytes_decides r.id s.id).0 a.0 in
+    let path = (bytes_decides r.path s.path).0 a.1 in
+    λ i. record { id = id i; path = path i }
 
 -- whether two elements are one
 abbrev pub element_tree_eq : ElementTree → ElementTree → Bool
@@ -19,7 +32,7 @@ pub same_element_tree : (e f : ElementTree) → element_tree_eq e f ≡ true →
 same_element_tree tree.Void tree.Void h = refl
 same_element_tree (tree.Constants t) (tree.Constants u) h = ap tree.Constants (same_target t u h)
 same_element_tree (tree.Unvalued x) (tree.Unvalued y) h = ap tree.Unvalued (same_unvalued x y h)
-same_element_tree (tree.Named i) (tree.Named j) h = ap tree.Named ((bytes_decides i j).0 h)
+same_element_tree (tree.Named r) (tree.Named s) h = ap tree.Named (same_reference r s h)
 same_element_tree e f h = cc
 
 -- whether two types are one

@@ -2,6 +2,7 @@
 use Rattle.std.specs.Prelude.{ℕ, ◌+◌, List, [], ◌∷◌, flat_map, map, Option, None, Some, if◌then◌else◌}
 use Rattle.std.specs.Option.{option_map}
 use Rattle.idl_memo.specs.Query.{outcome}
+use Rattle.idl_repo.specs.declared.details.reference.Reference.{Reference}
 use Rattle.idl_repo.specs.declared.details.row_tree.AttributeTree.{AttributeTree}
 use Rattle.idl_repo.specs.declared.details.row_tree.ConstantTree.{ConstantTree}
 use Rattle.idl_repo.specs.declared.details.row_tree.DeclaredType.{DeclaredType}
@@ -41,17 +42,21 @@ use Rattle.idl_value.specs.declared.value.Value.{Value}
 abbrev pub Bank : Type 0
 Bank = Key → Option Answer
 
--- the id of what is declared at a path, and those at some
+-- the id of what is declared at a path
 abbrev pub id_over : Bank → List (List ℕ) → List ℕ
 id_over bank path = outcome (id_of path) bank
 
-abbrev pub ids_over : Bank → List (List (List ℕ)) → List (List ℕ)
-ids_over bank paths = map (id_over bank) paths
+-- a reference to it: its id, and the path as a row tells it
+abbrev pub reference_over : Bank → List (List ℕ) → Reference
+reference_over bank path = record { id = id_over bank path; path = path_text path }
 
--- a type: a named one is told by its id, and where there is none it is void
+abbrev pub references_over : Bank → List (List (List ℕ)) → List Reference
+references_over bank paths = map (reference_over bank) paths
+
+-- a type: a named one is referred to, and where there is none it is void
 abbrev pub element_over : Bank → Element → ElementTree
 element_over bank (element.Constants t) = tree.Constants t
-element_over bank (element.Named path) = tree.Named (id_over bank path)
+element_over bank (element.Named path) = tree.Named (reference_over bank path)
 element_over bank (element.Unvalued u) = tree.Unvalued u
 
 abbrev pub type_over : Bank → Option DataType → LayeredType
@@ -107,7 +112,7 @@ type_code_over bank k e =
 -- what a row tells behind the id: of a name that has a TypeCode that, and the bases
 abbrev pub declared_over : Bank → TypeCodeKind → Entity → DeclaredType
 declared_over bank k e =
-    record { code = type_code_over bank k e; bases = ids_over bank (listed_bases e) }
+    record { code = type_code_over bank k e; bases = references_over bank (listed_bases e) }
 
 abbrev pub coded_over : Bank → Entity → RowDetails
 coded_over bank e =
@@ -121,8 +126,8 @@ abbrev pub attribute_over : Bank → Entity → AttributeTree
 attribute_over bank e = record {
   is_readonly = e.is_readonly;
   data_type = type_over bank e.data_type;
-  raised = ids_over bank (raised_of e);
-  raised_by_set = ids_over bank (raised_by_set_of e);
+  raised = references_over bank (raised_of e);
+  raised_by_set = references_over bank (raised_by_set_of e);
 }
 
 abbrev pub parameter_over : Bank → Member → ParameterTree
@@ -134,7 +139,7 @@ operation_over bank e = record {
   is_oneway = e.is_oneway;
   data_type = type_over bank e.data_type;
   parameters = map (parameter_over bank) (members_of e);
-  raised = ids_over bank (raised_of e);
+  raised = references_over bank (raised_of e);
   contexts = map context_word (contexts_of e);
 }
 

@@ -3,15 +3,16 @@
 //! A listing can't be read back, so what a row tells is data too: that a row is what its tree is printed as is a law
 //! over any answers. What is around a type is a list of layers, so no tree holds itself. Trees are made when asked for.
 
+use crate::details::reference::Reference;
 use crate::details::type_code_tree::{MemberTree, TypeCodeTree};
 use crate::details::type_tree::LayeredType;
 use idl_base::{Bytes, Seq};
 use idl_entity::Kind;
 
-/// A name that has a TypeCode: with the ids of an interface's bases in order, or of the base of a struct.
+/// A name that has a TypeCode: with the bases of an interface in order, or that of a struct.
 pub struct DeclaredType {
     pub code: TypeCodeTree,
-    pub bases: Seq<Bytes>,
+    pub bases: Seq<Reference>,
 }
 
 /// A constant: its type, and its value as it is listed.
@@ -20,12 +21,12 @@ pub struct ConstantTree {
     pub value: Option<Bytes>,
 }
 
-/// An attribute: its type, and the ids of the exceptions that reading and writing it raise.
+/// An attribute: its type, and the exceptions that reading and writing it raise.
 pub struct AttributeTree {
     pub is_readonly: bool,
     pub data_type: LayeredType,
-    pub raised: Seq<Bytes>,
-    pub raised_by_set: Seq<Bytes>,
+    pub raised: Seq<Reference>,
+    pub raised_by_set: Seq<Reference>,
 }
 
 /// A parameter: whether it goes in, whether it comes out, and its name and type.
@@ -35,13 +36,12 @@ pub struct ParameterTree {
     pub member: MemberTree,
 }
 
-/// An operation: what it gives back, its parameters, the ids of the exceptions that it raises, and the texts of its context as they
-/// are listed.
+/// An operation: what it gives back, its parameters, the exceptions that it raises, and the texts of its context as they are listed.
 pub struct OperationTree {
     pub is_oneway: bool,
     pub data_type: LayeredType,
     pub parameters: Seq<ParameterTree>,
-    pub raised: Seq<Bytes>,
+    pub raised: Seq<Reference>,
     pub contexts: Seq<Bytes>,
 }
 

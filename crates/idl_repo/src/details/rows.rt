@@ -5,15 +5,15 @@ ghost use Rattle.idl_repo.specs.details.Tree.{attribute_over, coded_over, consta
 ghost use Rattle.idl_env.specs.Facts.{answers};
 ghost use Rattle.std.specs.Option.{option_copied};
 ghost use Rattle.idl_repo.specs.Referred.{listed_bases};
-ghost use Rattle.idl_repo.specs.Row.{context_word, path_text};
+ghost use Rattle.idl_repo.specs.Row.{context_word};
 
 use crate::details::row_tree::{
     AttributeTree, ConstantTree, DeclaredType, OperationTree, ParameterTree, RowDetails, RowTree,
 };
 use crate::details::type_code_tree::TypeCodeTree;
 use crate::details::type_codes::parts_of;
-use crate::details::types::{id_at, ids_at, listed, member_of, type_of};
-use crate::{contexts_of, members_of, push_context, push_path, raised_by_set_of, raised_of};
+use crate::details::types::{id_at, listed, member_of, path_text, references_at, type_of};
+use crate::{contexts_of, members_of, push_context, raised_by_set_of, raised_of};
 use idl_base::{Bytes, Seq};
 use idl_entity::{Entity, Kind, Member, Path};
 use idl_env::Env;
@@ -33,15 +33,6 @@ pub fn tree_of(env: &Env, entity: &Entity) -> Result<RowTree, AllocError>
         id,
         details,
     })
-}
-
-// The names of a path, with `::` between them.
-fn path_text(alloc: Global, path: &Path) -> Result<Bytes, AllocError>
-    ensures { IfOk result (λ text. text ≡ path_text path.now) }
-{
-    let mut text = Vec::new(alloc);
-    push_path(&mut text, path.lent())?;
-    Bytes::from_slice(alloc, text.as_slice())
 }
 
 // What its row tells behind the id.
@@ -65,7 +56,7 @@ fn coded_of(env: &Env, entity: &Entity) -> Result<RowDetails, AllocError>
     };
     let id = id_at(env, entity.path())?;
     let name = Bytes::from_slice(env.alloc(), entity.path().name())?;
-    let bases = ids_at(env, listed_bases(entity))?;
+    let bases = references_at(env, listed_bases(entity))?;
     let code = TypeCodeTree { id, name, parts };
     Ok(RowDetails::Type(DeclaredType { code, bases }))
 }
@@ -104,8 +95,8 @@ fn attribute_of(env: &Env, entity: &Entity) -> Result<AttributeTree, AllocError>
     ensures { IfOk result (λ tree. tree ≡ attribute_over (answers env.now) entity.now) }
 {
     let data_type = type_of(env, entity.data_type())?;
-    let raised = ids_at(env, raised_of(entity))?;
-    let raised_by_set = ids_at(env, raised_by_set_of(entity))?;
+    let raised = references_at(env, raised_of(entity))?;
+    let raised_by_set = references_at(env, raised_by_set_of(entity))?;
     Ok(AttributeTree {
         is_readonly: entity.is_readonly(),
         data_type,
@@ -120,7 +111,7 @@ fn operation_of(env: &Env, entity: &Entity) -> Result<OperationTree, AllocError>
 {
     let data_type = type_of(env, entity.data_type())?;
     let parameters = parameters_of(env, members_of(entity))?;
-    let raised = ids_at(env, raised_of(entity))?;
+    let raised = references_at(env, raised_of(entity))?;
     let contexts = context_texts(env.alloc(), contexts_of(entity))?;
     Ok(OperationTree {
         is_oneway: entity.is_oneway(),

@@ -39,7 +39,7 @@ pub enum TypeCodeParts {
     Alias(LayeredType),
 }
 
-/// The TypeCode of a declared name: a type that is named in it is told by its id.
+/// The TypeCode of a declared name: a type that is named in it is referred to.
 pub struct TypeCodeTree {
     pub id: Bytes,
     pub name: Bytes,

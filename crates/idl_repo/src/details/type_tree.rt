@@ -1,6 +1,7 @@
 //! Types as trees.
 
-use idl_base::{Bytes, Seq};
+use crate::details::reference::Reference;
+use idl_base::Seq;
 use idl_entity::{Layer, Unvalued};
 use idl_value::ConstantType;
 
@@ -13,8 +14,8 @@ pub enum ElementTree {
     Constants(ConstantType),
     /// Another type of keywords.
     Unvalued(Unvalued),
-    /// The type that has this id.
-    Named(Bytes),
+    /// The type that this refers to.
+    Named(Reference),
 }
 
 /// A type: what it is of, and what is around that, the innermost first.
@@ -30,7 +31,7 @@ impl Drop for ElementTree {
             ElementTree::Void => {}
             ElementTree::Constants(_target) => {}
             ElementTree::Unvalued(_kind) => {}
-            ElementTree::Named(_id) => {}
+            ElementTree::Named(_reference) => {}
         }
     }
 }

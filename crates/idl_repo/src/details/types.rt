@@ -1,14 +1,16 @@
-//! The trees of types: each id is told as an environment answers.
+//! The trees of types, and what they refer to: each id is told as an environment answers.
 
 ghost use Rattle.std.specs.Prelude.{◌≡◌, IfOk, map};
 ghost use Rattle.std.specs.Option.{option_copied, option_map};
-ghost use Rattle.idl_repo.specs.details.Tree.{element_over, id_over, ids_over, member_over, type_over};
+ghost use Rattle.idl_repo.specs.details.Tree.{element_over, id_over, member_over, reference_over, references_over, type_over};
 ghost use Rattle.idl_env.specs.Facts.{answers};
+ghost use Rattle.idl_repo.specs.Row.{path_text};
 ghost use Rattle.idl_repo.specs.TypeCode.{listed_value};
 
+use crate::details::reference::Reference;
 use crate::details::type_code_tree::MemberTree;
 use crate::details::type_tree::{ElementTree, LayeredType};
-use crate::{RowWriter, push_listed};
+use crate::{RowWriter, push_listed, push_path};
 use idl_base::{Bytes, Seq, Shared};
 use idl_entity::{DataType, Element, Member, Path};
 use idl_env::Env;
@@ -28,15 +30,34 @@ pub fn id_at(env: &Env, path: &Path) -> Result<Bytes, AllocError>
     Bytes::from_slice(env.alloc(), text.as_slice())
 }
 
-/// Those of what is declared at these paths.
-pub fn ids_at(env: &Env, paths: &[Path]) -> Result<Seq<Bytes>, AllocError>
-    ensures { IfOk result (λ ids. ids ≡ ids_over (answers env.now) paths.now) }
+/// The names of a path, with `::` between them.
+pub fn path_text(alloc: Global, path: &Path) -> Result<Bytes, AllocError>
+    ensures { IfOk result (λ text. text ≡ path_text path.now) }
 {
-    let mut ids = Vec::with_capacity(env.alloc(), paths.len())?;
+    let mut text = Vec::new(alloc);
+    push_path(&mut text, path.lent())?;
+    Bytes::from_slice(alloc, text.as_slice())
+}
+
+// A reference to what is declared at a path.
+fn reference_at(env: &Env, path: &Path) -> Result<Reference, AllocError>
+    ensures { IfOk result (λ reference. reference ≡ reference_over (answers env.now) path.now) }
+{
+    let id = id_at(env, path)?;
+    let path = path_text(env.alloc(), path)?;
+    Ok(Reference { id, path })
+}
+
+/// References to what is declared at these paths.
+pub fn references_at(env: &Env, paths: &[Path]) -> Result<Seq<Reference>, AllocError>
+    ensures { IfOk result (λ references.
+        references ≡ references_over (answers env.now) paths.now) }
+{
+    let mut references = Vec::with_capacity(env.alloc(), paths.len())?;
     for path in paths {
-        ids.push(id_at(env, path)?)?;
+        references.push(reference_at(env, path)?)?;
     }
-    Ok(Seq::from_vec(ids))
+    Ok(Seq::from_vec(references))
 }
 
 /// A type.
@@ -61,7 +82,7 @@ fn element_of(env: &Env, element: &Element) -> Result<ElementTree, AllocError>
 {
     Ok(match element {
         Element::Constants(target) => ElementTree::Constants(target.clone()?),
-        Element::Named(path) => ElementTree::Named(id_at(env, path)?),
+        Element::Named(path) => ElementTree::Named(reference_at(env, path)?),
         Element::Unvalued(kind) => ElementTree::Unvalued(*kind),
     })
 }

@@ -5,6 +5,7 @@ ghost use Rattle.idl_repo.specs.details.Print.{element_text, parts_kind, referen
 ghost use Rattle.idl_repo.specs.Row.{direction_word, kind_word};
 ghost use Rattle.idl_repo.specs.TypeCode.{code_word};
 
+use crate::details::reference::Reference;
 use crate::details::type_code_tree::TypeCodeParts;
 use crate::details::type_tree::{ElementTree, LayeredType};
 use crate::{TypeCodeKind, begin_layers, end_layers, push_target, unvalued_word};
@@ -75,14 +76,14 @@ fn push_element(text: &mut Vec<u8>, element: &ElementTree) -> Result<(), AllocEr
         ElementTree::Void => text.extend_from_slice(b"tk_void"),
         ElementTree::Constants(target) => push_target(text, target),
         ElementTree::Unvalued(kind) => text.extend_from_slice(unvalued_word(*kind)),
-        ElementTree::Named(id) => push_reference(text, id.as_bytes()),
+        ElementTree::Named(reference) => push_reference(text, reference),
     }
 }
 
-// A reference to what has an id.
-fn push_reference(text: &mut Vec<u8>, id: &[u8]) -> Result<(), AllocError>
-    ensures { OnOk result (text.new.items ≡ text.old.items ++ reference_text id.now) }
+// A reference, by its id.
+fn push_reference(text: &mut Vec<u8>, reference: &Reference) -> Result<(), AllocError>
+    ensures { OnOk result (text.new.items ≡ text.old.items ++ reference_text reference.now) }
 {
     text.extend_from_slice(b"@")?;
-    text.extend_from_slice(id)
+    text.extend_from_slice(reference.id.as_bytes())
 }

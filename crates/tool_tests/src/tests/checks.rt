@@ -3,11 +3,11 @@
 use super::support::are_given;
 use std::test::Fail;
 
-static ROWS: [&str; 8] = [
+static ROWS: [&str; 11] = [
     // The line, and marks below the token; of a sound file nothing is told.
     "idltool check shop.idl => shop.idl: #include \"money.idl\" | interface Shop { |     Money price(); |     Mony total(); \
      | }; ¶ money.idl: typedef long Money; => 1 out shop.idl:4:5: error: `Mony` isn't declared here or in a scope around \
-     [E30] /    Mony total(); /    ^^^^ /  near: Money, money.idl:1:14 /\nidltool check a.idl => a.idl: typedef long T; => 0",
+     [E30] /    Mony total(); /    ^^^^ /money.idl:1:14: note: near: Money /\nidltool check a.idl => a.idl: typedef long T; => 0",
     // A finding of two roots is told once, where the first is.
     "idltool check a.idl b.idl => a.idl: #include \"h\" | typedef No A; ¶ b.idl: typedef No B; | #include \"h\" ¶ h: \
      typedef Non X; => 1 out h:1:9: error: `Non` isn't declared here or in a scope around [E30] /typedef Non X; /        \
@@ -20,6 +20,11 @@ static ROWS: [&str; 8] = [
     // A warning leaves the status 0.
     "idltool check w.idl => w.idl: interface F; => 0 out w.idl:1:11: warning: the interface `F` is declared forward and never \
      defined [W80] /interface F; /          ^ /",
+    // Where warnings count, it is 1.
+    "idltool check --werror w.idl => w.idl: interface F; => 1 out w.idl:1:11: warning: the interface `F` is declared forward \
+     and never defined [W80] /interface F; /          ^ /\nidltool check --werror a.idl => a.idl: typedef long T; => 0",
+    // What isn't there has no line.
+    "idltool check z.idl => a.idl => 1 out z.idl: error: the file z.idl isn't found [E10] /",
     // A token that comes of a macro, and one that goes over joined lines, have no column.
     "idltool check a.idl => a.idl: #define T No | typedef T X; => 1 out a.idl:2: error: `No` isn't declared here or in a scope \
      around [E30] /typedef T X; /\nidltool check a.idl => a.idl: typedef N\\ | o X; => 1 out a.idl:1: error: `No` isn't \
@@ -31,15 +36,19 @@ static ROWS: [&str; 8] = [
      around [E30] / typedef No B; typedef Non C; /                       ^^^ /",
     // A tab stays a tab, another white byte is a blank, and what no terminal can show goes out by its number.
     "idltool check a.idl => a.idl: \ttypedef\tNo X; // ¬. => 1 out a.idl:1:10: error: `No` isn't declared here or in a scope \
-     around [E30] /\ttypedef\tNo X; //  . /\t       \t^^ /\nidltool check a.idl => a.idl: /* \u{1b} */ typedef long ä; => 1 \
-     out a.idl:1:22: error: `\\xc3` begins no token of IDL [E01] //* \\x1b */ typedef long \\xc3\\xa4; /                        \
-     ^^^^ /",
+     around [E30] /\ttypedef\tNo X; //  . /\t       \t^^ /\nidltool check a.idl => a.idl: /* \u{1b}\u{202e} */ typedef No X; \
+     => 1 out a.idl:1:20: error: `No` isn't declared here or in a scope around [E30] //* \\x1b\\xe2\\x80\\xae */ typedef No \
+     X; /                               ^^ /",
+    // A character is shown, and has one mark; a byte of it that is a token of its own has its number.
+    "idltool check a.idl => a.idl: /* Grüße 😀 */ typedef No X; => 1 out a.idl:1:28: error: `No` isn't declared here or in a \
+     scope around [E30] //* Grüße 😀 */ typedef No X; /                      ^^ /\nidltool check a.idl => a.idl: typedef long \
+     ä; => 1 out a.idl:1:14: error: `\\xc3` begins no token of IDL [E01] /typedef long ä; /             ^ /",
     // Of several second places three are told, and how many more there are.
     "idltool check a.idl => a.idl: interface A { typedef long T; }; | interface B { typedef long T; }; | interface C \
      { typedef long T; }; | interface D { typedef long T; }; | interface E : A, B, C, D { attribute T x; }; => 1 out \
      a.idl:5:38: error: `T` means different things in different bases [E31] /interface E : A, B, C, D { attribute T \
-     x; }; /                                     ^ /  declared: T, a.idl:1:28 /  declared: T, a.idl:2:28 /  \
-     declared: T, a.idl:3:28, and 1 more /",
+     x; }; /                                     ^ /a.idl:1:28: note: declared: T /a.idl:2:28: note: \
+     declared: T /a.idl:3:28: note: declared: T, and 1 more /",
 ];
 
 #[test]

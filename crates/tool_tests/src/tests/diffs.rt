@@ -1,4 +1,4 @@
-//! What `idltool diff` tells: what changes from one version of a file to another, and what of that breaks.
+//! What `idltool diff` tells: what changes from one version of a file to another, and for whom it counts.
 
 use super::support::{are_given, is_given};
 use std::alloc::Global;
@@ -6,18 +6,17 @@ use std::test::Fail;
 
 static ROWS: [&str; 3] = [
     // Two versions, of which the order of what is raised alone tells nothing.
-    "idltool diff old.idl new.idl => old.idl: module Bank { enum Kind { PLAIN, SILVER }; exception Low { }; exception No { }; | \
-     interface Account { | void draw(in long amount) raises (Low, No); | long balance(); | }; | }; ¶ new.idl: module Bank { | enum \
-     Kind { PLAIN, SILVER, GOLD }; exception Low { }; exception No { }; | interface Account { | void draw(in long long sum) raises \
-     (No, Low); | void close(); | }; | }; => 1 out breaks IDL:Bank/Kind:1.0 enum Bank::Kind: enumerator 3, GOLD, is new /breaks \
-     IDL:Bank/Account/draw:1.0 operation Bank::Account::draw: type of parameter 1, tk_long -> tk_longlong /names  \
-     IDL:Bank/Account/draw:1.0 operation Bank::Account::draw: name of parameter 1, amount -> sum /breaks \
-     IDL:Bank/Account/balance:1.0 operation Bank::Account::balance: gone /new    IDL:Bank/Account/close:1.0 operation \
-     Bank::Account::close /",
+    "idltool diff old.idl new.idl => old.idl: module Bank { enum Kind { PLAIN, SILVER }; exception Low { }; exception No { }; | interface \
+     Account { | void draw(in long amount) raises (Low, No); | long balance(); | }; | }; ¶ new.idl: module Bank { | enum Kind { PLAIN, \
+     SILVER, GOLD }; exception Low { }; exception No { }; | interface Account { | void draw(in long long sum) raises (No, Low); | void \
+     close(); | }; | }; => 1 out new.idl:2:6: error: enum Bank::Kind: enumerator GOLD is new, number 3 [wire] /new.idl:4:6: note: \
+     operation Bank::Account::draw: name of parameter 1, amount -> sum [names] /new.idl:4:6: error: operation Bank::Account::draw: type \
+     of parameter amount, long -> long long [wire,client,servant] /old.idl:4:6: error: operation Bank::Account::balance: is gone \
+     [wire,client] /new.idl:5:6: note: operation Bank::Account::close: is new [servant] /",
     // Each version has its own directories, before those of both.
-    "idltool diff -Ii --old-I o --new-I n a.idl b.idl => a.idl: #include <h> ¶ b.idl: #include <h> ¶ i/h: typedef octet T; ¶ o/h: \
-     typedef long T; ¶ n/h: typedef short T; => 1 out breaks IDL:T:1.0 alias T: type, tk_long -> tk_short /\nidltool diff --new-I n \
-     -Ii a.idl a.idl => a.idl: #include <h> ¶ i/h ¶ n/h: typedef long T; => 0 out new    IDL:T:1.0 alias T /",
+    "idltool diff -Ii --old-I o --new-I n a.idl b.idl => a.idl: #include <h> ¶ b.idl: #include <h> ¶ i/h: typedef octet T; ¶ o/h: typedef \
+     long T; ¶ n/h: typedef short T; => 1 out n/h:1:15: error: alias T: type, long -> short [wire,client,servant] /\nidltool diff --new-I \
+     n -Ii a.idl a.idl => a.idl: #include <h> ¶ i/h ¶ n/h: typedef long T; => 0 out n/h:1:14: note: alias T: is new [new] /",
     // Of faulty versions no change is told, but what is found in both.
     "idltool diff a.idl b.idl => a.idl: interface F; ¶ b.idl: typedef No X; => 2 err a.idl:1: W80 F /b.idl:1: E30 No /",
 ];
@@ -29,36 +28,43 @@ fn changes_are_told(rt: HostRuntime) -> Result<(), Fail> {
 
 // A text in which what stands in brackets changes, and what is told of that.
 static EDITS: [&str; 3] = [
-    // Entries: an order that tells nothing; what is gone, new, or of another kind; paths and names of one id.
+    // Entries: an order that tells nothing; what is gone, new, or of another kind; paths of one id.
     "module M { enum E { a }; union U switch (E) { case a: any x; }; interface I { void f(in string s); }; };[->] => 0\nmodule N { \
-     exception A { }; exception B { }; interface C { void bind() raises ([A, B->B, A, B]); }; }; => 0\ninterface I { }; interface J \
-     { }; interface K : [I, J->J, I] { }; => 0\ntypedef long [T->U]; => 1 out breaks IDL:T:1.0 alias T: gone /new    IDL:U:1.0 \
-     alias U /\n[struct->exception] T { long x; }; => 1 out breaks IDL:T:1.0 struct T: kind, struct -> exception /\nconst long [A = \
-     1; | #pragma ID A->B = 1; | #pragma ID B] \"X:1\" => 0 out names  X:1 const A: path, A -> B /\ntypedef long [A; | #pragma ID \
-     A->B; | #pragma ID B] \"X:1\" => 1 out names  X:1 alias A: path, A -> B /breaks X:1 alias A: name in the TypeCode, A -> B /",
-    // Types, each told at its own id.
-    "interface I { }; [interface T->local interface T : I] { }; => 1 out breaks IDL:T:1.0 interface T: TypeCode, tk_objref -> \
-     tk_local_interface /breaks IDL:T:1.0 interface T: base, IDL:I:1.0, is new /\nstruct T { [long x, y->short z]; }; typedef \
-     sequence<T> U; => 1 out breaks IDL:T:1.0 struct T: name of member 1, x -> z /breaks IDL:T:1.0 struct T: type of member 1, \
-     tk_long -> tk_short /breaks IDL:T:1.0 struct T: member 2, y, is gone /\nenum T { a, [b->c, d] }; => 1 out breaks IDL:T:1.0 \
-     enum T: enumerator 2, b -> c /breaks IDL:T:1.0 enum T: enumerator 3, d, is new /\ntypedef sequence<long, [3->4]> T; => 1 out \
-     breaks IDL:T:1.0 alias T: type, tk_sequence(tk_long,3) -> tk_sequence(tk_long,4) /\nunion T switch ([long->short]) { case 1: \
-     any x; }; => 1 out breaks IDL:T:1.0 union T: discriminator, tk_long -> tk_short /\nunion T switch (long) { case 1: [case 2: \
-     any x->any y; default: Object z]; }; => 1 out breaks IDL:T:1.0 union T: default, -1 -> 1 /breaks IDL:T:1.0 union T: name of \
-     case 1, x -> y /breaks IDL:T:1.0 union T: label of case 2, 2 -> default /breaks IDL:T:1.0 union T: name of case 2, x -> z \
-     /breaks IDL:T:1.0 union T: type of case 2, tk_any -> tk_objref(IDL:omg.org/CORBA/Object:1.0,Object) /",
+     exception A { }; exception B { }; interface C { void bind() raises ([A, B->B, A, B]); }; }; => 0\ninterface I { }; interface J { }; \
+     interface K : [I, J->J, I] { }; => 0\ntypedef long [T->U]; => 1 out a:1:14: error: alias T: is gone [client,servant] /b:1:14: note: \
+     alias U: is new [new] /\n[struct->exception] T { long x; }; => 1 out b:1:11: error: struct T: kind, struct -> exception \
+     [wire,client,servant] /\nconst long [A = 1; | #pragma ID A->B = 1; | #pragma ID B] \"X:1\" => 1 out b:1:12: error: const A: path, A \
+     -> B [client,servant] /\ntypedef long [A; | #pragma ID A->B; | #pragma ID B] \"X:1\" => 1 out b:1:14: error: alias A: path, A -> B \
+     [client,servant] /",
+    // Types, each told where it is declared.
+    "interface I { }; [interface T->local interface T : I] { }; => 1 out b:1:34: error: interface T: local, no -> yes \
+     [wire,client,servant] /\ninterface I { void f(); }; interface J { }; interface T [: J->: I] { }; => 1 out b:1:55: error: interface \
+     T: base J is gone [wire,client] /b:1:55: note: interface T: base I is new [servant] /\nstruct T { [long x, y->short z]; }; typedef \
+     sequence<T> U; => 1 out b:1:8: error: struct T: member x is gone [wire,client,servant] /b:1:8: error: struct T: member y is gone \
+     [wire,client,servant] /b:1:8: error: struct T: member z is new, number 1 [wire,client,servant] /\nstruct T { [long x; short y->short \
+     y; long x]; }; => 1 out b:1:8: error: struct T: order of members, x y -> y x [wire,client,servant] /\nenum T { a, [b->c, d] }; => 1 \
+     out b:1:6: error: enum T: enumerator b is gone [wire,client,servant] /b:1:6: error: enum T: enumerator c is new, number 2 [wire] \
+     /b:1:6: error: enum T: enumerator d is new, number 3 [wire] /\ntypedef sequence<long, [3->4]> T; => 1 out b:1:27: error: alias T: \
+     type, sequence<long, 3> -> sequence<long, 4> [wire,client,servant] /\ntypedef long A; struct T { [long->A] x; }; => 0 out b:1:24: \
+     note: struct T: type of member x, long -> A [names] /\nunion T switch ([long->short]) { case 1: any x; }; => 1 out b:1:7: error: \
+     union T: discriminator, long -> short [wire,client,servant] /\nunion T switch (long) { case 1: [case 2: any x->any y; default: \
+     Object z]; }; => 1 out b:1:7: error: union T: name of case 1, x -> y [client,servant] /b:1:7: error: union T: type of case 2, any -> \
+     Object [wire,client,servant] /b:1:7: error: union T: name of case 2, x -> z [client,servant] /b:1:7: error: union T: default is new \
+     [wire] /",
     // Constants, attributes and operations.
-    "const [long T = 1->short T = 2]; => 1 out breaks IDL:T:1.0 const T: type, tk_long -> tk_short /breaks IDL:T:1.0 const T: \
-     value, 1 -> 2 /\nexception E { }; interface I { [attribute long a getraises (E)->readonly attribute short a]; }; => 1 out \
-     breaks IDL:I/a:1.0 attribute I::a: readonly, no -> yes /breaks IDL:I/a:1.0 attribute I::a: type, tk_long -> tk_short /breaks \
-     IDL:I/a:1.0 attribute I::a: exception of get, IDL:E:1.0, is gone /\nexception E { }; interface I { attribute long a[-> \
-     setraises (E)]; }; => 1 out breaks IDL:I/a:1.0 attribute I::a: exception of set, IDL:E:1.0, is new /\ninterface I { [void \
-     f(->oneway void f(in any x]); }; => 1 out breaks IDL:I/f:1.0 operation I::f: oneway, no -> yes /breaks IDL:I/f:1.0 operation \
-     I::f: parameter 1, x, is new /\ninterface I { void f(in any [x->y]); }; => 0 out names  IDL:I/f:1.0 operation I::f: name of \
-     parameter 1, x -> y /\nexception E { }; interface I { [any f(in any x) raises (E) context (\"a->long f(inout long x) context \
-     (\"b]\"); }; => 1 out breaks IDL:I/f:1.0 operation I::f: type, tk_any -> tk_long /breaks IDL:I/f:1.0 operation I::f: direction \
-     of parameter 1, in -> inout /breaks IDL:I/f:1.0 operation I::f: type of parameter 1, tk_any -> tk_long /breaks IDL:I/f:1.0 \
-     operation I::f: exception, IDL:E:1.0, is gone /breaks IDL:I/f:1.0 operation I::f: context 1, \"a\" -> \"b\" /",
+    "const [long T = 1->short T = 2]; => 1 out b:1:13: error: const T: type, long -> short [client,servant] /b:1:13: error: const T: \
+     value, 1 -> 2 [client,servant] /\nexception E { }; interface I { [attribute long a getraises (E)->readonly attribute short a]; }; => \
+     1 out b:1:57: error: attribute I::a: type, long -> short [wire,client,servant] /b:1:57: error: attribute I::a: readonly, no -> yes \
+     [wire,client] /b:1:57: error: attribute I::a: exception of get E is gone [client,servant] /\nexception E { }; interface I { \
+     attribute long a[-> setraises (E)]; }; => 1 out b:1:47: error: attribute I::a: exception of set E is new [wire,client] /\ninterface \
+     I { [void f(->oneway void f(in any x]); }; => 1 out b:1:27: error: operation I::f: parameter x is new, number 1 \
+     [wire,client,servant] /b:1:27: error: operation I::f: oneway, no -> yes [wire] /\ninterface I { void f(in any [x->y]); }; => 0 out \
+     b:1:20: note: operation I::f: name of parameter 1, x -> y [names] /\nlocal interface I { void f([->in any x]); }; => 1 out b:1:26: \
+     error: operation I::f: parameter x is new, number 1 [client,servant] /\nexception E { }; interface I { [any f(in any x) raises (E) \
+     context (\"a->long f(inout long x) context (\"b]\"); }; => 1 out b:1:37: error: operation I::f: type, any -> long \
+     [wire,client,servant] /b:1:37: error: operation I::f: direction of parameter x, in -> inout [wire,client,servant] /b:1:37: error: \
+     operation I::f: type of parameter x, any -> long [wire,client,servant] /b:1:37: error: operation I::f: exception E is gone \
+     [client,servant] /b:1:37: error: operation I::f: context, \"a\" -> \"b\" [wire,client,servant] /",
 ];
 
 #[test]

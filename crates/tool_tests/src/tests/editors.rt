@@ -22,7 +22,7 @@ fn is_served(alloc: Global, text: &str, input: &str, code: u8, want: &str) -> Re
 }
 
 // A status, files, messages, and behind a `=` what is written. A line that begins with blanks goes on with the one before it.
-static SCRIPTS: [&str; 4] = [
+static SCRIPTS: [&str; 6] = [
     // A document is opened beside a header of the disk, in units of UTF-16, mended, and asked about.
     r##"0 /p/b.idl: typedef long Money;
 {"id":1,"method":"textDocument/hover"}
@@ -34,7 +34,8 @@ static SCRIPTS: [&str; 4] = [
 {"method":"textDocument/didOpen","params":{"textDocument":{"uri":"file:///p/%c3%bc.idl",
     "text":"#include \"b.idl\"\n\r/* é😀 */ module M { struct S { Mony x; }; };\n"}}}
 ={"jsonrpc":"2.0","method":"textDocument/publishDiagnostics","params":{"diagnostics":[{"code":"E30",
-    "message":"`Mony` isn't declared here or in a scope around",
+    "message":"`Mony` isn't declared here or in a scope around\n
+    Look at the spelling, at a missing include, and at rows above: a declaration with an error declares nothing. Names are declared before use.",
     "range":{"end":{"character":36,"line":2},"start":{"character":32,"line":2}},
     "relatedInformation":[{"location":{"range":{"end":{"character":18,"line":0},"start":{"character":13,"line":0}},
     "uri":"file:///p/b.idl"},"message":"near: Money"}],"severity":1,"source":"idltool"}],"uri":"file:///p/%c3%bc.idl"}}
@@ -62,7 +63,7 @@ static SCRIPTS: [&str; 4] = [
 {"id":7,"method":"shutdown"}
 ={"id":7,"jsonrpc":"2.0","result":null}
 {"method":"exit"}"##,
-    // A document in units of UTF-8, changed as a whole and closed. No further message comes.
+    // A document in units of UTF-8, changed as a whole and closed; a change of it makes no sense, and one of none. No further message comes.
     r##"1 /p/q/a.idl: typedef No T;
 {"id":1,"method":"initialize","params":{"capabilities":{"general":{"positionEncodings":["utf-16","utf-8"]}},
     "workspaceFolders":[{"uri":"file:///p/q/"}]}}
@@ -71,11 +72,17 @@ static SCRIPTS: [&str; 4] = [
     "serverInfo":{"name":"idltool","version":"0.1.0"}}}
 {"method":"textDocument/didOpen","params":{"textDocument":{"uri":"file:///p/q/a.idl","text":""}}}
 {"method":"textDocument/didChange","params":{"textDocument":{"uri":"file:///p/q/a.idl"},"contentChanges":[
-    {"text":"/* é😀 */ interface F;\n"}]}}
+    {"range":null,"text":"/* é😀 */ interface F;\n"}]}}
 ={"jsonrpc":"2.0","method":"textDocument/publishDiagnostics","params":{"diagnostics":[{"code":"W80",
-    "message":"the interface `F` is declared forward and never defined",
+    "message":"the interface `F` is declared forward and never defined\n
+    It may stay so: no code can call it through this file. Include the file that defines it.",
     "range":{"end":{"character":24,"line":0},"start":{"character":23,"line":0}},"relatedInformation":[],"severity":2,
     "source":"idltool"}],"uri":"file:///p/q/a.idl"}}
+{"method":"textDocument/didChange","params":{"textDocument":{"uri":"file:///p/q/a.idl"},"contentChanges":[
+    {"text":"interface G;\n"},{"range":{"start":{"line":0,"character":0}},"text":"x"}]}}
+={"jsonrpc":"2.0","method":"window/showMessage","params":{"message":"a.idl: a change makes no sense, so the text stays as it was",
+    "type":1}}
+{"method":"textDocument/didChange","params":{"textDocument":{"uri":"file:///p/q/b.idl"},"contentChanges":[{}]}}
 {"method":"textDocument/didClose","params":{"textDocument":{"uri":"file:///p/q/a.idl"}}}
 ={"jsonrpc":"2.0","method":"textDocument/publishDiagnostics","params":{"diagnostics":[],"uri":"file:///p/q/a.idl"}}"##,
     // A header is found in a directory that is named by its whole path, and opened. What a message tells of is in its own letters.
@@ -87,13 +94,16 @@ static SCRIPTS: [&str; 4] = [
 {"method":"textDocument/didOpen","params":{"textDocument":{"uri":"file:///p/a.idl",
     "text":"#include \"b.idl\"\nconst char C = 'é';\ntypedef Money X;\n"}}}
 ={"jsonrpc":"2.0","method":"textDocument/publishDiagnostics","params":{"diagnostics":[{"code":"E03",
-    "message":"'é' isn't exactly one character","range":{"end":{"character":18,"line":1},"start":{"character":15,"line":1}},
+    "message":"'é' isn't exactly one character\n
+    A text of more characters is a string and stands in double quotes.","range":{"end":{"character":18,"line":1},"start":{"character":15,"line":1}},
     "relatedInformation":[],"severity":1,"source":"idltool"}],"uri":"file:///p/a.idl"}}
 {"method":"textDocument/didOpen","params":{"textDocument":{"uri":"file:///p/inc/b.idl","text":"typedef long Cash;\n"}}}
 ={"jsonrpc":"2.0","method":"textDocument/publishDiagnostics","params":{"diagnostics":[{"code":"E03",
-    "message":"'é' isn't exactly one character","range":{"end":{"character":18,"line":1},"start":{"character":15,"line":1}},
+    "message":"'é' isn't exactly one character\n
+    A text of more characters is a string and stands in double quotes.","range":{"end":{"character":18,"line":1},"start":{"character":15,"line":1}},
     "relatedInformation":[],"severity":1,"source":"idltool"},{"code":"E30",
-    "message":"`Money` isn't declared here or in a scope around",
+    "message":"`Money` isn't declared here or in a scope around\n
+    Look at the spelling, at a missing include, and at rows above: a declaration with an error declares nothing. Names are declared before use.",
     "range":{"end":{"character":13,"line":2},"start":{"character":8,"line":2}},"relatedInformation":[],"severity":1,
     "source":"idltool"}],"uri":"file:///p/a.idl"}}
 {"id":2,"method":"shutdown"}
@@ -109,7 +119,8 @@ static SCRIPTS: [&str; 4] = [
     "text":"interface A { typedef long T; };\ninterface B { typedef long T; };\ninterface C { typedef long T; };\n
     interface D { typedef long T; };\ninterface E : A, B, C, D { attribute T x; };\n"}}}
 ={"jsonrpc":"2.0","method":"textDocument/publishDiagnostics","params":{"diagnostics":[{"code":"E31",
-    "message":"`T` means different things in different bases",
+    "message":"`T` means different things in different bases\n
+    Say which one is meant: A::T or B::T.",
     "range":{"end":{"character":38,"line":4},"start":{"character":37,"line":4}},"relatedInformation":[
     {"location":{"range":{"end":{"character":28,"line":0},"start":{"character":27,"line":0}},
     "uri":"file:///p/a.idl"},"message":"declared: T"},
@@ -117,6 +128,41 @@ static SCRIPTS: [&str; 4] = [
     "uri":"file:///p/a.idl"},"message":"declared: T"},
     {"location":{"range":{"end":{"character":28,"line":2},"start":{"character":27,"line":2}},
     "uri":"file:///p/a.idl"},"message":"declared: T, and 1 more"}],"severity":1,"source":"idltool"}],"uri":"file:///p/a.idl"}}"##,
+    // A directory counts from each folder, and what is no list of texts is told.
+    r##"1 /w/q/inc/b.idl: typedef long Money;
+{"id":1,"method":"initialize","params":{"workspaceFolders":[{"uri":"file:///w/p"},{"uri":"file:///w/q"}],
+    "initializationOptions":{"search":["inc",7],"define":"X"}}}
+={"id":1,"jsonrpc":"2.0","result":{"capabilities":{"definitionProvider":true,"documentSymbolProvider":true,"hoverProvider":true,
+    "positionEncoding":"utf-16","textDocumentSync":{"change":2,"openClose":true,"save":true}},
+    "serverInfo":{"name":"idltool","version":"0.1.0"}}}
+={"jsonrpc":"2.0","method":"window/showMessage","params":{"message":"define: a list of texts is wanted, and what is none is left out",
+    "type":1}}
+={"jsonrpc":"2.0","method":"window/showMessage","params":{"message":"search: a list of texts is wanted, and what is none is left out",
+    "type":1}}
+{"method":"textDocument/didOpen","params":{"textDocument":{"uri":"file:///w/q/a.idl","text":"#include \"b.idl\"\ntypedef Money T;\n"}}}
+{"id":2,"method":"textDocument/definition","params":{"textDocument":{"uri":"file:///w/q/a.idl"},"position":{"line":1,"character":9}}}
+={"id":2,"jsonrpc":"2.0","result":{"range":{"end":{"character":18,"line":0},"start":{"character":13,"line":0}},"uri":"file:///w/q/inc/b.idl"}}"##,
+    // A file beside the only folder is what an include of it finds, and has a plain path. What is found is told with the version.
+    r##"1 /w/c/b.idl: typedef long Money;
+{"id":1,"method":"initialize","params":{"rootUri":"file:///w/p"}}
+={"id":1,"jsonrpc":"2.0","result":{"capabilities":{"definitionProvider":true,"documentSymbolProvider":true,"hoverProvider":true,
+    "positionEncoding":"utf-16","textDocumentSync":{"change":2,"openClose":true,"save":true}},
+    "serverInfo":{"name":"idltool","version":"0.1.0"}}}
+{"method":"textDocument/didOpen","params":{"textDocument":{"uri":"file:///w/p/a.idl","text":"#include \"../c/b.idl\"\ntypedef Money T;\n"}}}
+{"id":2,"method":"textDocument/definition","params":{"textDocument":{"uri":"file:///w/p/a.idl"},"position":{"line":1,"character":9}}}
+={"id":2,"jsonrpc":"2.0","result":{"range":{"end":{"character":18,"line":0},"start":{"character":13,"line":0}},"uri":"file:///w/c/b.idl"}}
+{"method":"textDocument/didOpen","params":{"textDocument":{"uri":"file:///w/c/b.idl","version":3,"text":"interface Money;\n"}}}
+={"jsonrpc":"2.0","method":"textDocument/publishDiagnostics","params":{"diagnostics":[{"code":"W80",
+    "message":"the interface `Money` is declared forward and never defined\n
+    It may stay so: no code can call it through this file. Include the file that defines it.",
+    "range":{"end":{"character":15,"line":0},"start":{"character":10,"line":0}},"relatedInformation":[],"severity":2,
+    "source":"idltool"}],"uri":"file:///w/c/b.idl","version":3}}
+{"method":"textDocument/didChange","params":{"textDocument":{"uri":"file:///w/c/b.idl","version":4},"contentChanges":[{"text":"\ninterface Money;\n"}]}}
+={"jsonrpc":"2.0","method":"textDocument/publishDiagnostics","params":{"diagnostics":[{"code":"W80",
+    "message":"the interface `Money` is declared forward and never defined\n
+    It may stay so: no code can call it through this file. Include the file that defines it.",
+    "range":{"end":{"character":15,"line":1},"start":{"character":10,"line":1}},"relatedInformation":[],"severity":2,
+    "source":"idltool"}],"uri":"file:///w/c/b.idl","version":4}}"##,
 ];
 
 #[test]

@@ -4,7 +4,7 @@ use super::support::{are_given, are_given_so, given, is_given, told};
 use std::alloc::Global;
 use std::test::Fail;
 
-static ROWS: [&str; 2] = [
+static ROWS: [&str; 4] = [
     "idltool explain E35 =>  => 0 out E35: `T` was used in this scope before, as a name of another one /    typedef \
      long T; /    module M { typedef T U; typedef short T; }; /a.idl:2: E35 T      mended: /    typedef long T; /    \
      module M { typedef ::T U; typedef short T; }; /Declare it before the use, write the use in full with `::` before \
@@ -12,6 +12,12 @@ static ROWS: [&str; 2] = [
     "idltool explain w80 =>  => 0 out W80: the interface `F` is declared forward and never defined /    \
      interface F; /a.idl:1: W80 F      mended: /    interface F { }; /It may stay so: no code can call it through this \
      file. Include the file that defines it. /",
+    // Of several words each is explained, or none where one names nothing.
+    "idltool explain 7 w80 =>  => 0 out refused 7: no such root /    listing a.idl /refused 7      mended: /    root \
+     a.idl /    listing a.idl /Questions are for roots: say root NAME first. / /W80: the interface `F` is declared \
+     forward and never defined /    interface F; /a.idl:1: W80 F      mended: /    interface F { }; /It may stay so: \
+     no code can call it through this file. Include the file that defines it. /",
+    "idltool explain E35 E99 =>  => 2 err idltool: E99: no code and no refusal /",
 ];
 
 #[test]
@@ -39,16 +45,19 @@ fn all_are_told_without_a_word(rt: HostRuntime) -> Result<(), Fail> {
 #[test]
 fn wrong_words_are_told(rt: HostRuntime) -> Result<(), Fail> {
     let wrong =
-        ", explain E35 E36, explain -l, deps, deps -t a.idl, check, check -d a.idl, E35, deps --session a.idl, json, diff a";
+        ", explain -l, lsp --pipe, help E35, deps, deps -t a.idl, check, check -d a.idl, E35, deps --session a.idl, json, diff a";
     for words in wrong.split(',') {
         tells_its_usage(rt.alloc(), words, "2 err ")?;
     }
-    for words in "--help, -h, explain -h, deps -h, check -h, json -h, diff -h".split(',') {
+    let shown =
+        "--help, -h, help, help check, explain -h, deps -h, check -h, json -h, diff -h, lsp -h";
+    for words in shown.split(',') {
         tells_its_usage(rt.alloc(), words, "0 out ")?;
     }
     is_given(rt.alloc(), "idltool --version =>  => 0 out idltool 0.1.0 /")?;
     // An editor is served by what is handed in, which ends the program.
-    is_given(rt.alloc(), "idltool lsp =>  => 1")
+    is_given(rt.alloc(), "idltool lsp =>  => 1")?;
+    is_given(rt.alloc(), "idltool lsp --stdio =>  => 1")
 }
 
 // What is given begins so, and tells how the program is used.

@@ -3,7 +3,7 @@
 use super::support::{are_given, are_given_so};
 use std::test::Fail;
 
-static ROWS: [&str; 4] = [
+static ROWS: [&str; 5] = [
     // A file that isn't found in the first directory counts once it is there.
     "idltool deps -Iinc -Itypes shop.idl => shop.idl: #include <money.idl> | typedef Money Price; ¶ types/money.idl: \
      typedef long Money; => 0 out shop.listing: shop.idl $(wildcard inc/money.idl) types/money.idl /types/money.idl: /",
@@ -11,6 +11,10 @@ static ROWS: [&str; 4] = [
     "idltool deps a.idl => a.idl: #include \"h\" | typedef No X; ¶ h => 1 out a.listing: a.idl h /h: / err a.idl:2: E30 No \
      /\nidltool deps a.idl => a.idl: #include \"no.idl\" => 1 out a.listing: a.idl $(wildcard no.idl) / err a.idl:1: E10 \"no.idl\" \
      /\nidltool deps z.idl => a.idl => 1 out z.listing: $(wildcard z.idl) / err z.idl:0: E10 z.idl /",
+    // Of what isn't there nothing stands in the rules where it is left out, whatever its name is.
+    "idltool deps --present -t shop.h -Iinc -Itypes shop.idl => shop.idl: #include <money.idl> | typedef Money Price; ¶ \
+     types/money.idl: typedef long Money; => 0 out shop.h: shop.idl types/money.idl /types/money.idl: /\nidltool deps \
+     --present a.idl => a.idl: #include \"a:b\" => 1 out a.listing: a.idl / err a.idl:1: E10 \"a:b\" /",
     // What make gives a meaning to has a mark before it.
     "idltool deps a$#%.idl => a$#%.idl: #include \"h%\" ¶ h% => 0 out a$$\\#\\%.listing: a$$\\#%.idl h% /h\\%: /\n\
      idltool deps .A.idl => .A.idl => 0 out .A.listing: .A.idl /",

@@ -5,4 +5,4 @@ endif
 let current_compiler = 'idltool'
 
 execute 'CompilerSet makeprg=' . escape('idltool check ' . get(g:, 'idltool_options', '') . ' %:S', ' \|"')
-CompilerSet errorformat=%f:%l:%c:\ %t%*[a-z]:\ %m,%f:%l:\ %t%*[a-z]:\ %m
+CompilerSet errorformat=%f:%l:%c:\ %t%*[a-z]:\ %m,%f:%l:\ %t%*[a-z]:\ %m,%f:\ %t%*[a-z]:\ %m

@@ -1,14 +1,12 @@
-use Rattle.std.proofs.Common.{◌≡◌, ◌++◌, flat_map, map, take}
+use Rattle.std.proofs.Common.{ℕ, ◌≡◌, ◌++◌, drop, flat_map}
+use Rattle.std.specs.List.{enumerate_from}
 use Rattle.idl_changes.specs.Changes.{told_new}
-use Rattle.idl_changes.specs.Joined.{joined}
-use Rattle.idl_changes.specs.Numbered.{AreCounts}
+use Rattle.idl_repo.specs.declared.details.row_tree.RowTree.{RowTree}
 use Rattle.idl_changes.proofs.comparison.tell_new.Given as goal
 
--- those so far
-abbrev pub invariant-loop-tree : goal.invariant-loop-tree
-invariant-loop-tree l = record {
-  counts : AreCounts (map (λ tree. tree.now) (take l.tree-index l.new)) l.counts;
-  told : l.out.items ≡ l.fn.out.items
-      ++ flat_map (λ pair. told_new pair.0 pair.1)
-      (joined (map (λ tree. tree.now) l.old) (map (λ tree. tree.now) (take l.tree-index l.new)));
-}
+-- those that are left come behind
+abbrev pub invariant-loop-place : goal.invariant-loop-place
+invariant-loop-place l =
+    let told = λ (p : ℕ × RowTree). told_new l.sides.0 l.sides.1 p.0 p.1 in
+    l.out.items ++ flat_map told (enumerate_from l.place (drop l.place l.sides.1))
+    ≡ l.fn.out.items ++ flat_map told (enumerate_from 0 l.sides.1)

@@ -1,39 +1,23 @@
-use Rattle.std.proofs.Common.{arith, Bor, Option, ◌≡◌, ◌∙◌, ◌++◌, List, ap, flat_map, length, map, subst, sym, take}
-use Rattle.std.specs.Option.{option_copied}
+use Rattle.std.proofs.Common.{Bor, ℕ, ◌∙◌, map}
 use Rattle.idl_changes.specs.Changes.{told_old}
-use Rattle.idl_changes.specs.Joined.{joined, of_id}
-use Rattle.idl_changes.specs.Numbered.{AreCounts}
-use Rattle.idl_changes.proofs.JoinedLemmas.{count-within, counts-more, take-next, told-next}
+use Rattle.idl_changes.proofs.ListingLemmas.{lent-past, lent-read, lent-within}
+use Rattle.idl_changes.proofs.StepLemmas.{all-told-at, left-told-at}
 use Rattle.idl_repo.specs.declared.details.row_tree.RowTree.{RowTree}
 use Rattle.idl_changes.proofs.comparison.tell_old.Goals as goal
-use Rattle.idl_changes.proofs.comparison.tell_old.Goals.{in-Some+in_ok-push_differences-in-Some, in-None+in_ok-push_gone-in-None}
 
-pub key_of-requires : goal.key_of-requires
-key_of-requires c =
-    let few = count-within c.args.old.now c.loop-tree.tree-index c.loop-tree.counts c.tree-item.result.now.id c.loop-tree.invariant.counts c.loop-tree-test.true in
-    omega arith
+pub loop-place-preserved : goal.loop-place-preserved
+loop-place-preserved c =
+    let lent = c.trees-trees.result.now in
+    let i = c.loop-place.place in
+    let entry = c.index-trees-place.result in
+    left-told-at (λ (p : ℕ × RowTree). told_old c.args.sides.now.0 c.args.sides.now.1 p.0 p.1) (map (λ (t : Bor RowTree). t.now) lent) c.args.sides.now.0
+    (c.trees-trees.ensures ∙ c.listing.ensures ∙ c.before-2.ensures)
+    i entry.now c.loop-place.out.items c.tell_entry.new.out.items _ (lent-within lent i c.loop-place-test.true) (lent-read lent i entry c.loop-place-test.true c.index-trees-place.is)
+    c.in_ok-tell_entry.ensures c.loop-place.invariant
 
-pub loop-tree-preserved : goal.loop-tree-preserved
-loop-tree-preserved c =
-    let trees = c.args.old.now in
-    let i = c.loop-tree.tree-index in
-    let lent = c.tree-item.result in
-    let tree = lent.now in
-    let key = c.in_ok-key.key in
-    let before = map (λ (t : Bor RowTree). t.now) (take i trees) in
-    let others = map (λ (t : Bor RowTree). t.now) c.args.new.now in
-    let next = take-next trees i lent c.loop-tree-test.true c.tree-item.is in
-    let number : key.number ≡ length (of_id tree.id before) = c.in_ok-key.ensures.number ∙ c.loop-tree.invariant.counts tree.id in
-    let found = option_copied c.entry_at.result in
-    let more : c.match-entry_at.out.items ≡ c.loop-tree.out.items ++ told_old tree found = elim c.match-entry_at.branch [
-      | in-Some+in_ok-push_differences-in-Some w ↦ ap (λ o. o.items) w.out-is ∙ w.in_ok-push_differences-in-Some.ensures
-          ∙ ap (λ (o : Option (Bor RowTree)). c.loop-tree.out.items ++ told_old tree (option_copied o)) (sym w.in-Some.is)
-      | in-None+in_ok-push_gone-in-None w ↦ ap (λ o. o.items) w.out-is ∙ w.in_ok-push_gone-in-None.ensures
-          ∙ ap (λ (o : Option (Bor RowTree)). c.loop-tree.out.items ++ told_old tree (option_copied o)) (sym w.in-None.is)
-    ] in
-    record {
-      counts = subst (λ (ts : List RowTree). AreCounts ts c.key_of.new.counts) (sym next)
-          (counts-more before tree c.loop-tree.counts c.key_of.new.counts key.number c.loop-tree.invariant.counts c.in_ok-key.ensures.number c.in_ok-key.ensures.counted);
-      told = told-next told_old others before tree key found c.args.out.now.items c.loop-tree.out.items c.match-entry_at.out.items c.in_ok-key.ensures.id number c.entry_at.ensures c.loop-tree.invariant.told more
-          ∙ ap (λ (ts : List RowTree). c.args.out.now.items ++ flat_map (λ p. told_old p.0 p.1) (joined others ts)) (sym next);
-    }
+pub returns : goal.returns
+returns c =
+    let lent = c.trees-trees.result.now in
+    all-told-at (λ (p : ℕ × RowTree). told_old c.args.sides.now.0 c.args.sides.now.1 p.0 p.1) (map (λ (t : Bor RowTree). t.now) lent) c.args.sides.now.0
+    (c.trees-trees.ensures ∙ c.listing.ensures ∙ c.before-2.ensures)
+    c.loop-place.place c.loop-place.out.items _ (lent-past lent c.loop-place.place c.loop-place-test.false) c.loop-place.invariant

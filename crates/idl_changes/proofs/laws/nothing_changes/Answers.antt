@@ -1,4 +1,4 @@
-use Rattle.idl_changes.proofs.SameLemmas.{changes-own}
+use Rattle.idl_changes.proofs.NothingLemmas.{changes-own}
 use Rattle.idl_changes.proofs.laws.nothing_changes.Goals as goal
 
 pub returns : goal.returns

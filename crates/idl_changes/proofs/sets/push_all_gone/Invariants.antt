@@ -1,9 +1,9 @@
-use Rattle.std.proofs.Common.{◌≡◌, ◌++◌, map}
-use Rattle.idl_changes.specs.Differences.{gone, lacked}
+use Rattle.std.proofs.Common.{◌≡◌, ◌++◌, drop}
+use Rattle.idl_changes.specs.Differences.{gone_references}
 use Rattle.idl_changes.proofs.sets.push_all_gone.Given as goal
 
 -- those that are left come behind
-abbrev pub invariant-loop-id : goal.invariant-loop-id
-invariant-loop-id l =
-    l.out.items ++ map (gone l.part) l.id-iterator
-    ≡ l.fn.out.items ++ map (gone l.part) (lacked l.old.keys l.new.keys)
+abbrev pub invariant-loop-reference : goal.invariant-loop-reference
+invariant-loop-reference l =
+    l.out.items ++ gone_references l.sides.0 l.sides.1 l.part (drop l.reference-index l.old) l.new
+    ≡ l.fn.out.items ++ gone_references l.sides.0 l.sides.1 l.part l.old l.new

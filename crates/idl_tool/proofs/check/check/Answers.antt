@@ -1,8 +1,8 @@
-use Rattle.std.proofs.Common.{◌∙◌, ap, if◌then◌else◌, refl}
+use Rattle.std.proofs.Common.{◌∙◌, List, ap, if◌then◌else◌, refl}
 use Rattle.idl_source.specs.devices.Device.{append}
-use Rattle.idl_driver.specs.Rows.{are_faulty}
+use Rattle.idl_driver.specs.idl_sources.declared.compile.CompiledRoot.{CompiledRoot}
 use Rattle.idl_loader.specs.declared.status.Status.TheVariants.{Faulty, Sound}
-use Rattle.idl_tool.proofs.DepsLemmas.{ending-of}
+use Rattle.idl_tool.specs.Checked.{are_faults}
 use Rattle.idl_tool.proofs.check.check.Goals as goal
 
 pub report_text-requires : goal.report_text-requires
@@ -27,6 +27,6 @@ returns-clause-checked g c =
         reported = text.3;
         output = c.in_ok-write_all.ensures.written ∙ ap (append (g.O.Sink.written c.args.devices.now.output)) (c.deref-2.ensures.value ∙ text.4);
         errors = refl;
-        ending = c.status_of-status.ensures ∙ ap (λ b. if b then Faulty else Sound) (ap are_faulty c.deref.ensures.value ∙ ending-of all.sources all.roots.keys all.compiled.items is.compiled);
+        ending = c.ending_of-status.ensures ∙ ap (λ (rs : List CompiledRoot). if are_faults c.args.asked.now.counts_warnings rs then Faulty else Sound) (c.deref.ensures.value ∙ is.compiled);
       };
     }

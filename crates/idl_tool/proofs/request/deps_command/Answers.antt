@@ -13,7 +13,8 @@ returns-clause-shape c =
     let options = c.in_ok-with_options.ensures.rules ∙ ap (λ (a : App). with_rules a option_rules) used in
     let target = c.in_ok-arg.ensures.shape c.target.ensures.global ∙ ap₂ with_rule options c.target.ensures.rule in
     let generated = c.in_ok-arg-2.ensures.shape c.generated.ensures.global ∙ ap₂ with_rule target c.generated.ensures.rule in
-    IfOk-weaker c.arg-3.result _ _ (λ r adds. ap top_of (adds.shape c.file.ensures.global ∙ ap₂ with_rule generated c.file.ensures.rule)) c.arg-3.ensures
+    let present = c.in_ok-arg-3.ensures.shape c.present.ensures.global ∙ ap₂ with_rule generated c.present.ensures.rule in
+    IfOk-weaker c.arg-4.result _ _ (λ r adds. ap top_of (adds.shape c.file.ensures.global ∙ ap₂ with_rule present c.file.ensures.rule)) c.arg-4.ensures
 
 pub returns-clause-local : goal.returns-clause-local
 returns-clause-local c =
@@ -21,4 +22,5 @@ returns-clause-local c =
     let options = c.in_ok-with_options.ensures.local ∙ local in
     let target = c.in_ok-arg.ensures.globals ∙ local-more _ _ options c.target.ensures.global in
     let generated = c.in_ok-arg-2.ensures.globals ∙ local-more _ _ target c.generated.ensures.global in
-    IfOk-weaker c.arg-3.result _ _ (λ r adds. adds.globals ∙ local-more _ _ generated c.file.ensures.global) c.arg-3.ensures
+    let present = c.in_ok-arg-3.ensures.globals ∙ local-more _ _ generated c.present.ensures.global in
+    IfOk-weaker c.arg-4.result _ _ (λ r adds. adds.globals ∙ local-more _ _ present c.file.ensures.global) c.arg-4.ensures

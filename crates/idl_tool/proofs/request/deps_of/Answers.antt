@@ -8,4 +8,5 @@ returns c = record {
   options = c.in_ok-options_of.ensures;
   target = c.get_str.ensures ∙ first_value-rows (found_of c.args.matches.now) (codes "target");
   generated = ap (nat_lt 0) c.get_count.ensures.value;
+  present = ap (nat_lt 0) c.get_count-2.ensures.value;
 }

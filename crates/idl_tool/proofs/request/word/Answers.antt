@@ -1,6 +1,6 @@
 use Rattle.std.proofs.Common.{◌≡◌, ◌∙◌, Some, ap, codes}
 use Rattle.clap.specs.Words.{Rule, new_rule, rule_of}
-use Rattle.clap.specs.declared.builder.action.ArgAction.TheVariants.{Set}
+use Rattle.clap.specs.declared.builder.action.ArgAction.TheVariants.{Append}
 use Rattle.idl_tool.proofs.RequestLemmas.{is_global}
 use Rattle.idl_tool.proofs.request.word.Goals as goal
 
@@ -8,7 +8,7 @@ pub returns-clause-rule : goal.returns-clause-rule
 returns-clause-rule c =
     let value : rule_of c.value_name.result ≡ record (new_rule (codes "word")) { value_names = 1 } = ap rule_of c.value_name.ensures
     ∙ ap (λ (r : Rule). record r { value_names = 1 }) c.new.ensures.rule in
-    ap rule_of c.help.ensures ∙ (ap rule_of c.action.ensures ∙ ap (λ (r : Rule). record r { action = Some Set }) value)
+    ap rule_of c.help.ensures ∙ (ap rule_of c.action.ensures ∙ ap (λ (r : Rule). record r { action = Some Append }) value)
 
 pub returns-clause-global : goal.returns-clause-global
 returns-clause-global c =

@@ -2,8 +2,8 @@
 
 use idl_entity::{Layer, Unvalued};
 use idl_repo::details::{
-    ElementTree, LayeredType, MemberTree, OperationTree, ParameterTree, RowDetails, RowTree,
-    TypeCodeParts,
+    ElementTree, LayeredType, MemberTree, OperationTree, ParameterTree, Reference, RowDetails,
+    RowTree, TypeCodeParts,
 };
 use idl_session::{Details, Session};
 use idl_source::cut;
@@ -119,8 +119,8 @@ impl<'a> Generator<'a> {
             write!(text, ", {declared}")?;
         }
         text.push_str(");")?;
-        for id in operation.raised.as_slice() {
-            let exception = self.named(id.as_bytes())?;
+        for reference in operation.raised.as_slice() {
+            let exception = self.named(reference)?;
             write!(text, " // {exception}")?;
         }
         text.push('\n')
@@ -157,18 +157,13 @@ impl<'a> Generator<'a> {
             ElementTree::Void => String::from_str(self.alloc, "void"),
             ElementTree::Constants(target) => String::from_str(self.alloc, word_of(target)),
             ElementTree::Unvalued(kind) => String::from_str(self.alloc, unvalued_word_of(*kind)),
-            ElementTree::Named(id) => self.named(id.as_bytes()),
+            ElementTree::Named(reference) => self.named(reference),
         }
     }
 
-    // The name in C of what has an id: a named type is told by its id, and so is an exception.
-    fn named(&self, id: &[u8]) -> Result<String, AllocError> {
-        for entry in self.details.entries.as_slice() {
-            if entry.tree.id.as_bytes() == id {
-                return name_of(self.alloc, entry.tree.path.as_bytes());
-            }
-        }
-        Ok(String::new(self.alloc))
+    // The name in C of a named type, or an exception.
+    fn named(&self, reference: &Reference) -> Result<String, AllocError> {
+        name_of(self.alloc, reference.path.as_bytes())
     }
 }
 

@@ -13,6 +13,7 @@ use Rattle.idl_server.proofs.NoticeLemmas.{taken-before}
 use Rattle.idl_server.proofs.ServerLemmas.{settled-kept, told-settled}
 use Rattle.idl_server.proofs.HeldLemmas.{held-after}
 use Rattle.idl_server.proofs.WorkspaceLemmas.{on_ok, set-both}
+use Rattle.std.proofs.lemmas.Result.{on_ok_weaker}
 use Rattle.idl_server.proofs.server.Server.take_notice.Goals as goal
 
 pub returns-clause-settled : goal.returns-clause-settled
@@ -57,4 +58,7 @@ pub returns-clause-published : goal.returns-clause-published
 returns-clause-published g c =
     let w = c.publish.new.workspace in
     then-published c.publish.result w (said_by c.args.out.now) (said_by c.show_refused.new.out) (said_by c.publish.new.out)
-    (c.in_ok-show_refused.ensures w) c.publish.ensures.published
+    (c.in_ok-show_refused.ensures.published w) c.publish.ensures.published
+
+pub returns-clause-answers : goal.returns-clause-answers
+returns-clause-answers g c = on_ok_weaker c.publish.result (λ same. same ∙ c.in_ok-show_refused.ensures.answers) c.publish.ensures.answers

@@ -1,34 +1,17 @@
-use Rattle.std.proofs.Common.{◌∙◌, ℕ, List, ap, map, subst}
-use Rattle.std.proofs.lemmas.List.{take_all}
-use Rattle.std.specs.List.{AllZip}
+use Rattle.std.proofs.Common.{◌∙◌, List, ap, map, subst, sym}
 use Rattle.serde_json.proofs.Views.{view-Array}
-use Rattle.serde_json.specs.View.{view}
-use Rattle.idl_editor.specs.declared.change.Range.{Range}
-use Rattle.idl_editor.specs.told.Diagnostics.{diagnostic_json}
-use Rattle.idl_server.specs.Diagnostics.{IsToldOf}
+use Rattle.serde_json.specs.Data.{Data, array}
+use Rattle.serde_json.specs.View.{items_of, view}
+use Rattle.idl_editor.specs.declared.told.found.RootFinding.{RootFinding}
 use Rattle.idl_editor.specs.told.Found.{findings_in}
-use Rattle.idl_server.proofs.DiagnosticLemmas.{zip-found}
+use Rattle.idl_server.specs.Found.{AreFoundIn}
 use Rattle.idl_server.proofs.workspace.Workspace.diagnostics_in.Goals as goal
 
-pub each-preserved : goal.each-preserved
-each-preserved c =
-    let finding = c.index-held-index.result.finding.now in
-    let message = c.in_ok-message.message.items in
-    let related = view c.in_ok-related.related in
-    let is =
-    c.in_ok-diagnostic_value.ensures
-    ∙ ap (λ (said : List ℕ). diagnostic_json finding c.finding_range-range.result said related) c.as_slice-said.ensures.value
-    ∙ ap (λ (range : Range). diagnostic_json finding range message related) c.finding_range-range.ensures
-    in
-    zip-found (IsToldOf c.args.self.now.encoding c.args.self.now.session.project) c.as_slice-held.result.now c.each.index c.index-held-index.result c.each.list.items c.push.new.self.items
-    c.in_ok-diagnostic_value.field-0 c.each-test.true c.index-held-index.is c.in_ok-push.ensures.items c.each.invariant (related, (message, c.in_ok-message.ensures, is))
-
 pub returns : goal.returns
-returns c =
-    let held = c.as_slice-held.result.now in
-    let told = map view c.each.list.items in (
-      told,
-      subst (λ findings. AllZip (IsToldOf c.args.self.now.encoding c.args.self.now.session.project) findings told)
-          (ap findings_in (take_all c.each.index held c.each-test.false) ∙ ap findings_in c.as_slice-held.ensures.value ∙ c.in_ok-found.ensures) c.each.invariant,
-      view-Array c.each.list,
-    )
+returns c = (
+  findings_in c.as_slice-held.result.now,
+  subst (λ (found : List RootFinding). AreFoundIn c.args.self.now.session.project c.args.name.now (findings_in found)) (sym c.as_slice-held.ensures.value) c.in_ok-found.ensures,
+  map view c.in_ok-list.list.items,
+  c.in_ok-list.ensures,
+  view-Array c.push_rest.new.list ∙ ap (λ (jsons : List Data). array (items_of jsons)) c.in_ok-push_rest.ensures,
+)

@@ -1,0 +1,12 @@
+mod AlikeLaws
+mod CutAsks
+mod FactLaws
+mod IdLaws
+mod NameLaws
+mod NamedLaws
+mod PartLaws
+mod SectionAsks
+mod SiteAsks
+mod ThroughLaws
+mod UnitAsks
+mod WalkAsks

@@ -1,0 +1,4 @@
+pub mod Entries
+pub mod Ids
+pub mod Names
+pub mod Units

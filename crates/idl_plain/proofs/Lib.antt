@@ -1,0 +1,5 @@
+mod AdditionLaws
+mod AnswerLaws
+mod EndingLaws
+mod PragmaLaws
+mod SameLaws
