@@ -168,10 +168,6 @@ impl<'a> Accumulator<'a> {
             (Block (cut (text_of block.entry.0.now)) Nothing)
             kept.old keeping.old.meter keeping.new.meter) }
     {
-        repeated();
-        noting();
-        taking();
-        passing::<Env, DeclarationTask>();
         let (units, spot) = block;
         let first = keeping.take_block(kept, &env, spot, units)?;
         let env = beyond(keeping, env, Mark::Entered(false))?;
@@ -179,6 +175,10 @@ impl<'a> Accumulator<'a> {
         let env = self.add_known(keeping, known, env, units)?;
         bound(env.get());
         let env = beyond(keeping, env, Mark::Left(false))?;
+        repeated();
+        noting();
+        taking();
+        passing::<Env, DeclarationTask>();
         Ok(env)
     }
 

@@ -23,9 +23,6 @@ use crate::kept::reading::{kept_verdict, unit_log};
 use crate::kept::reprinting::Reprinting;
 use idl_env::{Env, Facts, Step};
 use idl_kept::{Declarations, KeptDeclaration, KeptTexts};
-use idl_memo::reliance;
-use idl_root_blocks::idl_check::DeclarationTask;
-use idl_scope::laws::{adding, agreeing_around, exchanging};
 use idl_store::Spot;
 use idl_unit::UnitText;
 use std::alloc::{AllocError, Global};
@@ -97,7 +94,6 @@ impl<'k> Following<'k> {
         ensures rest { UnitsOnly kept.old kept.new }
         ensures err { OnErr result (kept.new ≡ kept.old) }
     {
-        reliance::<Env, DeclarationTask>();
         match self.place_of(kept.declarations(), text) {
             Some((list, place)) => kept.take_again(list, place),
             None => Ok(None),
@@ -119,8 +115,6 @@ impl<'k> Following<'k> {
     fn place_of(&self, kept: &Declarations, text: &UnitText) -> Option<(usize, usize)>
         ensures { IfSome result (λ place. IsAgain kept.now self.now text.now place) }
     {
-        idl_scope::laws::reliance();
-        reliance::<Env, DeclarationTask>();
         let declaration = self.course.first_of(kept, text)?;
         if !self.changed.shares_none_of(unit_log(declaration)) {
             return None;
@@ -157,9 +151,6 @@ impl<'k> Following<'k> {
             → IsFollowed kept.now.lists earlier f facts)) }
         ensures less { IfOk result (λ found. IfSome found (λ f. f.less ≡ self.entry.less - 1)) }
     {
-        adding();
-        exchanging();
-        agreeing_around();
         let Following {
             alloc,
             course,
@@ -216,9 +207,6 @@ impl<'k> Following<'k> {
             → IsFollowed lists earlier self.entry env.now
             → IsFollowed lists earlier f (env.now ++ facts.now ∷ [])) }
     {
-        adding();
-        exchanging();
-        agreeing_around();
         let Following {
             alloc,
             course,
@@ -245,8 +233,6 @@ impl<'k> Following<'k> {
             → IsFollowed lists earlier self.entry env.now
             → IsFollowed lists earlier f (env.now ++ facts.now ∷ []))) }
     {
-        adding();
-        agreeing_around();
         let Following {
             alloc,
             course,
@@ -304,9 +290,6 @@ impl<'k> Following<'k> {
             → IsFollowed kept.now.lists earlier self.entry env.now
             → IsFollowed kept.now.lists earlier f (env.now ++ facts.now ∷ []))) }
     {
-        adding();
-        exchanging();
-        agreeing_around();
         let Following {
             alloc,
             course,
@@ -347,9 +330,6 @@ impl<'k> Following<'k> {
             → IsFollowed lists earlier self.entry here
             → IsFollowed lists earlier f (here ++ facts.now ∷ []))) }
     {
-        adding();
-        exchanging();
-        agreeing_around();
         let Following {
             alloc,
             course,
@@ -404,7 +384,6 @@ impl<'k> Following<'k> {
             → ArePrinted (facts_of lists earlier) (list_at entries earlier.list)
             → AreBeside entries r facts) }
     {
-        agreeing_around();
         let Following {
             alloc: _alloc,
             course,

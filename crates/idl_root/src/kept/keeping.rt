@@ -27,8 +27,8 @@ use crate::kept::reprinting::Reprinting;
 use idl_env::{Answer, DigestedKey, Env, Facts};
 use idl_kept::{Declarations, KeptDeclaration, KeptTexts};
 use idl_memo::{KeptLog, Meter};
+use idl_root_blocks::OpenBlocks;
 use idl_root_blocks::idl_check::{DeclarationTask, Scratch};
-use idl_root_blocks::{OpenBlocks, noting_on};
 use idl_unit::UnitText;
 use std::alloc::{AllocError, Global};
 use std::mem::replace;
@@ -123,14 +123,13 @@ impl<'k> Keeping<'k> {
             OnOk result (self.new.keys
             ≡ keys_behind self.old.blocks.blocks self.old.keys (unit_keys place)) }
     {
-        noting();
-        noting_on();
         self.marks.push(Mark::Judged)?;
         let declaration = match self.caught_up(kept.declarations(), text)? {
             Some(following) => self.judged(following, kept, env, text)?,
             None => self.obtained(kept, env, text)?,
         };
         self.ask(env, unit_log(&declaration))?;
+        noting();
         Ok(declaration)
     }
 
@@ -262,7 +261,6 @@ impl<'k> Keeping<'k> {
         ensures marks { OnOk result (self.new.marks.items ≡ self.old.marks.items ++ mark ∷ []) }
         ensures rest { WalksOnly self.old self.new }
     {
-        noting_on();
         self.marks.push(mark)?;
         let following = replace(&mut self.following, None);
         self.following = across(following, env, mark, facts)?;
@@ -285,7 +283,6 @@ impl<'k> Keeping<'k> {
             (self.new.marks.items ≡ self.old.marks.items ++ Judged ∷ []) }
         ensures rest { WalksOnly self.old self.new }
     {
-        noting_on();
         self.marks.push(Mark::Judged)?;
         match self.caught_up(known.declarations(), unit_text(declaration))? {
             Some(following) => {

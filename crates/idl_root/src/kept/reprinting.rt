@@ -11,9 +11,6 @@ use crate::kept::changed::Changed;
 use crate::kept::keeper::{Entries, KeptEntry};
 use crate::kept::reading::entry_at;
 use idl_entity::Path;
-use idl_env::Env;
-use idl_memo::reliance;
-use idl_repo::EntryTask;
 use std::alloc::AllocError;
 use std::rc::Rc;
 
@@ -73,7 +70,6 @@ impl Reprinting {
             → AreBeside lists self.old facts → AreBeside lists self.new facts }
         ensures err { OnErr result (kept.new ≡ kept.old) }
     {
-        reliance::<Env, EntryTask>();
         match self.place_of(kept, path) {
             Some((list, place)) => kept.take_again(list, place),
             None => Ok(None),
@@ -86,8 +82,6 @@ impl Reprinting {
         ensures list { self.new.list ≡ self.old.list }
         ensures changed { self.new.changed ≡ self.old.changed }
     {
-        idl_scope::laws::reliance();
-        reliance::<Env, EntryTask>();
         let place = self.next_at(kept, path)?;
         let entry = entry_at(kept, self.list, place)?;
         if !self.changed.shares_none_of(entry.log()) {

@@ -21,7 +21,7 @@ returns c = λ earlier b.
     let alike : StayAlike c.may_differ-is_around.result c.args.env.now c.in_ok-changed.changed g = search rules in
     record {
       list = behind.list ∙ b.list;
-      beside = beside-other c.agreeing_around.ensures.wider c.adding.ensures.together (facts_of lists earlier) course.marks.now (results_from lists course)
-          f next.marks.now (results_from lists next) behind.passed c.exchanging.ensures.pair c.agreeing_around.ensures.pair
+      beside = beside-other (facts_of lists earlier) course.marks.now (results_from lists course)
+          f next.marks.now (results_from lists next) behind.passed
           c.args.self.is_around c.may_differ-is_around.result c.args.self.changed c.args.env.now g (search rules) c.in_ok-changed.changed changed steps alike b.beside;
     }

@@ -26,6 +26,6 @@ returns c =
       next = first-next stored.lists k following.course first;
       again = λ earlier facts b.
           let own = first-result stored.lists k following.course b.beside.before first b.beside.units in
-          result-again c.reliance.ensures.outside (verdict most_turns) c.reliance-2.ensures.log c.reliance-2.ensures.again following.is_around following.changed b.beside.before facts k own b.beside.but apart
+          result-again (verdict most_turns) following.is_around following.changed b.beside.before facts k own b.beside.but apart
           ∙ ap (λ t. declaration_result (t, answers facts)) c.in_ok-declaration.ensures.text;
     }

@@ -10,7 +10,7 @@ returns c = λ lists earlier facts entries b printed.
     let all = facts_of lists earlier in
     let none : course.marks.now ≡ [] = search rules in
     let but : AgreeBut true c.args.self.changed all facts =
-    beside-end c.agreeing_around.ensures.wider all c.args.self.is_around c.args.self.changed course.marks.now (results_from lists course) facts none b.beside in
+    beside-end all c.args.self.is_around c.args.self.changed course.marks.now (results_from lists course) facts none b.beside in
     let list : c.new.result.list ≡ earlier.list = c.new.ensures.list ∙ ap (λ p. p.0) c.place-list.ensures ∙ b.list in
     record {
       before = all;

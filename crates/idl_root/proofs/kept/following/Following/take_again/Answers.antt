@@ -39,7 +39,7 @@ returns-in-Some-clause-again c =
     let text = c.args.text.now in
     let here = one.again earlier facts b in
     let alike : IsAlike text (answers facts) one.result =
-    subst (λ (k : DeclarationResult). IsAlike text (answers facts) k) (sym here) (own-alike (verdict most_turns) c.reliance.ensures.log text facts) in
+    subst (λ (k : DeclarationResult). IsAlike text (answers facts) k) (sym here) (own-alike (verdict most_turns) text facts) in
     record {
       result_is = is.0 ∙ here;
       new_is = ap (λ (t : Texts). t.declarations) is.1 ∙ ap (λ (k : DeclarationResult). grown old.declarations (k ∷ [])) here;

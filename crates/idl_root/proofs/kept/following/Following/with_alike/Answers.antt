@@ -10,7 +10,7 @@ returns c = λ lists earlier first b.
     let behind = c.in_ok-behind_first.ensures lists c.args.facts.now first in
     record {
       list = behind.list ∙ b.list;
-      beside = beside-same c.agreeing_around.ensures.wider c.adding.ensures.together (facts_of lists earlier) course.marks.now (results_from lists course)
-          c.args.facts.now next.marks.now (results_from lists next) behind.passed c.exchanging.ensures.looked_at c.adding.ensures.facts c.agreeing_around.ensures.same
+      beside = beside-same (facts_of lists earlier) course.marks.now (results_from lists course)
+          c.args.facts.now next.marks.now (results_from lists next) behind.passed
           c.args.self.is_around c.args.self.changed c.args.env.now c.requires b.beside;
     }

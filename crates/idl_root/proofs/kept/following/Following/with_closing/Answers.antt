@@ -19,7 +19,7 @@ returns c = λ lists earlier first b.
     let more : c.push.new.self ≡ c.args.self.changed ++ key_digest (entity_key found.0.path) ∷ [] = c.in_ok-push.ensures ∙ ap (λ d. c.args.self.changed ++ d ∷ []) found.3 in
     record {
       list = behind.list ∙ b.list;
-      beside = beside-closing c.agreeing_around.ensures.wider c.adding.ensures.together (facts_of lists earlier) course.marks.now (results_from lists course)
-          c.args.facts.now next.marks.now (results_from lists next) behind.passed c.agreeing_around.ensures.closes
+      beside = beside-closing (facts_of lists earlier) course.marks.now (results_from lists course)
+          c.args.facts.now next.marks.now (results_from lists next) behind.passed
           c.args.self.is_around c.args.self.changed c.args.env.now closing.0 closing.1 found.0 found.1 apart c.push.new.self more b.beside;
     }

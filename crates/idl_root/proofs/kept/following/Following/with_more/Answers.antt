@@ -17,7 +17,6 @@ returns c = λ lists earlier here b.
     (both.0, search rules) in
     record {
       list = b.list;
-      beside = beside-more c.agreeing_around.ensures.wider c.adding.ensures.together (facts_of lists earlier) course.marks.now (results_from lists course)
-          c.exchanging.ensures.more c.agreeing_around.ensures.more
+      beside = beside-more (facts_of lists earlier) course.marks.now (results_from lists course)
           c.args.self.is_around c.may_differ.result c.args.self.changed here g may c.in_ok-changed.changed changed stays b.beside;
     }

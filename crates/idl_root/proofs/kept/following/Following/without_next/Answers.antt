@@ -22,7 +22,7 @@ returns-clause-followed c = λ earlier facts b.
     (both.0, search rules) in
     record {
       list = behind.list ∙ b.list;
-      beside = beside-less c.agreeing_around.ensures.wider c.adding.ensures.together (facts_of lists earlier) course.marks.now (results_from lists course)
-          f next.marks.now (results_from lists next) behind.passed c.exchanging.ensures.less c.agreeing_around.ensures.less
+      beside = beside-less (facts_of lists earlier) course.marks.now (results_from lists course)
+          f next.marks.now (results_from lists next) behind.passed
           c.args.self.is_around c.may_differ.result c.args.self.changed facts may c.in_ok-changed.changed changed stays b.beside;
     }

@@ -16,6 +16,7 @@ use Rattle.idl_root.specs.declared.kept.following.Following.{Following}
 use Rattle.idl_root.specs.declared.kept.keeping.Keeping.{Keeping}
 use Rattle.idl_root_blocks.specs.Places.{DeclarationPlace, declaration_result}
 use Rattle.idl_root_blocks.specs.declared.text.BlockPart.TheVariants.{Text}
+use Rattle.idl_root_blocks.proofs.Noting.{noted-on}
 use Rattle.idl_root.proofs.kept.keeping.Keeping.judge.Goals as goal
 use Rattle.idl_root.proofs.kept.keeping.Keeping.judge.Goals.{in-Some+in_ok-declaration-in-Some, in-None+in_ok-declaration-in-None}
 
@@ -92,5 +93,5 @@ returns-clause-keeping c =
       | in-None+in_ok-declaration-in-None w ↦ subst (λ (o : Option Following). IfSome o (λ f. IsFollowed lists own.earlier f after)) (sym (ap (λ (k : Keeping). k.following) w.self-is ∙ w.obtained.ensures.following ∙ c.caught_up.ensures.none)) tt
     ] in record {
       follows = subst (λ (k : Keeping). IsFollowing lists k after) (sym c.in_ok-ask.ensures.rest) follows;
-      noted = c.noting_on.ensures env writes c.ask.new.self.blocks c.in_ok-ask.ensures.noted;
+      noted = noted-on env writes c.ask.new.self.blocks c.in_ok-ask.ensures.noted;
     }

@@ -6,6 +6,7 @@ use Rattle.idl_kept.specs.Texts.{DeclarationResult}
 use Rattle.idl_root_blocks.specs.Asking.{AreNoted as HaveNoted}
 use Rattle.idl_root.specs.declared.kept.keeping.Keeping.{Keeping}
 use Rattle.idl_store.specs.Stored.{Stored}
+use Rattle.idl_root_blocks.proofs.Noting.{noted-on}
 use Rattle.idl_root.proofs.kept.keeping.Keeping.pass_known.Goals as goal
 
 pub returns-in_ok-self-in-Some-clause-keeping : goal.returns-in_ok-self-in-Some-clause-keeping
@@ -23,7 +24,7 @@ returns-in_ok-self-in-Some-clause-keeping c =
       follows = some-weaker c.in_ok-self-in-Some.field-0 _ _ (λ f more. more now.earlier there) c.in_ok-self-in-Some.ensures;
       noted =
           subst (HaveNoted (env ++ writes ∷ [])) (sym (ap (λ (k : Keeping). k.blocks) c.caught_up.ensures.rest))
-          (c.noting_on.ensures env writes c.args.self.now.blocks c.requires.keeping.noted);
+          (noted-on env writes c.args.self.now.blocks c.requires.keeping.noted);
     }
 
 pub returns-in-None-clause-keeping : goal.returns-in-None-clause-keeping
@@ -34,5 +35,5 @@ returns-in-None-clause-keeping c =
       follows = subst (λ o. IfSome o (λ f. IsFollowed c.args.known.declarations.now.lists now.earlier f behind)) (sym c.caught_up.ensures.none) tt;
       noted =
           subst (HaveNoted behind) (sym (ap (λ (k : Keeping). k.blocks) c.caught_up.ensures.rest))
-          (c.noting_on.ensures env c.args.declaration.now.out.writes c.args.self.now.blocks c.requires.keeping.noted);
+          (noted-on env c.args.declaration.now.out.writes c.args.self.now.blocks c.requires.keeping.noted);
     }

@@ -34,6 +34,6 @@ returns-clause-printed c =
       again = λ facts b.
           let own = All-contains (λ (k : EntryResult). k ≡ entry_result (k.text, answers b.before)) (list_at stored.lists old.list) e b.entries
           (list-contains stored.lists old.list place e there) in
-          result-again c.reliance.ensures.outside entry c.reliance-2.ensures.log c.reliance-2.ensures.again true old.changed b.before facts e own b.but apart
+          result-again entry true old.changed b.before facts e own b.but apart
           ∙ ap (λ t. entry_result (t, answers facts)) text;
     }

@@ -26,7 +26,7 @@ returns-in-Some-clause-again c =
     let path = c.args.path.now in
     let here = one.again facts b in
     let alike : IsAlike path (answers facts) one.result =
-    subst (λ (k : EntryResult). IsAlike path (answers facts) k) (sym here) (own-alike entry c.reliance.ensures.log path facts) in
+    subst (λ (k : EntryResult). IsAlike path (answers facts) k) (sym here) (own-alike entry path facts) in
     record {
       result_is = is.0 ∙ here;
       new_is = is.1 ∙ ap (λ (k : EntryResult). grown old (k ∷ [])) here;
