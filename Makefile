@@ -1,5 +1,5 @@
 # Puts the programs and what belongs to them in place: make install PREFIX=/usr/local
-# On first use the programs are proved and built before, which takes an hour or longer.
+# On first use the programs are proved and built before, which takes two to three hours.
 PREFIX = /usr/local
 
 programs = crates/idlc/out/idlc crates/idltool/out/idltool

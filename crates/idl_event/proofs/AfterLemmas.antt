@@ -1,10 +1,10 @@
 -- Where one comes to with tokens of a text, as many as the limits leave.
-use Rattle.std.proofs.Common.{◌≡◌, ℕ, zero, suc, ◌-◌, ◌≤◌, false, nat_eq, if◌then◌else◌, List, [], ◌∷◌, ◌++◌, length, map, Option, None, Some, refl, sym, ap, ◌∙◌, arith, append-nil, append_assoc}
+use Rattle.std.proofs.Common.{◌≡◌, ℕ, zero, suc, ◌+◌, ◌-◌, ◌≤◌, false, nat_eq, if◌then◌else◌, List, [], ◌∷◌, ◌++◌, length, map, Option, None, Some, refl, sym, ap, ◌∙◌, arith, append-nil, append_assoc}
 use Rattle.std.proofs.Math.Dec.{eqb-suc-zero}
 use Rattle.idl_memo.specs.Progress.{after_item, with_item}
 use Rattle.idl_event.specs.Expanding.{Reached, after_text}
 use Rattle.idl_event.specs.Apart.{emitted_in}
-use Rattle.idl_event.specs.Items.{rules, spend}
+use Rattle.idl_event.specs.Items.{rules, spend, tokens_left}
 use Rattle.idl_event.specs.declared.told.allowance.Allowance.{Allowance}
 use Rattle.idl_event.specs.declared.told.event.Event.{Event}
 use Rattle.idl_event.specs.declared.told.event.Event.TheVariants.{Emitted}
@@ -54,3 +54,19 @@ after_text-within file (t ∷ ts) p left going le =
       left = Some (record left { tokens = less j });
       log = p.log;
     })
+
+-- two texts, end to end
+pub after_text-append : (file : FileName) (front behind : List PlacedToken) (p : Reached) → after_text file (front ++ behind) p ≡ after_text file behind (after_text file front p)
+after_text-append file [] behind p = refl
+after_text-append file (t ∷ front) behind p = after_text-append file front behind (after_item rules (Kept (emitted_in file t)) p)
+
+-- a text leaves room for as many tokens more as there was
+pub room-behind : (file : FileName) (ts : List PlacedToken) (p : Reached) (n : ℕ) → length ts + n ≤ tokens_left p.left → n ≤ tokens_left (after_text file ts p).left
+room-behind file ts p n le = by p.left refl le
+  where
+    by : (o : Option Allowance) → p.left ≡ o → length ts + n ≤ tokens_left o → n ≤ tokens_left (after_text file ts p).left
+    by None over le = omega (arith, le)
+    by (Some left) going le =
+        let rest : tokens_left (after_text file ts p).left ≡ left.tokens - length ts =
+        ap (λ (r : Reached). tokens_left r.left) (after_text-within file ts p left going (omega (arith, le))) in
+        omega (arith, le, rest)

@@ -82,7 +82,7 @@ module _ (bank : RootKey → Option RootAnswer) (definitions : Definitions) wher
   twice-if word p false = refl
 
   -- nor where the body of a token is
-  twice-replacement : (hidden : List (List ℕ)) (t : Token) (p : Reached)
+  pub twice-replacement : (hidden : List (List ℕ)) (t : Token) (p : Reached)
       → reached bank (replacement definitions hidden t) (reached bank (replacement definitions hidden t) p) ≡ reached bank (replacement definitions hidden t) p
   unfolding replacement
   twice-replacement hidden t p = twice-if t p (is_word t && not (list_any (bytes_eq t) hidden))

@@ -2,11 +2,11 @@ pub mod AgainLemmas
 pub mod AllowanceLemmas
 pub mod ArrivalLemmas
 pub mod ConditionLemmas
-pub mod DigestLemmas
 pub mod DirectiveLemmas
 pub mod MacroLemmas
 pub mod OutputLemmas
 pub mod PlainLemmas
 pub mod ReplaceLemmas
 pub mod RoomLemmas
+pub mod WordLemmas
 pub mod ConditionLaws

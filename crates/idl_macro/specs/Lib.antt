@@ -1,5 +1,4 @@
 pub mod Condition
-pub mod Digest
 pub mod Directives
 pub mod Macros
 pub mod Output

@@ -10,15 +10,14 @@ ghost use Rattle.std.specs.Str.{bytes_eq};
 ghost use Rattle.idl_map.specs.Table.{insert_entry};
 ghost use Rattle.idl_event.specs.Expanding.{arrival, arrived};
 ghost use Rattle.idl_lex.specs.tokens.Tokens.{tokens_in};
-ghost use Rattle.idl_macro.specs.Digest.{digest_of};
+ghost use Rattle.idl_text.specs.Digest.{digest_of};
 ghost use Rattle.idl_macro.specs.Macros.{body_in, macro_of};
 
-use crate::digest::digest_of;
 use idl_base::Bytes;
 use idl_event::{Progress, RootAnswer, RootBank};
 use idl_lex::Token;
 use idl_map::{Marks, Table};
-use idl_text::TokenRange;
+use idl_text::{TokenRange, digest_of};
 use std::alloc::{AllocError, Global};
 use std::marker::Model;
 
@@ -40,7 +39,7 @@ impl Model for Definitions {
     ghost use Rattle.std.specs.Str.{bytes_eq};
     ghost use Rattle.idl_map.specs.Marks.{AreMarked};
     ghost use Rattle.idl_lex.specs.tokens.Tokens.{Token};
-    ghost use Rattle.idl_macro.specs.Digest.{digest_of};
+    ghost use Rattle.idl_text.specs.Digest.{digest_of};
 
     ghost Value = { List (List ℕ × Option (List Token)) };
 

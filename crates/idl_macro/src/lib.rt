@@ -8,7 +8,6 @@
 mod conditional;
 pub mod conditions;
 mod definitions;
-mod digest;
 mod directive;
 mod replacement;
 mod word;
@@ -16,5 +15,5 @@ mod word;
 pub use conditional::condition;
 pub use definitions::{Definitions, Macros};
 pub use directive::{PlacedDirective, define, ifdef, ifndef, undef};
-pub use replacement::{nesting, replace_operand, replace_text};
+pub use replacement::{nesting, replace_operand, replace_text, replace_tokens};
 pub use word::is_macro_word;

@@ -3,7 +3,7 @@
 //! Replacements that stand in one another are kept on a stack of their own, so that no depth of
 //! them is too much.
 
-ghost use Rattle.std.specs.Prelude.{◌≡◌, ◌≢◌, ◌<◌, ◌≤◌, ◌∷◌, [], ℕ, List, Option, None, IfOk, OnOk, drop, is_some, length, reverse, take};
+ghost use Rattle.std.specs.Prelude.{◌≡◌, ◌≢◌, ◌<◌, ◌≤◌, ◌∷◌, [], ℕ, List, Option, None, IfOk, IsTrue, OnOk, drop, is_some, length, reverse, take};
 ghost use Rattle.std.specs.Map.{keys_of, lookup};
 ghost use Rattle.std.specs.Option.{option_copied, option_map};
 ghost use Rattle.std.specs.Str.{bytes_eq};
@@ -22,7 +22,7 @@ use idl_event::{Item, Progress, RootAnswer, RootBank, RootKey};
 use idl_fault::{FileName, Place};
 use idl_lex::Token;
 use idl_map::Table;
-use idl_text::FileTokens;
+use idl_text::{FileTokens, TextLines};
 use std::alloc::{AllocError, Global};
 use std::slice::from_ref;
 
@@ -35,11 +35,68 @@ pub enum Output {
     Operand(Vec<Token>),
 }
 
-/// The tokens of a text are replaced, each at its own place, and emitted. Most stand for themselves: those that follow one
-/// another are emitted at once, and a replacement begins only where there is a macro.
+/// The tokens of a text are replaced, each at its own place, and emitted. In most texts all stand for themselves: each word is
+/// asked for once, and then all are emitted.
+pub fn replace_text<B: RootBank>(
+    macros: &Macros<'_, B>,
+    file: &FileName,
+    lines: &TextLines<'_>,
+    progress: &mut Progress<B>,
+) -> Result<(), AllocError>
+    ensures { OnOk result (progress.new
+        ≡ reached (B.at macros.now.bank.now)
+        (text file.now macros.now.definitions.now lines.now) progress.old) }
+{
+    if are_plain(macros, lines, progress)? {
+        return progress.emit_lines(file, lines);
+    }
+    let mut left = lines.parts();
+    'chunks: while let Some((part, rest)) = left.split_first() {
+        replace_tokens(macros, file, &part, progress)?;
+        left = rest;
+    }
+    Ok(())
+}
+
+// Whether all tokens of a text stand for themselves, where the limits leave as many as there are: these are to be emitted. The
+// macros of its words were asked for, up to the first that is one; where those of all its tokens are asked for behind that,
+// nothing is another.
+fn are_plain<B: RootBank>(
+    macros: &Macros<'_, B>,
+    lines: &TextLines<'_>,
+    progress: &mut Progress<B>,
+) -> Result<bool, AllocError>
+    ensures room { IfOk result (λ plain. IsTrue plain
+        → length lines.now ≤ tokens_left progress.new.left) }
+    ensures plain { let bank = B.at macros.now.bank.now in
+        let definitions = macros.now.definitions.now in (file : List ℕ) →
+        IfOk result (λ plain. IsTrue plain
+        → after_text file lines.now progress.new
+        ≡ reached bank (text file definitions lines.now) progress.old) }
+    ensures again { let bank = B.at macros.now.bank.now in
+        let definitions = macros.now.definitions.now in (file : List ℕ) →
+        OnOk result (reached bank (text file definitions lines.now) progress.new
+        ≡ reached bank (text file definitions lines.now) progress.old) }
+{
+    if progress.tokens_left() < lines.len() {
+        return Ok(false);
+    }
+    let words = lines.words();
+    let mut count = 0;
+    'words: while count < words.len() {
+        if body_of(macros, &words[count], progress)?.is_some() {
+            return Ok(false);
+        }
+        count += 1;
+    }
+    Ok(true)
+}
+
+/// Tokens are replaced, each at its own place, and emitted. Those that stand for themselves and follow one another are emitted
+/// at once, and a replacement begins only where there is a macro.
 #[inline(never)]
 #[tactic(auto, unfolding(crate::specs::Replace::text))]
-pub fn replace_text<B: RootBank>(
+pub fn replace_tokens<B: RootBank>(
     macros: &Macros<'_, B>,
     file: &FileName,
     tokens: &FileTokens<'_>,

@@ -1,4 +1,5 @@
 pub mod AddedLemmas
+pub mod AnsweredLemmas
 pub mod AskedLemmas
 pub mod CauseLemmas
 pub mod DetailLemmas

@@ -1,5 +1,6 @@
 pub mod Batch
 pub mod Compared
+pub mod Compiled
 pub mod Details
 pub mod Edited
 pub mod Related

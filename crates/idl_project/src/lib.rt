@@ -7,6 +7,7 @@
 //! does many. What an edit makes waits in drafts until it is settled.
 #![tactic(auto)]
 
+mod answered;
 mod compile;
 mod detailed;
 mod kept_root;

@@ -15,7 +15,7 @@ use Rattle.idl_unit.specs.declared.unit.Unit.{Unit as RootUnit}
 use Rattle.idl_unit.specs.declared.unit.Unit.TheVariants as unit
 
 -- units need no fewer turns with others behind them
-turns-after : (units : List RootUnit) (facts : List UnitFacts) → turns_for facts ≤ turns_for (facts_after facts units)
+pub turns-after : (units : List RootUnit) (facts : List UnitFacts) → turns_for facts ≤ turns_for (facts_after facts units)
 unfolding facts_after
 turns-after [] facts = omega arith
 turns-after (u ∷ units) facts =

@@ -7,6 +7,7 @@ mod ClosingLemmas
 mod ComeLemmas
 mod ComparedLemmas
 mod CompileLemmas
+mod CompiledLemmas
 mod DetailLemmas
 mod DigestLemmas
 mod FactsTold
@@ -32,4 +33,5 @@ mod TakenLemmas
 mod TakenWhole
 mod TextLaws
 mod ToldLemmas
+mod VerdictLemmas
 mod WholeLemmas

@@ -3,6 +3,8 @@ pub mod Judged
 pub mod Findings
 pub mod Printed
 pub mod Compile
+pub mod Verdict
+pub mod Compiled
 pub mod Closing
 pub mod Places
 pub mod Compared

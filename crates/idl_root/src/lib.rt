@@ -14,7 +14,10 @@ mod kept;
 
 pub use compiling::compiled::{Compiled, RootAfter, RootBefore, Row, compile, compile_kept};
 pub use compiling::detailing::{DetailedEntry, Details, details_of};
-pub use compiling::laws::{blocks, closing, detailing, facts, ordering, placing, telling, texts};
+pub use compiling::laws::{
+    blocks, closing, compiled, detailing, facts, judging, ordering, placing, reading_units,
+    telling, texts,
+};
 pub use compiling::memory::Memory;
 pub use compiling::places::{DeclaredPlace, SitedToken, UsedName};
 pub use idl_finding::Finding;

@@ -3,6 +3,8 @@ pub mod ChunkLemmas
 pub mod ChunkStarts
 pub mod ColumnLaws
 pub mod CutLemmas
+pub mod DigestLemmas
+pub mod GatherLemmas
 pub mod GroupTextLemmas
 pub mod LaidOutLemmas
 pub mod LeftLemmas
@@ -15,3 +17,4 @@ pub mod TextLemmas
 pub mod TreeLawLemmas
 pub mod TreeLemmas
 pub mod WalkLemmas
+pub mod WordLemmas

@@ -91,7 +91,8 @@ pub record IsMoreText (tokens : List PlacedToken) (count n : ℕ) : Type 0 where
   pub begins : BeginsLine (drop (count + n) tokens)
   pub text : All IsText (lines_of (take (count + n) tokens))
 
-lines_of-more : (front line : List PlacedToken) (count : ℕ) → (count ≡ 0) ⊎ BeginsLine line → length front ≡ count → lines_of (front ++ line) ≡ lines_of front ++ lines_of line
+-- nothing is put behind no tokens, else they are lines of which the others begin one
+pub lines_of-more : (front line : List PlacedToken) (count : ℕ) → (count ≡ 0) ⊎ BeginsLine line → length front ≡ count → lines_of (front ++ line) ≡ lines_of front ++ lines_of line
 unfolding lines_of
 lines_of-more [] line count begins size = refl
 lines_of-more (t ∷ front) line count (inl none) size = absurd (omega (arith, none, size))
@@ -137,6 +138,18 @@ lines_of-joined tokens = lines_after-joined 0 tokens
 pub record IsTextFirst (left text rest : List PlacedToken) : Type 0 where
   pub lines : lines_of left ≡ lines_of text ++ lines_of rest
   pub all : left ≡ text ++ rest
+  pub begins : (length text ≡ 0) ⊎ BeginsLine rest
+
+-- tokens of a chunk from a place on, and those behind them
+pub parted-here : (chunks : List PlacedChunk) (chunk place before : ℕ) (b : PlacedChunk) (count : ℕ) (left here text rest : List PlacedToken) → IsHere chunks chunk place before b
+    → here ≡ moved_tokens b.lines_before (drop place b.chunk.value.tokens) → count ≤ length here
+    → drop before (tokens_in_chunks chunks) ≡ left → text ≡ take count here → rest ≡ drop (before + count) (tokens_in_chunks chunks) → left ≡ text ++ rest
+parted-here chunks chunk place before b count left here text rest at same within e front back =
+    let later = tokens_in_chunks (drop (chunk + 1) chunks) in
+    let parts : left ≡ here ++ later = sym e ∙ at.all ∙ ap (λ ts. ts ++ later) (sym same) in
+    let text_is : take count left ≡ text = ap (take count) parts ∙ take-append-le count here later within ∙ sym front in
+    let rest_is : drop count left ≡ rest = ap (drop count) (sym e) ∙ drop-drop count before (tokens_in_chunks chunks) ∙ sym back in
+    sym (take-append-drop count left) ∙ (λ i. text_is i ++ rest_is i)
 
 pub IsTextFirst-here : (chunks : List PlacedChunk) (chunk place before : ℕ) (b : PlacedChunk) (count : ℕ) (left here text rest : List PlacedToken) → IsHere chunks chunk place before b
     → here ≡ moved_tokens b.lines_before (drop place b.chunk.value.tokens) → count ≤ length here → (count ≡ 0) ⊎ BeginsLine (drop count here)
@@ -144,15 +157,16 @@ pub IsTextFirst-here : (chunks : List PlacedChunk) (chunk place before : ℕ) (b
 IsTextFirst-here chunks chunk place before b count left here text rest at same within begins e front back =
     let later = tokens_in_chunks (drop (chunk + 1) chunks) in
     let parts : left ≡ here ++ later = sym e ∙ at.all ∙ ap (λ ts. ts ++ later) (sym same) in
-    let text_is : take count left ≡ text = ap (take count) parts ∙ take-append-le count here later within ∙ sym front in
     let rest_is : drop count left ≡ rest = ap (drop count) (sym e) ∙ drop-drop count before (tokens_in_chunks chunks) ∙ sym back in
-    let all : left ≡ text ++ rest = sym (take-append-drop count left) ∙ (λ i. text_is i ++ rest_is i) in
+    let all : left ≡ text ++ rest = parted-here chunks chunk place before b count left here text rest at same within e front back in
+    let size : length text ≡ count = ap length front ∙ length-take-le count here within in
     let rest_parts : drop count here ++ later ≡ rest = sym (drop-append-le count here later within) ∙ ap (drop count) (sym parts) ∙ rest_is in
     let starts : (count ≡ 0) ⊎ BeginsLine rest =
     elim begins [ inl none ↦ inl none | inr b ↦ inr (subst BeginsLine rest_parts (begins-append (drop count here) later b at.begins)) ] in
     record {
       all = all;
-      lines = ap lines_of all ∙ lines_of-more text rest count starts (ap length front ∙ length-take-le count here within);
+      lines = ap lines_of all ∙ lines_of-more text rest count starts size;
+      begins = elim starts [ inl none ↦ inl (size ∙ none) | inr b ↦ inr b ];
     }
 
 -- no more tokens are passed than there are

@@ -1,9 +1,11 @@
 pub mod Chunk
 pub mod Cut
+pub mod Digest
 pub mod Jump
 pub mod Line
 pub mod Matching
 pub mod Moved
 pub mod Starts
+pub mod Texts
 pub mod Tree
 pub mod TreeLaw

@@ -6,11 +6,11 @@ ghost use Rattle.idl_event.specs.Key.{key_eq};
 ghost use Rattle.idl_event.specs.declared.asked.key.RootKey.TheVariants.{Macro};
 ghost use Rattle.idl_memo.specs.Query.{is_logged, noted};
 
-use crate::asked::hints::Hints;
 use crate::asked::key::{RootAnswer, RootKey};
 use crate::asked::root_bank::RootBank;
 use idl_base::Bytes;
 use idl_memo::{Bank, Log};
+use idl_text::Hints;
 use std::alloc::{AllocError, Global};
 use std::marker::Model;
 

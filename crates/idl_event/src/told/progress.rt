@@ -21,7 +21,7 @@ use idl_base::Bytes;
 use idl_fault::{Code, FileName, Place};
 use idl_lex::Token;
 use idl_memo::{Bank, Log};
-use idl_text::FileTokens;
+use idl_text::{FileTokens, TextLines};
 use std::alloc::{AllocError, Global};
 use std::marker::Model;
 
@@ -160,6 +160,19 @@ impl<B: RootBank> Progress<B> {
             tokens: left.tokens - tokens.len(),
         });
         self.kept.push_text(file, tokens)
+    }
+
+    /// All tokens of a text, where the limits leave as many: the same as `emit` with each, at less cost.
+    pub fn emit_lines(&mut self, file: &FileName, text: &TextLines<'_>) -> Result<(), AllocError>
+        requires { length text.now ≤ tokens_left self.old.left }
+        ensures { OnOk result (self.new ≡ after_text file.now text.now self.old) }
+    {
+        let mut left = text.parts();
+        'chunks: while let Some((part, rest)) = left.split_first() {
+            self.emit_text(file, &part)?;
+            left = rest;
+        }
+        Ok(())
     }
 
     /// The bank's answer at a key, which is logged.

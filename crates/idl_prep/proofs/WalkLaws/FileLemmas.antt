@@ -1,5 +1,5 @@
 -- Where a root comes to by the lines of a file.
-use Rattle.std.proofs.Common.{◌≡◌, ◌<◌, ◌↔◌, ℕ, zero, suc, Bool, false, true≢false, IsTrue, List, [], ◌∷◌, length, Option, None, map, refl, ap, sym, ◌∙◌, arith}
+use Rattle.std.proofs.Common.{◌≡◌, ℕ, zero, suc, List, [], Option, None, map, refl, ap, sym, ◌∙◌}
 use Rattle.std.specs.Option.{option_map}
 use Rattle.idl_memo.specs.Query.{Done, Tell, and_then}
 use Rattle.idl_lex.specs.tokens.Tokens.{lines_of}
@@ -20,11 +20,6 @@ use Rattle.idl_prep.specs.declared.walk.groups.Group.{Group}
 use Rattle.idl_prep.proofs.WalkLaws.WalkLemmas.{onward-then}
 use Rattle.idl_prep.proofs.WalkLaws.WayLemmas.{arrival-over}
 use Rattle.idl_event.specs.Expanding.{Expanding}
-
--- there are tokens where it isn't so that there are none
-pub not_none-some : (tokens : List PlacedToken) (none : Bool) → (IsTrue none ↔ (tokens ≡ [])) → none ≡ false → 0 < length tokens
-not_none-some [] none same differs = absurd (true≢false (sym (same.1 refl) ∙ differs))
-not_none-some (t ∷ tokens) none same differs = omega arith
 
 module _ (bank : RootKey → Option RootAnswer) where
   -- once a limit was passed a root is where it comes to by anything

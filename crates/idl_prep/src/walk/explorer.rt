@@ -191,8 +191,7 @@ impl<'f> FileWalk<'f> {
         requires { 0 < length self.old.left }
         ensures { OnOk result (length self.new.left < length self.old.left) }
     {
-        let (text, behind) = self.left.first_text();
-        if !text.is_empty() {
+        if let Some((text, behind)) = self.left.first_text() {
             if is_walked(&self.groups) {
                 root.emit_unlogged(site, &text, asking)?;
             }

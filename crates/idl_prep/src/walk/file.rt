@@ -31,8 +31,7 @@ pub fn walk_file<B: RootBank>(
         if root.is_over() {
             return Ok(());
         }
-        let (text, behind) = left.first_text();
-        if !text.is_empty() {
+        if let Some((text, behind)) = left.first_text() {
             walk_texts(root, &groups, site, &text)?;
             left = jump(root, &groups, site.file, behind)?;
             continue;

@@ -22,7 +22,7 @@ use crate::walk::walked_file::WalkedFile;
 use idl_base::Stack;
 use idl_event::{RootAnswer, RootBank, RootKey};
 use idl_fault::{Code, FileName, Place};
-use idl_text::{DirectiveKind, FileTokens};
+use idl_text::{DirectiveKind, FileTokens, TextLines};
 use std::alloc::AllocError;
 
 /// The next line of a file: gives the file that is to be entered, if there is one.
@@ -56,17 +56,17 @@ pub fn walk_texts<B: RootBank>(
     root: &mut Root<B>,
     groups: &Stack<Group>,
     site: &WalkedFile<'_, B>,
-    tokens: &FileTokens<'_>,
+    text: &TextLines<'_>,
 ) -> Result<(), AllocError>
     ensures { let bank = B.at site.now.bank.now in let file = site.now.file.now in
         OnOk result ((enter : Enter) (lines : List spec.Line)
         → to_come bank enter file groups.now lines root.new
-        ≡ to_come bank enter file groups.now (map Text (lines_of tokens.now) ++ lines) root.old) }
+        ≡ to_come bank enter file groups.now (map Text (lines_of text.now) ++ lines) root.old) }
 {
     if !is_walked(groups) {
         return Ok(());
     }
-    root.emit(site, tokens)
+    root.emit_text(site, text)
 }
 
 // A line of text.

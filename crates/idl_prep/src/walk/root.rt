@@ -30,9 +30,11 @@ use idl_event::{
     Event, ExpansionBuilder, Item, LexedFile, Progress, RootAnswer, RootBank, RootKey,
 };
 use idl_fault::{Code, FileName, Place};
-use idl_macro::{Definitions, Macros, condition, define, ifdef, ifndef, replace_text, undef};
+use idl_macro::{
+    Definitions, Macros, condition, define, ifdef, ifndef, replace_text, replace_tokens, undef,
+};
 use idl_memo::Log;
-use idl_text::{FileTokens, Test};
+use idl_text::{FileTokens, Test, TextLines};
 use indexmap::IndexSet;
 use std::alloc::{AllocError, Global};
 use std::marker::Model;
@@ -157,6 +159,22 @@ impl<B: RootBank> Root<B> {
     }
 
     /// The tokens of a text, in which macros are replaced.
+    pub fn emit_text(
+        &mut self,
+        site: &WalkedFile<'_, B>,
+        lines: &TextLines<'_>,
+    ) -> Result<(), AllocError>
+        ensures { let query = text site.now.file.now self.old.state.definitions lines.now in
+            let reached = reached (B.at site.now.bank.now) query self.old.progress in
+            OnOk result (self.new ≡ record self.old { progress = reached }) }
+    {
+        let definitions = &self.definitions;
+        let bank = site.bank;
+        let macros = Macros { definitions, bank };
+        replace_text(&macros, site.file, lines, &mut self.progress)
+    }
+
+    /// The same with the tokens of one line.
     pub fn emit(
         &mut self,
         site: &WalkedFile<'_, B>,
@@ -169,39 +187,37 @@ impl<B: RootBank> Root<B> {
         let definitions = &self.definitions;
         let bank = site.bank;
         let macros = Macros { definitions, bank };
-        replace_text(&macros, site.file, tokens, &mut self.progress)
+        replace_tokens(&macros, site.file, tokens, &mut self.progress)
     }
 
-    /// The same, where nothing is logged of tokens that stand for themselves: their macros are asked for with a progress that is
-    /// past its limits.
+    /// The tokens of a text, where nothing is logged of those that stand for themselves: their macros are asked for with a progress
+    /// that is past its limits.
     pub fn emit_unlogged(
         &mut self,
         site: &WalkedFile<'_, B>,
-        tokens: &FileTokens<'_>,
+        lines: &TextLines<'_>,
         asking: &mut Progress<B>,
     ) -> Result<(), AllocError> {
-        let has_room = tokens.len() <= self.progress.tokens_left();
-        if has_room && !tokens.is_empty() && self.is_plain(site, tokens, asking)? {
-            return self.progress.emit_text(site.file, tokens);
+        let has_room = lines.len() <= self.progress.tokens_left();
+        if has_room && self.is_plain(site, lines, asking)? {
+            return self.progress.emit_lines(site.file, lines);
         }
-        self.emit(site, tokens)
+        self.emit_text(site, lines)
     }
 
     // Whether these tokens stand for themselves.
     fn is_plain(
         &self,
         site: &WalkedFile<'_, B>,
-        tokens: &FileTokens<'_>,
+        lines: &TextLines<'_>,
         asking: &mut Progress<B>,
     ) -> Result<bool, AllocError> {
-        'tokens: for token in tokens.as_slice() {
-            if token.is_word() {
-                let body = self
-                    .definitions
-                    .macro_of(token.spelling(), site.bank, asking)?;
-                if body.is_some() {
-                    return Ok(false);
-                }
+        'words: for word in lines.words() {
+            let body = self
+                .definitions
+                .macro_of(word.spelling(), site.bank, asking)?;
+            if body.is_some() {
+                return Ok(false);
             }
         }
         Ok(true)

@@ -1,13 +1,22 @@
 //! The laws of what is told.
 
-ghost use Rattle.std.specs.Prelude.{◌≡◌, ◌<◌, ◌++◌, [], ℕ, All, List, false, filter, length, map, nat_eq};
+ghost use Rattle.std.specs.Prelude.{◌≡◌, ◌↔◌, ◌<◌, ◌≤◌, ◌^◌, ◌++◌, [], ℕ, All, List, Result, false, filter, length, map, nat_eq};
+ghost use Rattle.std.specs.List.{enumerate_from};
 ghost use Rattle.idl_block.specs.Blocks.{walk};
 ghost use Rattle.idl_env.specs.Facts.{UnitFacts, answers};
+ghost use Rattle.idl_env.specs.Turns.{turns_for};
+ghost use Rattle.idl_event.specs.Apart.{tokens_in};
 ghost use Rattle.idl_event.specs.declared.told.event.Event.{Event};
 ghost use Rattle.idl_fault.specs.declared.place.Place.{Place};
+ghost use Rattle.idl_lex.specs.tokens.Tokens.{Token};
+ghost use Rattle.idl_memo.specs.Query.{outcome};
+ghost use Rattle.idl_root_blocks.specs.idl_check.walk.Judging.{FitsMemory};
+ghost use Rattle.idl_root_blocks.specs.idl_check.walk.Verdict.{tree_of, verdict};
+ghost use Rattle.idl_root_blocks.specs.idl_check.declared.walk.verdict.Verdict.{Verdict};
 ghost use Rattle.idl_root_blocks.specs.idl_check_laws.Closing.{AreTold};
 ghost use Rattle.idl_root.specs.Closing.{ClosesAtFirst};
 ghost use Rattle.idl_root.specs.Compile.{compile, outcome_of};
+ghost use Rattle.idl_root.specs.Compiled.{CompilesTo};
 ghost use Rattle.idl_root.specs.Details.{details, printed};
 ghost use Rattle.idl_root.specs.Judged.{HasTurns, facts_after, judged_after};
 ghost use Rattle.idl_root.specs.Named.{named_after};
@@ -16,9 +25,13 @@ ghost use Rattle.idl_root.specs.Places.{root_pieces};
 ghost use Rattle.idl_root_blocks.specs.Blocks.{parts_of};
 ghost use Rattle.idl_root_blocks.specs.Places.{AreStandingOver, facts_over, unit_ways};
 ghost use Rattle.idl_root_blocks.specs.Units.{text_of};
+ghost use Rattle.idl_tree.specs.declared.unit.Tree.{Tree};
 ghost use Rattle.idl_unit.specs.declared.unit.Unit.{Unit as RootUnit};
+ghost use Rattle.idl_unit.specs.declared.unit.UnitText.{UnitText};
 ghost use Rattle.idl_root.specs.Told.{IsTold};
 ghost use Rattle.idl_root.specs.Turns.{FitsU64};
+ghost use Rattle.idl_root.specs.Verdict.{IsRead, IsVerdict};
+ghost use Rattle.idl_root.specs.declared.compiling.compiled.Compiled.{Compiled};
 ghost use Rattle.idl_unit.specs.Units.{units_of};
 ghost use Rattle.std.specs.List.Sorted.{IsNonDecreasingBy};
 ghost use Rattle.idl_finding.specs.Findings.{finding_row, in_order};
@@ -26,8 +39,11 @@ ghost use Rattle.idl_finding.specs.declared.finding.EventFinding.{EventFinding};
 
 use idl_repo::details::printing;
 use idl_repo::listed_row;
-use idl_root_blocks::idl_check_laws::{acceptance, ahead, more_turns, names, numbering, refusal};
+use idl_root_blocks::idl_check_laws::{
+    acceptance, ahead, least, more_turns, names, numbering, refusal, stopping,
+};
 use idl_root_blocks::{cutting, standing};
+use idl_unit::nothing_lost;
 
 /// What is found is told in the order of events: no finding names an event before that of an earlier one, and each event has
 /// the findings that it had, in their order. This does nothing: it carries the law.
@@ -116,4 +132,46 @@ pub fn blocks()
     // They do nothing: they carry laws of pieces, and of blocks.
     cutting();
     standing();
+}
+
+/// Of the tokens of a unit is read the tree that they spell, or where they stop being the beginning of one: readers come to that, and to
+/// nothing else. This does nothing: it carries the law.
+pub fn reading_units()
+    ensures { (tokens : List Token) (read : Result Tree ℕ)
+        → IsRead tokens read ↔ (tree_of tokens ≡ read) }
+{
+    // They do nothing: they carry laws of trees.
+    acceptance();
+    stopping();
+}
+
+/// The verdict of a unit is told by the least of all its faults, and where it has none by what all its sites come to: it has one, that with
+/// each number of turns that is enough for the facts before it. This does nothing: it carries the laws.
+pub fn judging()
+    ensures is { (facts : List UnitFacts) (turns : ℕ) (text : UnitText) (v : Verdict)
+        → turns_for facts ≤ turns → FitsMemory text
+        → IsVerdict facts text v ↔ (v ≡ outcome (verdict turns text) (answers facts)) }
+    ensures once { (facts : List UnitFacts) (text : UnitText) (v w : Verdict)
+        → IsVerdict facts text v → IsVerdict facts text w → v ≡ w }
+{
+    reading_units();
+    // They do nothing: they carry laws of verdicts.
+    least();
+    refusal();
+    acceptance();
+    more_turns();
+}
+
+/// What a root compiles to is told by its units one by one, each of which has its verdict over the facts of those before it: by no
+/// bound on turns. So it compiles to one thing. This does nothing: it carries the laws.
+pub fn compiled()
+    ensures is { (end : Place) (events : List Event) (compiled : Compiled)
+        → FitsU64 events → length (tokens_in (enumerate_from 0 events)) < 2 ^ 64
+        → CompilesTo end events compiled ↔ (compiled ≡ compile end events) }
+    ensures once { (end : Place) (events : List Event) (c d : Compiled)
+        → CompilesTo end events c → CompilesTo end events d → c ≡ d }
+{
+    judging();
+    // It does nothing: it carries a law of units.
+    nothing_lost();
 }

@@ -1,4 +1,4 @@
-//! The tokens of a file with the branches of its groups.
+//! The tokens of a file with the branches of its groups, and its texts.
 
 ghost use Rattle.std.specs.Prelude.{◌≡◌, ◌≤◌, ◌<◌, ◌++◌, ◌∷◌, ◌↔◌, [], IsTrue, drop, length, map, IfOk, IfSome};
 ghost use Rattle.idl_lex.specs.tokens.Tokens.{lines_of, tokens_of};
@@ -10,28 +10,35 @@ use crate::groups::directive::directive_on;
 use crate::groups::fault::GroupFault;
 use crate::groups::matching::Matching;
 use crate::groups::table::BranchTable;
+use crate::texts::gathering::find_texts;
+use crate::texts::lines::TextLines;
+use crate::texts::table::TextTable;
 use crate::tokens::file_tokens::FileTokens;
 use crate::tokens::lexed::Lexed;
 use crate::tokens::tokens_left::TokensLeft;
 use std::alloc::{AllocError, Global};
 use std::marker::Model;
 
-/// A file with its tokens, and beside them the branches of its groups. To every contract it is the lines of the file.
+/// A file with its tokens, and beside them the branches of its groups and its texts. To every contract it is the lines of the
+/// file.
 pub struct GroupedTokens {
     lexed: Lexed,
     table: BranchTable,
+    texts: TextTable,
 }
 
 impl Model for GroupedTokens {
     ghost use Rattle.std.specs.Prelude.{List, ℕ};
     ghost use Rattle.idl_lex.specs.tokens.Tokens.{tokens_of};
     ghost use Rattle.idl_text.specs.Matching.{IsTableOf};
+    ghost use Rattle.idl_text.specs.Texts.{AreTextsOf};
 
     ghost Value = { List (List ℕ) };
 
     ghost view = { λ it. it.lexed };
 
-    ghost invariant = { λ it. IsTableOf (tokens_of it.lexed) it.table };
+    ghost invariant = { λ it.
+        IsTableOf (tokens_of it.lexed) it.table × AreTextsOf (tokens_of it.lexed) it.texts };
 }
 
 impl Drop for GroupedTokens {
@@ -39,17 +46,23 @@ impl Drop for GroupedTokens {
         let GroupedTokens {
             lexed: _lexed,
             table: _table,
+            texts: _texts,
         } = self;
     }
 }
 
 impl GroupedTokens {
-    /// The file, with the branches of its groups.
+    /// The file, with the branches of its groups and its texts.
     pub fn new(alloc: Global, lexed: Lexed) -> Result<GroupedTokens, AllocError>
         ensures { IfOk result (λ it. it ≡ lexed) }
     {
         let table = match_groups(alloc, &lexed)?;
-        Ok(GroupedTokens { lexed, table })
+        let texts = find_texts(alloc, &lexed)?;
+        Ok(GroupedTokens {
+            lexed,
+            table,
+            texts,
+        })
     }
 
     /// The file with its tokens, which a later text can take over.
@@ -118,19 +131,23 @@ impl<'a> LinesLeft<'a> {
         (line, rest)
     }
 
-    /// The tokens of the lines of text that come first, or of some of these, and the lines after them.
-    pub fn first_text(&self) -> (FileTokens<'a>, LinesLeft<'a>)
-        requires { 0 < length self.now }
-        ensures lines { lines_from self.now ≡ map Text (lines_of result.0) ++ lines_from result.1 }
-        ensures all { self.now ≡ result.0 ++ result.1 }
+    /// Lines of text that come first, if some are found, and the lines after them.
+    pub fn first_text(&self) -> Option<(TextLines<'a>, LinesLeft<'a>)>
+        ensures lines { IfSome result (λ parts.
+            lines_from self.now ≡ map Text (lines_of parts.0) ++ lines_from parts.1) }
+        ensures all { IfSome result (λ parts. self.now ≡ parts.0 ++ parts.1) }
+        ensures some { IfSome result (λ parts. 0 < length parts.0) }
     {
-        let (text, tokens) = self.tokens.first_text();
+        let file = self.file;
+        let text = file.texts.text_from(self.before)?;
+        let before = self.before + text.count;
         let rest = LinesLeft {
-            file: self.file,
-            before: self.before + text.len(),
-            tokens,
+            file,
+            before,
+            tokens: file.lexed.behind(before),
         };
-        (text, rest)
+        let lines = TextLines::new(self.tokens.copied(), text.count, &text.words);
+        Some((lines, rest))
     }
 
     /// What comes after the branch of a group that begins with these lines, and the faults of groups in that branch; `None`

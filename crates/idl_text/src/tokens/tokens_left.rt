@@ -1,9 +1,9 @@
 //! A walk over the tokens of a file, line by line.
 
-ghost use Rattle.std.specs.Prelude.{◌≡◌, ◌≤◌, ◌<◌, ◌++◌, ◌∷◌, [], ◌↔◌, ◌+◌, IsTrue, drop, length, take, true};
+ghost use Rattle.std.specs.Prelude.{◌≡◌, ◌⊎◌, ◌≤◌, ◌<◌, ◌++◌, ◌∷◌, [], ◌↔◌, ◌+◌, IsTrue, drop, length, take, true};
 ghost use Rattle.idl_text.specs.Chunk.{AreOfSomeFile, tokens_in_chunks};
 ghost use Rattle.std.specs.List.{All};
-ghost use Rattle.idl_lex.specs.tokens.Tokens.{is_text, lines_of};
+ghost use Rattle.idl_lex.specs.tokens.Tokens.{BeginsLine, is_text, lines_of};
 
 use crate::tokens::chunk::PlacedChunk;
 use crate::tokens::file_tokens::FileTokens;
@@ -93,6 +93,7 @@ impl<'a> TokensLeft<'a> {
         requires { 0 < length self.now }
         ensures lines { lines_of self.now ≡ lines_of result.0 ++ lines_of result.1 }
         ensures all { self.now ≡ result.0 ++ result.1 }
+        ensures begins { (length result.0 ≡ 0) ⊎ BeginsLine result.1 }
         ensures text { All (λ line. is_text line ≡ true) (lines_of result.0) }
     {
         let placed = &self.chunks[self.chunk];
@@ -106,5 +107,38 @@ impl<'a> TokensLeft<'a> {
             self.before + count,
         );
         (text, rest)
+    }
+
+    /// Those of the tokens that come first and stand in one chunk, so many at most, and those after them.
+    pub(crate) fn first_part(&self, most: usize) -> (FileTokens<'a>, TokensLeft<'a>)
+        requires left { 0 < length self.now }
+        requires most { 0 < most }
+        ensures all { self.now ≡ result.0 ++ result.1 }
+        ensures some { 0 < length result.0 }
+        ensures few { length result.0 ≤ most }
+    {
+        let placed = &self.chunks[self.chunk];
+        let here = FileTokens::new(&placed.chunk, placed.lines_before as u32, self.place);
+        let count = here.len().min(most);
+        let (part, _rest) = here.split_at(count);
+        let rest = TokensLeft::new(
+            self.chunks,
+            self.chunk,
+            self.place + count,
+            self.before + count,
+        );
+        (part, rest)
+    }
+
+    /// The same tokens again. It takes no memory.
+    pub(crate) fn copied(&self) -> TokensLeft<'a>
+        ensures { result ≡ self.now }
+    {
+        TokensLeft {
+            chunks: self.chunks,
+            chunk: self.chunk,
+            place: self.place,
+            before: self.before,
+        }
     }
 }

@@ -5,7 +5,7 @@ use Rattle.std.specs.Str.{bytes_eq}
 use Rattle.idl_map.specs.Marks.{is_marked}
 use Rattle.idl_map.proofs.MarkLemmas.{AreMarked-more, AreMarked-put}
 use Rattle.idl_map.proofs.TableLemmas.{lookup-insert_entry}
-use Rattle.idl_macro.specs.Digest.{digest_of}
+use Rattle.idl_text.specs.Digest.{digest_of}
 use Rattle.idl_macro.proofs.definitions.Definitions.say.Goals as goal
 
 pub invariant_of-self : goal.invariant_of-self

@@ -1,5 +1,5 @@
 use Rattle.idl_memo.specs.Query.{and_then}
-use Rattle.std.proofs.Common.{◌≡◌, ◌<◌, ◌-◌, [], suc, length, ◌+◌, map, refl, ap, sym, ◌∙◌, arith}
+use Rattle.std.proofs.Common.{◌≡◌, ◌-◌, [], suc, length, ◌+◌, map, refl, ap, sym, ◌∙◌, arith}
 use Rattle.std.proofs.lemmas.List.{length-append}
 use Rattle.std.proofs.lemmas.Result.{IfOk-weaker}
 use Rattle.idl_lex.specs.tokens.Tokens.{lines_of}
@@ -11,7 +11,7 @@ use Rattle.idl_text.specs.Tree.{part}
 use Rattle.idl_prep.specs.Pass.{coming, entered, to_come}
 use Rattle.idl_prep.specs.Root.{enter}
 use Rattle.idl_prep.specs.State.{onward, telling}
-use Rattle.idl_prep.proofs.WalkLaws.FileLemmas.{ended-over, not_none-some, onward-enter, onward-too_deep, to_come-file, to_come-no_line}
+use Rattle.idl_prep.proofs.WalkLaws.FileLemmas.{ended-over, onward-enter, onward-too_deep, to_come-file, to_come-no_line}
 use Rattle.idl_prep.proofs.WalkLaws.WalkLemmas.{onward-then}
 use Rattle.idl_prep.proofs.walk.file.+files.Goals as goal
 
@@ -65,13 +65,12 @@ walk_file-lines-smaller g t c =
     let all : length c.lines.left ≡ length line + length rest = ap length c.first_line-line.ensures.all ∙ length-append line rest in
     omega (arith, c.first_line-line.ensures.some, all, c.in_ok-left-2.ensures.shorter)
 
-pub walk_file-lines-smaller-then-not-is_empty : goal.walk_file-lines-smaller-then-not-is_empty
-walk_file-lines-smaller-then-not-is_empty g t c =
-    let text = c.first_text-text.result.0 in
-    let behind = c.first_text-text.result.1 in
-    let all : length c.lines.left ≡ length text + length behind = ap length c.first_text-text.ensures.all ∙ length-append text behind in
-    let some : 0 < length text = not_none-some text c.is_empty-in-lines.result c.is_empty-in-lines.ensures c.if-not-is_empty.true in
-    omega (arith, some, all, c.in_ok-left.ensures.shorter)
+pub walk_file-lines-smaller-in-Some : goal.walk_file-lines-smaller-in-Some
+walk_file-lines-smaller-in-Some g t c =
+    let text = c.in-Some.text in
+    let behind = c.in-Some.behind in
+    let all : length c.lines.left ≡ length text + length behind = ap length c.in-Some.ensures.all ∙ length-append text behind in
+    omega (arith, c.in-Some.ensures.some, all, c.in_ok-left.ensures.shorter)
 
 pub walk_file-lines-preserved : goal.walk_file-lines-preserved
 walk_file-lines-preserved g t c =
@@ -87,15 +86,15 @@ walk_file-lines-preserved g t c =
     ∙ ap (λ ls. to_come bank next file c.lines.groups (map read ls) c.lines.root) (sym c.first_line-line.ensures.lines)
     ∙ c.lines.invariant
 
-pub walk_file-lines-preserved-then-not-is_empty : goal.walk_file-lines-preserved-then-not-is_empty
-walk_file-lines-preserved-then-not-is_empty g t c =
+pub walk_file-lines-preserved-in-Some : goal.walk_file-lines-preserved-in-Some
+walk_file-lines-preserved-in-Some g t c =
     let bank = g.B.Bank.at c.args.site.now.bank.now in
     let next = enter c.args.room in
     let file = c.args.site.now.file.now in
-    let rest = map read (lines_of c.first_text-text.result.1) in
+    let rest = map read (lines_of c.in-Some.behind) in
     c.in_ok-left.ensures.to_come bank next
     ∙ c.in_ok-walk_texts.ensures next rest
-    ∙ ap (λ ls. to_come bank next file c.lines.groups ls c.lines.root) (sym c.first_text-text.ensures.lines)
+    ∙ ap (λ ls. to_come bank next file c.lines.groups ls c.lines.root) (sym c.in-Some.ensures.lines)
     ∙ c.lines.invariant
 
 pub walk_file-returns : goal.walk_file-returns

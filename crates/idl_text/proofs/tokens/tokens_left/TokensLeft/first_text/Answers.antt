@@ -69,5 +69,13 @@ returns-clause-all c =
     let at = IsHere-some chunks it.chunk it.place it.before c.index-self-self.result c.args.self.now c.self.invariant.0 c.self.invariant.1 c.self.view_is c.requires in
     (IsTextFirst-here chunks it.chunk it.place it.before b c.text_len-count.result c.args.self.now c.new-here.result c.split_at-text.result.0 c.new-rest.result at c.new-here.ensures c.text_len-count.ensures.within c.text_len-count.ensures.begins c.self.view_is c.split_at-text.ensures.front c.new-rest.ensures).all
 
+pub returns-clause-begins : goal.returns-clause-begins
+returns-clause-begins c =
+    let it = c.self.inside in
+    let chunks = it.chunks.now in
+    let b = get_or chunks it.chunk c.index-self-self.result in
+    let at = IsHere-some chunks it.chunk it.place it.before c.index-self-self.result c.args.self.now c.self.invariant.0 c.self.invariant.1 c.self.view_is c.requires in
+    (IsTextFirst-here chunks it.chunk it.place it.before b c.text_len-count.result c.args.self.now c.new-here.result c.split_at-text.result.0 c.new-rest.result at c.new-here.ensures c.text_len-count.ensures.within c.text_len-count.ensures.begins c.self.view_is c.split_at-text.ensures.front c.new-rest.ensures).begins
+
 pub returns-clause-text : goal.returns-clause-text
 returns-clause-text c = subst (λ ts. All IsText (lines_of ts)) (sym c.split_at-text.ensures.front) c.text_len-count.ensures.text

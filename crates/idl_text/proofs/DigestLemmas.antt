@@ -4,7 +4,7 @@ use Rattle.std.specs.Prelude.{nat_le}
 use Rattle.std.specs.Int.{from_le_bytes, w32, w64}
 use Rattle.std.proofs.lemmas.Bool.{le-leb, lt-leb}
 use Rattle.idl_base.specs.Digest.{with_bytes}
-use Rattle.idl_macro.specs.Digest.{digest_of, ends, of_ends}
+use Rattle.idl_text.specs.Digest.{digest_of, ends, of_ends}
 
 -- what it comes to where a word has fewer bytes
 abbrev below-eight : List ℕ → ℕ

@@ -1,7 +1,7 @@
 //! Digests of words.
 
 ghost use Rattle.std.specs.Prelude.{◌≡◌};
-ghost use Rattle.idl_macro.specs.Digest.{digest_of, of_ends};
+ghost use Rattle.idl_text.specs.Digest.{digest_of, of_ends};
 
 use idl_base::{mixed, with_bytes};
 

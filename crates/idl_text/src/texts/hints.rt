@@ -1,26 +1,26 @@
-//! Where logged keys may stand.
+//! Where words may stand in a list.
 
 use std::alloc::{AllocError, Global};
 
-// So many numbers there are, by one of which a key is found.
+// So many numbers there are, by one of which a word is found.
 const NUMBERS: usize = 2048;
 
-/// Where in a log keys may stand: beside the number of keys the first place that was noted for one, and the last.
+/// Where in a list words may stand: beside the number of words the first place that was noted for one, and the last.
 ///
-/// Keys share numbers, so nothing is promised of a place: who looks there compares the key.
+/// Words share numbers, so nothing is promised of a place: who looks there compares the word.
 #[derive(Drop)]
 pub struct Hints {
     noted: Vec<Places>,
 }
 
-/// Two places in a log.
+/// Two places in a list.
 #[derive(Clone, Copy)]
 pub struct Places {
     pub first: u32,
     pub last: u32,
 }
 
-// Where nothing is noted: past the end of each log.
+// Where nothing is noted: past the end of each list.
 const NOWHERE: Places = Places {
     first: u32::MAX,
     last: u32::MAX,
@@ -34,7 +34,7 @@ impl Hints {
         }
     }
 
-    /// Where a key with this digest may stand: nowhere, or at one of two places.
+    /// Where a word with this digest may stand: nowhere, or at one of two places.
     pub fn places_of(&self, digest: u64) -> Places {
         match self.noted.get(number_in(digest)) {
             Some(places) => *places,
@@ -42,7 +42,7 @@ impl Hints {
         }
     }
 
-    /// Notes where a key with this digest stands.
+    /// Notes where a word with this digest stands.
     pub fn note(&mut self, digest: u64, place: usize) -> Result<(), AllocError> {
         let Ok(place) = u32::try_from(place) else {
             return Ok(());
@@ -60,7 +60,7 @@ impl Hints {
     }
 }
 
-// The number of the keys with a digest.
+// The number of the words with a digest.
 fn number_in(digest: u64) -> usize {
     (digest >> 53) as usize
 }

@@ -1,7 +1,7 @@
 use Rattle.std.proofs.Common.{◌≡◌, ◌∙◌, ◌-◌, ◌<◌, ◌≤◌, drop, length, take, rules}
-use Rattle.idl_macro.specs.Digest.{of_ends}
-use Rattle.idl_macro.proofs.DigestLemmas.{digest-long, digest-middle, digest-short, digest-whole}
-use Rattle.idl_macro.proofs.digest.digest_of.Goals as goal
+use Rattle.idl_text.specs.Digest.{of_ends}
+use Rattle.idl_text.proofs.DigestLemmas.{digest-long, digest-middle, digest-short, digest-whole}
+use Rattle.idl_text.proofs.texts.digest.digest_of.Goals as goal
 
 pub returns-then-word-ge17 : goal.returns-then-word-ge17
 returns-then-word-ge17 c =
