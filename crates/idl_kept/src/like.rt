@@ -5,8 +5,8 @@ ghost use Rattle.idl_env.specs.Facts.{answers};
 ghost use Rattle.idl_kept.specs.Texts.{is_like};
 
 use idl_env::PlainEnv;
-use idl_root_blocks::{BlockText, KeptBlock};
-use idl_store::Test;
+use idl_root_blocks::{BlockTask, BlockText};
+use idl_store::{Held, Test};
 
 /// The text of a block, and where it stands.
 #[derive(Clone, Copy)]
@@ -15,10 +15,11 @@ pub(crate) struct Like<'a> {
     pub(crate) env: &'a PlainEnv,
 }
 
-impl<'a> Test<KeptBlock> for Like<'a> {
+impl<'a> Test<Held<PlainEnv, BlockTask>> for Like<'a> {
     ghost passes = { λ like kept. is_like (like.text.now, answers like.env.now) kept };
 
-    fn passes(&self, one: &KeptBlock) -> bool {
-        one.text().is_like(self.text) && one.log().first_other(self.env).is_none()
+    fn passes(&self, one: &Held<PlainEnv, BlockTask>) -> bool {
+        let kept = one.shared();
+        kept.text().is_like(self.text) && kept.log().first_other(self.env).is_none()
     }
 }

@@ -28,7 +28,7 @@ use idl_memo::{Kept, Meter};
 use idl_root_blocks::idl_check::{DeclarationTask, Scratch, Verdict};
 use idl_root_blocks::idl_unit::UnitText;
 use idl_root_blocks::{BlockTask, ENCLOSED, KeptBlock, PLAIN};
-use idl_store::{Lists, Spot, Store};
+use idl_store::{Held, Lists, Running, Spot, Store};
 use std::alloc::{AllocError, Global};
 use std::marker::Model;
 use std::rc::Rc;
@@ -37,10 +37,10 @@ use std::rc::Rc;
 pub type KeptDeclaration = Kept<Env, UnitText, Verdict>;
 
 /// What is kept of the units with tokens of all roots: a list for each root, and those that an edit is making.
-pub type Declarations = Store<Env, DeclarationTask>;
+pub type Declarations = Store<Held<Env, DeclarationTask>, Running<Env>>;
 
 /// What is kept of the blocks of all roots, in the order in which they are left.
-pub type Blocks = Store<PlainEnv, BlockTask>;
+pub type Blocks = Store<Held<PlainEnv, BlockTask>, Running<PlainEnv>>;
 
 /// What is kept of the units and of the blocks of all roots: a list of each for each root, and those that an edit is making.
 ///
@@ -87,8 +87,8 @@ impl KeptTexts {
         ensures { result ≡ no_texts }
     {
         KeptTexts {
-            declarations: Store::new(alloc),
-            blocks: Store::new(alloc),
+            declarations: Store::new(alloc, Running::new(alloc)),
+            blocks: Store::new(alloc, Running::new(alloc)),
             begins: Lists::new(alloc),
         }
     }

@@ -1,20 +1,22 @@
 -- A store whose lists or drafts change.
-use Rattle.std.proofs.Common.{◌≡◌, ◌≢◌, ◌⊎◌, ℕ, suc, ◌+◌, ◌<◌, ◌≤◌, List, [], ◌∷◌, ◌++◌, Option, Some, None, refl, sym, ap, ◌∙◌, subst, arith, inl, inr, length, get_or, take, drop, Vec, Result, Ok, Err, OnErr, OnOk}
+use Rattle.std.proofs.Common.{◌≡◌, ◌≢◌, ◌⊎◌, ℕ, suc, ◌+◌, ◌<◌, ◌≤◌, List, [], ◌∷◌, Option, Some, None, refl, sym, ap, ◌∙◌, subst, arith, inl, inr, length, get_or, Vec, Result, Ok, Err, OnErr, OnOk}
 use Rattle.std.specs.Prelude.{All, Contains, IsSome}
 use Rattle.std.specs.Global.{Global}
 use Rattle.std.specs.List.{cons_option, filter_map, remove}
 use Rattle.std.specs.Option.{option_map}
 use Rattle.std.proofs.lemmas.Bool.{cases_eq}
-use Rattle.std.proofs.lemmas.List.{drop-map, get_or-map, length-map, map-append, take-map}
-use Rattle.std.proofs.lemmas.List.Elements.{All-cons, All-contains, All-contains_itself, All-nil, All-same, All-weaker}
+use Rattle.std.proofs.lemmas.List.{get_or-map, length-map}
+use Rattle.std.proofs.lemmas.List.Elements.{All-cons, All-nil, All-same}
+use Rattle.std.proofs.lemmas.Option.{same_Some}
 use Rattle.slab.specs.Slab.{Slab, get}
-use Rattle.idl_store.specs.Buckets.{AddsOne}
+use Rattle.idl_store.specs.Index.{AddsTo, bucket_in, numbered}
 use Rattle.idl_store.specs.Numbers.{AreFewer, AreMore, AreUsed, IsIndexOf, IsSoundAt, IsPut, IsStored, joined, kept_at, lists_of, result_of, shown, times, uses_of, with_bucket}
 use Rattle.idl_store.specs.Stored.{Stored, grown, results_in, results_of_drafts, with_results}
+use Rattle.idl_store.specs.declared.index.Numbered.{Numbered}
 use Rattle.idl_store.specs.declared.numbers.Used.{Used}
-use Rattle.idl_store.proofs.Shown.{results_in-shown, shown-same}
+use Rattle.idl_store.proofs.Shown.{map-removed, results_in-shown, shown-same}
 use Rattle.idl_store.proofs.Times.{times-append, times-remove, times-with_results, times_first}
-use Rattle.idl_store.proofs.Using.{all-fewer, indexed-put, indexed-same, times_one, times_other}
+use Rattle.idl_store.proofs.Using.{indexed-put, indexed-same, times_one, times_other}
 
 -- what is used is kept
 some_used : {R : Type 0} (o : Option (Used R)) → 0 < elim o [ None ↦ 0 | Some u ↦ u.uses ] → IsSome o
@@ -47,7 +49,12 @@ module _ {X : Type 0} (of : ℕ → Option X) where
       by (inl e) later = rw (sym (ap of e) ∙ h) (first (filter_map of ns))
       by (inr e) later = behind (of m) (filter_map of ns) (later (omega (arith, there, times_other n m e, times-append n (m ∷ []) ns)))
 
-module _ {R : Type 0} {is_sound : R → Type 0} {bucket : R → ℕ} {used : Slab (Used R)} {index : List ((R × ℕ) × ℕ)} {numbers : Stored ℕ} (stored : IsStored is_sound bucket used index numbers) where
+-- and so is what has a bucket
+is_taken : {R : Type 0} {k : R × ℕ} (o : Option (Used R)) → option_map with_bucket o ≡ Some k → IsSome o
+is_taken None h = absurd (cc)
+is_taken (Some u) h = refl
+
+module _ {R : Type 0} {is_sound : R → Type 0} {bucket : R → ℕ} {used : Slab (Used R)} {index : List (ℕ × List (Numbered R))} {numbers : Stored ℕ} (stored : IsStored is_sound bucket used index numbers) where
   -- a number of the lists and drafts is taken
   pub taken : (n : ℕ) → 0 < times n (results_in numbers) → IsSome (get used n)
   taken n there = some_used (get used n) (omega (arith, there, stored.counted n))
@@ -64,23 +71,24 @@ module _ {R : Type 0} {is_sound : R → Type 0} {bucket : R → ℕ} {used : Sla
   placed-result : (n : ℕ) (k : R × ℕ) → kept_at used n ≡ Some k → result_of used n ≡ Some k.0
   placed-result n k h = ap (option_map (λ (r : R × ℕ). r.0)) h
 
-  -- a result that is found is among them
-  pub found-in : (e : (R × ℕ) × ℕ) → Contains index e → Contains (results_in (shown (result_of used) numbers)) e.0.0
-  found-in e c =
-      let at : kept_at used e.1 ≡ Some e.0 = (stored.indexed e.1 e.0).0 c in
-      let there : 0 < times e.1 (results_in numbers) = omega (arith, stored.counted e.1, stored.needed e.1 (is_taken (get used e.1) at)) in
-      subst (λ xs. Contains xs e.0.0) (sym (results_in-shown (result_of used) numbers)) (shown-contains (result_of used) (results_in numbers) e.1 e.0.0 there (placed-result e.1 e.0 at))
-    where
-      is_taken : {k : R × ℕ} (o : Option (Used R)) → option_map with_bucket o ≡ Some k → IsSome o
-      is_taken None h = absurd (cc)
-      is_taken (Some u) h = refl
+  module _ (b : ℕ) (one : Numbered R) (c : Contains (bucket_in index b) one) where
+    -- a result that is found is among them
+    pub found-in : Contains (results_in (shown (result_of used) numbers)) one.result
+    found-in =
+        let at : kept_at used one.number ≡ Some (one.result, b) = (stored.indexed b one).0 c in
+        let there : 0 < times one.number (results_in numbers) = omega (arith, stored.counted one.number, stored.needed one.number (is_taken (get used one.number) at)) in
+        subst (λ xs. Contains xs one.result) (sym (results_in-shown (result_of used) numbers)) (shown-contains (result_of used) (results_in numbers) one.number one.result there (placed-result one.number (one.result, b) at))
 
-  -- what is found under a number stands for it
-  pub found-result : (e : (R × ℕ) × ℕ) → Contains index e → result_of used e.1 ≡ Some e.0.0
-  found-result e c = placed-result e.1 e.0 ((stored.indexed e.1 e.0).0 c)
+    -- what is found under a number stands for it
+    pub found-result : result_of used one.number ≡ Some one.result
+    found-result = placed-result one.number (one.result, b) ((stored.indexed b one).0 c)
 
-  -- what holds of all that the index has holds of all results
-  pub all-in : (P : R → Type 0) → All (λ e. P e.0.0) index → All P (results_in (shown (result_of used) numbers))
+    -- it came about as it should, and its bucket is its own
+    pub found-sound : IsSoundAt is_sound bucket (one.result, b)
+    found-sound = stored.sound one.number (one.result, b) ((stored.indexed b one).0 c)
+
+  -- what holds of all that is found holds of all results
+  pub all-in : (P : R → Type 0) → ((b : ℕ) (one : Numbered R) → Contains (bucket_in index b) one → P one.result) → All P (results_in (shown (result_of used) numbers))
   all-in P all =
       All-same P (results_in (shown (result_of used) numbers)) (filter_map (result_of used) (results_in numbers)) (results_in-shown (result_of used) numbers)
       (shown-all (result_of used) P (results_in numbers) (λ n x there at. by n x (kept_at used n) refl at))
@@ -92,7 +100,8 @@ module _ {R : Type 0} {is_sound : R → Type 0} {bucket : R → ℕ} {used : Sla
       by n x (Some r) e h =
           let same : Some r.0 ≡ Some x = sym (ap (option_map (λ (r : R × ℕ). r.0)) e) ∙ h in
           let is : r.0 ≡ x = cc in
-          subst P is (All-contains (λ e. P e.0.0) index (r, n) all ((stored.indexed n r).1 e))
+          let one : Numbered R = numbered r.0 n in
+          subst P is (all r.1 one ((stored.indexed r.1 one).1 e))
 
   module _ (new : Slab (Used R)) where
     -- more numbers of results that are kept
@@ -101,7 +110,7 @@ module _ {R : Type 0} {is_sound : R → Type 0} {bucket : R → ℕ} {used : Sla
       counted = λ m. omega (arith, more.uses m, stored.counted m, times-append m (joined numbers.lists) (results_of_drafts numbers.drafts), times-append m (joined numbers.lists) (results_of_drafts (with_results numbers.drafts ns)));
       needed = λ m some. needed_by m some;
       indexed = indexed-same used new index more.kept stored.indexed;
-      sound = stored.sound;
+      sound = λ n k h. stored.sound n k (sym (more.kept n) ∙ h);
     }
       where
         grows : (m : ℕ) (ds : List (ℕ × List ℕ)) → times m (results_of_drafts ds) ≤ times m (results_of_drafts (with_results ds ns))
@@ -134,7 +143,7 @@ module _ {R : Type 0} {is_sound : R → Type 0} {bucket : R → ℕ} {used : Sla
         counted = λ n. ap (λ o. elim o [ None ↦ 0 | Some u ↦ u.uses ]) (same n) ∙ stored.counted n;
         needed = λ n some. needed_by n some;
         indexed = indexed-same used new index (λ n. ap (option_map with_bucket) (same n)) stored.indexed;
-        sound = stored.sound;
+        sound = λ n k h. stored.sound n k (sym (ap (option_map with_bucket) (same n)) ∙ h);
       }
         where
           needed_by : (n : ℕ) → IsSome (get new n) → 0 < uses_of new n
@@ -143,22 +152,22 @@ module _ {R : Type 0} {is_sound : R → Type 0} {bucket : R → ℕ} {used : Sla
               omega (arith, was, stored.needed n (subst IsSome (same n) some))
 
       -- whatever else is the same
-      pub stored-kept : (after : List ((R × ℕ) × ℕ)) (drafts : List (ℕ × List ℕ)) → drafts ≡ numbers.drafts → after ≡ index → IsStored is_sound bucket new after (record { lists = numbers.lists; drafts = drafts })
+      pub stored-kept : (after : List (ℕ × List (Numbered R))) (drafts : List (ℕ × List ℕ)) → drafts ≡ numbers.drafts → after ≡ index → IsStored is_sound bucket new after (record { lists = numbers.lists; drafts = drafts })
       stored-kept after drafts same_drafts same_index =
           subst (λ (ds : List (ℕ × List ℕ)). IsStored is_sound bucket new after (record { lists = numbers.lists; drafts = ds })) (sym same_drafts)
-          (subst (λ (es : List ((R × ℕ) × ℕ)). IsStored is_sound bucket new es numbers) (sym same_index) stored-still)
+          (subst (λ (buckets : List (ℕ × List (Numbered R))). IsStored is_sound bucket new buckets numbers) (sym same_index) stored-still)
 
       pub shown-still : shown (result_of new) numbers ≡ shown (result_of used) numbers
       shown-still = shown-same (result_of used) (result_of new) numbers (λ n there. ap (λ o. option_map (λ (r : R × ℕ). r.0) (option_map with_bucket o)) (same n))
 
-    module _ (after : List ((R × ℕ) × ℕ)) where
+    module _ (after : List (ℕ × List (Numbered R))) where
       -- a new result under a number that was free
-      pub stored-put : (r : R) (n : ℕ) → 0 < length numbers.drafts → IsPut used new r (bucket r) n → AddsOne index after ((r, bucket r), n) → is_sound r → IsStored is_sound bucket new after (grown numbers (n ∷ []))
+      pub stored-put : (r : R) (n : ℕ) → 0 < length numbers.drafts → IsPut used new r (bucket r) n → AddsTo index after (bucket r) (numbered r n) → is_sound r → IsStored is_sound bucket new after (grown numbers (n ∷ []))
       stored-put r n some put adds sound = record {
         counted = λ m. counted_by m (cases_eq m n);
         needed = λ m there. needed_by m there (cases_eq m n);
         indexed = indexed-put used new index after n (r, bucket r) put.others free here adds stored.indexed;
-        sound = All-weaker (Contains after) (λ e. IsSoundAt is_sound bucket e.0) (λ e c. placed_by e ((adds.has e).0 c)) after (All-contains_itself after);
+        sound = λ m k h. placed_by m k h (cases_eq m n);
       }
         where
           free : kept_at used n ≡ None
@@ -187,9 +196,11 @@ module _ {R : Type 0} {is_sound : R → Type 0} {bucket : R → ℕ} {used : Sla
               let was : uses_of new m ≡ uses_of used m = ap (λ o. elim o [ None ↦ 0 | Some u ↦ u.uses ]) (put.others m e) in
               omega (arith, was, stored.needed m (subst IsSome (put.others m e) there))
 
-          placed_by : (e : (R × ℕ) × ℕ) → (◌≡◌ {A = (R × ℕ) × ℕ} e ((r, bucket r), n)) ⊎ Contains index e → IsSoundAt is_sound bucket e.0
-          placed_by e (inl h) = subst (λ (k : R × ℕ). IsSoundAt is_sound bucket k) (sym (ap (λ x. x.0) h)) (record { sound = sound; at = refl })
-          placed_by e (inr c) = All-contains (λ e. IsSoundAt is_sound bucket e.0) index e stored.sound c
+          placed_by : (m : ℕ) (k : R × ℕ) → kept_at new m ≡ Some k → (m ≡ n) ⊎ (m ≢ n) → IsSoundAt is_sound bucket k
+          placed_by m k h (inl e) =
+              let put_as : R × ℕ = (r, bucket r) in
+              subst (λ (k : R × ℕ). IsSoundAt is_sound bucket k) (same_Some put_as k (sym here ∙ sym (ap (kept_at new) e) ∙ h)) (record { sound = sound; at = refl })
+          placed_by m k h (inr e) = stored.sound m k (sym (ap (option_map with_bucket) (put.others m e)) ∙ h)
 
       -- numbers less
       pub stored-fewer : (rest : Stored ℕ) (gone : List ℕ) → ((n : ℕ) → times n (results_in numbers) ≡ times n (results_in rest) + times n gone) → AreFewer used new gone → AreUsed new → IsIndexOf new after → IsStored is_sound bucket new after rest
@@ -197,7 +208,7 @@ module _ {R : Type 0} {is_sound : R → Type 0} {bucket : R → ℕ} {used : Sla
         counted = λ n. omega (arith, fewer.uses n, stored.counted n, parts n);
         needed = needed;
         indexed = indexed;
-        sound = all-fewer used new (IsSoundAt is_sound bucket) index after gone fewer needed stored.indexed indexed stored.sound;
+        sound = λ n k h. stored.sound n k (sym (fewer.kept n (needed n (is_taken (get new n) h))) ∙ h);
       }
 
       -- and what the others stand for is what it was
@@ -225,9 +236,7 @@ parts-removed n lists drafts list d below =
 
 -- a list of vectors less
 pub lists-removed : (lists : List (Vec ℕ Global)) (list : ℕ) → lists_of (remove lists list) ≡ remove (lists_of lists) list
-lists-removed lists list =
-    map-append (λ (l : Vec ℕ Global). l.items) (take list lists) (drop (suc list) lists)
-    ∙ (λ i. sym (take-map (λ (l : Vec ℕ Global). l.items) list lists) i ++ sym (drop-map (λ (l : Vec ℕ Global). l.items) (suc list) lists) i)
+lists-removed lists list = map-removed (λ (l : Vec ℕ Global). l.items) lists list
 
 -- and its numbers
 pub parts-taken : (n : ℕ) (lists : List (Vec ℕ Global)) (drafts : List (ℕ × List ℕ)) (list : ℕ) (v : Vec ℕ Global) → list < length lists → v ≡ get_or lists list v → times n (results_in (record { lists = lists_of lists; drafts = drafts })) ≡ times n (results_in (record { lists = remove (lists_of lists) list; drafts = drafts })) + times n v.items

@@ -9,7 +9,7 @@ use Rattle.idl_store.specs.Stored.{with_results}
 use Rattle.idl_store.specs.declared.numbers.Draft.{Draft}
 
 -- more results behind those of the last draft
-with_results-last : {X : Type 0} (ds : List (ℕ × List X)) (d : ℕ × List X) (more : List X) → with_results (ds ++ d ∷ []) more ≡ ds ++ (d.0, d.1 ++ more) ∷ []
+pub with_results-last : {X : Type 0} (ds : List (ℕ × List X)) (d : ℕ × List X) (more : List X) → with_results (ds ++ d ∷ []) more ≡ ds ++ (d.0, d.1 ++ more) ∷ []
 with_results-last [] d more = refl
 with_results-last (e ∷ []) d more = refl
 with_results-last (e ∷ f ∷ ds) d more = ap (λ ds. e ∷ ds) (with_results-last (f ∷ ds) d more)

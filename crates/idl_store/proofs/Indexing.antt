@@ -1,11 +1,9 @@
 -- An index in which a result comes or goes.
-use Rattle.std.proofs.Common.{◌≡◌, ◌≢◌, ◌⊎◌, ℕ, zero, suc, ◌+◌, ◌<◌, ◌≤◌, Bool, true, false, List, [], ◌∷◌, ◌++◌, Some, None, cond, refl, sym, ap, ◌∙◌, subst, arith, inl, inr, length, get_or, map, take, drop, Vec, append_assoc, nat_eq, nat_lt, ⊎_elim}
+use Rattle.std.proofs.Common.{◌≡◌, ◌≢◌, ◌⊎◌, ℕ, zero, suc, ◌+◌, ◌<◌, ◌≤◌, Bool, true, false, List, [], ◌∷◌, ◌++◌, Some, None, cond, refl, sym, ap, ◌∙◌, subst, arith, inl, inr, length, get_or, take, drop, append_assoc, nat_eq, nat_lt, ⊎_elim}
 use Rattle.std.specs.Prelude.{All, Contains, Result, Ok, Err, IfOk, IfErr}
 use Rattle.std.specs.Cmp.{IsTotalOrder}
-use Rattle.std.specs.Global.{Global}
-use Rattle.std.specs.List.{AllWithin, HoldsAt, flat_map, position, position_or_len, remove}
+use Rattle.std.specs.List.{AllWithin, HoldsAt, position, position_or_len, remove}
 use Rattle.std.specs.List.Sorted.{IsBinarySearchResult, IsNonDecreasingBy, IsSearchInRange}
-use Rattle.std.specs.Map.{lookup, remove_entry, set_value}
 use Rattle.std.specs.Ordering.{ordering_index, ordering_reverse}
 use Rattle.std.specs.declared.cmp.Ordering.{Ordering}
 use Rattle.std.specs.declared.cmp.Ordering.TheVariants.{Less, Equal, Greater}
@@ -13,8 +11,8 @@ use Rattle.std.proofs.lemmas.Bool.{eqb-false, eqb-true, ltb-false}
 use Rattle.std.proofs.lemmas.Cmp.{alike_right}
 use Rattle.std.proofs.lemmas.List.Quantifiers.{position-Some}
 use Rattle.std.proofs.lemmas.List.Sums.{fails_before_first}
-use Rattle.std.proofs.lemmas.List.{drop-map, get_or-drop, get_or-map, get_or-take, length-drop, length-map, length-take-le, take-append-drop, take-map, take_more}
-use Rattle.std.proofs.lemmas.List.Elements.{All-append, All-cons, All-contains, All-contains_itself, All-head, All-map, All-nil, All-same, All-tail, All-weaker, Contains-append_cases, Contains-append_left, Contains-append_right}
+use Rattle.std.proofs.lemmas.List.{get_or-drop, get_or-take, length-drop, length-take-le, take-append-drop, take_more}
+use Rattle.std.proofs.lemmas.List.Elements.{All-append, All-cons, All-contains, All-contains_itself, All-drop, All-head, All-nil, All-same, All-tail, All-take, All-weaker, Contains-append_cases, Contains-append_left, Contains-append_right}
 use Rattle.idl_store.specs.Buckets.{AddsOne}
 use Rattle.idl_store.specs.Index.{AreInOrder, IsGap}
 
@@ -121,36 +119,6 @@ adds-item {X} front rest item = record { has = λ x. (to x, from x) }
     from x (inl is) = subst (Contains (front ++ item ∷ rest)) (sym is) (Contains-append_right front (item ∷ rest) item (0, omega arith, refl))
     from x (inr c) = join x (Contains-append_cases front rest x c)
 
--- within others
-pub adds-within : {X : Type 0} (p q : List X) (item : X) (front rest : List X) → AddsOne p q item → AddsOne (front ++ (p ++ rest)) (front ++ (q ++ rest)) item
-adds-within {X} p q item front rest adds = record { has = λ x. (to x, from x) }
-  where
-    inner : (x : X) → Contains q x ⊎ Contains rest x → (x ≡ item) ⊎ Contains (front ++ (p ++ rest)) x
-    inner x (inl c) = ⊎_elim (λ is. inl is) (λ d. inr (Contains-append_right front (p ++ rest) x (Contains-append_left p rest x d))) ((adds.has x).0 c)
-    inner x (inr c) = inr (Contains-append_right front (p ++ rest) x (Contains-append_right p rest x c))
-
-    split : (x : X) → Contains front x ⊎ Contains (q ++ rest) x → (x ≡ item) ⊎ Contains (front ++ (p ++ rest)) x
-    split x (inl c) = inr (Contains-append_left front (p ++ rest) x c)
-    split x (inr c) = inner x (Contains-append_cases q rest x c)
-
-    to : (x : X) → Contains (front ++ (q ++ rest)) x → (x ≡ item) ⊎ Contains (front ++ (p ++ rest)) x
-    to x c = split x (Contains-append_cases front (q ++ rest) x c)
-
-    inside : (x : X) → Contains q x → Contains (front ++ (q ++ rest)) x
-    inside x c = Contains-append_right front (q ++ rest) x (Contains-append_left q rest x c)
-
-    old : (x : X) → Contains p x ⊎ Contains rest x → Contains (front ++ (q ++ rest)) x
-    old x (inl c) = inside x ((adds.has x).1 (inr c))
-    old x (inr c) = Contains-append_right front (q ++ rest) x (Contains-append_right q rest x c)
-
-    join : (x : X) → Contains front x ⊎ Contains (p ++ rest) x → Contains (front ++ (q ++ rest)) x
-    join x (inl c) = Contains-append_left front (q ++ rest) x c
-    join x (inr c) = old x (Contains-append_cases p rest x c)
-
-    from : (x : X) → (x ≡ item) ⊎ Contains (front ++ (p ++ rest)) x → Contains (front ++ (q ++ rest)) x
-    from x (inl is) = inside x ((adds.has x).1 (inl is))
-    from x (inr c) = join x (Contains-append_cases front (p ++ rest) x c)
-
 -- an item goes that alone has its number
 module _ {X : Type 0} (cmp : X → X → Ordering) (total : IsTotalOrder cmp) (number : X → ℕ) (n : ℕ) where
   pub found-goes : (xs : List X) (i : ℕ) → i < length xs → AreInOrder cmp xs → ((d : X) → number (get_or xs i d) ≡ n) → ((y z : X) → Contains xs y → Contains xs z → number y ≡ n → number z ≡ n → cmp y z ≡ Equal)
@@ -238,36 +206,13 @@ pub search-found : {X : Type 0} (f : X → Ordering) (P : X → Type 0) → ((y 
 search-found f P equal xs (Ok i) found = λ d. equal (get_or xs i d) (found d)
 search-found f P equal xs (Err i) found = tt
 
--- a gap among items that are seen otherwise
-module _ {X Y : Type 0} (h : X → Y) (order : Y → Ordering) (xs : List X) (i : ℕ) where
-  pub gap-map : IsGap (λ x. order (h x)) xs i → IsGap order (map h xs) i
-  gap-map gap = record {
-    within = omega (arith, gap.within, length-map xs h);
-    before = All-same (λ y. order y ≡ Less) (take i (map h xs)) (map h (take i xs)) (take-map h i xs) (All-map (λ y. order y ≡ Less) h (take i xs) gap.before);
-    behind = All-same (λ y. order y ≡ Greater) (drop i (map h xs)) (map h (drop i xs)) (drop-map h i xs) (All-map (λ y. order y ≡ Greater) h (drop i xs) gap.behind);
-  }
-
-  all-mapped : (P : Y → Type 0) (ys : List X) → All P (map h ys) → All (λ x. P (h x)) ys
-  all-mapped P ys all k d below = subst P (get_or-map h ys k d (h d) below) (all k (h d) (omega (arith, below, length-map ys h)))
-
-  pub gap-mapped : IsGap order (map h xs) i → IsGap (λ x. order (h x)) xs i
-  gap-mapped gap = record {
-    within = omega (arith, gap.within, length-map xs h);
-    before = all-mapped (λ y. order y ≡ Less) (take i xs) (All-same (λ y. order y ≡ Less) (map h (take i xs)) (take i (map h xs)) (sym (take-map h i xs)) gap.before);
-    behind = all-mapped (λ y. order y ≡ Greater) (drop i xs) (All-same (λ y. order y ≡ Greater) (map h (drop i xs)) (drop i (map h xs)) (sym (drop-map h i xs)) gap.behind);
-  }
-
--- or in an order that is told otherwise
+-- a gap in an order that is told otherwise
 pub gap-same : {X : Type 0} (f g : X → Ordering) (xs : List X) (i : ℕ) → All (λ y. f y ≡ g y) xs → IsGap f xs i → IsGap g xs i
-gap-same f g xs i same gap =
-    let parts = All-same (λ y. f y ≡ g y) (take i xs ++ drop i xs) xs (take-append-drop i xs) same in
-    let front = all-front (λ y. f y ≡ g y) (take i xs) (drop i xs) parts in
-    let rest = all-rest (λ y. f y ≡ g y) (take i xs) (drop i xs) parts in
-    record {
-      within = gap.within;
-      before = λ k d below. sym (front k d below) ∙ gap.before k d below;
-      behind = λ k d below. sym (rest k d below) ∙ gap.behind k d below;
-    }
+gap-same f g xs i same gap = record {
+  within = gap.within;
+  before = λ k d below. sym (All-take (λ y. f y ≡ g y) i xs same k d below) ∙ gap.before k d below;
+  behind = λ k d below. sym (All-drop (λ y. f y ≡ g y) i xs same k d below) ∙ gap.behind k d below;
+}
 
 -- in a gap nothing is as what was looked for
 pub gap-apart : {X : Type 0} (f : X → Ordering) (P : X → Type 0) → ((y : X) → P y → f y ≡ Equal) → (xs : List X) (i : ℕ) → IsGap f xs i → All (λ y. ¬ P y) xs
@@ -280,63 +225,3 @@ gap-apart f P equal xs i gap =
 -- what rises does so however it is told
 pub rises-same : {X : Type 0} (f g : X → Ordering) (xs : List X) → All (λ y. f y ≡ g y) xs → IsNonDecreasingBy (λ y. ordering_index (g y)) xs → IsNonDecreasingBy (λ y. ordering_index (f y)) xs
 rises-same f g xs same rises i j d le below = rw (same i d (omega (arith, le, below)), same j d below) (rises i j d le below)
-
--- ---- buckets
-
-module _ {X Y : Type 0} (f : ℕ × Vec X Global → List Y) where
-  module _ (test : ℕ → Bool) where
-    -- what stands before and behind the items of a bucket, whatever those are
-    pub around : (es : List (ℕ × Vec X Global)) (v : Vec X Global) → lookup test es ≡ Some v
-        → (k : ℕ) × (test k ≡ true) × (front : List Y) × (rest : List Y) × (flat_map f es ≡ front ++ (f (k, v) ++ rest)) × ((w : Vec X Global) → flat_map f (set_value test es w) ≡ front ++ (f (k, w) ++ rest))
-    around [] v h = absurd (cc)
-    around (e ∷ es) v h = by (test e.0) refl h (λ r. around es v r)
-      where
-        by : (b : Bool) → test e.0 ≡ b → cond b (Some e.1) (lookup test es) ≡ Some v
-            → (lookup test es ≡ Some v → (k : ℕ) × (test k ≡ true) × (front : List Y) × (rest : List Y) × (flat_map f es ≡ front ++ (f (k, v) ++ rest)) × ((w : Vec X Global) → flat_map f (set_value test es w) ≡ front ++ (f (k, w) ++ rest)))
-            → (k : ℕ) × (test k ≡ true) × (front : List Y) × (rest : List Y) × (f e ++ flat_map f es ≡ front ++ (f (k, v) ++ rest)) × ((w : Vec X Global) → flat_map f (cond (test e.0) ((e.0, w) ∷ es) (e ∷ set_value test es w)) ≡ front ++ (f (k, w) ++ rest))
-        by true at h later =
-            let same : e.1 ≡ v = cc in
-            (e.0, at, [], flat_map f es, ap (λ (u : Vec X Global). f (e.0, u) ++ flat_map f es) same, λ w. ap (λ b. flat_map f (cond b ((e.0, w) ∷ es) (e ∷ set_value test es w))) at)
-        by false at h later =
-            let a = later h in
-            (a.0, a.1, f e ++ a.2, a.3, ap (λ xs. f e ++ xs) a.4 ∙ sym (append_assoc (f e) a.2 (f (a.0, v) ++ a.3)), λ w. ap (λ b. flat_map f (cond b ((e.0, w) ∷ es) (e ∷ set_value test es w))) at ∙ ap (λ xs. f e ++ xs) (a.5 w) ∙ sym (append_assoc (f e) a.2 (f (a.0, w) ++ a.3)))
-
-    -- an empty bucket that goes takes nothing along
-    pub emptied : (es : List (ℕ × Vec X Global)) (v : Vec X Global) → lookup test es ≡ Some v → ((k : ℕ) → f (k, v) ≡ []) → flat_map f (remove_entry test es) ≡ flat_map f es
-    emptied [] v h none = refl
-    emptied (e ∷ es) v h none = by (test e.0) h (λ r. emptied es v r none)
-      where
-        by : (b : Bool) → cond b (Some e.1) (lookup test es) ≡ Some v → (lookup test es ≡ Some v → flat_map f (remove_entry test es) ≡ flat_map f es) → flat_map f (cond b es (e ∷ remove_entry test es)) ≡ f e ++ flat_map f es
-        by true h later =
-            let same : v ≡ e.1 = cc in
-            ap (λ xs. xs ++ flat_map f es) (sym (none e.0) ∙ ap (λ (u : Vec X Global). f (e.0, u)) same)
-        by false h later = ap (λ xs. f e ++ xs) (later h)
-
-module _ {X : Type 0} (test : ℕ → Bool) where
-  -- what a look-up finds is a bucket of which what holds of all holds
-  pub all-found : (P : ℕ × Vec X Global → Type 0) (es : List (ℕ × Vec X Global)) (v : Vec X Global) → lookup test es ≡ Some v → All P es → (k : ℕ) × (test k ≡ true) × P (k, v)
-  all-found P [] v h all = absurd (cc)
-  all-found P (e ∷ es) v h all = by (test e.0) refl h (λ r. all-found P es v r (All-tail P e es all))
-    where
-      by : (b : Bool) → test e.0 ≡ b → cond b (Some e.1) (lookup test es) ≡ Some v → (lookup test es ≡ Some v → (k : ℕ) × (test k ≡ true) × P (k, v)) → (k : ℕ) × (test k ≡ true) × P (k, v)
-      by true at h later =
-          let same : e.1 ≡ v = cc in
-          (e.0, at, subst (λ (u : Vec X Global). P (e.0, u)) same (All-head P e es all))
-      by false at h later = later h
-
-  -- a bucket that is written is found as it was written
-  pub lookup-set : (es : List (ℕ × Vec X Global)) (v w : Vec X Global) → lookup test es ≡ Some v → lookup test (set_value test es w) ≡ Some w
-  lookup-set [] v w h = absurd (cc)
-  lookup-set (e ∷ es) v w h = by (test e.0) refl h (λ r. lookup-set es v w r)
-    where
-      by : (b : Bool) → test e.0 ≡ b → cond b (Some e.1) (lookup test es) ≡ Some v → (lookup test es ≡ Some v → lookup test (set_value test es w) ≡ Some w) → lookup test (cond b ((e.0, w) ∷ es) (e ∷ set_value test es w)) ≡ Some w
-      by true at h later = ap (λ b. cond b (Some w) (lookup test es)) at
-      by false at h later = ap (λ b. cond b (Some e.1) (lookup test (set_value test es w))) at ∙ later h
-
-  pub all-removed : (P : ℕ × Vec X Global → Type 0) (es : List (ℕ × Vec X Global)) → All P es → All P (remove_entry test es)
-  all-removed P [] all = all
-  all-removed P (e ∷ es) all = by (test e.0) (all-removed P es (All-tail P e es all))
-    where
-      by : (b : Bool) → All P (remove_entry test es) → All P (cond b es (e ∷ remove_entry test es))
-      by true rest = All-tail P e es all
-      by false rest = All-cons P e (remove_entry test es) (All-head P e es all) rest

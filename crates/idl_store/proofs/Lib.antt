@@ -1,9 +1,8 @@
-pub mod Beside
+pub mod Tested
 pub mod Bucketed
 pub mod Changing
 pub mod Drafting
 pub mod Exactness
-pub mod Finding
 pub mod Hinting
 pub mod Indexing
 pub mod Looking

@@ -1,41 +1,18 @@
 -- What a look-up finds among ranked results, and what it tells where it finds nothing.
-use Rattle.std.proofs.Common.{◌≡◌, ◌≢◌, ◌∙◌, ℕ, Bool, true, false, List, [], ◌∷◌, Option, Some, None, Result, Ok, Err, cond, filter, nat_eq, refl, sym}
-use Rattle.std.specs.Cmp.{IsTotalOrder}
-use Rattle.std.specs.Prelude.{All, Contains, IfErr, IfNone, IfOk, IfSome}
+use Rattle.std.proofs.Common.{◌≡◌, ◌∙◌, ℕ, Bool, List, Option, Some, None, Result, Ok, Err, sym}
+use Rattle.std.specs.Prelude.{All, Contains, IfErr, IfNone, IfOk, OnErr}
 use Rattle.std.specs.declared.cmp.Ordering.{Ordering}
 use Rattle.std.specs.declared.cmp.Ordering.TheVariants.{Equal}
-use Rattle.std.proofs.lemmas.Bool.{eq-eqb}
-use Rattle.std.proofs.lemmas.List.Elements.{All-cons, All-head, All-nil, All-tail, All-weaker}
+use Rattle.std.proofs.lemmas.List.Elements.{All-weaker}
 use Rattle.idl_memo.specs.Kept.{Kept, IsAlike, IsSound, NoneAlikeAt, SomeAlikeAt, result_over}
 use Rattle.idl_memo.specs.Query.{Query, first_asked}
 use Rattle.idl_memo.proofs.Placing.{result_over-alike}
 use Rattle.idl_store.specs.Buckets.{bucket_at, bucket_of}
-use Rattle.idl_store.specs.Index.{IsGap, IsGapAmong, those_of}
 use Rattle.idl_store.specs.Order.{place_cmp, results_cmp}
 use Rattle.idl_store.specs.Shelved.{IsSought}
-use Rattle.idl_store.specs.declared.index.Gap.{Gap}
+use Rattle.idl_store.proofs.Exactness.{IsExact}
 use Rattle.idl_store.proofs.Hinting.{bucket-alike}
-use Rattle.idl_store.proofs.Indexing.{gap-apart}
 use Rattle.idl_store.proofs.Searching.{alike-equal, equal-alike, place-result}
-
--- what holds of those that pass a test
-all-passed : {X : Type 0} (P : X → Type 0) (test : X → Bool) (xs : List X) → All P (filter test xs) → All (λ x. test x ≡ true → P x) xs
-all-passed P test [] all = All-nil (λ x. test x ≡ true → P x)
-all-passed {X} P test (x ∷ xs) all = by (test x) refl all (all-passed P test xs)
-  where
-    by : (b : Bool) → test x ≡ b → All P (cond b (x ∷ filter test xs) (filter test xs)) → (All P (filter test xs) → All (λ x. test x ≡ true → P x) xs) → All (λ x. test x ≡ true → P x) (x ∷ xs)
-    by true at all rest = All-cons (λ x. test x ≡ true → P x) x xs (λ _. All-head P x (filter test xs) all) (rest (All-tail P x (filter test xs) all))
-    by false at all rest = All-cons (λ x. test x ≡ true → P x) x xs (λ is. (let no : true ≡ false = sym is ∙ at in cc)) (rest all)
-
--- in a gap nothing of its bucket is as what was looked for
-pub gap-bare : {R : Type 0} (order : R → Ordering) (P : R → Type 0) → ((r : R) → P r → order r ≡ Equal) → (results : List ((R × ℕ) × ℕ)) (gap : Gap) → IsGapAmong order results gap → All (λ e. e.0.1 ≡ gap.bucket → ¬ P e.0.0) results
-gap-bare {R} order P equal results gap is = by gap.place is.within is.apart
-  where
-    by : (p : Option ℕ) → IfSome p (IsGap (λ e. order e.0.0) (those_of gap.bucket results)) → IfNone p (All (λ e. e.0.1 ≢ gap.bucket) results) → All (λ e. e.0.1 ≡ gap.bucket → ¬ P e.0.0) results
-    by None within apart = All-weaker (λ e. e.0.1 ≢ gap.bucket) (λ e. e.0.1 ≡ gap.bucket → ¬ P e.0.0) (λ e other same. absurd (other same)) results apart
-    by (Some place) within apart =
-        All-weaker (λ e. nat_eq e.0.1 gap.bucket ≡ true → ¬ P e.0.0) (λ e. e.0.1 ≡ gap.bucket → ¬ P e.0.0) (λ e none same. none (eq-eqb e.0.1 gap.bucket same)) results
-        (all-passed (λ e. ¬ P e.0.0) (λ e. nat_eq e.0.1 gap.bucket) results (gap-apart (λ e. order e.0.0) (λ e. P e.0.0) (λ e p. equal e.0.0 p) (those_of gap.bucket results) place within))
 
 -- clauses of a look-up that may be refused memory, from others
 pub found-weaker : {X Y Z : Type 0} {P Q : X → Type 0} (r : Result (Result X Y) Z) → IfOk r (λ found. IfOk found P) → ((x : X) → P x → Q x) → IfOk r (λ found. IfOk found Q)
@@ -43,30 +20,28 @@ found-weaker (Ok (Ok x)) h to = to x h
 found-weaker (Ok (Err y)) h to = tt
 found-weaker (Err z) h to = tt
 
-pub missed-weaker : {X Y Z : Type 0} {P Q : Y → Type 0} (r : Result (Result X Y) Z) → IfOk r (λ found. IfErr found P) → ((y : Y) → P y → Q y) → IfOk r (λ found. IfErr found Q)
-missed-weaker (Ok (Ok x)) h to = tt
-missed-weaker (Ok (Err y)) h to = to y h
-missed-weaker (Err z) h to = tt
+pub missed-all : {X Y Z N : Type 0} {P Q S : Y → Type 0} (r : Result (Result X Y) Z) → IfOk r (λ found. OnErr found N) → IfOk r (λ found. IfErr found P) → IfOk r (λ found. IfErr found Q) → ((y : Y) → N → P y → Q y → S y) → IfOk r (λ found. IfErr found S)
+missed-all (Ok (Ok x)) n p q to = tt
+missed-all (Ok (Err y)) n p q to = to y n p q
+missed-all (Err z) n p q to = tt
 
 pub none-weaker : {X P Q : Type 0} (o : Option X) → IfNone o P → (P → Q) → IfNone o Q
 none-weaker None h to = to h
 none-weaker (Some x) h to = tt
 
-module _ {K V T O X : Type 0} (text_cmp : T → T → Ordering) (answer_cmp : V → V → Ordering) (texts : IsTotalOrder text_cmp) (answers : IsTotalOrder answer_cmp)
-    (text_exact : (t u : T) → text_cmp t u ≡ Equal → t ≡ u) (answer_exact : (v w : V) → answer_cmp v w ≡ Equal → v ≡ w)
-    (eq : K → K → Bool) (itself : (k : K) → eq k k ≡ true) (same : (k l : K) → eq k l ≡ true → k ≡ l) (query : T → Query K V X O) (text : T) (bank : K → V) where
+module _ {K V T O X : Type 0} {text_cmp : T → T → Ordering} {answer_cmp : V → V → Ordering} {eq : K → K → Bool} (exact : IsExact text_cmp answer_cmp eq) (query : T → Query K V X O) (text : T) (bank : K → V) where
   -- whatever came of the task stands to the place as to the result there
   pub place-sought : IsSought (IsSound eq query) (results_cmp text_cmp answer_cmp) (λ kept. place_cmp text_cmp answer_cmp kept text bank) (result_over eq query (text, bank))
-  place-sought = λ other sound. place-result text_cmp answer_cmp texts answers text_exact answer_exact eq same query other text bank sound
+  place-sought = λ other sound. place-result exact query other text bank sound
 
   module _ (kept : Kept K V T O) (found : place_cmp text_cmp answer_cmp kept text bank ≡ Equal) where
     -- one that nothing tells from the place is alike
     found-alike : IsAlike text bank kept
-    found-alike = alike-equal text_cmp answer_cmp texts answers text_exact answer_exact kept text bank found
+    found-alike = alike-equal exact kept text bank found
 
     -- and so the result there
     pub found-here : IsSound eq query kept → kept ≡ result_over eq query (text, bank)
-    found-here sound = result_over-alike eq query itself same (text, bank) kept sound found-alike
+    found-here sound = result_over-alike eq query exact.key_itself exact.key_is (text, bank) kept sound found-alike
 
     pub found-among : (results : List (Kept K V T O)) → Contains results kept → SomeAlikeAt (text, bank) results
     found-among results among = (among.0, kept, among.1, among.2, found-alike)
@@ -76,4 +51,4 @@ module _ {K V T O X : Type 0} (text_cmp : T → T → Ordering) (answer_cmp : V 
       → All (λ kept. IsSound eq query kept × (bucket_of input hint kept ≡ b → ¬ (place_cmp text_cmp answer_cmp kept text bank ≡ Equal))) results → NoneAlikeAt (text, bank) results
   none-among input hint b at results none =
       All-weaker (λ kept. IsSound eq query kept × (bucket_of input hint kept ≡ b → ¬ (place_cmp text_cmp answer_cmp kept text bank ≡ Equal))) (λ kept. ¬ IsAlike text bank kept)
-      (λ kept out alike. out.1 (bucket-alike eq itself same query input hint text bank kept out.0 alike ∙ sym at) (equal-alike text_cmp answer_cmp texts answers kept text bank alike)) results none
+      (λ kept out alike. out.1 (bucket-alike eq exact.key_itself exact.key_is query input hint text bank kept out.0 alike ∙ sym at) (equal-alike exact kept text bank alike)) results none

@@ -10,6 +10,7 @@ use Rattle.slab.specs.Slab.{Slab, get}
 use Rattle.idl_store.specs.Numbers.{AreMore, IsStored, drafts_of, joined, lists_of, result_of, shown, times, with_bucket}
 use Rattle.idl_store.specs.Stored.{Stored, grown, item_at, list_at, result_at, results_in, results_of_drafts, with_results}
 use Rattle.idl_store.specs.declared.numbers.Draft.{Draft}
+use Rattle.idl_store.specs.declared.index.Numbered.{Numbered}
 use Rattle.idl_store.specs.declared.numbers.Used.{Used}
 use Rattle.idl_store.proofs.Shown.{item_at-shown, list_at-shown, shown-grown, shown-same}
 use Rattle.idl_store.proofs.Changing.{stands-for, taken}
@@ -40,7 +41,7 @@ with_results-none (d ∷ e ∷ ds) = ap (λ ds. d ∷ ds) (with_results-none (e 
 pub grown-nothing : {X : Type 0} (s : Stored X) → grown s [] ≡ s
 grown-nothing s = ap (λ ds. record { lists = s.lists; drafts = ds }) (with_results-none s.drafts)
 
-module _ {R : Type 0} {is_sound : R → Type 0} {bucket : R → ℕ} {used : Slab (Used R)} {index : List ((R × ℕ) × ℕ)} {numbers : Stored ℕ} (stored : IsStored is_sound bucket used index numbers) where
+module _ {R : Type 0} {is_sound : R → Type 0} {bucket : R → ℕ} {used : Slab (Used R)} {index : List (ℕ × List (Numbered R))} {numbers : Stored ℕ} (stored : IsStored is_sound bucket used index numbers) where
   in_all : (n : ℕ) → 0 < times n (joined numbers.lists) → 0 < times n (results_in numbers)
   in_all n there = omega (arith, there, times-append n (joined numbers.lists) (results_of_drafts numbers.drafts))
 

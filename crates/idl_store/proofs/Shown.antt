@@ -1,12 +1,16 @@
 -- Lists and drafts of numbers, seen as what the numbers stand for.
 use Rattle.std.proofs.Common.{◌≡◌, ℕ, zero, suc, ◌<◌, Bool, true, false, List, [], ◌∷◌, ◌++◌, Option, Some, None, cond, refl, sym, ap, ◌∙◌, arith, map, length, set, take, drop, nat_lt}
-use Rattle.std.proofs.lemmas.List.{length-map, map-append, map-set}
+use Rattle.std.proofs.lemmas.List.{drop-map, length-map, map-append, map-set, take-map}
 use Rattle.std.proofs.lemmas.List.Elements.{filter_map-append}
-use Rattle.std.specs.List.{cons_option, filter_map, flat_map, fold, slice_get}
+use Rattle.std.specs.List.{cons_option, filter_map, flat_map, fold, remove, slice_get}
 use Rattle.std.specs.Prelude.{IsSome, is_some}
 use Rattle.idl_store.specs.Numbers.{joined, shown, times}
 use Rattle.idl_store.specs.Stored.{Stored, committed, grown, item_at, list_at, placed, removed, results_in, results_of_drafts, with_results}
 use Rattle.idl_store.proofs.Times.{times-append, times-drop, times_first}
+
+-- without the item at a place, seen otherwise
+pub map-removed : {X Y : Type 0} (f : X → Y) (xs : List X) (i : ℕ) → map f (remove xs i) ≡ remove (map f xs) i
+map-removed f xs i = map-append f (take i xs) (drop (suc i) xs) ∙ (λ j. sym (take-map f i xs) j ++ sym (drop-map f (suc i) xs) j)
 
 module _ {X : Type 0} (of : ℕ → Option X) where
   abbrev pub draft_shown : ℕ × List ℕ → ℕ × List X
@@ -40,22 +44,8 @@ module _ {X : Type 0} (of : ℕ → Option X) where
   pub shown-committed : (s : Stored ℕ) → shown of (committed s) ≡ committed (shown of s)
   shown-committed s = ap (λ ls. record { lists = ls; drafts = [] }) (shown-fold s.lists s.drafts)
 
-  -- of the first ones, and of those behind them
-  map-take : (i : ℕ) (lists : List (List ℕ)) → map (filter_map of) (take i lists) ≡ take i (map (filter_map of) lists)
-  map-take zero lists = refl
-  map-take (suc i) [] = refl
-  map-take (suc i) (l ∷ lists) = ap (λ ls. filter_map of l ∷ ls) (map-take i lists)
-
-  map-drop : (i : ℕ) (lists : List (List ℕ)) → map (filter_map of) (drop i lists) ≡ drop i (map (filter_map of) lists)
-  map-drop zero lists = refl
-  map-drop (suc i) [] = refl
-  map-drop (suc i) (l ∷ lists) = map-drop i lists
-
   pub shown-removed : (s : Stored ℕ) (list : ℕ) → shown of (removed s list) ≡ removed (shown of s) list
-  shown-removed s list =
-      ap (λ ls. record { lists = ls; drafts = map draft_shown s.drafts }) (
-      map-append (filter_map of) (take list s.lists) (drop (suc list) s.lists)
-      ∙ (λ i. map-take list s.lists i ++ map-drop (suc list) s.lists i))
+  shown-removed s list = ap (λ ls. record { lists = ls; drafts = map draft_shown s.drafts }) (map-removed (filter_map of) s.lists list)
 
   -- all results are those of all numbers
   shown-lists : (lists : List (List ℕ)) → flat_map (λ list. list) (map (filter_map of) lists) ≡ filter_map of (joined lists)

@@ -1,9 +1,11 @@
 -- A slab with the same values under their numbers, and an index with the same results.
-use Rattle.std.proofs.Common.{◌≡◌, ◌↔◌, ℕ, List, [], Option, None, Some, ap, arith, subst}
+use Rattle.std.proofs.Common.{◌≡◌, ◌↔◌, ℕ, List, [], Option, None, Some, ap, arith, subst, sym}
 use Rattle.std.specs.Prelude.{Contains, IsSome}
 use Rattle.std.specs.Option.{option_map}
 use Rattle.slab.specs.Slab.{Slab, SameValues}
+use Rattle.idl_store.specs.Index.{bucket_in}
 use Rattle.idl_store.specs.Numbers.{AreFewer, AreUsed, IsIndexOf, kept_at, uses_of, with_bucket}
+use Rattle.idl_store.specs.declared.index.Numbered.{Numbered}
 use Rattle.idl_store.specs.declared.numbers.Used.{Used}
 use Rattle.idl_store.proofs.Using.{indexed-same}
 
@@ -23,9 +25,8 @@ module _ {R : Type 0} (old new : Slab (Used R)) (same : SameValues old new) wher
 
 module _ {R : Type 0} (old new : Slab (Used R)) (same : SameValues old new) where
   -- what was found is found
-  pub indexed-shrunk : (before after : List ((R × ℕ) × ℕ))
-      → ((e : (R × ℕ) × ℕ) → Contains after e ↔ Contains before e) → IsIndexOf old before → IsIndexOf new after
-  indexed-shrunk before after there indexed n kept =
-      let is = indexed-same old new before (kept-same old new same) indexed n kept in
-      let among = there (kept, n) in
-      (λ c. is.0 (among.0 c), λ h. among.1 (is.1 h))
+  pub indexed-shrunk : (before after : List (ℕ × List (Numbered R)))
+      → ((b : ℕ) → bucket_in after b ≡ bucket_in before b) → IsIndexOf old before → IsIndexOf new after
+  indexed-shrunk before after there indexed b one =
+      subst (λ (items : List (Numbered R)). Contains items one ↔ (kept_at new one.number ≡ Some (one.result, b))) (sym (there b))
+      (indexed-same old new before (kept-same old new same) indexed b one)

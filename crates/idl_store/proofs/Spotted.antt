@@ -12,6 +12,7 @@ use Rattle.idl_store.specs.Numbers.{AreMore, IsStored, joined, result_of, shown,
 use Rattle.idl_store.specs.Spots.{lists_among, result_on, results_from}
 use Rattle.idl_store.specs.Stored.{Stored, grown, item_at, last_draft, last_of, list_at, results_in, results_of_drafts, with_results}
 use Rattle.idl_store.specs.declared.numbers.Spot.{Spot}
+use Rattle.idl_store.specs.declared.index.Numbered.{Numbered}
 use Rattle.idl_store.specs.declared.numbers.Used.{Used}
 use Rattle.idl_store.proofs.Changing.{stands-for, taken}
 use Rattle.idl_store.proofs.Shown.{draft_shown, item_at-shown, list_at-filtered, list_at-shown, shown-grown_all, shown-part, shown-same}
@@ -70,7 +71,7 @@ module _ {X : Type 0} (of : ℕ → Option X) where
   among-shown s false = refl
   among-shown s true = drafts-shown s.drafts
 
-module _ {R : Type 0} {is_sound : R → Type 0} {bucket : R → ℕ} {used : Slab (Used R)} {index : List ((R × ℕ) × ℕ)} {numbers : Stored ℕ} (stored : IsStored is_sound bucket used index numbers) (spot : Spot) where
+module _ {R : Type 0} {is_sound : R → Type 0} {bucket : R → ℕ} {used : Slab (Used R)} {index : List (ℕ × List (Numbered R))} {numbers : Stored ℕ} (stored : IsStored is_sound bucket used index numbers) (spot : Spot) where
   lists_stand : (n : ℕ) → 0 < times n (joined (lists_among numbers spot.is_draft)) → IsSome (result_of used n)
   lists_stand n there = stands-for stored n (omega (arith, there, among_all numbers n spot.is_draft))
 
@@ -131,7 +132,7 @@ module _ {R : Type 0} {is_sound : R → Type 0} {bucket : R → ℕ} {used : Sla
     part-taken (Err z) new drafts ns s view same is more = tt
 
 -- the last draft has as many results as numbers
-pub last-read : {R : Type 0} {is_sound : R → Type 0} {bucket : R → ℕ} {used : Slab (Used R)} {index : List ((R × ℕ) × ℕ)} {numbers : Stored ℕ} (stored : IsStored is_sound bucket used index numbers) (n : ℕ)
+pub last-read : {R : Type 0} {is_sound : R → Type 0} {bucket : R → ℕ} {used : Slab (Used R)} {index : List (ℕ × List (Numbered R))} {numbers : Stored ℕ} (stored : IsStored is_sound bucket used index numbers) (n : ℕ)
     → n ≡ length numbers.drafts → length (list_at (map (λ d. d.1) numbers.drafts) (n - 1)) ≡ length (last_draft (shown (result_of used) numbers))
 last-read {used} {numbers} stored n is =
     let results = (shown (result_of used) numbers).drafts in

@@ -1,17 +1,19 @@
 -- Results under numbers: one that is used less, goes or comes.
 use Rattle.std.proofs.Common.{◌≡◌, ◌≢◌, ◌⊎◌, ◌↔◌, ℕ, ◌+◌, ◌<◌, ◌≤◌, true, false, List, [], ◌∷◌, ◌++◌, Option, Some, None, cond, refl, sym, ap, ◌∙◌, subst, arith, inl, inr, nat_eq, length, drop, get_or, take}
-use Rattle.std.specs.Prelude.{All, Contains, IsSome, is_some}
+use Rattle.std.specs.Prelude.{All, Contains, is_some}
 use Rattle.std.specs.Option.{option_map}
 use Rattle.std.proofs.lemmas.Bool.{cases_eq}
 use Rattle.std.proofs.lemmas.Bool.Decides.{eqb_tells}
-use Rattle.std.proofs.lemmas.List.Elements.{All-contains, All-contains_itself, All-weaker}
+use Rattle.std.proofs.lemmas.List.Elements.{All-contains}
 use Rattle.std.proofs.lemmas.Grind.{flat_map-append}
 use Rattle.std.proofs.lemmas.List.{append-nil, take-append-drop, take_more}
+use Rattle.std.proofs.lemmas.Option.{same_Some}
 use Rattle.idl_store.specs.Stored.{results_of_drafts}
 use Rattle.slab.specs.Slab.{Slab, Updates, get, with_value}
 use Rattle.slab.proofs.SlabLemmas.{Updates-with_value}
-use Rattle.idl_store.specs.Buckets.{AddsOne}
-use Rattle.idl_store.specs.Numbers.{AreFewer, AreMore, AreUsed, IsIndexOf, kept_at, times, uses_of, with_bucket}
+use Rattle.idl_store.specs.Index.{AddsTo, IsAlone, bucket_in, numbered}
+use Rattle.idl_store.specs.Numbers.{AreFewer, AreMore, IsIndexOf, kept_at, times, uses_of, with_bucket}
+use Rattle.idl_store.specs.declared.index.Numbered.{Numbered}
 use Rattle.idl_store.specs.declared.numbers.Used.{Used}
 use Rattle.idl_store.proofs.Times.{times-append}
 
@@ -31,90 +33,83 @@ times_one n = by (eqb_tells n n)
     by (inl h) = ap (λ b. cond b 1 0 + 0) h.0
     by (inr h) = absurd (h.1 refl)
 
--- a number is that of one result
-pub indexed-alone : {R : Type 0} (used : Slab (Used R)) (index : List ((R × ℕ) × ℕ)) (number : ℕ) → IsIndexOf used index → (e f : (R × ℕ) × ℕ) → Contains index e → Contains index f → e.1 ≡ number → f.1 ≡ number → e ≡ f
-indexed-alone used index number indexed e f c d is is' =
-    let one : e.1 ≡ f.1 = is ∙ sym is' in
-    let both : Some e.0 ≡ Some f.0 = sym ((indexed e.1 e.0).0 c) ∙ ap (kept_at used) one ∙ (indexed f.1 f.0).0 d in
-    let same : e.0 ≡ f.0 = cc in
-    (λ i. (same i, one i))
+-- a number is that of one result of a bucket
+pub indexed-alone : {R : Type 0} (used : Slab (Used R)) (index : List (ℕ × List (Numbered R))) (b number : ℕ) → IsIndexOf used index → IsAlone number (bucket_in index b)
+indexed-alone {R} used index b number indexed one other c d is is' =
+    let first : R × ℕ = (one.result, b) in
+    let second : R × ℕ = (other.result, b) in
+    let both : Some first ≡ Some second = sym ((indexed b one).0 c) ∙ ap (kept_at used) (is ∙ sym is') ∙ (indexed b other).0 d in
+    ap (λ (k : R × ℕ). k.0) (same_Some first second both)
 
 module _ {R : Type 0} (old new : Slab (Used R)) where
   -- what is kept is found still
-  pub indexed-same : (index : List ((R × ℕ) × ℕ)) → ((n : ℕ) → kept_at new n ≡ kept_at old n) → IsIndexOf old index → IsIndexOf new index
-  indexed-same index same indexed n kept =
-      subst (λ o. Contains index (kept, n) ↔ (o ≡ Some kept)) (sym (same n)) (indexed n kept)
+  pub indexed-same : (index : List (ℕ × List (Numbered R))) → ((n : ℕ) → kept_at new n ≡ kept_at old n) → IsIndexOf old index → IsIndexOf new index
+  indexed-same index same indexed b one =
+      subst (λ (o : Option (R × ℕ)). Contains (bucket_in index b) one ↔ (o ≡ Some (one.result, b))) (sym (same one.number)) (indexed b one)
 
-  module _ (before after : List ((R × ℕ) × ℕ)) (number : ℕ) (k : R × ℕ) (others : (n : ℕ) → n ≢ number → get new n ≡ get old n) where
+  module _ (before after : List (ℕ × List (Numbered R))) (number : ℕ) (k : R × ℕ) (others : (n : ℕ) → n ≢ number → get new n ≡ get old n) where
+    abbrev item : Numbered R
+    item = numbered k.0 number
+
     placed_other : (n : ℕ) → n ≢ number → kept_at new n ≡ kept_at old n
     placed_other n e = ap (option_map with_bucket) (others n e)
 
     -- one that goes is found no more
-    pub indexed-gone : kept_at old number ≡ Some k → get new number ≡ None → AddsOne after before (k, number) → ¬ Contains after (k, number) → IsIndexOf old before → IsIndexOf new after
-    indexed-gone here gone adds out indexed n kept = (to (cases_eq n number), from (cases_eq n number))
+    pub indexed-gone : kept_at old number ≡ Some k → get new number ≡ None → AddsTo after before k.1 item → All (λ one. one.number ≢ number) (bucket_in after k.1) → IsIndexOf old before → IsIndexOf new after
+    indexed-gone here gone adds out indexed b one = (to (cases_eq one.number number), from (cases_eq one.number number))
       where
         none : kept_at new number ≡ None
         none = ap (option_map with_bucket) gone
 
-        to : (n ≡ number) ⊎ (n ≢ number) → Contains after (kept, n) → kept_at new n ≡ Some kept
+        to : (one.number ≡ number) ⊎ (one.number ≢ number) → Contains (bucket_in after b) one → kept_at new one.number ≡ Some (one.result, b)
         to (inl e) c =
-            let was : kept_at old n ≡ Some kept = (indexed n kept).0 ((adds.has (kept, n)).1 (inr c)) in
-            let at : kept_at old n ≡ Some k = rw e here in
-            let same : kept ≡ k = cc in
-            absurd (out (subst (λ (x : (R × ℕ) × ℕ). Contains after x) (λ i. (same i, e i)) c))
-        to (inr e) c = placed_other n e ∙ (indexed n kept).0 ((adds.has (kept, n)).1 (inr c))
+            let was : R × ℕ = (one.result, b) in
+            let at : b ≡ k.1 = ap (λ (r : R × ℕ). r.1) (same_Some was k (sym ((indexed b one).0 ((adds.has b one).1 (inr c))) ∙ ap (kept_at old) e ∙ here)) in
+            absurd (All-contains (λ (one : Numbered R). one.number ≢ number) (bucket_in after k.1) one out (subst (λ (b : ℕ). Contains (bucket_in after b) one) at c) e)
+        to (inr e) c = placed_other one.number e ∙ (indexed b one).0 ((adds.has b one).1 (inr c))
 
-        from : (n ≡ number) ⊎ (n ≢ number) → kept_at new n ≡ Some kept → Contains after (kept, n)
+        left : one.number ≢ number → ((b ≡ k.1) × (one ≡ item)) ⊎ Contains (bucket_in after b) one → Contains (bucket_in after b) one
+        left e (inl p) = absurd (e (ap (λ (one : Numbered R). one.number) p.1))
+        left e (inr c) = c
+
+        from : (one.number ≡ number) ⊎ (one.number ≢ number) → kept_at new one.number ≡ Some (one.result, b) → Contains (bucket_in after b) one
         from (inl e) h =
-            let nothing : kept_at new n ≡ None = rw e none in
+            let was : R × ℕ = (one.result, b) in
+            let nothing : Some was ≡ None = sym h ∙ ap (kept_at new) e ∙ none in
             absurd (cc)
-        from (inr e) h = left ((adds.has (kept, n)).0 ((indexed n kept).1 (sym (placed_other n e) ∙ h)))
-          where
-            left : (◌≡◌ {A = (R × ℕ) × ℕ} (kept, n) (k, number)) ⊎ Contains after (kept, n) → Contains after (kept, n)
-            left (inl same) = absurd (e (ap (λ x. x.1) same))
-            left (inr c) = c
+        from (inr e) h = left e ((adds.has b one).0 ((indexed b one).1 (sym (placed_other one.number e) ∙ h)))
 
     -- one that comes is found
-    pub indexed-put : kept_at old number ≡ None → kept_at new number ≡ Some k → AddsOne before after (k, number) → IsIndexOf old before → IsIndexOf new after
-    indexed-put free here adds indexed n kept = (to (cases_eq n number), from (cases_eq n number))
+    pub indexed-put : kept_at old number ≡ None → kept_at new number ≡ Some k → AddsTo before after k.1 item → IsIndexOf old before → IsIndexOf new after
+    indexed-put free here adds indexed b one = (λ c. to (cases_eq one.number number) ((adds.has b one).0 c), from (cases_eq one.number number))
       where
-        to : (n ≡ number) ⊎ (n ≢ number) → Contains after (kept, n) → kept_at new n ≡ Some kept
-        to o c = by o ((adds.has (kept, n)).0 c)
-          where
-            by : (n ≡ number) ⊎ (n ≢ number) → (◌≡◌ {A = (R × ℕ) × ℕ} (kept, n) (k, number)) ⊎ Contains before (kept, n) → kept_at new n ≡ Some kept
-            by o (inl same) = ap (kept_at new) (ap (λ x. x.1) same) ∙ here ∙ ap (λ x. Some x.0) (sym same)
-            by (inl e) (inr c) =
-                let was : kept_at old n ≡ Some kept = (indexed n kept).0 c in
-                let nothing : kept_at old n ≡ None = rw e free in
-                absurd (cc)
-            by (inr e) (inr c) = placed_other n e ∙ (indexed n kept).0 c
+        to : (one.number ≡ number) ⊎ (one.number ≢ number) → ((b ≡ k.1) × (one ≡ item)) ⊎ Contains (bucket_in before b) one → kept_at new one.number ≡ Some (one.result, b)
+        to o (inl p) =
+            let mine : R × ℕ = (one.result, b) in
+            let same : mine ≡ k = λ i. ((p.1 i).result, p.0 i) in
+            ap (λ (one : Numbered R). kept_at new one.number) p.1 ∙ here ∙ ap (λ (r : R × ℕ). Some r) (sym same)
+        to (inl e) (inr c) =
+            let mine : R × ℕ = (one.result, b) in
+            let nothing : Some mine ≡ None = sym ((indexed b one).0 c) ∙ ap (kept_at old) e ∙ free in
+            absurd (cc)
+        to (inr e) (inr c) = placed_other one.number e ∙ (indexed b one).0 c
 
-        from : (n ≡ number) ⊎ (n ≢ number) → kept_at new n ≡ Some kept → Contains after (kept, n)
+        from : (one.number ≡ number) ⊎ (one.number ≢ number) → kept_at new one.number ≡ Some (one.result, b) → Contains (bucket_in after b) one
         from (inl e) h =
-            let at : kept_at new n ≡ Some k = rw e here in
-            let same : k ≡ kept = cc in
-            subst (λ (x : (R × ℕ) × ℕ). Contains after x) (λ i. (same i, sym e i)) ((adds.has (k, number)).1 (inl refl))
-        from (inr e) h = (adds.has (kept, n)).1 (inr ((indexed n kept).1 (sym (placed_other n e) ∙ h)))
+            let mine : R × ℕ = (one.result, b) in
+            let same : mine ≡ k = same_Some mine k (sym h ∙ ap (kept_at new) e ∙ here) in
+            let it : one ≡ item = λ i. record { result = (same i).0; number = e i } in
+            (adds.has b one).1 (inl (ap (λ (r : R × ℕ). r.1) same, it))
+        from (inr e) h = (adds.has b one).1 (inr ((indexed b one).1 (sym (placed_other one.number e) ∙ h)))
 
   -- the same by what was kept
-  pub indexed-removed : (before after : List ((R × ℕ) × ℕ)) (number : ℕ) (last : Used R) → get old number ≡ Some last → Updates old new number None → ((kept : R) → Contains before ((kept, last.bucket), number) → AddsOne after before ((kept, last.bucket), number)) → ((kept : R) → ¬ Contains after ((kept, last.bucket), number)) → IsIndexOf old before → IsIndexOf new after
+  pub indexed-removed : (before after : List (ℕ × List (Numbered R))) (number : ℕ) (last : Used R) → get old number ≡ Some last → Updates old new number None
+      → ((one : Numbered R) → one.number ≡ number → Contains (bucket_in before last.bucket) one → AddsTo after before last.bucket one) → All (λ one. one.number ≢ number) (bucket_in after last.bucket) → IsIndexOf old before → IsIndexOf new after
   indexed-removed before after number last was updates adds out indexed =
       let k : R × ℕ = (last.result, last.bucket) in
+      let one : Numbered R = numbered last.result number in
       let here : kept_at old number ≡ Some k = ap (option_map with_bucket) was in
-      indexed-gone before after number k updates.others here updates.changed (adds k.0 ((indexed number k).1 here)) (out k.0) indexed
-
-  -- what holds of all that was found holds of what is found after some went
-  pub all-fewer : (P : R × ℕ → Type 0) (before after : List ((R × ℕ) × ℕ)) (gone : List ℕ) → AreFewer old new gone → AreUsed new → IsIndexOf old before → IsIndexOf new after → All (λ e. P e.0) before → All (λ e. P e.0) after
-  all-fewer P before after gone fewer used indexed indexed' all =
-      All-weaker (Contains after) (λ e. P e.0) (λ e c.
-      let now : kept_at new e.1 ≡ Some e.0 = (indexed' e.1 e.0).0 c in
-      let taken : IsSome (get new e.1) = is_taken (get new e.1) now in
-      let same : kept_at new e.1 ≡ kept_at old e.1 = fewer.kept e.1 (used e.1 taken) in
-      All-contains (λ e. P e.0) before e all ((indexed e.1 e.0).1 (sym same ∙ now))) after (All-contains_itself after)
-    where
-      is_taken : {k : R × ℕ} (o : Option (Used R)) → option_map with_bucket o ≡ Some k → IsSome o
-      is_taken None h = absurd (cc)
-      is_taken (Some u) h = refl
+      indexed-gone before after number k updates.others here updates.changed (adds one refl ((indexed last.bucket one).1 here)) out indexed
 
 -- ---- uses given up one after another
 

@@ -1,8 +1,9 @@
 -- Results with their numbers, in buckets, and in order in each bucket.
-use Rattle.std.specs.Prelude.{◌≡◌, ◌≢◌, ◌≤◌, ℕ, List, [], ◌∷◌, All, IfNone, IfSome, Vec, filter, map, length, nat_eq, take, drop}
+use Rattle.std.specs.Prelude.{◌≡◌, ◌↔◌, ◌⊎◌, ◌≤◌, ℕ, List, [], ◌∷◌, All, Contains, Vec, map, length, nat_eq, take, drop}
 use Rattle.std.specs.Global.{Global}
-use Rattle.std.specs.HashMap.{HashMap, IsUnique}
-use Rattle.std.specs.List.{flat_map}
+use Rattle.std.specs.HashMap.{HashMap}
+use Rattle.std.specs.Map.{lookup}
+use Rattle.std.specs.Option.{unwrap_or}
 use Rattle.std.specs.declared.cmp.Ordering.{Ordering}
 use Rattle.std.specs.declared.cmp.Ordering.TheVariants.{Less, Greater}
 use Rattle.idl_store.specs.declared.index.Gap.{Gap}
@@ -20,35 +21,42 @@ pub record IsGap {X : Type 0} (order : X → Ordering) (items : List X) (place :
   pub behind : All (λ y. order y ≡ Greater) (drop place items)
 
 module _ {R : Type 0} where
-  -- a result in the bucket of this number, with its own number
-  abbrev pub numbered : ℕ → Numbered R → (R × ℕ) × ℕ
-  numbered bucket one = ((one.result, bucket), one.number)
+  -- buckets as they stand in a map: each with its number, and its results in their order
+  abbrev pub buckets_of : {S : Type 0} → HashMap ℕ (Vec (Numbered R) Global) S
+      → List (ℕ × List (Numbered R))
+  buckets_of buckets =
+      map (λ (e : ℕ × Vec (Numbered R) Global). (e.0, e.1.items)) buckets.entries
 
-  -- those of a bucket
-  abbrev pub numbered_at : ℕ × Vec (Numbered R) Global → List ((R × ℕ) × ℕ)
-  numbered_at bucket = map (numbered bucket.0) bucket.1.items
+  -- the results of the bucket of a number; none where there is no such bucket
+  abbrev pub bucket_in : List (ℕ × List (Numbered R)) → ℕ → List (Numbered R)
+  bucket_in buckets bucket = unwrap_or (lookup (nat_eq bucket) buckets) []
 
-  -- those of all buckets, one bucket after another
-  abbrev pub numbered_in : List (ℕ × Vec (Numbered R) Global) → List ((R × ℕ) × ℕ)
-  numbered_in buckets = flat_map numbered_at buckets
+  -- a result with its number
+  abbrev pub numbered : R → ℕ → Numbered R
+  numbered result number = record { result = result; number = number }
 
   -- the order of results, whatever their numbers
   abbrev pub numbered_cmp : (R → R → Ordering) → Numbered R → Numbered R → Ordering
   numbered_cmp cmp one other = cmp one.result other.result
 
-  -- each bucket has a number of its own, and its results are in their order
-  pub record IsInOrder {S : Type 0} (cmp : R → R → Ordering)
-      (buckets : HashMap ℕ (Vec (Numbered R) Global) S) : Type 0 where
-    pub unique : IsUnique nat_eq buckets
-    pub sorted : All (λ e. AreInOrder (numbered_cmp cmp) e.1.items) buckets.entries
+  -- the results of each bucket are in their order
+  abbrev pub IsInOrder : (R → R → Ordering) → List (ℕ × List (Numbered R)) → Type 0
+  IsInOrder cmp buckets =
+      (bucket : ℕ) → AreInOrder (numbered_cmp cmp) (bucket_in buckets bucket)
 
-  -- those of a bucket among the results of all, in their order
-  abbrev pub those_of : ℕ → List ((R × ℕ) × ℕ) → List ((R × ℕ) × ℕ)
-  those_of bucket results = filter (λ e. nat_eq e.0.1 bucket) results
+  -- where a result of this order would go, between those of its bucket
+  abbrev pub IsGapAmong : (R → Ordering) → List (ℕ × List (Numbered R)) → Gap → Type 0
+  IsGapAmong order buckets gap =
+      IsGap (λ one. order one.result) (bucket_in buckets gap.bucket) gap.place
 
-  -- where a result of this order would go among others: between those of its bucket, or into a
-  -- bucket of its own where there are none
-  pub record IsGapAmong (order : R → Ordering) (results : List ((R × ℕ) × ℕ)) (gap : Gap) : Type 0
-    where
-      pub within : IfSome gap.place (IsGap (λ e. order e.0.0) (those_of gap.bucket results))
-      pub apart : IfNone gap.place (All (λ e. e.0.1 ≢ gap.bucket) results)
+  -- a number is that of one result among these
+  abbrev pub IsAlone : ℕ → List (Numbered R) → Type 0
+  IsAlone number results =
+      (one other : Numbered R) → Contains results one → Contains results other
+      → one.number ≡ number → other.number ≡ number → one.result ≡ other.result
+
+  -- the new buckets have what the old ones have, and in this one the item
+  pub record AddsTo (old new : List (ℕ × List (Numbered R))) (bucket : ℕ) (item : Numbered R)
+      : Type 0 where
+    pub has : (b : ℕ) (one : Numbered R) → Contains (bucket_in new b) one
+        ↔ (((b ≡ bucket) × (one ≡ item)) ⊎ Contains (bucket_in old b) one)

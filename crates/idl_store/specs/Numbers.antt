@@ -1,10 +1,12 @@
 -- The numbers under which results are kept, and how often each is used.
-use Rattle.std.specs.Prelude.{◌≡◌, ◌≢◌, ◌↔◌, ℕ, ◌+◌, ◌<◌, List, [], ◌∷◌, Option, None, Some, IsSome, All, Contains, Vec, if◌then◌else◌, map, filter_map, nat_eq}
+use Rattle.std.specs.Prelude.{◌≡◌, ◌≢◌, ◌↔◌, ℕ, ◌+◌, ◌<◌, List, [], ◌∷◌, Option, None, Some, IsSome, Contains, Vec, if◌then◌else◌, map, filter_map, nat_eq}
 use Rattle.std.specs.Global.{Global}
 use Rattle.std.specs.List.{flat_map}
 use Rattle.std.specs.Option.{option_map}
 use Rattle.slab.specs.Slab.{Slab, get}
+use Rattle.idl_store.specs.Index.{bucket_in}
 use Rattle.idl_store.specs.Stored.{Stored, results_in}
+use Rattle.idl_store.specs.declared.index.Numbered.{Numbered}
 use Rattle.idl_store.specs.declared.numbers.Draft.{Draft}
 use Rattle.idl_store.specs.declared.numbers.Used.{Used}
 
@@ -75,9 +77,10 @@ module _ {R : Type 0} where
   result_of used n = option_map (λ (r : R × ℕ). r.0) (kept_at used n)
 
   -- the index has each result that is kept, in its bucket, with its number, and no other
-  abbrev pub IsIndexOf : Slab (Used R) → List ((R × ℕ) × ℕ) → Type 0
+  abbrev pub IsIndexOf : Slab (Used R) → List (ℕ × List (Numbered R)) → Type 0
   IsIndexOf used index =
-      (n : ℕ) (kept : R × ℕ) → Contains index (kept, n) ↔ (kept_at used n ≡ Some kept)
+      (b : ℕ) (one : Numbered R)
+      → Contains (bucket_in index b) one ↔ (kept_at used one.number ≡ Some (one.result, b))
 
   -- it came about as it should, and is in its bucket
   pub record IsSoundAt (is_sound : R → Type 0) (bucket : R → ℕ) (kept : R × ℕ) : Type 0 where
@@ -87,9 +90,10 @@ module _ {R : Type 0} where
   module _ (is_sound : R → Type 0) (bucket : R → ℕ) where
     -- the results of the lists and drafts are kept, each once, are counted and found, and came
     -- about as they should
-    pub record IsStored (used : Slab (Used R)) (index : List ((R × ℕ) × ℕ)) (numbers : Stored ℕ)
-        : Type 0 where
+    pub record IsStored (used : Slab (Used R)) (index : List (ℕ × List (Numbered R)))
+        (numbers : Stored ℕ) : Type 0 where
       pub counted : (n : ℕ) → uses_of used n ≡ times n (results_in numbers)
       pub needed : AreUsed used
       pub indexed : IsIndexOf used index
-      pub sound : All (λ e. IsSoundAt is_sound bucket e.0) index
+      pub sound : (n : ℕ) (kept : R × ℕ) → kept_at used n ≡ Some kept
+          → IsSoundAt is_sound bucket kept

@@ -4,16 +4,16 @@
 //! by its number. Buckets stand in the library's hash map, of which a look-up waits once. Its hash is fixed, so buckets
 //! can be made that share a place in it: none of their results is compared, but a look-up passes them.
 
-ghost use Rattle.std.specs.Prelude.{◌≡◌, ◌≢◌, ◌↔◌, [], ℕ, All, Any, Contains, IfErr, IfOk, OnErr, OnOk, length, nat_eq, position};
-ghost use Rattle.std.specs.List.{HoldsAt};
-ghost use Rattle.std.specs.HashMap.{IsUnique};
-ghost use Rattle.std.specs.List.Sorted.{IsPermutation, IsSearchInRange};
+ghost use Rattle.std.specs.Prelude.{◌≡◌, ◌≢◌, [], ℕ, All, Any, Contains, IfErr, IfOk, OnErr, OnOk, length, nat_eq, position};
+ghost use Rattle.std.specs.List.{HoldsAt, list_any};
+ghost use Rattle.std.specs.HashMap.{get};
+ghost use Rattle.std.specs.List.Sorted.{IsSearchInRange};
 ghost use Rattle.std.specs.declared.cmp.Ordering.TheVariants.{Equal};
 ghost use Rattle.idl_store.specs.Buckets.{AddsOne, bucket_at};
 ghost use Rattle.idl_store.specs.declared.index.Numbered.{Numbered};
-ghost use Rattle.idl_store.specs.Index.{AreInOrder, IsGap, IsGapAmong, IsInOrder, numbered, numbered_cmp, numbered_in};
+ghost use Rattle.idl_store.specs.Index.{AddsTo, AreInOrder, IsAlone, IsGap, IsGapAmong, IsInOrder, bucket_in, buckets_of, numbered, numbered_cmp};
 
-use crate::ranked::{Probe, Ranked};
+use crate::ranked::{Probe, Ranked, Test};
 use std::alloc::{AllocError, Global};
 use std::collections::HashMap;
 use std::hash::{FoldHasher, Hash, Hasher};
@@ -25,19 +25,19 @@ const HALF: u64 = 1 << 32;
 /// A result, and its number.
 #[derive(Drop)]
 pub(crate) struct Numbered<R> {
-    pub(crate) result: R,
-    pub(crate) number: usize,
+    pub result: R,
+    pub number: usize,
 }
 
-/// Where a result would go: before the one at a place of a bucket, or behind its last one, or into a bucket that isn't there.
+/// Where a result would go: before the one at a place of a bucket, or behind its last one. A bucket that isn't there has none.
 #[derive(Clone, Copy)]
 pub(crate) struct Gap {
     pub(crate) bucket: u64,
-    pub(crate) place: Option<usize>,
+    pub(crate) place: usize,
 }
 
-/// Results with their numbers, in buckets, and those of one bucket in their order. To every contract it is the list of
-/// them, each with the number of its bucket.
+/// Results with their numbers, in buckets, and those of one bucket in their order. To every contract it is the buckets, each with
+/// its number; which results one of a number has is all that a contract tells.
 ///
 /// However many results a bucket has, a look-up compares few of them.
 pub(crate) struct Index<R: Ranked> {
@@ -46,13 +46,14 @@ pub(crate) struct Index<R: Ranked> {
 
 impl<R: Ranked> Model for Index<R> {
     ghost use Rattle.std.specs.Prelude.{ℕ, List};
-    ghost use Rattle.idl_store.specs.Index.{IsInOrder, numbered_in};
+    ghost use Rattle.idl_store.specs.Index.{IsInOrder, buckets_of};
+    ghost use Rattle.idl_store.specs.declared.index.Numbered.{Numbered};
 
-    ghost Value = { List ((R × ℕ) × ℕ) };
+    ghost Value = { List (ℕ × List (Numbered R)) };
 
-    ghost view = { λ index. numbered_in index.buckets.entries };
+    ghost view = { λ index. buckets_of index.buckets };
 
-    ghost invariant = { λ index. IsInOrder R.rank index.buckets };
+    ghost invariant = { λ index. IsInOrder R.rank (buckets_of index.buckets) };
 }
 
 impl<R: Ranked> Drop for Index<R> {
@@ -82,7 +83,7 @@ impl<R: Ranked> Index<R> {
         alloc: Global,
     ) -> Result<(), AllocError>
         requires { IsGapAmong (λ other. R.rank other kept) self.old gap }
-        ensures ok { OnOk result (AddsOne self.old self.new ((kept, gap.bucket), number)) }
+        ensures ok { OnOk result (AddsTo self.old self.new gap.bucket (numbered kept number)) }
         ensures err { OnErr result (self.new ≡ self.old) }
     {
         let item = Numbered {
@@ -94,27 +95,25 @@ impl<R: Ranked> Index<R> {
 
     // Takes the result of a number out of its bucket. It takes no memory.
     pub(crate) fn remove(&mut self, bucket: u64, number: usize)
-        requires { (e f : (R × ℕ) × ℕ) → Contains self.old e → Contains self.old f
-            → e.1 ≡ number → f.1 ≡ number → e ≡ f }
-        ensures one { (kept : R) → Contains self.old ((kept, bucket), number)
-            → AddsOne self.new self.old ((kept, bucket), number) }
-        ensures gone { (kept : R) → ¬ Contains self.new ((kept, bucket), number) }
+        requires { IsAlone number (bucket_in self.old bucket) }
+        ensures one { (item : Numbered R) → item.number ≡ number
+            → Contains (bucket_in self.old bucket) item → AddsTo self.new self.old bucket item }
+        ensures gone { All (λ one. one.number ≢ number) (bucket_in self.new bucket) }
     {
         remove_at(&mut self.buckets, bucket, number);
     }
 
     // Gives back memory, where the results take an eighth of it or less. They stay, in whatever order.
     pub(crate) fn shrink(&mut self)
-        ensures { (e : (R × ℕ) × ℕ) → Contains self.new e ↔ Contains self.old e }
+        ensures { (bucket : ℕ) → bucket_in self.new bucket ≡ bucket_in self.old bucket }
     {
         shrink_map(&mut self.buckets);
     }
 
     // The results of a bucket. It takes no memory.
     pub(crate) fn bucket(&self, bucket: u64) -> &[Numbered<R>]
-        ensures among { All (λ one. Contains self.now (numbered bucket one)) result.now }
-        ensures all { (e : (R × ℕ) × ℕ) → Contains self.now e → e.0.1 ≡ bucket
-            → Any (λ one. numbered bucket one ≡ e) result.now }
+        ensures value { result.now ≡ bucket_in self.now bucket }
+        ensures order { AreInOrder (numbered_cmp R.rank) result.now }
     {
         match self.buckets.get(&bucket) {
             Some(results) => results.as_slice(),
@@ -125,32 +124,25 @@ impl<R: Ranked> Index<R> {
     // The number of a result of this bucket that a probe looks for, or the gap where one would go. It takes no memory.
     pub(crate) fn find<P: Probe<R>>(&self, bucket: u64, probe: &P) -> Result<usize, Gap>
         ensures found { IfOk result (λ number.
-            Any (λ e. (P.stand probe.now e.0.0 ≡ Equal) × (e.1 ≡ number)) self.now) }
-        ensures gap { (one : R) → All (λ e. P.stand probe.now e.0.0 ≡ R.rank e.0.0 one) self.now
+            Any (λ one. (P.stand probe.now one.result ≡ Equal) × (one.number ≡ number))
+            (bucket_in self.now bucket)) }
+        ensures gap { (kept : R)
+            → All (λ one. P.stand probe.now one.result ≡ R.rank one.result kept)
+            (bucket_in self.now bucket)
             → IfErr result (IsGapAmong (P.stand probe.now) self.now) }
         ensures bucket { IfErr result (λ gap. gap.bucket ≡ bucket) }
     {
-        let Some(results) = self.buckets.get(&bucket) else {
-            return Err(Gap {
-                bucket,
-                place: None,
-            });
-        };
+        let results = self.bucket(bucket);
         match place_by(results, probe) {
             Ok(place) => Ok(results[place].number),
-            Err(place) => Err(Gap {
-                bucket,
-                place: Some(place),
-            }),
+            Err(place) => Err(Gap { bucket, place }),
         }
     }
 }
 
 // Gives back memory, where the entries take an eighth of it or less. They stay, in whatever order.
 fn shrink_map<V: Drop>(map: &mut HashMap<u64, V>)
-    requires { IsUnique nat_eq map.old }
-    ensures same { IsPermutation map.old.entries map.new.entries }
-    ensures unique { IsUnique nat_eq map.new }
+    ensures { (key : ℕ) → get nat_eq map.new key ≡ get nat_eq map.old key }
 {
     if map.capacity() / 8 >= map.len() {
         map.shrink_to_fit();
@@ -166,20 +158,15 @@ fn insert_at<R: Ranked>(
     item: Numbered<R>,
     alloc: Global,
 ) -> Result<(), AllocError>
-    requires order { IsInOrder R.rank buckets.old }
-    requires gap { IsGapAmong (λ other. R.rank other item.result)
-        (numbered_in buckets.old.entries) gap }
-    ensures ok { OnOk result (AddsOne (numbered_in buckets.old.entries)
-        (numbered_in buckets.new.entries) (numbered gap.bucket item)) }
-    ensures err { OnErr result
-        (numbered_in buckets.new.entries ≡ numbered_in buckets.old.entries) }
-    ensures order { IsInOrder R.rank buckets.new }
+    requires order { IsInOrder R.rank (buckets_of buckets.old) }
+    requires gap { IsGapAmong (λ other. R.rank other item.result) (buckets_of buckets.old) gap }
+    ensures ok { OnOk result
+        (AddsTo (buckets_of buckets.old) (buckets_of buckets.new) gap.bucket item) }
+    ensures err { OnErr result (buckets_of buckets.new ≡ buckets_of buckets.old) }
+    ensures order { IsInOrder R.rank (buckets_of buckets.new) }
 {
-    let Some(place) = gap.place else {
-        return insert_alone(buckets, gap.bucket, item, alloc);
-    };
     if let Some(results) = buckets.get_mut(&gap.bucket) {
-        return insert_in(results, place, item);
+        return insert_in(results, gap.place, item);
     }
     insert_alone(buckets, gap.bucket, item, alloc)
 }
@@ -191,13 +178,12 @@ fn insert_alone<R: Ranked>(
     item: Numbered<R>,
     alloc: Global,
 ) -> Result<(), AllocError>
-    requires order { IsInOrder R.rank buckets.old }
-    requires apart { All (λ e. e.0.1 ≢ bucket) (numbered_in buckets.old.entries) }
-    ensures ok { OnOk result (AddsOne (numbered_in buckets.old.entries)
-        (numbered_in buckets.new.entries) (numbered bucket item)) }
-    ensures err { OnErr result
-        (numbered_in buckets.new.entries ≡ numbered_in buckets.old.entries) }
-    ensures order { IsInOrder R.rank buckets.new }
+    requires order { IsInOrder R.rank (buckets_of buckets.old) }
+    requires apart { bucket_in (buckets_of buckets.old) bucket ≡ [] }
+    ensures ok { OnOk result
+        (AddsTo (buckets_of buckets.old) (buckets_of buckets.new) bucket item) }
+    ensures err { OnErr result (buckets_of buckets.new ≡ buckets_of buckets.old) }
+    ensures order { IsInOrder R.rank (buckets_of buckets.new) }
 {
     let mut results = Vec::with_capacity(alloc, 1)?;
     results.push(item)?;
@@ -224,15 +210,13 @@ fn insert_in<R: Ranked>(
 
 // Takes the item of a number out of a bucket, and a bucket that is left empty too.
 fn remove_at<R: Ranked>(buckets: &mut HashMap<u64, Vec<Numbered<R>>>, bucket: u64, number: usize)
-    requires order { IsInOrder R.rank buckets.old }
-    requires alone { (e f : (R × ℕ) × ℕ) → Contains (numbered_in buckets.old.entries) e
-        → Contains (numbered_in buckets.old.entries) f → e.1 ≡ number → f.1 ≡ number → e ≡ f }
-    ensures one { (kept : R) → Contains (numbered_in buckets.old.entries) ((kept, bucket), number)
-        → AddsOne (numbered_in buckets.new.entries) (numbered_in buckets.old.entries)
-        ((kept, bucket), number) }
-    ensures gone { (kept : R)
-        → ¬ Contains (numbered_in buckets.new.entries) ((kept, bucket), number) }
-    ensures order { IsInOrder R.rank buckets.new }
+    requires order { IsInOrder R.rank (buckets_of buckets.old) }
+    requires alone { IsAlone number (bucket_in (buckets_of buckets.old) bucket) }
+    ensures one { (item : Numbered R) → item.number ≡ number
+        → Contains (bucket_in (buckets_of buckets.old) bucket) item
+        → AddsTo (buckets_of buckets.new) (buckets_of buckets.old) bucket item }
+    ensures gone { All (λ one. one.number ≢ number) (bucket_in (buckets_of buckets.new) bucket) }
+    ensures order { IsInOrder R.rank (buckets_of buckets.new) }
 {
     let Some(results) = buckets.get_mut(&bucket) else {
         return;
@@ -246,9 +230,7 @@ fn remove_at<R: Ranked>(buckets: &mut HashMap<u64, Vec<Numbered<R>>>, bucket: u6
 // Takes out the item of a number, where there is one.
 fn remove_in<R: Ranked>(bucket: &mut Vec<Numbered<R>>, number: usize)
     requires order { AreInOrder (numbered_cmp R.rank) bucket.old.items }
-    requires alone { (one other : Numbered R)
-        → Contains bucket.old.items one → Contains bucket.old.items other
-        → one.number ≡ number → other.number ≡ number → one.result ≡ other.result }
+    requires alone { IsAlone number bucket.old.items }
     ensures one { (item : Numbered R) → item.number ≡ number → Contains bucket.old.items item
         → AddsOne bucket.new.items bucket.old.items item }
     ensures gone { All (λ one. one.number ≢ number) bucket.new.items }
@@ -264,6 +246,13 @@ fn place_of<R>(bucket: &[Numbered<R>], number: usize) -> Option<usize>
     ensures { result ≡ position (λ one. nat_eq one.number number) bucket.now }
 {
     bucket.iter().position(|one| one.number == number)
+}
+
+// Whether one of these passes a test.
+pub(crate) fn has_passing<R, Q: Test<R>>(results: &[Numbered<R>], test: &Q) -> bool
+    ensures { result ≡ list_any (λ one. Q.passes test.now one.result) results.now }
+{
+    results.iter().any(|one| test.passes(&one.result))
 }
 
 // Where the result stands that a probe looks for, or the gap where one would go.

@@ -17,5 +17,5 @@ mod uses;
 pub use laws::storing;
 pub use lists::Lists;
 pub use numbers::Spot;
-pub use ranked::Test;
-pub use store::Store;
+pub use ranked::{Held, Ranked, Test};
+pub use store::{Beside, Running, Store};

@@ -94,17 +94,52 @@ fn part<X>(items: &[X], place: usize, count: usize) -> &[X]
     &rest[..count.min(rest.len())]
 }
 
-// A spot at which a number stands: in the last draft that has it, or else in the last list.
+// A spot at which a number stands: in the list that the last draft is to be, near where that goes on, or else in the last draft that
+// has it, or in the last list. Most of what an edit finds stood just there, so no list is gone through for it.
 pub(crate) fn spot_of(lists: &[Vec<usize>], drafts: &[Draft], number: usize) -> Option<Spot>
     ensures found { IfSome result (λ spot.
         result_on (numbers_of lists.now drafts.now) spot ≡ Some number) }
     ensures none { result ≡ None
         → times number (results_in (numbers_of lists.now drafts.now)) ≡ 0 }
 {
+    if let Some(spot) = spot_near(lists, drafts, number) {
+        return Some(spot);
+    }
     if let Some(spot) = spot_among(lists, drafts, true, number) {
         return Some(spot);
     }
     spot_among(lists, drafts, false, number)
+}
+
+// A spot at which a number stands in the list that the last draft is to be, near where that goes on.
+fn spot_near(lists: &[Vec<usize>], drafts: &[Draft], number: usize) -> Option<Spot>
+    ensures { IfSome result (λ spot.
+        result_on (numbers_of lists.now drafts.now) spot ≡ Some number) }
+{
+    let draft = drafts.last()?;
+    let numbers = lists.get(draft.at)?;
+    let spot = Spot {
+        is_draft: false,
+        list: draft.at,
+        place: place_near(numbers, draft.numbers.len(), number)?,
+    };
+    let found = number_on(lists, drafts, spot)?;
+    if found == number { Some(spot) } else { None }
+}
+
+// The place of a number, at this place or not far from it, or nothing.
+fn place_near(numbers: &[usize], near: usize, number: usize) -> Option<usize> {
+    for far in 0..numbers.len() {
+        let behind = near.saturating_add(far);
+        if numbers.get(behind).copied() == Some(number) {
+            return Some(behind);
+        }
+        let before = near.saturating_sub(far);
+        if numbers.get(before).copied() == Some(number) {
+            return Some(before);
+        }
+    }
+    None
 }
 
 // A spot at which a number stands in the last draft that has it, or in the last list.

@@ -16,8 +16,8 @@ use std::cmp::Ordering;
 use std::marker::Model;
 use std::rc::Rc;
 
-/// What a shelf keeps: it belongs into a bucket, as by a hash, and has an order among others of its kind, by which it is found there.
-pub(crate) trait Ranked: Drop {
+/// What a store keeps: it belongs into a bucket, as by a hash, and has an order among others of its kind, by which it is found there.
+pub trait Ranked: Drop {
     /// How one stands to another.
     ghost rank: { Self → Self → Standing };
 
@@ -56,7 +56,7 @@ pub trait Test<R> {
 }
 
 /// A kept result of a kind of task, which is shared. To every contract it is the result itself.
-pub(crate) struct Held<B: Bank, T: Task<B>> {
+pub struct Held<B: Bank, T: Task<B>> {
     shared: Rc<Kept<B, T::Text, T::Out>>,
 }
 
@@ -83,8 +83,8 @@ impl<B: Bank, T: Task<B>> Held<B, T> {
         Held { shared }
     }
 
-    // The result as it is shared.
-    pub(crate) fn shared(&self) -> &Rc<Kept<B, T::Text, T::Out>>
+    /// The result as it is shared.
+    pub fn shared(&self) -> &Rc<Kept<B, T::Text, T::Out>>
         ensures { result.now.value ≡ self.now }
     {
         &self.shared

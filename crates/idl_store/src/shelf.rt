@@ -3,7 +3,7 @@
 //! A part of a list is taken whole or not at all: whether each use can be counted is asked of all its results before
 //! one is. A spot is searched for in the drafts, the last one first, and then in the lists.
 
-ghost use Rattle.std.specs.Prelude.{◌≡◌, ◌∷◌, [], All, Any, Contains, IfErr, IfNone, IfOk, IfSome, IsTrue, OnErr, OnOk, Some, length};
+ghost use Rattle.std.specs.Prelude.{◌≡◌, ◌∷◌, [], All, Any, Contains, IfErr, IfNone, IfOk, IfSome, IsFalse, IsTrue, OnErr, OnOk, Some, length};
 ghost use Rattle.std.specs.Option.{option_copied, option_to_list};
 ghost use Rattle.std.specs.declared.cmp.Ordering.TheVariants.{Equal};
 ghost use Rattle.idl_store.specs.Index.{IsGapAmong};
@@ -11,11 +11,11 @@ ghost use Rattle.idl_store.specs.Shelved.{IsSought};
 ghost use Rattle.idl_store.specs.Spots.{result_on, results_from};
 ghost use Rattle.idl_store.specs.Stored.{begun, committed, discarded, grown, last_draft, list_at, nothing_stored, removed, result_at, results_in};
 
-use crate::index::{Gap, Index, Numbered};
+use crate::index::{Gap, Index, has_passing};
 use crate::numbers::{
     Draft, Spot, Used, exchange, number_at, number_on, numbers_from, shrink_lists, spot_of,
 };
-use crate::ranked::{Probe, Ranked};
+use crate::ranked::{Probe, Ranked, Test};
 use crate::uses::{put, release, release_drafts, shrink_slab, use_again, use_all_again};
 use slab::Slab;
 use std::alloc::{AllocError, Global};
@@ -134,13 +134,15 @@ impl<R: Ranked> Shelf<R> {
         }
     }
 
-    // The results of a bucket. It takes no memory.
-    pub(crate) fn bucket(&self, bucket: u64) -> &[Numbered<R>]
-        ensures among { All (λ one. Contains (results_in self.now.stored) one.result) result.now }
-        ensures all { All (λ r. R.bucket r ≡ bucket → Any (λ one. one.result ≡ r) result.now)
+    // Whether a result of this bucket passes a test. It takes no memory.
+    pub(crate) fn has_passing<Q: Test<R>>(&self, bucket: u64, test: &Q) -> bool
+        ensures some { IsTrue result
+            → Any (λ one. IsTrue (Q.passes test.now one)) (results_in self.now.stored) }
+        ensures none { IsFalse result
+            → All (λ one. R.bucket one ≡ bucket → IsFalse (Q.passes test.now one))
             (results_in self.now.stored) }
     {
-        self.index.bucket(bucket)
+        has_passing(self.index.bucket(bucket), test)
     }
 
     // Begins a draft, without results, of a list: of one that is there, or else of a new last one.

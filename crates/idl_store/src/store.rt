@@ -14,9 +14,10 @@ ghost use Rattle.idl_store.specs.Obtained.{IsObtained};
 ghost use Rattle.idl_store.specs.Spots.{result_on, results_from};
 ghost use Rattle.idl_store.specs.Stored.{begun, committed, discarded, grown, last_draft, list_at, nothing_stored, removed, result_at, results_in};
 
-use crate::look_up::{has_beside, put_once, spot_of_alike, take_alike};
+use crate::index::bucket_of;
+use crate::look_up::take_alike;
 use crate::numbers::Spot;
-use crate::ranked::{Held, Test};
+use crate::ranked::{Held, Place, Ranked, Test};
 use crate::shelf::Shelf;
 use idl_memo::{Bank, Kept, LentBank, Log, Meter, PlainBank, Runnable, Runs, Task, keep};
 use std::alloc::{AllocError, Global};
@@ -26,63 +27,80 @@ use std::rc::Rc;
 // So many steps more than there are results are known to logs.
 const SPARE_STEPS: usize = 1024;
 
-/// Lists of kept results, one for each root, and the drafts of those that an edit makes.
-///
-/// To every contract it is these lists. A result is kept once, under a number, as long as a list or a draft has it, and a
-/// look-up finds it as long: so nothing that was run and is held is run again, and nothing else is held.
-pub struct Store<B: Bank, T: Task<B>>
-where
-    B::Answer: Ord,
-    T::Text: Ord,
-{
-    shelf: Shelf<Held<B, T>>,
-    // What a task asks while it runs.
+/// What stands beside the results of a store.
+pub trait Beside: Drop {
+    /// Gives back what is of no use beside so many results. It is refused no memory.
+    fn forget(&mut self, alloc: Global, results: usize);
+}
+
+/// What tasks of one bank need while they run.
+pub struct Running<B: Bank> {
+    // What a task asks.
     log: Log<B>,
     // What logs share.
     runs: Runs<B>,
 }
 
-impl<B: Bank, T: Task<B>> Model for Store<B, T>
-where
-    B::Answer: Ord,
-    T::Text: Ord,
-{
-    ghost use Rattle.std.specs.Prelude.{Option};
-    ghost use Rattle.idl_memo.specs.Kept.{Kept as Seen};
-    ghost use Rattle.idl_store.specs.Stored.{Stored};
-
-    ghost Value = { Stored (Seen B.Key (Option B.Answer) T.Text T.Out) };
-
-    ghost view = { λ store. store.shelf.stored };
-}
-
-impl<B: Bank, T: Task<B>> Drop for Store<B, T>
-where
-    B::Answer: Ord,
-    T::Text: Ord,
-{
+impl<B: Bank> Drop for Running<B> {
     fn drop(self) {
-        let Store {
-            shelf: _shelf,
+        let Running {
             log: _log,
             runs: _runs,
         } = self;
     }
 }
 
-impl<B: Bank, T: Task<B>> Store<B, T>
-where
-    B::Answer: Ord,
-    T::Text: Ord,
-{
+impl<B: Bank> Running<B> {
+    /// No task has run. It takes no memory.
+    pub fn new(alloc: Global) -> Running<B> {
+        Running {
+            log: Log::new(alloc),
+            runs: Runs::new(alloc),
+        }
+    }
+}
+
+impl<B: Bank> Beside for Running<B> {
+    fn forget(&mut self, alloc: Global, results: usize) {
+        self.runs.forget_beyond(results.saturating_mul(8));
+        self.log = Log::new(alloc);
+    }
+}
+
+/// Lists of kept results, one for each root, and the drafts of those that an edit makes.
+///
+/// To every contract it is these lists. A result is kept once, under a number, as long as a list or a draft has it, and a
+/// look-up finds it as long: so nothing that was run and is held is run again, and nothing else is held.
+pub struct Store<R: Ranked, W: Beside> {
+    shelf: Shelf<R>,
+    beside: W,
+}
+
+impl<R: Ranked, W: Beside> Model for Store<R, W> {
+    ghost use Rattle.idl_store.specs.Stored.{Stored};
+
+    ghost Value = { Stored R };
+
+    ghost view = { λ store. store.shelf.stored };
+}
+
+impl<R: Ranked, W: Beside> Drop for Store<R, W> {
+    fn drop(self) {
+        let Store {
+            shelf: _shelf,
+            beside: _beside,
+        } = self;
+    }
+}
+
+impl<R: Ranked, W: Beside> Store<R, W> {
     /// The store without lists. It takes no memory.
-    pub fn new(alloc: Global) -> Store<B, T>
+    pub fn new(alloc: Global, beside: W) -> Store<R, W>
         ensures { result ≡ nothing_stored }
     {
         Store {
             shelf: Shelf::new(alloc),
-            log: Log::new(alloc),
-            runs: Runs::new(alloc),
+            beside,
         }
     }
 
@@ -93,53 +111,11 @@ where
         self.shelf.results(list)
     }
 
-    /// The result at a place of a list, or nothing where there is none.
-    pub fn get(&self, list: usize, place: usize) -> Option<&Kept<B, T::Text, T::Out>>
-        ensures { option_copied result ≡ result_at self.now list place }
-    {
-        let spot = Spot {
-            is_draft: false,
-            list,
-            place,
-        };
-        match self.shelf.at(spot) {
-            Some(held) => Some(held.shared()),
-            None => None,
-        }
-    }
-
-    /// The result at a spot, or nothing where there is none.
-    pub fn at(&self, spot: Spot) -> Option<&Rc<Kept<B, T::Text, T::Out>>>
-        ensures { option_map (λ r. r.now.value) result ≡ result_on self.now spot }
-    {
-        match self.shelf.at(spot) {
-            Some(held) => Some(held.shared()),
-            None => None,
-        }
-    }
-
     /// Whether one result stands at both spots. It is kept once, so no texts or answers are compared.
     pub fn is_one(&self, spot: Spot, other: Spot) -> bool
         ensures { IsTrue result → result_on self.now spot ≡ result_on self.now other }
     {
         self.shelf.is_one(spot, other)
-    }
-
-    /// Whether a result passes a test that is found by this hint and a text that is hashed as this one. It takes no memory.
-    pub fn has_beside<Q: Test<Kept<B, T::Text, T::Out>>>(
-        &self,
-        text: &T::Text,
-        hint: u64,
-        test: &Q,
-    ) -> bool
-        ensures some { IsTrue result
-            → Any (λ kept. IsTrue (Q.passes test.now kept)) (results_in self.now) }
-        ensures none { IsFalse result → All (λ kept.
-            T.Text.hash_input kept.text ≡ T.Text.hash_input text.now
-            → T.hint_of kept.text (slice_get kept.log 0) ≡ hint
-            → IsFalse (Q.passes test.now kept)) (results_in self.now) }
-    {
-        has_beside(&self.shelf, text, hint, test)
     }
 
     /// Begins a draft, without results, of a list: of one that is there, or else of a new last one.
@@ -157,28 +133,6 @@ where
         ensures { result ≡ length (last_draft self.now) }
     {
         self.shelf.drafted()
-    }
-
-    /// The result at a place of a list, which goes into the last draft too. Nothing goes anywhere where there is no such result, or no
-    /// draft.
-    ///
-    /// Want of memory leaves the store as it was.
-    pub fn take_again(
-        &mut self,
-        list: usize,
-        place: usize,
-    ) -> Result<Option<Rc<Kept<B, T::Text, T::Out>>>, AllocError>
-        ensures found { IfOk result (λ found.
-            option_map (λ r. r.value) found ≡ result_at self.old list place) }
-        ensures ok { OnOk result
-            (self.new ≡ grown self.old (option_to_list (result_at self.old list place))) }
-        ensures err { OnErr result (self.new ≡ self.old) }
-    {
-        let found = self.shelf.take_again(list, place)?;
-        match found {
-            Some(held) => Ok(Some(held.into_shared())),
-            None => Ok(None),
-        }
     }
 
     /// So many results from a spot on, or as many as there are, go into the last draft too.
@@ -219,13 +173,82 @@ where
         ensures { self.new ≡ self.old }
     {
         self.shelf.give_back();
-        self.runs
-            .forget_beyond(self.shelf.count().saturating_mul(8));
-        self.log = Log::new(self.shelf.alloc());
+        let alloc = self.shelf.alloc();
+        self.beside.forget(alloc, self.shelf.count());
     }
 }
 
-impl<B: LentBank, T: Task<B>> Store<B, T>
+impl<B: Bank, T: Task<B>, W: Beside> Store<Held<B, T>, W>
+where
+    B::Answer: Ord,
+    T::Text: Ord,
+{
+    /// The result at a place of a list, or nothing where there is none.
+    pub fn get(&self, list: usize, place: usize) -> Option<&Kept<B, T::Text, T::Out>>
+        ensures { option_copied result ≡ result_at self.now list place }
+    {
+        let spot = Spot {
+            is_draft: false,
+            list,
+            place,
+        };
+        match self.shelf.at(spot) {
+            Some(held) => Some(held.shared()),
+            None => None,
+        }
+    }
+
+    /// The result at a spot, or nothing where there is none.
+    pub fn at(&self, spot: Spot) -> Option<&Rc<Kept<B, T::Text, T::Out>>>
+        ensures { option_map (λ r. r.now.value) result ≡ result_on self.now spot }
+    {
+        match self.shelf.at(spot) {
+            Some(held) => Some(held.shared()),
+            None => None,
+        }
+    }
+
+    /// Whether a result passes a test that is found by this hint and a text that is hashed as this one. It takes no memory.
+    pub fn has_beside<Q: Test<Held<B, T>>>(
+        &self,
+        text: &T::Text,
+        hint: u64,
+        test: &Q,
+    ) -> bool
+        ensures some { IsTrue result
+            → Any (λ kept. IsTrue (Q.passes test.now kept)) (results_in self.now) }
+        ensures none { IsFalse result → All (λ kept.
+            T.Text.hash_input kept.text ≡ T.Text.hash_input text.now
+            → T.hint_of kept.text (slice_get kept.log 0) ≡ hint
+            → IsFalse (Q.passes test.now kept)) (results_in self.now) }
+    {
+        self.shelf.has_passing(bucket_of(text, hint), test)
+    }
+
+    /// The result at a place of a list, which goes into the last draft too. Nothing goes anywhere where there is no such result, or no
+    /// draft.
+    ///
+    /// Want of memory leaves the store as it was.
+    pub fn take_again(
+        &mut self,
+        list: usize,
+        place: usize,
+    ) -> Result<Option<Rc<Kept<B, T::Text, T::Out>>>, AllocError>
+        ensures found { IfOk result (λ found.
+            option_map (λ r. r.value) found ≡ result_at self.old list place) }
+        ensures ok { OnOk result
+            (self.new ≡ grown self.old (option_to_list (result_at self.old list place))) }
+        ensures err { OnErr result (self.new ≡ self.old) }
+    {
+        let found = self.shelf.take_again(list, place)?;
+        match found {
+            Some(held) => Ok(Some(held.into_shared())),
+            None => Ok(None),
+        }
+    }
+}
+
+impl<B: LentBank, T: Task<B>, W: Beside> Store<Held<B, T>, W>
 where
     B::Answer: Ord,
     T::Text: Ord,
@@ -237,11 +260,12 @@ where
         ensures none { IfNone result
             (NoneAlikeAt (T.text_of task.now, B.at bank.now) (results_in self.now)) }
     {
-        spot_of_alike(&self.shelf, task, bank)
+        let bucket = bucket_of(task.text(), task.hint(bank));
+        self.shelf.spot(bucket, &Place { task, bank })
     }
 }
 
-impl<B: LentBank, T: Runnable<B>> Store<B, T>
+impl<B: LentBank, T: Runnable<B>> Store<Held<B, T>, Running<B>>
 where
     B::Answer: Ord,
     T::Text: Ord,
@@ -277,16 +301,23 @@ where
             Err(gap) => gap,
         };
         let alloc = self.shelf.alloc();
-        self.runs
-            .forget_beyond(self.shelf.count().saturating_add(SPARE_STEPS));
-        let kept = run_in(&mut self.log, &mut self.runs, task, bank, scratch, alloc)?;
+        let steps = self.shelf.count().saturating_add(SPARE_STEPS);
+        self.beside.runs.forget_beyond(steps);
+        let kept = run_in(
+            &mut self.beside.log,
+            &mut self.beside.runs,
+            task,
+            bank,
+            scratch,
+            alloc,
+        )?;
         meter.raise(T::KIND);
         let held = self.shelf.put(Held::<B, T>::of(kept), gap)?;
         Ok(held.into_shared())
     }
 }
 
-impl<B: PlainBank, T: Task<B>> Store<B, T>
+impl<B: PlainBank, T: Task<B>, W: Beside> Store<Held<B, T>, W>
 where
     B::Answer: Ord,
     T::Text: Ord,
@@ -301,7 +332,8 @@ where
         ensures ok { OnOk result (self.new ≡ grown self.old (kept.value ∷ [])) }
         ensures err { OnErr result (self.new ≡ self.old) }
     {
-        put_once(&mut self.shelf, Held::<B, T>::of(kept), hint)
+        let bucket = bucket_of(kept.text(), hint);
+        self.shelf.put_once(Held::<B, T>::of(kept), bucket)
     }
 }
 

@@ -2,8 +2,7 @@
 
 ghost use Rattle.std.specs.Prelude.{◌≡◌, ◌<◌, ◌≤◌, ◌+◌, ◌^◌, ◌∷◌, [], ℕ, All, IfOk, IsSome, IsTrue, OnErr, OnOk, Some, length, vec_len};
 ghost use Rattle.slab.specs.Slab.{get, SameValues};
-ghost use Rattle.idl_store.specs.Buckets.{AddsOne};
-ghost use Rattle.idl_store.specs.Index.{IsGapAmong};
+ghost use Rattle.idl_store.specs.Index.{AddsTo, IsGapAmong, numbered};
 ghost use Rattle.idl_store.specs.Numbers.{AreFewer, AreMore, AreUsed, IsIndexOf, IsPut, drafts_of, result_of, times, uses_of};
 ghost use Rattle.idl_store.specs.Stored.{results_of_drafts, with_results};
 
@@ -105,7 +104,7 @@ pub(crate) fn put<R: Ranked>(
     requires gap { IsGapAmong (λ other. R.rank other kept) index.old gap }
     ensures ok { OnOk result ((number : ℕ) × IsPut used.old used.new kept gap.bucket number
         × (drafts_of drafts.new.items ≡ with_results (drafts_of drafts.old.items) (number ∷ []))
-        × AddsOne index.old index.new ((kept, gap.bucket), number)) }
+        × AddsTo index.old index.new gap.bucket (numbered kept number)) }
     ensures err { OnErr result (((n : ℕ) → get used.new n ≡ get used.old n)
         × (drafts_of drafts.new.items ≡ drafts_of drafts.old.items)
         × (index.new ≡ index.old)) }

@@ -12,14 +12,14 @@ use idl_env::Env;
 use idl_kept::KeptTexts;
 use idl_memo::Kept;
 use idl_repo::{Entry, EntryTask};
-use idl_store::Store;
+use idl_store::{Held, Running, Store};
 use std::alloc::{AllocError, Global};
 
 /// What is kept of a name that has an id: its path, what its row asked with the answers, and its entry.
 pub type KeptEntry = Kept<Env, Path, Entry>;
 
 /// What is kept of the names of all roots that have an id: a list for each root, and those that an edit is making.
-pub type Entries = Store<Env, EntryTask>;
+pub type Entries = Store<Held<Env, EntryTask>, Running<Env>>;
 
 /// Where compilations take memory, and what they keep: of each root the results of its declarations and of its entries, a list
 /// each. What two roots have in common is kept once.
@@ -53,7 +53,7 @@ impl Keeper {
         Keeper {
             memory: Memory::new(alloc),
             texts: KeptTexts::new(alloc),
-            entries: Store::new(alloc),
+            entries: Store::new(alloc, Running::new(alloc)),
         }
     }
 

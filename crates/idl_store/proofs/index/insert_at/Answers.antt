@@ -1,49 +1,65 @@
 -- The item goes into its gap, or into a bucket of its own.
-use Rattle.std.proofs.Common.{◌≡◌, ◌≢◌, All, OnOk, subst, sym}
+use Rattle.std.proofs.Common.{◌≡◌, [], None, OnErr, OnOk, Some, ap, subst, sym}
+use Rattle.std.specs.Prelude.{is_some}
+use Rattle.std.proofs.lemmas.Result.{on_err_weaker, on_ok_weaker}
 use Rattle.idl_store.specs.Buckets.{AddsOne}
-use Rattle.idl_store.specs.Index.{numbered, numbered_cmp, numbered_in}
-use Rattle.idl_store.proofs.Bucketed.{adds-in_bucket, on_err-weaker, on_ok-weaker, same-in_bucket}
-use Rattle.idl_store.proofs.Finding.{apart-without, gap-within, order-set, order-within}
+use Rattle.idl_store.specs.Index.{AddsTo, AreInOrder, IsGap, IsInOrder, bucket_in, buckets_of, numbered_cmp}
+use Rattle.idl_store.proofs.Bucketed.{adds-written, bucket-found, bucket-kept, order-written, written}
 use Rattle.idl_store.proofs.index.insert_at.Goals as goal
 
 pub insert_in-requires-clause-order : goal.insert_in-requires-clause-order
 insert_in-requires-clause-order g c =
-    order-within c.args.buckets.now c.args.gap.bucket c.in-Some-get_mut.results.now (sym c.in-Some-get_mut.ensures.value) (numbered_cmp g.R.Ranked.rank) c.requires.order.sorted
+    let found = bucket-found c.args.buckets.now c.args.gap.bucket (Some c.in-Some.results.now) (sym c.in-Some.ensures.value) in
+    subst (AreInOrder (numbered_cmp g.R.Ranked.rank)) found (c.requires.order c.args.gap.bucket)
 
 pub insert_in-requires-clause-gap : goal.insert_in-requires-clause-gap
 insert_in-requires-clause-gap g c =
-    gap-within c.args.buckets.now c.args.gap.bucket c.in-Some-get_mut.results.now (sym c.in-Some-get_mut.ensures.value) c.requires.order.unique
-    (λ kept. g.R.Ranked.rank kept c.args.item.result) c.args.gap.place c.in-Some.place c.in-Some.is c.requires.gap.within
+    let found = bucket-found c.args.buckets.now c.args.gap.bucket (Some c.in-Some.results.now) (sym c.in-Some.ensures.value) in
+    subst (λ items. IsGap (λ one. g.R.Ranked.rank one.result c.args.item.result) items c.args.gap.place) found c.requires.gap
 
-pub returns-in-Some-get_mut-clause-ok : goal.returns-in-Some-get_mut-clause-ok
-returns-in-Some-get_mut-clause-ok g c =
-    let es = c.args.buckets.now.entries in
+pub returns-in-Some-clause-ok : goal.returns-in-Some-clause-ok
+returns-in-Some-clause-ok g c =
+    let m = c.args.buckets.now in
+    let d = c.args.gap.bucket in
     let w = c.insert_in.new.bucket in
-    on_ok-weaker c.insert_in.result
-    (λ adds. subst (λ new. AddsOne (numbered_in es) (numbered_in new) (numbered c.args.gap.bucket c.args.item)) (sym (c.get_mut.follows.holds w).0)
-    (adds-in_bucket numbered c.args.gap.bucket es c.in-Some-get_mut.results.now w c.args.item (sym c.in-Some-get_mut.ensures.value) adds))
+    let n = c.get_mut.follows.lender w in
+    let at = sym c.in-Some.ensures.value in
+    let found = bucket-found m d (Some c.in-Some.results.now) at in
+    let is = written m n d (Some w) ((c.get_mut.follows.holds w).3 (ap is_some at)) in
+    on_ok_weaker c.insert_in.result
+    (λ adds. adds-written (buckets_of m) (buckets_of n) d w.items is c.args.item (subst (λ old. AddsOne old w.items c.args.item) (sym found) adds))
     c.insert_in.ensures.ok
 
-pub returns-in-Some-get_mut-clause-err : goal.returns-in-Some-get_mut-clause-err
-returns-in-Some-get_mut-clause-err g c =
-    let es = c.args.buckets.now.entries in
+pub returns-in-Some-clause-err : goal.returns-in-Some-clause-err
+returns-in-Some-clause-err g c =
+    let m = c.args.buckets.now in
     let w = c.insert_in.new.bucket in
-    on_err-weaker c.insert_in.result
-    (λ same. subst (λ new. numbered_in new ≡ numbered_in es) (sym (c.get_mut.follows.holds w).0)
-    (same-in_bucket numbered c.args.gap.bucket es c.in-Some-get_mut.results.now w (sym c.in-Some-get_mut.ensures.value) same))
+    on_err_weaker c.insert_in.result
+    (λ same. bucket-kept m (c.get_mut.follows.lender w) c.args.gap.bucket c.in-Some.results.now w (sym c.in-Some.ensures.value) (c.get_mut.follows.holds w).0 same)
     c.insert_in.ensures.err
 
-pub returns-in-Some-get_mut-clause-order : goal.returns-in-Some-get_mut-clause-order
-returns-in-Some-get_mut-clause-order g c =
+pub returns-in-Some-clause-order : goal.returns-in-Some-clause-order
+returns-in-Some-clause-order g c =
+    let m = c.args.buckets.now in
+    let d = c.args.gap.bucket in
     let w = c.insert_in.new.bucket in
-    let held = c.get_mut.follows.holds w in
-    order-set c.args.buckets.now c.args.gap.bucket c.in-Some-get_mut.results.now (sym c.in-Some-get_mut.ensures.value) g.R.Ranked.rank (c.get_mut.follows.lender w) w held.0 held.4 c.insert_in.ensures.order c.requires.order
+    let n = c.get_mut.follows.lender w in
+    let is = written m n d (Some w) ((c.get_mut.follows.holds w).3 (ap is_some (sym c.in-Some.ensures.value))) in
+    order-written (buckets_of m) (buckets_of n) d w.items is g.R.Ranked.rank c.insert_in.ensures.order c.requires.order
 
-pub insert_alone-requires-2-clause-apart : goal.insert_alone-requires-2-clause-apart
-insert_alone-requires-2-clause-apart g c =
-    subst (λ m. All (λ e. e.0.1 ≢ c.args.gap.bucket) (numbered_in m.entries)) (sym c.get_mut.follows.holds-at-none)
-    (apart-without c.args.buckets.now c.requires.order.unique c.args.gap.bucket (sym c.in_default-get_mut.ensures.value))
+pub insert_alone-requires-clause-order : goal.insert_alone-requires-clause-order
+insert_alone-requires-clause-order g c =
+    subst (λ m. IsInOrder g.R.Ranked.rank (buckets_of m)) (sym c.get_mut.follows.holds-at-none) c.requires.order
+
+pub insert_alone-requires-clause-apart : goal.insert_alone-requires-clause-apart
+insert_alone-requires-clause-apart g c =
+    subst (λ m. bucket_in (buckets_of m) c.args.gap.bucket ≡ []) (sym c.get_mut.follows.holds-at-none)
+    (bucket-found c.args.buckets.now c.args.gap.bucket None (sym c.in_default.ensures.value))
 
 pub returns-clause-ok : goal.returns-clause-ok
 returns-clause-ok g c =
-    subst (λ m. OnOk c.insert_alone-2.result (AddsOne (numbered_in m.entries) (numbered_in c.insert_alone-2.new.buckets.entries) (numbered c.args.gap.bucket c.args.item))) c.get_mut.follows.holds-at-none c.insert_alone-2.ensures.ok
+    subst (λ m. OnOk c.insert_alone.result (AddsTo (buckets_of m) (buckets_of c.insert_alone.new.buckets) c.args.gap.bucket c.args.item)) c.get_mut.follows.holds-at-none c.insert_alone.ensures.ok
+
+pub returns-clause-err : goal.returns-clause-err
+returns-clause-err g c =
+    subst (λ m. OnErr c.insert_alone.result (buckets_of c.insert_alone.new.buckets ≡ buckets_of m)) c.get_mut.follows.holds-at-none c.insert_alone.ensures.err

@@ -1,7 +1,7 @@
 -- Room is made first; then the result goes into the index, and then into its place and the last draft.
 use Rattle.std.proofs.Common.{◌≡◌, ◌∷◌, ◌++◌, [], Some, ℕ, ap, refl, subst, sym, vec_len, ◌∙◌}
 use Rattle.slab.specs.Slab.{get}
-use Rattle.idl_store.specs.Buckets.{AddsOne}
+use Rattle.idl_store.specs.Index.{AddsTo, numbered}
 use Rattle.idl_store.proofs.Bucketed.{on_err}
 use Rattle.idl_store.proofs.Drafting.{drafts-more, drafts-same}
 use Rattle.idl_store.proofs.uses.put.Goals as goal
@@ -35,5 +35,5 @@ returns-clause-ok g c =
         others = λ n other. put.others n (λ h. other (h ∙ key)) ∙ same n;
       },
       drafts-more c.args.drafts.now.items (vec_len c.args.drafts.now) c.args.drafts.now.ok.0 c.in-Some.draft.now (c.in-Some.ensures.variant.0 refl) c.in-Some.ensures.value c.push_reserved.new.self (c.vacant_key-number.result ∷ []) items,
-      subst (λ k. AddsOne c.args.index.now c.insert.new.self ((k, c.args.gap.bucket), c.vacant_key-number.result)) c.in_ok-again.ensures c.in_ok-insert.ensures.ok,
+      subst (λ k. AddsTo c.args.index.now c.insert.new.self c.args.gap.bucket (numbered k c.vacant_key-number.result)) c.in_ok-again.ensures c.in_ok-insert.ensures.ok,
     )

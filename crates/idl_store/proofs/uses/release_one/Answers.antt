@@ -11,7 +11,7 @@ returns-then-uses-gt1-clause-indexed g c =
     (kept-written c.args.used.now c.args.number u (c.index.result.now.uses - 1) c.index_mut.ensures.value) c.requires.indexed
 
 pub remove-requires : goal.remove-requires
-remove-requires g c = indexed-alone c.args.used.now c.args.index.now c.args.number c.requires.indexed
+remove-requires g c = indexed-alone c.args.used.now c.args.index.now c.remove-last.result.bucket c.args.number c.requires.indexed
 
 pub returns-clause-indexed : goal.returns-clause-indexed
 returns-clause-indexed g c =

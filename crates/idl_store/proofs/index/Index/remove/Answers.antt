@@ -1,17 +1,14 @@
--- What holds of all results holds of those in the buckets.
-use Rattle.std.proofs.Common.{◌≡◌, ℕ, List, subst, sym}
+-- The buckets are those of the map.
+use Rattle.std.proofs.Common.{subst, sym}
 use Rattle.std.specs.Prelude.{Contains}
-use Rattle.idl_store.specs.Buckets.{AddsOne}
-use Rattle.idl_store.specs.Index.{numbered_in}
+use Rattle.idl_store.specs.Index.{AddsTo, IsAlone, bucket_in, buckets_of}
 use Rattle.idl_store.proofs.index.Index.remove.Goals as goal
 
 pub remove_at-requires-clause-alone : goal.remove_at-requires-clause-alone
 remove_at-requires-clause-alone g c =
-    subst (λ (index : List ((g.row.R.Denot × ℕ) × ℕ)).
-    (e f : (g.row.R.Denot × ℕ) × ℕ) → Contains index e → Contains index f → e.1 ≡ c.args.number → f.1 ≡ c.args.number → e ≡ f)
-    (sym c.self.view_is) c.requires
+    subst (λ index. IsAlone c.args.number (bucket_in index c.args.bucket)) (sym c.self.view_is) c.requires
 
 pub returns-clause-one : goal.returns-clause-one
-returns-clause-one g c = λ kept among.
-    subst (λ index. AddsOne (numbered_in c.remove_at.new.buckets.entries) index ((kept, c.args.bucket), c.args.number)) c.self.view_is
-    (c.remove_at.ensures.one kept (subst (λ index. Contains index ((kept, c.args.bucket), c.args.number)) (sym c.self.view_is) among))
+returns-clause-one g c = λ item is among.
+    subst (λ index. AddsTo (buckets_of c.remove_at.new.buckets) index c.args.bucket item) c.self.view_is
+    (c.remove_at.ensures.one item is (subst (λ index. Contains (bucket_in index c.args.bucket) item) (sym c.self.view_is) among))

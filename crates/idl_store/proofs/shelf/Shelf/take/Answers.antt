@@ -11,7 +11,7 @@ use Rattle.idl_store.proofs.shelf.Shelf.take.Goals as goal
 
 pub use_again-requires : goal.use_again-requires
 use_again-requires g c =
-    again-taken c.self.invariant.0 (λ one. g.P.Probe.stand c.args.probe.now one ≡ Equal) c.in-Ok.number c.in-Ok.ensures.found
+    again-taken c.self.invariant.0 (λ one. g.P.Probe.stand c.args.probe.now one ≡ Equal) c.args.bucket c.in-Ok.number c.in-Ok.ensures.found
 
 pub invariant_of-self-in-Ok : goal.invariant_of-self-in-Ok
 invariant_of-self-in-Ok g c = (
@@ -27,14 +27,14 @@ returns-in_ok-use_again-in-Ok-clause-found g c =
     let one = c.in_ok-use_again-in-Ok.field-0 in
     let before = c.args.self.now.stored in
     let view = ap (λ s. s.stored) c.self.view_is in
-    let is = again-found stored (λ one. g.P.Probe.stand c.args.probe.now one ≡ Equal) number c.in-Ok.ensures.found one again.kept before view in
+    let is = again-found stored (λ one. g.P.Probe.stand c.args.probe.now one ≡ Equal) c.args.bucket number c.in-Ok.ensures.found one again.kept before view in
     (is.0, is.1, is.2, again-grown stored number one again.kept c.use_again.new.used (drafts_of c.use_again.new.drafts.items) before view again.drafts again.uses)
 
 pub returns-in-Err-clause-none : goal.returns-in-Err-clause-none
 returns-in-Err-clause-none g c = λ one sought.
     let stand = g.P.Probe.stand c.args.probe.now in
     let stored = c.self.invariant.0 in
-    let gap = c.in-Err.ensures.gap one (all-stand stored stand (λ other. g.R.Ranked.rank other one) sought) in
+    let gap = c.in-Err.ensures.gap one (all-stand stored stand (λ other. g.R.Ranked.rank other one) sought c.args.bucket) in
     none-there stored stand c.in-Err.gap c.args.bucket c.in-Err.ensures.bucket gap c.args.self.now.stored (ap (λ s. s.stored) c.self.view_is)
 
 pub returns-in-Err-clause-gap : goal.returns-in-Err-clause-gap
@@ -42,5 +42,5 @@ returns-in-Err-clause-gap g c = λ one sought.
     let stand = g.P.Probe.stand c.args.probe.now in
     let order : g.row.R.Denot → Ordering = λ other. g.R.Ranked.rank other one in
     let stored = c.self.invariant.0 in
-    let gap = c.in-Err.ensures.gap one (all-stand stored stand order sought) in
+    let gap = c.in-Err.ensures.gap one (all-stand stored stand order sought c.args.bucket) in
     subst (λ (s : Shelved g.row.R.Denot). IsGapAmong order s.index c.in-Err.gap) c.self.view_is (gap-stands stored stand order sought c.in-Err.gap gap)

@@ -9,26 +9,30 @@ use Rattle.idl_store.specs.Index.{IsGapAmong}
 use Rattle.idl_store.specs.Order.{results_cmp}
 use Rattle.idl_store.specs.Stored.{grown, results_in}
 use Rattle.idl_store.proofs.Obtaining.{keys-same}
-use Rattle.idl_store.proofs.store.Store.obtain.Goals as goal
+use Rattle.idl_store.proofs.store.Store+Held+B+T+Running+B.obtain.Goals as goal
 
 pub returns-in-Ok-clause-result : goal.returns-in-Ok-clause-result
-returns-in-Ok-clause-result g c = c.into_shared-shared.ensures ∙ IfOk-at_ok _ c.in-Ok.is c.in_ok-found.ensures.result
+returns-in-Ok-clause-result g c = c.into_shared-shared.ensures ∙ (IfOk-at_ok _ c.in-Ok.is c.in_ok-found.ensures.found).0
 
 pub returns-in-Ok-clause-ok : goal.returns-in-Ok-clause-ok
 returns-in-Ok-clause-ok g c =
     let text = g.T.Task.text_of c.args.task.now in
     let bank = g.B.Bank.at c.args.bank.now in
     let here = result_over g.B.Key.PartialEq.eq g.T.Task.query (text, bank) in
-    IfOk-at_ok _ c.in-Ok.is c.in_ok-found.ensures.ok ∙ ap (λ s. grown s (here ∷ [])) c.self.view_is
+    (IfOk-at_ok _ c.in-Ok.is c.in_ok-found.ensures.found).2 ∙ ap (λ s. grown s (here ∷ [])) c.self.view_is
 
 pub returns-in-Ok-clause-meter : goal.returns-in-Ok-clause-meter
 returns-in-Ok-clause-meter g c =
     let text = g.T.Task.text_of c.args.task.now in
     let bank = g.B.Bank.at c.args.bank.now in
-    let some = subst (λ s. SomeAlikeAt (text, bank) (results_in s)) c.self.view_is (IfOk-at_ok _ c.in-Ok.is c.in_ok-found.ensures.some) in
-    let found = c.deref.ensures ∙ c.into_shared-shared.ensures ∙ IfOk-at_ok _ c.in-Ok.is c.in_ok-found.ensures.result in
-    let keys = c.len.ensures ∙ ap (λ l. length l) c.log.ensures ∙ keys-same _ _ found in
-    inl (some, c.compare.ensures ∙ ap (λ n. record c.args.meter.now { compared = compared_after c.args.meter.now.compared n }) keys)
+    let is = IfOk-at_ok _ c.in-Ok.is c.in_ok-found.ensures.found in
+    let found = c.deref.ensures ∙ c.into_shared-shared.ensures ∙ is.0 in
+    let keys = c.len.ensures ∙ ap (λ l. length l) c.log.ensures ∙ keys-same _ _ found in (
+      inl (
+        subst (λ s. SomeAlikeAt (text, bank) (results_in s)) c.self.view_is is.1,
+        c.compare.ensures ∙ ap (λ n. record c.args.meter.now { compared = compared_after c.args.meter.now.compared n }) keys,
+      )
+    )
 
 pub put-requires-clause-sound : goal.put-requires-clause-sound
 put-requires-clause-sound g c =
@@ -38,13 +42,13 @@ put-requires-clause-sound g c =
 pub put-requires-clause-bucket : goal.put-requires-clause-bucket
 put-requires-clause-bucket g c =
     let is = c.of.ensures ∙ c.in_ok-kept.ensures in
-    IfErr-at_err _ c.in-Err.is c.in_ok-found.ensures.bucket ∙ ap (bucket_of g.T.Text.Hash.hash_input g.T.Task.hint_of) (sym is)
+    (IfErr-at_err _ c.in-Err.is c.in_ok-found.ensures.missed).2 ∙ ap (bucket_of g.T.Text.Hash.hash_input g.T.Task.hint_of) (sym is)
 
 pub put-requires-clause-gap : goal.put-requires-clause-gap
 put-requires-clause-gap g c =
     let is = c.of.ensures ∙ c.in_ok-kept.ensures in
     let order = results_cmp g.T.Text.Ord.cmp (option_cmp g.B.Answer.Ord.cmp) in
-    subst (λ k. IsGapAmong (λ other. order other k) c.take_alike.new.shelf.index c.in-Err.gap) (sym is) (IfErr-at_err _ c.in-Err.is c.in_ok-found.ensures.gap)
+    subst (λ k. IsGapAmong (λ other. order other k) c.take_alike.new.shelf.index c.in-Err.gap) (sym is) (IfErr-at_err _ c.in-Err.is c.in_ok-found.ensures.missed).1
 
 pub returns-clause-ok : goal.returns-clause-ok
 returns-clause-ok g c =
@@ -56,7 +60,7 @@ pub returns-clause-meter : goal.returns-clause-meter
 returns-clause-meter g c =
     let text = g.T.Task.text_of c.args.task.now in
     let bank = g.B.Bank.at c.args.bank.now in
-    let none = IfErr-at_err _ c.in-Err.is c.in_ok-found.ensures.none in
+    let none = (IfErr-at_err _ c.in-Err.is c.in_ok-found.ensures.missed).0 in
     inr (subst (λ s. NoneAlikeAt (text, bank) (results_in s)) c.self.view_is none, c.raise.ensures ∙ ap (λ kind. raised kind c.args.meter.now) c.KIND.ensures)
 
 pub returns-clause-result : goal.returns-clause-result

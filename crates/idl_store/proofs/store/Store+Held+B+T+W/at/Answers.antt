@@ -1,7 +1,7 @@
 -- What stands there is what the shelf has there.
 use Rattle.std.proofs.Common.{◌∙◌, Some, ap}
 use Rattle.idl_store.specs.Spots.{result_on}
-use Rattle.idl_store.proofs.store.Store.at.Goals as goal
+use Rattle.idl_store.proofs.store.Store+Held+B+T+W.at.Goals as goal
 
 pub returns-in-Some : goal.returns-in-Some
 returns-in-Some g c = ap Some c.shared.ensures ∙ c.in-Some.ensures ∙ ap (λ s. result_on s c.args.spot) c.self.view_is

@@ -5,33 +5,31 @@ use Rattle.std.proofs.lemmas.List.Folds.{Any-from_list_any, list_any-from_Any}
 use Rattle.std.specs.List.{list_any}
 use Rattle.std.specs.Prelude.{All, Any, Contains}
 use Rattle.slab.specs.Slab.{Slab}
-use Rattle.idl_store.specs.Index.{numbered}
-use Rattle.idl_store.specs.Numbers.{IsSoundAt, IsStored, result_of, shown}
+use Rattle.idl_store.specs.Index.{bucket_in}
+use Rattle.idl_store.specs.Numbers.{IsStored, result_of, shown}
 use Rattle.idl_store.specs.Stored.{Stored, results_in}
 use Rattle.idl_store.specs.declared.index.Numbered.{Numbered}
 use Rattle.idl_store.specs.declared.numbers.Used.{Used}
-use Rattle.idl_store.proofs.Changing.{all-in, found-in}
+use Rattle.idl_store.proofs.Changing.{all-in, found-in, found-sound}
 
-module _ {R : Type 0} {is_sound : R → Type 0} {bucket : R → ℕ} {used : Slab (Used R)} {index : List ((R × ℕ) × ℕ)} {numbers : Stored ℕ} (stored : IsStored is_sound bucket used index numbers)
-    (b : ℕ) (results : List (Numbered R)) (s : Stored R) (view : shown (result_of used) numbers ≡ s) where
+module _ {R : Type 0} {is_sound : R → Type 0} {bucket : R → ℕ} {used : Slab (Used R)} {index : List (ℕ × List (Numbered R))} {numbers : Stored ℕ} (stored : IsStored is_sound bucket used index numbers)
+    (b : ℕ) (results : List (Numbered R)) (is : results ≡ bucket_in index b) (s : Stored R) (view : shown (result_of used) numbers ≡ s) where
   -- those of a bucket are among the results
-  pub those-kept : All (λ one. Contains index (numbered b one)) results → All (λ one. Contains (results_in s) one.result) results
-  those-kept among =
-      All-weaker (λ one. Contains index (numbered b one)) (λ one. Contains (results_in s) one.result)
-      (λ one c. subst (λ (s : Stored R). Contains (results_in s) one.result) view (found-in stored (numbered b one) c)) results among
+  pub those-kept : All (λ one. Contains (results_in s) one.result) results
+  those-kept =
+      All-weaker (Contains results) (λ one. Contains (results_in s) one.result)
+      (λ one c. subst (λ (s : Stored R). Contains (results_in s) one.result) view (found-in stored b one (subst (λ (items : List (Numbered R)). Contains items one) is c))) results (All-contains_itself results)
 
   -- and each result that belongs there is one of them
-  pub kept-there : ((e : (R × ℕ) × ℕ) → Contains index e → e.0.1 ≡ b → Any (λ one. numbered b one ≡ e) results) → All (λ r. bucket r ≡ b → Any (λ one. one.result ≡ r) results) (results_in s)
-  kept-there all =
+  pub kept-there : All (λ r. bucket r ≡ b → Any (λ one. one.result ≡ r) results) (results_in s)
+  kept-there =
       subst (λ (s : Stored R). All (λ r. bucket r ≡ b → Any (λ one. one.result ≡ r) results) (results_in s)) view
-      (all-in stored (λ r. bucket r ≡ b → Any (λ one. one.result ≡ r) results)
-      (All-weaker (Contains index) (λ e. bucket e.0.0 ≡ b → Any (λ one. one.result ≡ e.0.0) results) by index (All-contains_itself index)))
+      (all-in stored (λ r. bucket r ≡ b → Any (λ one. one.result ≡ r) results) by)
     where
-      by : (e : (R × ℕ) × ℕ) → Contains index e → bucket e.0.0 ≡ b → Any (λ one. one.result ≡ e.0.0) results
-      by e c here =
-          let placed = All-contains (λ e. IsSoundAt is_sound bucket e.0) index e stored.sound c in
-          let a = all e c (placed.at ∙ here) in
-          (a.0, a.1, a.2, a.3, ap (λ (e : (R × ℕ) × ℕ). e.0.0) a.4)
+      by : (d : ℕ) (one : Numbered R) → Contains (bucket_in index d) one → bucket one.result ≡ b → Any (λ other. other.result ≡ one.result) results
+      by d one c here =
+          let there : Contains results one = subst (λ (items : List (Numbered R)). Contains items one) (ap (bucket_in index) ((found-sound stored d one c).at ∙ here) ∙ sym is) c in
+          (there.0, one, there.1, there.2, refl)
 
 module _ {R : Type 0} (test : R → Bool) (results : List (Numbered R)) where
   -- where one of them passes a test, one that is kept does

@@ -1,7 +1,7 @@
 -- What stands there is what the shelf has there.
 use Rattle.std.proofs.Common.{◌∙◌, Some, ap}
 use Rattle.idl_store.specs.Stored.{result_at}
-use Rattle.idl_store.proofs.store.Store.get.Goals as goal
+use Rattle.idl_store.proofs.store.Store+Held+B+T+W.get.Goals as goal
 
 pub returns-in-Some : goal.returns-in-Some
 returns-in-Some g c = ap Some (c.deref.ensures ∙ c.shared.ensures) ∙ c.in-Some.ensures ∙ ap (λ s. result_at s c.args.list c.args.place) c.self.view_is
