@@ -17,8 +17,7 @@ use std::alloc::{AllocError, Global};
 use std::marker::Model;
 
 /// A part of a log that is lent.
-pub(crate) type LentPart<'a, B> =
-    Part<&'a <B as Bank>::Key, &'a <B as Bank>::Answer, &'a Run<B>>;
+pub(crate) type LentPart<'a, B> = Part<&'a <B as Bank>::Key, &'a <B as Bank>::Answer, &'a Run<B>>;
 
 /// The parts of a log that are still to come. To every contract it is the list of their entries, and how many parts they are.
 pub(crate) struct LentParts<'a, B: Bank> {
