@@ -91,9 +91,11 @@ module _ {R : Type 0} {is_sound : R → Type 0} {bucket : R → ℕ} {used : Sla
 
       by : (d : ℕ) (one : Numbered R) → Contains (bucket_in index d) one → is_sound one.result × (bucket one.result ≡ b → ¬ (stand one.result ≡ Equal))
       by d one c =
-          let placed = found-sound stored d one c in
-          (placed.sound, λ here. All-contains (λ one. ¬ (stand one.result ≡ Equal)) (bucket_in index gap.bucket) one bare
-          (subst (λ (d : ℕ). Contains (bucket_in index d) one) (placed.at ∙ here ∙ sym there) c))
+          let placed = found-sound stored d one c in (
+            placed.sound,
+            λ here. All-contains (λ one. ¬ (stand one.result ≡ Equal)) (bucket_in index gap.bucket) one bare
+                (subst (λ (d : ℕ). Contains (bucket_in index d) one) (placed.at ∙ here ∙ sym there) c),
+          )
 
   module _ (stand order : R → Ordering) (same : (other : R) → is_sound other → stand other ≡ order other) where
     -- all of a bucket stand to it as they do to what it is

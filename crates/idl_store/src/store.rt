@@ -209,12 +209,7 @@ where
     }
 
     /// Whether a result passes a test that is found by this hint and a text that is hashed as this one. It takes no memory.
-    pub fn has_beside<Q: Test<Held<B, T>>>(
-        &self,
-        text: &T::Text,
-        hint: u64,
-        test: &Q,
-    ) -> bool
+    pub fn has_beside<Q: Test<Held<B, T>>>(&self, text: &T::Text, hint: u64, test: &Q) -> bool
         ensures some { IsTrue result
             → Any (λ kept. IsTrue (Q.passes test.now kept)) (results_in self.now) }
         ensures none { IsFalse result → All (λ kept.

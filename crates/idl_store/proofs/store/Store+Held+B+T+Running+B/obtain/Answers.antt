@@ -27,11 +27,10 @@ returns-in-Ok-clause-meter g c =
     let bank = g.B.Bank.at c.args.bank.now in
     let is = IfOk-at_ok _ c.in-Ok.is c.in_ok-found.ensures.found in
     let found = c.deref.ensures ∙ c.into_shared-shared.ensures ∙ is.0 in
-    let keys = c.len.ensures ∙ ap (λ l. length l) c.log.ensures ∙ keys-same _ _ found in (
-      inl (
-        subst (λ s. SomeAlikeAt (text, bank) (results_in s)) c.self.view_is is.1,
-        c.compare.ensures ∙ ap (λ n. record c.args.meter.now { compared = compared_after c.args.meter.now.compared n }) keys,
-      )
+    let keys = c.len.ensures ∙ ap (λ l. length l) c.log.ensures ∙ keys-same _ _ found in
+    inl (
+      subst (λ s. SomeAlikeAt (text, bank) (results_in s)) c.self.view_is is.1,
+      c.compare.ensures ∙ ap (λ n. record c.args.meter.now { compared = compared_after c.args.meter.now.compared n }) keys,
     )
 
 pub put-requires-clause-sound : goal.put-requires-clause-sound
