@@ -6,11 +6,11 @@ use Rattle.idl_memo.proofs.RunLaws.{not-some, other-behind, other-front, some-ma
 use Rattle.idl_memo.proofs.run.Run.first_other.Goals as goal
 
 pub steps-init : goal.steps-init
-steps-init g c = ap (first_other g.B.Answer.PartialEq.eq (g.B.Bank.at c.args.bank.now)) c.lent-head.ensures
+steps-init g c = ap (first_other g.B.Answer.PartialEq.eq (g.B.Bank.at c.args.bank.now)) c.lent-steps.ensures
 
 pub returns-then-is_some : goal.returns-then-is_some
 returns-then-is_some g c =
-    let f = g.B.Step.Step.logged c.lent-head.result.0.now in
+    let f = g.B.Step.Step.logged c.lent-steps.result.0.now in
     let eq = g.B.Answer.PartialEq.eq in
     let bank = g.B.Bank.at c.args.bank.now in
     let here = f c.in-Some.step.now in
@@ -20,7 +20,7 @@ returns-then-is_some g c =
 
 pub steps-preserved : goal.steps-preserved
 steps-preserved g c =
-    let f = g.B.Step.Step.logged c.lent-head.result.0.now in
+    let f = g.B.Step.Step.logged c.lent-steps.result.0.now in
     let eq = g.B.Answer.PartialEq.eq in
     let bank = g.B.Bank.at c.args.bank.now in
     let here = f c.in-Some.step.now in
@@ -29,5 +29,5 @@ steps-preserved g c =
 
 pub returns : goal.returns
 returns g c =
-    let f = g.B.Step.Step.logged c.lent-head.result.0.now in
+    let f = g.B.Step.Step.logged c.lent-steps.result.0.now in
     sym (c.steps.invariant ∙ ap (λ steps. first_other g.B.Answer.PartialEq.eq (g.B.Bank.at c.args.bank.now) (flat_map f steps)) (c.in_default.ensures.none refl))
