@@ -2,7 +2,8 @@
 //! step of such a walk asks.
 //!
 //! Of a step outward the path alone counts, for which it is made. Logs that ask outward from one scope share the steps, so they
-//! take no more memory the more scopes are around.
+//! take no more memory the more scopes are around, up to 64. Paths are compared name by name, so this takes time: for each log
+//! half the square of how many scopes there are.
 
 ghost use Rattle.std.specs.Prelude.{◌≡◌, ◌||◌, ◌++◌, ◌∷◌, [], IfSome, IsTrue, None, OnOk, Some};
 ghost use Rattle.std.specs.Option.{option_copied};
@@ -26,6 +27,9 @@ use std::alloc::{AllocError, Global};
 
 // Fewer steps outward than these aren't put in front of known ones: the first is mostly that of a name in which nothing stands.
 const FEW: usize = 4;
+
+// Steps go outward from scopes whose paths have no more names: each path that is compared is gone over to its end.
+const MOST_NAMES: usize = 64;
 
 /// What the steps of one walk ask.
 #[derive(Drop)]
@@ -143,11 +147,23 @@ fn first_answer<'a>(
     }
 }
 
-// The scope for whose typeprefix an entry asks, if it does.
+// Whether a path has no more than so many names.
+fn is_short(path: &NamedPath) -> bool {
+    let mut names = path.lent();
+    for _name in 0..MOST_NAMES {
+        let Some((_first, further)) = names.split_first() else {
+            return true;
+        };
+        names = further;
+    }
+    names.is_empty()
+}
+
+// The scope for whose typeprefix an entry asks, if it does and steps may go outward from there.
 fn scope_asked<'a>(entry: Option<&'a (DigestedKey, Option<Answer>)>) -> Option<&'a NamedPath> {
     let (key, _answer) = entry?;
     match key.held() {
-        HeldKey::Typeprefix(scope) => Some(scope),
+        HeldKey::Typeprefix(scope) if is_short(scope) => Some(scope),
         _ => None,
     }
 }
