@@ -1,5 +1,5 @@
 -- Runs of steps, and logs by parts: what stands in front and what stands behind.
-use Rattle.std.proofs.Common.{◌≡◌, ℕ, zero, suc, ◌+◌, ◌-◌, ◌<◌, ◌≤◌, Bool, true, false, List, [], ◌∷◌, ◌++◌, Option, None, Some, append_assoc, append-nil, drop, flat_map, length, length-append, refl, sym, subst, ap, take, ◌∙◌, arith}
+use Rattle.std.proofs.Common.{◌≡◌, ℕ, zero, suc, ◌+◌, ◌-◌, ◌<◌, Bool, true, false, List, [], ◌∷◌, ◌++◌, Option, None, Some, append_assoc, append-nil, drop, flat_map, length, length-append, refl, sym, subst, ap, take, ◌∙◌, arith}
 use Rattle.std.specs.Prelude.{IfSome}
 use Rattle.std.proofs.Math.Seq.{drop-append_seam}
 use Rattle.std.proofs.lemmas.Grind.{flat_map-append}
@@ -7,27 +7,6 @@ use Rattle.std.specs.Option.{is_some, option_eq, option_map}
 use Rattle.idl_memo.specs.Runs.{first_other}
 
 module _ {S E : Type 0} (f : S → List E) where
-  -- before the first of so many steps all are left
-  pub all-left : (n : ℕ) (steps : List S) → flat_map f (take (n - 0) steps) ≡ flat_map f (take n steps)
-  all-left n steps = let same : n - 0 ≡ n = omega arith in ap (λ m. flat_map f (take m steps)) same
-
-  -- at a step, what it stands for and what those behind it do
-  pub one-left : (i n : ℕ) (s : S) (others : List S) → i < n → flat_map f (take (n - i) (s ∷ others)) ≡ f s ++ flat_map f (take (n - (i + 1)) others)
-  one-left i n s others below =
-      let left : n - i ≡ suc (n - (i + 1)) = omega (arith, below) in
-      ap (λ m. flat_map f (take m (s ∷ others))) left
-
-  -- behind the last nothing is left
-  pub none-left : (i n : ℕ) (steps : List S) → n ≤ i → flat_map f (take (n - i) steps) ≡ []
-  none-left i n steps past =
-      let left : n - i ≡ 0 = omega (arith, past) in
-      ap (λ m. flat_map f (take m steps)) left
-
-  -- nor where there is no step
-  pub no-steps : (n : ℕ) (steps : List S) → steps ≡ [] → flat_map f (take n steps) ≡ []
-  no-steps zero steps none = refl
-  no-steps (suc n) steps none = ap (λ l. flat_map f (take (suc n) l)) none
-
   -- one more in front of what is left
   pub more-entries : (entries : List E) (front : List S) (rest : List E) (s : S) (behind : List E) → entries ≡ flat_map f front ++ rest → rest ≡ f s ++ behind
       → entries ≡ flat_map f (front ++ s ∷ []) ++ behind
@@ -44,6 +23,21 @@ module _ {S E : Type 0} (f : S → List E) where
       let whole = begins.1 ∙ ap (λ b. f s ++ b) (sym dropped) in
       let long = ap length whole ∙ length-append (f s) (drop width rest) in
       (whole, omega (arith, long, wide))
+
+-- the first of so many, and those behind it
+pub first-taken : {S : Type 0} (n : ℕ) (steps : List S) (s : S) (others : List S) → steps ≡ s ∷ others → (n ≡ 0 → ⊥) → take n steps ≡ s ∷ take (n - 1) others
+first-taken zero steps s others is some = absurd (some refl)
+first-taken (suc n) steps s others is some =
+    let one : n ≡ suc n - 1 = omega arith in
+    ap (take (suc n)) is ∙ ap (λ m. s ∷ take m others) one
+
+-- none of so many, and none
+pub zero-taken : {S : Type 0} (n : ℕ) (steps : List S) → n ≡ 0 → take n steps ≡ []
+zero-taken n steps none = ap (λ m. take m steps) none
+
+pub none-taken : {S : Type 0} (n : ℕ) (steps : List S) → steps ≡ [] → take n steps ≡ []
+none-taken zero steps none = refl
+none-taken (suc n) steps none = ap (take (suc n)) none
 
 -- one step more of some
 pub next-taken : {S : Type 0} (n : ℕ) (steps : List S) (s : S) (others : List S) → drop n steps ≡ s ∷ others → (take (suc n) steps ≡ take n steps ++ s ∷ []) × (drop (suc n) steps ≡ others)
