@@ -16,7 +16,7 @@ use Rattle.idl_env.specs.answering.Walked.{entries_walked}
 use Rattle.idl_env.specs.declared.answering.answer.Answer.{Answer}
 use Rattle.idl_env.specs.declared.answering.steps.Walked.{Walked}
 use Rattle.idl_env.specs.declared.keys.key.Key.{Key}
-use Rattle.idl_env.specs.declared.keys.key.Key.TheVariants.{Declared, Typeprefix}
+use Rattle.idl_env.specs.declared.keys.key.Key.TheVariants.{Declared}
 use Rattle.idl_memo.specs.Query.{is_logged}
 use Rattle.idl_memo.specs.Runs.{BeginsWith, first_other, other_at}
 
@@ -28,10 +28,6 @@ declared_at key own name scope path is alike same =
 -- the key of an entity whose name and scope are those of a path
 pub entity_found : (key : Key) (named path : List (List ℕ)) → entity_key named ≡ key → (bytes_eq (folded (name_of path)) (folded (name_of named)) && path_eq (scope_of path) (scope_of named)) ≡ true → key ≡ entity_key path
 entity_found key named path is same = sym is ∙ sym (same_key (entity_key path) (entity_key named) same)
-
--- the key of the typeprefix of a scope that is compared with another path
-pub unprefixed_at : (key : Key) (scope path : List (List ℕ)) → Typeprefix scope ≡ key → path_eq path scope ≡ true → key ≡ Typeprefix path
-unprefixed_at key scope path is same = sym is ∙ ap Typeprefix (sym (same_path path scope same))
 
 -- whether one key of one is logged
 pub has_one : {V : Type 0} (one : Key) (v : V) (key : Key) → key_eq one key ≡ is_logged key_eq ((one, v) ∷ []) key

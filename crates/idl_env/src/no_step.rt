@@ -44,15 +44,10 @@ impl Step<DigestedKey, Answer, ()> for NoStep {
     }
 
     fn first(
-        _alloc: Global,
         _head: &(),
         _entries: &[(DigestedKey, Option<Answer>)],
     ) -> Result<Option<NoStep>, AllocError> {
         Ok(None)
-    }
-
-    fn fewest(_head: &()) -> usize {
-        0
     }
 
     fn is_first(&self, _head: &(), _entries: &[(DigestedKey, Option<Answer>)]) -> bool {

@@ -43,15 +43,10 @@ impl Step<RootKey, RootAnswer, ()> for Stepless {
     }
 
     fn first(
-        _alloc: Global,
         _head: &(),
         _entries: &[(RootKey, Option<RootAnswer>)],
     ) -> Result<Option<Stepless>, AllocError> {
         Ok(None)
-    }
-
-    fn fewest(_head: &()) -> usize {
-        0
     }
 
     fn is_first(&self, _head: &(), _entries: &[(RootKey, Option<RootAnswer>)]) -> bool {

@@ -49,12 +49,6 @@ impl<'e, B: Bank> Drop for Front<'e, B> {
 }
 
 impl<'e, B: Bank> Front<'e, B> {
-    // Whether there are known ones, and in front of them some, but fewer than these.
-    fn is_scant(&self, fewest: usize) -> bool {
-        let own = self.first.len();
-        self.count > 0 && own > 0 && own < fewest
-    }
-
     // The first, and those that are known.
     fn into_steps(self) -> (Vec<B::Step>, Steps<B::Step>)
         ensures { result ≡ (self.entry.first, self.entry.known) }
@@ -137,9 +131,6 @@ impl<B: Bank> Runs<B> {
             return Ok(None);
         };
         let front = self.front(alloc, &head, entries)?;
-        if front.is_scant(B::Step::fewest(&head)) {
-            return Ok(None);
-        }
         let behind = front.behind;
         let count = front.first.len() + front.count;
         if count < LEAST || behind.len() >= entries.len() {
@@ -175,7 +166,7 @@ impl<B: Bank> Runs<B> {
                     behind,
                 });
             }
-            let Some(step) = B::Step::first(alloc, head, rest)? else {
+            let Some(step) = B::Step::first(head, rest)? else {
                 return Ok(alone(first, rest));
             };
             first.push(step)?;

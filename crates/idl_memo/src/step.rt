@@ -43,16 +43,9 @@ pub trait Step<K: Datum + Ord + Digest, A: Datum, H>: Datum {
     fn head(alloc: Global, entries: &[(K, Option<A>)]) -> Result<Option<H>, AllocError>;
 
     /// The step with which these entries begin, if it can be told.
-    fn first(
-        alloc: Global,
-        head: &H,
-        entries: &[(K, Option<A>)],
-    ) -> Result<Option<Self>, AllocError>
+    fn first(head: &H, entries: &[(K, Option<A>)]) -> Result<Option<Self>, AllocError>
         ensures { IfOk result (λ found. IfSome found (λ step.
             BeginsWith (logged head.now step) entries.now)) };
-
-    /// Fewer steps than these aren't put in front of those that are known: what they stand for stands by itself. It takes no memory.
-    fn fewest(head: &H) -> usize;
 
     /// Whether these entries begin with this step, where that is told at little cost.
     fn is_first(&self, head: &H, entries: &[(K, Option<A>)]) -> bool

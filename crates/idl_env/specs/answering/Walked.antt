@@ -1,12 +1,12 @@
--- What the steps of walks through bases, typedefs and scopes outward ask.
+-- What the steps of walks through bases and typedefs ask.
 use Rattle.std.specs.Prelude.{ℕ, List, [], ◌∷◌, Option, None, Some}
 use Rattle.idl_env.specs.Facts.{entity_key}
 use Rattle.idl_env.specs.declared.answering.answer.Answer.{Answer}
 use Rattle.idl_env.specs.declared.answering.answer.Answer.TheVariants.{Known}
 use Rattle.idl_env.specs.declared.answering.steps.Walked.{Walked}
-use Rattle.idl_env.specs.declared.answering.steps.Walked.TheVariants.{Behind, Entered, Named, Outward}
+use Rattle.idl_env.specs.declared.answering.steps.Walked.TheVariants.{Behind, Entered, Named}
 use Rattle.idl_env.specs.declared.keys.key.Key.{Key}
-use Rattle.idl_env.specs.declared.keys.key.Key.TheVariants.{Declared, Typeprefix}
+use Rattle.idl_env.specs.declared.keys.key.Key.TheVariants.{Declared}
 
 -- the path of the entity that is answered, and of what is no entity that of the global scope
 abbrev pub path_of : Answer → List (List ℕ)
@@ -19,4 +19,3 @@ entries_walked (Entered n) a =
     (Declared n (path_of a), None) ∷ (entity_key (path_of a), Some a) ∷ []
 entries_walked (Named n) a = (Declared n (path_of a), None) ∷ []
 entries_walked Behind a = (entity_key (path_of a), Some a) ∷ []
-entries_walked Outward a = (Typeprefix (path_of a), None) ∷ []

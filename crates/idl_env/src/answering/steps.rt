@@ -1,9 +1,4 @@
-//! What is asked from base to base, from typedef to typedef and from scope to scope outward: what stands in logs for what each
-//! step of such a walk asks.
-//!
-//! Of a step outward the path alone counts, for which it is made. Logs that ask outward from one scope share the steps, so they
-//! take no more memory the more scopes are around, up to 64. Paths are compared name by name, so this takes time: for each log
-//! half the square of how many scopes there are.
+//! What the walks through bases and typedefs ask, step by step: what stands in logs for what each step asks.
 
 ghost use Rattle.std.specs.Prelude.{◌≡◌, ◌||◌, ◌++◌, ◌∷◌, [], IfSome, IsTrue, None, OnOk, Some};
 ghost use Rattle.std.specs.Option.{option_copied};
@@ -12,24 +7,17 @@ ghost use Rattle.idl_env.specs.answering.Walked.{entries_walked, path_of};
 ghost use Rattle.idl_env.specs.keys.Key.{key_eq};
 ghost use Rattle.idl_env.specs.declared.answering.steps.Walked.TheVariants.{Entered};
 ghost use Rattle.idl_memo.specs.Runs.{BeginsWith};
-ghost use Rattle.idl_env.specs.declared.keys.key.Key.TheVariants.{Declared, Typeprefix};
+ghost use Rattle.idl_env.specs.declared.keys.key.Key.TheVariants.{Declared};
 
 use crate::answering::answer::Answer;
 use crate::keys::digested::DigestedKey;
 use crate::keys::held_key::HeldKey;
 use crate::keys::lent_key::LentKey;
 use idl_base::{Bytes, Datum, Shared};
-use idl_entity::paths::NamedPath;
-use idl_entity::{Entity, Kind, Nature, Path, Stage};
+use idl_entity::Path;
 use idl_map::{Digest, Lent};
 use idl_memo::{Digests, LentBank, Step, other_at};
 use std::alloc::{AllocError, Global};
-
-// Fewer steps outward than these aren't put in front of known ones: the first is mostly that of a name in which nothing stands.
-const FEW: usize = 4;
-
-// Steps go outward from scopes whose paths have no more names: each path that is compared is gone over to its end.
-const MOST_NAMES: usize = 64;
 
 /// What the steps of one walk ask.
 #[derive(Drop)]
@@ -40,8 +28,6 @@ pub enum Walked {
     Named(Shared<Bytes>),
     /// Each asks for the entity alone.
     Behind,
-    /// Each asks for the typeprefix of the scope, where it has none.
-    Outward,
 }
 
 // The path of the entity that is answered, and of what is no entity that of the global scope, which is lent.
@@ -81,20 +67,6 @@ fn is_of_entity(key: &DigestedKey, path: &Path) -> bool
 {
     match key.held() {
         HeldKey::Entity(named) => named.is_found_as(path),
-        _ => false,
-    }
-}
-
-// Whether an entry is that of the typeprefix of the scope at a path, where it has none.
-#[tactic(auto, using(crate::proofs::WalkedLemmas::unprefixed_at))]
-fn is_unprefixed(entry: Option<&(DigestedKey, Option<Answer>)>, path: &Path) -> bool
-    ensures { IsTrue result → option_copied entry.entry ≡ Some (Typeprefix path.now, None) }
-{
-    let Some((key, None)) = entry else {
-        return false;
-    };
-    match key.held() {
-        HeldKey::Typeprefix(scope) => scope.is_of(path),
         _ => false,
     }
 }
@@ -142,51 +114,9 @@ fn first_answer<'a>(
 {
     match head {
         Walked::Entered(name) => entered(entries, name),
-        Walked::Named(_) | Walked::Outward => None,
+        Walked::Named(_name) => None,
         Walked::Behind => entity_at(entries.first()),
     }
-}
-
-// Whether a path has no more than so many names.
-fn is_short(path: &NamedPath) -> bool {
-    let mut names = path.lent();
-    for _name in 0..MOST_NAMES {
-        let Some((_first, further)) = names.split_first() else {
-            return true;
-        };
-        names = further;
-    }
-    names.is_empty()
-}
-
-// The scope for whose typeprefix an entry asks, if it does and steps may go outward from there.
-fn scope_asked<'a>(entry: Option<&'a (DigestedKey, Option<Answer>)>) -> Option<&'a NamedPath> {
-    let (key, _answer) = entry?;
-    match key.held() {
-        HeldKey::Typeprefix(scope) if is_short(scope) => Some(scope),
-        _ => None,
-    }
-}
-
-// Whether an entry asks for the typeprefix of the scope around this one.
-fn is_around(scope: &NamedPath, entry: Option<&(DigestedKey, Option<Answer>)>) -> bool {
-    match scope_asked(entry) {
-        Some(around) => scope.around().are_those(&around.lent()),
-        None => false,
-    }
-}
-
-// The step of a walk outward at the path of a scope.
-fn step_at(alloc: Global, scope: &NamedPath) -> Result<Answer, AllocError> {
-    let nature = Nature {
-        kind: Kind::Module,
-        is_local: false,
-        is_readonly: false,
-        is_oneway: false,
-        stage: Stage::Complete,
-    };
-    let entity = Entity::listless(scope.lent().to_path()?, nature, None, None);
-    Ok(Answer::Known(Shared::new(alloc, entity)?))
 }
 
 // Whether an answer is the one that was found, where that is told at little cost.
@@ -242,13 +172,6 @@ fn is_entity(alloc: Global, path: &Path, key: &DigestedKey) -> bool
     LentKey::of_entity(alloc, path).is(key)
 }
 
-// Whether a key is that of the typeprefix of the scope at a path.
-fn is_typeprefix(alloc: Global, path: &Path, key: &DigestedKey) -> bool
-    ensures { result ≡ key_eq (Typeprefix path.now) key.now }
-{
-    LentKey::typeprefix(alloc, path.lent()).is(key)
-}
-
 // Puts what is asked for a name in the scope at a path, where it isn't declared, behind other entries.
 fn append_absent(
     alloc: Global,
@@ -279,20 +202,6 @@ fn append_found(
     Ok(())
 }
 
-// Puts what is asked for the typeprefix of the scope at a path, where it has none, behind other entries.
-fn append_unprefixed(
-    alloc: Global,
-    path: &Path,
-    entries: &mut Vec<(DigestedKey, Option<Answer>)>,
-) -> Result<(), AllocError>
-    ensures { OnOk result
-        (entries.new.items ≡ entries.old.items ++ (Typeprefix path.now, None) ∷ []) }
-{
-    let key = LentKey::typeprefix(alloc, path.lent()).owned()?;
-    entries.push((key, None))?;
-    Ok(())
-}
-
 // What the steps of a walk would ask that begins with these keys.
 fn head_of(
     key: &HeldKey,
@@ -301,11 +210,6 @@ fn head_of(
 ) -> Result<Option<Walked>, AllocError> {
     if let (HeldKey::Entity(_), Some(Answer::Known(_))) = (key, answer) {
         return Ok(Some(Walked::Behind));
-    }
-    if let (HeldKey::Typeprefix(scope), None) = (key, answer) {
-        if is_around(scope, next) {
-            return Ok(Some(Walked::Outward));
-        }
     }
     let (HeldKey::Declared(name, _), None, Some((next, _))) = (key, answer, next) else {
         return Ok(None);
@@ -325,7 +229,7 @@ impl Step<DigestedKey, Answer, Walked> for Answer {
     fn width(head: &Walked) -> usize {
         match head {
             Walked::Entered(_) => 2,
-            Walked::Named(_) | Walked::Behind | Walked::Outward => 1,
+            Walked::Named(_) | Walked::Behind => 1,
         }
     }
 
@@ -344,7 +248,6 @@ impl Step<DigestedKey, Answer, Walked> for Answer {
             }
             Walked::Named(name) => append_absent(alloc, name, path, entries),
             Walked::Behind => append_found(alloc, self, path, entries),
-            Walked::Outward => append_unprefixed(alloc, path, entries),
         }
     }
 
@@ -359,27 +262,12 @@ impl Step<DigestedKey, Answer, Walked> for Answer {
     }
 
     fn first(
-        alloc: Global,
         head: &Walked,
         entries: &[(DigestedKey, Option<Answer>)],
     ) -> Result<Option<Answer>, AllocError> {
-        if let Some(answer) = first_answer(head, entries) {
-            return Ok(Some(answer.clone()?));
-        }
-        let (Walked::Outward, Some(scope)) = (head, scope_asked(entries.first())) else {
-            return Ok(None);
-        };
-        let step = step_at(alloc, scope)?;
-        if step.is_first(head, entries) {
-            return Ok(Some(step));
-        }
-        Ok(None)
-    }
-
-    fn fewest(head: &Walked) -> usize {
-        match head {
-            Walked::Outward => FEW,
-            _ => 1,
+        match first_answer(head, entries) {
+            Some(answer) => Ok(Some(answer.clone()?)),
+            None => Ok(None),
         }
     }
 
@@ -389,10 +277,6 @@ impl Step<DigestedKey, Answer, Walked> for Answer {
             Walked::Named(name) => {
                 let global = Path::global();
                 is_absent(entries.first(), name, path_of(self, &global))
-            }
-            Walked::Outward => {
-                let global = Path::global();
-                is_unprefixed(entries.first(), path_of(self, &global))
             }
             _ => is_found(self, first_answer(head, entries)),
         }
@@ -410,9 +294,7 @@ impl Step<DigestedKey, Answer, Walked> for Answer {
     fn first_mark(_head: &Walked, entries: &[(DigestedKey, Option<Answer>)]) -> Option<u64> {
         let (key, _answer) = entries.first()?;
         match key.held() {
-            HeldKey::Entity(path) | HeldKey::Declared(_, path) | HeldKey::Typeprefix(path) => {
-                Some(path.lent().digest())
-            }
+            HeldKey::Entity(path) | HeldKey::Declared(_, path) => Some(path.lent().digest()),
             _ => None,
         }
     }
@@ -443,10 +325,6 @@ impl Step<DigestedKey, Answer, Walked> for Answer {
                 let found = bank.answer_at(&LentKey::of_entity(alloc, path));
                 other_at(Some(self), found)
             }
-            Walked::Outward => {
-                let given = bank.answer_at(&LentKey::typeprefix(alloc, path.lent()));
-                other_at(None, given)
-            }
         }
     }
 
@@ -457,7 +335,6 @@ impl Step<DigestedKey, Answer, Walked> for Answer {
             Walked::Entered(name) => is_either(alloc, name, path, key),
             Walked::Named(name) => is_under(alloc, name, path, key),
             Walked::Behind => is_entity(alloc, path, key),
-            Walked::Outward => is_typeprefix(alloc, path, key),
         }
     }
 
@@ -471,7 +348,6 @@ impl Step<DigestedKey, Answer, Walked> for Answer {
             }
             Walked::Named(name) => digests.has(LentKey::under(alloc, name, path).digest()),
             Walked::Behind => digests.has(LentKey::of_entity(alloc, path).digest()),
-            Walked::Outward => digests.has(LentKey::typeprefix(alloc, path.lent()).digest()),
         }
     }
 }

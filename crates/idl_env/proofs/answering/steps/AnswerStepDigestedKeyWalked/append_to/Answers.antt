@@ -3,7 +3,7 @@ use Rattle.std.proofs.Common.{◌∙◌, ◌++◌, ◌∷◌, [], None, Some, ap
 use Rattle.std.proofs.lemmas.Result.{IfOk-weaker}
 use Rattle.idl_env.specs.Facts.{entity_key}
 use Rattle.idl_env.specs.answering.Walked.{entries_walked}
-use Rattle.idl_env.specs.declared.keys.key.Key.TheVariants.{Declared, Typeprefix}
+use Rattle.idl_env.specs.declared.keys.key.Key.TheVariants.{Declared}
 use Rattle.idl_env.proofs.answering.steps.AnswerStepDigestedKeyWalked.append_to.Goals as goal
 
 pub returns-in-Entered : goal.returns-in-Entered
@@ -27,18 +27,10 @@ returns-in-Named c =
     ∙ ap (λ path. old ++ (Declared name path, None) ∷ []) c.path_of-path.ensures
     ∙ ap (λ head. old ++ entries_walked head step) (sym c.in-Named.is)) c.append_absent-in-Named.ensures
 
-pub returns-in-Behind : goal.returns-in-Behind
-returns-in-Behind c =
+pub returns : goal.returns
+returns c =
     let step = c.args.self.now in
     let old = c.args.entries.now.items in
     IfOk-weaker c.append_found-in-Behind.result _ _ (λ _ found. found
     ∙ ap (λ path. old ++ (entity_key path, Some step) ∷ []) c.path_of-path.ensures
     ∙ ap (λ head. old ++ entries_walked head step) (sym c.in-Behind.is)) c.append_found-in-Behind.ensures
-
-pub returns : goal.returns
-returns c =
-    let step = c.args.self.now in
-    let old = c.args.entries.now.items in
-    IfOk-weaker c.append_unprefixed.result _ _ (λ _ absent. absent
-    ∙ ap (λ path. old ++ (Typeprefix path, None) ∷ []) c.path_of-path.ensures
-    ∙ ap (λ head. old ++ entries_walked head step) (sym c.in-Outward.is)) c.append_unprefixed.ensures

@@ -5,7 +5,7 @@ use Rattle.idl_env.specs.Facts.{entity_key}
 use Rattle.idl_env.specs.answering.Walked.{entries_walked, path_of}
 use Rattle.idl_env.specs.keys.Key.{key_eq}
 use Rattle.idl_env.specs.declared.answering.answer.Answer.{Answer}
-use Rattle.idl_env.specs.declared.keys.key.Key.TheVariants.{Declared, Typeprefix}
+use Rattle.idl_env.specs.declared.keys.key.Key.TheVariants.{Declared}
 use Rattle.idl_env.proofs.WalkedLemmas.{has_one, has_two}
 use Rattle.idl_env.proofs.answering.steps.AnswerStepDigestedKeyWalked.has.Goals as goal
 
@@ -29,20 +29,11 @@ returns-in-Named c =
     ∙ has_one {V = Option Answer} (Declared name (path_of step)) None key
     ∙ ap (λ head. is_logged key_eq (entries_walked head step) key) (sym c.in-Named.is)
 
-pub returns-in-Behind : goal.returns-in-Behind
-returns-in-Behind c =
+pub returns : goal.returns
+returns c =
     let step = c.args.self.now in
     let key = c.args.key.now in
     c.is_entity.ensures
     ∙ ap (λ path. key_eq (entity_key path) key) c.path_of-path.ensures
     ∙ has_one {V = Option Answer} (entity_key (path_of step)) (Some step) key
     ∙ ap (λ head. is_logged key_eq (entries_walked head step) key) (sym c.in-Behind.is)
-
-pub returns : goal.returns
-returns c =
-    let step = c.args.self.now in
-    let key = c.args.key.now in
-    c.is_typeprefix.ensures
-    ∙ ap (λ path. key_eq (Typeprefix path) key) c.path_of-path.ensures
-    ∙ has_one {V = Option Answer} (Typeprefix (path_of step)) None key
-    ∙ ap (λ head. is_logged key_eq (entries_walked head step) key) (sym c.in-Outward.is)
