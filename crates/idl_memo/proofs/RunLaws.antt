@@ -1,10 +1,11 @@
 -- Runs of steps, and logs by parts: what stands in front and what stands behind.
-use Rattle.std.proofs.Common.{◌≡◌, ℕ, zero, suc, ◌+◌, ◌-◌, ◌<◌, Bool, true, false, List, [], ◌∷◌, ◌++◌, Option, None, Some, append_assoc, append-nil, drop, flat_map, length, length-append, refl, sym, subst, ap, take, ◌∙◌, arith}
+use Rattle.std.proofs.Common.{◌≡◌, ℕ, zero, suc, ◌+◌, ◌-◌, ◌<◌, ◌≤◌, Bool, true, false, List, [], ◌∷◌, ◌++◌, Option, None, Some, append_assoc, append-nil, drop, flat_map, length, length-append, refl, sym, subst, ap, take, ◌∙◌, arith}
 use Rattle.std.specs.Prelude.{IfSome}
-use Rattle.std.proofs.Math.Seq.{drop-append_seam}
+use Rattle.std.proofs.Math.Seq.{drop-append_seam, take-append_seam}
+use Rattle.std.proofs.lemmas.List.{length-take-le, take-append-drop}
 use Rattle.std.proofs.lemmas.Grind.{flat_map-append}
 use Rattle.std.specs.Option.{is_some, option_eq, option_map}
-use Rattle.idl_memo.specs.Runs.{first_other}
+use Rattle.idl_memo.specs.Runs.{StandAt, first_other}
 
 module _ {S E : Type 0} (f : S → List E) where
   -- one more in front of what is left
@@ -92,3 +93,31 @@ at-some o a P is h = subst (λ o. IfSome o P) is h
 pub above-zero : (n : ℕ) → (n ≡ 0 → ⊥) → 0 < n
 above-zero zero h = absurd (h refl)
 above-zero (suc n) h = omega arith
+
+module _ {E : Type 0} where
+  -- what stands among those stands among more
+  pub stand-more : (place : ℕ) (these those : List E) (e : E) → StandAt place these those → StandAt place these (those ++ e ∷ [])
+  stand-more place these those e s = record {
+    before = s.before;
+    behind = s.behind ++ e ∷ [];
+    whole = ap (λ l. l ++ e ∷ []) s.whole ∙ append_assoc s.before (these ++ s.behind) (e ∷ []) ∙ ap (λ l. s.before ++ l) (append_assoc these s.behind (e ∷ []));
+    place_is = s.place_is;
+  }
+
+  -- what is behind so many is the last
+  pub stand-last : (place : ℕ) (these those : List E) → place ≤ length those → drop place those ≡ these → StandAt place these those
+  stand-last place these those within is = record {
+    before = take place those;
+    behind = [];
+    whole = sym (take-append-drop place those) ∙ ap (λ l. take place those ++ l) (is ∙ sym (append-nil these));
+    place_is = length-take-le place those within;
+  }
+
+  -- those before it, and those behind it
+  pub stand-parts : (place : ℕ) (these those : List E) → (s : StandAt place these those) → (take place those ≡ s.before) × (drop (place + length these) those ≡ s.behind)
+  stand-parts place these those s =
+      let front = ap (take place) s.whole ∙ ap (λ n. take n (s.before ++ these ++ s.behind)) (sym s.place_is) ∙ take-append_seam s.before (these ++ s.behind) in
+      let all = s.whole ∙ sym (append_assoc s.before these s.behind) in
+      let long = length-append s.before these ∙ ap (λ n. n + length these) s.place_is in
+      let back = ap (drop (place + length these)) all ∙ ap (λ n. drop n ((s.before ++ these) ++ s.behind)) (sym long) ∙ drop-append_seam (s.before ++ these) s.behind in
+      (front, back)

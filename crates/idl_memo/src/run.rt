@@ -5,11 +5,12 @@
 //! ones (`Runs`) are compared step by step and trusted in nothing, so to contracts a log is the list of its entries. A
 //! log of 32 entries or fewer has no run.
 //!
-//! What takes much to compare isn't shared: an interface n deep has n operations, so its steps stand in a block,
+//! A run that is told (`Log::tell`) is made of one step by whoever asks all that it stands for, and compared with
+//! nothing. What takes much to compare isn't shared: an interface n deep has n operations, so its steps stand in a block,
 //! sixteen bytes each. Answers are compared by content, so an edit under a long chain reads what its logs share to the
 //! end.
 
-ghost use Rattle.std.specs.Prelude.{◌≡◌, ◌++◌, ◌∷◌, [], All, IfSome, IsFalse, List, None, OnOk, Option, flat_map, length, take};
+ghost use Rattle.std.specs.Prelude.{◌≡◌, ◌++◌, ◌∷◌, [], All, IfOk, IfSome, IsFalse, List, None, OnOk, Option, flat_map, length, take};
 ghost use Rattle.std.specs.Option.{option_copied, option_map};
 ghost use Rattle.idl_memo.specs.Query.{is_logged};
 ghost use Rattle.idl_memo.specs.Runs.{first_other};
@@ -17,7 +18,7 @@ ghost use Rattle.idl_memo.specs.Runs.{first_other};
 use crate::bank::{Bank, LentBank, PlainBank};
 use crate::step::{Digests, Step};
 use crate::steps::{Behind, Steps};
-use idl_map::Digest;
+use idl_map::{Digest, SharedList};
 use std::alloc::{AllocError, Global};
 use std::marker::Model;
 
@@ -109,6 +110,28 @@ impl<B: Bank> Run<B> {
             count,
             len,
         }
+    }
+
+    /// The run of this step alone, which stands for so many entries.
+    pub(crate) fn alone(
+        alloc: Global,
+        head: B::Head,
+        step: B::Step,
+        len: usize,
+    ) -> Result<Run<B>, AllocError>
+        requires { len ≡ length (B.Step.logged head step) }
+        ensures { IfOk result (λ run. run ≡ B.Step.logged head step) }
+    {
+        let mut steps = SharedList::new();
+        steps.push(alloc, step)?;
+        Ok(Run::new(head, Steps::listed(steps), 1, len))
+    }
+
+    /// How many entries it has.
+    pub(crate) fn len(&self) -> usize
+        ensures { result ≡ length self.now }
+    {
+        self.len
     }
 
     /// The first of its answers that isn't the bank's, with the bank's.
