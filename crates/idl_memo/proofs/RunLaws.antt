@@ -1,5 +1,5 @@
 -- Runs of steps, and logs by parts: what stands in front and what stands behind.
-use Rattle.std.proofs.Common.{◌≡◌, ℕ, zero, suc, ◌+◌, ◌-◌, ◌<◌, ◌≤◌, Bool, true, false, List, [], ◌∷◌, ◌++◌, Option, None, Some, append_assoc, append-nil, drop, flat_map, length, length-append, refl, sym, subst, ap, take, ◌∙◌, arith}
+use Rattle.std.proofs.Common.{◌≡◌, ℕ, zero, suc, ◌+◌, ◌-◌, ◌<◌, ◌≤◌, Bool, true, false, List, [], ◌∷◌, ◌++◌, Option, None, Some, append_assoc, append-nil, drop, flat_map, length, length-append, refl, sym, subst, ap, take, unwrap_or, ◌∙◌, arith}
 use Rattle.std.specs.Prelude.{IfSome}
 use Rattle.std.proofs.Math.Seq.{drop-append_seam, take-append_seam}
 use Rattle.std.proofs.lemmas.List.{length-take-le, take-append-drop}
@@ -89,6 +89,11 @@ not-some (Some a) h = let wrong : true ≡ false = h in absurd (cc)
 pub at-some : {A : Type 0} (o : Option A) (a : A) (P : A → Type 0) → o ≡ Some a → IfSome o P → P a
 at-some o a P is h = subst (λ o. IfSome o P) is h
 
+-- what is said of a number that is there holds of it, or else of 0
+pub wide : (o : Option ℕ) (n : ℕ) (P : ℕ → Type 0) → n ≡ unwrap_or o 0 → 0 < n → IfSome o P → P n
+wide None n P is some h = absurd (omega (arith, is, some))
+wide (Some m) n P is some h = subst P (sym is) h
+
 -- a number that isn't 0
 pub above-zero : (n : ℕ) → (n ≡ 0 → ⊥) → 0 < n
 above-zero zero h = absurd (h refl)
@@ -103,6 +108,10 @@ module _ {E : Type 0} where
     whole = ap (λ l. l ++ e ∷ []) s.whole ∙ append_assoc s.before (these ++ s.behind) (e ∷ []) ∙ ap (λ l. s.before ++ l) (append_assoc these s.behind (e ∷ []));
     place_is = s.place_is;
   }
+
+  pub told-more : (told : Option (ℕ × List E)) (those more : List E) (e : E) → more ≡ those ++ e ∷ [] → IfSome told (λ t. StandAt t.0 t.1 those) → IfSome told (λ t. StandAt t.0 t.1 more)
+  told-more None those more e is h = tt
+  told-more (Some t) those more e is h = subst (StandAt t.0 t.1) (sym is) (stand-more t.0 t.1 those e h)
 
   -- what is behind so many is the last
   pub stand-last : (place : ℕ) (these those : List E) → place ≤ length those → drop place those ≡ these → StandAt place these those

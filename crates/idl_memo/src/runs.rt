@@ -155,10 +155,8 @@ impl<B: Bank> Runs<B> {
         ensures count { IfOk result (λ front. length front.first.items + front.count
             + length front.behind.now ≤ length entries.now) }
     {
+        let width = B::Step::width(head).unwrap_or(0);
         let mut first = Vec::new(alloc);
-        let Some(width) = B::Step::width(head) else {
-            return Ok(alone(first, entries));
-        };
         let mut rest = entries;
         'steps: while width > 0 && rest.len() >= width {
             if let Some((known, count, behind)) = self.known_at(head, rest, first.is_empty())? {
@@ -304,9 +302,7 @@ fn agreed<'e, B: Bank>(
         ≡ flat_map (B.Step.logged head.now) (take result.0 steps.now) ++ result.1.now }
     ensures count { result.0 + length result.1.now ≤ length entries.now }
 {
-    let Some(width) = B::Step::width(head) else {
-        return (0, entries);
-    };
+    let width = B::Step::width(head).unwrap_or(0);
     let mut behind = steps.lent();
     let mut rest = entries;
     let mut count = 0;
