@@ -183,6 +183,21 @@ where
     B::Answer: Ord,
     T::Text: Ord,
 {
+    /// The result at a place of a list, or nothing where there is none.
+    pub fn get(&self, list: usize, place: usize) -> Option<&Kept<B, T::Text, T::Out>>
+        ensures { option_copied result ≡ result_at self.now list place }
+    {
+        let spot = Spot {
+            is_draft: false,
+            list,
+            place,
+        };
+        match self.shelf.at(spot) {
+            Some(held) => Some(held.shared()),
+            None => None,
+        }
+    }
+
     /// The result at a spot, or nothing where there is none.
     pub fn at(&self, spot: Spot) -> Option<&Rc<Kept<B, T::Text, T::Out>>>
         ensures { option_map (λ r. r.now.value) result ≡ result_on self.now spot }
