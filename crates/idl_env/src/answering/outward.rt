@@ -1,8 +1,9 @@
 //! What is asked for typeprefixes from a scope outward, where no scope has one.
 
-ghost use Rattle.std.specs.Prelude.{◌≡◌, ◌++◌, All, IsFalse, OnOk};
+ghost use Rattle.std.specs.Prelude.{◌≡◌, ◌++◌, All, IsFalse, OnOk, Option};
 ghost use Rattle.std.specs.Option.{option_copied, option_map};
 ghost use Rattle.idl_env.specs.answering.Walked.{entries_outward};
+ghost use Rattle.idl_env.specs.declared.answering.answer.Answer.{Answer};
 ghost use Rattle.idl_env.specs.keys.Key.{key_digest, key_eq};
 ghost use Rattle.idl_memo.specs.Query.{is_logged};
 ghost use Rattle.idl_memo.specs.Runs.{first_other};
