@@ -122,11 +122,23 @@ module _ {E : Type 0} where
     place_is = length-take-le place those within;
   }
 
-  -- those before it, and those behind it
-  pub stand-parts : (place : ℕ) (these those : List E) → (s : StandAt place these those) → (take place those ≡ s.before) × (drop (place + length these) those ≡ s.behind)
-  stand-parts place these those s =
-      let front = ap (take place) s.whole ∙ ap (λ n. take n (s.before ++ these ++ s.behind)) (sym s.place_is) ∙ take-append_seam s.before (these ++ s.behind) in
-      let all = s.whole ∙ sym (append_assoc s.before these s.behind) in
-      let long = length-append s.before these ∙ ap (λ n. n + length these) s.place_is in
-      let back = ap (drop (place + length these)) all ∙ ap (λ n. drop n ((s.before ++ these) ++ s.behind)) (sym long) ∙ drop-append_seam (s.before ++ these) s.behind in
-      (front, back)
+  module _ (place : ℕ) (these those : List E) (s : StandAt place these those) where
+    -- how many there are
+    pub stand-long : length those ≡ place + (length these + length s.behind)
+    stand-long =
+        ap length s.whole
+        ∙ length-append s.before (these ++ s.behind)
+        ∙ (λ i. s.place_is i + length-append these s.behind i)
+
+    -- those in front of it, and it with those behind it
+    pub stand-front : take place those ≡ s.before
+    stand-front = ap (take place) s.whole ∙ ap (λ n. take n (s.before ++ these ++ s.behind)) (sym s.place_is) ∙ take-append_seam s.before (these ++ s.behind)
+
+    pub stand-rest : drop place those ≡ these ++ s.behind
+    stand-rest = ap (drop place) s.whole ∙ ap (λ n. drop n (s.before ++ these ++ s.behind)) (sym s.place_is) ∙ drop-append_seam s.before (these ++ s.behind)
+
+    -- all, by what is cut off
+    pub stand-whole : take place those ++ these ++ drop (length these) (drop place those) ≡ those
+    stand-whole =
+        (λ i. stand-front i ++ these ++ (ap (drop (length these)) stand-rest ∙ drop-append_seam these s.behind) i)
+        ∙ sym s.whole
