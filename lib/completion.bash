@@ -68,9 +68,10 @@ _idltool() {
                 -I | --old-I | --new-I) _idl_directories "$word" ;;
                 -D | -U) ;;
                 --fail-on) mapfile -t COMPREPLY < <(compgen -W 'never wire client servant names new' -- "$word") ;;
+                --format) mapfile -t COMPREPLY < <(compgen -W 'text json' -- "$word") ;;
                 *)
                     case $word in
-                        -*) mapfile -t COMPREPLY < <(compgen -W '-D -U -I --old-I --new-I --fail-on --help' -- "$word") ;;
+                        -*) mapfile -t COMPREPLY < <(compgen -W '-D -U -I --old-I --new-I --fail-on --format --help' -- "$word") ;;
                         *) _idl_files "$word" ;;
                     esac
                     ;;

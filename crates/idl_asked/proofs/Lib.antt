@@ -1,7 +1,9 @@
 mod AlikeLaws
+mod BlockLaws
 mod CutAsks
 mod FactLaws
 mod IdLaws
+mod LevelLaws
 mod NameLaws
 mod NamedLaws
 mod PartLaws

@@ -1,3 +1,4 @@
+pub mod Blocks
 pub mod Entries
 pub mod Ids
 pub mod Names

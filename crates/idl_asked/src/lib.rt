@@ -5,6 +5,8 @@
 //! It stands apart since none of the code stands on it.
 #![tactic(auto)]
 
+mod block_laws;
 mod laws;
 
+pub use block_laws::{blocks, blocks_of_roots};
 pub use laws::{alike, entries, ids, names, units};

@@ -4,14 +4,14 @@ ghost use Rattle.std.specs.Prelude.{◌≡◌, []};
 ghost use Rattle.idl_changes.specs.Chosen.{meets, weights_named, with_names, with_weight};
 ghost use Rattle.idl_changes.specs.Rows.{callers, nobody};
 
-use crate::rows::{Weights, callers, nobody};
+use crate::rows::{CALLERS, NOBODY, Weights};
 
 impl Weights {
     /// Those of callers: on the wire, and for clients.
     pub fn of_callers() -> Weights
         ensures { result ≡ callers }
     {
-        callers()
+        CALLERS
     }
 
     /// Whether one of these is among those.
@@ -31,7 +31,7 @@ impl Weights {
         ensures { result ≡ weights_named text.now }
     {
         if text == b"never".as_slice() {
-            return Some(nobody());
+            return Some(NOBODY);
         }
         with_names(text)
     }
@@ -41,7 +41,7 @@ impl Weights {
 fn with_names(text: &[u8]) -> Option<Weights>
     ensures { result ≡ with_names [] text.now nobody }
 {
-    let mut weights = nobody();
+    let mut weights = NOBODY;
     let mut start = 0;
     for (place, byte) in text.iter().enumerate() {
         if *byte == b',' {

@@ -1,7 +1,7 @@
 //! What entries that belong together tell behind their ids.
 
 ghost use Rattle.std.specs.Prelude.{◌≡◌, ◌++◌, OnOk};
-ghost use Rattle.idl_changes.specs.Differences.{attribute_differences, constant_differences, declared_differences, details_differences, members_differences, operation_differences, parts_differences, readonly_line, set_differences};
+ghost use Rattle.idl_changes.specs.Differences.{attribute_differences, details_differences, members_differences, operation_differences, parts_differences, readonly_line, set_differences};
 
 use crate::change::Difference;
 use crate::lists::{Lists, compare_lists};
@@ -13,8 +13,7 @@ use crate::types::{compare_constant_types, compare_types};
 use crate::unions::compare_unions;
 use idl_base::Seq;
 use idl_repo::details::{
-    AttributeTree, ConstantTree, DeclaredType, MemberTree, OperationTree, RowDetails,
-    TypeCodeParts, code_word,
+    AttributeTree, DeclaredType, MemberTree, OperationTree, RowDetails, TypeCodeParts, code_word,
 };
 use std::alloc::AllocError;
 
@@ -30,9 +29,13 @@ pub fn compare_details(
 {
     match (old, new) {
         (RowDetails::Nothing, RowDetails::Nothing) => Ok(()),
-        (RowDetails::Type(old), RowDetails::Type(new)) => compare_declared(sides, old, new, out),
+        (RowDetails::Type(old), RowDetails::Type(new)) => {
+            let was = (old, &old.code.parts);
+            compare_parts(sides, was, (new, &new.code.parts), out)
+        }
         (RowDetails::Constant(old), RowDetails::Constant(new)) => {
-            compare_constants(sides, old, new, out)
+            compare_constant_types(sides, &old.data_type, &new.data_type, out)?;
+            compare_values(&old.value, &new.value, out)
         }
         (RowDetails::Attribute(old), RowDetails::Attribute(new)) => {
             compare_attributes(sides, old, new, out)
@@ -46,20 +49,6 @@ pub fn compare_details(
             push_changed(Line::Kind, b"row", (was, is), out)
         }
     }
-}
-
-// Compares names that have a TypeCode.
-fn compare_declared(
-    sides: &Sides<'_>,
-    old: &DeclaredType,
-    new: &DeclaredType,
-    out: &mut Vec<Difference>,
-) -> Result<(), AllocError>
-    ensures { OnOk result (out.new.items ≡ out.old.items
-        ++ declared_differences sides.now.0 sides.now.1 old.now new.now) }
-{
-    let was = (old, &old.code.parts);
-    compare_parts(sides, was, (new, &new.code.parts), out)
 }
 
 // Compares what stands behind the names in TypeCodes.
@@ -122,20 +111,6 @@ fn compare_members(
         after: new.1.as_slice(),
     };
     compare_lists(sides, &lists, out)
-}
-
-// Compares constants.
-fn compare_constants(
-    sides: &Sides<'_>,
-    old: &ConstantTree,
-    new: &ConstantTree,
-    out: &mut Vec<Difference>,
-) -> Result<(), AllocError>
-    ensures { OnOk result (out.new.items ≡ out.old.items
-        ++ constant_differences sides.now.0 sides.now.1 old.now new.now) }
-{
-    compare_constant_types(sides, &old.data_type, &new.data_type, out)?;
-    compare_values(&old.value, &new.value, out)
 }
 
 // Compares attributes: what reading them raises, and where both may be written, what that does.

@@ -2,7 +2,7 @@
 
 ghost use Rattle.std.specs.Prelude.{◌≡◌, ◌++◌, [], IfOk, OnOk, codes, false, if◌then◌else◌, map};
 ghost use Rattle.std.specs.Option.{option_and_then, option_map_or};
-ghost use Rattle.idl_changes.specs.Differences.{added_differences, as_called, body_differences, called_gone, called_new, differences, entry_differences, gone_differences, gone_line, id_line, is_called_locally, kind_differences, text_differences};
+ghost use Rattle.idl_changes.specs.Differences.{added_differences, as_called, called_gone, called_new, differences, entry_differences, gone_differences, id_line, is_called_locally, kind_differences, text_differences};
 ghost use Rattle.idl_changes.specs.Listing.{interface_of, is_called, is_local_at};
 ghost use Rattle.idl_changes.specs.Partners.{joined};
 ghost use Rattle.idl_changes.specs.Rows.{eased};
@@ -101,27 +101,13 @@ fn compare_kinds(
 {
     let (old, new) = entries;
     if old.kind == new.kind {
-        return compare_bodies(sides, places, entries, out);
+        if is_interface(old) {
+            return compare_interfaces(sides, places, entries, out);
+        }
+        return compare_details(sides, &old.details, &new.details, out);
     }
     let kinds = (kind_word(old.kind), kind_word(new.kind));
     push_changed(Line::Kind, b"kind", kinds, out)
-}
-
-// Compares what is told of entries of one kind.
-fn compare_bodies(
-    sides: &Sides<'_>,
-    places: (usize, usize),
-    entries: (&RowTree, &RowTree),
-    out: &mut Vec<Difference>,
-) -> Result<(), AllocError>
-    ensures { OnOk result (out.new.items ≡ out.old.items ++ body_differences sides.now.0
-        sides.now.1 places.0 places.1 entries.entry.0.now entries.entry.1.now) }
-{
-    let (old, new) = entries;
-    if is_interface(old) {
-        return compare_interfaces(sides, places, entries, out);
-    }
-    compare_details(sides, &old.details, &new.details, out)
 }
 
 // Whether an entry of the old listing is called on a local interface.
@@ -157,18 +143,11 @@ fn all_eased(told: Vec<Difference>) -> Result<Vec<Difference>, AllocError>
 {
     let mut all = Vec::new(*told.allocator());
     for difference in told {
-        all.push(eased_difference(difference))?;
+        let mut counted = difference;
+        counted.weights = eased(counted.weights);
+        all.push(counted)?;
     }
     Ok(all)
-}
-
-// One of them.
-fn eased_difference(difference: Difference) -> Difference
-    ensures { result ≡ record difference { weights = eased difference.weights } }
-{
-    let mut counted = difference;
-    counted.weights = eased(counted.weights);
-    counted
 }
 
 /// What is told of an entry of the old listing that belongs to none.
@@ -186,19 +165,13 @@ pub fn gone_differences(
         return called_gone(alloc, sides, place, entry);
     }
     let mut told = Vec::new(alloc);
-    push_told(gone_line(entry.kind), b"", Turn::Gone, &mut told)?;
-    Ok(told)
-}
-
-// The line of what is gone.
-fn gone_line(kind: Kind) -> Line
-    ensures { result ≡ gone_line kind }
-{
-    if is_sent_kind(kind) {
+    let line = if is_sent_kind(entry.kind) {
         Line::SentGone
     } else {
         Line::UnsentGone
-    }
+    };
+    push_told(line, b"", Turn::Gone, &mut told)?;
+    Ok(told)
 }
 
 // The same of a called one: it is told where its interface belongs to one.
@@ -224,6 +197,7 @@ fn called_gone(
 }
 
 /// What is told of an entry of the new listing: that it is new, if it is.
+#[tactic(auto, unfolding(crate::specs::Differences::added_differences))]
 pub fn added_differences(
     alloc: Global,
     sides: &Sides<'_>,
@@ -234,28 +208,15 @@ pub fn added_differences(
         ≡ added_differences sides.now.0 sides.now.1 place entry.now) }
 {
     let mut told = Vec::new(alloc);
-    push_added(sides, place, entry, &mut told)?;
-    Ok(told)
-}
-
-// Tells that an entry is new, if it is.
-#[tactic(auto, unfolding(crate::specs::Differences::added_differences))]
-fn push_added(
-    sides: &Sides<'_>,
-    place: usize,
-    entry: &RowTree,
-    out: &mut Vec<Difference>,
-) -> Result<(), AllocError>
-    ensures { OnOk result (out.new.items
-        ≡ out.old.items ++ added_differences sides.now.0 sides.now.1 place entry.now) }
-{
     if is_called(entry) {
-        return push_called_new(sides, entry, out);
+        push_called_new(sides, entry, &mut told)?;
+        return Ok(told);
     }
     if sides.joined_back(place).is_some() {
-        return Ok(());
+        return Ok(told);
     }
-    push_told(Line::EntryNew, b"", Turn::New, out)
+    push_told(Line::EntryNew, b"", Turn::New, &mut told)?;
+    Ok(told)
 }
 
 // Tells that a called entry is new, where the old interface offers none of its name.

@@ -10,7 +10,7 @@ ghost use Rattle.idl_changes.specs.Partners.{is_partner, joined};
 
 use crate::change::{Difference, Turn};
 use crate::listing::{is_local, name_of};
-use crate::parts::{push_changed, push_told, yes_or_no};
+use crate::parts::{part_of, push_changed, push_told, yes_or_no};
 use crate::rows::Line;
 use crate::side::Side;
 use crate::sides::Sides;
@@ -106,10 +106,14 @@ fn push_new_base(
         (codes "base " ++ path_at sides.now.1 places.1) Turn.New)) }
 {
     let (interface, base) = places;
-    if has(goes_on, base) {
+    if is_among(Some(base), goes_on) {
         return Ok(());
     }
-    let line = base_line(sides, interface, base)?;
+    let line = if offers_all_of(sides, interface, base)? {
+        Line::BareBase
+    } else {
+        Line::BringingBase
+    };
     push_base(line, (sides.after(), base), Turn::New, out)
 }
 
@@ -158,16 +162,9 @@ fn is_among(place: Option<usize>, places: &BTreeSet<usize>) -> bool
     ensures { result ≡ option_map_or (λ n. list_any (nat_eq n) places.now.keys) place false }
 {
     match place {
-        Some(place) => has(places, place),
+        Some(place) => places.contains(&place),
         None => false,
     }
-}
-
-// Whether a place is among these.
-fn has(places: &BTreeSet<usize>, place: usize) -> bool
-    ensures { result ≡ list_any (nat_eq place) places.now.keys }
-{
-    places.contains(&place)
 }
 
 // Tells what became of the base at a place.
@@ -180,8 +177,7 @@ fn push_base(
     ensures { OnOk result (out.new.items ≡ out.old.items
         ++ told line (codes "base " ++ path_at base.entry.0.now base.entry.1) turn) }
 {
-    let mut part = Vec::from_slice(*out.allocator(), b"base ")?;
-    part.extend_from_slice(path_at(base.0, base.1))?;
+    let part = part_of(*out.allocator(), b"base ", path_at(base.0, base.1))?;
     push_told(line, &part, turn, out)
 }
 
@@ -192,19 +188,6 @@ fn path_at<'p>(side: &'p Side<'_>, place: usize) -> &'p [u8]
     match side.listing().entry(place) {
         Some(entry) => entry.path.as_bytes(),
         None => &[],
-    }
-}
-
-// The line of a base that is new to an interface: whether it brings more to call than the old one offered.
-fn base_line(sides: &Sides<'_>, interface: usize, base: usize) -> Result<Line, AllocError>
-    ensures { IfOk result (λ line.
-        line ≡ base_line sides.now.0 sides.now.1 interface base) }
-{
-    let is_bare = offers_all_of(sides, interface, base)?;
-    if is_bare {
-        Ok(Line::BareBase)
-    } else {
-        Ok(Line::BringingBase)
     }
 }
 

@@ -9,7 +9,7 @@ ghost use Rattle.idl_changes.specs.Rows.{item_word};
 
 use crate::change::{Difference, Turn};
 use crate::matched::{Named, in_order, marked, matches};
-use crate::parts::{in_a_row, part_of, push_changed, push_told};
+use crate::parts::{in_a_row, part_of, push_changed, push_named, push_told};
 use crate::rows::{Item, Line, item_word};
 use crate::sides::Sides;
 use crate::types::compare_types;
@@ -182,8 +182,7 @@ fn name_part(alloc: Global, item: Item, number: usize) -> Result<Vec<u8>, AllocE
     ensures { IfOk result (λ part.
         part.items ≡ codes "name of " ++ item_part item (decimal number)) }
 {
-    let mut part = Vec::from_slice(alloc, b"name of ")?;
-    part.extend_from_slice(item_word(item))?;
+    let mut part = part_of(alloc, b"name of ", item_word(item))?;
     part.extend_from_slice(b" ")?;
     push_number(&mut part, number)?;
     Ok(part)
@@ -208,8 +207,7 @@ fn item_part(alloc: Global, item: Item, name: &Bytes) -> Result<Vec<u8>, AllocEr
     ensures { IfOk result (λ part. part.items ≡ item_part item name.now) }
 {
     let mut part = Vec::from_slice(alloc, item_word(item))?;
-    part.extend_from_slice(b" ")?;
-    part.extend_from_slice(name.as_bytes())?;
+    push_named(&mut part, name.as_bytes())?;
     Ok(part)
 }
 
@@ -285,8 +283,7 @@ fn order_part(alloc: Global, item: Item) -> Result<Vec<u8>, AllocError>
     ensures { IfOk result (λ part.
         part.items ≡ codes "order of " ++ (item_word item ++ codes "s")) }
 {
-    let mut part = Vec::from_slice(alloc, b"order of ")?;
-    part.extend_from_slice(item_word(item))?;
+    let mut part = part_of(alloc, b"order of ", item_word(item))?;
     part.extend_from_slice(b"s")?;
     Ok(part)
 }
@@ -338,7 +335,8 @@ impl ListItem for MemberTree {
         sides: &Sides<'_>,
         out: &mut Vec<Difference>,
     ) -> Result<(), AllocError> {
-        let part = part_of(*out.allocator(), b"type of member ", &self.name)?;
+        let name = self.name.as_bytes();
+        let part = part_of(*out.allocator(), b"type of member ", name)?;
         compare_types(sides, &part, (&self.data_type, &new.data_type), out)
     }
 }
@@ -366,7 +364,8 @@ impl ListItem for ParameterTree {
         out: &mut Vec<Difference>,
     ) -> Result<(), AllocError> {
         compare_directions(self, new, out)?;
-        let part = part_of(*out.allocator(), b"type of parameter ", &self.member.name)?;
+        let name = self.member.name.as_bytes();
+        let part = part_of(*out.allocator(), b"type of parameter ", name)?;
         let types = (&self.member.data_type, &new.member.data_type);
         compare_types(sides, &part, types, out)
     }
@@ -384,11 +383,8 @@ fn compare_directions(
     if is_same_direction(old, new) {
         return Ok(());
     }
-    let part = part_of(
-        *out.allocator(),
-        b"direction of parameter ",
-        &old.member.name,
-    )?;
+    let name = old.member.name.as_bytes();
+    let part = part_of(*out.allocator(), b"direction of parameter ", name)?;
     let was = direction_word(old.goes_in, old.comes_out);
     let is = direction_word(new.goes_in, new.comes_out);
     push_changed(Line::Direction, &part, (was, is), out)

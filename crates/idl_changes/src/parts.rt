@@ -1,6 +1,6 @@
 //! Parts of entries that have no parts.
 
-ghost use Rattle.std.specs.Prelude.{◌≡◌, ◌++◌, [], IfOk, OnOk, unwrap_or};
+ghost use Rattle.std.specs.Prelude.{◌≡◌, ◌++◌, [], IfOk, OnOk, codes, unwrap_or};
 ghost use Rattle.idl_changes.specs.Differences.{changed, context_differences, flag_differences, in_a_row, text_differences, told, value_differences, yes_or_no};
 
 use crate::change::{Difference, Turn};
@@ -139,17 +139,24 @@ pub fn in_a_row<T: Named>(alloc: Global, items: &[T]) -> Result<Vec<u8>, AllocEr
     };
     let mut row = Vec::from_slice(alloc, first.name().as_bytes())?;
     for item in others {
-        row.extend_from_slice(b" ")?;
-        row.extend_from_slice(item.name().as_bytes())?;
+        push_named(&mut row, item.name().as_bytes())?;
     }
     Ok(row)
 }
 
+/// Writes a name with a blank before it.
+pub fn push_named(text: &mut Vec<u8>, name: &[u8]) -> Result<(), AllocError>
+    ensures { OnOk result (text.new.items ≡ text.old.items ++ (codes " " ++ name.now)) }
+{
+    text.extend_from_slice(b" ")?;
+    text.extend_from_slice(name)
+}
+
 /// A name of a part: a word, and a name behind it.
-pub fn part_of(alloc: Global, word: &[u8], name: &Bytes) -> Result<Vec<u8>, AllocError>
+pub fn part_of(alloc: Global, word: &[u8], name: &[u8]) -> Result<Vec<u8>, AllocError>
     ensures { IfOk result (λ part. part.items ≡ word.now ++ name.now) }
 {
     let mut part = Vec::from_slice(alloc, word)?;
-    part.extend_from_slice(name.as_bytes())?;
+    part.extend_from_slice(name)?;
     Ok(part)
 }

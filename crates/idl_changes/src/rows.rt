@@ -1,7 +1,7 @@
 //! The table of changes: for whom each of them counts.
 
 ghost use Rattle.std.specs.Prelude.{◌≡◌};
-ghost use Rattle.idl_changes.specs.Rows.{added_alone, callers, eased, everyone, item_word, names_alone, nobody, servants, source, weights_of, wire_alone};
+ghost use Rattle.idl_changes.specs.Rows.{eased, item_word, weights_of};
 
 /// For whom a change counts.
 #[derive(Clone, Copy)]
@@ -18,6 +18,51 @@ pub struct Weights {
     /// Nothing differs: it is there besides.
     pub added: bool,
 }
+
+/// Those of what counts for nobody.
+pub const NOBODY: Weights = Weights {
+    wire: false,
+    client: false,
+    servant: false,
+    names: false,
+    added: false,
+};
+
+/// Those of callers: on the wire, and for clients.
+pub const CALLERS: Weights = Weights {
+    client: true,
+    ..WIRE_ALONE
+};
+
+const EVERYONE: Weights = Weights {
+    servant: true,
+    ..CALLERS
+};
+
+const WIRE_ALONE: Weights = Weights {
+    wire: true,
+    ..NOBODY
+};
+
+const SOURCE: Weights = Weights {
+    client: true,
+    ..SERVANTS
+};
+
+const SERVANTS: Weights = Weights {
+    servant: true,
+    ..NOBODY
+};
+
+const NAMES_ALONE: Weights = Weights {
+    names: true,
+    ..NOBODY
+};
+
+const ADDED_ALONE: Weights = Weights {
+    added: true,
+    ..NOBODY
+};
 
 /// What stands in a list with names.
 #[derive(Clone, Copy)]
@@ -78,40 +123,23 @@ pub fn weights_of(line: Line) -> Weights
     ensures { result ≡ weights_of line }
 {
     match line {
-        Line::SentGone | Line::Kind | Line::Local | Line::StructBase => everyone(),
-        Line::Direction | Line::Context | Line::Type => everyone(),
-        Line::CaseGone | Line::DefaultGone => everyone(),
-        Line::ItemGone(_item) => everyone(),
-        Line::ItemNew(item) | Line::ItemOrder(item) => weights_of_more(item),
-        Line::ItemName(item) => weights_of_name(item),
-        Line::CalledGone | Line::BaseGone | Line::ExceptionNew | Line::ReadonlyOn => callers(),
-        Line::SentId | Line::CaseNew | Line::DefaultNew | Line::Oneway => wire_alone(),
-        Line::UnsentGone | Line::Path | Line::CaseName | Line::LayeredType => source(),
-        Line::ConstantType | Line::ConstantValue | Line::ExceptionGone => source(),
-        Line::CalledNew | Line::BringingBase | Line::ReadonlyOff => servants(),
-        Line::OtherId | Line::AliasedType | Line::ConstantAlias => names_alone(),
-        Line::EntryNew | Line::BareBase => added_alone(),
-    }
-}
-
-// Of an item that is new, or in another order.
-fn weights_of_more(item: Item) -> Weights
-    ensures more { result ≡ weights_of (Line.ItemNew item) }
-    ensures order { result ≡ weights_of (Line.ItemOrder item) }
-{
-    match item {
-        Item::Member | Item::Parameter => everyone(),
-        Item::Enumerator => wire_alone(),
-    }
-}
-
-// Of an item that has another name.
-fn weights_of_name(item: Item) -> Weights
-    ensures { result ≡ weights_of (Line.ItemName item) }
-{
-    match item {
-        Item::Member | Item::Enumerator => source(),
-        Item::Parameter => names_alone(),
+        Line::SentGone | Line::Kind | Line::Local | Line::StructBase => EVERYONE,
+        Line::Direction | Line::Context | Line::Type => EVERYONE,
+        Line::CaseGone | Line::DefaultGone => EVERYONE,
+        Line::ItemGone(_item) => EVERYONE,
+        Line::ItemNew(Item::Member) | Line::ItemNew(Item::Parameter) => EVERYONE,
+        Line::ItemNew(Item::Enumerator) => WIRE_ALONE,
+        Line::ItemOrder(Item::Member) | Line::ItemOrder(Item::Parameter) => EVERYONE,
+        Line::ItemOrder(Item::Enumerator) => WIRE_ALONE,
+        Line::ItemName(Item::Member) | Line::ItemName(Item::Enumerator) => SOURCE,
+        Line::ItemName(Item::Parameter) => NAMES_ALONE,
+        Line::CalledGone | Line::BaseGone | Line::ExceptionNew | Line::ReadonlyOn => CALLERS,
+        Line::SentId | Line::CaseNew | Line::DefaultNew | Line::Oneway => WIRE_ALONE,
+        Line::UnsentGone | Line::Path | Line::CaseName | Line::LayeredType => SOURCE,
+        Line::ConstantType | Line::ConstantValue | Line::ExceptionGone => SOURCE,
+        Line::CalledNew | Line::BringingBase | Line::ReadonlyOff => SERVANTS,
+        Line::OtherId | Line::AliasedType | Line::ConstantAlias => NAMES_ALONE,
+        Line::EntryNew | Line::BareBase => ADDED_ALONE,
     }
 }
 
@@ -139,83 +167,5 @@ pub fn eased(weights: Weights) -> Weights
             ..weights
         };
     }
-    source()
-}
-
-fn everyone() -> Weights
-    ensures { result ≡ everyone }
-{
-    Weights {
-        client: true,
-        servant: true,
-        ..wire_alone()
-    }
-}
-
-/// Those of callers: on the wire, and for clients.
-pub fn callers() -> Weights
-    ensures { result ≡ callers }
-{
-    Weights {
-        client: true,
-        ..wire_alone()
-    }
-}
-
-fn wire_alone() -> Weights
-    ensures { result ≡ wire_alone }
-{
-    Weights {
-        wire: true,
-        ..nobody()
-    }
-}
-
-fn source() -> Weights
-    ensures { result ≡ source }
-{
-    Weights {
-        client: true,
-        ..servants()
-    }
-}
-
-fn servants() -> Weights
-    ensures { result ≡ servants }
-{
-    Weights {
-        servant: true,
-        ..nobody()
-    }
-}
-
-fn names_alone() -> Weights
-    ensures { result ≡ names_alone }
-{
-    Weights {
-        names: true,
-        ..nobody()
-    }
-}
-
-fn added_alone() -> Weights
-    ensures { result ≡ added_alone }
-{
-    Weights {
-        added: true,
-        ..nobody()
-    }
-}
-
-/// Those of what counts for nobody.
-pub fn nobody() -> Weights
-    ensures { result ≡ nobody }
-{
-    Weights {
-        wire: false,
-        client: false,
-        servant: false,
-        names: false,
-        added: false,
-    }
+    SOURCE
 }

@@ -8,7 +8,7 @@ ghost use Rattle.idl_changes.specs.Partners.{is_same_reference};
 
 use crate::change::{Difference, Turn};
 use crate::matched::Named;
-use crate::parts::{in_a_row, push_changed, push_told};
+use crate::parts::{in_a_row, push_changed, push_named, push_told};
 use crate::rows::Line;
 use crate::sides::Sides;
 use idl_base::Bytes;
@@ -134,8 +134,7 @@ fn push_reference(
         ++ told line (named.entry.0.now ++ (codes " " ++ named.entry.1.now.path)) turn) }
 {
     let mut part = Vec::from_slice(*out.allocator(), named.0)?;
-    part.extend_from_slice(b" ")?;
-    part.extend_from_slice(named.1.path.as_bytes())?;
+    push_named(&mut part, named.1.path.as_bytes())?;
     push_told(line, &part, turn, out)
 }
 

@@ -70,8 +70,7 @@ fn push_turn(text: &mut Vec<u8>, part: &[u8], turn: &Turn) -> Result<(), AllocEr
         Turn::New => push_words(text, part, b"is new"),
         Turn::NewAt(number) => {
             push_words(text, part, b"is new, number ")?;
-            push_number(text, *number)?;
-            Ok(())
+            push_number(text, *number)
         }
         Turn::Changed(was, is) => {
             text.extend_from_slice(part)?;

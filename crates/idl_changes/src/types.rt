@@ -1,7 +1,7 @@
 //! Types of two listings: whether they are written the same, whether they are sent the same, and what is told where they aren't.
 
 ghost use Rattle.std.specs.Prelude.{◌≡◌, ◌++◌, IfOk, OnOk, false};
-ghost use Rattle.idl_changes.specs.Differences.{changed, constant_line, constant_type_differences, type_differences, type_line};
+ghost use Rattle.idl_changes.specs.Differences.{changed, constant_type_differences, type_differences, type_line};
 ghost use Rattle.idl_changes.specs.Partners.{is_same_element, is_sent, is_written};
 ghost use Rattle.idl_changes.specs.Spelled.{spelled};
 
@@ -44,26 +44,12 @@ pub fn compare_constant_types(
     if is_written(sides, old, new) {
         return Ok(());
     }
-    let line = constant_line(sides, old, new)?;
-    push_types(line, b"type", (old, new), out)
-}
-
-// The line of a constant's type that is written otherwise.
-fn constant_line(
-    sides: &Sides<'_>,
-    old: &LayeredType,
-    new: &LayeredType,
-) -> Result<Line, AllocError>
-    requires { is_written sides.now.0 sides.now.1 old.now new.now ≡ false }
-    ensures { IfOk result (λ line.
-        line ≡ constant_line sides.now.0 sides.now.1 old.now new.now) }
-{
-    let same = is_sent(sides, old, new)?;
-    if same {
-        Ok(Line::ConstantAlias)
+    let line = if is_sent(sides, old, new)? {
+        Line::ConstantAlias
     } else {
-        Ok(Line::ConstantType)
-    }
+        Line::ConstantType
+    };
+    push_types(line, b"type", (old, new), out)
 }
 
 // Tells that a part was of this type and is of that one.

@@ -173,7 +173,7 @@ fn compare_label(
         sides.now.1 unions.entry.0.now unions.entry.1.now named.entry.0.now named.entry.1.now) }
 {
     let (text, label) = named;
-    let part = part_of(*out.allocator(), b"case ", text)?;
+    let part = part_of(*out.allocator(), b"case ", text.as_bytes())?;
     let choice = Choice {
         gone: Line::CaseGone,
         added: Line::CaseNew,
@@ -214,11 +214,9 @@ fn compare_members(
         sides.now.1 part.now cases.entry.0.now cases.entry.1.now) }
 {
     let (old, new) = (&cases.0.member, &cases.1.member);
-    let mut of_type = Vec::from_slice(*out.allocator(), b"type of ")?;
-    of_type.extend_from_slice(part)?;
+    let of_type = part_of(*out.allocator(), b"type of ", part)?;
     compare_types(sides, &of_type, (&old.data_type, &new.data_type), out)?;
-    let mut of_name = Vec::from_slice(*out.allocator(), b"name of ")?;
-    of_name.extend_from_slice(part)?;
+    let of_name = part_of(*out.allocator(), b"name of ", part)?;
     let names = (old.name.as_bytes(), new.name.as_bytes());
     compare_texts(Line::CaseName, &of_name, names, out)
 }

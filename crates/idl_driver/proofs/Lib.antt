@@ -1,3 +1,4 @@
+mod LeftLemmas
 mod LoadingLemmas
 mod OptionLemmas
 mod ParsedLemmas

@@ -1,14 +1,15 @@
 -- Options that are carried out word by word.
-use Rattle.std.proofs.Common.{◌≡◌, ◌∷◌, ◌++◌, ◌+◌, ◌<◌, ◌≤◌, ◌∙◌, ◌||◌, ℕ, Bool, true, false, List, [], All, Option, None, Some, codes, drop, get_or, length, map, refl, sym, ap, subst, arith}
-use Rattle.std.proofs.lemmas.List.{drop_more, get_or-map, length-map}
-use Rattle.std.proofs.lemmas.List.Elements.{All-cons, All-nil, All-weaker}
+use Rattle.std.proofs.Common.{◌≡◌, ◌∷◌, ◌++◌, ◌+◌, ◌<◌, ◌≤◌, ◌∙◌, ◌||◌, ℕ, Bool, true, false, List, [], All, Option, None, Some, codes, drop, filter, fold, get_or, length, map, refl, sym, ap, subst, arith, take}
+use Rattle.std.proofs.lemmas.List.{drop_more, get_or-map, length-map, map-append, take_more}
+use Rattle.std.proofs.lemmas.List.Sums.{fold-append}
+use Rattle.std.proofs.lemmas.List.Elements.{All-cons, All-nil, All-weaker, filter-append}
 use Rattle.std.specs.Cmp.Lexicographic.{bytes_decides}
 use Rattle.std.specs.List.{list_any}
 use Rattle.std.specs.Option.{option_and_then}
 use Rattle.std.specs.Str.{bytes_eq}
 use Rattle.idl_source.specs.names.Path.{directory_path, joined_path}
 use Rattle.idl_inputs.specs.Project.{Macros}
-use Rattle.idl_driver.specs.Options.{defined_by, named_by, searched_by, undefined_by, with_name}
+use Rattle.idl_driver.specs.Options.{defined_by, is_nameless, named_by, searched_by, undefined_by, with_name, with_word}
 
 -- what is left of a list, at its next element
 pub drop-map-next : {A B : Type 0} (f : A → B) (xs : List A) (i : ℕ) (d : A) (y : B) → i < length xs → y ≡ f (get_or xs i d) → drop i (map f xs) ≡ y ∷ drop (i + 1) (map f xs)
@@ -50,3 +51,20 @@ pub undefined-next : {A : Type 0} (text : A → List ℕ) (words : List A) (i : 
 undefined-next text words i d old new within made =
     ap (λ ms. undefined_by ms (drop (i + 1) (map text words))) made
     ∙ ap (undefined_by old) (sym (drop-map-next text words i d (text (get_or words i d)) within refl))
+
+-- words before one more
+taken-next : {A : Type 0} (text : A → List ℕ) (words : List A) (i : ℕ) (d : A) → i < length words → map text (take (i + 1) words) ≡ map text (take i words) ++ text (get_or words i d) ∷ []
+taken-next text words i d within = ap (map text) (take_more words i d within) ∙ map-append text (take i words) (get_or words i d ∷ [])
+
+pub named-next : {A : Type 0} (text : A → List ℕ) (words : List A) (i : ℕ) (d : A) (old new : List (List ℕ)) → i < length words → old ≡ fold with_word [] (map text (take i words))
+    → new ≡ with_word old (text (get_or words i d)) → new ≡ fold with_word [] (map text (take (i + 1) words))
+named-next text words i d old new within are more =
+    let word = text (get_or words i d) in
+    more ∙ ap (λ ns. with_word ns word) are ∙ sym (ap (fold with_word []) (taken-next text words i d within) ∙ fold-append with_word [] (map text (take i words)) (word ∷ []))
+
+pub nameless-next : {A : Type 0} (text : A → List ℕ) (words : List A) (i : ℕ) (d : A) (old new : List (List ℕ)) → i < length words → old ≡ filter is_nameless (map text (take i words))
+    → new ≡ old ++ filter is_nameless (text (get_or words i d) ∷ []) → new ≡ filter is_nameless (map text (take (i + 1) words))
+nameless-next text words i d old new within are more =
+    let word = text (get_or words i d) in
+    more ∙ ap (λ ns. ns ++ filter is_nameless (word ∷ [])) are
+    ∙ sym (ap (filter is_nameless) (taken-next text words i d within) ∙ filter-append is_nameless (map text (take i words)) (word ∷ []))

@@ -13,9 +13,6 @@ use Rattle.idl_driver.specs.declared.failure.ProgramFailure.TheVariants as failu
 pub writes-none : (before : Option (List ℕ)) → WritesSome before before
 writes-none before = ([], append-none before)
 
-pub writes-same : (before after : Option (List ℕ)) → after ≡ before → WritesSome before after
-writes-same before after same = ([], same ∙ append-none before)
-
 -- more went out
 pub writes-more : (before mid after : Option (List ℕ)) → WritesSome before mid → WritesSome mid after → WritesSome before after
 writes-more before mid after first next = (
@@ -30,6 +27,7 @@ writes-part before after bytes part = (take part.0 bytes, part.2)
 none-until : (failed : ProgramFailure) (before : Option (List ℕ)) → IsShownUntil failed before before
 none-until failure.BadArguments before = refl
 none-until (failure.Refused subject refusal) before = refl
+none-until (failure.OverLimit subject limit) before = refl
 none-until (failure.CannotRead name) before = refl
 none-until failure.NoMemory before = refl
 none-until failure.ReadFailed before = refl

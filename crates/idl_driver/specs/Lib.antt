@@ -1,5 +1,6 @@
 pub mod Compilations
 pub mod Compiled
+pub mod Left
 pub mod Loading
 pub mod Messages
 pub mod Options

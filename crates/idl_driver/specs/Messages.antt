@@ -4,6 +4,7 @@ use Rattle.idl_loader.specs.Lines.{whole_line}
 use Rattle.idl_source.specs.Refusal.{number_of}
 use Rattle.idl_source.specs.devices.Device.{append}
 use Rattle.idl_source.specs.declared.refusal.Refusal.{Refusal}
+use Rattle.idl_source.specs.declared.refusal.Refusal.TheVariants.{OverLimit}
 use Rattle.idl_driver.specs.Written.{WritesSome}
 use Rattle.idl_driver.specs.declared.failure.FailureSubject.{FailureSubject}
 use Rattle.idl_driver.specs.declared.failure.FailureSubject.TheVariants.{Word, File}
@@ -32,6 +33,8 @@ abbrev pub message_of : List ℕ → ProgramFailure → List ℕ
 message_of program failure.BadArguments = line_of program (codes "bad arguments")
 message_of program (failure.Refused subject refusal) =
     refused_message program (name_of subject) refusal
+message_of program (failure.OverLimit subject limit) =
+    refused_message program (name_of subject) OverLimit
 message_of program (failure.CannotRead name) = named_line program name (codes "cannot read")
 message_of program failure.NoMemory = line_of program (codes "no memory")
 message_of program failure.ReadFailed = line_of program (codes "read failed")

@@ -1,5 +1,6 @@
 -- What the options ask for: macros, directories and roots.
-use Rattle.std.specs.Prelude.{◌≡◌, ℕ, List, [], ◌∷◌, ◌++◌, map, nat_eq, codes, Option, None, Some, option_and_then, unwrap_or, if◌then◌else◌}
+use Rattle.std.specs.Prelude.{◌≡◌, ℕ, Bool, List, [], ◌∷◌, ◌++◌, filter, fold, is_some, map, nat_eq, not, codes, Option, None, Some, option_and_then, unwrap_or, if◌then◌else◌}
+use Rattle.std.specs.Option.{option_map_or}
 use Rattle.std.specs.List.{list_any}
 use Rattle.std.specs.Map.{remove_entry}
 use Rattle.std.specs.Str.{bytes_eq}
@@ -50,11 +51,30 @@ named_by names [] = Some names
 named_by names (word ∷ words) =
     option_and_then (λ name. named_by (with_name names name) words) (joined_path (codes ".") word)
 
--- the macros, the directories and the roots are those that the options ask for
-pub record AreAsked (options : Options) (inputs : Inputs) (roots : List (List ℕ)) : Type 0 where
+-- names, and one more where a word leads to one that isn't there
+abbrev pub with_word : List (List ℕ) → List ℕ → List (List ℕ)
+with_word names word = option_map_or (with_name names) (joined_path (codes ".") word) names
+
+-- a word that leads to no name
+abbrev pub is_nameless : List ℕ → Bool
+is_nameless word = not (is_some (joined_path (codes ".") word))
+
+-- the macros and the directories are those that the options ask for
+pub record IsOver (options : Options) (inputs : Inputs) : Type 0 where
   pub macros : inputs.macros
       ≡ undefined_by (defined_by [] (map (λ word. word.now) options.defines.items))
       (map (λ word. word.now) options.undefines.items)
   pub search : searched_by [] (map (λ word. word.now) options.directories.items)
       ≡ Some inputs.search
+
+-- and the roots are
+pub record AreAsked (options : Options) (inputs : Inputs) (roots : List (List ℕ)) : Type 0 where
+  pub over : IsOver options inputs
   pub named : named_by [] (map (λ word. word.now) options.files.items) ≡ Some roots
+
+-- or they are those that FILEs lead to, but for FILEs that lead to no name, which are these
+pub record AreAskedBut (options : Options) (inputs : Inputs) (roots nameless : List (List ℕ))
+    : Type 0 where
+  pub over : IsOver options inputs
+  pub named : roots ≡ fold with_word [] (map (λ word. word.now) options.files.items)
+  pub nameless_are : nameless ≡ filter is_nameless (map (λ word. word.now) options.files.items)

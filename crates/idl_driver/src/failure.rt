@@ -4,6 +4,7 @@ ghost use Rattle.std.specs.Prelude.{◌≡◌, ◌<◌, ◌+◌, ◌-◌, ◌^�
 ghost use Rattle.idl_source.specs.devices.Device.{append};
 ghost use Rattle.idl_driver.specs.Messages.{line_of, message_of, name_of, named_line, refused_message};
 
+use crate::limit::Limit;
 use crate::words::WordsFault;
 use idl_loader::{ServiceFault, Stop};
 use idl_source::devices::{WriteFailed, write_all};
@@ -18,6 +19,18 @@ pub enum OptionsFault<'a> {
     NoLine(&'a str),
     /// What this word asks for is refused.
     Refused(&'a str, Refusal),
+    /// It is refused, as it passes a limit.
+    OverLimit(&'a str, Limit),
+}
+
+impl<'a> OptionsFault<'a> {
+    // What this word asks for is refused so, and passes this limit if it passes one.
+    pub(crate) fn refused(word: &'a str, refusal: Refusal, limit: Limit) -> OptionsFault<'a> {
+        match refusal {
+            Refusal::OverLimit => OptionsFault::OverLimit(word, limit),
+            _ => OptionsFault::Refused(word, refusal),
+        }
+    }
 }
 
 /// Why roots can't be compiled.
@@ -25,6 +38,8 @@ pub enum OptionsFault<'a> {
 pub enum CompileFault {
     /// A file is refused.
     Refused(Name, Refusal),
+    /// It is refused, as it passes a limit.
+    OverLimit(Name, Limit),
     /// A file is there and can't be read.
     CannotRead(Name),
 }
@@ -55,6 +70,8 @@ impl<'a> FailureSubject<'a> {
 pub enum ProgramFailure<'a> {
     BadArguments,
     Refused(FailureSubject<'a>, Refusal),
+    /// It is refused, as it passes a limit.
+    OverLimit(FailureSubject<'a>, Limit),
     CannotRead(Name),
     NoMemory,
     ReadFailed,
@@ -74,6 +91,9 @@ impl<'a> ProgramFailure<'a> {
             ProgramFailure::BadArguments => tell_line(program, b"bad arguments", errors),
             ProgramFailure::Refused(subject, refusal) => {
                 tell_refusal(program, subject.as_bytes(), *refusal, errors)
+            }
+            ProgramFailure::OverLimit(subject, _limit) => {
+                tell_refusal(program, subject.as_bytes(), Refusal::OverLimit, errors)
             }
             ProgramFailure::CannotRead(name) => {
                 tell_of(program, name.as_bytes(), b"cannot read", errors)
@@ -149,6 +169,9 @@ impl<'a> From<OptionsFault<'a>> for ProgramFailure<'a> {
             OptionsFault::Refused(word, refusal) => {
                 ProgramFailure::Refused(FailureSubject::Word(word), refusal)
             }
+            OptionsFault::OverLimit(word, limit) => {
+                ProgramFailure::OverLimit(FailureSubject::Word(word), limit)
+            }
         }
     }
 }
@@ -158,6 +181,9 @@ impl<'a> From<CompileFault> for ProgramFailure<'a> {
         match fault {
             CompileFault::Refused(name, refusal) => {
                 ProgramFailure::Refused(FailureSubject::File(name), refusal)
+            }
+            CompileFault::OverLimit(name, limit) => {
+                ProgramFailure::OverLimit(FailureSubject::File(name), limit)
             }
             CompileFault::CannotRead(name) => ProgramFailure::CannotRead(name),
         }

@@ -11,16 +11,19 @@
 mod compilation;
 mod devices;
 mod failure;
+mod limit;
 mod loading;
 mod options;
 mod preparing;
 mod words;
 
-pub use compilation::{Compilation, compile_files};
+pub use compilation::{Compilation, SoundFiles, compile_files, compile_sound_files};
 pub use devices::Devices;
-pub use failure::{FailureSubject, ProgramFailure, tell_of};
+pub use failure::{CompileFault, FailureSubject, ProgramFailure, tell_of};
 pub use idl_loader;
 pub use idl_loader::Status;
 pub use idl_sources;
+pub use limit::Limit;
+pub use loading::SoundRoots;
 pub use options::{Options, options_of, values_of, with_options};
 pub use words::{ParsedWords, WordsFault, parse_words};

@@ -1,13 +1,15 @@
 //! The files that roots ask for, and what the roots compile to over them.
 
-ghost use Rattle.std.specs.Prelude.{◌≡◌, ◌++◌, ◌∷◌, [], All, Contains, IfNone, IfOk, OnOk, map};
+ghost use Rattle.std.specs.Prelude.{◌≡◌, ◌⊎◌, ◌++◌, ◌∷◌, [], All, Contains, IfNone, IfOk, OnErr, OnOk, length, map};
 ghost use Rattle.std.specs.FinMap as finite;
 ghost use Rattle.idl_source.specs.texts.Cut.{cut_lines};
 ghost use Rattle.idl_sources.specs.Compile.{compiled_root};
+ghost use Rattle.idl_driver.specs.Left.{AreAllBut, IsParted};
 ghost use Rattle.idl_driver.specs.Loading.{AreCompiled};
-ghost use Rattle.idl_driver.specs.Tried.{AreMissing, IsLoading};
+ghost use Rattle.idl_driver.specs.Tried.{AreMissing, IsLoading, IsTrue};
 
 use crate::failure::CompileFault;
+use crate::limit::Limit;
 use idl_loader::{Loaded, Loader};
 use idl_prep::{Explorer, FileWalk, MAX_DEPTH, OpenFile, Waypoint};
 use idl_source::{Name, Refusal, cut};
@@ -18,8 +20,7 @@ use std::alloc::AllocError;
 /// What the roots compile to, each once, over the files that they ask for, which are loaded before.
 ///
 /// The roots are explored in their order, and a name is tried when it is asked for, so that each is tried once in all, and trouble
-/// with one ends the program as the first that there is. No promise rests on the exploration: what the compiled roots have absent
-/// is looked at, and a name among it that wasn't tried would be loaded, and the roots compiled again.
+/// with one ends the program as the first that there is.
 pub fn compile_all<L: Loader>(
     sources: Sources,
     roots: &[Name],
@@ -32,9 +33,78 @@ pub fn compile_all<L: Loader>(
     ensures still { OnOk result (L.told loader.new ≡ L.told loader.old) }
 {
     let mut loading = Loading::new(sources);
+    loading.explore_all(roots, loader)?;
+    settle(loading, roots, loader)
+}
+
+/// Of roots those that come without trouble, and what they compile to.
+pub struct SoundRoots {
+    /// What they are compiled over.
+    pub sources: Sources,
+    /// The roots, in order.
+    pub roots: Vec<Name>,
+    /// What each compiles to.
+    pub compiled: Vec<CompiledRoot>,
+    /// The first trouble of each other root, in order.
+    pub faults: Vec<CompileFault>,
+}
+
+impl Drop for SoundRoots {
+    fn drop(self) {
+        let SoundRoots {
+            sources: _sources,
+            roots: _roots,
+            compiled: _compiled,
+            faults: _faults,
+        } = self;
+    }
+}
+
+/// What those of the roots compile to that come without trouble, each once, over the files that they ask for, which are loaded before.
+///
+/// A file with which there was trouble isn't there to the root that asked for it, which is left out; the next root tries it again.
+pub fn compile_sound<L: Loader>(
+    sources: Sources,
+    roots: &[Name],
+    loader: &mut L,
+) -> Result<SoundRoots, CompileFault>
+    requires { sources.files ≡ finite.empty }
+    ensures compiled { IfOk result (λ sound. AreCompiled (L.told loader.old) sources
+        sound.sources sound.roots.items sound.compiled.items) }
+    ensures left { IfOk result (λ sound.
+        AreAllBut roots.now (length sound.faults.items) sound.roots.items) }
+    // The loader tells what it told.
+    ensures still { OnOk result (L.told loader.new ≡ L.told loader.old) }
+{
+    let mut loading = Loading::new(sources);
+    loading.goes_on = true;
+    let (sound, faults) = loading.part(roots, loader)?;
+    loading.goes_on = false;
+    let (sources, compiled) = settle(loading, &sound, loader)?;
+    Ok(SoundRoots {
+        sources,
+        roots: sound,
+        compiled,
+        faults,
+    })
+}
+
+// What roots compile to that were explored.
+//
+// No promise rests on the exploration: what the compiled roots have absent is looked at, and a name among it that wasn't tried would be
+// loaded, and the roots explored and compiled again.
+fn settle<L: Loader>(
+    mut loading: Loading,
+    roots: &[Name],
+    loader: &mut L,
+) -> Result<(Sources, Vec<CompiledRoot>), CompileFault>
+    requires { IsTrue (L.told loader.old) loading.sources loading.missing.keys }
+    ensures compiled { IfOk result
+        (λ p. AreCompiled (L.told loader.old) loading.sources p.0 roots.now p.1.items) }
+    ensures still { OnOk result (L.told loader.new ≡ L.told loader.old) }
+{
     let mut rounds_left = u64::MAX;
     'rounds: loop {
-        loading.explore_all(roots, loader)?;
         let compiled = compile_each(&mut loading.sources, roots)?;
         let Some(name) = loading.untried(&compiled) else {
             let sources = loading.into_sources();
@@ -47,6 +117,7 @@ pub fn compile_all<L: Loader>(
         }
         rounds_left -= 1;
         loading.load(name, loader)?;
+        loading.explore_all(roots, loader)?;
     }
 }
 
@@ -55,6 +126,10 @@ struct Loading {
     sources: Sources,
     missing: IndexSet<Name>,
     explorer: Explorer<Sources>,
+    // Whether a file with which there is trouble isn't there to the root that asks for it.
+    goes_on: bool,
+    // The first such trouble of the present root.
+    trouble: Option<CompileFault>,
 }
 
 impl Drop for Loading {
@@ -63,6 +138,8 @@ impl Drop for Loading {
             sources: _sources,
             missing: _missing,
             explorer: _explorer,
+            goes_on: _goes_on,
+            trouble: _trouble,
         } = self;
     }
 }
@@ -78,6 +155,8 @@ impl Loading {
             sources,
             missing: IndexSet::new(alloc),
             explorer: Explorer::new(alloc),
+            goes_on: false,
+            trouble: None,
         }
     }
 
@@ -89,6 +168,8 @@ impl Loading {
             sources,
             missing: _missing,
             explorer: _explorer,
+            goes_on: _goes_on,
+            trouble: _trouble,
         } = self;
         sources
     }
@@ -100,11 +181,62 @@ impl Loading {
             (IsLoading (L.told loader.old) (L.told loader.new) self.old self.new) }
     {
         'roots: for root in roots {
-            self.explorer = Explorer::new(self.sources.allocator());
-            if let Some(file) = self.own_file(root, loader)? {
-                self.explore(loader, MAX_DEPTH - 1, &file)?;
-            }
+            self.explore_root(root, loader)?;
         }
+        Ok(())
+    }
+
+    // Loads what a root asks for.
+    fn explore_root<L: Loader>(&mut self, root: &Name, loader: &mut L) -> Result<(), CompileFault>
+        ensures { OnOk result
+            (IsLoading (L.told loader.old) (L.told loader.new) self.old self.new) }
+    {
+        self.explorer = Explorer::new(self.sources.allocator());
+        match self.own_file(root, loader)? {
+            Some(file) => self.explore(loader, MAX_DEPTH - 1, &file),
+            None => Ok(()),
+        }
+    }
+
+    // Loads what the roots ask for, and parts those that come without trouble from the first trouble of each other one.
+    #[inline(never)]
+    fn part<L: Loader>(
+        &mut self,
+        roots: &[Name],
+        loader: &mut L,
+    ) -> Result<(Vec<Name>, Vec<CompileFault>), CompileFault>
+        ensures loading { OnOk result
+            (IsLoading (L.told loader.old) (L.told loader.new) self.old self.new) }
+        ensures left { IfOk result
+            (λ p. AreAllBut roots.now (length p.1.items) p.0.items) }
+    {
+        let mut sound = Vec::new(self.sources.allocator());
+        let mut faults = Vec::new(self.sources.allocator());
+        'roots: for root in roots {
+            self.explore_root(root, loader)?;
+            self.part_root(root, &mut sound, &mut faults)
+                .map_err(|_| no_memory(root))?;
+        }
+        Ok((sound, faults))
+    }
+
+    // Puts a root that was explored behind those that come without trouble, or its trouble behind that of others.
+    fn part_root(
+        &mut self,
+        root: &Name,
+        sound: &mut Vec<Name>,
+        faults: &mut Vec<CompileFault>,
+    ) -> Result<(), AllocError>
+        ensures sources { self.new.sources ≡ self.old.sources }
+        ensures missing { self.new.missing.keys ≡ self.old.missing.keys }
+        ensures parted { OnOk result (IsParted root.now sound.old.items sound.new.items
+            (length faults.old.items) (length faults.new.items)) }
+    {
+        if let Some(fault) = self.trouble.take() {
+            faults.push(fault)?;
+            return Ok(());
+        }
+        sound.push(root.copied())?;
         Ok(())
     }
 
@@ -208,17 +340,43 @@ impl Loading {
             return Ok(false);
         }
         match loader.load(name) {
-            Loaded::Bytes(bytes) => {
-                put(&mut self.sources, name, &bytes).map_err(|refusal| refused(name, refusal))?;
-                Ok(true)
-            }
+            Loaded::Bytes(bytes) => self.take_bytes(name, &bytes),
             Loaded::Missing => match self.missing.insert(name.copied()) {
                 Ok(_) => Ok(false),
                 Err(_) => Err(no_memory(name)),
             },
-            Loaded::Failed => Err(CompileFault::CannotRead(name.copied())),
+            Loaded::Failed => self.meet(CompileFault::CannotRead(name.copied())),
             Loaded::NoMemory => Err(no_memory(name)),
         }
+    }
+
+    // Puts a file of these bytes, and tells whether it is there.
+    fn take_bytes(&mut self, name: &Name, bytes: &[u8]) -> Result<bool, CompileFault>
+        ensures taken { OnOk result
+            ((self.new.sources ≡ record self.old.sources {
+              files = finite.insert self.old.sources.files name.now (cut_lines bytes.now);
+            })
+            ⊎ (self.new.sources ≡ self.old.sources)) }
+        ensures missing { self.new.missing.keys ≡ self.old.missing.keys }
+    {
+        match put(&mut self.sources, name, bytes) {
+            Ok(()) => Ok(true),
+            Err(fault) => self.meet(fault),
+        }
+    }
+
+    // There is trouble with a file: it ends the program, or the file isn't there to the present root.
+    fn meet(&mut self, fault: CompileFault) -> Result<bool, CompileFault>
+        ensures sources { self.new.sources ≡ self.old.sources }
+        ensures missing { self.new.missing.keys ≡ self.old.missing.keys }
+    {
+        if !self.goes_on {
+            return Err(fault);
+        }
+        if self.trouble.is_none() {
+            self.trouble = Some(fault);
+        }
+        Ok(false)
     }
 
     // The first name that a compiled root asks for, that isn't there, and that wasn't tried.
@@ -248,12 +406,18 @@ impl Loading {
 }
 
 // Puts a file of these bytes.
-fn put(sources: &mut Sources, name: &Name, bytes: &[u8]) -> Result<(), Refusal>
-    ensures { let files = finite.insert sources.old.files name.now (cut_lines bytes.now) in
+fn put(sources: &mut Sources, name: &Name, bytes: &[u8]) -> Result<(), CompileFault>
+    ensures put { let files = finite.insert sources.old.files name.now (cut_lines bytes.now) in
         OnOk result (sources.new ≡ record sources.old { files = files }) }
+    ensures same { OnErr result (sources.new ≡ sources.old) }
 {
-    let lines = cut(sources.allocator(), bytes)?;
-    sources.put(name, lines)
+    let lines = cut(sources.allocator(), bytes).map_err(|_| no_memory(name))?;
+    let limit = Limit::of_file(&lines);
+    match sources.put(name, lines) {
+        Ok(()) => Ok(()),
+        Err(Refusal::OverLimit) => Err(CompileFault::OverLimit(name.copied(), limit)),
+        Err(refusal) => Err(refused(name, refusal)),
+    }
 }
 
 // What each of the roots compiles to.

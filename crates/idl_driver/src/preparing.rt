@@ -1,10 +1,12 @@
 //! What options ask for: macros, directories and roots.
 
-ghost use Rattle.std.specs.Prelude.{◌≡◌, ◌∷◌, [], Some, map, IfOk, OnOk};
+ghost use Rattle.std.specs.Prelude.{◌≡◌, ◌++◌, ◌∷◌, [], Some, codes, filter, fold, map, IfOk, OnOk};
 ghost use Rattle.std.specs.FinMap as finite;
-ghost use Rattle.idl_driver.specs.Options.{AreAsked, before_equals, defined_by, macro_body, named_by, searched_by, undefined_by};
+ghost use Rattle.idl_driver.specs.Options.{AreAsked, AreAskedBut, IsOver, before_equals, defined_by, is_nameless, macro_body, named_by, searched_by, undefined_by, with_name, with_word};
+ghost use Rattle.idl_source.specs.names.Path.{joined_path};
 
 use crate::failure::OptionsFault;
+use crate::limit::Limit;
 use crate::options::Options;
 use idl_inputs::MAX_ROOTS;
 use idl_source::path::directory_at;
@@ -22,12 +24,36 @@ pub fn prepared<'a>(
     ensures asked { IfOk result (λ p. AreAsked options.now p.0 p.1.keys) }
     ensures files { IfOk result (λ p. p.0.files ≡ finite.empty) }
 {
+    let sources = over(alloc, options)?;
+    let roots = roots_of(alloc, &options.files)?;
+    Ok((sources, roots))
+}
+
+/// The same of those of the FILEs that lead to names, and the others.
+#[inline(never)]
+pub fn prepared_but<'a>(
+    alloc: Global,
+    options: &Options<'a>,
+) -> Result<(Sources, IndexSet<Name>, Vec<&'a str>), OptionsFault<'a>>
+    ensures asked { IfOk result (λ p.
+        AreAskedBut options.now p.0 p.1.keys (map (λ w. w.now) p.2.items)) }
+    ensures files { IfOk result (λ p. p.0.files ≡ finite.empty) }
+{
+    let sources = over(alloc, options)?;
+    let (roots, nameless) = roots_among(alloc, &options.files)?;
+    Ok((sources, roots, nameless))
+}
+
+// Sources with the macros and directories of the options.
+fn over<'a>(alloc: Global, options: &Options<'a>) -> Result<Sources, OptionsFault<'a>>
+    ensures over { IfOk result (λ sources. IsOver options.now sources) }
+    ensures files { IfOk result (λ sources. sources.files ≡ finite.empty) }
+{
     let mut sources = Sources::new(alloc);
     define_all(&mut sources, &options.defines)?;
     undefine_all(&mut sources, &options.undefines)?;
     search_all(&mut sources, &options.directories)?;
-    let roots = roots_of(alloc, &options.files)?;
-    Ok((sources, roots))
+    Ok(sources)
 }
 
 // Defines each macro, the last of one name in place of those before it.
@@ -54,7 +80,7 @@ fn define<'a>(sources: &mut Sources, word: &'a str) -> Result<(), OptionsFault<'
     };
     match sources.define(name, line) {
         Ok(_) => Ok(()),
-        Err(refusal) => Err(refused(word, refusal)),
+        Err(refusal) => Err(OptionsFault::refused(word, refusal, Limit::of_macro(body))),
     }
 }
 
@@ -102,9 +128,9 @@ fn search_all<'a>(sources: &mut Sources, words: &[&'a str]) -> Result<(), Option
 {
     let mut directories: Vec<Directory> = Vec::new(sources.allocator());
     'words: for word in words {
-        search_in(sources, &mut directories, word.as_bytes()).map_err(|refusal| refused(
-            word, refusal,
-        ))?;
+        search_in(sources, &mut directories, word.as_bytes()).map_err(
+            |refusal| OptionsFault::refused(word, refusal, Limit::Directories),
+        )?;
     }
     Ok(())
 }
@@ -143,16 +169,75 @@ fn roots_of<'a>(alloc: Global, words: &[&'a str]) -> Result<IndexSet<Name>, Opti
 {
     let mut roots = IndexSet::new(alloc);
     'words: for word in words {
-        add(&mut roots, word.as_bytes()).map_err(|refusal| refused(word, refusal))?;
+        add(&mut roots, word.as_bytes()).map_err(|refusal| OptionsFault::refused(
+            word,
+            refusal,
+            Limit::Roots,
+        ))?;
     }
     Ok(roots)
+}
+
+// The names that these words lead to, each once, and the words that lead to none.
+fn roots_among<'a>(
+    alloc: Global,
+    words: &[&'a str],
+) -> Result<(IndexSet<Name>, Vec<&'a str>), OptionsFault<'a>>
+    ensures named { IfOk result (λ p.
+        p.0.keys ≡ fold with_word [] (map (λ w. w.now) words.entry.now)) }
+    ensures nameless { IfOk result (λ p. map (λ w. w.now) p.1.items
+        ≡ filter is_nameless (map (λ w. w.now) words.entry.now)) }
+{
+    let mut roots = IndexSet::new(alloc);
+    let mut nameless = Vec::new(alloc);
+    'words: for word in words {
+        add_word(&mut roots, &mut nameless, word).map_err(|refusal| OptionsFault::refused(
+            word,
+            refusal,
+            Limit::Roots,
+        ))?;
+    }
+    Ok((roots, nameless))
+}
+
+// Puts the name that a word leads to in, or the word behind those that lead to none.
+fn add_word<'a>(
+    roots: &mut IndexSet<Name>,
+    nameless: &mut Vec<&'a str>,
+    word: &'a str,
+) -> Result<(), Refusal>
+    ensures named { OnOk result (roots.new.keys ≡ with_word roots.old.keys word.entry.now) }
+    ensures nameless { OnOk result (map (λ w. w.now) nameless.new.items
+        ≡ map (λ w. w.now) nameless.old.items ++ filter is_nameless (word.entry.now ∷ [])) }
+{
+    let Some(name) = name_at(word.as_bytes()) else {
+        nameless.push(word)?;
+        return Ok(());
+    };
+    put_root(roots, name)
+}
+
+// The name that a word leads to.
+fn name_at(word: &[u8]) -> Option<Name>
+    ensures { result ≡ joined_path (codes ".") word.now }
+{
+    match Directory::new(b".") {
+        Some(here) => join(&here, word),
+        None => None,
+    }
 }
 
 fn add(roots: &mut IndexSet<Name>, word: &[u8]) -> Result<(), Refusal>
     ensures { OnOk result (named_by roots.old.keys (word.now ∷ []) ≡ Some roots.new.keys) }
 {
-    let here = Directory::new(b".").ok_or(Refusal::BadName)?;
-    let name = join(&here, word).ok_or(Refusal::BadName)?;
+    let name = name_at(word).ok_or(Refusal::BadName)?;
+    put_root(roots, name)
+}
+
+// Puts a root in, if it isn't there.
+fn put_root(roots: &mut IndexSet<Name>, name: Name) -> Result<(), Refusal>
+    ensures { OnOk result (roots.new.keys ≡ with_name roots.old.keys name) }
+{
     roots.insert(name)?;
     if roots.len() > MAX_ROOTS {
         return Err(Refusal::OverLimit);

@@ -1,11 +1,12 @@
--- As many turns are needed as entities are declared and bases named.
-use Rattle.std.proofs.Common.{◌≡◌, ◌++◌, ◌+◌, ℕ, suc, List, [], ◌∷◌, refl, length, length-append, arith}
+-- As many turns are needed as entities are declared and bases named; and where additions leave which answers.
+use Rattle.std.proofs.Common.{◌≡◌, ◌++◌, ◌+◌, ◌∙◌, ℕ, suc, Bool, true, false, cond, List, [], ◌∷◌, ap, refl, length, length-append, arith}
 use Rattle.std.specs.Prelude.{flat_map}
-use Rattle.idl_env.specs.Facts.{UnitFacts}
+use Rattle.idl_entity.specs.Entity.{is_operation}
+use Rattle.idl_env.specs.Facts.{UnitFacts, answer_of, key_of, operations_among}
 use Rattle.idl_env.specs.Turns.{bases_among, bases_named, declared_among, declared_named, turns_among, turns_for}
 use Rattle.idl_env.specs.declared.additions.addition.Addition.{Addition}
-use Rattle.idl_env.specs.declared.additions.addition.Addition.TheVariants.{Declares}
-use Rattle.idl_plain.specs.Additions.{named_by}
+use Rattle.idl_env.specs.declared.additions.addition.Addition.TheVariants.{Appears, Declares, Identifies, TypePrefixes, Uses, UsesFurther}
+use Rattle.idl_plain.specs.Additions.{left_by, named_by, operation_by}
 
 abbrev named : List Addition → List (List (List ℕ))
 named additions = flat_map named_by additions
@@ -33,3 +34,30 @@ turns-needed (f ∷ facts) =
     let parts : length (named f.additions ++ named_in facts) ≡ length (named f.additions) + length (named_in facts) = length-append (named f.additions) (named_in facts) in
     let told : length (bases_among f.additions ++ bases_named facts) + length (declared_among f.additions ++ declared_named facts) ≡ length (named f.additions ++ named_in facts) = omega (arith, bases, paths, here, more, parts) in
     told
+
+pub keys-told : (a : Addition) → key_of a ≡ (left_by a).0
+keys-told (Declares e) = refl
+keys-told (Uses n path body) = refl
+keys-told (UsesFurther n path further) = refl
+keys-told (Appears path prefix) = refl
+keys-told (Identifies path fixed) = refl
+keys-told (TypePrefixes path text) = refl
+
+pub answers-told : (a : Addition) → answer_of a ≡ (left_by a).1
+answers-told (Declares e) = refl
+answers-told (Uses n path body) = refl
+answers-told (UsesFurther n path further) = refl
+answers-told (Appears path prefix) = refl
+answers-told (Identifies path fixed) = refl
+answers-told (TypePrefixes path text) = refl
+
+one-more : (b : Bool) (p : List (List ℕ)) (paths : List (List (List ℕ))) → cond b (p ∷ paths) paths ≡ cond b (p ∷ []) [] ++ paths
+one-more true p paths = refl
+one-more false p paths = refl
+
+pub operations-told : (additions : List Addition) → operations_among additions ≡ flat_map operation_by additions
+operations-told [] = refl
+operations-told (Declares e ∷ additions) =
+    ap (λ (paths : List (List (List ℕ))). cond (is_operation e) (e.path ∷ paths) paths) (operations-told additions)
+    ∙ one-more (is_operation e) e.path (flat_map operation_by additions)
+operations-told (a ∷ additions) = operations-told additions

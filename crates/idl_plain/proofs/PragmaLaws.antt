@@ -1,15 +1,21 @@
 -- Tokens are a pragma where they are spelled as it is.
-use Rattle.std.proofs.Common.{◌≡◌, ◌∙◌, ℕ, Bool, true, false, cond, List, [], ◌∷◌, ◌++◌, Option, None, Some, refl, sym, ap, subst, map}
-use Rattle.std.specs.Prelude.{◌↔◌, codes, flat_map}
+use Rattle.std.proofs.Common.{◌≡◌, ◌∙◌, ◌⊎◌, ◌+◌, ℕ, suc, length, take, drop, inl, inr, arith, Bool, true, false, cond, List, [], ◌∷◌, ◌++◌, Option, None, Some, refl, sym, ap, subst, map}
+use Rattle.std.proofs.Math.Seq.{take-append_seam}
+use Rattle.std.proofs.lemmas.Bool.{and_parts}
+use Rattle.std.specs.List.{after_first, before_first, list_all, prefix_len}
+use Rattle.std.specs.Prelude.{◌&&◌, ◌↔◌, codes, flat_map, nat_le, not}
 use Rattle.std.specs.Cmp.Lexicographic.{bytes_decides}
 use Rattle.std.specs.Option.{option_map}
 use Rattle.std.specs.Str.{bytes_eq}
+use Rattle.idl_base.specs.Exact.{same_number}
+use Rattle.idl_lex.specs.bytes.Byte.{is_digit}
 use Rattle.idl_lex.specs.kinds.Kind.{kind_of, name_by}
+use Rattle.idl_lex.specs.kinds.Number.{number}
 use Rattle.idl_lex.specs.tokens.Tokens.{Token}
 use Rattle.idl_lex.specs.declared.kinds.kind.TokenKind.{TokenKind}
-use Rattle.idl_lex.specs.declared.kinds.kind.TokenKind.TheVariants.{Punctuation}
-use Rattle.idl_plain.specs.Pragma.{AreWords, IsPragma, name_token, name_tokens}
-use Rattle.idl_tree.specs.Pragma.{further_parts, id_of, is_separator, name_before, name_from, named, only, part_by, part_of, pragma_of, prefix_of, text_of, version_of, versioned, with_part}
+use Rattle.idl_lex.specs.declared.kinds.kind.TokenKind.TheVariants.{Punctuation, String}
+use Rattle.idl_plain.specs.Pragma.{AreWords, IsPragma, IsText, IsVersion, name_token, name_tokens}
+use Rattle.idl_tree.specs.Pragma.{both, further_parts, id_of, is_dot, is_separator, name_before, name_from, named, only, part_by, part_of, pragma_of, prefix_of, text_by, text_of, version_number, version_of, versioned, with_part}
 use Rattle.idl_tree.specs.declared.name.ScopedName.{ScopedName}
 use Rattle.idl_tree.specs.declared.pragma.Pragma.{Pragma}
 use Rattle.idl_tree.specs.declared.pragma.Pragma.TheVariants.{Id, Prefix, Version}
@@ -174,6 +180,94 @@ nothing-more : (front : List Token) → map name_token front ≡ [] → front �
 nothing-more [] h = refl
 nothing-more (t ∷ front) h = absurd (no-more (name_token t) (map name_token front) (sym h))
 
+-- ---- texts and versions
+
+text-by : (t : Token) (text : List ℕ) (k : TokenKind) → kind_of t ≡ k → text_by k t ≡ Some text → IsText t text
+text-by t text String is h = (is, h)
+text-by t text other is h = absurd (no-some text h)
+
+text-read : (t : Token) (text : List ℕ) → IsText t text → text_of t ≡ Some text
+text-read t text is = ap (λ k. text_by k t) is.0 ∙ is.1
+
+-- how many bytes stand before the first dot
+abbrev dot : List ℕ → ℕ
+dot bytes = prefix_len (λ b. not (is_dot b)) bytes
+
+-- none stands behind it, or it is there
+abbrev Cut : List ℕ → ℕ → Type 0
+Cut bytes n = (drop (n + 1) bytes ≡ []) ⊎ (bytes ≡ take n bytes ++ 46 ∷ drop (n + 1) bytes)
+
+cut-at_dot : (bytes : List ℕ) → Cut bytes (dot bytes)
+cut-at_dot [] = inl refl
+cut-at_dot (b ∷ bytes) = by (is_dot b) refl (cut-at_dot bytes)
+  where
+    behind : (n : ℕ) → suc n + 1 ≡ suc (n + 1)
+    behind n = omega arith
+
+    further-on : (n : ℕ) → Cut bytes n → Cut (b ∷ bytes) (suc n)
+    further-on n (inl h) = inl (ap (λ m. drop m (b ∷ bytes)) (behind n) ∙ h)
+    further-on n (inr h) = inr (ap (λ bs. b ∷ bs) h ∙ ap (λ m. b ∷ take n bytes ++ 46 ∷ drop m (b ∷ bytes)) (sym (behind n)))
+
+    one-more : (n : ℕ) → suc n ≡ 1 + n
+    one-more n = omega arith
+
+    by : (d : Bool) → is_dot b ≡ d → Cut bytes (dot bytes) → Cut (b ∷ bytes) (cond (not d) (1 + dot bytes) 0)
+    by true is c = inr (ap (λ x. x ∷ bytes) (same_number b 46 is))
+    by false is c = subst (Cut (b ∷ bytes)) (one-more (dot bytes)) (further-on (dot bytes) c)
+
+no-dot : (b : ℕ) → is_digit b ≡ true → is_dot b ≡ false
+no-dot b h = by (is_dot b) refl
+  where
+    untrue : false ≡ true → ⊥
+    untrue e = cc
+
+    by : (d : Bool) → is_dot b ≡ d → d ≡ false
+    by false is = refl
+    by true is = absurd (untrue (sym (ap is_digit (same_number b 46 is)) ∙ h))
+
+dot-behind : (front back : List ℕ) → list_all is_digit front ≡ true → dot (front ++ 46 ∷ back) ≡ length front
+dot-behind [] back h = refl
+dot-behind (b ∷ front) back h =
+    let parts = and_parts (is_digit b) (list_all is_digit front) h in
+    ap (λ d. cond (not d) (1 + dot (front ++ 46 ∷ back)) 0) (no-dot b parts.0) ∙ ap (λ n. 1 + n) (dot-behind front back parts.1) ∙ one-more (length front)
+  where
+    one-more : (n : ℕ) → 1 + n ≡ suc n
+    one-more n = omega arith
+
+drop-seam : (front back : List ℕ) → drop (length front + 1) (front ++ 46 ∷ back) ≡ back
+drop-seam [] back = refl
+drop-seam (b ∷ front) back = ap (λ n. drop n (b ∷ front ++ 46 ∷ back)) (behind (length front)) ∙ drop-seam front back
+  where
+    behind : (n : ℕ) → suc n + 1 ≡ suc (n + 1)
+    behind n = omega arith
+
+digits-number : (bytes : List ℕ) (n : ℕ) → version_number bytes ≡ Some n → list_all is_digit bytes ≡ true
+digits-number [] n h = absurd (no-some n h)
+digits-number (b ∷ bytes) n h = by (list_all is_digit (b ∷ bytes) && nat_le (number 10 (b ∷ bytes)) 65535) refl h
+  where
+    by : (c : Bool) → (list_all is_digit (b ∷ bytes) && nat_le (number 10 (b ∷ bytes)) 65535) ≡ c → cond c (Some (number 10 (b ∷ bytes))) None ≡ Some n → list_all is_digit (b ∷ bytes) ≡ true
+    by true is g = (and_parts (list_all is_digit (b ∷ bytes)) (nat_le (number 10 (b ∷ bytes)) 65535) is).0
+    by false is g = absurd (no-some n g)
+
+version-spelled : (t : Token) (v : ℕ × ℕ) → version_of t ≡ Some v → IsVersion t v.0 v.1
+version-spelled t v h = by (version_number (before_first is_dot t)) refl (version_number (after_first is_dot t)) refl (cut-at_dot t) h
+  where
+    by : (a : Option ℕ) → version_number (before_first is_dot t) ≡ a → (b : Option ℕ) → version_number (after_first is_dot t) ≡ b → Cut t (dot t) → both a b ≡ Some v → IsVersion t v.0 v.1
+    by None front b back c g = absurd (no-some v g)
+    by (Some m) front None back c g = absurd (no-some v g)
+    by (Some m) front (Some n) back (inl none) g = absurd (no-some n (sym (ap version_number none) ∙ back))
+    by (Some m) front (Some n) back (inr cut) g =
+        subst (λ (w : ℕ × ℕ). IsVersion t w.0 w.1) (some-same (m, n) v g) (before_first is_dot t, after_first is_dot t, cut, front, back)
+
+version-read : (t : Token) (major minor : ℕ) → IsVersion t major minor → version_of t ≡ Some (major, minor)
+version-read t major minor is =
+    let at = dot-behind is.0 is.1 (digits-number is.0 major is.3) in
+    ap version_of is.2
+    ∙ ap (λ bytes. both (version_number bytes) (version_number (after_first is_dot (is.0 ++ 46 ∷ is.1)))) (ap (λ n. take n (is.0 ++ 46 ∷ is.1)) at ∙ take-append_seam is.0 (46 ∷ is.1))
+    ∙ ap (λ bytes. both (version_number is.0) (version_number bytes)) (ap (λ n. drop (n + 1) (is.0 ++ 46 ∷ is.1)) at ∙ drop-seam is.0 is.1)
+    ∙ ap (λ o. both o (version_number is.1)) is.3
+    ∙ ap (λ o. both (Some major) o) is.4
+
 -- ---- both ways
 
 module _ (f word : Token) (operands : List Token) (p : Pragma) where
@@ -186,7 +280,7 @@ module _ (f word : Token) (operands : List Token) (p : Pragma) where
     where
       by : (o : Option (List ℕ)) → text_of last ≡ o → option_map Prefix o ≡ Some p → IsPragma (f ∷ word ∷ operands) p
       by None text k = absurd (no-some p k)
-      by (Some t) text k = subst (IsPragma (f ∷ word ∷ operands)) (some-same (Prefix t) p k) (last, words [] (codes "prefix") last is ([], one-spelled operands last one, refl), text)
+      by (Some t) text k = subst (IsPragma (f ∷ word ∷ operands)) (some-same (Prefix t) p k) (last, words [] (codes "prefix") last is ([], one-spelled operands last one, refl), text-by last t (kind_of last) refl text)
 
   id-there : bytes_eq word (codes "ID") ≡ true → (o : Option (ScopedName × Token)) → name_before operands ≡ o → id_of o ≡ Some p → IsPragma (f ∷ word ∷ operands) p
   id-there is None there h = absurd (no-some p h)
@@ -194,7 +288,7 @@ module _ (f word : Token) (operands : List Token) (p : Pragma) where
     where
       by : (o : Option (List ℕ)) → text_of read.1 ≡ o → option_map (Id read.0) o ≡ Some p → IsPragma (f ∷ word ∷ operands) p
       by None text k = absurd (no-some p k)
-      by (Some t) text k = subst (IsPragma (f ∷ word ∷ operands)) (some-same (Id read.0 t) p k) (read.1, words (name_tokens read.0) (codes "ID") read.1 is (name-spelled operands read there), text)
+      by (Some t) text k = subst (IsPragma (f ∷ word ∷ operands)) (some-same (Id read.0 t) p k) (read.1, words (name_tokens read.0) (codes "ID") read.1 is (name-spelled operands read there), text-by read.1 t (kind_of read.1) refl text)
 
   version-there : bytes_eq word (codes "version") ≡ true → (o : Option (ScopedName × Token)) → name_before operands ≡ o → versioned o ≡ Some p → IsPragma (f ∷ word ∷ operands) p
   version-there is None there h = absurd (no-some p h)
@@ -202,7 +296,7 @@ module _ (f word : Token) (operands : List Token) (p : Pragma) where
     where
       by : (o : Option (ℕ × ℕ)) → version_of read.1 ≡ o → option_map (λ v. Version read.0 v.0 v.1) o ≡ Some p → IsPragma (f ∷ word ∷ operands) p
       by None version k = absurd (no-some p k)
-      by (Some v) version k = subst (IsPragma (f ∷ word ∷ operands)) (some-same (Version read.0 v.0 v.1) p k) (read.1, words (name_tokens read.0) (codes "version") read.1 is (name-spelled operands read there), version)
+      by (Some v) version k = subst (IsPragma (f ∷ word ∷ operands)) (some-same (Version read.0 v.0 v.1) p k) (read.1, words (name_tokens read.0) (codes "version") read.1 is (name-spelled operands read there), version-spelled read.1 v version)
 
   there-by : (a b c : Bool) → bytes_eq word (codes "prefix") ≡ a → bytes_eq word (codes "ID") ≡ b → bytes_eq word (codes "version") ≡ c
       → cond a (prefix_of (only operands)) (cond b (id_of (name_before operands)) (cond c (versioned (name_before operands)) None)) ≡ Some p → IsPragma (f ∷ word ∷ operands) p
@@ -218,11 +312,11 @@ there (f ∷ word ∷ operands) p h = there-by f word operands p (bytes_eq word 
 
 back : (tokens : List Token) (p : Pragma) → IsPragma tokens p → pragma_of tokens ≡ Some p
 back tokens (Prefix text) is =
-    ap pragma_of is.1.2 ∙ ap (λ front. prefix_of (only (front ++ is.0 ∷ []))) (nothing-more is.1.1 is.1.3) ∙ ap (λ o. option_map Prefix o) is.2
+    ap pragma_of is.1.2 ∙ ap (λ front. prefix_of (only (front ++ is.0 ∷ []))) (nothing-more is.1.1 is.1.3) ∙ ap (λ o. option_map Prefix o) (text-read is.0 text is.2)
 back tokens (Id name text) is =
-    ap pragma_of is.1.2 ∙ ap id_of (name-read name is.1.1 is.0 is.1.3) ∙ ap (λ o. option_map (Id name) o) is.2
+    ap pragma_of is.1.2 ∙ ap id_of (name-read name is.1.1 is.0 is.1.3) ∙ ap (λ o. option_map (Id name) o) (text-read is.0 text is.2)
 back tokens (Version name major minor) is =
-    ap pragma_of is.1.2 ∙ ap versioned (name-read name is.1.1 is.0 is.1.3) ∙ ap (λ o. option_map (λ (v : ℕ × ℕ). Version name v.0 v.1) o) is.2
+    ap pragma_of is.1.2 ∙ ap versioned (name-read name is.1.1 is.0 is.1.3) ∙ ap (λ o. option_map (λ (v : ℕ × ℕ). Version name v.0 v.1) o) (version-read is.0 major minor is.2)
 
 pub spelled : (tokens : List Token) (p : Pragma) → (pragma_of tokens ≡ Some p) ↔ IsPragma tokens p
 spelled tokens p = (there tokens p, back tokens p)

@@ -1,3 +1,13 @@
 pub mod Additions
+pub mod Allowance
+pub mod Coded
+pub mod Condition
+pub mod Declared
 pub mod Ending
+pub mod Expression
+pub mod Operators
 pub mod Pragma
+pub mod Steps
+pub mod Tokens
+pub mod Types
+pub mod Used

@@ -2,12 +2,12 @@
 //!
 //! Each function does nothing: it carries its laws as clauses, which hold of any values.
 
-ghost use Rattle.std.specs.Prelude.{◌≡◌, ◌↔◌, ℕ, List, Option, None, Some, flat_map, length, map, true, if◌then◌else◌};
+ghost use Rattle.std.specs.Prelude.{◌≡◌, ◌↔◌, ℕ, ℤ, List, Option, None, Some, flat_map, length, map, true, if◌then◌else◌};
 ghost use Rattle.idl_check.specs.walk.Placing.{faulty_step, opened_kind};
 ghost use Rattle.idl_entity.specs.Kind.{kind_eq, stage_eq};
 ghost use Rattle.idl_entity.specs.declared.kind.Kind.{Kind};
 ghost use Rattle.idl_entity.specs.declared.kind.Stage.{Stage};
-ghost use Rattle.idl_env.specs.Facts.{UnitFacts};
+ghost use Rattle.idl_env.specs.Facts.{UnitFacts, answer_of, key_of, operations_among};
 ghost use Rattle.idl_env.specs.Turns.{turns_among, turns_for};
 ghost use Rattle.idl_env.specs.declared.additions.addition.Addition.{Addition};
 ghost use Rattle.idl_env.specs.declared.additions.addition.Step.TheVariants.{Closes, OpensNameless, Stays};
@@ -22,8 +22,10 @@ ghost use Rattle.idl_event.specs.declared.told.event.Event.{Event};
 ghost use Rattle.idl_event.specs.declared.told.event.Item.{Item};
 ghost use Rattle.idl_event.specs.declared.told.event.Item.TheVariants.{Kept};
 ghost use Rattle.idl_lex.specs.tokens.Tokens.{Token, tokens_in, tokens_of};
+ghost use Rattle.idl_macro.specs.Condition.{value};
 ghost use Rattle.idl_macro.specs.Macros.{body_in};
-ghost use Rattle.idl_plain.specs.Additions.{named_by};
+ghost use Rattle.idl_plain.specs.Additions.{left_by, named_by, operation_by};
+ghost use Rattle.idl_plain.specs.Condition.{Means};
 ghost use Rattle.idl_plain.specs.Ending.{ends_before, is_heading};
 ghost use Rattle.idl_plain.specs.Pragma.{IsPragma};
 ghost use Rattle.idl_prep.specs.Include.{file_in};
@@ -32,6 +34,8 @@ ghost use Rattle.idl_tree.specs.declared.pragma.Pragma.{Pragma};
 ghost use Rattle.idl_unit.specs.Ending.{begins, closes, ends, role};
 ghost use Rattle.idl_unit.specs.Scoping.{brace_from, opening_brace};
 ghost use Rattle.idl_value.specs.Equal.{path_eq};
+
+use idl_macro::conditions::grammar;
 
 /// A unit ends where its first tokens and its braces say, and so it opens or closes a scope.
 pub fn units()
@@ -49,6 +53,14 @@ pub fn pragmas()
     ensures { (tokens : List Token) (p : Pragma) → (pragma_of tokens ≡ Some p) ↔ IsPragma tokens p }
 {}
 
+/// A condition has a value where its tokens spell an expression of C that has it; else it is faulty.
+pub fn conditions()
+    ensures { (tokens : List Token) (z : ℤ) → (value tokens ≡ Some z)
+        ↔ Means 1 tokens (Some z) }
+{
+    grammar();
+}
+
 /// A test whether values are one holds of one value alone.
 pub fn sameness()
     ensures kinds { (x y : Kind) → (kind_eq x y ≡ true) ↔ (x ≡ y) }
@@ -58,12 +70,16 @@ pub fn sameness()
     ensures roots { (k other : RootKey) → (root_key_eq k other ≡ true) ↔ (k ≡ other) }
 {}
 
-/// A look-up needs as many turns as entities are declared and bases named.
+/// A look-up needs as many turns as entities are declared and bases named. Of each addition one line tells the key and the answer.
 pub fn additions()
     ensures turns { (additions : List Addition) → turns_among additions
         ≡ length (flat_map named_by additions) }
     ensures needed { (facts : List UnitFacts) → turns_for facts
         ≡ length (flat_map (λ f. flat_map named_by f.additions) facts) }
+    ensures keys { (a : Addition) → key_of a ≡ (left_by a).0 }
+    ensures answers { (a : Addition) → answer_of a ≡ (left_by a).1 }
+    ensures operations { (additions : List Addition) → operations_among additions
+        ≡ flat_map operation_by additions }
 {}
 
 /// An answer tells a file's lines, or the tokens of a macro's body, and an item an event, in one form alone.

@@ -5,6 +5,13 @@
 //! It stands apart since none of the code stands on it.
 #![tactic(auto)]
 
+mod forms;
 mod laws;
+mod tables;
 
-pub use laws::{additions, answers, pragmas, sameness, units};
+pub use forms::tests;
+pub use laws::{additions, answers, conditions, pragmas, sameness, units};
+pub use tables::{
+    allowances, declarations, expressions, numbers, operators, steps, tokens, type_codes, types,
+    uses,
+};

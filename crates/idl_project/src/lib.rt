@@ -26,8 +26,8 @@ pub use idl_prep;
 pub use idl_source::Span;
 pub use idl_sources;
 pub use idl_sources::idl_root::{
-    Compiled, DeclaredPlace, DetailedEntry, Details, Finding, Row, SitedToken, UsedName, idl_check,
-    idl_parse, idl_root_blocks, idl_scope,
+    Compiled, DeclaredPlace, DetailedEntry, Details, Finding, PlacedName, Row, SitedToken,
+    UsedName, idl_check, idl_parse, idl_root_blocks, idl_scope,
 };
 pub use idl_sources::{CompiledRoot, Sources, idl_root, related_over};
 pub use related::related_in;

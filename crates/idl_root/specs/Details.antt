@@ -32,10 +32,11 @@ abbrev pub listed_entries : List UnitFacts → List PlacedName → Listed → Li
 listed_entries facts names l = entries_at facts names l.path
 
 -- that of all names of a root, in the order in which they are declared first, over what all units
--- add, and what each used name of its units denotes
+-- add, where each name of its units is declared, and what each used one denotes
 abbrev pub details_after : List Event → List NamedUnit → Outcome → Details
 details_after events units o = record {
   entries = flat_map (listed_entries o.facts (declared_names events units)) o.listed;
+  declared = declared_names events units;
   uses = used_names events units;
 }
 

@@ -19,7 +19,7 @@ pub use compiling::laws::{
     telling, texts,
 };
 pub use compiling::memory::Memory;
-pub use compiling::places::{DeclaredPlace, SitedToken, UsedName};
+pub use compiling::places::{DeclaredPlace, PlacedName, SitedToken, UsedName};
 pub use idl_finding::Finding;
 pub use idl_root_blocks;
 pub use idl_root_blocks::{idl_check, idl_parse};

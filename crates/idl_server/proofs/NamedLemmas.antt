@@ -1,6 +1,11 @@
 -- The first item of a list that passes a test, as a loop finds it.
-use Rattle.std.proofs.Common.{◌≡◌, ◌≤◌, ◌<◌, ◌∙◌, ◌+◌, ◌||◌, ℕ, zero, suc, Bool, true, false, cond, List, [], ◌∷◌, None, Some, ap, arith, drop, get_or, length, refl, sym}
-use Rattle.std.specs.List.{find, list_any}
+use Rattle.std.proofs.Common.{◌≡◌, ◌≤◌, ◌<◌, ◌∙◌, ◌+◌, ◌-◌, ◌++◌, ℕ, zero, suc, Bool, true, false, cond, List, [], ◌∷◌, Option, None, Some, ap, append-nil, arith, drop, get_or, length, length-append, map, refl, slice_get, sym, take}
+use Rattle.std.proofs.lemmas.List.{map-append, take_more}
+use Rattle.std.proofs.lemmas.List.Elements.{filter-append}
+use Rattle.std.specs.List.{filter, find}
+use Rattle.idl_project.specs.idl_sources.idl_root.NamePlaces.{is_at, places_at}
+use Rattle.idl_project.specs.idl_sources.idl_root.declared.compiling.places.DeclaredPlace.{DeclaredPlace}
+use Rattle.idl_project.specs.idl_sources.idl_root.declared.compiling.places.PlacedName.{PlacedName}
 
 module _ {X : Type 0} (p : X → Bool) where
   next : (i : ℕ) → i + 1 ≡ suc i
@@ -28,22 +33,35 @@ module _ {X : Type 0} (p : X → Bool) where
   find-end (y ∷ ys) zero past = let no : ⊥ = omega (arith, past) in absurd no
   find-end (y ∷ ys) (suc i) past = find-end ys i (omega (arith, past))
 
-  -- the same of whether any passes
-  pub any-here : (xs : List X) (i : ℕ) (x : X) → i < length xs → x ≡ get_or xs i x → p x ≡ true → list_any p (drop i xs) ≡ true
-  any-here [] i x within is passes = let no : ⊥ = omega (arith, within) in absurd no
-  any-here (y ∷ ys) zero x within is passes = ap (λ z. list_any p (z ∷ ys)) (sym is) ∙ ap (λ b. b || list_any p ys) passes
-  any-here (y ∷ ys) (suc i) x within is passes = any-here ys i x (omega (arith, within)) is passes
+-- ---- the last one
 
-  any-after : (xs : List X) (i : ℕ) (x : X) → i < length xs → x ≡ get_or xs i x → p x ≡ false → list_any p (drop (suc i) xs) ≡ list_any p (drop i xs)
-  any-after [] i x within is fails = let no : ⊥ = omega (arith, within) in absurd no
-  any-after (y ∷ ys) zero x within is fails = sym (ap (λ z. list_any p (z ∷ ys)) (sym is) ∙ ap (λ b. b || list_any p ys) fails)
-  any-after (y ∷ ys) (suc i) x within is fails = any-after ys i x (omega (arith, within)) is fails
+at-length : {X : Type 0} (xs : List X) (y : X) → slice_get (xs ++ y ∷ []) (length xs) ≡ Some y
+at-length [] y = refl
+at-length (x ∷ xs) y = at-length xs y
 
-  pub any-past : (xs : List X) (i : ℕ) (x : X) → i < length xs → x ≡ get_or xs i x → p x ≡ false → list_any p (drop (i + 1) xs) ≡ list_any p (drop i xs)
-  any-past xs i x within is fails = ap (λ n. list_any p (drop n xs)) (next i) ∙ any-after xs i x within is fails
+last-pushed : {X : Type 0} (xs : List X) (y : X) → slice_get (xs ++ y ∷ []) (length (xs ++ y ∷ []) - 1) ≡ Some y
+last-pushed {X} xs y =
+    let end : length (xs ++ y ∷ []) - 1 ≡ length xs = omega (arith, length-append xs (y ∷ [])) in
+    ap (λ (n : ℕ). slice_get (xs ++ y ∷ []) n) end ∙ at-length xs y
 
-  pub any-end : (xs : List X) (i : ℕ) → length xs ≤ i → list_any p (drop i xs) ≡ false
-  any-end [] zero past = refl
-  any-end [] (suc i) past = refl
-  any-end (y ∷ ys) zero past = let no : ⊥ = omega (arith, past) in absurd no
-  any-end (y ∷ ys) (suc i) past = any-end ys i (omega (arith, past))
+abbrev last_of : List DeclaredPlace → Option DeclaredPlace
+last_of places = slice_get places (length places - 1)
+
+module _ (path : List (List ℕ)) (names : List PlacedName) (i : ℕ) (one : PlacedName) (within : i < length names) (is : one ≡ get_or names i one) where
+  places-next : places_at path (take (i + 1) names) ≡ places_at path (take i names) ++ places_at path (one ∷ [])
+  places-next =
+      ap (places_at path) (take_more names i one within ∙ ap (λ (n : PlacedName). take i names ++ n ∷ []) (sym is))
+      ∙ ap (map (λ (n : PlacedName). n.place)) (filter-append (is_at path) (take i names) (one ∷ []))
+      ∙ map-append (λ (n : PlacedName). n.place) (filter (is_at path) (take i names)) (filter (is_at path) (one ∷ []))
+
+  -- it is declared there
+  pub last-here : is_at path one ≡ true → Some one.place ≡ last_of (places_at path (take (i + 1) names))
+  last-here here =
+      let single : places_at path (one ∷ []) ≡ one.place ∷ [] = ap (λ (b : Bool). map (λ (n : PlacedName). n.place) (cond b (one ∷ []) [])) here in
+      sym (ap last_of (places-next ∙ ap (λ (more : List DeclaredPlace). places_at path (take i names) ++ more) single) ∙ last-pushed (places_at path (take i names)) one.place)
+
+  -- it isn't
+  pub last-past : is_at path one ≡ false → last_of (places_at path (take i names)) ≡ last_of (places_at path (take (i + 1) names))
+  last-past past =
+      let none : places_at path (one ∷ []) ≡ [] = ap (λ (b : Bool). map (λ (n : PlacedName). n.place) (cond b (one ∷ []) [])) past in
+      sym (ap last_of (places-next ∙ ap (λ (more : List DeclaredPlace). places_at path (take i names) ++ more) none ∙ append-nil (places_at path (take i names))))

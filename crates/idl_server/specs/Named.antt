@@ -1,9 +1,9 @@
 -- The name at a position, and what is shown of what it denotes.
 use Rattle.std.specs.Prelude.{ℕ, ◌-◌, Bool, ◌&&◌, ◌++◌, ◌∷◌, [], List, Option, None, Some, is_some, length, option_and_then, slice_get}
 use Rattle.std.specs.List.{find, list_any}
-use Rattle.std.specs.Option.{option_or}
+use Rattle.std.specs.Option.{option_map, option_or}
 use Rattle.std.specs.Str.{bytes_eq}
-use Rattle.idl_repo.specs.Row.{kind_word, path_text}
+use Rattle.idl_repo.specs.Row.{kind_word}
 use Rattle.idl_editor.specs.declared.change.Range.{Range}
 use Rattle.idl_editor.specs.declared.column.Encoding.{Encoding}
 use Rattle.idl_editor.specs.declared.position.Position.{Position}
@@ -14,7 +14,9 @@ use Rattle.idl_project.specs.Details.{details_of}
 use Rattle.idl_inputs.specs.Project.{Project}
 use Rattle.idl_project.specs.idl_sources.idl_root.declared.compiling.detailing.DetailedEntry.{DetailedEntry}
 use Rattle.idl_project.specs.idl_sources.idl_root.declared.compiling.detailing.Details.{Details}
+use Rattle.idl_project.specs.idl_sources.idl_root.NamePlaces.{places_at}
 use Rattle.idl_project.specs.idl_sources.idl_root.declared.compiling.places.DeclaredPlace.{DeclaredPlace}
+use Rattle.idl_project.specs.idl_sources.idl_root.declared.compiling.places.PlacedName.{PlacedName}
 use Rattle.idl_project.specs.idl_sources.idl_root.declared.compiling.places.SitedToken.{SitedToken}
 use Rattle.idl_project.specs.idl_sources.idl_root.declared.compiling.places.UsedName.{UsedName}
 use Rattle.idl_editor.specs.told.Json.{location_json}
@@ -39,15 +41,10 @@ stands_at encoding project name position token =
     && (is_some (column_of project token.place token.number token.text)
     && is_at position (token_range encoding project token))
 
--- what an entry is of is declared there
-abbrev pub is_declared_at : Encoding → Project → List ℕ → Position → DetailedEntry → Bool
-is_declared_at encoding project name position entry =
-    list_any (λ declared. stands_at encoding project name position declared.name) entry.places
-
--- the entry of what is declared at a position
-abbrev pub declared_entry : Encoding → Project → List ℕ → Position → Details → Option DetailedEntry
-declared_entry encoding project name position details =
-    find (is_declared_at encoding project name position) details.entries
+-- the first name that is declared there
+abbrev pub declared_at : Encoding → Project → List ℕ → Position → Details → Option PlacedName
+declared_at encoding project name position details =
+    find (λ declared. stands_at encoding project name position declared.place.name) details.declared
 
 -- the first name that is used there
 abbrev pub used_at : Encoding → Project → List ℕ → Position → Details → Option UsedName
@@ -61,19 +58,23 @@ has_path path entry = bytes_eq entry.tree.path path
 abbrev pub entry_of : Details → List ℕ → Option DetailedEntry
 entry_of details path = find (has_path path) details.entries
 
--- the entry of what a name at a position denotes: of what is declared there, and else of what the
+-- the path of what a name at a position denotes: of what is declared there, and else of what the
 -- first name denotes that is used there
-abbrev pub entry_at : Encoding → Project → Details → List ℕ → Position → Option DetailedEntry
-entry_at encoding project details name position =
-    option_or (declared_entry encoding project name position details)
-    (option_and_then (λ used. entry_of details (path_text used.path))
-    (used_at encoding project name position details))
+abbrev pub path_at : Encoding → Project → Details → List ℕ → Position → Option (List (List ℕ))
+path_at encoding project details name position =
+    option_or (option_map (λ declared. declared.path)
+    (declared_at encoding project name position details))
+    (option_map (λ used. used.path) (used_at encoding project name position details))
 
--- the last place where that is declared
+-- the last place where the name at a path is declared
+abbrev pub last_declared : Details → List (List ℕ) → Option DeclaredPlace
+last_declared details path =
+    let places = places_at path details.declared in slice_get places (length places - 1)
+
+-- the last place where what a name at a position denotes is declared
 abbrev pub declared_place : Encoding → Project → Details → List ℕ → Position → Option DeclaredPlace
 declared_place encoding project details name position =
-    option_and_then (λ entry. slice_get entry.places (length entry.places - 1))
-    (entry_at encoding project details name position)
+    option_and_then (last_declared details) (path_at encoding project details name position)
 
 -- a root asks for a file
 abbrev pub asks_for : Project → List ℕ → List ℕ → Bool

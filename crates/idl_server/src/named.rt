@@ -3,14 +3,19 @@
 ghost use Rattle.std.specs.Prelude.{◌≡◌, IfOk};
 ghost use Rattle.std.specs.Option.{option_copied, option_map};
 ghost use Rattle.serde_json.specs.View.{view};
-ghost use Rattle.idl_server.specs.Named.{declared_entry, declared_place, definition_at, definition_json, details_with, entry_at, entry_of, entry_text, has_path, is_declared_at, stands_at, used_at};
+ghost use Rattle.idl_server.specs.Places.{lines_of};
+ghost use Rattle.idl_server.specs.Named.{declared_at, declared_place, definition_at, definition_json, details_with, entry_of, entry_text, has_path, last_declared, path_at, stands_at, used_at};
 
-use crate::places::{LocatedToken, range_of};
+use crate::declarations::push_declaration;
+use crate::places::{CountedFile, LocatedToken, range_near, range_of};
 use crate::workspace::Workspace;
 use idl_editor::documents::uri_for;
 use idl_editor::told::{hover_value, location_value};
 use idl_editor::{Encoding, Position, is_up_to};
-use idl_project::{DeclaredPlace, DetailedEntry, Details, Row, Session, SitedToken, UsedName};
+use idl_entity::Path;
+use idl_project::{
+    DeclaredPlace, DetailedEntry, Details, PlacedName, Session, SitedToken, UsedName,
+};
 use idl_repo::details::kind_word;
 use idl_repo::push_path;
 use idl_source::Name;
@@ -33,22 +38,21 @@ impl Drop for RootDetails {
     }
 }
 
-/// A position in a file.
+// A position in a file.
 #[derive(Clone, Copy)]
-pub(crate) struct DocumentPosition<'a> {
-    pub name: &'a Name,
-    pub position: Position,
+struct DocumentPosition<'a> {
+    file: &'a CountedFile<'a>,
+    position: Position,
 }
 
 impl Workspace {
-    /// Where what the name at a position denotes is declared, and else nothing.
-    pub fn definition_at(&self, spot: DocumentPosition<'_>) -> Result<Value, AllocError>
+    /// Where what the name at a position of a file denotes is declared, and else nothing.
+    pub fn definition_at(&self, name: &Name, position: Position) -> Result<Value, AllocError>
         ensures { IfOk result (λ value. view value ≡ definition_json self.now
-            (definition_at self.now.encoding self.now.session.project
-            spot.entry.name.now spot.entry.position)) }
+            (definition_at self.now.encoding self.now.session.project name.now position)) }
     {
-        match self.details_with(spot.name)? {
-            Some(told) => self.definition_in(&told.details, spot),
+        match self.details_with(name)? {
+            Some(told) => self.definition_in(&told.details, name, position),
             None => Ok(Value::Null),
         }
     }
@@ -57,13 +61,19 @@ impl Workspace {
     fn definition_in(
         &self,
         details: &Details,
-        spot: DocumentPosition<'_>,
+        name: &Name,
+        position: Position,
     ) -> Result<Value, AllocError>
         ensures { IfOk result (λ value. view value ≡ definition_json self.now
             (declared_place self.now.encoding self.now.session.project details.now
-            spot.entry.name.now spot.entry.position)) }
+            name.now position)) }
     {
-        let Some(declared) = declared_place(&self.session, self.encoding, details, spot)? else {
+        let file = CountedFile::new(&self.session, name)?;
+        let spot = DocumentPosition {
+            file: &file,
+            position,
+        };
+        let Some(declared) = declared_place(&self.session, self.encoding, details, spot) else {
             return Ok(Value::Null);
         };
         let token = &declared.name;
@@ -72,20 +82,52 @@ impl Workspace {
         location_value(self.session.allocator(), &uri, range)
     }
 
-    /// What the name at a position denotes, and else nothing.
-    pub fn hover_at(&self, spot: DocumentPosition<'_>) -> Result<Value, AllocError> {
-        let Some(told) = self.details_with(spot.name)? else {
+    /// What the name at a position of a file denotes, and how that is declared; and else nothing.
+    pub fn hover_at(&self, name: &Name, position: Position) -> Result<Value, AllocError> {
+        let Some(told) = self.details_with(name)? else {
             return Ok(Value::Null);
         };
-        let Some(entry) = entry_at(&self.session, self.encoding, &told.details, spot)? else {
+        let file = CountedFile::new(&self.session, name)?;
+        let spot = DocumentPosition {
+            file: &file,
+            position,
+        };
+        let Some(path) = path_at(&self.session, self.encoding, &told.details, spot) else {
             return Ok(Value::Null);
         };
-        let row = match self.session.listing(told.root.as_bytes()) {
-            Some(rows) => row_of(rows, &told.details, entry),
-            None => None,
-        };
+        hover_value(self.session.allocator(), &self.shown_of(&told, path)?)
+    }
+
+    // What is shown of the name at a path: its entry and the lines of its declaration. One that has no entry is a member, an enumerator
+    // or a parameter, of which the line of its name is shown.
+    fn shown_of(&self, told: &RootDetails, path: &Path) -> Result<Vec<u8>, AllocError> {
         let alloc = self.session.allocator();
-        hover_value(alloc, &hover_text(alloc, entry, row)?)
+        let mut spelled = Vec::new(alloc);
+        push_path(&mut spelled, path.lent())?;
+        let entry = entry_of(&told.details, &spelled);
+        let mut text = match entry {
+            Some(entry) => hover_text(alloc, entry, self.row_of(told, entry))?,
+            None => spelled,
+        };
+        if let Some(declared) = last_declared(&told.details, path) {
+            let (first, last) = match entry {
+                Some(_) => (&declared.first, &declared.last),
+                None => (&declared.name, &declared.name),
+            };
+            push_declaration(&mut text, &self.session, first, last)?;
+        }
+        Ok(text)
+    }
+
+    // The row of an entry in the listing of its root, which has one for each entry, and none where the root has an error.
+    fn row_of(&self, told: &RootDetails, entry: &DetailedEntry) -> Option<&[u8]> {
+        let rows = self.session.listing(told.root.as_bytes())?;
+        for (index, other) in told.details.entries.as_slice().iter().enumerate() {
+            if other.tree.path == entry.tree.path {
+                return Some(rows.get(index)?.as_bytes());
+            }
+        }
+        None
     }
 
     /// What is told of the first root that asks for a file.
@@ -117,69 +159,74 @@ fn hover_text(
     Ok(text)
 }
 
-// The row of an entry in the listing of its root, which has one for each entry, and none where the root has an error.
-fn row_of<'a>(rows: &'a [Row], details: &Details, entry: &DetailedEntry) -> Option<&'a [u8]> {
-    for (index, other) in details.entries.as_slice().iter().enumerate() {
-        if other.tree.path == entry.tree.path {
-            return Some(rows.get(index)?.as_bytes());
-        }
-    }
-    None
-}
-
 // The last place where what the name at a position denotes is declared.
 fn declared_place<'d>(
     session: &Session,
     encoding: Encoding,
     details: &'d Details,
     spot: DocumentPosition<'_>,
-) -> Result<Option<&'d DeclaredPlace>, AllocError>
-    ensures { IfOk result (λ place. option_copied place
-        ≡ declared_place encoding session.now.project details.now
-        spot.entry.name.now spot.entry.position) }
+) -> Option<&'d DeclaredPlace>
+    requires { spot.file.now.lines ≡ lines_of session.now.project
+        spot.file.now.name.now }
+    ensures { option_copied result ≡ declared_place encoding session.now.project details.now
+        spot.entry.file.now.name.now spot.entry.position }
 {
-    match entry_at(session, encoding, details, spot)? {
-        Some(entry) => Ok(entry.places.as_slice().last()),
-        None => Ok(None),
-    }
+    last_declared(details, path_at(session, encoding, details, spot)?)
 }
 
-// The entry of what the name at a position denotes: of what is declared there, and else of what the first name denotes that is used there.
-fn entry_at<'d>(
+// The last place where the name at a path is declared.
+fn last_declared<'d>(details: &'d Details, path: &Path) -> Option<&'d DeclaredPlace>
+    ensures { option_copied result ≡ last_declared details.now path.now }
+{
+    let declared = details.declared.as_slice();
+    let mut last = None;
+    'each: for index in 0..declared.len() {
+        let one = &declared[index];
+        if *path == one.path {
+            last = Some(&one.place);
+        }
+    }
+    last
+}
+
+// The path of what the name at a position denotes: of what is declared there, and else of what the first name denotes that is used there.
+fn path_at<'d>(
     session: &Session,
     encoding: Encoding,
     details: &'d Details,
     spot: DocumentPosition<'_>,
-) -> Result<Option<&'d DetailedEntry>, AllocError>
-    ensures { IfOk result (λ entry. option_copied entry ≡ entry_at encoding session.now.project
-        details.now spot.entry.name.now spot.entry.position) }
+) -> Option<&'d Path>
+    requires { spot.file.now.lines ≡ lines_of session.now.project
+        spot.file.now.name.now }
+    ensures { option_copied result ≡ path_at encoding session.now.project details.now
+        spot.entry.file.now.name.now spot.entry.position }
 {
-    if let Some(entry) = declared_entry(session, encoding, details, spot) {
-        return Ok(Some(entry));
+    if let Some(declared) = declared_at(session, encoding, details, spot) {
+        return Some(&declared.path);
     }
-    let Some(used) = used_at(session, encoding, details, spot) else {
-        return Ok(None);
-    };
-    let mut path = Vec::new(session.allocator());
-    push_path(&mut path, used.path.lent())?;
-    Ok(entry_of(details, &path))
+    match used_at(session, encoding, details, spot) {
+        Some(used) => Some(&used.path),
+        None => None,
+    }
 }
 
-// The entry of what is declared at a position.
-fn declared_entry<'d>(
+// The first name that is declared at a position.
+fn declared_at<'d>(
     session: &Session,
     encoding: Encoding,
     details: &'d Details,
     spot: DocumentPosition<'_>,
-) -> Option<&'d DetailedEntry>
-    ensures { option_copied result ≡ declared_entry encoding session.now.project
-        spot.entry.name.now spot.entry.position details.now }
+) -> Option<&'d PlacedName>
+    requires { spot.file.now.lines ≡ lines_of session.now.project
+        spot.file.now.name.now }
+    ensures { option_copied result ≡ declared_at encoding session.now.project
+        spot.entry.file.now.name.now spot.entry.position details.now }
 {
-    let entries = details.entries.as_slice();
-    'each: for index in 0..entries.len() {
-        let entry = &entries[index];
-        if is_declared_at(session, encoding, entry, spot) {
-            return Some(entry);
+    let names = details.declared.as_slice();
+    'each: for index in 0..names.len() {
+        let declared = &names[index];
+        if stands_at(session, encoding, &declared.place.name, spot) {
+            return Some(declared);
         }
     }
     None
@@ -192,8 +239,10 @@ fn used_at<'d>(
     details: &'d Details,
     spot: DocumentPosition<'_>,
 ) -> Option<&'d UsedName>
+    requires { spot.file.now.lines ≡ lines_of session.now.project
+        spot.file.now.name.now }
     ensures { option_copied result ≡ used_at encoding session.now.project
-        spot.entry.name.now spot.entry.position details.now }
+        spot.entry.file.now.name.now spot.entry.position details.now }
 {
     let uses = details.uses.as_slice();
     'each: for index in 0..uses.len() {
@@ -226,26 +275,6 @@ fn has_path(entry: &DetailedEntry, path: &[u8]) -> bool
     entry.tree.path.as_bytes() == path
 }
 
-// Whether what an entry is of is declared at a position.
-fn is_declared_at(
-    session: &Session,
-    encoding: Encoding,
-    entry: &DetailedEntry,
-    spot: DocumentPosition<'_>,
-) -> bool
-    ensures { result ≡ is_declared_at encoding session.now.project
-        spot.entry.name.now spot.entry.position entry.now }
-{
-    let places = entry.places.as_slice();
-    'each: for index in 0..places.len() {
-        let declared = &places[index];
-        if stands_at(session, encoding, &declared.name, spot) {
-            return true;
-        }
-    }
-    false
-}
-
 // Whether a token stands at a position.
 fn stands_at(
     session: &Session,
@@ -253,17 +282,19 @@ fn stands_at(
     token: &SitedToken,
     spot: DocumentPosition<'_>,
 ) -> bool
+    requires { spot.file.now.lines ≡ lines_of session.now.project
+        spot.file.now.name.now }
     ensures { result ≡ stands_at encoding session.now.project
-        spot.entry.name.now spot.entry.position token.now }
+        spot.entry.file.now.name.now spot.entry.position token.now }
 {
-    if token.place.file.as_bytes() != spot.name.as_bytes() {
+    if token.place.file.as_bytes() != spot.file.name().as_bytes() {
         return false;
     }
     let column = session.column(&token.place, token.number, token.text.as_bytes());
     if column.is_none() {
         return false;
     }
-    let range = range_of(session, encoding, LocatedToken::of(token));
+    let range = range_near(session, encoding, LocatedToken::of(token), spot.file);
     is_up_to(range.start, spot.position) && is_up_to(spot.position, range.end)
 }
 

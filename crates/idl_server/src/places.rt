@@ -142,12 +142,20 @@ pub(crate) struct CountedFile<'a> {
 impl<'a> CountedFile<'a> {
     /// The file of this name, or one without lines.
     pub fn new(session: &'a Session, name: &'a Name) -> Result<CountedFile<'a>, AllocError>
-        ensures { IfOk result (λ file.
+        ensures name { IfOk result (λ file. file.name.now ≡ name.now) }
+        ensures lines { IfOk result (λ file.
             file.lines ≡ lines_of session.now.project file.name.now) }
     {
         let lines = lines_named(session, name.as_bytes());
         let lines = CountedLines::new(session.allocator(), lines)?;
         Ok(CountedFile { name, lines })
+    }
+
+    /// Its name.
+    pub fn name(&self) -> &Name
+        ensures { result.now ≡ self.now.name.now }
+    {
+        self.name
     }
 
     // Its lines, if a place is in it.

@@ -1,6 +1,5 @@
 //! What an editor asks for.
 
-use crate::named::DocumentPosition;
 use crate::workspace::Workspace;
 use idl_editor::documents::name_in;
 use idl_editor::messages::{ErrorCode, Method, position_at};
@@ -30,13 +29,9 @@ impl Workspace {
         let Some(position) = position_at(params, "position") else {
             return Ok(RequestOutcome::Refused(ErrorCode::BadParams));
         };
-        let spot = DocumentPosition {
-            name: &name,
-            position,
-        };
         if method == Method::Hover {
-            return Ok(RequestOutcome::Done(self.hover_at(spot)?));
+            return Ok(RequestOutcome::Done(self.hover_at(&name, position)?));
         }
-        Ok(RequestOutcome::Done(self.definition_at(spot)?))
+        Ok(RequestOutcome::Done(self.definition_at(&name, position)?))
     }
 }

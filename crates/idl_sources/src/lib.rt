@@ -13,7 +13,7 @@ pub use compile::{CompiledRoot, end_of};
 pub use idl_related;
 pub use idl_root;
 pub use idl_root::{
-    Compiled, DeclaredPlace, DetailedEntry, Details, Finding, Row, SitedToken, UsedName,
+    Compiled, DeclaredPlace, DetailedEntry, Details, Finding, PlacedName, Row, SitedToken, UsedName,
 };
 pub use related::related_over;
 pub use sources::Sources;

@@ -3,16 +3,14 @@ use Rattle.std.proofs.Common.{◌≡◌, ◌∙◌, ◌+◌, ◌-◌, ◌<◌, �
 use Rattle.std.proofs.lemmas.List.{append-nil, take_more}
 use Rattle.std.proofs.lemmas.List.Concat.{flat_map-append}
 use Rattle.std.proofs.lemmas.List.Elements.{All-cons, All-filter, All-head, All-nil, All-tail}
-use Rattle.std.proofs.lemmas.List.Folds.{flat_map-map}
 use Rattle.clap.proofs.WalkLemmas.{list_any-map}
 use Rattle.idl_tool.specs.make_rules.Make.{IfThere, IsMakeRule, Need, Rule, There, is_make_name, name_in, rule_text, rules_text}
-use Rattle.idl_loader.specs.Lines.{whole_line}
 use Rattle.idl_source.specs.texts.Texts.{Texts}
 use Rattle.idl_driver.specs.idl_sources.Compile.{compiled_root}
 use Rattle.idl_inputs.specs.Project.{Inputs}
 use Rattle.idl_driver.specs.idl_sources.declared.compile.CompiledRoot.{CompiledRoot}
-use Rattle.idl_driver.specs.Compiled.{errors_in, is_faulty, lines_of}
-use Rattle.idl_driver.specs.Rows.{are_faulty, lines_with}
+use Rattle.idl_driver.specs.Compiled.{is_faulty}
+use Rattle.idl_driver.specs.Rows.{are_faulty}
 use Rattle.idl_tool.specs.Deps.{empty_rule, is_other, is_there, need_of, needs_in, needs_of, rules_for, rules_in, target_of, wanted_in}
 use Rattle.idl_tool.specs.declared.request.Deps.{Deps}
 
@@ -25,12 +23,6 @@ pub flat_map-next : {X Y : Type 0} (f : X → List Y) (xs : List X) (i : ℕ) (x
 flat_map-next f xs i x within is =
     ap (flat_map f) (take_more xs i x within) ∙ flat_map-append f (take i xs) (get_or xs i x ∷ [])
     ∙ ap (λ y. flat_map f (take i xs) ++ flat_map f (y ∷ [])) (sym is) ∙ ap (λ l. flat_map f (take i xs) ++ l) (append-nil (f x))
-
--- what is told of compiled roots is what is told of the roots
-pub told-of : (inputs : Inputs) (roots : List (List ℕ)) (compiled : List CompiledRoot) → compiled ≡ map (compiled_root inputs) roots
-    → lines_with (λ root. root.rows.diagnostics) compiled ≡ lines_of (errors_in inputs) roots
-told-of inputs roots compiled rows =
-    ap (lines_with (λ root. root.rows.diagnostics)) rows ∙ flat_map-map (λ (r : CompiledRoot). flat_map whole_line r.rows.diagnostics) (compiled_root inputs) roots
 
 pub ending-of : (inputs : Inputs) (roots : List (List ℕ)) (compiled : List CompiledRoot) → compiled ≡ map (compiled_root inputs) roots
     → are_faulty compiled ≡ is_faulty inputs roots

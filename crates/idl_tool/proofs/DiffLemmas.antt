@@ -38,17 +38,18 @@ append-none None = refl
 append-none (Some bytes) = ap Some (sym (append-nil bytes))
 
 -- of versions with an error nothing is shown
-pub shown-none : (fails : Weights) (old new : Version) → has_error old new ≡ true → (shown_between fails old new ≡ []) × (ending_of fails old new ≡ Failed)
-shown-none fails old new is = (
-  ap (λ (b : Bool). if b then [] else lines_between fails old new) is,
+pub shown-none : (fails : Weights) (old new : Version) (is_json : Bool) → has_error old new ≡ true
+    → (shown_between fails old new is_json ≡ []) × (ending_of fails old new ≡ Failed)
+shown-none fails old new is_json is = (
+  ap (λ (b : Bool). if b then [] else lines_between fails old new is_json) is,
   ap (λ (b : Bool). if b then Failed else ending_by fails old new) is,
 )
 
 -- and of others the changes
-pub shown-all : (fails : Weights) (old new : Version) → has_error old new ≡ false
-    → (shown_between fails old new ≡ lines_between fails old new) × (ending_of fails old new ≡ ending_by fails old new)
-shown-all fails old new is = (
-  ap (λ (b : Bool). if b then [] else lines_between fails old new) is,
+pub shown-all : (fails : Weights) (old new : Version) (is_json : Bool) → has_error old new ≡ false
+    → (shown_between fails old new is_json ≡ lines_between fails old new is_json) × (ending_of fails old new ≡ ending_by fails old new)
+shown-all fails old new is_json is = (
+  ap (λ (b : Bool). if b then [] else lines_between fails old new is_json) is,
   ap (λ (b : Bool). if b then Failed else ending_by fails old new) is,
 )
 
@@ -72,20 +73,23 @@ sound-none false true is = absurd (cc)
 sound-none false false is = refl
 
 -- one line more
-pub line-next : (line : Change → List ℕ) (told : List Change) (i : ℕ) (change : Change) (text head row whole place grade words : List ℕ)
-    → i < length told → change ≡ get_or told i change → text ≡ flat_map (λ c. whole_line (line c)) (take i told)
-    → head ≡ text ++ (place ++ grade) → row ≡ head ++ words → whole ≡ row ++ 10 ∷ [] → line change ≡ place ++ (grade ++ words)
-    → whole ≡ flat_map (λ c. whole_line (line c)) (take (i + 1) told)
-line-next line told i change text head row whole place grade words within is so_far before put end says =
-    let f = λ (c : Change). whole_line (line c) in
-    let next : row ≡ text ++ line change =
+pub line-next : (line : Change → List ℕ) (told : List Change) (i : ℕ) (change : Change) (text whole : List ℕ)
+    → i < length told → change ≡ get_or told i change → text ≡ flat_map line (take i told)
+    → whole ≡ text ++ line change → whole ≡ flat_map line (take (i + 1) told)
+line-next line told i change text whole within is so_far put =
+    put ∙ ap₂ (λ (a b : List ℕ). a ++ b) so_far (sym (append-nil (line change)))
+    ∙ sym (flat_map-append line (take i told) (change ∷ []))
+    ∙ ap (flat_map line) (sym (take_more told i change within ∙ ap (λ (c : Change). take i told ++ c ∷ []) (sym is)))
+
+-- a row behind a text, piece by piece
+pub row-next : (text head row whole place grade words : List ℕ) → head ≡ text ++ (place ++ grade) → row ≡ head ++ words → whole ≡ row ++ 10 ∷ []
+    → whole ≡ text ++ whole_line (place ++ (grade ++ words))
+row-next text head row whole place grade words before put end =
+    let next : row ≡ text ++ (place ++ (grade ++ words)) =
     put ∙ ap (λ (t : List ℕ). t ++ words) before ∙ append_assoc text (place ++ grade) words
-    ∙ ap (λ (t : List ℕ). text ++ t) (append_assoc place grade words ∙ sym says)
+    ∙ ap (λ (t : List ℕ). text ++ t) (append_assoc place grade words)
     in
-    end ∙ ap (λ (t : List ℕ). t ++ 10 ∷ []) next ∙ append_assoc text (line change) (10 ∷ [])
-    ∙ ap₂ (λ (a b : List ℕ). a ++ b) so_far (sym (append-nil (whole_line (line change))))
-    ∙ sym (flat_map-append f (take i told) (change ∷ []))
-    ∙ ap (flat_map f) (sym (take_more told i change within ∙ ap (λ (c : Change). take i told ++ c ∷ []) (sym is)))
+    end ∙ ap (λ (t : List ℕ). t ++ 10 ∷ []) next ∙ append_assoc text (place ++ (grade ++ words)) (10 ∷ [])
 
 -- what `get` finds among rows, by the rows of the definition
 pub got-row : {X Y : Type 0} (row : X → Y) (xs : List X) (i : ℕ) (found : Option (Bor X)) → MatchOption found (length xs ≤ i) (λ x. (i < length xs) × HoldsAt (λ y. x.now ≡ y) xs i)

@@ -11,6 +11,7 @@ use Rattle.idl_source.proofs.DeviceLemmas.{append-append}
 use Rattle.idl_driver.specs.Messages.{message_of}
 use Rattle.idl_driver.specs.declared.failure.FailureSubject.{FailureSubject}
 use Rattle.idl_driver.specs.declared.failure.ProgramFailure.{ProgramFailure}
+use Rattle.idl_driver.specs.declared.limit.Limit.{Limit}
 use Rattle.idl_driver.specs.declared.failure.ProgramFailure.TheVariants as program
 use Rattle.idl_tool.specs.Messages.{IsProgramMessage}
 
@@ -42,11 +43,21 @@ refusal-told name refusal e a b c d f g h i is one two three four five six seven
     ∙ ap (λ (t : Topic). append a (codes "idltool: " ++ (name ++ (codes ": " ++ (title t ++ (codes ": " ++ ended words)))))) (sym is)
     ∙ ap (append a) (nest (codes "idltool: ") name (codes ": ") (title (topic_of e.told)) (ended words))
 
+-- the pieces of the line about a limit
+pub limit-told : (name words : List ℕ) (a b c d e f : Option (List ℕ)) → b ≡ append a (codes "idltool: ") → c ≡ append b name → d ≡ append c (codes ": refused 5: ")
+    → e ≡ append d words → f ≡ append e (codes "\n") → f ≡ append a (codes "idltool: " ++ name ++ codes ": refused 5: " ++ ended words)
+limit-told name words a b c d e f one two three four five =
+    let about = codes "idltool: " ++ name in
+    behind a d f (about ++ codes ": refused 5: ") (words ++ codes "\n") (behind a c d about (codes ": refused 5: ") (behind a b c (codes "idltool: ") name one two) three)
+    (behind d e f words (codes "\n") four five)
+
 -- what is no refusal is told as each program tells it
-pub plain : (failure : ProgramFailure) → ((subject : FailureSubject) (refusal : Refusal) → failure ≢ program.Refused subject refusal) → IsProgramMessage failure (message_of (codes "idltool") failure)
-plain program.BadArguments not = refl
-plain (program.Refused subject refusal) not = absurd (not subject refusal refl)
-plain (program.CannotRead name) not = refl
-plain program.NoMemory not = refl
-plain program.ReadFailed not = refl
-plain program.WriteFailed not = refl
+pub plain : (failure : ProgramFailure) → ((subject : FailureSubject) (refusal : Refusal) → failure ≢ program.Refused subject refusal)
+    → ((subject : FailureSubject) (limit : Limit) → failure ≢ program.OverLimit subject limit) → IsProgramMessage failure (message_of (codes "idltool") failure)
+plain program.BadArguments not other = refl
+plain (program.Refused subject refusal) not other = absurd (not subject refusal refl)
+plain (program.OverLimit subject limit) not other = absurd (other subject limit refl)
+plain (program.CannotRead name) not other = refl
+plain program.NoMemory not other = refl
+plain program.ReadFailed not other = refl
+plain program.WriteFailed not other = refl

@@ -3,6 +3,7 @@ mod DepsLemmas
 mod DiffLemmas
 mod ExplainLemmas
 mod FailureLemmas
+mod FaultLemmas
 mod JsonLemmas
 mod RequestLemmas
 mod RuleLemmas

@@ -18,15 +18,14 @@ use Rattle.idl_inputs.specs.Bank.{bank_of}
 use Rattle.idl_inputs.specs.Columns.{column_at}
 use Rattle.idl_driver.specs.idl_sources.Compile.{compiled_root}
 use Rattle.idl_driver.specs.idl_sources.declared.compile.CompiledRoot.{CompiledRoot}
-use Rattle.idl_inputs.specs.Made.{rootless}
 use Rattle.idl_inputs.specs.Project.{Inputs}
-use Rattle.idl_inputs.specs.WellFormed.{IsWellFormed}
 use Rattle.idl_driver.specs.Written.{Written}
 use Rattle.idl_loader.specs.Holding.{Holding}
-use Rattle.idl_driver.specs.Loading.{AreLoaded, AreComplete}
-use Rattle.idl_driver.specs.Options.{AreAsked}
+use Rattle.idl_driver.specs.Compilations.{AreSoundFiles}
+use Rattle.idl_driver.specs.declared.compilation.SoundFiles.{SoundFiles}
 use Rattle.idl_loader.specs.declared.status.Status.{Status}
 use Rattle.idl_loader.specs.declared.status.Status.TheVariants.{Sound, Faulty}
+use Rattle.idl_tool.specs.Messages.{AreTroubleMessages, ended_by}
 use Rattle.idl_tool.specs.Report.{report, second_line}
 use Rattle.idl_tool.specs.declared.request.Check.{Check}
 
@@ -133,25 +132,25 @@ is_fault counts_warnings root =
 abbrev pub are_faults : Bool → List CompiledRoot → Bool
 are_faults counts_warnings roots = list_any (is_fault counts_warnings) roots
 
--- what went out of the roots over these inputs, and how the program ends
-pub record AreReportsWritten (counts_warnings : Bool) (inputs : Inputs) (roots : List (List ℕ))
-    (before after : Written) (status : Status) : Type 0 where
+-- what went out of files, and how the program ends
+pub record AreReportsWritten (counts_warnings : Bool) (files : SoundFiles) (before after : Written)
+    (status : Status) : Type 0 where
   pub told : List (List Told)
-  pub each : AreToldOf inputs roots told
+  pub each : AreToldOf files.sound.sources files.sound.roots.items told
   pub reports : List Entry
-  pub reported : AreReported inputs.files (all_of told) [] reports
+  pub reported : AreReported files.sound.sources.files (all_of told) [] reports
   pub output : after.output ≡ append before.output (flat_map entry_text reports)
-  pub errors : after.errors ≡ before.errors
-  pub ending : status
-      ≡ (if are_faults counts_warnings (map (compiled_root inputs) roots) then Faulty else Sound)
+  pub trouble : List ℕ
+  pub troubles : AreTroubleMessages files trouble
+  pub errors : after.errors ≡ append before.errors trouble
+  pub ending : status ≡ ended_by files
+      (if are_faults counts_warnings
+      (map (compiled_root files.sound.sources) files.sound.roots.items)
+      then Faulty else Sound)
 
--- what is asked for is told, over the files that the loader tells of and within the limits
+-- what is asked for is told of the files that come without trouble, and the trouble of the others
 pub record IsChecked (told : List ℕ → Holding) (check : Check) (before after : Written)
     (status : Status) : Type 0 where
-  pub inputs : Inputs
-  pub roots : List (List ℕ)
-  pub asked : AreAsked check.options inputs roots
-  pub formed : IsWellFormed (rootless inputs)
-  pub loaded : AreLoaded told inputs.files
-  pub complete : AreComplete told inputs roots
-  pub reports : AreReportsWritten check.counts_warnings inputs roots before after status
+  pub all : SoundFiles
+  pub files : AreSoundFiles told check.options all
+  pub reports : AreReportsWritten check.counts_warnings all before after status

@@ -2,12 +2,13 @@
 use Rattle.std.specs.Prelude.{◌≡◌, ℕ, Bool, ◌||◌, List, [], ◌++◌, codes, flat_map, map, Option, None, Some, slice_get, if◌then◌else◌}
 use Rattle.std.specs.List.{list_any}
 use Rattle.std.specs.Option.{option_and_then, option_map_or}
-use Rattle.idl_changes.specs.Changes.{changes, row_text}
+use Rattle.idl_changes.specs.Changes.{changes, entry_in, row_text}
 use Rattle.idl_changes.specs.Chosen.{meets}
 use Rattle.idl_changes.specs.Speaks.{IsDeclared, Speaks}
 use Rattle.idl_changes.specs.declared.change.Change.{Change}
 use Rattle.idl_changes.specs.declared.rows.Weights.{Weights}
 use Rattle.idl_repo.specs.declared.details.row_tree.RowTree.{RowTree}
+use Rattle.idl_json.specs.Change as json
 use Rattle.idl_json.specs.Listed.{LocatedRow, NamePlace}
 use Rattle.idl_loader.specs.Lines.{whole_line}
 use Rattle.idl_source.specs.devices.Device.{append}
@@ -15,7 +16,7 @@ use Rattle.idl_inputs.specs.Made.{rootless}
 use Rattle.idl_inputs.specs.Project.{Inputs}
 use Rattle.idl_inputs.specs.WellFormed.{IsWellFormed}
 use Rattle.idl_driver.specs.Written.{Written}
-use Rattle.idl_driver.specs.Compiled.{errors_in, is_faulty, lines_of}
+use Rattle.idl_driver.specs.Compiled.{is_faulty}
 use Rattle.idl_loader.specs.Holding.{Holding}
 use Rattle.idl_driver.specs.Loading.{AreLoaded, AreComplete}
 use Rattle.idl_driver.specs.Options.{AreAsked}
@@ -23,6 +24,7 @@ use Rattle.idl_driver.specs.declared.compilation.Compilation.{Compilation}
 use Rattle.idl_loader.specs.declared.status.Status.{Status}
 use Rattle.idl_loader.specs.declared.status.Status.TheVariants.{Failed, Faulty, Sound}
 use Rattle.idl_driver.specs.declared.options.Options.{Options}
+use Rattle.idl_tool.specs.Checked.{IsReportText}
 use Rattle.idl_tool.specs.Json.{rows_of}
 use Rattle.idl_tool.specs.Report.{place_text}
 use Rattle.idl_tool.specs.declared.request.Diff.{Diff}
@@ -60,10 +62,26 @@ change_line fails old new change =
     place_before (shown_place old new change)
     ++ (grade fails change.difference.weights ++ row_text (trees_of old) (trees_of new) change)
 
+-- the same as an object of JSON, of the entry that changes, or that is new
+abbrev pub object_line : Option RowTree → Option NamePlace → Change → List ℕ
+object_line entry declared change =
+    option_map_or (λ tree. json.change_line (record {
+      tree = tree;
+      difference = change.difference;
+      declared = declared;
+    })) entry []
+
+abbrev pub change_object : (old new : List LocatedRow) → Change → List ℕ
+change_object old new change =
+    object_line (entry_in (trees_of old) (trees_of new) change) (shown_place old new change) change
+
 -- changes, each on a line of its own
-abbrev pub change_lines : Weights → (old new : List LocatedRow) → List Change → List ℕ
-change_lines fails old new told =
-    flat_map (λ change. whole_line (change_line fails old new change)) told
+abbrev pub told_line : Bool → Weights → (old new : List LocatedRow) → Change → List ℕ
+told_line is_json fails old new change =
+    if is_json then change_object old new change else whole_line (change_line fails old new change)
+
+abbrev pub change_lines : Bool → Weights → (old new : List LocatedRow) → List Change → List ℕ
+change_lines is_json fails old new told = flat_map (told_line is_json fails old new) told
 
 -- one of these changes is an error
 abbrev pub are_failing : Weights → List Change → Bool
@@ -96,14 +114,14 @@ listed_in version = all_rows version.inputs version.roots
 -- two versions, where a change is an error that has one of these weights
 module _ (fails : Weights) (old new : Version) where
   -- the lines of the changes from one to the other
-  abbrev pub lines_between : List ℕ
-  lines_between =
-      change_lines fails (listed_in old) (listed_in new)
+  abbrev pub lines_between : Bool → List ℕ
+  lines_between is_json =
+      change_lines is_json fails (listed_in old) (listed_in new)
       (changes_of (listed_in old) (listed_in new))
 
   -- what goes out: nothing where one of them has an error
-  abbrev pub shown_between : List ℕ
-  shown_between = if has_error old new then [] else lines_between
+  abbrev pub shown_between : Bool → List ℕ
+  shown_between is_json = if has_error old new then [] else lines_between is_json
 
   abbrev pub ending_by : Status
   ending_by =
@@ -112,13 +130,15 @@ module _ (fails : Weights) (old new : Version) where
   abbrev pub ending_of : Status
   ending_of = if has_error old new then Failed else ending_by
 
--- what went out of two versions, and how the program ends
-pub record AreCompared (fails : Weights) (old new : Version) (before after : Written)
-    (status : Status) : Type 0 where
-  pub errors : after.errors
-      ≡ append (append before.errors (lines_of (errors_in old.inputs) old.roots))
-      (lines_of (errors_in new.inputs) new.roots)
-  pub output : after.output ≡ append before.output (shown_between fails old new)
+-- what went out of two versions, in JSON or in rows, and how the program ends
+pub record AreCompared (is_json : Bool) (fails : Weights) (old new : Version)
+    (before after : Written) (status : Status) : Type 0 where
+  pub reports_old : List ℕ
+  pub reported_old : IsReportText old.inputs old.roots reports_old
+  pub reports_new : List ℕ
+  pub reported_new : IsReportText new.inputs new.roots reports_new
+  pub errors : after.errors ≡ append (append before.errors reports_old) reports_new
+  pub output : after.output ≡ append before.output (shown_between fails old new is_json)
   pub ending : status ≡ ending_of fails old new
 
 -- programs that are built from two versions speak with each other, if these are declared as IDL asks
@@ -135,4 +155,4 @@ pub record IsCompared (told : List ℕ → Holding) (diff : Diff) (before after 
   pub new : Version
   pub old_is : IsVersion told diff.old old
   pub new_is : IsVersion told diff.new new
-  pub compared : AreCompared diff.fails old new before after status
+  pub compared : AreCompared diff.is_json diff.fails old new before after status

@@ -7,16 +7,16 @@ use Rattle.idl_source.specs.devices.Device.{append}
 use Rattle.idl_source.specs.texts.Texts.{Texts}
 use Rattle.idl_inputs.specs.Asked.{asked_over}
 use Rattle.idl_inputs.specs.Bank.{bank_of}
-use Rattle.idl_inputs.specs.Made.{rootless}
 use Rattle.idl_inputs.specs.Project.{Inputs}
-use Rattle.idl_inputs.specs.WellFormed.{IsWellFormed}
 use Rattle.idl_driver.specs.Written.{Written}
-use Rattle.idl_driver.specs.Compiled.{errors_in, is_faulty, lines_of}
+use Rattle.idl_driver.specs.Compiled.{is_faulty}
 use Rattle.idl_loader.specs.Holding.{Holding}
-use Rattle.idl_driver.specs.Loading.{AreLoaded, AreComplete}
-use Rattle.idl_driver.specs.Options.{AreAsked}
+use Rattle.idl_driver.specs.Compilations.{AreSoundFiles}
+use Rattle.idl_driver.specs.declared.compilation.SoundFiles.{SoundFiles}
 use Rattle.idl_loader.specs.declared.status.Status.{Status}
 use Rattle.idl_loader.specs.declared.status.Status.TheVariants.{Sound, Faulty}
+use Rattle.idl_tool.specs.Checked.{IsReportText}
+use Rattle.idl_tool.specs.Messages.{AreTroubleMessages, ended_by}
 use Rattle.idl_tool.specs.make_rules.Make.{IsMakeRule, Need, There, IfThere, Rule, rules_text}
 use Rattle.idl_tool.specs.declared.request.Deps.{Deps}
 
@@ -72,22 +72,24 @@ abbrev pub needs_in : Deps → Inputs → List ℕ → List Need
 needs_in deps inputs root =
     map (need_of deps.has_generated inputs.files) (wanted_in deps inputs root)
 
--- what went out of the roots over these inputs, and how the program ends
-pub record AreRuled (deps : Deps) (inputs : Inputs) (roots : List (List ℕ))
-    (before after : Written) (status : Status) : Type 0 where
-  pub errors : after.errors ≡ append before.errors (lines_of (errors_in inputs) roots)
-  pub output : after.output
-      ≡ append before.output (rules_text (flat_map (rules_in deps inputs) roots))
-  pub readable : All IsMakeRule (flat_map (rules_in deps inputs) roots)
-  pub ending : status ≡ (if is_faulty inputs roots then Faulty else Sound)
+-- what went out of files, and how the program ends
+pub record AreRuled (deps : Deps) (files : SoundFiles) (before after : Written) (status : Status)
+    : Type 0 where
+  pub trouble : List ℕ
+  pub troubles : AreTroubleMessages files trouble
+  pub reports : List ℕ
+  pub reported : IsReportText files.sound.sources files.sound.roots.items reports
+  pub errors : after.errors ≡ append (append before.errors trouble) reports
+  pub output : after.output ≡ append before.output
+      (rules_text (flat_map (rules_in deps files.sound.sources) files.sound.roots.items))
+  pub readable : All IsMakeRule
+      (flat_map (rules_in deps files.sound.sources) files.sound.roots.items)
+  pub ending : status ≡ ended_by files
+      (if is_faulty files.sound.sources files.sound.roots.items then Faulty else Sound)
 
--- the options are served, over the files that the loader tells of and within the limits
+-- the rules are of the files that come without trouble, and the trouble of the others is told
 pub record IsServed (told : List ℕ → Holding) (deps : Deps) (before after : Written)
     (status : Status) : Type 0 where
-  pub inputs : Inputs
-  pub roots : List (List ℕ)
-  pub asked : AreAsked deps.options inputs roots
-  pub formed : IsWellFormed (rootless inputs)
-  pub loaded : AreLoaded told inputs.files
-  pub complete : AreComplete told inputs roots
-  pub ruled : AreRuled deps inputs roots before after status
+  pub all : SoundFiles
+  pub files : AreSoundFiles told deps.options all
+  pub ruled : AreRuled deps all before after status

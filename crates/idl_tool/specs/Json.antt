@@ -18,19 +18,18 @@ use Rattle.idl_inputs.specs.Bank.{bank_of}
 use Rattle.idl_inputs.specs.Columns.{column_at}
 use Rattle.idl_driver.specs.idl_sources.Compile.{compiled_root}
 use Rattle.idl_driver.specs.idl_sources.Details.{details_over}
-use Rattle.idl_inputs.specs.Made.{rootless}
 use Rattle.idl_inputs.specs.Project.{Inputs}
-use Rattle.idl_inputs.specs.WellFormed.{IsWellFormed}
 use Rattle.idl_driver.specs.idl_sources.declared.compile.CompiledRoot.{CompiledRoot}
 use Rattle.idl_driver.specs.Written.{Written}
 use Rattle.idl_driver.specs.Compiled.{is_faulty}
 use Rattle.idl_loader.specs.Holding.{Holding}
-use Rattle.idl_driver.specs.Loading.{AreLoaded, AreComplete}
-use Rattle.idl_driver.specs.Options.{AreAsked}
+use Rattle.idl_driver.specs.Compilations.{AreSoundFiles}
+use Rattle.idl_driver.specs.declared.compilation.SoundFiles.{SoundFiles}
 use Rattle.idl_loader.specs.declared.status.Status.{Status}
 use Rattle.idl_loader.specs.declared.status.Status.TheVariants.{Sound, Faulty}
 use Rattle.idl_driver.specs.declared.options.Options.{Options}
 use Rattle.idl_tool.specs.Checked.{Told, column_of}
+use Rattle.idl_tool.specs.Messages.{AreTroubleMessages, ended_by}
 
 -- a second place, with the column of its token
 abbrev pub second_at : Texts → Related → Second
@@ -96,22 +95,21 @@ IsLineWith inputs root compiled line =
 abbrev pub IsLineOf : Inputs → List ℕ → List ℕ → Type 0
 IsLineOf inputs root line = IsLineWith inputs root (compiled_root inputs root) line
 
--- what went out of the roots over these inputs, and how the program ends
-pub record AreWritten (inputs : Inputs) (roots : List (List ℕ)) (before after : Written)
-    (status : Status) : Type 0 where
+-- what went out of files, and how the program ends
+pub record AreWritten (files : SoundFiles) (before after : Written) (status : Status)
+    : Type 0 where
   pub lines : List (List ℕ)
-  pub each : AllZip (IsLineOf inputs) roots lines
+  pub each : AllZip (IsLineOf files.sound.sources) files.sound.roots.items lines
   pub output : after.output ≡ append before.output (concat lines)
-  pub errors : after.errors ≡ before.errors
-  pub ending : status ≡ (if is_faulty inputs roots then Faulty else Sound)
+  pub trouble : List ℕ
+  pub troubles : AreTroubleMessages files trouble
+  pub errors : after.errors ≡ append before.errors trouble
+  pub ending : status ≡ ended_by files
+      (if is_faulty files.sound.sources files.sound.roots.items then Faulty else Sound)
 
--- the options are served, over the files that the loader tells of and within the limits
+-- lines are written of the files that come without trouble, and the trouble of the others is told
 pub record IsWritten (told : List ℕ → Holding) (options : Options) (before after : Written)
     (status : Status) : Type 0 where
-  pub inputs : Inputs
-  pub roots : List (List ℕ)
-  pub asked : AreAsked options inputs roots
-  pub formed : IsWellFormed (rootless inputs)
-  pub loaded : AreLoaded told inputs.files
-  pub complete : AreComplete told inputs roots
-  pub written : AreWritten inputs roots before after status
+  pub all : SoundFiles
+  pub files : AreSoundFiles told options all
+  pub written : AreWritten all before after status

@@ -1,7 +1,8 @@
 -- What the words behind the program's name ask for: the options that there are, and what each word
 -- is to them by clap's `subcommand_of`, or what is wrong with the words by its `fault_of`.
-use Rattle.std.specs.Prelude.{◌≡◌, ◌≢◌, ◌⊎◌, List, [], ◌∷◌, ◌++◌, Option, None, Some, true, codes, map}
+use Rattle.std.specs.Prelude.{◌≡◌, ◌≢◌, ◌⊎◌, Bool, List, [], ◌∷◌, ◌++◌, Option, None, Some, codes, false, if◌then◌else◌, map, true}
 use Rattle.std.specs.Option.{option_map, option_to_list}
+use Rattle.std.specs.Str.{bytes_eq}
 use Rattle.clap.specs.Words.{App, Kinds, Row, Rule, Shape, Text, fault_of, first_of, new_app, new_rule, subcommand_of, with_subcommand}
 use Rattle.clap.specs.Simple.{new_shape, on_top}
 use Rattle.clap.specs.declared.builder.action.ArgAction.TheVariants.{Append, Set}
@@ -74,13 +75,21 @@ fails_rule = record (new_rule (codes "fail-on")) {
   value_names = 1;
 }
 
--- `-D`, `-U`, `-I`, these three, OLD and NEW
+-- `--format text`, as without it, or `--format json`, once at most
+abbrev pub format_rule : Rule
+format_rule = record (new_rule (codes "format")) {
+  long = Some (codes "format");
+  action = Some Set;
+  value_names = 1;
+}
+
+-- `-D`, `-U`, `-I`, these four, OLD and NEW
 abbrev pub diff_shape : Shape
 diff_shape = record (new_shape (codes "diff")) {
   rules = option_rules
       ++ side_rule (codes "old-directory") (codes "old-I")
       ∷ side_rule (codes "new-directory") (codes "new-I")
-      ∷ fails_rule ∷ version_rule (codes "old") ∷ version_rule (codes "new") ∷ [];
+      ∷ fails_rule ∷ format_rule ∷ version_rule (codes "old") ∷ version_rule (codes "new") ∷ [];
 }
 
 -- `--stdio`, which changes nothing
@@ -151,10 +160,22 @@ fails_of (Some text) = weights_named text
 abbrev pub fails_in : List Row → Option Weights
 fails_in rows = fails_of (first_of (codes "fail-on") rows)
 
+-- whether each change is to be an object of JSON, and not a row
+abbrev pub json_of : Option Text → Option Bool
+json_of None = Some false
+json_of (Some text) =
+    if bytes_eq text (codes "json") then Some true
+    else if bytes_eq text (codes "text") then Some false
+    else None
+
+abbrev pub json_in : List Row → Option Bool
+json_in rows = json_of (first_of (codes "format") rows)
+
 pub record AreDiffOf (rows : List Row) (diff : Diff) : Type 0 where
   pub old : AreSideOf (codes "old") (codes "old-directory") rows diff.old
   pub new : AreSideOf (codes "new") (codes "new-directory") rows diff.new
   pub fails : fails_in rows ≡ Some diff.fails
+  pub form : json_in rows ≡ Some diff.is_json
 
 -- what words ask for: to show a text, to explain words or all, to write rules, to check files, to
 -- write JSON, to tell what changes, or to serve an editor
@@ -183,12 +204,15 @@ NamesNone words = (faults_in words ≡ [])
     × ((rows : List Row) → entered_in words ≢ Some (codes "diff", rows))
     × ((rows : List Row) → entered_in words ≢ Some (codes "lsp", rows))
 
--- clap takes the words, and `--fail-on` has a word that is no weight
-abbrev pub NamesNoWeight : List Text → Type 0
-NamesNoWeight words =
-    (rows : List Row) × Enters (codes "diff") words rows × (fails_in rows ≡ None)
+-- `--fail-on` has a word that is no weight, or `--format` one that is no format
+abbrev pub AreNoDiff : List Row → Type 0
+AreNoDiff rows = (fails_in rows ≡ None) ⊎ (json_in rows ≡ None)
+
+-- clap takes the words, and so it is
+abbrev pub NamesNoDiff : List Text → Type 0
+NamesNoDiff words = (rows : List Row) × Enters (codes "diff") words rows × AreNoDiff rows
 
 -- words that ask for nothing
 abbrev pub AreWrong : List Text → Type 0
 AreWrong words =
-    Tells IsRefusal (faults_in words) ⊎ (NamesNone words ⊎ NamesNoWeight words)
+    Tells IsRefusal (faults_in words) ⊎ (NamesNone words ⊎ NamesNoDiff words)

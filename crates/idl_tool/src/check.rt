@@ -1,22 +1,23 @@
 //! What is found in files, for who reads it: each finding is told once, with its line.
 
-ghost use Rattle.std.specs.Prelude.{◌≡◌, ◌<◌, ◌-◌, ◌^◌, [], IfOk, List, OnOk, flat_map, if◌then◌else◌, length, map};
+ghost use Rattle.std.specs.Prelude.{◌≡◌, ◌≤◌, ◌<◌, ◌+◌, ◌-◌, ◌^◌, [], IfOk, List, OnErr, OnOk, flat_map, if◌then◌else◌, length, map};
 ghost use Rattle.std.specs.List.{zip};
 ghost use Rattle.std.specs.Option.{option_copied};
 ghost use Rattle.idl_explain.specs.declared.explanation.Explanation.{Explanation};
-ghost use Rattle.idl_driver.specs.Compilations.{HasCompiled};
 ghost use Rattle.idl_driver.specs.Rows.{are_faulty};
+ghost use Rattle.idl_driver.specs.Written.{WritesSome};
 ghost use Rattle.idl_loader.specs.declared.status.Status.TheVariants.{Faulty, Sound};
 ghost use Rattle.idl_driver.specs.idl_sources.Compile.{compiled_root};
 ghost use Rattle.idl_tool.specs.Checked.{AreReported, AreToldOf, Explains, IsChecked, IsReportText, IsToldOf, Told, all_of, are_faults, column_of, entry_text, in_order, is_fault, line_at, report_in, seconds_in};
 ghost use Rattle.idl_tool.specs.ToldAt.{told_at};
 
 use crate::failure::ToolFailure;
+use crate::faults::{ended_by, troubles_text};
 use crate::report::{LocatedFinding, push_second};
 use crate::request::Check;
 use idl_base::{Bytes, Seq};
 use idl_driver::idl_sources::{CompiledRoot, Finding, Sources, related_over};
-use idl_driver::{Compilation, Devices, compile_files};
+use idl_driver::{Devices, compile_sound_files};
 use idl_explain::{Topic, explanation_of};
 use idl_fault::Place;
 use idl_inputs::Columns;
@@ -35,31 +36,43 @@ pub fn check<'a, L: Loader, S, O: Sink, E: Sink>(
     devices: &mut Devices<L, S, O, E>,
 ) -> Result<Status, ToolFailure<'a>>
     requires writes { O.failures devices.old.output < 2 ^ 64 - 1 }
+    requires tells { E.failures devices.old.errors < 2 ^ 64 - 2 }
 
     ensures checked { IfOk result (λ status. IsChecked (L.told devices.old.loader) asked.now
         (record { errors = E.written devices.old.errors; output = O.written devices.old.output })
         (record { errors = E.written devices.new.errors; output = O.written devices.new.output })
         status) }
-    ensures well { OnOk result (O.failures devices.new.output ≡ O.failures devices.old.output) }
-    ensures same { E.failures devices.new.errors ≡ E.failures devices.old.errors }
-    ensures kept { E.written devices.new.errors ≡ E.written devices.old.errors }
+    ensures well { OnOk result
+        ((O.failures devices.new.output ≡ O.failures devices.old.output)
+        × (E.failures devices.new.errors ≡ E.failures devices.old.errors)) }
+    ensures most { E.failures devices.new.errors ≤ E.failures devices.old.errors + 1 }
+    ensures least { E.failures devices.old.errors ≤ E.failures devices.new.errors }
+    ensures until { OnErr result
+        (WritesSome (E.written devices.old.errors) (E.written devices.new.errors)) }
 {
-    let all = compile_files(alloc, &asked.options, &mut devices.loader)?;
-    let text = report_text(&all)?;
-    let status = ending_of(&all.compiled, asked.counts_warnings);
+    let all = compile_sound_files(alloc, &asked.options, &mut devices.loader)?;
+    let trouble = troubles_text(alloc, &all)?;
+    let text = report_text(&all.sound.sources, &all.sound.roots, &all.sound.compiled)?;
+    let status = ending_of(&all.sound.compiled, asked.counts_warnings);
+    let status = ended_by(&all, status);
+    write_all(&mut devices.errors, &trouble)?;
     write_all(&mut devices.output, &text)?;
     // The program ends here, and all memory goes back at once.
     forget(all);
     Ok(status)
 }
 
-// The reports of what is found in compiled files, each once.
-fn report_text(all: &Compilation) -> Result<Vec<u8>, AllocError>
-    requires { HasCompiled all.now }
-    ensures { IfOk result (λ text. IsReportText all.now.sources all.now.roots.keys text.items) }
+/// The reports of what is found in these roots, each once.
+pub(crate) fn report_text(
+    sources: &Sources,
+    roots: &[Name],
+    compiled: &[CompiledRoot],
+) -> Result<Vec<u8>, AllocError>
+    requires { compiled.now ≡ map (compiled_root sources.now) roots.now }
+    ensures { IfOk result (λ text. IsReportText sources.now roots.now text.items) }
 {
-    let reports = reports_of(&all.sources, all.roots.as_slice(), &all.compiled)?;
-    joined(all.sources.allocator(), &reports)
+    let reports = reports_of(sources, roots, compiled)?;
+    joined(sources.allocator(), &reports)
 }
 
 // The reports of what is found in these roots, each once, with the lines behind it.

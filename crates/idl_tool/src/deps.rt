@@ -1,20 +1,19 @@
 //! Rules of make from the files that roots ask for.
 
-ghost use Rattle.std.specs.Prelude.{◌≡◌, ◌++◌, ◌∷◌, ◌≤◌, ◌<◌, ◌+◌, ◌-◌, ◌^◌, [], All, IfOk, IsTrue, OnErr, OnOk, codes, filter, flat_map, if◌then◌else◌, map};
-ghost use Rattle.idl_source.specs.devices.Device.{append};
-ghost use Rattle.idl_driver.specs.Rows.{are_faulty, lines_with};
+ghost use Rattle.std.specs.Prelude.{◌≡◌, ◌++◌, ◌∷◌, ◌≤◌, ◌<◌, ◌+◌, ◌-◌, ◌^◌, [], All, IfOk, IsTrue, OnErr, OnOk, codes, filter, flat_map, map};
 ghost use Rattle.idl_driver.specs.Written.{WritesSome};
-ghost use Rattle.idl_loader.specs.declared.status.Status.TheVariants.{Faulty, Sound};
 ghost use Rattle.idl_tool.specs.Deps.{IsServed, empty_rule, is_other, is_there, need_of, rules_in, stem, target_of, wanted_in};
 ghost use Rattle.idl_tool.specs.make_rules.Make.{IsMakeRule, is_make_name, need_text, rules_text, target_text};
 
+use crate::check::{report_text, status_of};
 use crate::failure::ToolFailure;
+use crate::faults::{ended_by, troubles_text};
 use crate::make_rules::{is_make_name, push_need, push_need_if_there, push_target};
 use crate::request::Deps;
-use idl_driver::idl_sources::{CompiledRoot, Sources};
-use idl_driver::{Devices, FailureSubject, compile_files};
-use idl_loader::{Loader, Status, write_lines};
-use idl_source::devices::{WriteFailed, write_all};
+use idl_driver::idl_sources::Sources;
+use idl_driver::{Devices, FailureSubject, compile_sound_files};
+use idl_loader::{Loader, Status};
+use idl_source::devices::write_all;
 use idl_source::{Name, Sink};
 use std::alloc::{AllocError, Global};
 use std::mem::forget;
@@ -40,9 +39,14 @@ pub fn write_deps<'a, L: Loader, S, O: Sink, E: Sink>(
     ensures until { OnErr result
         (WritesSome (E.written devices.old.errors) (E.written devices.new.errors)) }
 {
-    let all = compile_files(alloc, &deps.options, &mut devices.loader)?;
-    let rules = rules_of(&all.sources, all.roots.as_slice(), deps)?;
-    let status = tell_errors(&all.compiled, &mut devices.errors)?;
+    let all = compile_sound_files(alloc, &deps.options, &mut devices.loader)?;
+    let trouble = troubles_text(alloc, &all)?;
+    let rules = rules_of(&all.sound.sources, &all.sound.roots, deps)?;
+    let reports = report_text(&all.sound.sources, &all.sound.roots, &all.sound.compiled)?;
+    let status = status_of(&all.sound.compiled);
+    let status = ended_by(&all, status);
+    write_all(&mut devices.errors, &trouble)?;
+    write_all(&mut devices.errors, &reports)?;
     write_all(&mut devices.output, &rules)?;
     // The program ends here, and all memory goes back at once.
     forget(all);
@@ -206,32 +210,4 @@ fn push_empty_rules(
         }
     }
     Ok(())
-}
-
-/// Writes what is told of these roots, each in turn.
-pub(crate) fn tell_errors<K: Sink>(
-    compiled: &[CompiledRoot],
-    errors: &mut K,
-) -> Result<Status, WriteFailed>
-    requires counts { K.failures errors.old < 2 ^ 64 - 1 }
-
-    ensures told { OnOk result (K.written errors.new
-        ≡ append (K.written errors.old) (lines_with (λ root. root.rows.diagnostics) compiled.now)) }
-    ensures status { IfOk result (λ status.
-        status ≡ (if are_faulty compiled.now then Faulty else Sound)) }
-    ensures well { OnOk result (K.failures errors.new ≡ K.failures errors.old) }
-    ensures most { K.failures errors.new ≤ K.failures errors.old + 1 }
-    ensures least { K.failures errors.old ≤ K.failures errors.new }
-    ensures until { OnErr result (WritesSome (K.written errors.old) (K.written errors.new)) }
-{
-    let mut is_faulty = false;
-    'roots: for root in compiled {
-        write_lines(errors, root.rows.diagnostics.as_slice())?;
-        is_faulty = is_faulty || root.rows.is_faulty;
-    }
-    if is_faulty {
-        Ok(Status::Faulty)
-    } else {
-        Ok(Status::Sound)
-    }
 }

@@ -1,6 +1,6 @@
 //! What changes from one version of a file to another.
 
-ghost use Rattle.std.specs.Prelude.{◌≡◌, ◌≤◌, ◌<◌, ◌+◌, ◌++◌, ◌-◌, ◌^◌, IfOk, OnErr, OnOk, if◌then◌else◌, map};
+ghost use Rattle.std.specs.Prelude.{◌≡◌, ◌≤◌, ◌<◌, ◌+◌, ◌++◌, ◌-◌, ◌^◌, IfOk, OnErr, OnOk, if◌then◌else◌, map, option_copied};
 ghost use Rattle.std.specs.Option.{option_map};
 ghost use Rattle.idl_source.specs.devices.Device.{append};
 ghost use Rattle.idl_inputs.specs.Bank.{bank_of};
@@ -10,18 +10,17 @@ ghost use Rattle.idl_driver.specs.Compilations.{HasCompiled};
 ghost use Rattle.idl_driver.specs.Rows.{are_faulty};
 ghost use Rattle.idl_driver.specs.Written.{WritesSome};
 ghost use Rattle.idl_json.specs.Listed.{place_of, row_of};
-ghost use Rattle.idl_tool.specs.Compared.{IsCompared, all_rows, are_failing, change_lines, changes_of, ending_by, ending_of, grade, has_error, lines_between, place_at, place_before, seen, shown_between, shown_place, trees_of};
+ghost use Rattle.idl_tool.specs.Compared.{IsCompared, all_rows, are_failing, change_lines, changes_of, ending_by, ending_of, grade, has_error, lines_between, place_at, object_line, place_before, seen, shown_between, shown_place, trees_of};
 
-use crate::check::status_of;
-use crate::deps::tell_errors;
+use crate::check::{report_text, status_of};
 use crate::failure::ToolFailure;
 use crate::json::rows_of;
 use crate::report::push_place;
 use crate::request::Diff;
-use idl_changes::{Change, Weights, changes, push_change};
+use idl_changes::{Change, Weights, changes, entry_of, push_change};
 use idl_driver::idl_sources::{CompiledRoot, Details, Sources};
 use idl_driver::{Compilation, Devices, compile_files};
-use idl_json::{ListedRow, NamePlace};
+use idl_json::{ChangeTold, ListedRow, NamePlace, change_line};
 use idl_loader::{Loader, Status};
 use idl_repo::details::RowTree;
 use idl_source::devices::write_all;
@@ -52,9 +51,11 @@ pub fn write_diff<'a, L: Loader, S, O: Sink, E: Sink>(
 {
     let old = compile_files(alloc, &diff.old, &mut devices.loader)?;
     let new = compile_files(alloc, &diff.new, &mut devices.loader)?;
-    tell_errors(&old.compiled, &mut devices.errors)?;
-    tell_errors(&new.compiled, &mut devices.errors)?;
-    let status = write_between(diff.fails, &old, &new, &mut devices.output)?;
+    let first = report_text(&old.sources, old.roots.as_slice(), &old.compiled)?;
+    let second = report_text(&new.sources, new.roots.as_slice(), &new.compiled)?;
+    write_all(&mut devices.errors, &first)?;
+    write_all(&mut devices.errors, &second)?;
+    let status = write_between(diff, &old, &new, &mut devices.output)?;
     // The program ends here, and all memory goes back at once.
     forget((old, new));
     Ok(status)
@@ -62,7 +63,7 @@ pub fn write_diff<'a, L: Loader, S, O: Sink, E: Sink>(
 
 // Writes the changes from one version to another, unless one of them has an error.
 fn write_between<'a, K: Sink>(
-    fails: Weights,
+    diff: &Diff<'_>,
     old: &Compilation,
     new: &Compilation,
     output: &mut K,
@@ -72,15 +73,16 @@ fn write_between<'a, K: Sink>(
     requires counts { K.failures output.old < 2 ^ 64 - 1 }
 
     ensures written { OnOk result (K.written output.new
-        ≡ append (K.written output.old) (shown_between fails (seen old.now) (seen new.now))) }
+        ≡ append (K.written output.old)
+        (shown_between diff.now.fails (seen old.now) (seen new.now) diff.now.is_json)) }
     ensures status { IfOk result (λ status.
-        status ≡ ending_of fails (seen old.now) (seen new.now)) }
+        status ≡ ending_of diff.now.fails (seen old.now) (seen new.now)) }
     ensures well { OnOk result (K.failures output.new ≡ K.failures output.old) }
 {
     if has_error(old, new) {
         return Ok(Status::Failed);
     }
-    write_changes(fails, old, new, output)
+    write_changes(diff, old, new, output)
 }
 
 // Whether one of two versions has an error.
@@ -106,7 +108,7 @@ fn are_faulty(compiled: &[CompiledRoot]) -> bool
 
 // Writes the changes from one version to another.
 fn write_changes<'a, K: Sink>(
-    fails: Weights,
+    diff: &Diff<'_>,
     old: &Compilation,
     new: &Compilation,
     output: &mut K,
@@ -114,32 +116,33 @@ fn write_changes<'a, K: Sink>(
     requires counts { K.failures output.old < 2 ^ 64 - 1 }
 
     ensures written { OnOk result (K.written output.new
-        ≡ append (K.written output.old) (lines_between fails (seen old.now) (seen new.now))) }
+        ≡ append (K.written output.old)
+        (lines_between diff.now.fails (seen old.now) (seen new.now) diff.now.is_json)) }
     ensures status { IfOk result (λ status.
-        status ≡ ending_by fails (seen old.now) (seen new.now)) }
+        status ≡ ending_by diff.now.fails (seen old.now) (seen new.now)) }
     ensures well { OnOk result (K.failures output.new ≡ K.failures output.old) }
 {
     let before = details_of(&old.sources, old.roots.as_slice())?;
     let after = details_of(&new.sources, new.roots.as_slice())?;
     let was = all_rows(&old.sources, old.roots.as_slice(), &before)?;
     let is = all_rows(&new.sources, new.roots.as_slice(), &after)?;
-    let (text, status) = told_between(old.sources.allocator(), fails, &was, &is)?;
+    let (text, status) = told_between(old.sources.allocator(), diff, &was, &is)?;
     write_all(output, &text)?;
     Ok(status)
 }
 
 // The lines of the changes from one listing to another, and how the program ends by them.
-fn told_between(
+fn told_between<'d>(
     alloc: Global,
-    fails: Weights,
-    old: &[ListedRow<'_>],
-    new: &[ListedRow<'_>],
+    diff: &Diff<'_>,
+    old: &[ListedRow<'d>],
+    new: &[ListedRow<'d>],
 ) -> Result<(Vec<u8>, Status), AllocError>
     ensures lines { IfOk result (λ told. told.0.items
-        ≡ change_lines fails (map row_of old.now) (map row_of new.now)
+        ≡ change_lines diff.now.is_json diff.now.fails (map row_of old.now) (map row_of new.now)
         (changes_of (map row_of old.now) (map row_of new.now))) }
     ensures status { IfOk result (λ told. told.1
-        ≡ (if are_failing fails (changes_of (map row_of old.now) (map row_of new.now))
+        ≡ (if are_failing diff.now.fails (changes_of (map row_of old.now) (map row_of new.now))
         then Faulty else Sound)) }
 {
     let old_trees = trees_of(alloc, old)?;
@@ -149,11 +152,16 @@ fn told_between(
     let told = changes(alloc, was, is)?;
     let mut text = Vec::new(alloc);
     'lines: for change in &told {
-        push_head(&mut text, fails, (old, new), change)?;
-        push_change(&mut text, was, is, change)?;
-        text.extend_from_slice(b"\n")?;
+        if diff.is_json {
+            let entry = entry_of(was, is, change);
+            push_object(&mut text, entry, shown_place(old, new, change), change)?;
+        } else {
+            push_head(&mut text, diff.fails, (old, new), change)?;
+            push_change(&mut text, was, is, change)?;
+            text.extend_from_slice(b"\n")?;
+        }
     }
-    let status = ending_by(fails, &told);
+    let status = ending_by(diff.fails, &told);
     Ok((text, status))
 }
 
@@ -209,6 +217,28 @@ fn trees_of<'d>(alloc: Global, rows: &[ListedRow<'d>]) -> Result<Vec<&'d RowTree
         trees.push(row.tree)?;
     }
     Ok(trees)
+}
+
+// Writes a change of an entry as an object of JSON, with where that is declared, if that is known.
+fn push_object(
+    text: &mut Vec<u8>,
+    entry: Option<&RowTree>,
+    declared: Option<NamePlace<'_>>,
+    change: &Change,
+) -> Result<(), AllocError>
+    ensures { OnOk result (text.new.items ≡ text.old.items
+        ++ object_line (option_copied entry.entry) (option_map place_of declared.entry) change.now) }
+{
+    let Some(tree) = entry else {
+        return Ok(());
+    };
+    let told = ChangeTold {
+        tree,
+        difference: &change.difference,
+        declared,
+    };
+    let line = change_line(*text.allocator(), told)?;
+    text.extend_from_slice(&line)
 }
 
 // Writes what stands before the row of a change: where its entry is declared, and how it is graded.

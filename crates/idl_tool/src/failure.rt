@@ -3,9 +3,9 @@
 ghost use Rattle.std.specs.Prelude.{◌≡◌, ◌<◌, ◌+◌, ◌-◌, ◌^◌, [], OnErr, OnOk};
 ghost use Rattle.idl_source.specs.devices.Device.{append};
 ghost use Rattle.idl_explain.specs.Explained.{said};
-ghost use Rattle.idl_tool.specs.Messages.{IsProgramTold, IsRefusalTold, IsTold};
+ghost use Rattle.idl_tool.specs.Messages.{IsProgramTold, IsRefusalTold, IsTold, limit_message, limit_words};
 
-use idl_driver::{FailureSubject, ProgramFailure, WordsFault, tell_of};
+use idl_driver::{FailureSubject, Limit, ProgramFailure, WordsFault, tell_of};
 use idl_explain::{Topic, Words, explanation_of};
 use idl_loader::ServiceFault;
 use idl_source::devices::{WriteFailed, write_all};
@@ -63,7 +63,39 @@ fn tell_program<K: Sink>(failure: &ProgramFailure<'_>, errors: &mut K) -> Result
         ProgramFailure::Refused(subject, refusal) => {
             tell_refusal(subject.as_bytes(), *refusal, errors)
         }
+        ProgramFailure::OverLimit(subject, limit) => {
+            tell_limit(subject.as_bytes(), *limit, errors)
+        }
         _ => failure.tell(b"idltool", errors),
+    }
+}
+
+// Writes the line about a word or a file that passes a limit.
+fn tell_limit<K: Sink>(name: &[u8], limit: Limit, errors: &mut K) -> Result<(), WriteFailed>
+    requires counts { K.failures errors.old < 2 ^ 64 - 1 }
+    ensures told { OnOk result (K.written errors.new
+        ≡ append (K.written errors.old) (limit_message name.now limit)) }
+    ensures err { OnErr result (K.failures errors.new ≡ K.failures errors.old + 1) }
+{
+    write_all(errors, b"idltool: ")?;
+    write_all(errors, name)?;
+    write_all(errors, b": refused 5: ")?;
+    write_all(errors, limit_words(limit))?;
+    write_all(errors, b"\n")
+}
+
+/// What a limit says that is passed.
+pub(crate) fn limit_words(limit: Limit) -> &'static [u8]
+    ensures { result.now ≡ limit_words limit }
+{
+    match limit {
+        Limit::LineBytes => b"a line of more than 4,096 bytes",
+        Limit::Lines => b"more than 200,000 lines",
+        Limit::Files => b"more than 4,096 files",
+        Limit::BodyBytes => b"a body of more than 4,096 bytes",
+        Limit::Macros => b"more than 4,096 macros",
+        Limit::Directories => b"more than 256 directories",
+        Limit::Roots => b"more than 256 files",
     }
 }
 

@@ -1,20 +1,22 @@
 //! What is told of files as JSON: an object a file, on a line each.
 
-ghost use Rattle.std.specs.Prelude.{◌≡◌, ◌<◌, ◌-◌, ◌^◌, ℕ, IfOk, List, OnOk, length, map};
+ghost use Rattle.std.specs.Prelude.{◌≡◌, ◌≤◌, ◌<◌, ◌+◌, ◌-◌, ◌^◌, ℕ, IfOk, List, OnErr, OnOk, length, map};
 ghost use Rattle.std.specs.List.{AllZip, concat, zip};
 ghost use Rattle.idl_json.specs.Diagnostic.{located, second_of};
 ghost use Rattle.idl_json.specs.Listed.{place_of, row_of};
 ghost use Rattle.idl_json.specs.Root.{IsRootLine};
+ghost use Rattle.idl_driver.specs.Written.{WritesSome};
 ghost use Rattle.idl_driver.specs.idl_sources.Compile.{compiled_root};
 ghost use Rattle.idl_tool.specs.Json.{IsLineOf, IsLineWith, IsWritten, declared_in, listing_of, located_in, row_in, second_at, told_of};
 
 use crate::check::{column_of, status_of};
 use crate::failure::ToolFailure;
+use crate::faults::{ended_by, troubles_text};
 use idl_base::Seq;
 use idl_driver::idl_sources::{
     CompiledRoot, DeclaredPlace, DetailedEntry, Details, Finding, SitedToken, Sources, related_over,
 };
-use idl_driver::{Devices, Options, compile_files};
+use idl_driver::{Devices, Options, compile_sound_files};
 use idl_inputs::Columns;
 use idl_json::{Diagnostic, ListedRow, NamePlace, RootTold, SecondPlace, root_line};
 use idl_loader::{Loader, Status};
@@ -31,18 +33,26 @@ pub fn write_json<'a, L: Loader, S, O: Sink, E: Sink>(
     devices: &mut Devices<L, S, O, E>,
 ) -> Result<Status, ToolFailure<'a>>
     requires writes { O.failures devices.old.output < 2 ^ 64 - 1 }
+    requires tells { E.failures devices.old.errors < 2 ^ 64 - 2 }
 
     ensures written { IfOk result (λ status. IsWritten (L.told devices.old.loader) options.now
         (record { errors = E.written devices.old.errors; output = O.written devices.old.output })
         (record { errors = E.written devices.new.errors; output = O.written devices.new.output })
         status) }
-    ensures well { OnOk result (O.failures devices.new.output ≡ O.failures devices.old.output) }
-    ensures same { E.failures devices.new.errors ≡ E.failures devices.old.errors }
-    ensures kept { E.written devices.new.errors ≡ E.written devices.old.errors }
+    ensures well { OnOk result
+        ((O.failures devices.new.output ≡ O.failures devices.old.output)
+        × (E.failures devices.new.errors ≡ E.failures devices.old.errors)) }
+    ensures most { E.failures devices.new.errors ≤ E.failures devices.old.errors + 1 }
+    ensures least { E.failures devices.old.errors ≤ E.failures devices.new.errors }
+    ensures until { OnErr result
+        (WritesSome (E.written devices.old.errors) (E.written devices.new.errors)) }
 {
-    let all = compile_files(alloc, options, &mut devices.loader)?;
-    let text = lines_of(&all.sources, all.roots.as_slice(), &all.compiled)?;
-    let status = status_of(&all.compiled);
+    let all = compile_sound_files(alloc, options, &mut devices.loader)?;
+    let trouble = troubles_text(alloc, &all)?;
+    let text = lines_of(&all.sound.sources, &all.sound.roots, &all.sound.compiled)?;
+    let status = status_of(&all.sound.compiled);
+    let status = ended_by(&all, status);
+    write_all(&mut devices.errors, &trouble)?;
     write_all(&mut devices.output, &text)?;
     // The program ends here, and all memory goes back at once.
     forget(all);
@@ -113,6 +123,7 @@ fn details_of(sources: &Sources, root: &Name, has_error: bool) -> Result<Details
     if has_error {
         return Ok(Details {
             entries: Seq::new(sources.allocator()),
+            declared: Seq::new(sources.allocator()),
             uses: Seq::new(sources.allocator()),
         });
     }

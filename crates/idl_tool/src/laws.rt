@@ -1,6 +1,6 @@
 //! Laws of the rules, of the reports and of the changes that go out.
 
-ghost use Rattle.std.specs.Prelude.{◌≡◌, ℕ, All, List, [], flat_map, true};
+ghost use Rattle.std.specs.Prelude.{◌≡◌, ℕ, All, Bool, List, [], flat_map, true};
 ghost use Rattle.std.specs.List.{IsDistinct};
 ghost use Rattle.std.specs.Map.{keys_of};
 ghost use Rattle.std.specs.Str.{bytes_eq};
@@ -42,9 +42,9 @@ pub fn findings_are_told_once()
 /// Where comparing two versions ends soundly, and a change on the wire is an error, programs that are built from them speak with each
 /// other, if they are declared as IDL asks for. This does nothing: it carries the law.
 pub fn sound_changes_speak()
-    ensures { (fails : Weights) (old new : Version) (before after : Written) (status : Status)
-        → AreCompared fails old new before after status → fails.wire ≡ true → status ≡ Sound
-        → DoSpeak old new }
+    ensures { (is_json : Bool) (fails : Weights) (old new : Version) (before after : Written)
+        → (status : Status) → AreCompared is_json fails old new before after status
+        → fails.wire ≡ true → status ≡ Sound → DoSpeak old new }
 {
     // It does nothing: it carries the law of changes none of which counts on the wire.
     nothing_on_the_wire();

@@ -9,6 +9,7 @@ mod deps;
 mod diff;
 mod explain;
 mod failure;
+mod faults;
 mod json;
 mod laws;
 pub mod make_rules;

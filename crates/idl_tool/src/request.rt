@@ -1,12 +1,12 @@
 //! The words that the program is given.
 
-ghost use Rattle.std.specs.Prelude.{◌≡◌, IfErr, IfOk, [], Some, codes, false, map, true};
+ghost use Rattle.std.specs.Prelude.{◌≡◌, IfErr, IfOk, MatchOption, [], Some, codes, false, map, true};
 ghost use Rattle.std.specs.Option.{option_to_list};
 ghost use Rattle.clap.specs.Words.{app_of, first_of, found_of, rows_of, rule_of, shape_of, subcommand_rows_of};
 ghost use Rattle.clap.specs.declared.builder.command.Command.TheViews.{out-Command as fields_of};
 ghost use Rattle.idl_driver.specs.Parsed.{SaysWrong};
 ghost use Rattle.idl_driver.specs.Words.{file_rule};
-ghost use Rattle.idl_tool.specs.Words.{AreCheckOf, AreDepsOf, AreWrong, AreDiffOf, AreSideOf, IsRequestOf, bare, check_shape, deps_shape, diff_shape, lsp_shape, entered_in, explain_shape, fails_in, fails_rule, faults_in, generated_rule, idltool, json_shape, present_rule, side_rule, stdio_rule, target_rule, version_rule, werror_rule, word_rule};
+ghost use Rattle.idl_tool.specs.Words.{AreCheckOf, AreDepsOf, AreWrong, AreDiffOf, AreNoDiff, AreSideOf, IsRequestOf, bare, check_shape, deps_shape, diff_shape, lsp_shape, entered_in, explain_shape, fails_in, fails_rule, faults_in, format_rule, generated_rule, idltool, json_in, json_of, json_shape, present_rule, side_rule, stdio_rule, target_rule, version_rule, werror_rule, word_rule};
 
 use clap::{Arg, ArgAction, ArgMatches, Command};
 use idl_changes::Weights;
@@ -37,7 +37,7 @@ pub struct Deps<'a> {
     pub leaves_absent: bool,
 }
 
-/// Which files are to be compared, what each is compiled over, and which changes are errors.
+/// Which files are to be compared, what each is compiled over, which changes are errors, and how they are written.
 #[derive(Drop)]
 pub struct Diff<'a> {
     /// The old file.
@@ -46,6 +46,8 @@ pub struct Diff<'a> {
     pub new: Options<'a>,
     /// The weights with which a change is an error.
     pub fails: Weights,
+    /// Whether each change is written as an object of JSON, and not as a row.
+    pub is_json: bool,
 }
 
 /// What the words ask for.
@@ -107,13 +109,10 @@ fn chosen<'a>(
         return Ok(ToolRequest::Serve);
     }
     match matches.subcommand_matches("diff") {
-        Some(diff) => match fails_of(diff) {
-            Some(fails) => Ok(ToolRequest::Diff(diff_of(alloc, diff, fails)?)),
+        Some(diff) => match forms_of(diff) {
+            Some(forms) => Ok(ToolRequest::Diff(diff_of(alloc, diff, forms)?)),
             None => {
-                let text = String::from_str(
-                    alloc,
-                    "--fail-on: never, or of wire, client, servant, names and new, with commas between",
-                )?;
+                let text = String::from_str(alloc, wrong_forms(diff))?;
                 Err(WordsFault::Wrong(text))
             }
         },
@@ -215,6 +214,7 @@ fn diff_command<'a>(alloc: Global) -> Result<Command<'a>, AllocError>
         .arg(old_directory(alloc))?
         .arg(new_directory(alloc))?
         .arg(fails(alloc))?
+        .arg(format(alloc))?
         .arg(old_file(alloc))?
         .arg(new_file(alloc))
 }
@@ -334,6 +334,17 @@ fn fails<'a>(alloc: Global) -> Arg<'a>
         .help("The weights of a change that is an error, or never; without it wire,client")
 }
 
+fn format<'a>(alloc: Global) -> Arg<'a>
+    ensures rule { rule_of result ≡ format_rule }
+    ensures global { result.global ≡ false }
+{
+    Arg::new(alloc, "format")
+        .long("format")
+        .value_name("FORMAT")
+        .action(ArgAction::Set)
+        .help("How a change is written: text, a row, or json, an object on a line; without it text")
+}
+
 fn old_file<'a>(alloc: Global) -> Arg<'a>
     ensures rule { rule_of result ≡ version_rule (codes "old") }
     ensures global { result.global ≡ false }
@@ -386,17 +397,68 @@ fn fails_of(matches: &ArgMatches<'_>) -> Option<Weights>
     }
 }
 
+// Whether each change is to be an object of JSON, and not a row.
+fn json_of(matches: &ArgMatches<'_>) -> Option<bool>
+    ensures { result ≡ json_in (rows_of (found_of matches.now)) }
+{
+    match matches.get_str("format") {
+        Some(format) => json_named(format),
+        None => Some(false),
+    }
+}
+
+// Whether a format is JSON, and not that of rows, where it is one of them.
+fn json_named(format: &str) -> Option<bool>
+    ensures { result ≡ json_of (Some format.now) }
+{
+    match format {
+        "json" => Some(true),
+        "text" => Some(false),
+        _ => None,
+    }
+}
+
+// Which changes are errors, and whether each is to be an object of JSON, where both are told so that it can be read.
+fn forms_of(matches: &ArgMatches<'_>) -> Option<(Weights, bool)>
+    ensures { MatchOption result (AreNoDiff (rows_of (found_of matches.now)))
+        (λ forms. (fails_in (rows_of (found_of matches.now)) ≡ Some forms.0)
+        × (json_in (rows_of (found_of matches.now)) ≡ Some forms.1)) }
+{
+    match fails_of(matches) {
+        Some(fails) => match json_of(matches) {
+            Some(is_json) => Some((fails, is_json)),
+            None => None,
+        },
+        None => None,
+    }
+}
+
+// What is told where one of them can't be read.
+fn wrong_forms(matches: &ArgMatches<'_>) -> &'static str {
+    if fails_of(matches).is_none() {
+        return "--fail-on: never, or of wire, client, servant, names and new, with commas between";
+    }
+    "--format: text or json"
+}
+
 fn diff_of<'a>(
     alloc: Global,
     matches: &ArgMatches<'a>,
-    fails: Weights,
+    forms: (Weights, bool),
 ) -> Result<Diff<'a>, AllocError>
-    requires { fails_in (rows_of (found_of matches.now)) ≡ Some fails }
+    requires fails { fails_in (rows_of (found_of matches.now)) ≡ Some forms.0 }
+    requires form { json_in (rows_of (found_of matches.now)) ≡ Some forms.1 }
+
     ensures { IfOk result (AreDiffOf (rows_of (found_of matches.now))) }
 {
     let old = side_of(alloc, matches, "old", "old-directory")?;
     let new = side_of(alloc, matches, "new", "new-directory")?;
-    Ok(Diff { old, new, fails })
+    Ok(Diff {
+        old,
+        new,
+        fails: forms.0,
+        is_json: forms.1,
+    })
 }
 
 // What is asked for of the file that this argument names, and of which this option has the directories.

@@ -8,7 +8,7 @@ ghost use Rattle.idl_root.specs.NamePlaces.{AreNamesOf, AreNumbered};
 
 use crate::compiling::judging::RootState;
 use crate::compiling::naming::Naming;
-use crate::compiling::places::{DeclaredPlace, RootNames, UsedName};
+use crate::compiling::places::{DeclaredPlace, PlacedName, RootNames, UsedName};
 use crate::compiling::printing::Listed;
 use idl_base::Seq;
 use idl_entity::Path;
@@ -27,9 +27,11 @@ pub struct DetailedEntry {
     pub places: Seq<DeclaredPlace>,
 }
 
-/// What is told of a root as data: of each name that has an id, in the order of the listing, and of each use of a name.
+/// What is told of a root as data: of each name that has an id, in the order of the listing; where each name is declared, also one that
+/// has no id, in order; and of each use of a name.
 pub struct Details {
     pub entries: Seq<DetailedEntry>,
+    pub declared: Seq<PlacedName>,
     pub uses: Seq<UsedName>,
 }
 
@@ -46,6 +48,7 @@ impl Drop for Details {
     fn drop(self) {
         let Details {
             entries: _entries,
+            declared: _declared,
             uses: _uses,
         } = self;
     }
@@ -62,9 +65,11 @@ pub fn details_of(alloc: Global, expansion: &Expansion) -> Result<Details, Alloc
     let names = names_of(alloc, expansion, &naming)?;
     let judging = &naming.judging;
     let entries = entries_of(&judging.env, &names, judging.gathered.listed.as_slice())?;
+    let (declared, used) = names.into_lists();
     Ok(Details {
         entries: Seq::from_vec(entries),
-        uses: Seq::from_vec(names.into_used()),
+        declared: Seq::from_vec(declared),
+        uses: Seq::from_vec(used),
     })
 }
 

@@ -188,16 +188,17 @@ impl RootNames {
         Ok(())
     }
 
-    /// Those that are used.
-    pub fn into_used(self) -> Vec<UsedName>
-        ensures { result ≡ self.used }
+    /// Those that are declared, and those that are used.
+    pub fn into_lists(self) -> (Vec<PlacedName>, Vec<UsedName>)
+        ensures declared { result.0 ≡ self.declared }
+        ensures used { result.1 ≡ self.used }
     {
         let RootNames {
-            declared: _declared,
+            declared,
             numbers: _numbers,
             used,
         } = self;
-        used
+        (declared, used)
     }
 
     /// Where the name at a path is declared, in order.

@@ -3,7 +3,7 @@
 use super::support::are_given;
 use std::test::Fail;
 
-static ROWS: [&str; 11] = [
+static ROWS: [&str; 12] = [
     // The line, and marks below the token; of a sound file nothing is told.
     "idltool check shop.idl => shop.idl: #include \"money.idl\" | interface Shop { |     Money price(); |     Mony total(); \
      | }; ¶ money.idl: typedef long Money; => 1 out shop.idl:4:5: error: `Mony` isn't declared here or in a scope around \
@@ -23,6 +23,11 @@ static ROWS: [&str; 11] = [
     // Where warnings count, it is 1.
     "idltool check --werror w.idl => w.idl: interface F; => 1 out w.idl:1:11: warning: the interface `F` is declared forward \
      and never defined [W80] /interface F; /          ^ /\nidltool check --werror a.idl => a.idl: typedef long T; => 0",
+    // After a file with which there is trouble the others are told.
+    "idltool check a.idl b.idl c.idl => a.idl! ¶ b.idl: typedef No X; ¶ c.idl: #include \"a.idl\" => 2 out b.idl:1:9: error: `No` \
+     isn't declared here or in a scope around [E30] /typedef No X; /        ^^ / err idltool: a.idl: cannot read /idltool: a.idl: \
+     cannot read /\nidltool check ä.idl b.idl => b.idl => 2 err idltool: ä.idl: refused 2: name not allowed /\nidltool json a.idl => \
+     a.idl! => 2 err idltool: a.idl: cannot read /",
     // What isn't there has no line.
     "idltool check z.idl => a.idl => 1 out z.idl: error: the file z.idl isn't found [E10] /",
     // A token that comes of a macro, and one that goes over joined lines, have no column.

@@ -4,7 +4,7 @@ use super::support::{are_given, is_given};
 use std::alloc::Global;
 use std::test::Fail;
 
-static ROWS: [&str; 3] = [
+static ROWS: [&str; 4] = [
     // Two versions, of which the order of what is raised alone tells nothing.
     "idltool diff old.idl new.idl => old.idl: module Bank { enum Kind { PLAIN, SILVER }; exception Low { }; exception No { }; | interface \
      Account { | void draw(in long amount) raises (Low, No); | long balance(); | }; | }; ¶ new.idl: module Bank { | enum Kind { PLAIN, \
@@ -18,7 +18,18 @@ static ROWS: [&str; 3] = [
      long T; ¶ n/h: typedef short T; => 1 out n/h:1:15: error: alias T: type, long -> short [wire,client,servant] /\nidltool diff --new-I \
      n -Ii a.idl a.idl => a.idl: #include <h> ¶ i/h ¶ n/h: typedef long T; => 0 out n/h:1:14: note: alias T: is new [new] /",
     // Of faulty versions no change is told, but what is found in both.
-    "idltool diff a.idl b.idl => a.idl: interface F; ¶ b.idl: typedef No X; => 2 err a.idl:1: W80 F /b.idl:1: E30 No /",
+    "idltool diff a.idl b.idl => a.idl: interface F; ¶ b.idl: typedef No X; => 2 err a.idl:1:11: warning: the interface `F` is declared \
+     forward and never defined [W80] /interface F; /          ^ /b.idl:1:9: error: `No` isn't declared here or in a scope around [E30] \
+     /typedef No X; /        ^^ /",
+    // Changes as data: what is gone, new, new at a place, and another.
+    "idltool diff --format json a b => a: struct T { long x; }; typedef long A; ¶ b: struct T { short x; any y; }; typedef long B; => 1 out \
+     {\"column\":8,\"file\":\"b\",\"id\":\"IDL:T:1.0\",\"kind\":\"struct\",\"line\":1,\"new\":\"short\",\"old\":\"long\",\"part\":\"type of \
+     member x\",\"path\":\"T\",\"weights\":[\"wire\",\"client\",\"servant\"]} /{\"column\":8,\"file\":\"b\",\"id\":\"IDL:T:1.0\",\
+     \"kind\":\"struct\",\"line\":1,\"number\":2,\"part\":\"member y\",\"path\":\"T\",\"weights\":[\"wire\",\"client\",\"servant\"],\
+     \"word\":\"is new\"} /{\"column\":36,\"file\":\"a\",\"id\":\"IDL:A:1.0\",\"kind\":\"alias\",\"line\":1,\"path\":\"A\",\"weights\":\
+     [\"client\",\"servant\"],\"word\":\"is gone\"} /{\"column\":44,\"file\":\"b\",\"id\":\"IDL:B:1.0\",\"kind\":\"alias\",\"line\":1,\
+     \"path\":\"B\",\"weights\":[\"new\"],\"word\":\"is new\"} /\nidltool diff --format text --fail-on names a b => a: typedef long A; ¶ b: \
+     typedef long B; => 0 out a:1:14: note: alias A: is gone [client,servant] /b:1:14: note: alias B: is new [new] /",
 ];
 
 #[test]

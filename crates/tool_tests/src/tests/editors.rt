@@ -22,7 +22,7 @@ fn is_served(alloc: Global, text: &str, input: &str, code: u8, want: &str) -> Re
 }
 
 // A status, files, messages, and behind a `=` what is written. A line that begins with blanks goes on with the one before it.
-static SCRIPTS: [&str; 6] = [
+static SCRIPTS: [&str; 7] = [
     // A document is opened beside a header of the disk, in units of UTF-16, mended, and asked about.
     r##"0 /p/b.idl: typedef long Money;
 {"id":1,"method":"textDocument/hover"}
@@ -47,7 +47,8 @@ static SCRIPTS: [&str; 6] = [
 ={"id":2,"jsonrpc":"2.0","result":{"range":{"end":{"character":18,"line":0},"start":{"character":13,"line":0}},"uri":"file:///p/b.idl"}}
 {"id":3,"method":"textDocument/hover","params":{"textDocument":{"uri":"file:///p/%c3%bc.idl"},"position":{"line":2,"character":53}}}
 ={"id":3,"jsonrpc":"2.0","result":{"contents":{"kind":"plaintext",
-    "value":"struct M::S\nIDL:M/S:1.0\nstruct M::S IDL:M/S:1.0 tk_struct(IDL:M/S:1.0,S,x:@IDL:Money:1.0)"}}}
+    "value":"struct M::S\nIDL:M/S:1.0\nstruct M::S IDL:M/S:1.0 tk_struct(IDL:M/S:1.0,S,x:@IDL:Money:1.0)
+    \n\r/* é😀 */ module M { struct S { Money x; }; typedef S R; };"}}}
 {"id":4,"method":"textDocument/documentSymbol","params":{"textDocument":{"uri":"file:///p/%c3%bc.idl"}}}
 ={"id":4,"jsonrpc":"2.0","result":[{"children":[
     {"children":[],"kind":23,"name":"S","range":{"end":{"character":43,"line":2},"start":{"character":21,"line":2}},
@@ -163,6 +164,27 @@ static SCRIPTS: [&str; 6] = [
     It may stay so: no code can call it through this file. Include the file that defines it.",
     "range":{"end":{"character":15,"line":1},"start":{"character":10,"line":1}},"relatedInformation":[],"severity":2,
     "source":"idltool"}],"uri":"file:///w/c/b.idl","version":4}}"##,
+    // Enumerators and members are declared somewhere, too; a hover shows the lines of a declaration, and the comment above it.
+    r##"1
+{"id":1,"method":"initialize","params":{"rootUri":"file:///p"}}
+={"id":1,"jsonrpc":"2.0","result":{"capabilities":{"definitionProvider":true,"documentSymbolProvider":true,"hoverProvider":true,
+    "positionEncoding":"utf-16","textDocumentSync":{"change":2,"openClose":true,"save":true}},
+    "serverInfo":{"name":"idltool","version":"0.1.0"}}}
+{"method":"textDocument/didOpen","params":{"textDocument":{"uri":"file:///p/a.idl",
+    "text":"/* Colors\n   of a lamp. */\r\nenum Color { red, green };\r\n\n// No comment\n\n// of this.\nconst Color C =\n  green;\n
+    struct S {\n  Color hue; /* x */\n  long low;\n};\n"}}}
+{"id":2,"method":"textDocument/definition","params":{"textDocument":{"uri":"file:///p/a.idl"},"position":{"line":8,"character":4}}}
+={"id":2,"jsonrpc":"2.0","result":{"range":{"end":{"character":23,"line":2},"start":{"character":18,"line":2}},"uri":"file:///p/a.idl"}}
+{"id":3,"method":"textDocument/definition","params":{"textDocument":{"uri":"file:///p/a.idl"},"position":{"line":10,"character":9}}}
+={"id":3,"jsonrpc":"2.0","result":{"range":{"end":{"character":11,"line":10},"start":{"character":8,"line":10}},"uri":"file:///p/a.idl"}}
+{"id":4,"method":"textDocument/hover","params":{"textDocument":{"uri":"file:///p/a.idl"},"position":{"line":7,"character":13}}}
+={"id":4,"jsonrpc":"2.0","result":{"contents":{"kind":"plaintext",
+    "value":"const C\nIDL:C:1.0\nconst C IDL:C:1.0 @IDL:Color:1.0 green\n// of this.\nconst Color C =\n  green;"}}}
+{"id":5,"method":"textDocument/hover","params":{"textDocument":{"uri":"file:///p/a.idl"},"position":{"line":8,"character":4}}}
+={"id":5,"jsonrpc":"2.0","result":{"contents":{"kind":"plaintext",
+    "value":"green\n/* Colors\n   of a lamp. */\nenum Color { red, green };"}}}
+{"id":6,"method":"textDocument/hover","params":{"textDocument":{"uri":"file:///p/a.idl"},"position":{"line":11,"character":8}}}
+={"id":6,"jsonrpc":"2.0","result":{"contents":{"kind":"plaintext","value":"S::low\n  long low;"}}}"##,
 ];
 
 #[test]

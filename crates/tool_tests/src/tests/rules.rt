@@ -8,20 +8,23 @@ static ROWS: [&str; 5] = [
     "idltool deps -Iinc -Itypes shop.idl => shop.idl: #include <money.idl> | typedef Money Price; ¶ types/money.idl: \
      typedef long Money; => 0 out shop.listing: shop.idl $(wildcard inc/money.idl) types/money.idl /types/money.idl: /",
     // Errors in the sources are told, and leave the rules as they are.
-    "idltool deps a.idl => a.idl: #include \"h\" | typedef No X; ¶ h => 1 out a.listing: a.idl h /h: / err a.idl:2: E30 No \
-     /\nidltool deps a.idl => a.idl: #include \"no.idl\" => 1 out a.listing: a.idl $(wildcard no.idl) / err a.idl:1: E10 \"no.idl\" \
-     /\nidltool deps z.idl => a.idl => 1 out z.listing: $(wildcard z.idl) / err z.idl:0: E10 z.idl /",
+    "idltool deps a.idl => a.idl: #include \"h\" | typedef No X; ¶ h => 1 out a.listing: a.idl h /h: / err a.idl:2:9: error: `No` \
+     isn't declared here or in a scope around [E30] /typedef No X; /        ^^ /\nidltool deps a.idl => a.idl: #include \"no.idl\" \
+     => 1 out a.listing: a.idl $(wildcard no.idl) / err a.idl:1:10: error: the file \"no.idl\" isn't found [E10] /#include \"no.idl\" \
+     /         ^^^^^^^^ /\nidltool deps z.idl => a.idl => 1 out z.listing: $(wildcard z.idl) / err z.idl: error: the file z.idl \
+     isn't found [E10] /",
     // Of what isn't there nothing stands in the rules where it is left out, whatever its name is.
     "idltool deps --present -t shop.h -Iinc -Itypes shop.idl => shop.idl: #include <money.idl> | typedef Money Price; ¶ \
      types/money.idl: typedef long Money; => 0 out shop.h: shop.idl types/money.idl /types/money.idl: /\nidltool deps \
-     --present a.idl => a.idl: #include \"a:b\" => 1 out a.listing: a.idl / err a.idl:1: E10 \"a:b\" /",
+     --present a.idl => a.idl: #include \"a:b\" => 1 out a.listing: a.idl / err a.idl:1:10: error: the file \"a:b\" isn't \
+     found [E10] /#include \"a:b\" /         ^^^^^ /",
     // What make gives a meaning to has a mark before it.
     "idltool deps a$#%.idl => a$#%.idl: #include \"h%\" ¶ h% => 0 out a$$\\#\\%.listing: a$$\\#%.idl h% /h\\%: /\n\
      idltool deps .A.idl => .A.idl => 0 out .A.listing: .A.idl /",
-    // Trouble with a file or a word ends the program, and no rule goes out.
-    "idltool deps b.idl a.idl => b.idl ¶ a.idl: #include \"h\" ¶ h! => 2 err idltool: h: cannot read /\nidltool deps \
-     -U1x a.idl => a.idl => 2 err idltool: 1x: refused 6: macro not allowed /\nidltool deps a//../..//. a.idl => a.idl \
-     => 2 err idltool: a//../..//.: refused 2: name not allowed /",
+    // Trouble with a FILE leaves the rules of the others as they are, and that with another word ends the program.
+    "idltool deps b.idl a.idl c.idl => b.idl ¶ a.idl: #include \"h\" ¶ h! ¶ c.idl => 2 out b.listing: b.idl /c.listing: c.idl / \
+     err idltool: h: cannot read /\nidltool deps -U1x a.idl => a.idl => 2 err idltool: 1x: refused 6: macro not allowed /\nidltool \
+     deps a//../..//. a.idl => a.idl => 2 out a.listing: a.idl / err idltool: a//../..//.: refused 2: name not allowed /",
 ];
 
 #[test]

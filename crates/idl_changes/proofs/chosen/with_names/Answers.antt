@@ -1,4 +1,4 @@
-use Rattle.std.proofs.Common.{◌≡◌, ◌∙◌, ◌+◌, ◌≤◌, [], ℕ, Some, ap, arith, drop, false, get_or, nat_eq, sym, take, true}
+use Rattle.std.proofs.Common.{◌≡◌, ◌∙◌, ◌+◌, [], ℕ, Some, ap, arith, drop, false, get_or, nat_eq, sym, take, true}
 use Rattle.std.proofs.lemmas.Bool.Decides.{nat_tests}
 use Rattle.idl_changes.specs.Chosen.{with_names}
 use Rattle.idl_changes.specs.Rows.{nobody}

@@ -1,4 +1,4 @@
-use Rattle.std.proofs.Common.{◌≡◌, ◌∙◌, ◌++◌, List, ap, ap₂, append_assoc, codes}
+use Rattle.std.proofs.Common.{◌∙◌, ◌++◌, List, ap, ap₂, append_assoc, codes}
 use Rattle.std.proofs.lemmas.Result.{on_ok_weaker}
 use Rattle.idl_changes.specs.Differences.{flag_differences, readonly_line, reference_differences, set_differences, type_differences}
 use Rattle.idl_changes.specs.declared.change.Difference.{Difference}

@@ -3,6 +3,7 @@ use Rattle.std.specs.Vec.Iter.{into_iter_items}
 use Rattle.std.proofs.lemmas.List.{map_push}
 use Rattle.idl_changes.specs.Rows.{eased}
 use Rattle.idl_changes.specs.declared.change.Difference.{Difference}
+use Rattle.idl_changes.specs.declared.rows.Weights.{Weights}
 use Rattle.idl_changes.proofs.StepLemmas.{none-left}
 use Rattle.idl_changes.proofs.entries.all_eased.Goals as goal
 
@@ -23,7 +24,7 @@ loop-difference-preserved c =
       all = append_assoc at.yielded (difference ∷ []) _ ∙ rw (← steps) inv.all;
       counted = omega (arith, counted, gone, short);
       told = c.in_ok-push.ensures.items
-          ∙ ap (λ (d : Difference). at.all.items ++ d ∷ []) c.eased_difference.ensures
+          ∙ ap (λ (w : Weights). at.all.items ++ record difference { weights = w } ∷ []) c.eased-counted.ensures
           ∙ ap (λ (ds : List Difference). ds ++ ease difference ∷ []) inv.told
           ∙ sym (map_push ease at.yielded difference);
     }

@@ -1,4 +1,4 @@
-use Rattle.std.proofs.Common.{◌≡◌, ◌∙◌, ◌+◌, ◌<◌, ◌&&◌, ℕ, All, Bool, List, ap, drop, length, subst, sym}
+use Rattle.std.proofs.Common.{◌∙◌, ◌+◌, ◌<◌, ◌&&◌, ℕ, All, Bool, List, ap, drop, length, subst, sym}
 use Rattle.std.specs.List.{list_all}
 use Rattle.idl_changes.specs.Listing.{name_at}
 use Rattle.idl_changes.specs.Offered.{called_in, is_offered}

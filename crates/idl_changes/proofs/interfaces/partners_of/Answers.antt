@@ -1,4 +1,4 @@
-use Rattle.std.proofs.Common.{◌≡◌, ◌∙◌, ◌||◌, ℕ, Bool, Option, Some, ap, ap₂, false, get_or, nat_eq, sym}
+use Rattle.std.proofs.Common.{◌∙◌, ◌||◌, ℕ, Bool, Option, Some, ap, ap₂, false, get_or, nat_eq, sym}
 use Rattle.std.specs.List.{list_any}
 use Rattle.std.specs.Option.{option_map_or}
 use Rattle.std.proofs.lemmas.List.{take_all}

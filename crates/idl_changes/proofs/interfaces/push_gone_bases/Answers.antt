@@ -1,4 +1,4 @@
-use Rattle.std.proofs.Common.{◌≡◌, ◌∙◌, ◌++◌, [], Bool, List, Some, ap, codes, get_or, if◌then◌else◌, nat_eq}
+use Rattle.std.proofs.Common.{◌∙◌, ◌++◌, [], Bool, List, Some, ap, codes, get_or, if◌then◌else◌, nat_eq}
 use Rattle.std.specs.List.{list_any}
 use Rattle.std.proofs.lemmas.List.{get_or_default}
 use Rattle.idl_changes.specs.Differences.{told}

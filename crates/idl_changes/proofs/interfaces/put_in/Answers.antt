@@ -1,4 +1,4 @@
-use Rattle.std.proofs.Common.{◌≡◌, ◌∙◌, ◌||◌, ℕ, Option, ap, false, nat_eq, sym}
+use Rattle.std.proofs.Common.{◌∙◌, ◌||◌, ℕ, Option, ap, false, nat_eq, sym}
 use Rattle.std.specs.List.{list_any}
 use Rattle.std.specs.Option.{option_map_or}
 use Rattle.idl_changes.proofs.SetLemmas.{more-places, or-turned}

@@ -1,4 +1,4 @@
-use Rattle.std.proofs.Common.{◌≡◌, ◌∙◌, Bool, None, Some, ap, if◌then◌else◌, sym}
+use Rattle.std.proofs.Common.{◌∙◌, Bool, None, Some, ap, if◌then◌else◌, sym}
 use Rattle.std.specs.Option.{option_copied}
 use Rattle.idl_changes.proofs.PathLemmas.{path-called, path-none, path-own, path-tested}
 use Rattle.idl_changes.proofs.joined.by_path.Goals as goal

@@ -1,4 +1,4 @@
-use Rattle.std.proofs.Common.{◌≡◌, ◌∙◌, [], ℕ, List, None, Some, ap, sym}
+use Rattle.std.proofs.Common.{◌∙◌, ℕ, List, None, Some, ap, sym}
 use Rattle.std.specs.Option.{option_copied}
 use Rattle.idl_changes.specs.declared.keys.NumberedText.{NumberedText}
 use Rattle.idl_changes.proofs.NumberLemmas.{label-by}

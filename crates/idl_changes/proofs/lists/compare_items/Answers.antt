@@ -1,4 +1,4 @@
-use Rattle.std.proofs.Common.{◌∙◌, None, get_or}
+use Rattle.std.proofs.Common.{None, get_or}
 use Rattle.std.specs.List.{slice_get}
 use Rattle.std.specs.Option.{option_and_then}
 use Rattle.std.proofs.lemmas.List.{get_or_default}

@@ -1,4 +1,4 @@
-use Rattle.std.proofs.Common.{◌≡◌, ◌∙◌, ◌+◌, ◌++◌, [], Bool, List, ap, arith, false, if◌then◌else◌, length, refl, unwrap_or}
+use Rattle.std.proofs.Common.{◌∙◌, ◌+◌, ◌++◌, [], Bool, List, ap, false, if◌then◌else◌, length, refl, unwrap_or}
 use Rattle.std.specs.List.{slice_get}
 use Rattle.idl_changes.specs.Differences.{item_part, new_differences, told}
 use Rattle.idl_changes.specs.declared.change.Turn.TheVariants as turn

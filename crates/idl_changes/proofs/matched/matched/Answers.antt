@@ -1,4 +1,4 @@
-use Rattle.std.proofs.Common.{◌≡◌, ◌∙◌, ℕ, List, None, Option, Some, ap, ap₂, false, length, map, position, refl, sym, true}
+use Rattle.std.proofs.Common.{◌∙◌, ℕ, List, Option, Some, ap, ap₂, false, length, map, refl, sym, true}
 use Rattle.std.specs.Map.{lookup}
 use Rattle.std.specs.Option.{option_and_then, option_copied, option_eq, option_map, option_or}
 use Rattle.std.specs.Str.{bytes_eq}

@@ -1,4 +1,4 @@
-use Rattle.std.proofs.Common.{◌≡◌, ◌∙◌, ◌<◌, ◌≤◌, ◌++◌, ◌∷◌, [], ℕ, List, ap, arith, length, sym}
+use Rattle.std.proofs.Common.{◌∙◌, ◌<◌, ◌≤◌, ◌++◌, ◌∷◌, [], ℕ, List, ap, arith, length, sym}
 use Rattle.idl_changes.specs.Offered.{ancestors}
 use Rattle.idl_changes.proofs.TableLemmas.{all-places, each-next, get-within}
 use Rattle.idl_changes.proofs.offered.all_ancestors.Goals as goal

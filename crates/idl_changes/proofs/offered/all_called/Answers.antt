@@ -1,4 +1,4 @@
-use Rattle.std.proofs.Common.{◌≡◌, ◌∙◌, ◌<◌, ◌≤◌, ◌++◌, ◌∷◌, [], ℕ, List, Option, ap, arith, length, replicate, sym}
+use Rattle.std.proofs.Common.{◌≡◌, ◌∙◌, ◌≤◌, ◌++◌, ◌∷◌, [], ℕ, List, ap, arith, length, replicate}
 use Rattle.std.proofs.lemmas.List.{replicate_more}
 use Rattle.idl_changes.proofs.ListingLemmas.{lent-at, lent-past}
 use Rattle.idl_changes.proofs.SideLemmas.{called-all, called-next, empty-each, put_behind}

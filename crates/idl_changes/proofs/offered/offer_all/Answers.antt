@@ -1,4 +1,4 @@
-use Rattle.std.proofs.Common.{◌∙◌, ◌++◌, ◌∷◌, ◌&&◌, [], ℕ, Bool, List, None, Option, Some, ap, arith, find, get_or, if◌then◌else◌, nat_eq, sym, take}
+use Rattle.std.proofs.Common.{◌∙◌, ◌&&◌, ℕ, List, None, Option, Some, ap, find, get_or, if◌then◌else◌, nat_eq, sym, take}
 use Rattle.std.specs.Map.{lookup}
 use Rattle.std.specs.Option.{option_or}
 use Rattle.std.specs.Str.{bytes_eq}

@@ -1,7 +1,7 @@
 use Rattle.std.proofs.Common.{◌≡◌, ◌∙◌, ℕ, IfOk, List, Option, ap, length, subst, sym}
 use Rattle.std.specs.List.{slice_get}
 use Rattle.std.specs.Option.{option_and_then, option_copied, option_map_or}
-use Rattle.idl_changes.specs.Plain.{around, named_by, opened_before}
+use Rattle.idl_changes.specs.Plain.{around, named_by}
 use Rattle.idl_changes.proofs.PlainLemmas.{opened-among}
 use Rattle.idl_repo.specs.declared.details.type_tree.LayeredType.{LayeredType}
 use Rattle.idl_changes.proofs.plain.opened.Goals as goal

@@ -1,4 +1,4 @@
-use Rattle.std.proofs.Common.{◌≡◌, ◌∙◌, ◌+◌, ◌<◌, ◌≤◌, ◌++◌, ◌∷◌, [], ℕ, List, Option, ap, arith, length, sym, take}
+use Rattle.std.proofs.Common.{◌≡◌, ◌∙◌, ◌+◌, ◌≤◌, ◌++◌, ◌∷◌, [], ℕ, List, Option, ap, arith, length, sym, take}
 use Rattle.idl_changes.specs.Tables.{each, plain_alias}
 use Rattle.idl_changes.proofs.ListingLemmas.{lent-at, lent-past, lent-within}
 use Rattle.idl_changes.proofs.TableLemmas.{all-places, each-next, few-places-so-far}

@@ -9,7 +9,10 @@ returns-clause-compiled g c =
     let compiled = c.in_ok-sources-2.compiled.items in
     let are = subst (λ (rs : List (List ℕ)). AreCompiled told c.in_ok-sources.sources c.in_ok-sources-2.sources rs compiled) c.as_slice.ensures.keys c.in_ok-sources-2.ensures.compiled in
     record {
-      asked = record { macros = are.stays.macros ∙ first.macros; search = first.search ∙ ap Some (sym are.stays.search); named = first.named };
+      asked = record {
+        over = record { macros = are.stays.macros ∙ first.over.macros; search = first.over.search ∙ ap Some (sym are.stays.search) };
+        named = first.named;
+      };
       formed = are.formed;
       loaded = are.loaded;
       complete = are.complete;

@@ -1,54 +1,30 @@
-use Rattle.std.proofs.Common.{◌≡◌, ◌∙◌, ℕ, All, List, ap, map, refl, subst, sym}
-use Rattle.std.proofs.lemmas.List.Elements.{All-nil}
-use Rattle.idl_sources.specs.Compile.{compiled_root}
+use Rattle.std.proofs.Common.{◌∙◌, ap}
+use Rattle.std.proofs.lemmas.Result.{IfOk-weaker, on_ok_weaker}
 use Rattle.idl_inputs.specs.Project.{Inputs}
-use Rattle.idl_sources.specs.declared.compile.CompiledRoot.{CompiledRoot}
-use Rattle.idl_loader.specs.Holding.{Allows, Holding, NoFile}
-use Rattle.idl_driver.specs.Loading.{AreLoaded}
-use Rattle.idl_driver.specs.Tried.{AreMissing, IsTrue}
-use Rattle.idl_driver.proofs.LoadingLemmas.{AreLoaded-empty, complete}
+use Rattle.idl_driver.specs.Loading.{StaysAsked}
+use Rattle.idl_driver.proofs.LoadingLemmas.{compiled-from, fresh, true-then}
 use Rattle.idl_driver.proofs.loading.compile_all.Goals as goal
 
-pub rounds-init : goal.rounds-init
-rounds-init g c =
-    let told = g.L.Loader.told c.args.loader.now in
-    let Hasnt = λ (name : List ℕ). Allows (told name) NoFile in
+pub settle-requires : goal.settle-requires
+settle-requires g c =
+    let told = g.L.Loader.told in
+    let new = c.new-loading.result in
+    let explored = c.explore_all.new in
+    true-then (told c.args.loader.now) (told explored.loader) new.sources explored.self.sources new.missing.keys explored.self.missing.keys c.in_ok-explore_all.ensures
+    (fresh (told c.args.loader.now) new.sources new.missing.keys (ap (λ (i : Inputs). i.files) c.new-loading.ensures.sources ∙ c.requires) c.new-loading.ensures.none)
+
+pub returns-clause-compiled : goal.returns-clause-compiled
+returns-clause-compiled g c =
+    let told = g.L.Loader.told in
     let same = c.new-loading.ensures.sources in
-    record {
-      told = refl;
-      is_true = record {
-        loaded = subst (λ (inputs : Inputs). AreLoaded told inputs.files) (sym same) (AreLoaded-empty told c.args.sources.files c.requires);
-        absent = subst (λ (names : List (List ℕ)). All Hasnt names) (sym c.new-loading.ensures.none) (All-nil Hasnt);
-      };
-      stays = record { macros = ap (λ (i : Inputs). i.macros) same; search = ap (λ (i : Inputs). i.search) same };
-    }
-
-pub returns-in_default-clause-compiled : goal.returns-in_default-clause-compiled
-returns-in_default-clause-compiled g c =
-    let told = g.L.Loader.told c.args.loader.now in
-    let roots = c.args.roots.now in
-    let before = c.rounds.invariant in
     let explored = c.in_ok-explore_all.ensures in
-    let found = c.explore_all.new.self.sources in
-    let missing = c.explore_all.new.self.missing.keys in
-    let last = c.into_sources-sources.result in
-    let compiled = c.in_ok-compiled.compiled.items in
-    let same = c.into_sources-sources.ensures ∙ c.in_ok-compiled.ensures.same in
-    let rows : compiled ≡ map (compiled_root last) roots = c.in_ok-compiled.ensures.rows ∙ ap (λ (i : Inputs). map (compiled_root i) roots) (sym same) in
-    let first = subst (λ (t : List ℕ → Holding). IsTrue t c.rounds.loading.sources c.rounds.loading.missing.keys) (sym before.told) before.is_true in
-    let then = subst (λ (t : List ℕ → Holding). IsTrue t found missing) before.told (explored.stays_true first) in
-    let is = subst (λ (i : Inputs). IsTrue told i missing) (sym same) then in
-    let are = subst (λ (rs : List CompiledRoot). AreMissing missing rs) c.deref.ensures.value c.in_default.ensures in
-    record {
-      formed = c.keeps_form.ensures;
-      rows = rows;
-      loaded = is.loaded;
-      complete = complete told last missing roots compiled is rows are;
-      stays = record {
-        macros = ap (λ (i : Inputs). i.macros) same ∙ explored.stays.macros ∙ before.stays.macros;
-        search = ap (λ (i : Inputs). i.search) same ∙ explored.stays.search ∙ before.stays.search;
-      };
-    }
+    let stays : StaysAsked c.args.sources c.explore_all.new.self.sources = record {
+      macros = explored.stays.macros ∙ ap (λ (i : Inputs). i.macros) same;
+      search = explored.stays.search ∙ ap (λ (i : Inputs). i.search) same;
+    } in
+    IfOk-weaker c.settle.result _ _
+    (λ p are. compiled-from (told c.args.loader.now) (told c.explore_all.new.loader) c.args.sources c.explore_all.new.self.sources p.0 c.args.roots.now p.1.items explored.stays_told stays are)
+    c.settle.ensures.compiled
 
-pub returns-in_default-clause-still : goal.returns-in_default-clause-still
-returns-in_default-clause-still g c = c.in_ok-explore_all.ensures.stays_told ∙ c.rounds.invariant.told
+pub returns-clause-still : goal.returns-clause-still
+returns-clause-still g c = on_ok_weaker c.settle.result (λ same. same ∙ c.in_ok-explore_all.ensures.stays_told) c.settle.ensures.still

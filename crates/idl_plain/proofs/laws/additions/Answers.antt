@@ -1,4 +1,4 @@
-use Rattle.idl_plain.proofs.AdditionLaws.{turns-needed, turns-told}
+use Rattle.idl_plain.proofs.AdditionLaws.{answers-told, keys-told, operations-told, turns-needed, turns-told}
 use Rattle.idl_plain.proofs.laws.additions.Goals as goal
 
 pub returns-clause-turns : goal.returns-clause-turns
@@ -6,3 +6,12 @@ returns-clause-turns c = turns-told
 
 pub returns-clause-needed : goal.returns-clause-needed
 returns-clause-needed c = turns-needed
+
+pub returns-clause-keys : goal.returns-clause-keys
+returns-clause-keys c = keys-told
+
+pub returns-clause-answers : goal.returns-clause-answers
+returns-clause-answers c = answers-told
+
+pub returns-clause-operations : goal.returns-clause-operations
+returns-clause-operations c = operations-told

@@ -7,16 +7,16 @@ use Rattle.idl_server.proofs.named.used_at.Goals as goal
 
 pub each-preserved : goal.each-preserved
 each-preserved c =
-    let p = (λ (used : UsedName). stands_at c.args.encoding c.args.session.now.project c.args.spot.name.now c.args.spot.position used.name) in
+    let p = (λ (used : UsedName). stands_at c.args.encoding c.args.session.now.project c.args.spot.file.now.name.now c.args.spot.position used.name) in
     find-past p c.as_slice-uses.result.now c.each.index c.index-uses-index.result c.each-test.true c.index-uses-index.is (sym c.stands_at.ensures ∙ c.if-stands_at.false) ∙ c.each.invariant
 
 pub returns-then-stands_at : goal.returns-then-stands_at
 returns-then-stands_at c =
-    let p = (λ (used : UsedName). stands_at c.args.encoding c.args.session.now.project c.args.spot.name.now c.args.spot.position used.name) in
+    let p = (λ (used : UsedName). stands_at c.args.encoding c.args.session.now.project c.args.spot.file.now.name.now c.args.spot.position used.name) in
     sym (find-here p c.as_slice-uses.result.now c.each.index c.index-uses-index.result c.each-test.true c.index-uses-index.is (sym c.stands_at.ensures ∙ c.if-stands_at.true))
     ∙ c.each.invariant ∙ ap (find p) c.as_slice-uses.ensures
 
 pub returns : goal.returns
 returns c =
-    let p = (λ (used : UsedName). stands_at c.args.encoding c.args.session.now.project c.args.spot.name.now c.args.spot.position used.name) in
+    let p = (λ (used : UsedName). stands_at c.args.encoding c.args.session.now.project c.args.spot.file.now.name.now c.args.spot.position used.name) in
     sym (find-end p c.as_slice-uses.result.now c.each.index c.each-test.false) ∙ c.each.invariant ∙ ap (find p) c.as_slice-uses.ensures

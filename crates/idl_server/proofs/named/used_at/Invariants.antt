@@ -6,4 +6,4 @@ use Rattle.idl_server.proofs.named.used_at.Given as goal
 
 -- none of those before
 abbrev pub invariant-each : goal.invariant-each
-invariant-each l = let p = (λ (used : UsedName). stands_at l.encoding l.session.project l.spot.name.now l.spot.position used.name) in find p (drop l.index l.uses) ≡ find p l.uses
+invariant-each l = let p = (λ (used : UsedName). stands_at l.encoding l.session.project l.spot.file.now.name.now l.spot.position used.name) in find p (drop l.index l.uses) ≡ find p l.uses

@@ -15,7 +15,7 @@ returns-clause-written g c =
     let is : map row_of c.deref-4.result.now ≡ listed_in (seen new) =
     ap (map row_of) c.deref-4.ensures.value ∙ c.in_ok-is.ensures ∙ ap (all_rows new.sources) c.as_slice-4.ensures.keys
     in
-    let text = c.in_ok-text.ensures.lines ∙ ap₂ (λ (a b : List LocatedRow). change_lines c.args.fails a b (changes_of a b)) was is in
+    let text = c.in_ok-text.ensures.lines ∙ ap₂ (λ (a b : List LocatedRow). change_lines c.args.diff.now.is_json c.args.diff.now.fails a b (changes_of a b)) was is in
     c.in_ok-write_all.ensures.written ∙ ap (append (g.K.Sink.written c.args.output.now)) (c.deref-5.ensures.value ∙ text)
 
 pub returns-clause-status : goal.returns-clause-status
@@ -29,4 +29,4 @@ returns-clause-status g c =
     ap (map row_of) c.deref-4.ensures.value ∙ c.in_ok-is.ensures ∙ ap (all_rows new.sources) c.as_slice-4.ensures.keys
     in
     c.in_ok-text.ensures.status
-    ∙ ap₂ (λ (a b : List LocatedRow). if are_failing c.args.fails (changes_of a b) then Faulty else Sound) was is
+    ∙ ap₂ (λ (a b : List LocatedRow). if are_failing c.args.diff.now.fails (changes_of a b) then Faulty else Sound) was is

@@ -1,6 +1,6 @@
 use Rattle.std.proofs.Common.{ℕ, Bor, List, map, refl, subst}
 use Rattle.idl_loader.proofs.ReplyLemmas.{on_err}
-use Rattle.idl_driver.proofs.ToldLemmas.{writes-none, writes-same}
+use Rattle.idl_driver.proofs.ToldLemmas.{writes-none}
 use Rattle.idl_tool.specs.Answered.{IsExplained}
 use Rattle.idl_tool.proofs.program.fulfil.Goals as goal
 
@@ -19,12 +19,6 @@ returns-in_ok-explain-in-Explain-clause-done g c =
       errors = refl;
       sound = refl;
     })
-
-pub returns-in-Check-clause-until : goal.returns-in-Check-clause-until
-returns-in-Check-clause-until g c = on_err c.check.result (writes-same _ _ c.check.ensures.kept)
-
-pub returns-in-Json-clause-until : goal.returns-in-Json-clause-until
-returns-in-Json-clause-until g c = on_err c.write_json.result (writes-same _ _ c.write_json.ensures.kept)
 
 pub returns-in_err-status-in-Serve-clause-until : goal.returns-in_err-status-in-Serve-clause-until
 returns-in_err-status-in-Serve-clause-until g c = on_err c.from_residual-in_err-status-in-Serve.result (writes-none (g.E.Sink.written c.args.devices.now.errors))

@@ -14,8 +14,9 @@ returns-clause-shape c =
     let first = c.in_ok-arg.ensures.shape c.old_directory.ensures.global ∙ ap₂ with_rule options c.old_directory.ensures.rule in
     let second = c.in_ok-arg-2.ensures.shape c.new_directory.ensures.global ∙ ap₂ with_rule first c.new_directory.ensures.rule in
     let third = c.in_ok-arg-3.ensures.shape c.fails.ensures.global ∙ ap₂ with_rule second c.fails.ensures.rule in
-    let fourth = c.in_ok-arg-4.ensures.shape c.old_file.ensures.global ∙ ap₂ with_rule third c.old_file.ensures.rule in
-    IfOk-weaker c.arg-5.result _ _ (λ r adds. ap top_of (adds.shape c.new_file.ensures.global ∙ ap₂ with_rule fourth c.new_file.ensures.rule)) c.arg-5.ensures
+    let fourth = c.in_ok-arg-4.ensures.shape c.format.ensures.global ∙ ap₂ with_rule third c.format.ensures.rule in
+    let fifth = c.in_ok-arg-5.ensures.shape c.old_file.ensures.global ∙ ap₂ with_rule fourth c.old_file.ensures.rule in
+    IfOk-weaker c.arg-6.result _ _ (λ r adds. ap top_of (adds.shape c.new_file.ensures.global ∙ ap₂ with_rule fifth c.new_file.ensures.rule)) c.arg-6.ensures
 
 pub returns-clause-local : goal.returns-clause-local
 returns-clause-local c =
@@ -24,5 +25,6 @@ returns-clause-local c =
     let first = c.in_ok-arg.ensures.globals ∙ local-more _ _ options c.old_directory.ensures.global in
     let second = c.in_ok-arg-2.ensures.globals ∙ local-more _ _ first c.new_directory.ensures.global in
     let third = c.in_ok-arg-3.ensures.globals ∙ local-more _ _ second c.fails.ensures.global in
-    let fourth = c.in_ok-arg-4.ensures.globals ∙ local-more _ _ third c.old_file.ensures.global in
-    IfOk-weaker c.arg-5.result _ _ (λ r adds. adds.globals ∙ local-more _ _ fourth c.new_file.ensures.global) c.arg-5.ensures
+    let fourth = c.in_ok-arg-4.ensures.globals ∙ local-more _ _ third c.format.ensures.global in
+    let fifth = c.in_ok-arg-5.ensures.globals ∙ local-more _ _ fourth c.old_file.ensures.global in
+    IfOk-weaker c.arg-6.result _ _ (λ r adds. adds.globals ∙ local-more _ _ fifth c.new_file.ensures.global) c.arg-6.ensures

@@ -1,4 +1,4 @@
-use Rattle.std.proofs.Common.{Bor, ◌≡◌, ◌∙◌, ℕ, List, ap, arith, length, map, subst, sym, take}
+use Rattle.std.proofs.Common.{Bor, ◌≡◌, ℕ, List, ap, arith, length, map, subst, sym, take}
 use Rattle.std.specs.Map.{lookup}
 use Rattle.std.specs.Str.{bytes_eq}
 use Rattle.std.proofs.lemmas.List.{length-map, length-take-le}

@@ -1,4 +1,4 @@
-use Rattle.std.proofs.Common.{◌∙◌, ℕ, List, Option, ap₂}
+use Rattle.std.proofs.Common.{◌∙◌, ℕ, List, ap₂}
 use Rattle.idl_changes.specs.Partners.{joined}
 use Rattle.idl_changes.specs.Tables.{each}
 use Rattle.idl_repo.specs.declared.details.row_tree.RowTree.{RowTree}

@@ -1,26 +1,20 @@
-use Rattle.std.proofs.Common.{◌≡◌, ap, rules, subst, sym}
-use Rattle.std.specs.FinMap as finite
+use Rattle.std.proofs.Common.{ap}
+use Rattle.std.proofs.lemmas.Result.{on_ok_weaker}
 use Rattle.idl_source.specs.texts.Cut.{cut_lines}
-use Rattle.idl_source.specs.texts.Texts.{Texts}
-use Rattle.idl_inputs.specs.Project.{Inputs}
-use Rattle.idl_driver.specs.Loading.{AreLoaded}
 use Rattle.idl_loader.specs.Holding.{IsFileOf}
-use Rattle.idl_driver.proofs.LoadingLemmas.{AreLoaded-insert}
+use Rattle.idl_driver.proofs.LoadingLemmas.{loading-kept, loading-taken, on_ok}
 use Rattle.idl_driver.proofs.loading.Loading.load.Goals as goal
 
-pub returns-in_ok-map_err-in-Bytes : goal.returns-in_ok-map_err-in-Bytes
-returns-in_ok-map_err-in-Bytes g c =
+pub returns-in-Bytes : goal.returns-in-Bytes
+returns-in-Bytes g c =
     let told = g.L.Loader.told c.args.loader.now in
-    let old = c.args.self.now.sources in
     let name = c.args.name.now in
     let lines = cut_lines c.deref.result.now in
-    let made : c.put.new.sources ≡ record old { files = finite.insert old.files name lines } = search rules in
     let own : IsFileOf told name lines = (c.in-Bytes.bytes.items, c.in-Bytes.ensures.gives, ap cut_lines c.deref.ensures.value) in
-    record {
-      stays_told = c.in-Bytes.ensures.stays;
-      stays_true = λ is. record {
-        loaded = subst (λ (files : Texts). AreLoaded told files) (sym (ap (λ (i : Inputs). i.files) made)) (AreLoaded-insert told old.files name lines is.loaded own);
-        absent = is.absent;
-      };
-      stays = record { macros = ap (λ (i : Inputs). i.macros) made; search = ap (λ (i : Inputs). i.search) made };
-    }
+    on_ok_weaker c.take_bytes.result
+    (λ taken. loading-taken told _ c.args.self.now c.take_bytes.new.self name lines c.in-Bytes.ensures.stays own taken c.take_bytes.ensures.missing) c.take_bytes.ensures.taken
+
+pub returns-in-Failed : goal.returns-in-Failed
+returns-in-Failed g c =
+    on_ok c.meet.result
+    (loading-kept (g.L.Loader.told c.args.loader.now) _ c.args.self.now c.meet.new.self c.in-Failed.ensures.stays c.meet.ensures.sources c.meet.ensures.missing)

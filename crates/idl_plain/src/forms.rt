@@ -1,0 +1,49 @@
+//! The laws that a test of one form holds of that alone.
+
+ghost use Rattle.std.specs.Prelude.{◌≡◌, ◌↔◌, ◌⊎◌, ℕ, ℤ, [], List, pos, true};
+ghost use Rattle.idl_check.specs.told.Bodies.{is_nothing as raises_none};
+ghost use Rattle.idl_check.specs.walk.Placing.{is_module};
+ghost use Rattle.idl_entity.specs.Kind.{has_bases};
+ghost use Rattle.idl_entity.specs.declared.kind.Stage.{Stage};
+ghost use Rattle.idl_entity.specs.declared.kind.Stage.TheVariants.{Complete, Open};
+ghost use Rattle.idl_lex.specs.bytes.Context.{is_include, is_nothing};
+ghost use Rattle.idl_lex.specs.bytes.Piece.{is_empty};
+ghost use Rattle.idl_lex.specs.declared.bytes.context.Beginning.{Beginning};
+ghost use Rattle.idl_lex.specs.declared.bytes.context.Beginning.TheVariants.{Include, Nothing};
+ghost use Rattle.idl_lex.specs.declared.kinds.kind.Defect.{Defect};
+ghost use Rattle.idl_lex.specs.declared.kinds.kind.Defect.TheVariants.{BadEscape};
+ghost use Rattle.idl_lex.specs.declared.kinds.kind.TokenKind.{TokenKind};
+ghost use Rattle.idl_lex.specs.declared.kinds.kind.TokenKind.TheVariants.{HeaderName, Miscased, Punctuation};
+ghost use Rattle.idl_lex.specs.declared.kinds.mark.Mark.TheVariants.{ColonColon};
+ghost use Rattle.idl_lex.specs.tokens.Tokens.{Token};
+ghost use Rattle.idl_macro.specs.conditions.Arithmetic.{is_zero};
+ghost use Rattle.idl_prep.specs.Include.{is_bad_escape, is_header_kind};
+ghost use Rattle.idl_text.specs.Tree.{is_else, is_endif};
+ghost use Rattle.idl_text.specs.declared.groups.kind.DirectiveKind.{DirectiveKind};
+ghost use Rattle.idl_text.specs.declared.groups.kind.DirectiveKind.TheVariants as directive;
+ghost use Rattle.idl_tree.specs.Pragma.{is_separator};
+ghost use Rattle.idl_unit.specs.Ending.{closes, is_empty as ends_text, is_semicolon, opens};
+ghost use Rattle.idl_unit.specs.TokenRules.{is_miscased};
+ghost use Rattle.idl_unit.specs.declared.role.Role.{Role};
+ghost use Rattle.idl_unit.specs.declared.role.Role.TheVariants as role;
+
+/// Each of these tests holds of one form alone, and that of bases of two.
+pub fn tests()
+    ensures nothing { (b : Beginning) → (is_nothing b ≡ true) ↔ (b ≡ Nothing) }
+    ensures included { (b : Beginning) → (is_include b ≡ true) ↔ (b ≡ Include) }
+    ensures headers { (k : TokenKind) → (is_header_kind k ≡ true) ↔ (k ≡ HeaderName) }
+    ensures miscased { (k : TokenKind) → (is_miscased k ≡ true) ↔ (k ≡ Miscased) }
+    ensures separators { (k : TokenKind) → (is_separator k ≡ true) ↔ (k ≡ Punctuation ColonColon) }
+    ensures escapes { (d : Defect) → (is_bad_escape d ≡ true) ↔ (d ≡ BadEscape) }
+    ensures modules { (r : Role) → (is_module r ≡ true) ↔ (r ≡ role.Module) }
+    ensures openings { (r : Role) → (opens r ≡ true) ↔ (r ≡ role.OpenBrace) }
+    ensures closings { (r : Role) → (closes r ≡ true) ↔ (r ≡ role.CloseBrace) }
+    ensures semicolons { (r : Role) → (is_semicolon r ≡ true) ↔ (r ≡ role.Semicolon) }
+    ensures otherwise { (d : DirectiveKind) → (is_else d ≡ true) ↔ (d ≡ directive.Else) }
+    ensures endings { (d : DirectiveKind) → (is_endif d ≡ true) ↔ (d ≡ directive.Endif) }
+    ensures zeros { (z : ℤ) → (is_zero z ≡ true) ↔ (z ≡ pos 0) }
+    ensures bytes { (xs : List ℕ) → (is_empty xs ≡ true) ↔ (xs ≡ []) }
+    ensures ends { (xs : List Token) → (ends_text xs ≡ true) ↔ (xs ≡ []) }
+    ensures raised { (xs : List (List (List ℕ))) → (raises_none xs ≡ true) ↔ (xs ≡ []) }
+    ensures bases { (s : Stage) → (has_bases s ≡ true) ↔ ((s ≡ Open) ⊎ (s ≡ Complete)) }
+{}

@@ -1,0 +1,128 @@
+//! The laws that a table has what several definitions say.
+
+ghost use Rattle.std.specs.Prelude.{◌≡◌, ◌∷◌, ◌++◌, ◌+◌, [], ℕ, Bool, List, None, Option, Some, is_some, true, if◌then◌else◌};
+ghost use Rattle.idl_check.specs.tables.Codes.{Table};
+ghost use Rattle.idl_check.specs.tables.Declaring.{Written, declared_table, entity_of};
+ghost use Rattle.idl_check.specs.tables.Using.{Bases, used_table, with_uses};
+ghost use Rattle.idl_check.specs.walk.Walk.{Walk, used_after, with_scope};
+ghost use Rattle.idl_check.specs.declared.tables.standing.Standing.{Standing};
+ghost use Rattle.idl_entity.specs.declared.entity.Entity.{Entity};
+ghost use Rattle.idl_env.specs.Facts.{World, after_step};
+ghost use Rattle.idl_env.specs.declared.additions.addition.Step.{Step};
+ghost use Rattle.idl_env.specs.declared.answering.answer.Scope.{Scope};
+ghost use Rattle.idl_event.specs.Items.{spend};
+ghost use Rattle.idl_event.specs.declared.told.allowance.Allowance.{Allowance};
+ghost use Rattle.idl_event.specs.declared.told.event.Item.{Item};
+ghost use Rattle.idl_fault.specs.declared.code.Code.TheVariants.{WrongKind};
+ghost use Rattle.idl_lex.specs.kinds.Keywords.{folded};
+ghost use Rattle.idl_lex.specs.kinds.Number.{are_digits, based, integer_value, is_floating, number_kind};
+ghost use Rattle.idl_lex.specs.declared.kinds.kind.Defect.TheVariants.{FloatingLiteral, IntegerTooLarge, MalformedInteger};
+ghost use Rattle.idl_lex.specs.declared.kinds.kind.TokenKind.{TokenKind};
+ghost use Rattle.idl_lex.specs.declared.kinds.kind.TokenKind.TheVariants.{Bad, Integer};
+ghost use Rattle.idl_parts.specs.declared.part.Declaration.{Declaration};
+ghost use Rattle.idl_parts.specs.declared.part.Use.{Use};
+ghost use Rattle.idl_plain.specs.Allowance.{left_behind};
+ghost use Rattle.idl_plain.specs.Coded.{coded};
+ghost use Rattle.idl_plain.specs.Declared.{declared, rules_of_declared};
+ghost use Rattle.idl_plain.specs.Expression.{read};
+ghost use Rattle.idl_plain.specs.Operators.{before, between};
+ghost use Rattle.idl_plain.specs.Steps.{stepped};
+ghost use Rattle.idl_plain.specs.Tokens.{codes_behind};
+ghost use Rattle.idl_plain.specs.Types.{of_integers, of_types};
+ghost use Rattle.idl_plain.specs.Used.{rules_of_used, walk_behind};
+ghost use Rattle.idl_repo.specs.Row.{coded_pieces};
+ghost use Rattle.idl_repo.specs.TypeCode.{integer_word};
+ghost use Rattle.idl_scope.specs.declared.found.Found.{Found};
+ghost use Rattle.idl_tree.specs.DataType.{spell_discrete};
+ghost use Rattle.idl_tree.specs.NameParts.{last_at};
+ghost use Rattle.idl_tree.specs.declared.declarations.data_type.DiscreteType.{DiscreteType};
+ghost use Rattle.idl_tree.specs.declared.expression.UnaryOperator.{UnaryOperator};
+ghost use Rattle.idl_tree.specs.declared.name.ScopedName.{ScopedName};
+ghost use Rattle.idl_unit.specs.TokenRules.{token_codes};
+ghost use Rattle.idl_value.specs.ConstantType.{target_of};
+ghost use Rattle.idl_value.specs.Evaluation.{Operands, combined, read_term, signed_value};
+ghost use Rattle.idl_value.specs.Term.{Term};
+ghost use Rattle.idl_value.specs.integers.Integer.{is_signed, width};
+ghost use Rattle.idl_value.specs.declared.constant_type.ConstantType.{ConstantType};
+ghost use Rattle.idl_value.specs.declared.integer.IntegerKind.{IntegerKind};
+ghost use Rattle.idl_value.specs.declared.operator.BinaryOperator.{BinaryOperator};
+ghost use Rattle.idl_value.specs.declared.value.Value.{Value};
+ghost use Rattle.idl_value.specs.declared.walk.Passed.{Passed};
+
+/// Of each type of keywords that constants may have one line tells how it is spelled, what it is, and how wide.
+pub fn types()
+    ensures words { (k : IntegerKind) → integer_word k ≡ (of_integers k).0 }
+    ensures widths { (k : IntegerKind) → width k ≡ (of_integers k).1.0 }
+    ensures signs { (k : IntegerKind) → is_signed k ≡ (of_integers k).1.1 }
+    ensures spelled { (t : DiscreteType) → spell_discrete t ≡ (of_types t).0 }
+    ensures kinds { (t : DiscreteType) → target_of t ≡ (of_types t).1 }
+{}
+
+/// Of each form of declaration one line tells what it declares; a scope begins as one that is declared so. And one line tells each rule.
+pub fn declarations()
+    ensures entities { (w : Written) (way : Declaration) (name : List ℕ) (scope : List (List ℕ))
+        → entity_of w way name scope ≡ declared w (name ∷ scope) way }
+    ensures scopes { (w : Written) (way : Declaration) (name : List ℕ) (s : Scope)
+        (scopes : List Scope)
+        → (with_scope way name [] ≡ []) × (with_scope way name (s ∷ scopes)
+        ≡ (let e = declared w (name ∷ s.path) way in
+        record { path = e.path; kind = e.kind; body = 1 } ∷ s ∷ scopes)) }
+    ensures rules { (s : Scope) (standing : Standing) (e : Entity)
+        → declared_table s standing e ≡ rules_of_declared s standing e }
+{}
+
+/// Of each change of the open scopes, of the files entered, or of the prefix one line tells what it does.
+pub fn steps()
+    ensures { (w : World) (s : Step) → after_step w s ≡ stepped w s }
+{}
+
+/// Of each use of a name one line tells what it may denote, and the rules then; and one what it leaves behind.
+pub fn uses()
+    ensures rules { (way : Use) (bases : Bases) (e behind : Entity) → used_table way bases e behind
+        ≡ (let rules = rules_of_used way bases e behind in
+        if rules.0 then rules.1 else (true, WrongKind) ∷ []) }
+    ensures behind { (w : Walk) (way : Use) (name : ScopedName) (found : Found) (behind : Entity)
+        → used_after w way name found behind ≡ walk_behind way found.entity behind (record w {
+          at = last_at w.at name + 1;
+          own = with_uses (folded name.first) found.reach w.cursor w.own;
+          found = w.found ++ found.entity.path ∷ [];
+        }) }
+{}
+
+/// Of each kind of name one line tells its TypeCode.
+pub fn type_codes()
+    ensures { (e : Entity) → coded_pieces e ≡ coded e }
+{}
+
+/// An operator has a value at whole numbers alone, for an integer type.
+pub fn operators()
+    ensures between { (target : ConstantType) (operator : BinaryOperator) (a b : Value)
+        → combined target operator a b ≡ between target operator a b }
+    ensures before { (target : ConstantType) (sign : UnaryOperator) (a : Value)
+        → signed_value target sign a ≡ before target sign a }
+{}
+
+/// A token is wrong by what it is, and by the kinds of those before it.
+pub fn tokens()
+    ensures { (before : List TokenKind) (kind : TokenKind)
+        → token_codes before kind ≡ codes_behind before kind }
+{}
+
+/// A number is an integer where it has a value, and else wrong by its digits.
+pub fn numbers()
+    ensures { (spelling : List ℕ) → number_kind spelling
+        ≡ (if is_some (integer_value spelling) then Integer
+        else if are_digits (based spelling).0 (based spelling).1 then Bad IntegerTooLarge
+        else if is_floating spelling then Bad FloatingLiteral else Bad MalformedInteger) }
+{}
+
+/// Of each item of an expansion one line tells what it leaves of the allowance.
+pub fn allowances()
+    ensures { (left : Allowance) (item : Item) → spend left item ≡ left_behind left item }
+{}
+
+/// Of each form of an expression one line tells what it comes to.
+pub fn expressions()
+    ensures { (target : ConstantType) (operands : Operands) (place : Passed) (term : Term)
+        → read_term target operands place term ≡ read target operands place term }
+{}

@@ -1,0 +1,14 @@
+use Rattle.std.proofs.Common.{subst}
+use Rattle.idl_driver.specs.declared.failure.CompileFault.{CompileFault}
+use Rattle.idl_tool.specs.Messages.{IsFaultMessage}
+use Rattle.idl_tool.proofs.FaultLemmas.{lines-next, no-lines}
+use Rattle.idl_tool.proofs.faults.push_faults.Goals as goal
+
+pub faults-init : goal.faults-init
+faults-init c = no-lines IsFaultMessage c.args.out.now.items
+
+pub faults-preserved : goal.faults-preserved
+faults-preserved c =
+    let pushed = c.in_ok-push_fault.ensures in
+    lines-next IsFaultMessage c.args.faults.now c.faults.fault-index c.fault-item.result pushed.0 c.args.out.now.items c.faults.out.items c.push_fault.new.out.items c.faults-test.true c.faults.invariant
+    (subst (λ (f : CompileFault). IsFaultMessage f pushed.0) c.fault-item.is pushed.1) pushed.2
