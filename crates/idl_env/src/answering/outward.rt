@@ -12,6 +12,7 @@ use crate::answering::answer::Answer;
 use crate::keys::digested::DigestedKey;
 use crate::keys::lent_key::LentKey;
 use idl_entity::paths::Names;
+use idl_map::Lent;
 use idl_memo::{Digests, LentBank, other_at};
 use std::alloc::{AllocError, Global};
 

@@ -10,21 +10,21 @@ pub split_at-front-requires : goal.split_at-front-requires
 split_at-front-requires g c =
     let place = c.in-Some.place in
     let run = c.in-Some.run in
-    let stands = at-some c.self.inside.told (place, run) _ (sym c.take-told.ensures ∙ c.in-Some.is) c.self.invariant in
+    let stands = at-some c.self.inside.told (place, run) _ (sym c.take-told.ensures.value ∙ c.in-Some.is) c.self.invariant in
     omega (arith, stand-long place run c.self.inside.entries stands, ap length c.entries.ensures)
 
 pub split_at-_own-requires : goal.split_at-_own-requires
 split_at-_own-requires g c =
     let place = c.in-Some.place in
     let run = c.in-Some.run in
-    let stands = at-some c.self.inside.told (place, run) _ (sym c.take-told.ensures ∙ c.in-Some.is) c.self.invariant in
+    let stands = at-some c.self.inside.told (place, run) _ (sym c.take-told.ensures.value ∙ c.in-Some.is) c.self.invariant in
     omega (arith, stand-long place run c.self.inside.entries stands, ap length c.entries.ensures, c.len.ensures, c.split_at-front.ensures.back_len)
 
 pub returns-clause-parts : goal.returns-clause-parts
 returns-clause-parts g c =
     let place = c.in-Some.place in
     let run = c.in-Some.run in
-    let stands = at-some c.self.inside.told (place, run) _ (sym c.take-told.ensures ∙ c.in-Some.is) c.self.invariant in
+    let stands = at-some c.self.inside.told (place, run) _ (sym c.take-told.ensures.value ∙ c.in-Some.is) c.self.invariant in
     let entries = c.self.inside.entries in
     let front = c.in_ok-append_parts.ensures ∙ c.split_at-front.ensures.front ∙ ap (take place) c.entries.ensures in
     let own = ap (flat_map part_entries) c.in_ok-push.ensures.items ∙ flat_map-append part_entries c.append_parts.new.parts.items (Many run ∷ []) ∙ (λ i. front i ++ append-nil run i) in
