@@ -101,44 +101,44 @@ above-zero (suc n) h = omega arith
 
 module _ {E : Type 0} where
   -- what stands among those stands among more
-  pub stand-more : (place : ℕ) (these those : List E) (e : E) → StandAt place these those → StandAt place these (those ++ e ∷ [])
-  stand-more place these those e s = record {
+  stand_more : (place : ℕ) (these those : List E) (e : E) → StandAt place these those → StandAt place these (those ++ e ∷ [])
+  stand_more place these those e s = record {
     before = s.before;
     behind = s.behind ++ e ∷ [];
-    whole = ap (λ l. l ++ e ∷ []) s.whole ∙ append_assoc s.before (these ++ s.behind) (e ∷ []) ∙ ap (λ l. s.before ++ l) (append_assoc these s.behind (e ∷ []));
+    whole = ap (λ l. l ++ e ∷ []) s.whole ∙ append_assoc (s.before ++ these) s.behind (e ∷ []);
     place_is = s.place_is;
   }
 
-  pub told-more : (told : Option (ℕ × List E)) (those more : List E) (e : E) → more ≡ those ++ e ∷ [] → IfSome told (λ t. StandAt t.0 t.1 those) → IfSome told (λ t. StandAt t.0 t.1 more)
-  told-more None those more e is h = tt
-  told-more (Some t) those more e is h = subst (StandAt t.0 t.1) (sym is) (stand-more t.0 t.1 those e h)
+  pub told_more : (told : Option (ℕ × List E)) (those more : List E) (e : E) → more ≡ those ++ e ∷ [] → IfSome told (λ t. StandAt t.0 t.1 those) → IfSome told (λ t. StandAt t.0 t.1 more)
+  told_more None those more e is h = tt
+  told_more (Some t) those more e is h = subst (StandAt t.0 t.1) (sym is) (stand_more t.0 t.1 those e h)
 
   -- what is behind so many is the last
   pub stand-last : (place : ℕ) (these those : List E) → place ≤ length those → drop place those ≡ these → StandAt place these those
   stand-last place these those within is = record {
     before = take place those;
     behind = [];
-    whole = sym (take-append-drop place those) ∙ ap (λ l. take place those ++ l) (is ∙ sym (append-nil these));
+    whole = sym (take-append-drop place those) ∙ ap (λ l. take place those ++ l) is ∙ sym (append-nil (take place those ++ these));
     place_is = length-take-le place those within;
   }
 
   module _ (place : ℕ) (these those : List E) (s : StandAt place these those) where
     -- how many there are
     pub stand-long : length those ≡ place + (length these + length s.behind)
-    stand-long =
-        ap length s.whole
-        ∙ length-append s.before (these ++ s.behind)
-        ∙ (λ i. s.place_is i + length-append these s.behind i)
+    stand-long = omega (arith, ap length s.whole, length-append (s.before ++ these) s.behind, length-append s.before these, s.place_is)
 
     -- those in front of it, and it with those behind it
-    pub stand-front : take place those ≡ s.before
-    stand-front = ap (take place) s.whole ∙ ap (λ n. take n (s.before ++ these ++ s.behind)) (sym s.place_is) ∙ take-append_seam s.before (these ++ s.behind)
+    stand_parts : those ≡ s.before ++ (these ++ s.behind)
+    stand_parts = s.whole ∙ append_assoc s.before these s.behind
 
-    pub stand-rest : drop place those ≡ these ++ s.behind
-    stand-rest = ap (drop place) s.whole ∙ ap (λ n. drop n (s.before ++ these ++ s.behind)) (sym s.place_is) ∙ drop-append_seam s.before (these ++ s.behind)
+    stand_front : take place those ≡ s.before
+    stand_front = ap (take place) stand_parts ∙ ap (λ n. take n (s.before ++ (these ++ s.behind))) (sym s.place_is) ∙ take-append_seam s.before (these ++ s.behind)
+
+    stand_rest : drop place those ≡ these ++ s.behind
+    stand_rest = ap (drop place) stand_parts ∙ ap (λ n. drop n (s.before ++ (these ++ s.behind))) (sym s.place_is) ∙ drop-append_seam s.before (these ++ s.behind)
 
     -- all, by what is cut off
     pub stand-whole : take place those ++ these ++ drop (length these) (drop place those) ≡ those
     stand-whole =
-        (λ i. stand-front i ++ these ++ (ap (drop (length these)) stand-rest ∙ drop-append_seam these s.behind) i)
+        (λ i. stand_front i ++ these ++ (ap (drop (length these)) stand_rest ∙ drop-append_seam these s.behind) i)
         ∙ sym s.whole

@@ -2,7 +2,6 @@ use Rattle.std.proofs.Common.{◌≡◌, true, false, [], ◌∷◌, ◌++◌, i
 use Rattle.std.specs.Map.{lookup}
 use Rattle.idl_memo.specs.Query.{noted}
 use Rattle.idl_memo.proofs.Noting.{noted-absent, noted-present}
-use Rattle.idl_memo.proofs.RunLaws.{told-more}
 use Rattle.std.proofs.lemmas.Grind.{common_steps}
 use Rattle.idl_memo.proofs.log.Log.ask_lent.Goals as goal
 
@@ -27,10 +26,6 @@ returns-clause-logged g c =
     let grown : c.push.new.self ≡ log ++ (key, bank key) ∷ [] = ◌∙◌ {b = copied} put (λ i. log ++ (same_key i, same_answer i) ∷ []) in
     let was : noted eq bank log key ≡ noted eq bank c.args.self.now key = ap (λ l. noted eq bank l key) c.self.view_is in
     grown ∙ sym (noted-absent eq bank log key absent) ∙ was
-
-pub invariant_of-self : goal.invariant_of-self
-invariant_of-self g c =
-    told-more c.self.inside.told c.self.inside.entries c.push.new.self (c.in_ok-owned.field-0, c.in_ok-copy.copy) c.in_ok-push.ensures.entries c.self.invariant
 
 pub returns-in_err-answer-clause-err : goal.returns-in_err-answer-clause-err
 returns-in_err-answer-clause-err g c = grind (arith, common_steps)

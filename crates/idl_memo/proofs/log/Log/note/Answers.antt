@@ -3,7 +3,6 @@ use Rattle.std.specs.Map.{lookup}
 use Rattle.std.specs.Option.{option_copied}
 use Rattle.idl_memo.specs.Query.{noted}
 use Rattle.idl_memo.proofs.Noting.{noted-absent, noted-present}
-use Rattle.idl_memo.proofs.RunLaws.{told-more}
 use Rattle.std.proofs.lemmas.Grind.{common_steps}
 use Rattle.idl_memo.proofs.log.Log.note.Goals as goal
 
@@ -28,10 +27,6 @@ returns-clause-logged g c =
     let grown : c.push.new.self ≡ log ++ (key, answer) ∷ [] = ◌∙◌ {b = copied} put (λ i. log ++ (same_key i, same_answer i) ∷ []) in
     let was : noted eq (λ _. answer) log key ≡ noted eq (λ _. answer) c.args.self.now key = ap (λ l. noted eq (λ _. answer) l key) c.self.view_is in
     grown ∙ sym (noted-absent eq (λ _. answer) log key absent) ∙ was
-
-pub invariant_of-self : goal.invariant_of-self
-invariant_of-self g c =
-    told-more c.self.inside.told c.self.inside.entries c.push.new.self (c.in_ok-clone.field-0, c.in_ok-copy.copy) c.in_ok-push.ensures.entries c.self.invariant
 
 pub push-requires : goal.push-requires
 push-requires g c =
