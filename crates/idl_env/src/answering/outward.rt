@@ -1,19 +1,17 @@
 //! What is asked for typeprefixes from a scope outward, where no scope has one.
 
 ghost use Rattle.std.specs.Prelude.{◌≡◌, ◌++◌, All, IsFalse, OnOk, Option};
-ghost use Rattle.std.specs.Option.{option_copied, option_map};
 ghost use Rattle.idl_env.specs.answering.Walked.{entries_outward};
 ghost use Rattle.idl_env.specs.declared.answering.answer.Answer.{Answer};
 ghost use Rattle.idl_env.specs.keys.Key.{key_digest, key_eq};
 ghost use Rattle.idl_memo.specs.Query.{is_logged};
-ghost use Rattle.idl_memo.specs.Runs.{first_other};
 
 use crate::answering::answer::Answer;
 use crate::keys::digested::DigestedKey;
 use crate::keys::lent_key::LentKey;
 use idl_entity::paths::Names;
 use idl_map::Lent;
-use idl_memo::{Digests, LentBank, other_at};
+use idl_memo::Digests;
 use std::alloc::{AllocError, Global};
 
 /// Puts what is asked from the scope with a path of these names outward behind other entries.
@@ -32,26 +30,6 @@ pub(crate) fn append_outward(
         names = around;
     }
     Ok(())
-}
-
-/// The first of these answers that isn't the bank's, with the bank's.
-pub(crate) fn other_outward<'a, B: LentBank<Key = DigestedKey>>(
-    alloc: Global,
-    scope: Names<'_>,
-    bank: &'a B,
-) -> Option<(Option<&'a B::Answer>, Option<&'a B::Answer>)>
-    ensures { option_map (λ p. (option_copied p.0, option_copied p.1)) result
-        ≡ first_other B.Answer.eq (B.at bank.now) (entries_outward scope.entry) }
-{
-    let mut names = scope;
-    'scopes: while let Some((_name, around)) = names.again().split_first() {
-        let other = other_at(None, bank.answer_at(&LentKey::typeprefix(alloc, names)));
-        if other.is_some() {
-            return other;
-        }
-        names = around;
-    }
-    None
 }
 
 /// Whether a key is among those that are asked.

@@ -11,7 +11,7 @@ ghost use Rattle.idl_memo.specs.Runs.{BeginsWith};
 ghost use Rattle.idl_env.specs.declared.keys.key.Key.TheVariants.{Declared};
 
 use crate::answering::answer::Answer;
-use crate::answering::outward::{append_outward, is_outward, other_outward, shares_outward};
+use crate::answering::outward::{append_outward, is_outward, shares_outward};
 use crate::keys::digested::DigestedKey;
 use crate::keys::held_key::HeldKey;
 use crate::keys::lent_key::LentKey;
@@ -332,7 +332,17 @@ impl Step<DigestedKey, Answer, Walked> for Answer {
                 let found = bank.answer_at(&LentKey::of_entity(alloc, path));
                 other_at(Some(self), found)
             }
-            Walked::Outward(scope) => other_outward(alloc, scope.lent(), bank),
+            Walked::Outward(scope) => {
+                let mut names = scope.lent();
+                'scopes: while let Some((_name, around)) = names.again().split_first() {
+                    let other = other_at(None, bank.answer_at(&LentKey::typeprefix(alloc, names)));
+                    if other.is_some() {
+                        return other;
+                    }
+                    names = around;
+                }
+                None
+            }
         }
     }
 

@@ -7,7 +7,7 @@ use Rattle.idl_env.proofs.answering.outward.is_outward.Given as goal
 
 -- none of the keys so far is the one
 abbrev pub invariant-scopes : goal.invariant-scopes
-invariant-scopes l = is_logged {V = Option Answer} key_eq (entries_outward l.scope) l.key ≡ is_logged {V = Option Answer} key_eq (entries_outward l.names) l.key
+invariant-scopes l = is_logged {V = Option Answer} key_eq (entries_outward l.fn.scope) l.key ≡ is_logged {V = Option Answer} key_eq (entries_outward l.names) l.key
 
 abbrev pub decreases-scopes : goal.decreases-scopes
 decreases-scopes l = length l.names
