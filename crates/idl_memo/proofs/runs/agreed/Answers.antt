@@ -1,5 +1,5 @@
 -- A step more is taken, and the entries for which it stands.
-use Rattle.std.proofs.Common.{◌≡◌, ℕ, suc, ◌+◌, ◌<◌, ◌++◌, arith, drop, flat_map, sym, take, ap, ◌∙◌}
+use Rattle.std.proofs.Common.{◌≡◌, ℕ, suc, ◌+◌, ◌++◌, arith, drop, flat_map, sym, take, ap, ◌∙◌}
 use Rattle.idl_memo.proofs.RunLaws.{above-zero, behind-step, more-entries, next-taken, wide}
 use Rattle.idl_memo.proofs.runs.agreed.Goals as goal
 

@@ -1,5 +1,5 @@
 -- The entries of a step, by what it asks.
-use Rattle.std.proofs.Common.{◌≡◌, ◌∙◌, ◌||◌, Option, None, Some, sym, ap}
+use Rattle.std.proofs.Common.{◌∙◌, ◌||◌, Option, None, Some, sym, ap}
 use Rattle.idl_memo.specs.Query.{is_logged}
 use Rattle.idl_env.specs.Facts.{entity_key}
 use Rattle.idl_env.specs.answering.Walked.{entries_outward, entries_walked, path_of}
