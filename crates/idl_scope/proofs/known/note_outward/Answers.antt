@@ -26,4 +26,4 @@ tell-requires c =
     ap (drop c.in-Some-Some.before) whole
     ∙ ap (λ n. drop n (log ++ entries_outward path)) before
     ∙ drop-append_seam log (entries_outward path)
-    ∙ ap entries_outward (sym (c.in-Some.ensures.some ∙ c.in_ok-clone.ensures))
+    ∙ ap entries_outward (sym (c.in-Some.ensures.some ∙ c.in_ok-clone.ensures.cases))
