@@ -1,5 +1,5 @@
 -- What is asked for typeprefixes, scope after scope, and what comes of it.
-use Rattle.std.proofs.Common.{◌≡◌, ◌∙◌, ℕ, List, [], ◌∷◌, Option, Some, None, ap, length, map, refl}
+use Rattle.std.proofs.Common.{◌≡◌, ◌∙◌, ◌+◌, ℕ, List, [], ◌∷◌, Option, Some, None, ap, length, map, refl}
 use Rattle.idl_memo.specs.Query.{Done, asked, noted, outcome}
 use Rattle.idl_env.specs.Facts.{typeprefix_in}
 use Rattle.idl_env.specs.answering.Walked.{entries_outward}
