@@ -9,8 +9,8 @@
 //! `idl_check_laws`).
 //!
 //! `exchange.rt` and `apart.rt` say when facts may take the place of others, and at which keys two differ. `further.rt`
-//! has uses that go past the deciding scope, `steps.rt` what a walk over bases or typedefs asks at each as a step of a
-//! log. `Room` is the memory that units write in, one after another.
+//! has uses that go past the deciding scope, `steps.rt` what a walk over bases or typedefs asks at each, and from a
+//! scope outward, as a step of a log. `Room` is the memory that units write in, one after another.
 #![tactic(auto)]
 
 mod additions;

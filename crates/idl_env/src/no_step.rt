@@ -23,8 +23,8 @@ impl Step<DigestedKey, Answer, ()> for NoStep {
 
     ghost logged = { λ head step. [] };
 
-    fn width(_head: &()) -> usize {
-        0
+    fn width(_head: &()) -> Option<usize> {
+        Some(0)
     }
 
     fn append_to(

@@ -22,8 +22,8 @@ impl Step<RootKey, RootAnswer, ()> for Stepless {
 
     ghost logged = { λ head step. [] };
 
-    fn width(_head: &()) -> usize {
-        0
+    fn width(_head: &()) -> Option<usize> {
+        Some(0)
     }
 
     fn append_to(

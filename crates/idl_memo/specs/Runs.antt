@@ -1,10 +1,17 @@
 -- Entries of logs that stand side by side.
-use Rattle.std.specs.Prelude.{◌≡◌, Bool, List, [], ◌∷◌, ◌++◌, Option, None, Some, if◌then◌else◌}
+use Rattle.std.specs.Prelude.{◌≡◌, ℕ, Bool, List, [], ◌∷◌, ◌++◌, Option, None, Some, if◌then◌else◌, length}
 use Rattle.std.specs.Option.{option_eq}
 
 -- these entries begin with those
 abbrev pub BeginsWith : {E : Type 0} → List E → List E → Type 0
 BeginsWith {E} first entries = (rest : List E) × (entries ≡ first ++ rest)
+
+-- these stand among those, so many behind the first
+pub record StandAt {E : Type 0} (place : ℕ) (these those : List E) : Type 0 where
+  pub before : List E
+  pub behind : List E
+  pub whole : those ≡ before ++ these ++ behind
+  pub place_is : length before ≡ place
 
 -- an answer and another in its place, where they aren't one
 abbrev pub other_at : {V : Type 0} → (V → V → Bool) → Option V → Option V

@@ -3,18 +3,12 @@
 //! A page has some entries and not one, so a block that is left hands on few things. How many entries a log has is
 //! counted when it is made. One at a place is looked for from the first on, so logs are compared by going over both.
 
-ghost use Rattle.std.specs.Prelude.{◌≡◌, ◌++◌, ◌∷◌, [], All, IfNone, IfOk, IfSome, IsFalse, OnOk, Option, length, slice_get};
-ghost use Rattle.std.specs.Option.{option_copied, option_map};
+ghost use Rattle.std.specs.Prelude.{◌≡◌, ◌++◌, ◌∷◌, [], IfNone, IfOk, IfSome, length};
+ghost use Rattle.std.specs.Option.{option_copied};
 ghost use Rattle.idl_memo.specs.Dated.{dated_on, entries_before};
-ghost use Rattle.idl_memo.specs.Query.{is_logged};
-ghost use Rattle.idl_memo.specs.Runs.{first_other};
 
-use crate::bank::{Bank, LentBank};
-use crate::kept_log::other_at;
-use crate::log::push_copy;
-use crate::step::Digests;
-use idl_map::Digest;
-use std::alloc::AllocError;
+use crate::bank::Bank;
+use std::alloc::{AllocError, Global};
 use std::marker::Model;
 use std::rc::Rc;
 
@@ -84,91 +78,9 @@ impl<B: Bank> DatedLog<B> {
         DatedEntries::new(&self.pages, self.before)
     }
 
-    // Whether a key is one of theirs.
-    pub(crate) fn contains(&self, key: &B::Key) -> bool
-        ensures { result ≡ is_logged B.Key.eq self.now key.now }
-    {
-        let mut left = self.entries();
-        'entries: while let Some((own, _answer)) = left.next() {
-            if *key == *own {
-                return true;
-            }
-        }
-        false
-    }
-
-    // The first of the answers that isn't the bank's, with the bank's.
-    pub(crate) fn first_other<'a>(
-        &'a self,
-        bank: &'a B,
-    ) -> Option<(Option<&'a B::Answer>, Option<&'a B::Answer>)>
-    where
-        B: LentBank,
-        ensures { option_map (λ p. (option_copied p.0, option_copied p.1)) result
-            ≡ first_other B.Answer.eq (B.at bank.now) self.now }
-    {
-        let mut left = self.entries();
-        'entries: while let Some((key, answer)) = left.next() {
-            let other = other_at(answer, bank.answer(key));
-            if other.is_some() {
-                return other;
-            }
-        }
-        None
-    }
-
-    // Whether a digest of one of the keys may be among these.
-    pub(crate) fn shares<D: Digests>(&self, digests: &D) -> bool
-        ensures { IsFalse result
-            → All (λ e. D.has digests.now (B.Key.digest_of e.0) → ⊥) self.now }
-    {
-        let mut left = self.entries();
-        'entries: while let Some((key, _answer)) = left.next() {
-            if digests.has(key.digest()) {
-                return true;
-            }
-        }
-        false
-    }
-
-    // Copies of the entries go behind others.
-    pub(crate) fn append_to(
-        &self,
-        entries: &mut Vec<(B::Key, Option<B::Answer>)>,
-    ) -> Result<(), AllocError>
-        ensures { OnOk result (entries.new.items ≡ entries.old.items ++ self.now) }
-    {
-        let mut left = self.entries();
-        'entries: while let Some((key, answer)) = left.next() {
-            push_copy(entries, key, answer)?;
-        }
-        Ok(())
-    }
-
-    // Copies of the entries stand in place of others.
-    pub(crate) fn copy_into(
-        &self,
-        room: &mut Vec<(B::Key, Option<B::Answer>)>,
-    ) -> Result<(), AllocError>
-        ensures { OnOk result (room.new.items ≡ self.now) }
-    {
-        room.clear();
-        self.append_to(room)
-    }
-
-    // The entry at a place, or nothing past the last.
-    pub(crate) fn get(&self, index: usize) -> Option<(&B::Key, Option<&B::Answer>)>
-        ensures { option_map (λ e. (e.0.now, option_copied e.1)) result ≡ slice_get self.now index }
-    {
-        let mut left = self.entries();
-        let mut before = index;
-        'entries: while let Some(entry) = left.next() {
-            if before == 0 {
-                return Some(entry);
-            }
-            before -= 1;
-        }
-        None
+    // Where it takes memory.
+    pub(crate) fn alloc(&self) -> Global {
+        *self.pages.allocator()
     }
 }
 

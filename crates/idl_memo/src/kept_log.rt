@@ -9,9 +9,10 @@ ghost use Rattle.idl_memo.specs.Runs.{first_other, other_at};
 
 use crate::bank::{Bank, LentBank, PlainBank};
 use crate::dated::{DatedLog, LogPage};
+use crate::lent_parts::{LentParts, append_part, has, other_in, shares_in};
 use crate::log::is_same;
 use crate::log_entries::LogEntries;
-use crate::parted::{Parted, append_parts, is_in_parts, other_in_parts};
+use crate::parted::Parted;
 use crate::run::LogPart;
 use crate::step::Digests;
 use idl_base::Datum;
@@ -149,12 +150,17 @@ impl<B: Bank> KeptLog<B> {
     pub fn contains(&self, key: &B::Key) -> bool
         ensures { result ≡ is_logged B.Key.eq self.now key.now }
     {
-        match &self.form {
-            Form::Plain(entries) => is_among(entries, key),
-            Form::Digested(both) => both.contains(key),
-            Form::Parted(parted) => { is_in_parts(&parted.parts, *parted.parts.allocator(), key) }
-            Form::Dated(log) => log.contains(key),
+        if let Form::Digested(both) = &self.form {
+            return both.contains(key);
         }
+        let alloc = self.alloc();
+        let mut left = self.parts();
+        'parts: while let Some(part) = left.next() {
+            if has(alloc, part, key) {
+                return true;
+            }
+        }
+        false
     }
 
     /// The first of the answers that isn't the bank's, with the bank's.
@@ -167,14 +173,15 @@ impl<B: Bank> KeptLog<B> {
         ensures { option_map (λ p. (option_copied p.0, option_copied p.1)) result
             ≡ first_other B.Answer.eq (B.at bank.now) self.now }
     {
-        match &self.form {
-            Form::Plain(entries) => other_among(entries, bank),
-            Form::Digested(both) => other_among(&both.entries, bank),
-            Form::Parted(parted) => {
-                other_in_parts(&parted.parts, *parted.parts.allocator(), bank)
+        let alloc = self.alloc();
+        let mut left = self.parts();
+        'parts: while let Some(part) = left.next() {
+            let other = other_in(alloc, part, bank);
+            if other.is_some() {
+                return other;
             }
-            Form::Dated(log) => log.first_other(bank),
         }
+        None
     }
 
     /// Whether a digest of one of the keys may be among these.
@@ -182,12 +189,14 @@ impl<B: Bank> KeptLog<B> {
         ensures { IsFalse result
             → All (λ e. D.has digests.now (B.Key.digest_of e.0) → ⊥) self.now }
     {
-        match &self.form {
-            Form::Plain(entries) => shares_among(entries, digests),
-            Form::Digested(both) => both.shares(digests),
-            Form::Parted(parted) => parted.shares(digests),
-            Form::Dated(log) => log.shares(digests),
+        let alloc = self.alloc();
+        let mut left = self.parts();
+        'parts: while let Some(part) = left.next() {
+            if shares_in(alloc, part, digests) {
+                return true;
+            }
         }
+        false
     }
 
     /// The entries, one after another: lent where each stands by itself, and else copies of them in this room.
@@ -201,15 +210,48 @@ impl<B: Bank> KeptLog<B> {
         match &self.form {
             Form::Plain(entries) => Ok(entries),
             Form::Digested(both) => Ok(&both.entries),
-            Form::Parted(parted) => {
+            _ => {
                 room.clear();
-                append_parts(&parted.parts, alloc, room)?;
+                self.append_to(alloc, room)?;
                 Ok(room)
             }
-            Form::Dated(log) => {
-                log.copy_into(room)?;
-                Ok(room)
-            }
+        }
+    }
+
+    // Puts copies of the entries behind others.
+    fn append_to(
+        &self,
+        alloc: Global,
+        entries: &mut Vec<(B::Key, Option<B::Answer>)>,
+    ) -> Result<(), AllocError>
+        ensures { OnOk result (entries.new.items ≡ entries.old.items ++ self.now) }
+    {
+        let mut left = self.parts();
+        'parts: while let Some(part) = left.next() {
+            append_part(alloc, part, entries)?;
+        }
+        Ok(())
+    }
+
+    // Its parts, lent.
+    fn parts(&self) -> LentParts<'_, B>
+        ensures { result.entries ≡ self.now }
+    {
+        match &self.form {
+            Form::Plain(entries) => LentParts::plain(entries),
+            Form::Digested(both) => LentParts::plain(&both.entries),
+            Form::Parted(parted) => LentParts::parted(&parted.parts),
+            Form::Dated(log) => LentParts::dated(log.entries()),
+        }
+    }
+
+    // Where it takes memory.
+    fn alloc(&self) -> Global {
+        match &self.form {
+            Form::Plain(entries) => *entries.allocator(),
+            Form::Digested(both) => *both.entries.allocator(),
+            Form::Parted(parted) => *parted.parts.allocator(),
+            Form::Dated(log) => log.alloc(),
         }
     }
 }
@@ -222,8 +264,7 @@ impl<B: PlainBank> KeptLog<B> {
         match &self.form {
             Form::Plain(entries) => entry_at(entries, index),
             Form::Digested(both) => entry_at(&both.entries, index),
-            Form::Parted(parted) => parted.get(index),
-            Form::Dated(log) => log.get(index),
+            _ => nth(self.entries(), index),
         }
     }
 
@@ -231,24 +272,11 @@ impl<B: PlainBank> KeptLog<B> {
     pub fn entries(&self) -> LogEntries<'_, B>
         ensures { result ≡ self.now }
     {
-        match &self.form {
-            Form::Plain(entries) => LogEntries::plain(entries),
-            Form::Digested(both) => LogEntries::plain(&both.entries),
-            Form::Parted(parted) => LogEntries::parted(parted.entries()),
-            Form::Dated(log) => LogEntries::dated(log.entries()),
-        }
+        LogEntries::of(self.parts())
     }
 }
 
 impl<B: Bank> Digested<B> {
-    // Whether a digest of one of the keys may be among these.
-    fn shares<D: Digests>(&self, digests: &D) -> bool
-        ensures { IsFalse result
-            → All (λ e. D.has digests.now (B.Key.digest_of e.0) → ⊥) self.now }
-    {
-        shares_among(&self.entries, digests)
-    }
-
     // Whether a key is one of theirs: the digests tell most that aren't.
     fn contains(&self, key: &B::Key) -> bool
         ensures { result ≡ is_logged B.Key.eq self.now key.now }
@@ -288,30 +316,6 @@ impl<B: Bank> Digested<B> {
     }
 }
 
-// Whether a key is among those of these entries.
-fn is_among<K: Datum, A>(entries: &[(K, Option<A>)], key: &K) -> bool
-    ensures { result ≡ is_logged K.eq entries.now key.now }
-{
-    entries.iter().any(|entry| *key == entry.0)
-}
-
-// The first of these answers that isn't the bank's, with the bank's.
-fn other_among<'a, B: Bank>(
-    entries: &'a [(B::Key, Option<B::Answer>)],
-    bank: &'a B,
-) -> Option<(Option<&'a B::Answer>, Option<&'a B::Answer>)>
-    ensures { option_map (λ p. (option_copied p.0, option_copied p.1)) result
-        ≡ first_other B.Answer.eq (B.at bank.now) entries.now }
-{
-    for (key, answer) in entries {
-        let other = other_at(answer.as_ref(), bank.answer(key));
-        if other.is_some() {
-            return other;
-        }
-    }
-    None
-}
-
 /// An answer and the one that is found in its place, where that is another.
 pub fn other_at<'a, A: Datum>(
     answer: Option<&'a A>,
@@ -326,24 +330,30 @@ pub fn other_at<'a, A: Datum>(
     Some((answer, found))
 }
 
-// Whether a digest of one of these keys may be among those.
-fn shares_among<K: Digest, A, D: Digests>(entries: &[(K, Option<A>)], digests: &D) -> bool
-    ensures { IsFalse result → All (λ e. D.has digests.now (K.digest_of e.0) → ⊥) entries.now }
-{
-    for entry in entries {
-        if digests.has(entry.0.digest()) {
-            return true;
-        }
-    }
-    false
-}
-
 // The entry at a place, or nothing past the last.
 fn entry_at<K, A>(entries: &[(K, Option<A>)], index: usize) -> Option<(&K, Option<&A>)>
     ensures { option_map (λ e. (e.0.now, option_copied e.1)) result ≡ slice_get entries.now index }
 {
     let (key, answer) = entries.get(index)?;
     Some((key, answer.as_ref()))
+}
+
+// The entry behind so many of these, or nothing past the last.
+fn nth<'a, B: PlainBank>(
+    entries: LogEntries<'a, B>,
+    index: usize,
+) -> Option<(&'a B::Key, Option<&'a B::Answer>)>
+    ensures { option_map (λ e. (e.0.now, option_copied e.1)) result ≡ slice_get entries.entry index }
+{
+    let mut left = entries;
+    let mut before = index;
+    'entries: while let Some(entry) = left.next() {
+        if before == 0 {
+            return Some(entry);
+        }
+        before -= 1;
+    }
+    None
 }
 
 // The digests of the keys of these entries.

@@ -10,6 +10,7 @@ mod dated;
 mod journal;
 mod keeping;
 mod kept_log;
+mod lent_parts;
 mod log;
 mod log_entries;
 mod meter;

@@ -4,75 +4,35 @@ ghost use Rattle.std.specs.Prelude.{◌≡◌, ◌∷◌, [], IfNone, IfSome};
 ghost use Rattle.std.specs.Option.{option_copied};
 
 use crate::bank::{Bank, PlainBank};
-use crate::dated::DatedEntries;
-use crate::parted::PartEntries;
+use crate::lent_parts::LentParts;
+use crate::run::Part;
 use std::marker::Model;
 
 /// The entries of a log that are still to come. To every contract it is the list of them.
 pub struct LogEntries<'a, B: Bank> {
-    left: Left<'a, B>,
-}
-
-// By how the entries are held, those that are still to come.
-type Left<'a, B> = Held<
-    'a,
-    (<B as Bank>::Key, Option<<B as Bank>::Answer>),
-    PartEntries<'a, B>,
-    DatedEntries<'a, <B as Bank>::Key, <B as Bank>::Answer>,
->;
-
-// How entries are held.
-#[derive(Drop)]
-enum Held<'a, E, P, D> {
-    /// One after another.
-    Plain(&'a [E]),
-    /// By parts.
-    Parted(P),
-    /// On pages that logs share.
-    Dated(D),
+    parts: LentParts<'a, B>,
 }
 
 impl<'a, B: Bank> Model for LogEntries<'a, B> {
     ghost use Rattle.std.specs.Prelude.{List, Option};
-    ghost use Rattle.idl_memo.specs.Forms.{held_entries};
 
     ghost Value = { List (B.Key × Option B.Answer) };
 
-    ghost view = { λ entries. held_entries entries.left };
+    ghost view = { λ entries. entries.parts.entries };
 }
 
 impl<'a, B: Bank> Drop for LogEntries<'a, B> {
     fn drop(self) {
-        let LogEntries { left: _left } = self;
+        let LogEntries { parts: _parts } = self;
     }
 }
 
 impl<'a, B: Bank> LogEntries<'a, B> {
-    // Those that stand one after another.
-    pub(crate) fn plain(entries: &'a [(B::Key, Option<B::Answer>)]) -> LogEntries<'a, B>
-        ensures { result ≡ entries.now }
+    // Those of these parts.
+    pub(crate) fn of(parts: LentParts<'a, B>) -> LogEntries<'a, B>
+        ensures { result ≡ parts.entry.entries }
     {
-        LogEntries {
-            left: Held::Plain(entries),
-        }
-    }
-
-    // Those of parts.
-    pub(crate) fn parted(entries: PartEntries<'a, B>) -> LogEntries<'a, B>
-        ensures { result ≡ entries.entry }
-    {
-        LogEntries {
-            left: Held::Parted(entries),
-        }
-    }
-
-    // Those on pages.
-    pub(crate) fn dated(entries: DatedEntries<'a, B::Key, B::Answer>) -> LogEntries<'a, B>
-        ensures { result ≡ entries.entry }
-    {
-        LogEntries {
-            left: Held::Dated(entries),
-        }
+        LogEntries { parts }
     }
 }
 
@@ -82,14 +42,12 @@ impl<'a, B: PlainBank> LogEntries<'a, B> {
         ensures first { IfSome result (λ e. self.old ≡ (e.0.now, option_copied e.1) ∷ self.new) }
         ensures none { IfNone result (self.old ≡ []) }
     {
-        match &mut self.left {
-            Held::Plain(entries) => {
-                let (first, behind) = entries.split_first()?;
-                *entries = behind;
-                Some((&first.0, first.1.as_ref()))
+        'parts: while let Some(part) = self.parts.next() {
+            match part {
+                Part::One(key, answer) => return Some((key, answer)),
+                Part::Many(run) => run.has_none(),
             }
-            Held::Parted(entries) => entries.next(),
-            Held::Dated(entries) => entries.next(),
         }
+        None
     }
 }

@@ -5,19 +5,20 @@
 //! ones (`Runs`) are compared step by step and trusted in nothing, so to contracts a log is the list of its entries. A
 //! log of 32 entries or fewer has no run.
 //!
-//! What takes much to compare isn't shared: an interface n deep has n operations, so its steps stand in a block,
+//! A run that is told (`Log::tell`) is made of one step by whoever asks all that it stands for, and compared with
+//! nothing. What takes much to compare isn't shared: an interface n deep has n operations, so its steps stand in a block,
 //! sixteen bytes each. Answers are compared by content, so an edit under a long chain reads what its logs share to the
 //! end.
 
-ghost use Rattle.std.specs.Prelude.{◌≡◌, ◌++◌, [], All, IsFalse, List, OnOk, Option, flat_map, length, take};
+ghost use Rattle.std.specs.Prelude.{◌≡◌, ◌++◌, ◌∷◌, [], All, IfOk, IfSome, IsFalse, List, None, OnOk, Option, flat_map, length, take};
 ghost use Rattle.std.specs.Option.{option_copied, option_map};
 ghost use Rattle.idl_memo.specs.Query.{is_logged};
 ghost use Rattle.idl_memo.specs.Runs.{first_other};
 
 use crate::bank::{Bank, LentBank, PlainBank};
 use crate::step::{Digests, Step};
-use crate::steps::Steps;
-use idl_map::Digest;
+use crate::steps::{Behind, Steps};
+use idl_map::{Digest, SharedList};
 use std::alloc::{AllocError, Global};
 use std::marker::Model;
 
@@ -53,6 +54,40 @@ impl<B: Bank> Drop for Run<B> {
     }
 }
 
+// The first so many of some steps that are lent.
+#[derive(Drop)]
+struct StepsLeft<'a, S> {
+    steps: Behind<'a, S>,
+    count: usize,
+}
+
+impl<'a, S> Model for StepsLeft<'a, S> {
+    ghost use Rattle.std.specs.Prelude.{List, take};
+
+    ghost Value = { List S };
+
+    ghost view = { λ left. take left.count left.steps };
+}
+
+impl<'a, S> StepsLeft<'a, S> {
+    // The first, and those behind it; nothing where there is none.
+    fn split_first(self) -> Option<(&'a S, StepsLeft<'a, S>)>
+        ensures some { IfSome result (λ p. self.entry ≡ p.0.now ∷ p.1) }
+        ensures none { result ≡ None → self.entry ≡ [] }
+    {
+        let StepsLeft { steps, count } = self;
+        if count == 0 {
+            return None;
+        }
+        let (first, others) = steps.split_first()?;
+        let left = StepsLeft {
+            steps: others,
+            count: count - 1,
+        };
+        Some((first, left))
+    }
+}
+
 /// A part of a log: an entry, or a run of them.
 #[derive(Drop)]
 pub(crate) enum Part<K, A, R> {
@@ -77,6 +112,28 @@ impl<B: Bank> Run<B> {
         }
     }
 
+    /// The run of this step alone, which stands for so many entries.
+    pub(crate) fn alone(
+        alloc: Global,
+        head: B::Head,
+        step: B::Step,
+        len: usize,
+    ) -> Result<Run<B>, AllocError>
+        requires { len ≡ length (B.Step.logged head step) }
+        ensures { IfOk result (λ run. run ≡ B.Step.logged head step) }
+    {
+        let mut steps = SharedList::new();
+        steps.push(alloc, step)?;
+        Ok(Run::new(head, Steps::listed(steps), 1, len))
+    }
+
+    /// How many entries it has.
+    pub(crate) fn len(&self) -> usize
+        ensures { result ≡ length self.now }
+    {
+        self.len
+    }
+
     /// The first of its answers that isn't the bank's, with the bank's.
     pub(crate) fn first_other<'a>(
         &'a self,
@@ -88,16 +145,14 @@ impl<B: Bank> Run<B> {
         ensures { option_map (λ p. (option_copied p.0, option_copied p.1)) result
             ≡ first_other B.Answer.eq (B.at bank.now) self.now }
     {
-        let mut behind = self.steps.lent();
-        for _step in 0..self.count {
-            let Some((step, others)) = behind.split_first() else {
-                return None;
-            };
-            let other = step.first_other(alloc, &self.head, bank);
+        let (head, steps) = self.lent();
+        let mut left = steps;
+        'steps: while let Some((step, others)) = left.split_first() {
+            let other = step.first_other(alloc, head, bank);
             if other.is_some() {
                 return other;
             }
-            behind = others;
+            left = others;
         }
         None
     }
@@ -110,13 +165,11 @@ impl<B: Bank> Run<B> {
     ) -> Result<(), AllocError>
         ensures { OnOk result (entries.new.items ≡ entries.old.items ++ self.now) }
     {
-        let mut behind = self.steps.lent();
-        for _step in 0..self.count {
-            let Some((step, others)) = behind.split_first() else {
-                return Ok(());
-            };
-            step.append_to(alloc, &self.head, entries)?;
-            behind = others;
+        let (head, steps) = self.lent();
+        let mut left = steps;
+        'steps: while let Some((step, others)) = left.split_first() {
+            step.append_to(alloc, head, entries)?;
+            left = others;
         }
         Ok(())
     }
@@ -125,15 +178,13 @@ impl<B: Bank> Run<B> {
     pub(crate) fn has(&self, alloc: Global, key: &B::Key) -> bool
         ensures { result ≡ is_logged B.Key.eq self.now key.now }
     {
-        let mut behind = self.steps.lent();
-        for _step in 0..self.count {
-            let Some((step, others)) = behind.split_first() else {
-                return false;
-            };
-            if step.has(alloc, &self.head, key) {
+        let (head, steps) = self.lent();
+        let mut left = steps;
+        'steps: while let Some((step, others)) = left.split_first() {
+            if step.has(alloc, head, key) {
                 return true;
             }
-            behind = others;
+            left = others;
         }
         false
     }
@@ -143,17 +194,26 @@ impl<B: Bank> Run<B> {
         ensures { IsFalse result
             → All (λ e. D.has digests.now (B.Key.digest_of e.0) → ⊥) self.now }
     {
-        let mut behind = self.steps.lent();
-        for _step in 0..self.count {
-            let Some((step, others)) = behind.split_first() else {
-                return false;
-            };
-            if step.shares(alloc, &self.head, digests) {
+        let (head, steps) = self.lent();
+        let mut left = steps;
+        'steps: while let Some((step, others)) = left.split_first() {
+            if step.shares(alloc, head, digests) {
                 return true;
             }
-            behind = others;
+            left = others;
         }
         false
+    }
+
+    // What its steps have in common, and these.
+    fn lent(&self) -> (&B::Head, StepsLeft<'_, B::Step>)
+        ensures { self.now ≡ flat_map (B.Step.logged result.0.now) result.1 }
+    {
+        let left = StepsLeft {
+            steps: self.steps.lent(),
+            count: self.count,
+        };
+        (&self.head, left)
     }
 }
 

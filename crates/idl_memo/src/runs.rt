@@ -1,6 +1,6 @@
 //! Runs that are known, of which others are made.
 
-ghost use Rattle.std.specs.Prelude.{◌≡◌, ◌+◌, ◌++◌, ◌<◌, ◌≤◌, [], None, IfOk, IfSome, drop, flat_map, length, reverse, take};
+ghost use Rattle.std.specs.Prelude.{◌≡◌, ◌+◌, ◌++◌, ◌<◌, ◌≤◌, [], None, IfOk, IfSome, OnOk, drop, flat_map, length, reverse, take};
 ghost use Rattle.idl_memo.specs.Parts.{part_entries};
 
 use crate::bank::Bank;
@@ -78,21 +78,22 @@ impl<B: Bank> Runs<B> {
         }
     }
 
-    /// The parts of a log with these entries.
-    pub(crate) fn parts(
+    /// Puts the parts of a log with these entries behind others.
+    pub(crate) fn append_parts(
         &mut self,
         alloc: Global,
         entries: &[(B::Key, Option<B::Answer>)],
-    ) -> Result<Vec<LogPart<B>>, AllocError>
-        ensures { IfOk result (λ parts. flat_map part_entries parts.items ≡ entries.now) }
+        parts: &mut Vec<LogPart<B>>,
+    ) -> Result<(), AllocError>
+        ensures { OnOk result (flat_map part_entries parts.new.items
+            ≡ flat_map part_entries parts.old.items ++ entries.now) }
     {
-        let mut parts = Vec::new(alloc);
         let mut rest = entries;
         'entries: while let Some((part, behind)) = self.next(alloc, rest)? {
             parts.push(part)?;
             rest = behind;
         }
-        Ok(parts)
+        Ok(())
     }
 
     // The part with which these entries begin, and those behind it; nothing where there is no entry.
@@ -154,7 +155,7 @@ impl<B: Bank> Runs<B> {
         ensures count { IfOk result (λ front. length front.first.items + front.count
             + length front.behind.now ≤ length entries.now) }
     {
-        let width = B::Step::width(head);
+        let width = B::Step::width(head).unwrap_or(0);
         let mut first = Vec::new(alloc);
         let mut rest = entries;
         'steps: while width > 0 && rest.len() >= width {
@@ -301,7 +302,7 @@ fn agreed<'e, B: Bank>(
         ≡ flat_map (B.Step.logged head.now) (take result.0 steps.now) ++ result.1.now }
     ensures count { result.0 + length result.1.now ≤ length entries.now }
 {
-    let width = B::Step::width(head);
+    let width = B::Step::width(head).unwrap_or(0);
     let mut behind = steps.lent();
     let mut rest = entries;
     let mut count = 0;

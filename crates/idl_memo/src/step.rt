@@ -25,9 +25,9 @@ pub trait Step<K: Datum + Ord + Digest, A: Datum, H>: Datum {
     /// The entries for which a step stands.
     ghost logged: { H → Self → List (K × Option A) };
 
-    /// How many these are. It takes no memory.
-    fn width(head: &H) -> usize
-        ensures { (step : Self) → result ≡ length (logged head.now step) };
+    /// How many these are, where each such step stands for as many. It takes no memory.
+    fn width(head: &H) -> Option<usize>
+        ensures { IfSome result (λ n. (step : Self) → n ≡ length (logged head.now step)) };
 
     /// Puts these behind other entries.
     fn append_to(

@@ -1,7 +1,8 @@
 -- What is asked for typeprefixes, scope after scope, and what comes of it.
-use Rattle.std.proofs.Common.{◌≡◌, ◌∙◌, ℕ, List, [], ◌∷◌, Option, Some, None, ap, refl}
-use Rattle.idl_memo.specs.Query.{Done, noted, outcome}
+use Rattle.std.proofs.Common.{◌≡◌, ◌∙◌, ◌+◌, ℕ, List, [], ◌∷◌, Option, Some, None, ap, length, map, refl}
+use Rattle.idl_memo.specs.Query.{Done, asked, noted, outcome}
 use Rattle.idl_env.specs.Facts.{typeprefix_in}
+use Rattle.idl_env.specs.answering.Walked.{entries_outward}
 use Rattle.idl_env.specs.keys.Key.{key_eq}
 use Rattle.idl_env.specs.declared.additions.addition.Addition.{Addition}
 use Rattle.idl_env.specs.declared.answering.answer.Answer.{Answer}
@@ -32,3 +33,21 @@ typeprefix_none bank none [] = refl
 typeprefix_none bank none (name ∷ scope) =
     ap (λ answer. outcome (elim (typeprefix_in answer) as (λ _. Lookup (Option (List ℕ))) [ None ↦ typeprefix_around scope | Some text ↦ Done (Some text) ]) bank) (none (name ∷ scope))
     ∙ typeprefix_none bank none scope
+
+module _ (bank : Key → Option Answer) (none : (path : List (List ℕ)) → bank (Typeprefix path) ≡ None) where
+  -- and all are asked
+  pub typeprefix_asked : (name : List ℕ) (scope : List (List ℕ)) → asked (typeprefix_around (name ∷ scope)) bank ≡ Typeprefix (name ∷ scope) ∷ asked (typeprefix_around scope) bank
+  typeprefix_asked name scope =
+      ap (λ answer. Typeprefix (name ∷ scope) ∷ asked (elim (typeprefix_in answer) as (λ _. Lookup (Option (List ℕ))) [ None ↦ typeprefix_around scope | Some text ↦ Done (Some text) ]) bank) (none (name ∷ scope))
+
+  -- one for each name of the path
+  pub outward_long : (path : List (List ℕ)) → length (asked (typeprefix_around path) bank) ≡ length path
+  outward_long [] = refl
+  outward_long (name ∷ scope) = ap length (typeprefix_asked name scope) ∙ ap (λ n. 1 + n) (outward_long scope)
+
+  -- each with no answer
+  pub outward_entries : (path : List (List ℕ)) → map (λ k. (k, bank k)) (asked (typeprefix_around path) bank) ≡ entries_outward path
+  outward_entries [] = refl
+  outward_entries (name ∷ scope) =
+      ap (map (λ k. (k, bank k))) (typeprefix_asked name scope)
+      ∙ (λ i. (Typeprefix (name ∷ scope), none (name ∷ scope) i) ∷ outward_entries scope i)

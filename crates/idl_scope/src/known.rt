@@ -5,9 +5,9 @@
 //! That is picked by a function that is generic in the bank, since `rattle` can't state the pick over one that is
 //! named.
 
-ghost use Rattle.std.specs.Prelude.{◌≡◌, IfOk, IsFalse, IsTrue, List, OnOk, Option, Some};
+ghost use Rattle.std.specs.Prelude.{◌≡◌, ℕ, IfOk, IsFalse, IsTrue, List, None, OnOk, Option, Some, length};
 ghost use Rattle.std.specs.Option.{option_copied};
-ghost use Rattle.idl_memo.specs.Query.{noted, noted_all, run};
+ghost use Rattle.idl_memo.specs.Query.{asked, noted, noted_all, run};
 ghost use Rattle.idl_env.specs.Facts.{answer_of, answers, identity_in, over, typeprefix_in};
 ghost use Rattle.idl_env.specs.keys.Key.{key_eq};
 ghost use Rattle.idl_env.specs.declared.keys.key.Key.TheVariants.{Typeprefix};
@@ -18,7 +18,7 @@ use crate::lookup::View;
 use idl_base::{Bytes, Shared};
 use idl_entity::paths::Names;
 use idl_entity::{Identity, Path};
-use idl_env::{Addition, Answer, Env, Facts, LentKey, identity_in, typeprefix_in};
+use idl_env::{Addition, Answer, Env, Facts, LentKey, Walked, identity_in, typeprefix_in};
 use idl_memo::{Bank, Journal};
 use std::alloc::AllocError;
 
@@ -93,7 +93,57 @@ pub fn typeprefix_around<'e>(
     if note_asked(path, env, log) {
         return Ok(None);
     }
-    typeprefix_over(env, None, log, path)
+    note_outward(env, log, path)?;
+    Ok(None)
+}
+
+// Asks for typeprefixes from a path outward, where no scope has one. A log that is kept has them as one run, unless some were
+// asked before.
+fn note_outward(env: &Env, log: &mut Journal<Env>, path: &Path) -> Result<(), AllocError>
+    requires { (scope : List (List ℕ)) → answers env.now (Typeprefix scope) ≡ None }
+    ensures { OnOk result (log.new ≡ noted_all key_eq (answers env.now) log.old
+        (asked (typeprefix_around path.now) (answers env.now))) }
+{
+    let before = log.logged();
+    ask_outward(env, log, path)?;
+    let (Some(before), Some(now)) = (before, log.logged()) else {
+        return Ok(());
+    };
+    if !has_names(path, now.saturating_sub(before)) {
+        return Ok(());
+    }
+    let Some(scope) = path.clone()?.into_named() else {
+        return Ok(());
+    };
+    log.tell(env.alloc(), before, Walked::Outward(scope), Answer::Used)
+}
+
+// Asks for typeprefixes from a path outward, where no scope has one.
+fn ask_outward(env: &Env, log: &mut Journal<Env>, path: &Path) -> Result<(), AllocError>
+    requires { (scope : List (List ℕ)) → answers env.now (Typeprefix scope) ≡ None }
+    ensures { OnOk result (log.new ≡ noted_all key_eq (answers env.now) log.old
+        (asked (typeprefix_around path.now) (answers env.now))) }
+{
+    let mut names = path.lent();
+    'scopes: while let Some((_name, around)) = names.again().split_first() {
+        log.ask_lent(&LentKey::typeprefix(env.alloc(), names), env)?;
+        names = around;
+    }
+    Ok(())
+}
+
+// Whether a path has so many names.
+fn has_names(path: &Path, count: usize) -> bool
+    ensures { IsTrue result → length path.now ≡ count }
+{
+    let mut names = path.lent();
+    for _name in 0..count {
+        let Some((_first, around)) = names.split_first() else {
+            return false;
+        };
+        names = around;
+    }
+    names.is_empty()
 }
 
 // A question, of which contracts know what it asks of a bank.

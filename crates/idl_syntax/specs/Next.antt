@@ -3,16 +3,12 @@ use Rattle.std.specs.Prelude.{ℕ, List, Option, Some, None, Ok}
 use Rattle.idl_lex.specs.declared.kinds.mark.Mark.{Mark}
 use Rattle.idl_tree.specs.Lexeme.{Lexeme, Punctuation}
 use Rattle.idl_tree.specs.reading.Reading.{Reader, ◌>>=◌, expect}
-use Rattle.idl_tree.specs.reading.Tests.{identifier_at, is_mark}
+use Rattle.idl_tree.specs.reading.Tests.{is_mark}
 
 -- the mark that a token is
 abbrev pub mark_of : Option Lexeme → Option Mark
 mark_of (Some (Punctuation mark)) = Some mark
 mark_of _ = None
-
--- what was read, with an identifier behind it
-abbrev pub named_with : {A : Type 0} → A → Reader (A × List ℕ)
-named_with read ts = identifier_at ts >>= λ name. Ok ((read, name.0), name.1)
 
 -- what was read, with a mark behind it
 abbrev pub closed_with : {A : Type 0} → Mark → A → Reader A

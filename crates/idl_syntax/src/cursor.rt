@@ -6,7 +6,7 @@ ghost use Rattle.idl_tree.specs.Lexeme.{lexemes};
 ghost use Rattle.idl_tree.specs.reading.Reading.{first};
 ghost use Rattle.idl_tree.specs.reading.Tests.{by_word, identifier_at, identifier_of, is_mark, is_word, keyword_of};
 ghost use Rattle.idl_syntax.specs.Gives.{Advances, Passes, Reads};
-ghost use Rattle.idl_syntax.specs.Next.{closed_with, mark_of, named_with};
+ghost use Rattle.idl_syntax.specs.Next.{closed_with, mark_of};
 
 use crate::fault::ReadingFault;
 use idl_base::Bytes;
@@ -72,15 +72,6 @@ pub fn behind(tokens: &[Token], mark: Mark) -> Result<&[Token], ReadingFault>
     } else {
         Err(ReadingFault::NoTree(tokens.len()))
     }
-}
-
-/// What was read, with an identifier behind it.
-pub fn named<T: Drop>(read: T, tokens: &[Token]) -> Result<((T, Bytes), &[Token]), ReadingFault>
-    ensures reads { Reads (named_with read) tokens.now result }
-    ensures shorter { Advances tokens.now result }
-{
-    let (name, rest) = identifier(tokens)?;
-    Ok(((read, name), rest))
 }
 
 /// What was read, with this mark behind it.

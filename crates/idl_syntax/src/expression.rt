@@ -320,6 +320,6 @@ fn parentheses(
 {
     let rest = behind(tokens, Mark::OpenParenthesis)?;
     let (inner, rest) = expression(alloc, depth, rest)?;
-    let (inner, rest) = closed(inner, rest, Mark::CloseParenthesis)?;
-    Ok((Primary::Parentheses(Boxed::new(alloc, inner)?), rest))
+    let inner = Boxed::new(alloc, inner)?;
+    closed(Primary::Parentheses(inner), rest, Mark::CloseParenthesis)
 }

@@ -1,4 +1,5 @@
-//! What the walks through bases and typedefs ask, step by step: what stands in logs for what each step asks.
+//! What the walks through bases and typedefs ask, step by step, and what is asked outward from a scope, in one step: what stands
+//! in logs for what each step asks.
 
 ghost use Rattle.std.specs.Prelude.{◌≡◌, ◌||◌, ◌++◌, ◌∷◌, [], IfSome, IsTrue, None, OnOk, Some};
 ghost use Rattle.std.specs.Option.{option_copied};
@@ -10,11 +11,13 @@ ghost use Rattle.idl_memo.specs.Runs.{BeginsWith};
 ghost use Rattle.idl_env.specs.declared.keys.key.Key.TheVariants.{Declared};
 
 use crate::answering::answer::Answer;
+use crate::answering::outward::{append_outward, is_outward, shares_outward};
 use crate::keys::digested::DigestedKey;
 use crate::keys::held_key::HeldKey;
 use crate::keys::lent_key::LentKey;
 use idl_base::{Bytes, Datum, Shared};
 use idl_entity::Path;
+use idl_entity::paths::NamedPath;
 use idl_map::{Digest, Lent};
 use idl_memo::{Digests, LentBank, Step, other_at};
 use std::alloc::{AllocError, Global};
@@ -28,6 +31,8 @@ pub enum Walked {
     Named(Shared<Bytes>),
     /// Each asks for the entity alone.
     Behind,
+    /// One asks for the typeprefix of the scope at this path, and then for that of each around it but the global one: none has one.
+    Outward(NamedPath),
 }
 
 // The path of the entity that is answered, and of what is no entity that of the global scope, which is lent.
@@ -114,7 +119,7 @@ fn first_answer<'a>(
 {
     match head {
         Walked::Entered(name) => entered(entries, name),
-        Walked::Named(_name) => None,
+        Walked::Named(_) | Walked::Outward(_) => None,
         Walked::Behind => entity_at(entries.first()),
     }
 }
@@ -226,10 +231,11 @@ impl Step<DigestedKey, Answer, Walked> for Answer {
 
     ghost logged = { entries_walked };
 
-    fn width(head: &Walked) -> usize {
+    fn width(head: &Walked) -> Option<usize> {
         match head {
-            Walked::Entered(_) => 2,
-            Walked::Named(_) | Walked::Behind => 1,
+            Walked::Entered(_) => Some(2),
+            Walked::Named(_) | Walked::Behind => Some(1),
+            Walked::Outward(_) => None,
         }
     }
 
@@ -248,6 +254,7 @@ impl Step<DigestedKey, Answer, Walked> for Answer {
             }
             Walked::Named(name) => append_absent(alloc, name, path, entries),
             Walked::Behind => append_found(alloc, self, path, entries),
+            Walked::Outward(scope) => append_outward(alloc, scope.lent(), entries),
         }
     }
 
@@ -325,6 +332,17 @@ impl Step<DigestedKey, Answer, Walked> for Answer {
                 let found = bank.answer_at(&LentKey::of_entity(alloc, path));
                 other_at(Some(self), found)
             }
+            Walked::Outward(scope) => {
+                let mut names = scope.lent();
+                'scopes: while let Some((_name, around)) = names.again().split_first() {
+                    let other = other_at(None, bank.answer_at(&LentKey::typeprefix(alloc, names)));
+                    if other.is_some() {
+                        return other;
+                    }
+                    names = around;
+                }
+                None
+            }
         }
     }
 
@@ -335,6 +353,7 @@ impl Step<DigestedKey, Answer, Walked> for Answer {
             Walked::Entered(name) => is_either(alloc, name, path, key),
             Walked::Named(name) => is_under(alloc, name, path, key),
             Walked::Behind => is_entity(alloc, path, key),
+            Walked::Outward(scope) => is_outward(alloc, scope.lent(), key),
         }
     }
 
@@ -348,6 +367,7 @@ impl Step<DigestedKey, Answer, Walked> for Answer {
             }
             Walked::Named(name) => digests.has(LentKey::under(alloc, name, path).digest()),
             Walked::Behind => digests.has(LentKey::of_entity(alloc, path).digest()),
+            Walked::Outward(scope) => shares_outward(alloc, scope.lent(), digests),
         }
     }
 }

@@ -294,7 +294,6 @@ fn sequence(
     let rest = behind(rest, Mark::Less)?;
     let (element, rest) = data_type(alloc, depth, rest)?;
     let (bound, rest) = sequence_bound(alloc, depth, rest)?;
-    let rest = behind(rest, Mark::Greater)?;
     let sequence = Boxed::new(alloc, Sequence { element, bound })?;
-    Ok((TypeTree::Sequence(sequence), rest))
+    closed(TypeTree::Sequence(sequence), rest, Mark::Greater)
 }

@@ -7,7 +7,7 @@ ghost use Rattle.idl_tree.specs.reading.ReadType.{type_at};
 ghost use Rattle.idl_tree.specs.reading.Reading.{first};
 ghost use Rattle.idl_syntax.specs.Gives.{Advances, Reads, Remains};
 
-use crate::cursor::{behind, behind_word, closed, is_at, is_at_word, keyword, named};
+use crate::cursor::{behind, behind_word, closed, identifier, is_at, is_at_word, keyword};
 use crate::declarations::data_type::data_type;
 use crate::fault::ReadingFault;
 use crate::literal::NarrowText;
@@ -53,7 +53,7 @@ impl Production for ParameterProduction {
             return Err(ReadingFault::NoTree(tokens.len()));
         };
         let (kind, rest) = data_type(alloc, self.depth, &tokens[1..])?;
-        let ((kind, name), rest) = named(kind, rest)?;
+        let (name, rest) = identifier(rest)?;
         let parameter = Parameter {
             direction,
             kind,
@@ -143,8 +143,8 @@ pub fn operation(
     let is_oneway = is_at_word(tokens, Keyword::Oneway);
     let rest = if is_oneway { &tokens[1..] } else { tokens };
     let (result, rest) = operation_result(alloc, depth, rest)?;
-    let (head, rest) = named((is_oneway, result), rest)?;
-    operation_rest(alloc, depth, head, rest)
+    let (name, rest) = identifier(rest)?;
+    operation_rest(alloc, depth, ((is_oneway, result), name), rest)
 }
 
 /// What stands behind the name of an operation, of which it is known whether it is oneway, and its

@@ -8,8 +8,5 @@ returns-in-Plain g c = grind (arith, common_steps)
 pub returns-in-Digested : goal.returns-in-Digested
 returns-in-Digested g c = grind (arith, common_steps)
 
-pub returns-in_ok-append_parts-in-Parted : goal.returns-in_ok-append_parts-in-Parted
-returns-in_ok-append_parts-in-Parted g c = grind (arith, common_steps)
-
-pub returns-in_ok-copy_into-in-Dated : goal.returns-in_ok-copy_into-in-Dated
-returns-in_ok-copy_into-in-Dated g c = grind (arith, common_steps)
+pub returns-in_ok-append_to-in_default : goal.returns-in_ok-append_to-in_default
+returns-in_ok-append_to-in_default g c = grind (arith, common_steps)

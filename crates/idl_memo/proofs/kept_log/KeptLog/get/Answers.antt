@@ -8,8 +8,5 @@ returns-in-Plain g c = grind (arith, common_steps)
 pub returns-in-Digested : goal.returns-in-Digested
 returns-in-Digested g c = grind (arith, common_steps)
 
-pub returns-in-Parted : goal.returns-in-Parted
-returns-in-Parted g c = grind (arith, common_steps)
-
-pub returns-in-Dated : goal.returns-in-Dated
-returns-in-Dated g c = grind (arith, common_steps)
+pub returns-in_default : goal.returns-in_default
+returns-in_default g c = grind (arith, common_steps)

@@ -1,29 +1,21 @@
--- However the entries are held, they are those of the log.
-use Rattle.std.proofs.Common.{Option, subst, sym, ap, ◌∙◌}
+-- Part by part: what is left tells.
+use Rattle.std.proofs.Common.{Option, subst, sym, arith}
 use Rattle.std.specs.Prelude.{All}
-use Rattle.idl_memo.specs.Forms.{form_entries}
+use Rattle.std.proofs.lemmas.Grind.{common_steps}
+use Rattle.std.proofs.lemmas.List.Elements.{All-append}
+use Rattle.idl_memo.specs.Parts.{lent_entries}
 use Rattle.idl_memo.proofs.kept_log.KeptLog.shares.Goals as goal
 
-pub returns-in-Plain : goal.returns-in-Plain
-returns-in-Plain g c =
-    let P : g.row.B-Key.Denot × Option g.row.B-Answer.Denot → Type 0 = λ e. g.D.Digests.has c.args.digests.now (g.B.Key.Digest.digest_of e.0) → ⊥ in
-    let same = c.deref.ensures.value ∙ ap form_entries (sym c.in-Plain.is) ∙ c.self.view_is in
-    λ none. subst (All P) same (c.shares_among.ensures none)
+pub parts-init : goal.parts-init
+parts-init g c = grind (arith, common_steps)
 
-pub returns-in-Digested : goal.returns-in-Digested
-returns-in-Digested g c =
-    let P : g.row.B-Key.Denot × Option g.row.B-Answer.Denot → Type 0 = λ e. g.D.Digests.has c.args.digests.now (g.B.Key.Digest.digest_of e.0) → ⊥ in
-    let same = c.deref-in-Digested.ensures ∙ ap form_entries (sym c.in-Digested.is) ∙ c.self.view_is in
-    λ none. subst (All P) same (c.shares.ensures none)
+pub returns-then-shares_in : goal.returns-then-shares_in
+returns-then-shares_in g c = grind (arith, common_steps)
 
-pub returns-in-Parted : goal.returns-in-Parted
-returns-in-Parted g c =
+pub parts-preserved : goal.parts-preserved
+parts-preserved g c =
     let P : g.row.B-Key.Denot × Option g.row.B-Answer.Denot → Type 0 = λ e. g.D.Digests.has c.args.digests.now (g.B.Key.Digest.digest_of e.0) → ⊥ in
-    let same = c.deref-in-Parted.ensures ∙ ap form_entries (sym c.in-Parted.is) ∙ c.self.view_is in
-    λ none. subst (All P) same (c.shares-in-Parted.ensures none)
+    λ all. c.parts.invariant (subst (All P) (sym c.in-Some.ensures.first) (All-append P (lent_entries c.in-Some.part) c.next.new.self.entries (c.shares_in.ensures c.if-shares_in.false) all))
 
-pub returns-in-Dated : goal.returns-in-Dated
-returns-in-Dated g c =
-    let P : g.row.B-Key.Denot × Option g.row.B-Answer.Denot → Type 0 = λ e. g.D.Digests.has c.args.digests.now (g.B.Key.Digest.digest_of e.0) → ⊥ in
-    let same = c.deref-in-Dated.ensures ∙ ap form_entries (sym c.in-Dated.is) ∙ c.self.view_is in
-    λ none. subst (All P) same (c.shares-in-Dated.ensures none)
+pub returns : goal.returns
+returns g c = grind (arith, common_steps)

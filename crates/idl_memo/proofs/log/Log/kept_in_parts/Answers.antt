@@ -12,15 +12,12 @@ on_err (Ok x) h = tt
 on_err (Err e) h = h
 
 pub parted-requires : goal.parted-requires
-parted-requires g c =
-    let same = c.in_ok-parts.ensures ∙ c.entries.ensures ∙ c.self.view_is in
-    c.len-len.ensures ∙ ap length (sym same)
+parted-requires g c = c.len-len.ensures ∙ ap length (sym c.in_ok-parts.ensures.parts)
 
-pub returns-then-are_parted : goal.returns-then-are_parted
-returns-then-are_parted g c =
-    let same = c.in_ok-parts.ensures ∙ c.entries.ensures ∙ c.self.view_is in
+pub returns : goal.returns
+returns g c =
     record {
-      kept = subst (λ (log : List (g.row.B-Key.Denot × Option g.row.B-Answer.Denot)). IfOk c.parted.result (λ kept. kept ≡ log)) same c.parted.ensures;
+      kept = subst (λ (log : List (g.row.B-Key.Denot × Option g.row.B-Answer.Denot)). IfOk c.parted.result (λ kept. kept ≡ log)) c.in_ok-parts.ensures.parts c.parted.ensures;
       emptied = on_ok c.parted.result c.clear.ensures;
       err = on_err c.parted.result (inr c.clear.ensures);
     }

@@ -1,6 +1,6 @@
 -- A step more is in front, and the entries for which it stands.
-use Rattle.std.proofs.Common.{◌++◌, ◌∷◌, [], arith, drop, flat_map, length, length-append, sym, ap, ◌∙◌}
-use Rattle.idl_memo.proofs.RunLaws.{at-some, behind-step, more-entries}
+use Rattle.std.proofs.Common.{◌++◌, ◌∷◌, ◌<◌, [], arith, drop, flat_map, length, length-append, sym, ap, ◌∙◌}
+use Rattle.idl_memo.proofs.RunLaws.{at-some, behind-step, more-entries, wide}
 use Rattle.std.proofs.lemmas.Grind.{common_steps}
 use Rattle.idl_memo.proofs.runs.Runs.front.Goals as goal
 
@@ -9,11 +9,12 @@ steps-preserved g c =
     let f = g.B.Step.Step.logged c.args.head.now in
     let first = c.steps.first.items in
     let rest = c.steps.rest.now in
-    let width = c.width-width.result in
+    let width = c.unwrap_or-width.result in
     let step = c.in-Some-2.step in
     let inv = c.steps.invariant in
     let begins = at-some c.in_ok-step.field-0 step _ c.in-Some-2.is c.in_ok-step.ensures in
-    let here = behind-step f rest step width (c.width-width.ensures step) begins in
+    let some : 0 < width = omega (arith, c.steps-test.true) in
+    let here = behind-step f rest step width (wide c.width.result width _ c.unwrap_or-width.ensures some c.width.ensures step) begins in
     let pushed = ap length c.in_ok-push.ensures.items ∙ length-append first (step ∷ []) in
     record {
       whole = more-entries f c.args.entries.now first rest step (drop width rest) inv.whole here.0 ∙ ap (λ l. flat_map f l ++ drop width rest) (sym c.in_ok-push.ensures.items) ∙ ap (λ b. flat_map f c.push.new.self.items ++ b) (sym c.past-rest.ensures.entries);

@@ -2,7 +2,7 @@
 use Rattle.std.proofs.Common.{◌∙◌, ◌++◌, ◌∷◌, [], None, Some, append_assoc, sym, ap}
 use Rattle.std.proofs.lemmas.Result.{IfOk-weaker}
 use Rattle.idl_env.specs.Facts.{entity_key}
-use Rattle.idl_env.specs.answering.Walked.{entries_walked}
+use Rattle.idl_env.specs.answering.Walked.{entries_outward, entries_walked}
 use Rattle.idl_env.specs.declared.keys.key.Key.TheVariants.{Declared}
 use Rattle.idl_env.proofs.answering.steps.AnswerStepDigestedKeyWalked.append_to.Goals as goal
 
@@ -27,10 +27,17 @@ returns-in-Named c =
     ∙ ap (λ path. old ++ (Declared name path, None) ∷ []) c.path_of-path.ensures
     ∙ ap (λ head. old ++ entries_walked head step) (sym c.in-Named.is)) c.append_absent-in-Named.ensures
 
-pub returns : goal.returns
-returns c =
+pub returns-in-Behind : goal.returns-in-Behind
+returns-in-Behind c =
     let step = c.args.self.now in
     let old = c.args.entries.now.items in
     IfOk-weaker c.append_found-in-Behind.result _ _ (λ _ found. found
     ∙ ap (λ path. old ++ (entity_key path, Some step) ∷ []) c.path_of-path.ensures
     ∙ ap (λ head. old ++ entries_walked head step) (sym c.in-Behind.is)) c.append_found-in-Behind.ensures
+
+pub returns : goal.returns
+returns c =
+    let old = c.args.entries.now.items in
+    IfOk-weaker c.append_outward.result _ _ (λ _ told. told
+    ∙ ap (λ scope. old ++ entries_outward scope) c.lent.ensures
+    ∙ ap (λ head. old ++ entries_walked head c.args.self.now) (sym c.in-Outward.is)) c.append_outward.ensures

@@ -15,6 +15,6 @@ pub returns-in_err-kind-clause-reads : goal.returns-in_err-kind-clause-reads
 unfolding parameter_with
 returns-in_err-kind-clause-reads c = grind (arith, common_steps)
 
-pub returns-in_err-kind-2-clause-reads : goal.returns-in_err-kind-2-clause-reads
+pub returns-in_err-name-clause-reads : goal.returns-in_err-name-clause-reads
 unfolding parameter_with
-returns-in_err-kind-2-clause-reads c = grind (arith, common_steps)
+returns-in_err-name-clause-reads c = grind (arith, common_steps)
