@@ -18,6 +18,6 @@ pub use laws::{additions, answers, conditions, pragmas, sameness, units};
 pub use lexemes::spellings;
 pub use tables::{
     allowances, codes, declarations, expressions, literals, marks, numbers, operators, ranks,
-    steps, tokens, type_codes, types, uses,
+    steps, tokens, types, uses,
 };
 pub use visits::sites;

@@ -31,7 +31,6 @@ ghost use Rattle.idl_parts.specs.ExpressionParts.{expression_parts};
 ghost use Rattle.idl_parts.specs.declared.part.Declaration.{Declaration};
 ghost use Rattle.idl_parts.specs.declared.part.Use.{Use};
 ghost use Rattle.idl_plain.specs.Allowance.{left_behind};
-ghost use Rattle.idl_plain.specs.Coded.{coded};
 ghost use Rattle.idl_plain.specs.Codes.{rows};
 ghost use Rattle.idl_plain.specs.Declared.{declared, rules_of_declared};
 ghost use Rattle.idl_plain.specs.Expression.{read};
@@ -42,7 +41,6 @@ ghost use Rattle.idl_plain.specs.Steps.{stepped};
 ghost use Rattle.idl_plain.specs.Tokens.{codes_behind};
 ghost use Rattle.idl_plain.specs.Types.{of_basics, of_integers, of_types};
 ghost use Rattle.idl_plain.specs.Used.{rules_of_used, walk_behind};
-ghost use Rattle.idl_repo.specs.Row.{coded_pieces};
 ghost use Rattle.idl_repo.specs.TypeCode.{integer_word};
 ghost use Rattle.idl_scope.specs.declared.found.Found.{Found};
 ghost use Rattle.idl_tree.specs.DataType.{spell_basic, spell_discrete};
@@ -103,11 +101,6 @@ pub fn uses()
           own = with_uses (folded name.first) found.reach w.cursor w.own;
           found = w.found ++ found.entity.path ∷ [];
         }) }
-{}
-
-/// Of each kind of name one line tells its TypeCode.
-pub fn type_codes()
-    ensures { (e : Entity) → coded_pieces e ≡ coded e }
 {}
 
 /// An operator has a value at whole numbers alone, for an integer type.
