@@ -1,4 +1,4 @@
-use Rattle.std.proofs.Common.{◌≡◌, ◌∙◌, None, inl, inr, refl}
+use Rattle.std.proofs.Common.{◌≡◌, ◌∙◌, None, inr, refl}
 use Rattle.std.proofs.lemmas.Result.{on_ok_weaker}
 use Rattle.idl_editor.specs.messages.Said.{said_by}
 use Rattle.idl_server.specs.declared.server.Phase.TheVariants.{Waiting}
@@ -16,18 +16,6 @@ returns-in_default-clause-caught g c = inr (caught-none c.args.self.now (λ name
 
 pub returns-in_default-clause-published : goal.returns-in_default-clause-published
 returns-in_default-clause-published g c = none-published c.args.self.now.workspace (said_by c.args.out.now)
-
-pub returns-in_default-2-clause-settled : goal.returns-in_default-2-clause-settled
-returns-in_default-2-clause-settled g c = λ is. is
-
-pub returns-in_default-2-clause-caught : goal.returns-in_default-2-clause-caught
-returns-in_default-2-clause-caught g c = inl refl
-
-pub returns-in_default-2-clause-on_time : goal.returns-in_default-2-clause-on_time
-returns-in_default-2-clause-on_time g c = c.in_default-2.is
-
-pub returns-in_default-2-clause-published : goal.returns-in_default-2-clause-published
-returns-in_default-2-clause-published g c = none-published c.args.self.now.workspace (said_by c.args.out.now)
 
 pub returns-clause-settled : goal.returns-clause-settled
 returns-clause-settled g c = λ is.
