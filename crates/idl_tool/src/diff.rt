@@ -1,6 +1,6 @@
 //! What changes from one version of a file to another.
 
-ghost use Rattle.std.specs.Prelude.{◌≡◌, ◌≤◌, ◌<◌, ◌+◌, ◌++◌, ◌-◌, ◌^◌, IfOk, OnErr, OnOk, if◌then◌else◌, map, option_copied};
+ghost use Rattle.std.specs.Prelude.{◌≡◌, ◌≤◌, ◌<◌, ◌+◌, ◌++◌, ◌-◌, ◌^◌, IfOk, OnErr, OnOk, flat_map, if◌then◌else◌, map, option_copied};
 ghost use Rattle.std.specs.Option.{option_map};
 ghost use Rattle.idl_source.specs.devices.Device.{append};
 ghost use Rattle.idl_inputs.specs.Bank.{bank_of};
@@ -10,11 +10,13 @@ ghost use Rattle.idl_driver.specs.Compilations.{HasCompiled};
 ghost use Rattle.idl_driver.specs.Rows.{are_faulty};
 ghost use Rattle.idl_driver.specs.Written.{WritesSome};
 ghost use Rattle.idl_json.specs.Listed.{place_of, row_of};
+ghost use Rattle.idl_tool.specs.Json.{rows_of};
 ghost use Rattle.idl_tool.specs.Compared.{IsCompared, all_rows, are_failing, change_lines, changes_of, ending_by, ending_of, grade, has_error, lines_between, place_at, object_line, place_before, seen, shown_between, shown_place, trees_of};
 
 use crate::check::{report_text, status_of};
 use crate::failure::ToolFailure;
 use crate::json::rows_of;
+use crate::once::each_once;
 use crate::report::push_place;
 use crate::request::Diff;
 use idl_changes::{Change, Weights, changes, entry_of, push_change};
@@ -188,7 +190,7 @@ fn details_of(sources: &Sources, roots: &[Name]) -> Result<Vec<Details>, AllocEr
     Ok(all)
 }
 
-// The rows of these roots' listings, one after the other, each with where it is declared.
+// What the listings of these roots tell, one after the other, what is declared at one place once.
 fn all_rows<'d>(
     sources: &Sources,
     roots: &[Name],
@@ -196,6 +198,20 @@ fn all_rows<'d>(
 ) -> Result<Vec<ListedRow<'d>>, AllocError>
     requires { all.now ≡ map (details_over (bank_of sources.now)) roots.now }
     ensures { IfOk result (λ rows. map row_of rows.items ≡ all_rows sources.now roots.now) }
+{
+    let rows = rows_of_all(sources, roots, all)?;
+    each_once(sources.allocator(), &rows)
+}
+
+// The rows of these roots' listings, one after the other, each with where it is declared.
+fn rows_of_all<'d>(
+    sources: &Sources,
+    roots: &[Name],
+    all: &'d [Details],
+) -> Result<Vec<ListedRow<'d>>, AllocError>
+    requires { all.now ≡ map (details_over (bank_of sources.now)) roots.now }
+    ensures { IfOk result (λ rows.
+        map row_of rows.items ≡ flat_map (rows_of sources.now) roots.now) }
 {
     let mut columns = sources.columns();
     let mut rows = Vec::new(sources.allocator());
@@ -284,7 +300,10 @@ fn place_at<'d>(rows: &[ListedRow<'d>], place: usize) -> Option<NamePlace<'d>>
 }
 
 // Writes where something is declared, if that is known.
-fn push_shown(text: &mut Vec<u8>, declared: Option<NamePlace<'_>>) -> Result<(), AllocError>
+pub(crate) fn push_shown(
+    text: &mut Vec<u8>,
+    declared: Option<NamePlace<'_>>,
+) -> Result<(), AllocError>
     ensures { OnOk result (text.new.items
         ≡ text.old.items ++ place_before (option_map place_of declared.entry)) }
 {

@@ -13,9 +13,11 @@ mod faults;
 mod json;
 mod laws;
 pub mod make_rules;
+mod once;
 mod program;
 mod report;
 mod request;
+mod versions;
 
 pub use idl_driver;
 pub use laws::{findings_are_told_once, rules_tell_what_is_asked, sound_changes_speak};

@@ -1,13 +1,13 @@
 //! The words that the program is given.
 
 ghost use Rattle.std.specs.Prelude.{◌≡◌, IfErr, IfOk, MatchOption, [], Some, codes, false, map, true};
-ghost use Rattle.std.specs.Option.{option_to_list};
-ghost use Rattle.clap.specs.Words.{app_of, first_of, found_of, rows_of, rule_of, shape_of, subcommand_rows_of};
+ghost use Rattle.clap.specs.Words.{app_of, found_of, rows_of, rule_of, shape_of, subcommand_rows_of};
 ghost use Rattle.clap.specs.declared.builder.command.Command.TheViews.{out-Command as fields_of};
 ghost use Rattle.idl_driver.specs.Parsed.{SaysWrong};
 ghost use Rattle.idl_driver.specs.Words.{file_rule};
-ghost use Rattle.idl_tool.specs.Words.{AreCheckOf, AreDepsOf, AreWrong, AreDiffOf, AreNoDiff, AreSideOf, IsRequestOf, bare, check_shape, deps_shape, diff_shape, lsp_shape, entered_in, explain_shape, fails_in, fails_rule, faults_in, format_rule, generated_rule, idltool, json_in, json_of, json_shape, present_rule, side_rule, stdio_rule, target_rule, version_rule, werror_rule, word_rule};
+ghost use Rattle.idl_tool.specs.Words.{AreCheckOf, AreDepsOf, AreWrong, AreDiffOf, AreNoDiff, IsRequestOf, bare, below_rule, check_shape, deps_shape, diff_shape, lsp_shape, entered_in, explain_shape, fails_in, fails_rule, faults_in, format_rule, generated_rule, has_versions, idltool, json_in, json_of, json_shape, present_rule, side_rule, stdio_rule, target_rule, werror_rule, word_rule};
 
+use crate::versions::{new_side, old_side};
 use clap::{Arg, ArgAction, ArgMatches, Command};
 use idl_changes::Weights;
 use idl_driver::{
@@ -37,12 +37,12 @@ pub struct Deps<'a> {
     pub leaves_absent: bool,
 }
 
-/// Which files are to be compared, what each is compiled over, which changes are errors, and how they are written.
+/// Which versions are to be compared, what each is compiled over, which changes are errors, and how they are written.
 #[derive(Drop)]
 pub struct Diff<'a> {
-    /// The old file.
+    /// The old files.
     pub old: Options<'a>,
-    /// The new one.
+    /// The new ones.
     pub new: Options<'a>,
     /// The weights with which a change is an error.
     pub fails: Weights,
@@ -209,14 +209,16 @@ fn diff_command<'a>(alloc: Global) -> Result<Command<'a>, AllocError>
 {
     let command = Command::new(alloc, "diff")
         .about("Tells what changes from one version of a FILE to another, and for whom it counts")
-        .override_usage("idltool diff [OPTIONS] OLD NEW");
+        .override_usage(
+            "idltool diff [OPTIONS] OLD NEW\n       idltool diff [OPTIONS] --old DIR FILE..",
+        );
     with_options(alloc, command)?
         .arg(old_directory(alloc))?
         .arg(new_directory(alloc))?
+        .arg(below(alloc))?
         .arg(fails(alloc))?
         .arg(format(alloc))?
-        .arg(old_file(alloc))?
-        .arg(new_file(alloc))
+        .arg(file(alloc))
 }
 
 fn lsp_command<'a>(alloc: Global) -> Result<Command<'a>, AllocError>
@@ -323,6 +325,19 @@ fn new_directory<'a>(alloc: Global) -> Arg<'a>
         .help("Searches DIR, before those of -I, for files that NEW includes")
 }
 
+fn below<'a>(alloc: Global) -> Arg<'a>
+    ensures rule { rule_of result ≡ below_rule }
+    ensures global { result.global ≡ false }
+{
+    Arg::new(alloc, "below")
+        .long("old")
+        .value_name("DIR")
+        .action(ArgAction::Set)
+        .help(
+            "Compares what each FILE was below DIR with what it is; OLD's directories of -I are below DIR, too",
+        )
+}
+
 fn fails<'a>(alloc: Global) -> Arg<'a>
     ensures rule { rule_of result ≡ fails_rule }
     ensures global { result.global ≡ false }
@@ -343,28 +358,6 @@ fn format<'a>(alloc: Global) -> Arg<'a>
         .value_name("FORMAT")
         .action(ArgAction::Set)
         .help("How a change is written: text, a row, or json, an object on a line; without it text")
-}
-
-fn old_file<'a>(alloc: Global) -> Arg<'a>
-    ensures rule { rule_of result ≡ version_rule (codes "old") }
-    ensures global { result.global ≡ false }
-{
-    Arg::new(alloc, "old")
-        .value_name("OLD")
-        .required(true)
-        .action(ArgAction::Set)
-        .help("The file as it was")
-}
-
-fn new_file<'a>(alloc: Global) -> Arg<'a>
-    ensures rule { rule_of result ≡ version_rule (codes "new") }
-    ensures global { result.global ≡ false }
-{
-    Arg::new(alloc, "new")
-        .value_name("NEW")
-        .required(true)
-        .action(ArgAction::Set)
-        .help("The file as it is")
 }
 
 fn check_of<'a>(alloc: Global, matches: &ArgMatches<'a>) -> Result<Check<'a>, AllocError>
@@ -424,6 +417,9 @@ fn forms_of(matches: &ArgMatches<'_>) -> Option<(Weights, bool)>
         (λ forms. (fails_in (rows_of (found_of matches.now)) ≡ Some forms.0)
         × (json_in (rows_of (found_of matches.now)) ≡ Some forms.1)) }
 {
+    if !has_versions(matches) {
+        return None;
+    }
     match fails_of(matches) {
         Some(fails) => match json_of(matches) {
             Some(is_json) => Some((fails, is_json)),
@@ -433,8 +429,24 @@ fn forms_of(matches: &ArgMatches<'_>) -> Option<(Weights, bool)>
     }
 }
 
+// Whether there are OLD and NEW, or `--old`.
+fn has_versions(matches: &ArgMatches<'_>) -> bool
+    ensures { result ≡ has_versions (rows_of (found_of matches.now)) }
+{
+    if matches.get_str("below").is_some() {
+        return true;
+    }
+    match matches.get_strs("file") {
+        Some(files) => files.len() == 2,
+        None => false,
+    }
+}
+
 // What is told where one of them can't be read.
 fn wrong_forms(matches: &ArgMatches<'_>) -> &'static str {
+    if !has_versions(matches) {
+        return "diff: OLD and NEW, or --old DIR and FILEs";
+    }
     if fails_of(matches).is_none() {
         return "--fail-on: never, or of wire, client, servant, names and new, with commas between";
     }
@@ -451,49 +463,12 @@ fn diff_of<'a>(
 
     ensures { IfOk result (AreDiffOf (rows_of (found_of matches.now))) }
 {
-    let old = side_of(alloc, matches, "old", "old-directory")?;
-    let new = side_of(alloc, matches, "new", "new-directory")?;
+    let old = old_side(alloc, matches)?;
+    let new = new_side(alloc, matches)?;
     Ok(Diff {
         old,
         new,
         fails: forms.0,
         is_json: forms.1,
     })
-}
-
-// What is asked for of the file that this argument names, and of which this option has the directories.
-fn side_of<'a>(
-    alloc: Global,
-    matches: &ArgMatches<'a>,
-    file: &str,
-    directory: &str,
-) -> Result<Options<'a>, AllocError>
-    ensures { IfOk result
-        (AreSideOf file.now directory.now (rows_of (found_of matches.now))) }
-{
-    let mut directories = values_of(alloc, matches, directory)?;
-    directories.extend_from_slice(&values_of(alloc, matches, "directory")?)?;
-    Ok(Options {
-        defines: values_of(alloc, matches, "define")?,
-        undefines: values_of(alloc, matches, "undefine")?,
-        directories,
-        files: file_of(alloc, matches, file)?,
-        shows_dump: false,
-        shows_listing: false,
-    })
-}
-
-// The file that an argument names, if it does.
-fn file_of<'a>(
-    alloc: Global,
-    matches: &ArgMatches<'a>,
-    id: &str,
-) -> Result<Vec<&'a str>, AllocError>
-    ensures { IfOk result (λ files. map (λ f. f.now) files.items
-        ≡ option_to_list (first_of id.now (rows_of (found_of matches.now)))) }
-{
-    match matches.get_str(id) {
-        Some(file) => Vec::from_slice(alloc, &[file]),
-        None => Ok(Vec::new(alloc)),
-    }
 }

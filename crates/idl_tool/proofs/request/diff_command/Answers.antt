@@ -13,10 +13,10 @@ returns-clause-shape c =
     let options = c.in_ok-with_options.ensures.rules ∙ ap (λ (a : App). with_rules a option_rules) used in
     let first = c.in_ok-arg.ensures.shape c.old_directory.ensures.global ∙ ap₂ with_rule options c.old_directory.ensures.rule in
     let second = c.in_ok-arg-2.ensures.shape c.new_directory.ensures.global ∙ ap₂ with_rule first c.new_directory.ensures.rule in
-    let third = c.in_ok-arg-3.ensures.shape c.fails.ensures.global ∙ ap₂ with_rule second c.fails.ensures.rule in
-    let fourth = c.in_ok-arg-4.ensures.shape c.format.ensures.global ∙ ap₂ with_rule third c.format.ensures.rule in
-    let fifth = c.in_ok-arg-5.ensures.shape c.old_file.ensures.global ∙ ap₂ with_rule fourth c.old_file.ensures.rule in
-    IfOk-weaker c.arg-6.result _ _ (λ r adds. ap top_of (adds.shape c.new_file.ensures.global ∙ ap₂ with_rule fifth c.new_file.ensures.rule)) c.arg-6.ensures
+    let third = c.in_ok-arg-3.ensures.shape c.below.ensures.global ∙ ap₂ with_rule second c.below.ensures.rule in
+    let fourth = c.in_ok-arg-4.ensures.shape c.fails.ensures.global ∙ ap₂ with_rule third c.fails.ensures.rule in
+    let fifth = c.in_ok-arg-5.ensures.shape c.format.ensures.global ∙ ap₂ with_rule fourth c.format.ensures.rule in
+    IfOk-weaker c.arg-6.result _ _ (λ r adds. ap top_of (adds.shape c.file.ensures.global ∙ ap₂ with_rule fifth c.file.ensures.rule)) c.arg-6.ensures
 
 pub returns-clause-local : goal.returns-clause-local
 returns-clause-local c =
@@ -24,7 +24,7 @@ returns-clause-local c =
     let options = c.in_ok-with_options.ensures.local ∙ local in
     let first = c.in_ok-arg.ensures.globals ∙ local-more _ _ options c.old_directory.ensures.global in
     let second = c.in_ok-arg-2.ensures.globals ∙ local-more _ _ first c.new_directory.ensures.global in
-    let third = c.in_ok-arg-3.ensures.globals ∙ local-more _ _ second c.fails.ensures.global in
-    let fourth = c.in_ok-arg-4.ensures.globals ∙ local-more _ _ third c.format.ensures.global in
-    let fifth = c.in_ok-arg-5.ensures.globals ∙ local-more _ _ fourth c.old_file.ensures.global in
-    IfOk-weaker c.arg-6.result _ _ (λ r adds. adds.globals ∙ local-more _ _ fifth c.new_file.ensures.global) c.arg-6.ensures
+    let third = c.in_ok-arg-3.ensures.globals ∙ local-more _ _ second c.below.ensures.global in
+    let fourth = c.in_ok-arg-4.ensures.globals ∙ local-more _ _ third c.fails.ensures.global in
+    let fifth = c.in_ok-arg-5.ensures.globals ∙ local-more _ _ fourth c.format.ensures.global in
+    IfOk-weaker c.arg-6.result _ _ (λ r adds. adds.globals ∙ local-more _ _ fifth c.file.ensures.global) c.arg-6.ensures
