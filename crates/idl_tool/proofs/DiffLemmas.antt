@@ -72,15 +72,6 @@ sound-none true failing is = absurd (cc)
 sound-none false true is = absurd (cc)
 sound-none false false is = refl
 
--- one line more
-pub line-next : (line : Change → List ℕ) (told : List Change) (i : ℕ) (change : Change) (text whole : List ℕ)
-    → i < length told → change ≡ get_or told i change → text ≡ flat_map line (take i told)
-    → whole ≡ text ++ line change → whole ≡ flat_map line (take (i + 1) told)
-line-next line told i change text whole within is so_far put =
-    put ∙ ap₂ (λ (a b : List ℕ). a ++ b) so_far (sym (append-nil (line change)))
-    ∙ sym (flat_map-append line (take i told) (change ∷ []))
-    ∙ ap (flat_map line) (sym (take_more told i change within ∙ ap (λ (c : Change). take i told ++ c ∷ []) (sym is)))
-
 -- a row behind a text, piece by piece
 pub row-next : (text head row whole place grade words : List ℕ) → head ≡ text ++ (place ++ grade) → row ≡ head ++ words → whole ≡ row ++ 10 ∷ []
     → whole ≡ text ++ whole_line (place ++ (grade ++ words))
