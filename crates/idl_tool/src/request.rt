@@ -1,12 +1,12 @@
 //! The words that the program is given.
 
-ghost use Rattle.std.specs.Prelude.{◌≡◌, IfErr, IfOk, MatchOption, [], Some, false, map, true};
+ghost use Rattle.std.specs.Prelude.{◌≡◌, IfErr, IfOk, MatchOption, [], Some, false, length, map, true};
 ghost use Rattle.clap.specs.Words.{found_of, rows_of, subcommand_rows_of};
 ghost use Rattle.idl_driver.specs.Parsed.{SaysWrong};
-ghost use Rattle.idl_tool.specs.Words.{AreCheckOf, AreDepsOf, AreWrong, AreDiffOf, AreNoDiff, IsRequestOf, entered_in, fails_in, faults_in, has_versions, json_in, json_of};
+ghost use Rattle.idl_tool.specs.Words.{AreCheckOf, AreDepsOf, AreWrong, AreDiffOf, AreNoDiff, IsRequestOf, entered_in, fails_in, faults_in, files_in, has_versions, json_in, json_of};
 
 use crate::commands::command;
-use crate::versions::{new_side, old_side};
+use crate::versions::{below_of, new_side, old_side};
 use clap::ArgMatches;
 use idl_changes::Weights;
 use idl_driver::{Options, ParsedWords, WordsFault, options_of, parse_words, values_of};
@@ -191,12 +191,17 @@ fn forms_of(matches: &ArgMatches<'_>) -> Option<(Weights, bool)>
 fn has_versions(matches: &ArgMatches<'_>) -> bool
     ensures { result ≡ has_versions (rows_of (found_of matches.now)) }
 {
-    if matches.get_str("below").is_some() {
-        return true;
-    }
+    let has_two = files_count(matches) == 2;
+    below_of(matches).is_some() || has_two
+}
+
+// How many FILEs there are.
+fn files_count(matches: &ArgMatches<'_>) -> usize
+    ensures { result ≡ length (files_in (rows_of (found_of matches.now))) }
+{
     match matches.get_strs("file") {
-        Some(files) => files.len() == 2,
-        None => false,
+        Some(given) => given.len(),
+        None => 0,
     }
 }
 

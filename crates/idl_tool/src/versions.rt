@@ -10,12 +10,19 @@ use idl_driver::{Options, values_of};
 use idl_source::path::is_rooted;
 use std::alloc::{AllocError, Global};
 
+/// The directory of `--old`, if it stands there.
+pub fn below_of<'a>(matches: &ArgMatches<'a>) -> Option<&'a str>
+    ensures { option_map (λ w. w.now) result ≡ below_in (rows_of (found_of matches.now)) }
+{
+    matches.get_str("below")
+}
+
 /// What is asked for of OLD.
 pub fn old_side<'a>(alloc: Global, matches: &ArgMatches<'a>) -> Result<Options<'a>, AllocError>
     ensures { let rows = rows_of (found_of matches.now) in IfOk result
         (AreSideOf (old_files (below_in rows) (files_in rows)) (old_directories rows) rows) }
 {
-    let below = matches.get_str("below");
+    let below = below_of(matches);
     let files = values_of(alloc, matches, "file")?;
     let files = old_files(alloc, below, &files)?;
     let mut directories = values_of(alloc, matches, "old-directory")?;
@@ -30,7 +37,7 @@ pub fn new_side<'a>(alloc: Global, matches: &ArgMatches<'a>) -> Result<Options<'
         (AreSideOf (new_files (below_in rows) (files_in rows)) (new_directories rows) rows) }
 {
     let files = values_of(alloc, matches, "file")?;
-    let files = new_files(alloc, matches.get_str("below"), &files)?;
+    let files = new_files(alloc, below_of(matches), &files)?;
     let mut directories = values_of(alloc, matches, "new-directory")?;
     directories.extend_from_slice(&values_of(alloc, matches, "directory")?)?;
     side_of(alloc, matches, files, directories)
@@ -43,8 +50,8 @@ fn side_of<'a>(
     files: Vec<&'a str>,
     directories: Vec<&'a str>,
 ) -> Result<Options<'a>, AllocError>
-    ensures { IfOk result (AreSideOf (map (λ w. w.now) files.items)
-        (map (λ w. w.now) directories.items) (rows_of (found_of matches.now))) }
+    ensures { IfOk result (AreSideOf (map (λ w. w.now) files.entry.items)
+        (map (λ w. w.now) directories.entry.items) (rows_of (found_of matches.now))) }
 {
     Ok(Options {
         defines: values_of(alloc, matches, "define")?,
