@@ -536,7 +536,7 @@ class Made:
             bs = self.named('iface')
             d['b'] = rnd.sample(bs, min(len(bs), rnd.randint(0, 2)))
             d['o'] = [self.call('%s_f%d' % (d['n'], j)) for j in range(rnd.randint(0, 3))]
-            d['l'] = False
+            d['l'], d['h'] = False, rnd.random() < .4
         else:
             d['v'] = rnd.randint(1, 3)
         return d
@@ -552,7 +552,7 @@ class Made:
     def change(self):
         rnd, D = self.rnd, self.all
         i = rnd.randrange(len(D))
-        d, o = D[i], rnd.randrange(16)
+        d, o = D[i], rnd.randrange(17)
         ifs = [x for x in D if x['k'] == 'iface']
         if o == 0:
             del D[i]
@@ -606,9 +606,16 @@ class Made:
         elif o == 15 and len(D) > 1:
             j = rnd.randrange(len(D))
             D[i], D[j] = D[j], D[i]
+        elif o == 16 and d['k'] == 'iface':
+            d['h'] = not d['h']
 
     def text(self):
-        return '\n'.join(l for d in self.all for l in self.shown(d)) + '\n'
+        """Some interfaces are declared ahead of all, and so of their bases."""
+        ahead = [self.headed(d) + ';' for d in self.all if d.get('h')]
+        return '\n'.join(ahead + [l for d in self.all for l in self.shown(d)]) + '\n'
+
+    def headed(self, d):
+        return '%sinterface %s' % ('local ' if d['l'] else '', d['n'])
 
     def signature(self, o):
         x = ' raises(%s)' % ','.join(o['x']) if o['x'] else ''
@@ -629,7 +636,7 @@ class Made:
             cases = ''.join('%s %s %s;' % ('default:' if l is None else 'case %s:' % l, t, m) for l, m, t in d['c'])
             yield 'union %s switch(%s){%s};' % (n, d['d'], cases)
         elif k == 'iface':
-            yield '%sinterface %s%s{%s};' % ('local ' if d['l'] else '', n, ':' + ','.join(d['b']) if d['b'] else '', ''.join(map(self.signature, d['o'])))
+            yield '%s%s{%s};' % (self.headed(d), ':' + ','.join(d['b']) if d['b'] else '', ''.join(map(self.signature, d['o'])))
         else:
             yield 'const long %s=%d;' % (n, d['v'])
         if d['pin']:

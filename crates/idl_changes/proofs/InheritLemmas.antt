@@ -1,67 +1,25 @@
 -- What is inherited goes on along bases, and so does what is offered.
-use Rattle.std.proofs.Common.{◌≡◌, ◌∙◌, ◌++◌, ◌∷◌, ◌&&◌, [], ℕ, zero, suc, Bool, List, None, Option, Some, ap, arith, false, if◌then◌else◌, inl, inr, is_some, nat_eq, refl, subst, sym, true}
+use Rattle.std.proofs.Common.{◌≡◌, ◌∙◌, ◌&&◌, [], ℕ, List, None, Option, Some, ap, arith, inl, inr, is_some, length, nat_eq, refl, subst, sym, true}
 use Rattle.std.specs.Cmp.Lexicographic.{bytes_decides}
-use Rattle.std.specs.List.{list_any, slice_get}
+use Rattle.std.specs.List.{slice_get}
 use Rattle.std.specs.Option.{option_eq, option_map_or}
 use Rattle.std.specs.Str.{bytes_eq}
 use Rattle.idl_base.specs.Exact.{both, same_number, same_option}
 use Rattle.idl_changes.specs.Listing.{interface_of, is_called, name_at, name_of, places_where}
-use Rattle.idl_changes.specs.Offered.{ancestors, base_places, called_in, inherited_before, inherits, is_offered, offered, offers}
-use Rattle.idl_changes.proofs.HasLemmas.{Has, at-has, flat-has, found-passes, has-appended, has-back, has-either, has-first, has-flat, has-front, has-rest, passes-found, passing-place}
+use Rattle.idl_changes.specs.Offered.{ancestors, called_in, inherits, is_offered, is_reached, offered, offers}
+use Rattle.idl_changes.proofs.AncestorLemmas.{has-last_first, last_first-has, reached-on}
+use Rattle.idl_changes.proofs.HasLemmas.{Has, at-has, flat-has, found-passes, has-either, has-flat, has-rest, passes-found, passing-place}
 use Rattle.idl_repo.specs.declared.details.row_tree.RowTree.{RowTree}
 
 module _ (L : List RowTree) where
-  -- who begins with more inherits more
-  more-inherited : (z : ℕ) (xs ys : List ℕ) → ((n : ℕ) → Has xs n → Has ys n) → (n : ℕ) → Has (inherited_before L z xs) n → Has (inherited_before L z ys) n
-  more-inherited zero xs ys within n is = cc
-  more-inherited (suc z) xs ys within n is =
-      let bases = base_places L z in
-      let both_more : (m : ℕ) → Has (xs ++ bases) m → Has (ys ++ bases) m =
-      λ m h. (elim (has-appended m xs bases h) [ inl a ↦ has-front m ys bases (within m a) | inr b ↦ has-back m ys bases b ])
-      in
-      let one_more : (m : ℕ) → Has xs m → Has (ys ++ bases) m = λ m h. has-front m ys bases (within m h) in
-      by (list_any (nat_eq z) xs) (list_any (nat_eq z) ys) (within z)
-      (more-inherited z (xs ++ bases) (ys ++ bases) both_more n) (more-inherited z xs (ys ++ bases) one_more n) (more-inherited z xs ys within n) is
-    where
-      by : (a b : Bool) → (a ≡ true → b ≡ true)
-          → (Has (inherited_before L z (xs ++ base_places L z)) n → Has (inherited_before L z (ys ++ base_places L z)) n)
-          → (Has (inherited_before L z xs) n → Has (inherited_before L z (ys ++ base_places L z)) n)
-          → (Has (inherited_before L z xs) n → Has (inherited_before L z ys) n)
-          → Has (if a then z ∷ inherited_before L z (xs ++ base_places L z) else inherited_before L z xs) n
-          → Has (if b then z ∷ inherited_before L z (ys ++ base_places L z) else inherited_before L z ys) n
-      by true true sub two one none h = elim (has-either z n (inherited_before L z (xs ++ base_places L z)) h) [
-        | inl e ↦ subst (λ (m : ℕ). Has (m ∷ inherited_before L z (ys ++ base_places L z)) n) e (has-first n (inherited_before L z (ys ++ base_places L z)))
-        | inr g ↦ has-rest z n (inherited_before L z (ys ++ base_places L z)) (two g)
-      ]
-      by true false sub two one none h = let no : false ≡ true = sub refl in cc
-      by false true sub two one none h = has-rest z n (inherited_before L z (ys ++ base_places L z)) (one h)
-      by false false sub two one none h = none h
-
   -- what an inherited one inherits is inherited
-  step-inherited : (z : ℕ) (among : List ℕ) (n m : ℕ) → Has (inherited_before L z among) n → Has (inherited_before L n (base_places L n)) m → Has (inherited_before L z among) m
-  step-inherited zero among n m is above = cc
-  step-inherited (suc z) among n m is above =
-      by (list_any (nat_eq z) among) (λ h. step-inherited z (among ++ base_places L z) n m h above) (λ h. step-inherited z among n m h above) is
-    where
-      own : n ≡ z → Has (inherited_before L z (among ++ base_places L z)) m
-      own e =
-          more-inherited z (base_places L z) (among ++ base_places L z) (λ k h. has-back k among (base_places L z) h) m
-          (subst (λ (k : ℕ). Has (inherited_before L k (base_places L k)) m) e above)
-
-      by : (b : Bool)
-          → (Has (inherited_before L z (among ++ base_places L z)) n → Has (inherited_before L z (among ++ base_places L z)) m)
-          → (Has (inherited_before L z among) n → Has (inherited_before L z among) m)
-          → Has (if b then z ∷ inherited_before L z (among ++ base_places L z) else inherited_before L z among) n
-          → Has (if b then z ∷ inherited_before L z (among ++ base_places L z) else inherited_before L z among) m
-      by true with_bases others h = elim (has-either z n (inherited_before L z (among ++ base_places L z)) h) [
-        | inl e ↦ has-rest z m (inherited_before L z (among ++ base_places L z)) (own e)
-        | inr g ↦ has-rest z m (inherited_before L z (among ++ base_places L z)) (with_bases g)
-      ]
-      by false with_bases others h = others h
-
   pub ancestors-up : (k n m : ℕ) → Has (ancestors L k) n → Has (ancestors L n) m → Has (ancestors L k) m
   unfolding ancestors
-  ancestors-up k n m is above = step-inherited k (base_places L k) n m is above
+  ancestors-up k n m is above =
+      let end = length L in
+      let first = last_first-has (is_reached L end k) end n is in
+      let rest = last_first-has (is_reached L end n) end m above in
+      has-last_first (is_reached L end k) end m rest.0 (reached-on L end k n m first.0 first.1 rest.1)
 
   pub inherits-up : (k n m : ℕ) → Has (inherits L k) n → Has (inherits L n) m → Has (inherits L k) m
   inherits-up k n m is above = elim (has-either k n (ancestors L k) is) [

@@ -1,9 +1,9 @@
 -- Of a listing and itself no change is told.
-use Rattle.std.proofs.Common.{◌≡◌, ◌∙◌, ◌+◌, ◌++◌, ◌∷◌, ◌&&◌, ◌||◌, ◌<◌, ◌≤◌, [], ℕ, zero, suc, Bool, List, None, Option, Some, add-zero, append_assoc, ap, ap₂, arith, codes, cond, false, filter, filter_map, find, flat_map, if◌then◌else◌, inl, inr, is_none, is_some, length, map, nat_eq, nat_lt, not, position, refl, sym, take, true}
+use Rattle.std.proofs.Common.{◌≡◌, ◌∙◌, ◌+◌, ◌++◌, ◌∷◌, ◌&&◌, ◌||◌, ◌<◌, ◌≤◌, [], ℕ, zero, suc, Bool, List, None, Option, Some, add-zero, append_assoc, ap, ap₂, arith, codes, cond, false, filter, find, flat_map, if◌then◌else◌, is_none, is_some, length, map, nat_eq, nat_lt, not, position, refl, sym, take, true}
 use Rattle.std.specs.Bool.{beq}
 use Rattle.std.specs.Cmp.{nat_eq_equiv}
 use Rattle.std.specs.Cmp.Lexicographic.{bytes_decides, pointwise}
-use Rattle.std.specs.List.{cons_option, enumerate_from, list_any, range_with_len, slice_get, zip}
+use Rattle.std.specs.List.{enumerate_from, list_any, range_with_len, slice_get, zip}
 use Rattle.std.specs.Option.{option_and_then, option_eq, option_map_or, option_or}
 use Rattle.std.specs.Str.{bytes_eq}
 use Rattle.std.proofs.lemmas.Bool.Decides.{nat_tests}
@@ -12,9 +12,10 @@ use Rattle.std.proofs.lemmas.Option.{same_Some, slice_get_within}
 use Rattle.idl_base.specs.Exact.{both, same_number, same_option}
 use Rattle.idl_changes.specs.Changes.{change_at, changes, told_new, told_old, told_with}
 use Rattle.idl_changes.specs.Differences.{added_differences, as_called, base_differences, base_line, body_differences, called_gone, called_new, case_differences, changed, context_differences, details_differences, differences, direction_differences, entry_differences, flag_differences, gone_bases, gone_differences, gone_line, interface_differences, is_called_locally, item_differences, kind_differences, list_differences, matched_differences, member_differences, name_of_member, name_of_parameter, new_bases, new_differences, no_differences, order_differences, own_name, parameter_differences, parts_differences, readonly_line, reference_differences, selection_differences, text_differences, told, type_differences, union_differences, value_differences, yes_or_no}
-use Rattle.idl_changes.specs.Listing.{bases_at, interface_at, interface_of, is_called, is_interface, is_local, name_at, name_of, path_at, place_of, places_where, scope_of}
+use Rattle.idl_changes.specs.Listing.{interface_at, interface_of, is_called, is_interface, is_local, name_at, name_of, path_at, place_of, places_where, scope_of}
 use Rattle.idl_changes.specs.Matched.{in_order, in_order_from, is_matched, matched, matches, renamed}
-use Rattle.idl_changes.specs.Offered.{ancestors, base_places, called_in, inherited_before, is_offered, offered, offers}
+use Rattle.idl_changes.specs.Offered.{ancestors, called_in, is_offered, is_reached, offered, offers}
+use Rattle.idl_changes.proofs.AncestorLemmas.{last_first-has, reached-holds}
 use Rattle.idl_changes.specs.Partners.{called_partner, is_own_offer, is_partner, is_same_element, is_same_reference, is_written, joined, partner}
 use Rattle.idl_changes.specs.Plain.{default_of, enumerators, label_of, labelled, selected}
 use Rattle.idl_changes.specs.Rows.{eased}
@@ -26,7 +27,6 @@ use Rattle.idl_changes.specs.declared.rows.Item.{Item}
 use Rattle.idl_changes.specs.declared.rows.Item.TheVariants.{Enumerator, Member, Parameter}
 use Rattle.idl_changes.specs.declared.rows.Line.{Line}
 use Rattle.idl_changes.specs.declared.rows.Line.TheVariants as line
-use Rattle.idl_changes.proofs.HasLemmas.{has-appended, has-either}
 use Rattle.idl_changes.proofs.EntryLemmas.{interface-found, interface-uncalled, none-told, own-joined, own-place, place-found}
 use Rattle.idl_repo.specs.contracts.details.type_tree.ElementTreeEq.TheImpl.Laws.{laws-law as element_equiv}
 use Rattle.idl_repo.specs.contracts.details.type_tree.LayeredTypeEq.TheImpl.Laws.{laws-law as type_equiv}
@@ -301,44 +301,15 @@ module _ (L : List RowTree) where
       new-none c = new-by c.label
 
   -- what is inherited belongs to itself: it is interfaces
-  own-base : (rs : List Reference) (n : ℕ) → list_any (nat_eq n) (filter_map (λ (r : Reference). interface_at L r.path) rs) ≡ true → joined L L n ≡ Some n
-  own-base [] n is = cc
-  own-base (r ∷ rs) n is = by (interface_at L r.path) refl (own-base rs n) is
-    where
-      by : (found : Option ℕ) → interface_at L r.path ≡ found
-          → (list_any (nat_eq n) (filter_map (λ (r : Reference). interface_at L r.path) rs) ≡ true → joined L L n ≡ Some n)
-          → list_any (nat_eq n) (cons_option found (filter_map (λ (r : Reference). interface_at L r.path) rs)) ≡ true → joined L L n ≡ Some n
-      by None e rest h = rest h
-      by (Some k) e rest h =
-          let at = interface-found L r.path k e in
-          elim (has-either k n (filter_map (λ (r : Reference). interface_at L r.path) rs) h) [
-            | inl same ↦ ap (joined L L) same ∙ own-joined L k at.0 at.1 (interface-uncalled at.0 at.2) ∙ ap Some (sym same)
-            | inr there ↦ rest there
-          ]
-
-  own-inherited : (z : ℕ) (among : List ℕ) → ((n : ℕ) → list_any (nat_eq n) among ≡ true → joined L L n ≡ Some n)
-      → (n : ℕ) → list_any (nat_eq n) (inherited_before L z among) ≡ true → joined L L n ≡ Some n
-  own-inherited zero among own n is = cc
-  own-inherited (suc z) among own n is =
-      let more : (m : ℕ) → list_any (nat_eq m) (among ++ base_places L z) ≡ true → joined L L m ≡ Some m =
-      λ m h. (elim (has-appended m among (base_places L z) h) [ inl a ↦ own m a | inr b ↦ own-base (bases_at L z) m b ])
-      in
-      by (list_any (nat_eq z) among) refl (own-inherited z among own n) (own-inherited z (among ++ base_places L z) more n) is
-    where
-      by : (b : Bool) → list_any (nat_eq z) among ≡ b
-          → (list_any (nat_eq n) (inherited_before L z among) ≡ true → joined L L n ≡ Some n)
-          → (list_any (nat_eq n) (inherited_before L z (among ++ base_places L z)) ≡ true → joined L L n ≡ Some n)
-          → list_any (nat_eq n) (if b then z ∷ inherited_before L z (among ++ base_places L z) else inherited_before L z among) ≡ true → joined L L n ≡ Some n
-      by false e others with_bases h = others h
-      by true e others with_bases h = elim (has-either z n (inherited_before L z (among ++ base_places L z)) h) [
-        | inl same ↦ ap (joined L L) same ∙ own z e ∙ ap Some (sym same)
-        | inr there ↦ with_bases there
-      ]
+  own-interface : (path : List ℕ) (k : ℕ) → interface_at L path ≡ Some k → joined L L k ≡ Some k
+  own-interface path k is = let at = interface-found L path k is in own-joined L k at.0 at.1 (interface-uncalled at.0 at.2)
 
   own-ancestor : (i m : ℕ) (front back : List ℕ) → ancestors L i ≡ front ++ m ∷ back → joined L L m ≡ Some m
   unfolding ancestors
   own-ancestor i m front back is =
-      own-inherited i (base_places L i) (own-base (bases_at L i)) m (ap (list_any (nat_eq m)) is ∙ any-at (nat_eq m) front back m (nat_eq_equiv.refl m))
+      let end = length L in
+      let there = last_first-has (is_reached L end i) end m (ap (list_any (nat_eq m)) is ∙ any-at (nat_eq m) front back m (nat_eq_equiv.refl m)) in
+      reached-holds L (λ (n : ℕ). joined L L n ≡ Some n) own-interface end i m there.1
 
   no-interface : (i : ℕ) (e : RowTree) → interface_differences L L i i e e ≡ []
   unfolding interface_differences

@@ -1,5 +1,5 @@
 -- What the tables of listings have at a place.
-use Rattle.std.proofs.Common.{◌≡◌, ◌∙◌, ◌+◌, ◌<◌, ◌≤◌, ◌++◌, ◌∷◌, ◌&&◌, [], ℕ, zero, suc, All, Bool, List, None, Option, Some, ap, ap₂, append-nil, arith, cond, false, filter, filter_map, find, flat_map, if◌then◌else◌, length, map, nat_eq, nat_lt, refl, replicate, set, sym, take, true, unwrap_or}
+use Rattle.std.proofs.Common.{◌≡◌, ◌∙◌, ◌+◌, ◌<◌, ◌≤◌, ◌++◌, ◌∷◌, ◌&&◌, [], ℕ, zero, suc, All, Bool, List, None, Option, Some, ap, ap₂, append-nil, arith, cond, false, filter, find, flat_map, if◌then◌else◌, length, map, nat_eq, nat_lt, refl, replicate, set, sym, take, true, unwrap_or}
 use Rattle.std.specs.List.{enumerate_from, slice_get}
 use Rattle.std.specs.Option.{option_and_then, option_eq, option_map, option_map_or, option_or}
 use Rattle.std.proofs.lemmas.Bool.Decides.{nat_tests}
@@ -8,11 +8,11 @@ use Rattle.std.proofs.lemmas.List.Elements.{filter-append}
 use Rattle.std.proofs.lemmas.Option.{none-some, same_Some, slice_get_past, slice_get_within}
 use Rattle.idl_base.specs.Exact.{same_number, same_option}
 use Rattle.std.specs.Str.{bytes_eq}
-use Rattle.idl_changes.specs.Listing.{bases_of, by_id, interface_at, interface_of, is_called, name_at, places_where, scope_of}
-use Rattle.idl_changes.specs.Offered.{ancestors, called_in, inherited_before, offered, offers}
+use Rattle.idl_changes.specs.Listing.{by_id, interface_of, is_called, name_at, places_where, scope_of}
+use Rattle.idl_changes.specs.Offered.{ancestors, called_in, is_reached, offered, offers}
 use Rattle.idl_changes.specs.Partners.{by_path, called_partner, joined, partner}
 use Rattle.idl_changes.specs.Tables.{each}
-use Rattle.idl_changes.proofs.AncestorLemmas.{inherited-none}
+use Rattle.idl_changes.proofs.AncestorLemmas.{last_first-none, last_first-same, none-reached, none-there}
 use Rattle.idl_changes.proofs.EntryLemmas.{interface-found}
 use Rattle.idl_changes.proofs.HasLemmas.{Has, all-has, at-has, passing-place}
 use Rattle.idl_changes.proofs.TableLemmas.{place-next, slice_get-each}
@@ -114,8 +114,8 @@ module _ (L : List RowTree) (i : ℕ) where
   ancestors-past : slice_get L i ≡ None → ancestors L i ≡ []
   unfolding ancestors
   ancestors-past past =
-      ap (λ (o : Option RowTree). inherited_before L i (filter_map (λ r. interface_at L r.path) (option_map_or (λ (e : RowTree). bases_of e.details) o []))) past
-      ∙ inherited-none L i
+      last_first-same (is_reached L (length L) i) (λ n. false) (length L) (λ n within. none-reached L (length L) i n (none-there L i past))
+      ∙ last_first-none (length L)
 
   called_in-past : slice_get L i ≡ None → called_in L i ≡ []
   unfolding called_in

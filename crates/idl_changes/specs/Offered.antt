@@ -1,5 +1,5 @@
 -- What an interface inherits, and what can be called on it.
-use Rattle.std.specs.Prelude.{ℕ, zero, suc, Bool, List, [], ◌∷◌, ◌++◌, ◌&&◌, Option, Some, filter_map, find, flat_map, is_some, nat_eq, if◌then◌else◌}
+use Rattle.std.specs.Prelude.{ℕ, zero, suc, Bool, List, [], ◌∷◌, ◌&&◌, ◌||◌, Option, Some, filter_map, find, flat_map, is_some, length, nat_eq, if◌then◌else◌}
 use Rattle.std.specs.List.{list_any}
 use Rattle.std.specs.Option.{option_eq}
 use Rattle.std.specs.Str.{bytes_eq}
@@ -10,18 +10,21 @@ use Rattle.idl_repo.specs.declared.details.row_tree.RowTree.{RowTree}
 abbrev pub base_places : List RowTree → ℕ → List ℕ
 base_places L n = filter_map (λ r. interface_at L r.path) (bases_at L n)
 
--- those of these that stand before a place, and all that they inherit, the last first: an interface
--- stands behind its bases
-abbrev pub inherited_before : List RowTree → ℕ → List ℕ → List ℕ
-inherited_before L zero among = []
-inherited_before L (suc n) among =
-    if list_any (nat_eq n) among
-    then n ∷ inherited_before L n (among ++ base_places L n)
-    else inherited_before L n among
+-- whether bases lead from one place to another by way of places before a bound alone: straight, or
+-- to the last of these places and on from it
+abbrev pub is_reached : List RowTree → (bound i n : ℕ) → Bool
+is_reached L zero i n = list_any (nat_eq n) (base_places L i)
+is_reached L (suc last) i n =
+    is_reached L last i n || (is_reached L last i last && is_reached L last last n)
 
--- what an interface inherits, and it with that
+-- the places before a bound that pass a test, the last first
+abbrev pub last_first : (ℕ → Bool) → ℕ → List ℕ
+last_first test zero = []
+last_first test (suc n) = if test n then n ∷ last_first test n else last_first test n
+
+-- what an interface inherits, wherever in the listing that stands, and it with that
 unfoldable pub ancestors : List RowTree → ℕ → List ℕ
-ancestors L i = inherited_before L i (base_places L i)
+ancestors L i = last_first (is_reached L (length L) i) (length L)
 
 abbrev pub inherits : List RowTree → ℕ → List ℕ
 inherits L i = i ∷ ancestors L i

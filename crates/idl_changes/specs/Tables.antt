@@ -1,12 +1,12 @@
 -- Tables of what is looked up often: each is made once, and has what its definition gives.
-use Rattle.std.specs.Prelude.{◌≡◌, ℕ, List, length, map, Option, position, slice_get, unwrap_or}
-use Rattle.std.specs.List.{enumerate_from}
+use Rattle.std.specs.Prelude.{◌≡◌, ℕ, List, length, map, nat_eq, not, Option, position, slice_get, unwrap_or}
+use Rattle.std.specs.List.{enumerate_from, list_any}
 use Rattle.std.specs.Map.{lookup}
 use Rattle.std.specs.Option.{option_map}
 use Rattle.std.specs.Str.{bytes_eq}
 use Rattle.idl_changes.specs.Keys.{numbered_eq}
 use Rattle.idl_changes.specs.Listing.{alias_of, has_id, place_of, places_where}
-use Rattle.idl_changes.specs.Offered.{ancestors, called_in, offered}
+use Rattle.idl_changes.specs.Offered.{ancestors, called_in, last_first, offered}
 use Rattle.idl_changes.specs.Partners.{joined, partner}
 use Rattle.idl_changes.specs.Plain.{is_labelled, opened_before}
 use Rattle.idl_changes.specs.declared.keys.NumberedText.{NumberedText}
@@ -47,6 +47,10 @@ AreCounts L counts = (id : List ℕ)
 abbrev pub AreOffers : List RowTree → List (NumberedText × ℕ) → Type 0
 AreOffers L offers = (i : ℕ) (name : List ℕ)
     → lookup (numbered_eq (record { text = name; number = i })) offers ≡ offered L i name
+
+-- how many places of a listing aren't among these
+abbrev pub count_besides : List RowTree → List ℕ → ℕ
+count_besides L among = length (last_first (λ n. not (list_any (nat_eq n) among)) (length L))
 
 -- the plain type of an alias
 abbrev pub plain_alias : List RowTree → ℕ → RowTree → Option LayeredType

@@ -1,14 +1,14 @@
 //! What interfaces inherit, and what can be called on them.
 
-ghost use Rattle.std.specs.Prelude.{◌≡◌, ◌++◌, ◌∷◌, ◌&&◌, ◌||◌, ◌<◌, [], ℕ, All, List, IfOk, None, OnOk, Some, false, find, if◌then◌else◌, length, nat_eq, nat_lt, slice_get, unwrap_or};
+ghost use Rattle.std.specs.Prelude.{◌≡◌, ◌+◌, ◌++◌, ◌∷◌, ◌&&◌, ◌||◌, ◌<◌, [], ℕ, All, List, IfOk, None, OnOk, Some, false, filter, find, if◌then◌else◌, length, nat_eq, not, slice_get, unwrap_or};
 ghost use Rattle.std.specs.List.{list_any, slice_set};
 ghost use Rattle.std.specs.Map.{lookup};
-ghost use Rattle.std.specs.Option.{option_map_or, option_or};
+ghost use Rattle.std.specs.Option.{option_map_or, option_or, option_to_list};
 ghost use Rattle.std.specs.Str.{bytes_eq};
 ghost use Rattle.idl_changes.specs.Keys.{numbered_eq};
 ghost use Rattle.idl_changes.specs.Listing.{interface_of, is_called, name_at};
-ghost use Rattle.idl_changes.specs.Offered.{ancestors, base_places, called_in};
-ghost use Rattle.idl_changes.specs.Tables.{AreOffers, each};
+ghost use Rattle.idl_changes.specs.Offered.{ancestors, base_places, called_in, last_first};
+ghost use Rattle.idl_changes.specs.Tables.{AreOffers, count_besides, each};
 ghost use Rattle.idl_changes.specs.declared.keys.NumberedText.{NumberedText};
 
 use crate::keys::NumberedText;
@@ -31,60 +31,78 @@ pub fn all_ancestors(alloc: Global, listing: &Listing<'_>) -> Result<Vec<Seq<usi
     Ok(all)
 }
 
-// What the entry at a place inherits, from the last that stands before it to the first.
+// What the entry at a place inherits, the last in the listing first.
 #[tactic(auto, unfolding(crate::specs::Offered::ancestors))]
 fn ancestors(alloc: Global, listing: &Listing<'_>, place: usize) -> Result<Seq<usize>, AllocError>
     ensures { IfOk result (λ found. found ≡ ancestors listing.now place) }
 {
-    let mut found = Vec::new(alloc);
-    let mut among = BTreeSet::new(alloc);
-    let mut bound = place;
-    add_bases(listing, bound, &mut among)?;
-    while let Some(last) = among.pop_last() {
-        bound = last;
-        found.push(bound)?;
-        add_bases(listing, bound, &mut among)?;
+    let mut found = BTreeSet::new(alloc);
+    let mut ahead = Vec::new(alloc);
+    add_bases(listing, place, &mut found, &mut ahead)?;
+    while let Some(next) = ahead.pop() {
+        add_bases(listing, next, &mut found, &mut ahead)?;
     }
-    Ok(Seq::from_vec(found))
+    last_first(alloc, &mut found)
 }
 
-// Puts the bases of the entry at a place among these, as far as they stand before it.
+// Puts the bases of the entry at a place among those found. Those that weren't found yet are ahead.
 fn add_bases(
     listing: &Listing<'_>,
     place: usize,
-    among: &mut BTreeSet<usize>,
+    found: &mut BTreeSet<usize>,
+    ahead: &mut Vec<usize>,
 ) -> Result<(), AllocError>
-    ensures { OnOk result ((n : ℕ) → list_any (nat_eq n) among.new.keys
-        ≡ (list_any (nat_eq n) among.old.keys
-        || (nat_lt n place && list_any (nat_eq n) (base_places listing.now place)))) }
+    ensures found { OnOk result ((n : ℕ) → list_any (nat_eq n) found.new.keys
+        ≡ (list_any (nat_eq n) found.old.keys
+        || list_any (nat_eq n) (base_places listing.now place))) }
+    ensures ahead { OnOk result ((n : ℕ) → list_any (nat_eq n) ahead.new.items
+        ≡ (list_any (nat_eq n) ahead.old.items
+        || (list_any (nat_eq n) found.new.keys && not (list_any (nat_eq n) found.old.keys)))) }
+    ensures count { OnOk result
+        (length ahead.new.items + count_besides listing.now found.new.keys
+        ≡ length ahead.old.items + count_besides listing.now found.old.keys) }
 {
     let Some(entry) = listing.entry(place) else {
         return Ok(());
     };
     for base in bases_of(entry) {
-        add_before(listing.interface_at(&base.path), place, among)?;
+        add_new(listing.interface_at(&base.path), found, ahead)?;
     }
     Ok(())
 }
 
-// Puts a place among these, if there is one and it stands before a bound.
-fn add_before(
+// Puts a place among those found, if there is one. It is ahead, unless it was found already.
+fn add_new(
     place: Option<usize>,
-    bound: usize,
-    among: &mut BTreeSet<usize>,
+    found: &mut BTreeSet<usize>,
+    ahead: &mut Vec<usize>,
 ) -> Result<(), AllocError>
-    ensures { OnOk result ((n : ℕ) → list_any (nat_eq n) among.new.keys
-        ≡ (list_any (nat_eq n) among.old.keys
-        || (nat_lt n bound && option_map_or (nat_eq n) place false))) }
+    ensures found { OnOk result ((n : ℕ) → list_any (nat_eq n) found.new.keys
+        ≡ (list_any (nat_eq n) found.old.keys || option_map_or (nat_eq n) place false)) }
+    ensures ahead { OnOk result (ahead.new.items ≡ ahead.old.items
+        ++ filter (λ n. not (list_any (nat_eq n) found.old.keys)) (option_to_list place)) }
 {
     let Some(place) = place else {
         return Ok(());
     };
-    if bound <= place {
+    let is_new = found.insert(place)?;
+    if !is_new {
         return Ok(());
     }
-    among.insert(place)?;
+    ahead.push(place)?;
     Ok(())
+}
+
+// These places in a list, the last first. None of them is left.
+fn last_first(alloc: Global, places: &mut BTreeSet<usize>) -> Result<Seq<usize>, AllocError>
+    ensures { IfOk result (λ list. (bound : ℕ) → All (λ n. n < bound) places.old.keys
+        → list ≡ last_first (λ n. list_any (nat_eq n) places.old.keys) bound) }
+{
+    let mut list = Vec::new(alloc);
+    while let Some(last) = places.pop_last() {
+        list.push(last)?;
+    }
+    Ok(Seq::from_vec(list))
 }
 
 /// The operations and attributes in the scope of each entry, which has some where it is an interface.

@@ -50,7 +50,8 @@ static EDITS: [&str; 3] = [
     // Types, each told where it is declared.
     "interface I { }; [interface T->local interface T : I] { }; => 1 out b:1:34: error: interface T: local, no -> yes \
      [wire,client,servant] /\ninterface I { void f(); }; interface J { }; interface T [: J->: I] { }; => 1 out b:1:55: error: interface \
-     T: base J is gone [wire,client] /b:1:55: note: interface T: base I is new [servant] /\nstruct T { [long x, y->short z]; }; typedef \
+     T: base J is gone [wire,client] /b:1:55: note: interface T: base I is new [servant] /\ninterface T; interface I { void f(); }; \
+     interface T [: I->]{ void g(); }; => 1 out b:1:11: error: interface T: base I is gone [wire,client] /\nstruct T { [long x, y->short z]; }; typedef \
      sequence<T> U; => 1 out b:1:8: error: struct T: member x is gone [wire,client,servant] /b:1:8: error: struct T: member y is gone \
      [wire,client,servant] /b:1:8: error: struct T: member z is new, number 1 [wire,client,servant] /\nstruct T { [long x; short y->short \
      y; long x]; }; => 1 out b:1:8: error: struct T: order of members, x y -> y x [wire,client,servant] /\nenum T { a, [b->c, d] }; => 1 \

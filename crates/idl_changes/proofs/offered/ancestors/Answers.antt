@@ -1,35 +1,37 @@
-use Rattle.std.proofs.Common.{◌≡◌, ◌∙◌, ◌++◌, [], ℕ, List, ap, append-nil, sym}
-use Rattle.idl_changes.specs.Offered.{ancestors, inherited_before}
-use Rattle.idl_changes.proofs.AncestorLemmas.{ancestors-begin, ancestors-next, inherited-none, last-below, no-keys}
+use Rattle.std.proofs.Common.{◌≡◌, ◌∙◌, ◌++◌, ◌∷◌, [], ap, arith, length, length-append}
+use Rattle.std.specs.Option.{option_to_list}
+use Rattle.std.proofs.lemmas.List.{nil_from_length}
+use Rattle.std.proofs.lemmas.Result.{IfOk-weaker}
+use Rattle.idl_changes.specs.Offered.{ancestors}
+use Rattle.idl_changes.proofs.AncestorLemmas.{walk-begin, walk-end, walk-next}
 use Rattle.idl_changes.proofs.offered.ancestors.Goals as goal
 
-pub loop-last-init : goal.loop-last-init
-unfolding ancestors
-loop-last-init c =
-    let L = c.args.listing.now in
-    let place = c.args.place in
-    let new = c.add_bases.new.among.keys in
-    let begin = ancestors-begin L place new c.new-among.result.keys c.in_ok-add_bases.ensures c.new-among.ensures.empty in
-    record { below = begin.0; rest = ap (λ (ns : List ℕ). ns ++ inherited_before L place new) c.new-found.ensures.items ∙ begin.1 }
+pub loop-next-init : goal.loop-next-init
+loop-next-init c =
+    walk-begin c.args.listing.now c.args.place c.add_bases.new.found.keys c.new-found.result.keys c.add_bases.new.ahead.items c.new-ahead.result.items
+    c.new-found.ensures.empty c.new-ahead.ensures.items c.in_ok-add_bases.ensures.found c.in_ok-add_bases.ensures.ahead
 
-pub loop-last-smaller : goal.loop-last-smaller
-loop-last-smaller c = last-below c.args.listing.now c.loop-last.bound c.in-Some.last c.loop-last.among.keys c.pop_last.new.self.keys c.in-Some.ensures.removal c.loop-last.invariant.below
+pub loop-next-smaller : goal.loop-next-smaller
+loop-next-smaller c =
+    let left = c.pop.new.self.items in
+    let next = c.in-Some.next in
+    let taken = c.pop.ensures.items ∙ ap (λ o. left ++ option_to_list o) c.in-Some.is in
+    let longer = length-append left (next ∷ []) in
+    omega (arith, c.in_ok-add_bases-2.ensures.count, ap length taken, longer)
 
-pub loop-last-preserved : goal.loop-last-preserved
-loop-last-preserved c =
-    let L = c.args.listing.now in
-    let last = c.in-Some.last in
-    let new = c.add_bases-in-Some.new.among.keys in
-    let next = ancestors-next L c.loop-last.bound last c.loop-last.among.keys c.pop_last.new.self.keys new c.loop-last.found.items _ c.in-Some.ensures.removal c.loop-last.invariant.below
-    c.in-Some.ensures.all_below c.in_ok-add_bases-2.ensures c.loop-last.invariant.rest
-    in
-    record { below = next.0; rest = ap (λ (ns : List ℕ). ns ++ inherited_before L last new) c.in_ok-push.ensures.items ∙ next.1 }
+pub loop-next-preserved : goal.loop-next-preserved
+loop-next-preserved c =
+    let left = c.pop.new.self.items in
+    let next = c.in-Some.next in
+    let taken : c.loop-next.ahead.items ≡ left ++ next ∷ [] = c.pop.ensures.items ∙ ap (λ o. left ++ option_to_list o) c.in-Some.is in
+    walk-next c.args.listing.now c.args.place next c.loop-next.found.keys c.loop-next.ahead.items left c.add_bases-in-Some.new.found.keys c.add_bases-in-Some.new.ahead.items
+    taken c.loop-next.invariant c.in_ok-add_bases-2.ensures.found c.in_ok-add_bases-2.ensures.ahead
 
 pub returns : goal.returns
+unfolding ancestors
 returns c =
     let L = c.args.listing.now in
-    let found = c.loop-last.found.items in
-    let none : c.loop-last.among.keys ≡ [] = no-keys c.loop-last.among.keys c.in_default.ensures.variant in
-    c.from_vec.ensures ∙ sym (append-nil found)
-    ∙ ap (λ (ns : List ℕ). found ++ ns) (sym (ap (inherited_before L c.loop-last.bound) none ∙ inherited-none L c.loop-last.bound))
-    ∙ c.loop-last.invariant.rest
+    let ahead = c.loop-next.ahead in
+    let none : ahead.items ≡ [] = nil_from_length ahead.items (omega (arith, c.in_default.ensures.cases.0, ahead.ok.0)) in
+    let end = walk-end L c.args.place c.loop-next.found.keys ahead.items none c.loop-next.invariant in
+    IfOk-weaker c.last_first.result _ _ (λ list gives. gives (length L) end.0 ∙ end.1) c.last_first.ensures

@@ -1,13 +1,11 @@
-use Rattle.std.proofs.Common.{◌≡◌, ◌<◌, ◌++◌, All}
-use Rattle.idl_changes.specs.Offered.{ancestors, inherited_before}
+use Rattle.std.proofs.Common.{◌+◌, length}
+use Rattle.idl_changes.specs.Tables.{count_besides}
+use Rattle.idl_changes.proofs.AncestorLemmas.{IsWalk}
 use Rattle.idl_changes.proofs.offered.ancestors.Given as goal
 
--- those that are left stand before the bound, and come behind
-abbrev pub invariant-loop-last : goal.invariant-loop-last
-invariant-loop-last l = record {
-  below : All (λ n. n < l.bound) l.among.keys;
-  rest : l.found.items ++ inherited_before l.listing l.bound l.among.keys ≡ ancestors l.listing l.place;
-}
+abbrev pub invariant-loop-next : goal.invariant-loop-next
+invariant-loop-next l = IsWalk l.listing l.place l.found.keys l.ahead.items
 
-abbrev pub decreases-loop-last : goal.decreases-loop-last
-decreases-loop-last l = l.bound
+-- of the places that aren't found yet each is ahead once at most
+abbrev pub decreases-loop-next : goal.decreases-loop-next
+decreases-loop-next l = length l.ahead.items + count_besides l.listing l.found.keys
