@@ -1,5 +1,5 @@
 -- What is asked for ids and entries is what the table tells.
-use Rattle.std.proofs.Common.{◌≡◌, ℕ, List, [], ◌∷◌, ◌++◌, Option, Some, None, refl, ap, ◌∙◌, sym, inl, inr, subst}
+use Rattle.std.proofs.Common.{◌≡◌, ℕ, List, [], ◌∷◌, ◌++◌, Option, Some, None, refl, ap, sym, flat_map, inl, inr, subst}
 use Rattle.std.specs.Prelude.{◌↔◌, Contains}
 use Rattle.idl_asked.proofs.NameLaws.{asks-end}
 use Rattle.idl_asked.specs.Entries.{AsksEntry}
@@ -11,12 +11,12 @@ use Rattle.idl_env.specs.declared.answering.answer.Answer.{Answer}
 use Rattle.idl_env.specs.declared.keys.key.Key.{Key}
 use Rattle.idl_env.specs.declared.keys.key.Key.TheVariants.{Typeprefix}
 use Rattle.idl_env.specs.declared.keys.key.Key.TheVariants as key
-use Rattle.idl_memo.proofs.QueryLaws.{asked-and_then}
-use Rattle.idl_memo.specs.Query.{Done, asked, outcome}
-use Rattle.idl_repo.specs.Entry.{entry, entry_in, told_entry}
-use Rattle.idl_repo.specs.Pieces.{IdOf, Piece, Pieces, Says, written}
-use Rattle.idl_repo.specs.Row.{row_pieces}
-use Rattle.idl_scope.specs.Known.{id_of, known, told_of, typeprefix_around}
+use Rattle.idl_memo.specs.Query.{Done, asked}
+use Rattle.idl_repo.proofs.EntryLaws.{declared-ids}
+use Rattle.idl_repo.specs.Entry.{entry, entry_in}
+use Rattle.idl_repo.specs.Pieces.{asked_of}
+use Rattle.idl_repo.specs.Referred.{referred}
+use Rattle.idl_scope.specs.Known.{known, told_of, typeprefix_around}
 use Rattle.idl_scope.specs.Lookup.{Lookup}
 
 module _ (bank : Key → Option Answer) where
@@ -61,56 +61,31 @@ module _ (bank : Key → Option Answer) where
       back : AsksId bank path k → IsIn k (asked (known path) bank)
       back a = subst (IsIn k) (sym same) (of_key a)
 
-  id-asks : (path : List (List ℕ)) → asked (id_of path) bank ≡ asked (known path) bank
+  id-asks : (path : List (List ℕ)) → asked_of bank path ≡ asked (known path) bank
   id-asks path = asks-end (known path) (λ d. told_of path d) bank
 
   -- ---- entries
 
-  -- of pieces: the ids that they tell
-  abbrev Telling : Pieces → Key → Type 0
-  Telling pieces k = (p : List (List ℕ)) × Contains pieces (IdOf p) × AsksId bank p k
+  -- of paths: what is asked for the id of one of them
+  abbrev Telling : List (List (List ℕ)) → Key → Type 0
+  Telling paths k = (p : List (List ℕ)) × Contains paths p × AsksId bank p k
 
-  later : (piece : Piece) (pieces : Pieces) (k : Key) → Telling pieces k → Telling (piece ∷ pieces) k
-  later piece pieces k t = (t.0, Contains-IsIn (IdOf t.0) (piece ∷ pieces) (inr (IsIn-Contains (IdOf t.0) pieces t.1)), t.2)
-
-  same_path : (p q : List (List ℕ)) → IdOf p ≡ IdOf q → p ≡ q
-  same_path p q h = cc
-
-  no_id : (text : List ℕ) (p : List (List ℕ)) → Says text ≡ IdOf p → ⊥
-  no_id text p h = cc
-
-  asks-written : (text : List ℕ) (path : List (List ℕ)) (pieces : Pieces) → asked (written text (IdOf path ∷ pieces)) bank ≡ asked (known path) bank ++ asked (written (text ++ outcome (id_of path) bank) pieces) bank
-  unfolding written
-  asks-written text path pieces =
-      asked-and_then (id_of path) (λ id. written (text ++ id) pieces) bank
-      ∙ ap (λ ks. ks ++ asked (written (text ++ outcome (id_of path) bank) pieces) bank) (id-asks path)
-
-  pub written-asks : (text : List ℕ) (pieces : Pieces) (k : Key) → IsIn k (asked (written text pieces) bank) ↔ Telling pieces k
-  unfolding written
-  written-asks text [] k = (λ i. absurd i, λ t. IsIn-Contains (IdOf t.0) [] t.1)
-  written-asks text (Says more ∷ pieces) k =
-      let rest = written-asks (text ++ more) pieces k in
-      (λ i. later (Says more) pieces k (rest.0 i), λ t. of_later (λ u. rest.1 u) t.0 (IsIn-Contains (IdOf t.0) (Says more ∷ pieces) t.1) t.2)
+  each-asks : (paths : List (List (List ℕ))) (k : Key) → IsIn k (flat_map (asked_of bank) paths) ↔ Telling paths k
+  each-asks [] k = (λ i. absurd i, λ t. IsIn-Contains t.0 [] t.1)
+  each-asks (path ∷ paths) k = (there (each-asks paths k), λ t. back (each-asks paths k) t.0 (IsIn-Contains t.0 (path ∷ paths) t.1) t.2)
     where
-      of_later : (Telling pieces k → IsIn k (asked (written (text ++ more) pieces) bank)) → (p : List (List ℕ)) → IsIn (IdOf p) (Says more ∷ pieces) → AsksId bank p k → IsIn k (asked (written (text ++ more) pieces) bank)
-      of_later rest p (inl e) a = absurd (no_id more p e)
-      of_later rest p (inr i) a = rest (p, Contains-IsIn (IdOf p) pieces i, a)
-  written-asks text (IdOf path ∷ pieces) k =
-      let rest = written-asks (text ++ outcome (id_of path) bank) pieces k in
-      (λ i. there (λ j. rest.0 j) (subst (IsIn k) (asks-written text path pieces) i), λ t. subst (IsIn k) (sym (asks-written text path pieces)) (back (λ u. rest.1 u) t.0 (IsIn-Contains (IdOf t.0) (IdOf path ∷ pieces) t.1) t.2))
-    where
-      there : (IsIn k (asked (written (text ++ outcome (id_of path) bank) pieces) bank) → Telling pieces k) → IsIn k (asked (known path) bank ++ asked (written (text ++ outcome (id_of path) bank) pieces) bank) → Telling (IdOf path ∷ pieces) k
-      there rest i = elim (IsIn-split k (asked (known path) bank) (asked (written (text ++ outcome (id_of path) bank) pieces) bank) i) [
-        | inl j ↦ (path, Contains-IsIn (IdOf path) (IdOf path ∷ pieces) (inl refl), (known-asks path k).0 j)
-        | inr j ↦ later (IdOf path) pieces k (rest j)
+      others : List Key
+      others = flat_map (asked_of bank) paths
+
+      there : IsIn k others ↔ Telling paths k → IsIn k (asked_of bank path ++ others) → Telling (path ∷ paths) k
+      there rest i = elim (IsIn-split k (asked_of bank path) others i) [
+        | inl j ↦ (path, Contains-IsIn path (path ∷ paths) (inl refl), (known-asks path k).0 (subst (IsIn k) (id-asks path) j))
+        | inr j ↦ let t = rest.0 j in (t.0, Contains-IsIn t.0 (path ∷ paths) (inr (IsIn-Contains t.0 paths t.1)), t.2)
       ]
 
-      back : (Telling pieces k → IsIn k (asked (written (text ++ outcome (id_of path) bank) pieces) bank)) → (p : List (List ℕ)) → IsIn (IdOf p) (IdOf path ∷ pieces) → AsksId bank p k → IsIn k (asked (known path) bank ++ asked (written (text ++ outcome (id_of path) bank) pieces) bank)
-      back rest p (inl e) a = IsIn-left k (asked (known path) bank) (asked (written (text ++ outcome (id_of path) bank) pieces) bank) ((known-asks path k).1 (subst (λ q. AsksId bank q k) (sym (same_path path p e)) a))
-      back rest p (inr i) a = IsIn-right k (asked (known path) bank) (asked (written (text ++ outcome (id_of path) bank) pieces) bank) (rest (p, Contains-IsIn (IdOf p) pieces i, a))
-
-  declared-asks : (e : Entity) → asked (entry_in (Some e)) bank ≡ asked (written [] (row_pieces e)) bank
-  declared-asks e = asks-end (written [] (row_pieces e)) (λ text. told_entry e text) bank
+      back : IsIn k others ↔ Telling paths k → (p : List (List ℕ)) → IsIn p (path ∷ paths) → AsksId bank p k → IsIn k (asked_of bank path ++ others)
+      back rest p (inl e) a = IsIn-left k (asked_of bank path) others (subst (IsIn k) (sym (id-asks path)) ((known-asks path k).1 (subst (λ q. AsksId bank q k) (sym e) a)))
+      back rest p (inr i) a = IsIn-right k (asked_of bank path) others (rest.1 (p, Contains-IsIn p paths i, a))
 
   pub entry-asks : (path : List (List ℕ)) (k : Key) → IsIn k (asked (entry path) bank) ↔ AsksEntry bank path k
   unfolding entry
@@ -118,7 +93,7 @@ module _ (bank : Key → Option Answer) where
     where
       by_answer : (o : Option Entity) → entity_in (bank (entity_key path)) ≡ o → IsIn k (asked (entry_in o) bank) → AsksEntry bank path k
       by_answer None is i = absurd i
-      by_answer (Some e) is i = let t = (written-asks [] (row_pieces e) k).0 (subst (IsIn k) (declared-asks e) i) in inr (e, is, t.0, t.1, t.2)
+      by_answer (Some e) is i = let t = (each-asks (e.path ∷ referred e.kind e) k).0 (subst (IsIn k) (declared-ids e bank) i) in inr (e, is, t.0, t.1, t.2)
 
       there : IsIn k (entity_key path ∷ asked (entry_in (entity_in (bank (entity_key path)))) bank) → AsksEntry bank path k
       there (inl e) = inl (sym e)
@@ -128,4 +103,4 @@ module _ (bank : Key → Option Answer) where
       back (inl e) = inl (sym e)
       back (inr a) =
           inr (subst (λ o. IsIn k (asked (entry_in o) bank)) (sym a.1)
-          (subst (IsIn k) (sym (declared-asks a.0)) ((written-asks [] (row_pieces a.0) k).1 (a.2, a.3, a.4))))
+          (subst (IsIn k) (sym (declared-ids a.0 bank)) ((each-asks (a.0.path ∷ referred a.0.kind a.0) k).1 (a.2, a.3, a.4))))

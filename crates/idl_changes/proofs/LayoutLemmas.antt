@@ -28,8 +28,7 @@ use Rattle.idl_changes.proofs.PlainLemmas.{NamesNone, alias-within, plain-alias,
 use Rattle.idl_changes.proofs.WeightLemmas.{Lacks, lacks-back, lacks-front, lacks-none, lacks-unless}
 use Rattle.idl_entity.specs.DataType.{layer_eq, same_layer}
 use Rattle.idl_entity.specs.declared.data_type.Layer.{Layer}
-use Rattle.idl_repo.specs.TypeCode.{code_word}
-use Rattle.idl_repo.specs.details.Print.{parts_kind}
+use Rattle.idl_repo.specs.details.Print.{code_word}
 use Rattle.idl_repo.specs.details.Same.{reference_eq, same_element_tree, same_reference}
 use Rattle.idl_repo.specs.declared.details.reference.Reference.{Reference}
 use Rattle.idl_repo.specs.declared.details.row_tree.DeclaredType.{DeclaredType}
@@ -394,7 +393,7 @@ module _ (old new : List RowTree) (was is : ℕ → Layout) (alike : (i k : ℕ)
     parts-alike id d e (parts.Enumeration xs) (parts.Enumeration ys) all =
         ap (Ordinals id) (paired-length (λ (a b : List ℕ). Lacks wire (no_differences a b)) xs ys (all-paired wire Enumerator own_name no_differences refl refl refl xs ys all))
     parts-alike id d e (parts.Alias t) (parts.Alias u) all = refl
-    parts-alike id d e p q all = absurd (lacks-none wire line.Kind (codes "TypeCode") (turn.Changed (code_word (parts_kind p)) (code_word (parts_kind q))) refl all)
+    parts-alike id d e p q all = absurd (lacks-none wire line.Kind (codes "TypeCode") (turn.Changed (code_word p) (code_word q)) refl all)
 
     pub details-alike : (id : List ℕ) (d e : RowDetails) → Lacks wire (details_differences old new d e) → details_layout old was id d ≡ details_layout new is id e
     details-alike id row.Nothing row.Nothing all = refl

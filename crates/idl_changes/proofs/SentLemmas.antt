@@ -16,8 +16,7 @@ use Rattle.idl_changes.proofs.WeightLemmas.{Lacks, lacks-none}
 use Rattle.idl_entity.specs.Kind.{same_kind}
 use Rattle.idl_entity.specs.declared.kind.Kind.{Kind}
 use Rattle.idl_entity.specs.declared.kind.Kind.TheVariants as kind
-use Rattle.idl_repo.specs.TypeCode.{code_word}
-use Rattle.idl_repo.specs.details.Print.{parts_kind}
+use Rattle.idl_repo.specs.details.Print.{code_word}
 use Rattle.idl_repo.specs.declared.details.row_tree.DeclaredType.{DeclaredType}
 use Rattle.idl_repo.specs.declared.details.row_tree.RowDetails.{RowDetails}
 use Rattle.idl_repo.specs.declared.details.row_tree.RowDetails.TheVariants as row
@@ -74,7 +73,7 @@ module _ (old new : List RowTree) where
   parts-sent d e (parts.Union u) (parts.Union v) all = tt
   parts-sent d e (parts.Enumeration xs) (parts.Enumeration ys) all = tt
   parts-sent d e (parts.Alias t) (parts.Alias u) all = type-sent (codes "type") t u all
-  parts-sent d e p q all = absurd (lacks-none wire line.Kind (codes "TypeCode") (turn.Changed (code_word (parts_kind p)) (code_word (parts_kind q))) refl all)
+  parts-sent d e p q all = absurd (lacks-none wire line.Kind (codes "TypeCode") (turn.Changed (code_word p) (code_word q)) refl all)
 
   pub details-sent : (d e : RowDetails) → Lacks wire (details_differences old new d e) → AreSent old new (option_and_then alias_in (type_code_of d)) (option_and_then alias_in (type_code_of e))
   details-sent row.Nothing row.Nothing all = tt

@@ -23,8 +23,7 @@ use Rattle.idl_changes.specs.declared.rows.Line.TheVariants as line
 use Rattle.idl_entity.specs.Kind.{kind_eq}
 use Rattle.idl_entity.specs.declared.kind.Kind.{Kind}
 use Rattle.idl_repo.specs.Row.{direction_word, kind_word}
-use Rattle.idl_repo.specs.TypeCode.{code_word}
-use Rattle.idl_repo.specs.details.Print.{parts_kind}
+use Rattle.idl_repo.specs.details.Print.{code_word}
 use Rattle.idl_repo.specs.declared.details.reference.Reference.{Reference}
 use Rattle.idl_repo.specs.declared.details.row_tree.AttributeTree.{AttributeTree}
 use Rattle.idl_repo.specs.declared.details.row_tree.ConstantTree.{ConstantTree}
@@ -306,7 +305,7 @@ module _ (old new : List RowTree) where
       list_differences Enumerator own_name no_differences was is
   parts_differences d e (parts.Alias t) (parts.Alias u) = type_differences (codes "type") t u
   parts_differences d e p q =
-      changed line.Kind (codes "TypeCode") (code_word (parts_kind p)) (code_word (parts_kind q))
+      changed line.Kind (codes "TypeCode") (code_word p) (code_word q)
 
   abbrev pub declared_differences : DeclaredType → DeclaredType → List Difference
   declared_differences d e = parts_differences d e d.code.parts e.code.parts

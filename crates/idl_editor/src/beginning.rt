@@ -35,8 +35,10 @@ fn capabilities(alloc: Global, encoding: Encoding) -> Result<Value, AllocError> 
     json!(in alloc; {
         "textDocumentSync": sync,
         "definitionProvider": true,
+        "documentHighlightProvider": true,
         "documentSymbolProvider": true,
         "hoverProvider": true,
+        "referencesProvider": true,
         "positionEncoding": encoding,
     })
 }

@@ -12,7 +12,7 @@ use idl_base::ByteRange;
 use std::alloc::{AllocError, Global};
 
 /// A range of a text, from a position up to another one.
-#[derive(Clone, Copy, Debug, PartialEq, Eq)]
+#[derive(Clone, Copy, Debug, PartialEq, Eq, Hash)]
 pub struct Range {
     pub start: Position,
     pub end: Position,

@@ -6,7 +6,7 @@ ghost use Rattle.idl_editor.specs.Positions.{end_size, is_break, line_size, line
 use crate::column::{Encoding, column_of};
 
 /// A position in a text: a line, where 0 is the first, and a column in units of an encoding.
-#[derive(Clone, Copy, Debug, PartialEq, Eq)]
+#[derive(Clone, Copy, Debug, PartialEq, Eq, Hash)]
 pub struct Position {
     pub line: usize,
     pub column: usize,

@@ -14,6 +14,6 @@ pub use diagnostics::{SecondWords, diagnostic_value, message_of, more_value, sec
 pub use found::{MOST_RELATED, MOST_TOLD, RootFinding, first_told, in_order, put_all};
 pub use hover::hover_value;
 pub use published::found_params;
-pub use ranges::{location_value, range_value};
+pub use ranges::{highlight_value, location_value, range_value};
 pub use shown::shown_value;
 pub use symbols::{DocumentSymbol, nested};

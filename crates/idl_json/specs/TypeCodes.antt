@@ -1,8 +1,7 @@
 -- TypeCodes in JSON.
 use Rattle.std.specs.Prelude.{ℕ, List, [], ◌∷◌, ◌++◌, codes, Option, None, Some}
 use Rattle.serde_json.specs.Data.{Data}
-use Rattle.idl_repo.specs.TypeCode.{code_word}
-use Rattle.idl_repo.specs.details.Print.{parts_kind}
+use Rattle.idl_repo.specs.details.Print.{code_word}
 use Rattle.idl_repo.specs.declared.details.type_code_tree.CaseTree.{CaseTree}
 use Rattle.idl_repo.specs.declared.details.type_code_tree.MemberTree.{MemberTree}
 use Rattle.idl_repo.specs.declared.details.type_code_tree.TypeCodeParts.{TypeCodeParts}
@@ -50,5 +49,5 @@ parts_fields (parts.Alias t) = (codes "type", type_json t) ∷ []
 
 abbrev pub type_code_json : TypeCodeTree → Data
 type_code_json c = object_of (
-    (codes "kind", text_json (code_word (parts_kind c.parts)))
+    (codes "kind", text_json (code_word c.parts))
     ∷ (codes "id", text_json c.id) ∷ (codes "name", text_json c.name) ∷ parts_fields c.parts)

@@ -1,12 +1,10 @@
 -- Tables have what several definitions say.
 use Rattle.std.proofs.Common.{◌≡◌, ◌∙◌, ◌+◌, ℕ, Bool, true, false, cond, List, [], ◌∷◌, ◌++◌, Option, None, Some, drop, refl, ap}
-use Rattle.std.specs.Prelude.{codes, if◌then◌else◌, is_some}
+use Rattle.std.specs.Prelude.{if◌then◌else◌, is_some}
 use Rattle.idl_check.specs.tables.Declaring.{Written, entity_of}
 use Rattle.idl_check.specs.tables.Using.{Bases, last_after, own_after, used_table, with_uses}
 use Rattle.idl_check.specs.walk.Walk.{Walk, used_after, with_scope}
 use Rattle.idl_entity.specs.declared.entity.Entity.{Entity}
-use Rattle.idl_entity.specs.declared.kind.Kind.{Kind}
-use Rattle.idl_entity.specs.declared.kind.Kind.TheVariants as kind
 use Rattle.idl_env.specs.Facts.{World, after_step}
 use Rattle.idl_env.specs.declared.additions.addition.Step.{Step}
 use Rattle.idl_env.specs.declared.additions.addition.Step.TheVariants.{Closes, Enters, Leaves, Opens, OpensNameless, Prefixes, Stays}
@@ -28,7 +26,6 @@ use Rattle.idl_parts.specs.declared.part.Declaration.TheVariants as way
 use Rattle.idl_parts.specs.declared.part.Use.{Use}
 use Rattle.idl_parts.specs.declared.part.Use.TheVariants as usage
 use Rattle.idl_plain.specs.Allowance.{left_behind}
-use Rattle.idl_plain.specs.Coded.{coded, form_of}
 use Rattle.idl_plain.specs.Declared.{declared}
 use Rattle.idl_plain.specs.Expression.{linked, read}
 use Rattle.idl_plain.specs.Operators.{before as at_one, between}
@@ -36,11 +33,7 @@ use Rattle.idl_plain.specs.Steps.{stepped}
 use Rattle.idl_plain.specs.Tokens.{codes_behind, is_mixed, is_refused}
 use Rattle.idl_plain.specs.Types.{of_integers, of_sizes, of_types, of_words}
 use Rattle.idl_plain.specs.Used.{rules_of_used, walk_behind}
-use Rattle.idl_repo.specs.Pieces.{IdOf, Pieces, Says, says}
-use Rattle.idl_repo.specs.Row.{bases_pieces, coded_pieces}
-use Rattle.idl_repo.specs.TypeCode.{code_kind, code_pieces, integer_word, interface_code}
-use Rattle.idl_repo.specs.declared.type_code.TypeCodeKind.{TypeCodeKind}
-use Rattle.idl_entity.specs.Path.{name_of}
+use Rattle.idl_repo.specs.TypeCode.{integer_word}
 use Rattle.idl_scope.specs.declared.found.Found.{Found}
 use Rattle.idl_tree.specs.DataType.{sized_word, spell_discrete, spell_sign, spell_size}
 use Rattle.idl_tree.specs.Lexeme.{Word}
@@ -198,30 +191,6 @@ steps-told w Closes = refl
 steps-told w (Prefixes text) = refl
 steps-told w Enters = refl
 steps-told w Leaves = refl
-
--- ---- TypeCodes
-
-module _ (e : Entity) where
-  abbrev by_code : Option TypeCodeKind → Pieces
-  by_code o = elim o [ None ↦ [] | Some code ↦ Says (codes " ") ∷ (code_pieces code e ++ bases_pieces e) ]
-
-  abbrev by_form : Option (List ℕ × Pieces) → Pieces
-  by_form o = elim o [
-    | None ↦ []
-    | Some form ↦ (Says (codes " ") ∷ Says form.0 ∷ Says (codes "(") ∷ IdOf e.path
-        ∷ Says (codes ",") ∷ Says (name_of e.path) ∷ (form.1 ++ says (codes ")"))) ++ bases_pieces e
-  ]
-
-  interfaces : (b : Bool) → by_code (Some (interface_code b)) ≡ by_form (Some (if b then codes "tk_local_interface" else codes "tk_objref", []))
-  interfaces true = refl
-  interfaces false = refl
-
-  kinds : (k : Kind) → by_code (code_kind k e.is_local) ≡ by_form (form_of k e)
-  kinds kind.Interface = interfaces e.is_local
-  kinds other = refl
-
-  pub codes-told : coded_pieces e ≡ coded e
-  codes-told = kinds e.kind
 
 -- ---- operators
 

@@ -1,6 +1,5 @@
 pub mod Additions
 pub mod Allowance
-pub mod Coded
 pub mod Condition
 pub mod Declared
 pub mod Ending

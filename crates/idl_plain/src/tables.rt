@@ -22,7 +22,6 @@ ghost use Rattle.idl_lex.specs.declared.kinds.kind.TokenKind.TheVariants.{Bad, I
 ghost use Rattle.idl_parts.specs.declared.part.Declaration.{Declaration};
 ghost use Rattle.idl_parts.specs.declared.part.Use.{Use};
 ghost use Rattle.idl_plain.specs.Allowance.{left_behind};
-ghost use Rattle.idl_plain.specs.Coded.{coded};
 ghost use Rattle.idl_plain.specs.Declared.{declared, rules_of_declared};
 ghost use Rattle.idl_plain.specs.Expression.{read};
 ghost use Rattle.idl_plain.specs.Operators.{before, between};
@@ -30,7 +29,6 @@ ghost use Rattle.idl_plain.specs.Steps.{stepped};
 ghost use Rattle.idl_plain.specs.Tokens.{codes_behind};
 ghost use Rattle.idl_plain.specs.Types.{of_integers, of_types};
 ghost use Rattle.idl_plain.specs.Used.{rules_of_used, walk_behind};
-ghost use Rattle.idl_repo.specs.Row.{coded_pieces};
 ghost use Rattle.idl_repo.specs.TypeCode.{integer_word};
 ghost use Rattle.idl_scope.specs.declared.found.Found.{Found};
 ghost use Rattle.idl_tree.specs.DataType.{spell_discrete};
@@ -87,11 +85,6 @@ pub fn uses()
           own = with_uses (folded name.first) found.reach w.cursor w.own;
           found = w.found ++ found.entity.path ∷ [];
         }) }
-{}
-
-/// Of each kind of name one line tells its TypeCode.
-pub fn type_codes()
-    ensures { (e : Entity) → coded_pieces e ≡ coded e }
 {}
 
 /// An operator has a value at whole numbers alone, for an integer type.

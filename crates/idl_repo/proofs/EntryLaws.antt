@@ -5,7 +5,7 @@ use Rattle.std.proofs.lemmas.List.{append-nil}
 use Rattle.idl_memo.specs.Query.{Done, asked, noted_all, outcome, run}
 use Rattle.idl_memo.proofs.QueryLaws.{asked-and_then, outcome-and_then}
 use Rattle.idl_fault.specs.declared.code.Code.{Code}
-use Rattle.idl_repo.proofs.ReferredLemmas.{ids-row}
+use Rattle.idl_repo.proofs.ToldLemmas.{ids-row}
 use Rattle.idl_repo.proofs.WriteLemmas.{asked-by-written, written-over}
 use Rattle.idl_repo.specs.Entry.{IsPushed, closing_fault, declared_entry, entry, entry_in, no_entry, pushed_entry, told_entry}
 use Rattle.idl_repo.specs.Pieces.{asked_of, ids_in, text_over, written}
@@ -26,6 +26,9 @@ declared-outcome e bank = outcome-and_then (written [] (row_pieces e)) (λ text.
 pub declared-asked : (e : ScopeEntity) (bank : Key → Option Answer) → asked (declared_entry e) bank ≡ ids_in bank (row_pieces e)
 declared-asked e bank = asked-and_then (written [] (row_pieces e)) (λ text. Done (told_entry e text)) bank ∙ append-nil (asked (written [] (row_pieces e)) bank) ∙ asked-by-written bank [] (row_pieces e)
 
+pub declared-ids : (e : ScopeEntity) (bank : Key → Option Answer) → asked (declared_entry e) bank ≡ flat_map (asked_of bank) (e.path ∷ referred e.kind e)
+declared-ids e bank = declared-asked e bank ∙ ids-row e bank
+
 -- of the name at a path
 pub entry-declared : (path : List (List ℕ)) (bank : Key → Option Answer) (e : ScopeEntity) → entity_in (bank (entity_key path)) ≡ Some e → outcome (entry path) bank ≡ told_entry e (text_over bank (row_pieces e))
 unfolding entry
@@ -35,9 +38,9 @@ pub entry-unknown : (path : List (List ℕ)) (bank : Key → Option Answer) → 
 unfolding entry
 entry-unknown path bank is = ap (λ there. outcome (entry_in there) bank) is
 
-pub entry-asked : (path : List (List ℕ)) (bank : Key → Option Answer) (e : ScopeEntity) → entity_in (bank (entity_key path)) ≡ Some e → asked (entry path) bank ≡ entity_key path ∷ flat_map (asked_of bank) (e.path ∷ referred e)
+pub entry-asked : (path : List (List ℕ)) (bank : Key → Option Answer) (e : ScopeEntity) → entity_in (bank (entity_key path)) ≡ Some e → asked (entry path) bank ≡ entity_key path ∷ flat_map (asked_of bank) (e.path ∷ referred e.kind e)
 unfolding entry
-entry-asked path bank e is = ap (λ keys. entity_key path ∷ keys) (ap (λ there. asked (entry_in there) bank) is ∙ declared-asked e bank ∙ ids-row e bank)
+entry-asked path bank e is = ap (λ keys. entity_key path ∷ keys) (ap (λ there. asked (entry_in there) bank) is ∙ declared-ids e bank)
 
 abbrev pub told_row : Option Code → Pushed
 told_row fault = record { has_row = true; fault = fault }

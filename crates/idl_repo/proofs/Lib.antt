@@ -1,7 +1,5 @@
 mod WriteLemmas
 mod RowLemmas
-mod ReferredLemmas
-mod EntryLaws
+mod ToldLemmas
+pub mod EntryLaws
 mod NestingLaws
-mod PrintLemmas
-mod TextLemmas

@@ -1,6 +1,6 @@
 -- Texts in which ids stand: each id is asked where it is told.
 use Rattle.std.specs.Prelude.{◌≡◌, ℕ, List, [], ◌∷◌, ◌++◌, codes, flat_map, Option}
-use Rattle.idl_memo.specs.Query.{Done, and_then, asked, noted_all, outcome}
+use Rattle.idl_memo.specs.Query.{Done, and_then, asked, noted_all, outcome, run}
 use Rattle.idl_repo.specs.declared.piece.AnsweredId.{AnsweredId}
 use Rattle.idl_repo.specs.declared.row_writer.RowWriter.{RowWriter}
 use Rattle.std.specs.Option.{option_copied}
@@ -62,6 +62,11 @@ state row = (row.env.now, (row.text.items, row.log))
 abbrev pub Writes : Pieces → RowWriter → RowWriter → Type 0
 Writes pieces old new = Grows pieces (state old) (state new)
 
+-- the text of each, with commas between
+abbrev pub with_commas : {X : Type 0} → (X → List ℕ) → List X → List ℕ
+with_commas text [] = []
+with_commas text (x ∷ xs) = text x ++ flat_map (λ y. codes "," ++ text y) xs
+
 -- the pieces of each, with commas between
 abbrev pub commas : {X : Type 0} → (X → Pieces) → List X → Pieces
 commas pieces [] = []
@@ -70,3 +75,9 @@ commas pieces (x ∷ xs) = pieces x ++ flat_map (λ y. Says (codes ",") ∷ piec
 -- the id of a name, by what is answered of it
 abbrev pub told_id : AnsweredId → List ℕ
 told_id id = id_at id.path.now (option_copied id.typeprefix) (option_copied id.answer)
+
+-- it is what the facts answer, which were asked for it
+abbrev pub IsAsked : AnsweredId → List (List ℕ) → RowWriter → Type 0
+IsAsked id path row =
+    (log : List (Key × Option Answer))
+    × ((told_id id, row.log) ≡ run key_eq (id_of path) (answers row.env.now) log)

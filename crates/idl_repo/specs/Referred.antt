@@ -1,15 +1,12 @@
 -- The paths that a row refers to, in its order: those of named types, of bases, and of exceptions.
 -- What is declared at such a path is not looked at.
-use Rattle.std.specs.Prelude.{ℕ, List, [], ◌∷◌, ◌++◌, flat_map, Option, None, Some, if◌then◌else◌}
-use Rattle.idl_repo.specs.Row.{raised_by_set_of, raised_of}
-use Rattle.idl_repo.specs.TypeCode.{kind_in, members_of}
-use Rattle.idl_repo.specs.declared.type_code.TypeCodeKind.{TypeCodeKind}
-use Rattle.idl_repo.specs.declared.type_code.TypeCodeKind.TheVariants as code
-use Rattle.idl_entity.specs.Kind.{kind_eq}
+use Rattle.std.specs.Prelude.{ℕ, List, [], ◌∷◌, ◌++◌, flat_map, Option, None, Some}
+use Rattle.idl_repo.specs.TypeCode.{shown}
 use Rattle.idl_entity.specs.declared.data_type.DataType.{DataType}
 use Rattle.idl_entity.specs.declared.data_type.Element.{Element}
 use Rattle.idl_entity.specs.declared.data_type.Element.TheVariants as element
 use Rattle.idl_entity.specs.declared.entity.Entity.{Entity}
+use Rattle.idl_entity.specs.declared.kind.Kind.{Kind}
 use Rattle.idl_entity.specs.declared.kind.Kind.TheVariants as kind
 use Rattle.idl_entity.specs.declared.signature.Member.{Member}
 
@@ -32,36 +29,18 @@ named_by_member m = named_by m.data_type
 abbrev pub named_by_labels : Member → Paths
 named_by_labels m = flat_map (λ label. named_by_member m) m.labels
 
--- those in a TypeCode, behind its own id
-abbrev pub referred_in : TypeCodeKind → Entity → Paths
-referred_in code.Structure e = flat_map named_by_member (members_of e)
-referred_in code.Exception e = flat_map named_by_member (members_of e)
-referred_in code.Union e = named_by e.data_type ++ flat_map named_by_labels (members_of e)
-referred_in code.Alias e = named_by e.data_type
-referred_in other e = []
-
--- those of an interface's bases
-abbrev pub listed_bases : Entity → Paths
-listed_bases e =
-    if kind_eq e.kind kind.Interface then e.bases
-    else if kind_eq e.kind kind.Structure then e.bases else []
-
--- of a row with a TypeCode: its own path is told again there
-abbrev pub referred_by_coded : Entity → Paths
-referred_by_coded e =
-    elim (kind_in e) [ None ↦ [] | Some code ↦ e.path ∷ (referred_in code e ++ listed_bases e) ]
-
-abbrev pub referred_by_attribute : Entity → Paths
-referred_by_attribute e = named_by e.data_type ++ (raised_of e ++ raised_by_set_of e)
-
-abbrev pub referred_by_operation : Entity → Paths
-referred_by_operation e =
-    named_by e.data_type ++ (flat_map named_by_member (members_of e) ++ raised_of e)
-
--- those of a row, behind its own id
-abbrev pub referred : Entity → Paths
-referred e =
-    if kind_eq e.kind kind.Constant then named_by e.data_type
-    else if kind_eq e.kind kind.Attribute then referred_by_attribute e
-    else if kind_eq e.kind kind.Operation then referred_by_operation e
-    else referred_by_coded e
+-- those of a row, behind its own id: a TypeCode tells that again
+abbrev pub referred : Kind → Entity → Paths
+referred kind.Interface e = e.path ∷ e.bases
+referred kind.Structure e = e.path ∷ (flat_map named_by_member (shown e).members ++ e.bases)
+referred kind.Union e =
+    e.path ∷ (named_by e.data_type ++ flat_map named_by_labels (shown e).members)
+referred kind.Exception e = e.path ∷ flat_map named_by_member (shown e).members
+referred kind.Enumeration e = e.path ∷ []
+referred kind.Alias e = e.path ∷ named_by e.data_type
+referred kind.Native e = e.path ∷ []
+referred kind.Constant e = named_by e.data_type
+referred kind.Attribute e = named_by e.data_type ++ ((shown e).raised ++ (shown e).raised_by_set)
+referred kind.Operation e =
+    named_by e.data_type ++ (flat_map named_by_member (shown e).members ++ (shown e).raised)
+referred other e = []

@@ -1,8 +1,7 @@
 -- The rows of a listing: one equation for each line of the format.
-use Rattle.std.specs.Prelude.{ℕ, Bool, true, false, List, [], ◌∷◌, ◌++◌, codes, flat_map, None, Some, if◌then◌else◌}
-use Rattle.idl_repo.specs.Pieces.{Pieces, IdOf, Says, commas, says}
-use Rattle.idl_repo.specs.TypeCode.{code_pieces, kind_in, listed_value, members_of, reference, type_pieces, typed_pieces}
-use Rattle.idl_entity.specs.Kind.{kind_eq}
+use Rattle.std.specs.Prelude.{ℕ, Bool, true, false, List, [], ◌∷◌, ◌++◌, codes, flat_map, None, Some}
+use Rattle.idl_repo.specs.Pieces.{Pieces, IdOf, Says, commas, says, with_commas}
+use Rattle.idl_repo.specs.TypeCode.{code_pieces, entries_of, enumerator_word, interface_head, listed_value, member_pieces, reference, shown, type_behind, type_pieces, typed_pieces}
 use Rattle.idl_entity.specs.declared.entity.Entity.{Entity}
 use Rattle.idl_entity.specs.declared.kind.Kind.{Kind}
 use Rattle.idl_entity.specs.declared.kind.Kind.TheVariants as kind
@@ -34,33 +33,14 @@ path_text (name ∷ scope ∷ outer) = path_text (scope ∷ outer) ++ (codes "::
 abbrev pub references : List (List (List ℕ)) → Pieces
 references paths = commas reference paths
 
--- what an entity raises, what writing it raises, and the texts of its context
-abbrev pub raised_of : Entity → List (List (List ℕ))
-raised_of e = elim e.signature [ None ↦ [] | Some s ↦ s.raised ]
+-- the bases of an interface, and the base of a struct, if it has one
+abbrev pub bases_pieces : List (List (List ℕ)) → Pieces
+bases_pieces paths = Says (codes " bases(") ∷ (references paths ++ says (codes ")"))
 
-abbrev pub raised_by_set_of : Entity → List (List (List ℕ))
-raised_by_set_of e = elim e.signature [ None ↦ [] | Some s ↦ s.raised_by_set ]
-
-abbrev pub contexts_of : Entity → List (List ℕ)
-contexts_of e = elim e.signature [ None ↦ [] | Some s ↦ s.contexts ]
-
--- the base of a struct, if it has one
 abbrev pub base_pieces : List (List (List ℕ)) → Pieces
 base_pieces [] = []
 base_pieces (path ∷ paths) =
     Says (codes " base(") ∷ (references (path ∷ paths) ++ says (codes ")"))
-
--- ID TC, of an interface ID TC bases(REF,..), and of a struct with a base ID TC base(REF)
-abbrev pub bases_pieces : Entity → Pieces
-bases_pieces e =
-    if kind_eq e.kind kind.Interface
-    then Says (codes " bases(") ∷ (references e.bases ++ says (codes ")"))
-    else if kind_eq e.kind kind.Structure then base_pieces e.bases else []
-
-abbrev pub coded_pieces : Entity → Pieces
-coded_pieces e =
-    elim (kind_in e)
-    [ None ↦ [] | Some code ↦ Says (codes " ") ∷ (code_pieces code e ++ bases_pieces e) ]
 
 -- ID TYPE VALUE
 abbrev pub value_pieces : Entity → Pieces
@@ -81,9 +61,9 @@ attribute_pieces e =
     Says (flag e.is_readonly (codes " readonly "))
     ∷ (type_pieces e.data_type
     ++ Says (codes " get(")
-    ∷ (references (raised_of e)
+    ∷ (references (shown e).raised
     ++ Says (codes ") set(")
-    ∷ (references (raised_by_set_of e) ++ says (codes ")"))))
+    ∷ (references (shown e).raised_by_set ++ says (codes ")"))))
 
 abbrev pub direction_word : Bool → Bool → List ℕ
 direction_word true true = codes "inout"
@@ -98,31 +78,40 @@ parameter_pieces m =
 abbrev pub context_word : List ℕ → List ℕ
 context_word text = value_word (Text text)
 
-abbrev pub contexts_word : List (List ℕ) → List ℕ
-contexts_word [] = []
-contexts_word (text ∷ texts) =
-    context_word text ++ flat_map (λ more. codes "," ++ context_word more) texts
-
 -- ID [oneway ]TYPE (DIR NAME:TYPE,..) raises(REF,..) context(TEXT,..)
 abbrev pub operation_pieces : Entity → Pieces
 operation_pieces e =
     Says (flag e.is_oneway (codes " oneway "))
     ∷ (type_pieces e.data_type
     ++ Says (codes " (")
-    ∷ (commas parameter_pieces (members_of e)
+    ∷ (commas parameter_pieces (shown e).members
     ++ Says (codes ") raises(")
-    ∷ (references (raised_of e)
-    ++ Says (codes ") context(") ∷ Says (contexts_word (contexts_of e)) ∷ says (codes ")"))))
+    ∷ (references (shown e).raised
+    ++ Says (codes ") context(")
+    ∷ Says (with_commas context_word (shown e).contexts) ∷ says (codes ")"))))
 
-abbrev pub behind_id : Entity → Pieces
-behind_id e =
-    if kind_eq e.kind kind.Constant then constant_pieces e
-    else if kind_eq e.kind kind.Attribute then attribute_pieces e
-    else if kind_eq e.kind kind.Operation then operation_pieces e
-    else coded_pieces e
+-- what stands behind the id: TC, of an interface TC bases(REF,..), of a struct with a base TC base(REF)
+abbrev pub behind_id : Kind → Entity → Pieces
+behind_id kind.Interface e =
+    code_pieces (interface_head e.is_local) e [] ++ bases_pieces e.bases
+behind_id kind.Structure e =
+    code_pieces (codes " tk_struct(") e (flat_map member_pieces (shown e).members)
+    ++ base_pieces e.bases
+behind_id kind.Union e =
+    code_pieces (codes " tk_union(") e (type_behind e.data_type ++ entries_of (shown e).members)
+behind_id kind.Exception e =
+    code_pieces (codes " tk_except(") e (flat_map member_pieces (shown e).members)
+behind_id kind.Enumeration e =
+    code_pieces (codes " tk_enum(") e (says (flat_map enumerator_word e.enumerators))
+behind_id kind.Alias e = code_pieces (codes " tk_alias(") e (type_behind e.data_type)
+behind_id kind.Native e = code_pieces (codes " tk_native(") e []
+behind_id kind.Constant e = constant_pieces e
+behind_id kind.Attribute e = attribute_pieces e
+behind_id kind.Operation e = operation_pieces e
+behind_id other e = []
 
 -- a row: its word, the path, the id, and what stands behind that
 abbrev pub row_pieces : Entity → Pieces
 row_pieces e =
     Says (kind_word e.kind) ∷ Says (codes " ") ∷ Says (path_text e.path) ∷ Says (codes " ")
-    ∷ IdOf e.path ∷ behind_id e
+    ∷ IdOf e.path ∷ behind_id e.kind e

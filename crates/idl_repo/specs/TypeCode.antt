@@ -1,8 +1,7 @@
 -- TypeCodes, and how they and types are written: one equation for each line of the format.
 use Rattle.std.specs.Prelude.{ℕ, ◌+◌, Bool, true, false, List, [], ◌∷◌, ◌++◌, codes, decimal, flat_map, Option, None, Some}
+use Rattle.std.specs.Option.{option_map, unwrap_or}
 use Rattle.idl_repo.specs.Pieces.{Pieces, IdOf, Says, says}
-use Rattle.idl_repo.specs.declared.type_code.TypeCodeKind.{TypeCodeKind}
-use Rattle.idl_repo.specs.declared.type_code.TypeCodeKind.TheVariants as code
 use Rattle.idl_entity.specs.Path.{name_of}
 use Rattle.idl_entity.specs.declared.data_type.DataType.{DataType}
 use Rattle.idl_entity.specs.declared.data_type.Element.{Element}
@@ -12,9 +11,8 @@ use Rattle.idl_entity.specs.declared.data_type.Layer.TheVariants.{Sequence, Arra
 use Rattle.idl_entity.specs.declared.unvalued.Unvalued.{Unvalued}
 use Rattle.idl_entity.specs.declared.unvalued.Unvalued.TheVariants as unvalued
 use Rattle.idl_entity.specs.declared.entity.Entity.{Entity}
-use Rattle.idl_entity.specs.declared.kind.Kind.{Kind}
-use Rattle.idl_entity.specs.declared.kind.Kind.TheVariants as kind
 use Rattle.idl_entity.specs.declared.signature.Member.{Member}
+use Rattle.idl_entity.specs.declared.signature.Signature.{Signature}
 use Rattle.idl_value.specs.Spelled.{value_word}
 use Rattle.idl_value.specs.declared.integer.IntegerKind.{IntegerKind}
 use Rattle.idl_value.specs.declared.integer.IntegerKind.TheVariants as integer
@@ -114,8 +112,7 @@ listed_value (value.Enumerator enumeration name) = name
 listed_value other = value_word other
 
 abbrev pub label_word : Option Value → List ℕ
-label_word None = codes "default"
-label_word (Some v) = listed_value v
+label_word label = unwrap_or (option_map listed_value label) (codes "default")
 
 -- the entry of a union's label
 abbrev pub entry_pieces : Option Value → Member → Pieces
@@ -135,68 +132,31 @@ abbrev pub default_word : Option ℕ → List ℕ
 default_word None = codes "-1"
 default_word (Some n) = decimal n
 
+-- that of the entries of members
+abbrev pub default_of : List Member → Option ℕ
+default_of members = default_at 0 (flat_map (λ m. m.labels) members)
+
 -- the number of the entry of `default`, or -1, and then the entries
 abbrev pub entries_of : List Member → Pieces
 entries_of members =
-    Says (codes ",") ∷ Says (default_word (default_at 0 (flat_map (λ m. m.labels) members)))
-    ∷ flat_map labelled_pieces members
+    Says (codes ",") ∷ Says (default_word (default_of members)) ∷ flat_map labelled_pieces members
 
--- the members of an entity, or its parameters
-abbrev pub members_of : Entity → List Member
-members_of e = elim e.signature [ None ↦ [] | Some s ↦ s.members ]
+-- what an entity shows behind its name: nothing, where that isn't told
+abbrev pub shown : Entity → Signature
+shown e =
+    unwrap_or e.signature (record { members = []; raised = []; raised_by_set = []; contexts = [] })
 
 abbrev pub enumerator_word : List ℕ → List ℕ
 enumerator_word name = codes "," ++ name
 
--- the words of TypeCodes
-abbrev pub code_word : TypeCodeKind → List ℕ
-code_word code.ObjectReference = codes "tk_objref"
-code_word code.LocalInterface = codes "tk_local_interface"
-code_word code.Structure = codes "tk_struct"
-code_word code.Exception = codes "tk_except"
-code_word code.Union = codes "tk_union"
-code_word code.Enumeration = codes "tk_enum"
-code_word code.Alias = codes "tk_alias"
-code_word code.Native = codes "tk_native"
+-- how the TypeCode of an interface begins, behind a blank
+abbrev pub interface_head : Bool → List ℕ
+interface_head true = codes " tk_local_interface("
+interface_head false = codes " tk_objref("
 
--- the kind of an entity's TypeCode, if it has one
-abbrev pub interface_code : Bool → TypeCodeKind
-interface_code true = code.LocalInterface
-interface_code false = code.ObjectReference
+-- a TypeCode that begins so, up to its parts, and with them
+abbrev pub begin_pieces : List ℕ → Entity → Pieces
+begin_pieces head e = Says head ∷ IdOf e.path ∷ Says (codes ",") ∷ says (name_of e.path)
 
-abbrev pub code_kind : Kind → Bool → Option TypeCodeKind
-code_kind kind.Interface is_local = Some (interface_code is_local)
-code_kind kind.Structure is_local = Some code.Structure
-code_kind kind.Union is_local = Some code.Union
-code_kind kind.Exception is_local = Some code.Exception
-code_kind kind.Enumeration is_local = Some code.Enumeration
-code_kind kind.Alias is_local = Some code.Alias
-code_kind kind.Native is_local = Some code.Native
-code_kind other is_local = None
-
-abbrev pub kind_in : Entity → Option TypeCodeKind
-kind_in e = code_kind e.kind e.is_local
-
--- what stands behind the id and the name
-abbrev pub part_pieces : TypeCodeKind → Entity → Pieces
-part_pieces code.ObjectReference e = []
-part_pieces code.LocalInterface e = []
-part_pieces code.Native e = []
-part_pieces code.Structure e = flat_map member_pieces (members_of e)
-part_pieces code.Exception e = flat_map member_pieces (members_of e)
-part_pieces code.Union e = type_behind e.data_type ++ entries_of (members_of e)
-part_pieces code.Enumeration e = says (flat_map enumerator_word e.enumerators)
-part_pieces code.Alias e = type_behind e.data_type
-
--- behind the id the name and the parts
-abbrev pub rest_pieces : TypeCodeKind → Entity → Pieces
-rest_pieces k e =
-    Says (codes ",") ∷ Says (name_of e.path) ∷ (part_pieces k e ++ says (codes ")"))
-
-abbrev pub code_pieces : TypeCodeKind → Entity → Pieces
-code_pieces k e =
-    Says (code_word k) ∷ Says (codes "(") ∷ IdOf e.path ∷ rest_pieces k e
-
--- the beginning of a TypeCode with this id, behind a blank
-abbrev pub code_head : TypeCodeKind → List ℕ → List ℕ
-code_head k id = codes " " ++ (code_word k ++ (codes "(" ++ id))
+abbrev pub code_pieces : List ℕ → Entity → Pieces → Pieces
+code_pieces head e parts = begin_pieces head e ++ (parts ++ says (codes ")"))

@@ -6,8 +6,8 @@ ghost use Rattle.idl_repo.specs.Entry.{IsPushed, entry};
 ghost use Rattle.idl_env.specs.Facts.{answers};
 
 use crate::entry::{Pushed, push_entry};
-use crate::row::kind_head;
 use crate::shown::members_of;
+use crate::words::kind_word;
 use idl_base::Shared;
 use idl_entity::{DataType, Element, Entity, Path};
 use idl_env::{Answer, Env, LentKey, entity_in};
@@ -60,7 +60,7 @@ impl<'e> Answered<'e> {
     /// How much room the first word of its row takes.
     pub fn word_room(&self) -> usize {
         match entity_in(self.answer) {
-            Some(entity) => kind_head(entity.get().kind()).len(),
+            Some(entity) => kind_word(entity.get().kind()).len(),
             None => 0,
         }
     }

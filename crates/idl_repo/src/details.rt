@@ -11,14 +11,13 @@ mod type_code_tree;
 mod type_codes;
 mod type_tree;
 mod types;
-mod words;
 
+pub use crate::words::{direction_word, kind_word};
 pub use laws::printing;
 pub use reference::Reference;
 pub use row_tree::{
     AttributeTree, ConstantTree, DeclaredType, OperationTree, ParameterTree, RowDetails, RowTree,
 };
 pub use rows::tree_of;
-pub use type_code_tree::{CaseTree, MemberTree, TypeCodeParts, TypeCodeTree, UnionTree};
+pub use type_code_tree::{CaseTree, MemberTree, TypeCodeParts, TypeCodeTree, UnionTree, code_word};
 pub use type_tree::{ElementTree, LayeredType};
-pub use words::{code_word, direction_word, kind_word, push_type};

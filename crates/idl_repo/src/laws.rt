@@ -6,10 +6,9 @@ ghost use Rattle.std.specs.Prelude.{◌≡◌, ◌∷◌, ◌++◌, ℕ, List, N
 ghost use Rattle.idl_memo.specs.Query.{asked, outcome};
 ghost use Rattle.idl_repo.specs.Entry.{closing_fault, entry, no_entry};
 ghost use Rattle.idl_repo.specs.Pieces.{asked_of, ids_in, text_over};
-ghost use Rattle.idl_repo.specs.Referred.{referred, referred_in};
-ghost use Rattle.idl_repo.specs.Row.{row_pieces};
-ghost use Rattle.idl_repo.specs.TypeCode.{code_pieces, element_pieces, written_type};
-ghost use Rattle.idl_repo.specs.declared.type_code.TypeCodeKind.{TypeCodeKind};
+ghost use Rattle.idl_repo.specs.Referred.{referred};
+ghost use Rattle.idl_repo.specs.Row.{behind_id, row_pieces};
+ghost use Rattle.idl_repo.specs.TypeCode.{element_pieces, written_type};
 ghost use Rattle.idl_entity.specs.DataType.{plain_type, with_arrays, with_layer};
 ghost use Rattle.idl_env.specs.Facts.{entity_in, entity_key};
 ghost use Rattle.idl_env.specs.declared.answering.answer.Answer.{Answer};
@@ -17,6 +16,7 @@ ghost use Rattle.idl_entity.specs.declared.data_type.DataType.{DataType};
 ghost use Rattle.idl_entity.specs.declared.data_type.Element.{Element};
 ghost use Rattle.idl_entity.specs.declared.data_type.Layer.TheVariants.{Array, Sequence};
 ghost use Rattle.idl_entity.specs.declared.entity.Entity.{Entity};
+ghost use Rattle.idl_entity.specs.declared.kind.Kind.{Kind};
 ghost use Rattle.idl_env.specs.declared.keys.key.Key.{Key};
 
 /// The entry of a declared name is its row with each id put in; where nothing is declared, there is
@@ -35,14 +35,14 @@ pub fn listed_row()
 pub fn asked_ids()
     ensures { (path : List (List ℕ)) (bank : Key → Option Answer) (e : Entity)
         → entity_in (bank (entity_key path)) ≡ Some e
-        → asked (entry path) bank ≡ entity_key path ∷ flat_map (asked_of bank) (e.path ∷ referred e) }
+        → asked (entry path) bank ≡ entity_key path ∷ flat_map (asked_of bank) (e.path ∷ referred e.kind e) }
 {}
 
-/// A TypeCode expands no named type: it tells its own id and those of the types that are named in it.
+/// A row expands no named type: behind its id stand those of the types that it names, of bases, and of exceptions, and in a TypeCode
+/// its own before them.
 pub fn references()
-    ensures { (kind : TypeCodeKind) (e : Entity) (bank : Key → Option Answer)
-        → ids_in bank (code_pieces kind e)
-        ≡ flat_map (asked_of bank) (e.path ∷ referred_in kind e) }
+    ensures { (kind : Kind) (e : Entity) (bank : Key → Option Answer)
+        → ids_in bank (behind_id kind e) ≡ flat_map (asked_of bank) (referred kind e) }
 {}
 
 /// A type is written as it nests: a sequence or an array stands around what it is of, and of the lengths of an array the first

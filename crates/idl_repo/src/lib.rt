@@ -23,10 +23,4 @@ mod words;
 pub use answered::Answered;
 pub use entry::{Entry, EntryTask, Pushed, entry_at};
 pub use laws::{asked_ids, listed_row, nesting, references};
-pub use row_writer::RowWriter;
-pub use shown::{contexts_of, members_of, raised_by_set_of, raised_of};
-pub use type_code::{TypeCode, TypeCodeKind};
-pub use words::{
-    begin_layers, end_layers, integer_word, push_context, push_default, push_listed, push_number,
-    push_path, push_target, unvalued_word,
-};
+pub use words::{integer_word, push_number, push_path, unvalued_word};

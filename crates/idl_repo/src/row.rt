@@ -1,15 +1,14 @@
 //! Rows of a listing.
 
-ghost use Rattle.std.specs.Prelude.{◌≡◌, ◌++◌, None, OnOk, codes};
-ghost use Rattle.idl_repo.specs.Pieces.{Writes, commas};
-ghost use Rattle.idl_repo.specs.Row.{attribute_pieces, base_pieces, bases_pieces, behind_id, constant_pieces, contexts_word, direction_word, flag, kind_word, operation_pieces, parameter_pieces, references, row_pieces};
-ghost use Rattle.idl_repo.specs.TypeCode.{kind_in};
+ghost use Rattle.std.specs.Prelude.{◌≡◌, ◌++◌, OnOk};
+ghost use Rattle.idl_repo.specs.Pieces.{IsAsked, Writes, commas, with_commas};
+ghost use Rattle.idl_repo.specs.Row.{attribute_pieces, base_pieces, bases_pieces, behind_id, constant_pieces, context_word, flag, operation_pieces, parameter_pieces, references, row_pieces};
 
-use crate::piece::id_of;
+use crate::piece::{AnsweredId, id_of};
 use crate::row_writer::RowWriter;
 use crate::shown::{contexts_of, members_of, raised_by_set_of, raised_of};
-use crate::type_code::TypeCode;
-use crate::words::{push_context, push_listed, push_path};
+use crate::type_code::interface_head;
+use crate::words::{direction_word, kind_word, push_context, push_listed, push_path};
 use idl_base::Seq;
 use idl_entity::{Entity, Kind, Member, Path};
 use std::alloc::AllocError;
@@ -19,47 +18,51 @@ impl<'a> RowWriter<'a> {
     pub fn push_row(&mut self, entity: &Entity) -> Result<(), AllocError>
         ensures { OnOk result (Writes (row_pieces entity.now) self.old self.new) }
     {
-        self.text.extend_from_slice(kind_head(entity.kind()))?;
+        self.text.extend_from_slice(kind_word(entity.kind()))?;
+        self.text.extend_from_slice(b" ")?;
         let path = entity.path();
         push_path(&mut self.text, path.lent())?;
         self.text.extend_from_slice(b" ")?;
         let id = id_of(self.env, &mut self.log, path)?;
         id.write(&mut self.text)?;
-        match TypeCode::of(entity) {
-            Some(code) => {
-                code.push_head(&mut self.text, id)?;
-                self.push_rest(code)?;
-                self.push_bases(entity)?;
-            }
-            None => self.push_uncoded(entity)?,
-        }
+        self.push_behind(entity, id)?;
         Ok(())
     }
 
-    // What stands behind the id of a name that has no TypeCode.
-    fn push_uncoded(&mut self, entity: &Entity) -> Result<(), AllocError>
-        requires { kind_in entity.now ≡ None }
-        ensures { OnOk result (Writes (behind_id entity.now) self.old self.new) }
+    // What stands behind the id, which was asked.
+    fn push_behind(&mut self, entity: &Entity, id: AnsweredId<'_>) -> Result<(), AllocError>
+        requires { IsAsked id entity.now.path self.old }
+        ensures { OnOk result
+            (Writes (behind_id entity.now.kind entity.now) self.old self.new) }
     {
         match entity.kind() {
+            Kind::Interface => {
+                self.push_code(interface_head(entity.is_local()), entity, id)?;
+                self.push_bases(entity.bases())
+            }
+            Kind::Structure => {
+                self.push_members_code(b" tk_struct(", entity, id)?;
+                self.push_base(entity.bases())
+            }
+            Kind::Union => self.push_union(entity, id),
+            Kind::Exception => self.push_members_code(b" tk_except(", entity, id),
+            Kind::Enumeration => self.push_enumeration(entity, id),
+            Kind::Alias => self.push_alias(entity, id),
+            Kind::Native => self.push_code(b" tk_native(", entity, id),
             Kind::Constant => self.push_constant(entity),
             Kind::Attribute => self.push_attribute(entity),
             Kind::Operation => self.push_operation(entity),
-            _ => Ok(()),
+            Kind::Module | Kind::Enumerator | Kind::Parameter | Kind::Member => Ok(()),
         }
     }
 
-    // Behind the TypeCode of an interface its bases, and of a struct the base that it has.
-    fn push_bases(&mut self, entity: &Entity) -> Result<(), AllocError>
-        ensures { OnOk result (Writes (bases_pieces entity.now) self.old self.new) }
+    // The bases of an interface.
+    fn push_bases(&mut self, paths: &[Path]) -> Result<(), AllocError>
+        ensures { OnOk result (Writes (bases_pieces paths.now) self.old self.new) }
     {
-        if entity.kind() == Kind::Interface {
-            self.text.extend_from_slice(b" bases(")?;
-            self.push_references(entity.bases())?;
-            self.text.extend_from_slice(b")")?;
-        } else if entity.kind() == Kind::Structure {
-            self.push_base(entity.bases())?;
-        }
+        self.text.extend_from_slice(b" bases(")?;
+        self.push_references(paths)?;
+        self.text.extend_from_slice(b")")?;
         Ok(())
     }
 
@@ -155,30 +158,11 @@ impl<'a> RowWriter<'a> {
     fn push_parameter(&mut self, parameter: &Member) -> Result<(), AllocError>
         ensures { OnOk result (Writes (parameter_pieces parameter.now) self.old self.new) }
     {
-        self.text
-            .extend_from_slice(direction_head(parameter.goes_in, parameter.comes_out))?;
+        let direction = direction_word(parameter.goes_in, parameter.comes_out);
+        self.text.extend_from_slice(direction)?;
+        self.text.extend_from_slice(b" ")?;
         self.push_typed(parameter)?;
         Ok(())
-    }
-}
-
-/// The word of a row, with a blank behind it.
-pub fn kind_head(kind: Kind) -> &'static [u8]
-    ensures { result.now ≡ kind_word kind ++ codes " " }
-{
-    match kind {
-        Kind::Module => b"module ",
-        Kind::Interface => b"interface ",
-        Kind::Structure => b"struct ",
-        Kind::Union => b"union ",
-        Kind::Exception => b"exception ",
-        Kind::Enumeration => b"enum ",
-        Kind::Alias => b"alias ",
-        Kind::Native => b"native ",
-        Kind::Constant => b"const ",
-        Kind::Attribute => b"attribute ",
-        Kind::Operation => b"operation ",
-        Kind::Enumerator | Kind::Parameter | Kind::Member => b" ",
     }
 }
 
@@ -189,21 +173,10 @@ fn flag(stands: bool, word: &'static [u8]) -> &'static [u8]
     if stands { word } else { b" " }
 }
 
-// Where a parameter goes, with a blank behind it.
-fn direction_head(goes_in: bool, comes_out: bool) -> &'static [u8]
-    ensures { result.now ≡ direction_word goes_in comes_out ++ codes " " }
-{
-    match (goes_in, comes_out) {
-        (true, true) => b"inout ",
-        (false, true) => b"out ",
-        _ => b"in ",
-    }
-}
-
 // Texts, with commas between them.
 fn push_contexts(text: &mut Vec<u8>, contexts: &[Seq<u16>]) -> Result<(), AllocError>
     ensures { OnOk result
-        (text.new.items ≡ text.old.items ++ contexts_word contexts.now) }
+        (text.new.items ≡ text.old.items ++ with_commas context_word contexts.now) }
 {
     let [first, rest @ ..] = contexts else {
         return Ok(());

@@ -2,15 +2,14 @@
 
 ghost use Rattle.std.specs.Prelude.{◌≡◌};
 ghost use Rattle.std.specs.Option.{option_copied};
-ghost use Rattle.idl_repo.specs.Row.{contexts_of, raised_by_set_of, raised_of};
-ghost use Rattle.idl_repo.specs.TypeCode.{members_of};
+ghost use Rattle.idl_repo.specs.TypeCode.{shown};
 
 use idl_base::Seq;
 use idl_entity::{Entity, Member, Path, Signature};
 
 /// The members of what is declared so, or the parameters.
 pub fn members_of(entity: &Entity) -> &[Member]
-    ensures { result.now ≡ members_of entity.now }
+    ensures { result.now ≡ (shown entity.now).members }
 {
     match signature_of(entity) {
         Some(signature) => signature.members.as_slice(),
@@ -20,7 +19,7 @@ pub fn members_of(entity: &Entity) -> &[Member]
 
 /// What an operation, or the reading of an attribute, raises.
 pub fn raised_of(entity: &Entity) -> &[Path]
-    ensures { result.now ≡ raised_of entity.now }
+    ensures { result.now ≡ (shown entity.now).raised }
 {
     match signature_of(entity) {
         Some(signature) => signature.raised.as_slice(),
@@ -30,7 +29,7 @@ pub fn raised_of(entity: &Entity) -> &[Path]
 
 /// What the writing of an attribute raises.
 pub fn raised_by_set_of(entity: &Entity) -> &[Path]
-    ensures { result.now ≡ raised_by_set_of entity.now }
+    ensures { result.now ≡ (shown entity.now).raised_by_set }
 {
     match signature_of(entity) {
         Some(signature) => signature.raised_by_set.as_slice(),
@@ -40,7 +39,7 @@ pub fn raised_by_set_of(entity: &Entity) -> &[Path]
 
 /// The texts of an operation's context.
 pub fn contexts_of(entity: &Entity) -> &[Seq<u16>]
-    ensures { result.now ≡ contexts_of entity.now }
+    ensures { result.now ≡ (shown entity.now).contexts }
 {
     match signature_of(entity) {
         Some(signature) => signature.contexts.as_slice(),

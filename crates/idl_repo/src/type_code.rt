@@ -1,9 +1,10 @@
 //! TypeCodes, and how they and types are written.
 
-ghost use Rattle.std.specs.Prelude.{◌≡◌, ◌++◌, IfOk, IfSome, OnOk, codes, flat_map};
-ghost use Rattle.std.specs.Option.{option_map};
-ghost use Rattle.idl_repo.specs.Pieces.{Writes, told_id};
-ghost use Rattle.idl_repo.specs.TypeCode.{code_head, code_word, default_at, element_pieces, entries_of, enumerator_word, kind_in, label_word, labelled_pieces, member_pieces, part_pieces, reference, rest_pieces, type_behind, type_pieces, typed_pieces};
+ghost use Rattle.std.specs.Prelude.{◌≡◌, ◌++◌, [], IfOk, OnOk, flat_map};
+ghost use Rattle.idl_repo.specs.Pieces.{IsAsked, Writes};
+ghost use Rattle.idl_repo.specs.Row.{behind_id};
+ghost use Rattle.idl_repo.specs.TypeCode.{begin_pieces, code_pieces, default_of, element_pieces, entries_of, enumerator_word, interface_head, label_word, labelled_pieces, member_pieces, reference, shown, type_behind, type_pieces, typed_pieces};
+ghost use Rattle.idl_entity.specs.declared.kind.Kind.TheVariants.{Alias, Enumeration, Union};
 
 use crate::piece::AnsweredId;
 use crate::row_writer::RowWriter;
@@ -12,112 +13,108 @@ use crate::words::{
     begin_layers, end_layers, push_default, push_listed, push_target, unvalued_word,
 };
 use idl_base::{Bytes, Shared};
-use idl_entity::{DataType, Element, Entity, Kind, Member, Path};
+use idl_entity::{DataType, Element, Entity, Member, Path};
 use idl_value::Value;
 use std::alloc::AllocError;
 
-/// What a TypeCode is of.
-#[derive(Clone, Copy)]
-pub enum TypeCodeKind {
-    ObjectReference,
-    LocalInterface,
-    Structure,
-    Exception,
-    Union,
-    Enumeration,
-    Alias,
-    Native,
-}
-
-/// The TypeCode of a declared name.
-#[derive(Clone, Copy)]
-pub struct TypeCode<'a> {
-    kind: TypeCodeKind,
-    entity: &'a Entity,
-}
-
-impl TypeCodeKind {
-    /// The word of it, behind a blank, and the parenthesis behind it.
-    pub fn head(self) -> &'static [u8]
-        ensures { result.now ≡ codes " " ++ (code_word self ++ codes "(") }
-    {
-        match self {
-            TypeCodeKind::ObjectReference => b" tk_objref(",
-            TypeCodeKind::LocalInterface => b" tk_local_interface(",
-            TypeCodeKind::Structure => b" tk_struct(",
-            TypeCodeKind::Exception => b" tk_except(",
-            TypeCodeKind::Union => b" tk_union(",
-            TypeCodeKind::Enumeration => b" tk_enum(",
-            TypeCodeKind::Alias => b" tk_alias(",
-            TypeCodeKind::Native => b" tk_native(",
-        }
-    }
-}
-
-impl<'a> TypeCode<'a> {
-    /// That of what is declared so, if it has one.
-    pub fn of(entity: &'a Entity) -> Option<TypeCode<'a>>
-        ensures kind { option_map (λ code. code.kind) result ≡ kind_in entity.now }
-        ensures entity { IfSome result (λ code. code.entity.now ≡ entity.now) }
-    {
-        let kind = match entity.kind() {
-            Kind::Interface if entity.is_local() => TypeCodeKind::LocalInterface,
-            Kind::Interface => TypeCodeKind::ObjectReference,
-            Kind::Structure => TypeCodeKind::Structure,
-            Kind::Union => TypeCodeKind::Union,
-            Kind::Exception => TypeCodeKind::Exception,
-            Kind::Enumeration => TypeCodeKind::Enumeration,
-            Kind::Alias => TypeCodeKind::Alias,
-            Kind::Native => TypeCodeKind::Native,
-            _ => return None,
-        };
-        Some(TypeCode { kind, entity })
-    }
-
-    // Writes its beginning, behind a blank: its word, and behind a parenthesis its id.
-    pub(crate) fn push_head(self, text: &mut Vec<u8>, id: AnsweredId<'_>) -> Result<(), AllocError>
-        ensures { OnOk result
-            (text.new.items ≡ text.old.items ++ code_head self.entry.kind (told_id id.entry)) }
-    {
-        text.extend_from_slice(self.kind.head())?;
-        id.write(text)
+/// How the TypeCode of an interface begins, behind a blank.
+pub fn interface_head(is_local: bool) -> &'static [u8]
+    ensures { result.now ≡ interface_head is_local }
+{
+    if is_local {
+        b" tk_local_interface("
+    } else {
+        b" tk_objref("
     }
 }
 
 impl<'a> RowWriter<'a> {
-    /// Writes what stands behind the id of a TypeCode: its name and its parts.
-    pub fn push_rest(&mut self, code: TypeCode<'_>) -> Result<(), AllocError>
-        ensures { OnOk result
-            (Writes (rest_pieces code.entry.kind code.entry.entity.now) self.old self.new) }
+    // Begins a TypeCode: what stands before its id, that, which was asked, and its name.
+    fn begin_code(
+        &mut self,
+        head: &[u8],
+        entity: &Entity,
+        id: AnsweredId<'_>,
+    ) -> Result<(), AllocError>
+        requires { IsAsked id entity.now.path self.old }
+        ensures { OnOk result (Writes (begin_pieces head.now entity.now) self.old self.new) }
     {
+        self.text.extend_from_slice(head)?;
+        id.write(&mut self.text)?;
         self.text.extend_from_slice(b",")?;
-        self.text.extend_from_slice(code.entity.path().name())?;
-        self.push_parts(code)?;
+        self.text.extend_from_slice(entity.path().name())?;
+        Ok(())
+    }
+
+    /// A TypeCode that begins so and has nothing behind the name.
+    pub fn push_code(
+        &mut self,
+        head: &[u8],
+        entity: &Entity,
+        id: AnsweredId<'_>,
+    ) -> Result<(), AllocError>
+        requires { IsAsked id entity.now.path self.old }
+        ensures { OnOk result (Writes (code_pieces head.now entity.now []) self.old self.new) }
+    {
+        self.begin_code(head, entity, id)?;
         self.text.extend_from_slice(b")")?;
         Ok(())
     }
 
-    // What stands behind the name.
-    fn push_parts(&mut self, code: TypeCode<'_>) -> Result<(), AllocError>
-        ensures { OnOk result
-            (Writes (part_pieces code.entry.kind code.entry.entity.now) self.old self.new) }
+    /// A TypeCode that begins so and has members.
+    pub fn push_members_code(
+        &mut self,
+        head: &[u8],
+        entity: &Entity,
+        id: AnsweredId<'_>,
+    ) -> Result<(), AllocError>
+        requires { IsAsked id entity.now.path self.old }
+        ensures { OnOk result (Writes
+            (code_pieces head.now entity.now (flat_map member_pieces (shown entity.now).members))
+            self.old self.new) }
     {
-        match code.kind {
-            TypeCodeKind::ObjectReference | TypeCodeKind::LocalInterface | TypeCodeKind::Native =>
-                Ok(()),
-            TypeCodeKind::Structure | TypeCodeKind::Exception => {
-                self.push_members(members_of(code.entity))
-            }
-            TypeCodeKind::Union => {
-                self.push_type_behind(code.entity.data_type())?;
-                self.push_entries(members_of(code.entity))?;
-                Ok(())
-            }
-            TypeCodeKind::Enumeration => {
-                push_enumerators(&mut self.text, code.entity.enumerators())
-            }
-            TypeCodeKind::Alias => self.push_type_behind(code.entity.data_type()),
-        }
+        self.begin_code(head, entity, id)?;
+        self.push_members(members_of(entity))?;
+        self.text.extend_from_slice(b")")?;
+        Ok(())
+    }
+
+    /// The TypeCode of a union.
+    pub fn push_union(&mut self, entity: &Entity, id: AnsweredId<'_>) -> Result<(), AllocError>
+        requires { IsAsked id entity.now.path self.old }
+        ensures { OnOk result (Writes (behind_id Union entity.now) self.old self.new) }
+    {
+        self.begin_code(b" tk_union(", entity, id)?;
+        self.push_type_behind(entity.data_type())?;
+        self.push_entries(members_of(entity))?;
+        self.text.extend_from_slice(b")")?;
+        Ok(())
+    }
+
+    /// That of an enum.
+    pub fn push_enumeration(
+        &mut self,
+        entity: &Entity,
+        id: AnsweredId<'_>,
+    ) -> Result<(), AllocError>
+        requires { IsAsked id entity.now.path self.old }
+        ensures { OnOk result (Writes (behind_id Enumeration entity.now) self.old self.new) }
+    {
+        self.begin_code(b" tk_enum(", entity, id)?;
+        push_enumerators(&mut self.text, entity.enumerators())?;
+        self.text.extend_from_slice(b")")?;
+        Ok(())
+    }
+
+    /// That of a typedef.
+    pub fn push_alias(&mut self, entity: &Entity, id: AnsweredId<'_>) -> Result<(), AllocError>
+        requires { IsAsked id entity.now.path self.old }
+        ensures { OnOk result (Writes (behind_id Alias entity.now) self.old self.new) }
+    {
+        self.begin_code(b" tk_alias(", entity, id)?;
+        self.push_type_behind(entity.data_type())?;
+        self.text.extend_from_slice(b")")?;
+        Ok(())
     }
 
     // Each member, with a comma before it.
@@ -211,10 +208,9 @@ impl<'a> RowWriter<'a> {
     }
 }
 
-// The number of the entry of `default`, if there is one.
-fn default_at(members: &[Member]) -> Result<Option<usize>, AllocError>
-    ensures { IfOk result
-        (λ number. number ≡ default_at 0 (flat_map (λ m. m.labels) members.now)) }
+/// The number of the entry of `default`, if there is one.
+pub fn default_at(members: &[Member]) -> Result<Option<usize>, AllocError>
+    ensures { IfOk result (λ number. number ≡ default_of members.now) }
 {
     let mut number: usize = 0;
     for member in members {

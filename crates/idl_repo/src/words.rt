@@ -1,12 +1,12 @@
 //! How the parts of a row are written, by themselves: what asks for no id.
 
 ghost use Rattle.std.specs.Prelude.{◌≡◌, ◌++◌, OnOk, decimal, flat_map};
-ghost use Rattle.idl_repo.specs.Row.{context_word, path_text};
+ghost use Rattle.idl_repo.specs.Row.{context_word, direction_word, kind_word, path_text};
 ghost use Rattle.idl_repo.specs.TypeCode.{default_word, integer_word, layer_end, layer_word, layers_begin, listed_value, size_of, string_word, target_word, unvalued_word};
 
 use idl_base::Seq;
 use idl_entity::paths::Names;
-use idl_entity::{Layer, Unvalued};
+use idl_entity::{Kind, Layer, Unvalued};
 use idl_value::{ConstantType, IntegerKind, Value, push_value};
 use itoa::Buffer;
 use std::alloc::AllocError;
@@ -24,6 +24,37 @@ pub fn push_path(text: &mut Vec<u8>, names: Names<'_>) -> Result<(), AllocError>
     }
     text.extend_from_slice(name)?;
     Ok(())
+}
+
+/// The word of a row.
+pub fn kind_word(kind: Kind) -> &'static [u8]
+    ensures { result.now ≡ kind_word kind }
+{
+    match kind {
+        Kind::Module => b"module",
+        Kind::Interface => b"interface",
+        Kind::Structure => b"struct",
+        Kind::Union => b"union",
+        Kind::Exception => b"exception",
+        Kind::Enumeration => b"enum",
+        Kind::Alias => b"alias",
+        Kind::Native => b"native",
+        Kind::Constant => b"const",
+        Kind::Attribute => b"attribute",
+        Kind::Operation => b"operation",
+        Kind::Enumerator | Kind::Parameter | Kind::Member => b"",
+    }
+}
+
+/// The word of a parameter that goes in or not, and comes out or not.
+pub fn direction_word(goes_in: bool, comes_out: bool) -> &'static [u8]
+    ensures { result.now ≡ direction_word goes_in comes_out }
+{
+    match (goes_in, comes_out) {
+        (true, true) => b"inout",
+        (false, true) => b"out",
+        _ => b"in",
+    }
 }
 
 /// A number in decimal.

@@ -53,7 +53,7 @@ use Rattle.idl_root.specs.Closing.{ClosesAtFirst, StandsAtFirst}
 use Rattle.idl_root.specs.Compile.{Outcome, outcome_of}
 use Rattle.idl_finding.specs.Findings.{fault_finding, finding_at, numbered, site_of, tokens_of}
 use Rattle.idl_root.specs.Judged.{facts_after, judged_after}
-use Rattle.idl_root.specs.Named.{NamedUnit, closings_in, end_before, ends_of, named_after, named_over, names_over}
+use Rattle.idl_root.specs.Named.{NamedUnit, closings_in, end_before, ends_of, is_used, named_after, named_over, names_over}
 use Rattle.idl_root.specs.NamePlaces.{declared_by, declared_in, declared_names, declared_until, declared_with, is_at, last_in, places_at, sited, sited_in}
 use Rattle.idl_finding.specs.Number.{token_number}
 use Rattle.idl_root.specs.Printed.{Listed, entry_over, first_paths, listed_in, listed_with, name_index}
@@ -260,6 +260,19 @@ begins-behind events l here names none b = record {
   places = places-append l.path here names ∙ ap (λ ps. ps ++ places_at l.path names) none ∙ b.places;
 }
 
+-- names that are used declare nothing
+used-declare-none : (names : List NamedSite) → declared_paths (filter is_used names) ≡ []
+used-declare-none [] = refl
+used-declare-none (n ∷ names) = by n.role refl (used-declare-none names)
+  where
+    uses : List NamedSite
+    uses = filter is_used names
+
+    by : (role : NameRole) → n.role ≡ role → declared_paths uses ≡ [] → declared_paths (cond (is_used n) (n ∷ uses) uses) ≡ []
+    by Declared is rest = ap (λ r. declared_paths (cond (elim r [ Declared ↦ false | Used ↦ true ]) (n ∷ uses) uses)) is ∙ rest
+    by Used is rest =
+        ap (λ r. declared_paths (cond (elim r [ Declared ↦ false | Used ↦ true ]) (n ∷ uses) uses)) is ∙ ap (λ r. declared_as r n.path ++ declared_paths uses) is ∙ rest
+
 listed-each : (P : Listed → Type 0) (text : UnitText) (sites : List Site) (paths : List (List (List ℕ))) → ((path : List (List ℕ)) → IsIn path paths → P (record { path = path; text = text; sites = sites }))
     → AllByRecursion P (listed_with text sites paths)
 listed-each P text sites [] each = tt
@@ -329,9 +342,9 @@ module _
     declared-known facts text path i = by (verdict_over facts text).fault refl i
       where
         by : (o : Option Fault) → (verdict_over facts text).fault ≡ o
-            → IsIn path (declared_paths (elim o as (λ _. List NamedSite) [ None ↦ unit_names most_turns (answers facts) text | Some fault ↦ [] ])) → IsSome (at (facts ++ writes facts text ∷ []) path)
+            → IsIn path (declared_paths (elim o as (λ _. List NamedSite) [ None ↦ unit_names most_turns (answers facts) text | Some fault ↦ filter is_used (unit_names most_turns (answers facts) text) ])) → IsSome (at (facts ++ writes facts text ∷ []) path)
         by None is i = known-on path facts (writes facts text) (known most_turns text (answers facts) path is (Contains-IsIn path (declared_paths (unit_names most_turns (answers facts) text)) i))
-        by (Some fault) is i = absurd i
+        by (Some fault) is i = absurd (subst (IsIn path) (used-declare-none (unit_names most_turns (answers facts) text)) i)
 
     -- what is added ahead was not there
     abbrev AreNew : List UnitFacts → UnitFacts → Type 0
@@ -406,7 +419,7 @@ module _
             said = ahead most_turns tokens (answers facts) d (Contains-IsIn (Declares d) (writes facts (Tokens tokens)).additions has) h
 
             all : (o : Option Fault) → (verdict_over facts (Tokens tokens)).fault ≡ o
-                → (elim o as (λ _. List NamedSite) [ None ↦ unit_names most_turns (answers facts) (Tokens tokens) | Some fault ↦ [] ]) ≡ record { index = length tokens - 2; role = Declared; path = d.path } ∷ []
+                → (elim o as (λ _. List NamedSite) [ None ↦ unit_names most_turns (answers facts) (Tokens tokens) | Some fault ↦ filter is_used (unit_names most_turns (answers facts) (Tokens tokens)) ]) ≡ record { index = length tokens - 2; role = Declared; path = d.path } ∷ []
             all None is = said.0
             all (Some fault) is = absurd (subst (λ (more : List Addition). IsIn (Declares d) more) (faulty-none appearing within refused refused-pragma spoken facts (Tokens tokens) fault is) has)
 

@@ -21,6 +21,7 @@ mod LooseLemmas
 mod MadeLemmas
 mod NamingLemmas
 mod OpenLemmas
+mod OutlineLemmas
 mod PassedBlocks
 mod PassedLemmas
 mod PiecesLemmas

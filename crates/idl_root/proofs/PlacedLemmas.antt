@@ -1,5 +1,5 @@
 -- Each name of a root's details is declared at a token.
-use Rattle.std.proofs.Common.{◌≡◌, ◌≢◌, ◌∙◌, ◌+◌, ◌-◌, ◌<◌, ℕ, Bool, true, false, List, [], ◌∷◌, ◌++◌, Option, None, Some, Result, Ok, Err, drop, filter, flat_map, length, map, slice_get, refl, sym, ap, subst, inl, inr, if◌then◌else◌, length-append, arith}
+use Rattle.std.proofs.Common.{◌≡◌, ◌≢◌, ◌∙◌, ◌+◌, ◌-◌, ◌<◌, ℕ, Bool, true, false, cond, List, [], ◌∷◌, ◌++◌, Option, None, Some, Result, Ok, Err, drop, filter, flat_map, length, map, slice_get, refl, sym, ap, subst, inl, inr, if◌then◌else◌, length-append, arith}
 use Rattle.std.proofs.lemmas.Bool.{false≢true}
 use Rattle.std.proofs.lemmas.List.{map-append}
 use Rattle.std.proofs.lemmas.List.Elements.{All-from_recursion, filter-append, recursion_from_All}
@@ -47,7 +47,7 @@ use Rattle.idl_root.specs.Compile.{Outcome, outcome_of}
 use Rattle.idl_root.specs.Details.{details, entry_of, listed_entries}
 use Rattle.idl_finding.specs.Findings.{site_of, tokens_of}
 use Rattle.idl_root.specs.Judged.{judged_after}
-use Rattle.idl_root.specs.Named.{NamedUnit, closes, closings_in, end_before, ends_of, named_after, named_over, names_over, opens}
+use Rattle.idl_root.specs.Named.{NamedUnit, closes, closings_in, end_before, ends_of, is_used, named_after, named_over, names_over, opens}
 use Rattle.idl_root.specs.NamePlaces.{declared_by, declared_in, declared_names, declared_until, declared_with, is_at, last_in, places_at, sited, sited_in}
 use Rattle.idl_finding.specs.Number.{token_number}
 use Rattle.idl_root.specs.Printed.{Listed, first_paths, listed_in, listed_with}
@@ -256,6 +256,15 @@ listed-all : (P : List (List ℕ) → Type 0) (text : UnitText) (sites : List Si
 listed-all P text sites [] each = tt
 listed-all P text sites (path ∷ paths) each = (each path (inl refl), listed-all P text sites paths (λ p i. each p (inr i)))
 
+-- what holds of each holds of each that passes
+kept-each : {X : Type 0} (P : X → Type 0) (p : X → Bool) (xs : List X) → AllByRecursion P xs → AllByRecursion P (filter p xs)
+kept-each P p [] are = tt
+kept-each P p (x ∷ xs) are = by (p x) (kept-each P p xs are.1)
+  where
+    by : (b : Bool) → AllByRecursion P (filter p xs) → AllByRecursion P (cond b (x ∷ filter p xs) (filter p xs))
+    by true rest = (are.0, rest)
+    by false rest = rest
+
 -- by the laws of names and of verdicts
 module _
     (appearing : (turns : ℕ) (text : UnitText) (answers : Key → Option Answer) (path : List (List ℕ)) (prefix : Prefix)
@@ -276,7 +285,7 @@ module _
     first-named facts text path i = by (verdict_over facts text).fault refl
       where
         by : (o : Option Fault) → (verdict_over facts text).fault ≡ o
-            → IsIn path (declared_paths (elim o as (λ _. List NamedSite) [ None ↦ unit_names most_turns (answers facts) text | Some fault ↦ [] ]))
+            → IsIn path (declared_paths (elim o as (λ _. List NamedSite) [ None ↦ unit_names most_turns (answers facts) text | Some fault ↦ filter is_used (unit_names most_turns (answers facts) text) ]))
         by None is =
             let found = first-in path (verdict_over facts text).writes.additions i in
             IsIn-Contains path (declared_paths (unit_names most_turns (answers facts) text))
@@ -286,12 +295,15 @@ module _
     placed-at : (facts : List UnitFacts) (text : UnitText) (sites : List Site) → AreSited text sites → IsPlaced (named_over facts text sites)
     placed-at facts (Tokens tokens) sites are = (are, by (verdict_over facts (Tokens tokens)).fault)
       where
-        by : (o : Option Fault) → AllByRecursion (λ (s : NamedSite). s.index < length tokens) (elim o as (λ _. List NamedSite) [ None ↦ unit_names most_turns (answers facts) (Tokens tokens) | Some fault ↦ [] ])
-        by None = recursion_from_All (λ (s : NamedSite). s.index < length tokens) (unit_names most_turns (answers facts) (Tokens tokens)) (within most_turns tokens (answers facts))
-        by (Some fault) = tt
+        inside : AllByRecursion (λ (s : NamedSite). s.index < length tokens) (unit_names most_turns (answers facts) (Tokens tokens))
+        inside = recursion_from_All (λ (s : NamedSite). s.index < length tokens) (unit_names most_turns (answers facts) (Tokens tokens)) (within most_turns tokens (answers facts))
+
+        by : (o : Option Fault) → AllByRecursion (λ (s : NamedSite). s.index < length tokens) (elim o as (λ _. List NamedSite) [ None ↦ unit_names most_turns (answers facts) (Tokens tokens) | Some fault ↦ filter is_used (unit_names most_turns (answers facts) (Tokens tokens)) ])
+        by None = inside
+        by (Some fault) = kept-each (λ (s : NamedSite). s.index < length tokens) is_used (unit_names most_turns (answers facts) (Tokens tokens)) inside
     placed-at facts (OfPragma tokens inside) sites are = (nameless (verdict_over facts (OfPragma tokens inside)).fault, stands (verdict_over facts (OfPragma tokens inside)).fault refl)
       where
-        nameless : (o : Option Fault) → (elim o as (λ _. List NamedSite) [ None ↦ unit_names most_turns (answers facts) (OfPragma tokens inside) | Some fault ↦ [] ]) ≡ []
+        nameless : (o : Option Fault) → (elim o as (λ _. List NamedSite) [ None ↦ unit_names most_turns (answers facts) (OfPragma tokens inside) | Some fault ↦ filter is_used (unit_names most_turns (answers facts) (OfPragma tokens inside)) ]) ≡ []
         nameless None = refl
         nameless (Some fault) = refl
 

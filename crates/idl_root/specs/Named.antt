@@ -1,7 +1,8 @@
 -- The units of a root with their names, each over the facts before it, and where what they declare
 -- ends.
-use Rattle.std.specs.Prelude.{◌≡◌, ℕ, Bool, true, false, List, [], ◌∷◌, ◌++◌, drop, map, slice_get, None, Some, if◌then◌else◌}
+use Rattle.std.specs.Prelude.{◌≡◌, ℕ, Bool, true, false, List, [], ◌∷◌, ◌++◌, drop, filter, map, slice_get, None, Some, if◌then◌else◌}
 use Rattle.std.specs.Option.{unwrap_or}
+use Rattle.idl_root_blocks.specs.idl_check.declared.walk.names.NameRole.TheVariants.{Declared, Used}
 use Rattle.idl_root_blocks.specs.idl_check.declared.walk.names.NamedSite.{NamedSite}
 use Rattle.idl_root_blocks.specs.idl_check.walk.Names.{unit_names}
 use Rattle.idl_env.specs.Facts.{UnitFacts, answers}
@@ -33,13 +34,15 @@ named_as u = record {
   step = u.step;
 }
 
--- the names of a text over facts: of one with a fault none
+-- a name that is used
+abbrev pub is_used : NamedSite → Bool
+is_used n = elim n.role [ Declared ↦ false | Used ↦ true ]
+
+-- the names of a text over facts: of one with a fault, which declares nothing, those that are used
 abbrev pub names_over : List UnitFacts → UnitText → List NamedSite
 names_over facts text =
-    elim (verdict_over facts text).fault [
-      | None ↦ unit_names most_turns (answers facts) text
-      | Some fault ↦ []
-    ]
+    let names = unit_names most_turns (answers facts) text in
+    elim (verdict_over facts text).fault [ None ↦ names | Some fault ↦ filter is_used names ]
 
 -- a unit over facts
 abbrev pub named_over : List UnitFacts → UnitText → List Site → NamedUnit

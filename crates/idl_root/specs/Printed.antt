@@ -32,6 +32,11 @@ first_paths (Appears path prefix ∷ additions) = path ∷ first_paths additions
 first_paths (Identifies path identity ∷ additions) = first_paths additions
 first_paths (TypePrefixes path text ∷ additions) = first_paths additions
 
+-- the path of the name that an addition declares first, of one that has an id
+abbrev pub first_path : Addition → List (List (List ℕ))
+first_path (Appears path prefix) = path ∷ []
+first_path other = []
+
 -- the names at these paths, which a unit with these tokens declares first
 abbrev pub listed_with : UnitText → List Site → List (List (List ℕ)) → List Listed
 listed_with text sites paths =

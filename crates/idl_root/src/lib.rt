@@ -15,8 +15,8 @@ mod kept;
 pub use compiling::compiled::{Compiled, RootAfter, RootBefore, Row, compile, compile_kept};
 pub use compiling::detailing::{DetailedEntry, Details, details_of};
 pub use compiling::laws::{
-    blocks, closing, compiled, detailing, facts, judging, ordering, placing, reading_units,
-    telling, texts,
+    blocks, closing, compiled, detailing, facts, judging, ordering, outline, placing,
+    reading_units, telling, texts,
 };
 pub use compiling::memory::Memory;
 pub use compiling::places::{DeclaredPlace, PlacedName, SitedToken, UsedName};

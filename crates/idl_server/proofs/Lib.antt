@@ -9,5 +9,7 @@ pub mod CoveredLemmas
 pub mod PlaceLemmas
 pub mod DiagnosticLemmas
 pub mod NamedLemmas
+pub mod IncludeLemmas
+pub mod ReferenceLemmas
 pub mod PublishedLemmas
 pub mod ServingLemmas

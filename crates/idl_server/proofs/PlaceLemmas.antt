@@ -1,16 +1,22 @@
 -- Ranges of lines, and of tokens.
-use Rattle.std.proofs.Common.{◌≡◌, ◌≤◌, ◌∙◌, ◌⊎◌, ℕ, zero, suc, ◌+◌, ◌*◌, All, List, [], ◌∷◌, ◌++◌, Some, ap, arith, inl, inr, length, pred, refl, subst, sym, take}
+use Rattle.std.proofs.Common.{◌≡◌, ◌≤◌, ◌∙◌, ◌⊎◌, ℕ, zero, suc, ◌+◌, ◌*◌, All, Bool, true, false, cond, List, [], ◌∷◌, ◌++◌, Some, ap, arith, inl, inr, length, pred, refl, subst, sym, take}
 use Rattle.std.proofs.lemmas.List.{take_all}
+use Rattle.std.proofs.lemmas.List.Elements.{All-cons, All-head, All-nil, All-tail}
 use Rattle.std.proofs.lemmas.Option.{same_Some}
+use Rattle.std.specs.Cmp.Lexicographic.{bytes_decides}
 use Rattle.std.specs.List.{slice_get, sum_by}
+use Rattle.std.specs.Map.{lookup}
 use Rattle.std.specs.Option.{unwrap_or}
+use Rattle.std.specs.Str.{bytes_eq}
+use Rattle.indexmap.specs.IndexMap.{insert_entry}
 use Rattle.idl_source.specs.Limits.{longest_line}
+use Rattle.idl_inputs.specs.Project.{Project}
 use Rattle.idl_inputs.specs.WithinLimits.{IsAllowedFile}
 use Rattle.idl_editor.specs.declared.change.Range.{Range}
 use Rattle.idl_editor.specs.declared.column.Encoding.{Encoding}
 use Rattle.idl_editor.specs.declared.position.Position.{Position}
 use Rattle.idl_editor.specs.Places.{line_range, position_behind, position_in, returns}
-use Rattle.idl_server.specs.Places.{AreCounts}
+use Rattle.idl_server.specs.Places.{AreCounts, AreOfProject, lines_of}
 
 -- a line of a file, and one that isn't there
 abbrev line_at : List (List ℕ) → ℕ → List ℕ
@@ -67,3 +73,33 @@ counts-more lines counts i count are many is few index other found = by (get-pus
     by (inl before) = are index other before
     by (inr last) =
         (sym last.1 ∙ is ∙ ap (λ (n : ℕ). sum_by returns (take n lines)) (sym (last.0 ∙ many)), subst (λ (n : ℕ). n ≤ longest_line * length lines) last.1 few)
+
+-- ---- files that are counted
+
+module _ (project : Project) (name : List ℕ) (lines : List (List ℕ)) where
+  abbrev IsOfProject : List ℕ × List (List ℕ) → Type 0
+  IsOfProject file = file.1 ≡ lines_of project file.0
+
+  -- one that is found is of its name
+  pub found-file : (files : List (List ℕ × List (List ℕ))) → AreOfProject project files → lookup (bytes_eq name) files ≡ Some lines → lines ≡ lines_of project name
+  found-file [] are is = cc
+  found-file (b ∷ files) are is = by (bytes_eq name b.0) refl is (found-file files (All-tail IsOfProject b files are))
+    where
+      by : (x : Bool) → bytes_eq name b.0 ≡ x → cond x (Some b.1) (lookup (bytes_eq name) files) ≡ Some lines → (lookup (bytes_eq name) files ≡ Some lines → lines ≡ lines_of project name)
+          → lines ≡ lines_of project name
+      by true same found later =
+          sym (same_Some b.1 lines found) ∙ All-head IsOfProject b files are ∙ ap (lines_of project) (sym ((bytes_decides name b.0).0 same))
+      by false other found later = later found
+
+  -- one more
+  pub with-file : lines ≡ lines_of project name → (files : List (List ℕ × List (List ℕ))) → AreOfProject project files → AreOfProject project (insert_entry bytes_eq files name lines)
+  with-file of [] are = All-cons IsOfProject (name, lines) [] of (All-nil IsOfProject)
+  with-file of (b ∷ files) are = by (bytes_eq name b.0) refl (with-file of files (All-tail IsOfProject b files are))
+    where
+      by : (x : Bool) → bytes_eq name b.0 ≡ x → AreOfProject project (insert_entry bytes_eq files name lines) → AreOfProject project (cond x ((b.0, lines) ∷ files) (b ∷ insert_entry bytes_eq files name lines))
+      by true same later = All-cons IsOfProject (b.0, lines) files (of ∙ ap (lines_of project) ((bytes_decides name b.0).0 same)) (All-tail IsOfProject b files are)
+      by false other later = All-cons IsOfProject b (insert_entry bytes_eq files name lines) (All-head IsOfProject b files are) later
+
+-- before the first is counted
+pub none-of_project : (project : Project) → AreOfProject project []
+none-of_project project = All-nil (λ (file : List ℕ × List (List ℕ)). file.1 ≡ lines_of project file.0)

@@ -1,7 +1,7 @@
 -- The name at a position, and what is shown of what it denotes.
-use Rattle.std.specs.Prelude.{ℕ, ◌-◌, Bool, ◌&&◌, ◌++◌, ◌∷◌, [], List, Option, None, Some, is_some, length, option_and_then, slice_get}
+use Rattle.std.specs.Prelude.{ℕ, ◌-◌, Bool, ◌&&◌, ◌++◌, ◌∷◌, [], List, Option, is_some, length, option_and_then, slice_get}
 use Rattle.std.specs.List.{find, list_any}
-use Rattle.std.specs.Option.{option_map, option_or}
+use Rattle.std.specs.Option.{option_map, option_or, unwrap_or}
 use Rattle.std.specs.Str.{bytes_eq}
 use Rattle.idl_repo.specs.Row.{kind_word}
 use Rattle.idl_editor.specs.declared.change.Range.{Range}
@@ -20,14 +20,9 @@ use Rattle.idl_project.specs.idl_sources.idl_root.declared.compiling.places.Plac
 use Rattle.idl_project.specs.idl_sources.idl_root.declared.compiling.places.SitedToken.{SitedToken}
 use Rattle.idl_project.specs.idl_sources.idl_root.declared.compiling.places.UsedName.{UsedName}
 use Rattle.idl_editor.specs.told.Json.{location_json}
-use Rattle.idl_editor.specs.Places.{is_up_to}
-use Rattle.idl_server.specs.Places.{range_of}
+use Rattle.idl_server.specs.Places.{file_start, is_at, range_of}
 use Rattle.idl_server.specs.Uris.{uri_for}
 use Rattle.idl_server.specs.declared.workspace.Workspace.{Workspace}
-
--- a range goes from a position or from before through it
-abbrev pub is_at : Position → Range → Bool
-is_at position range = is_up_to range.start position && is_up_to position range.end
 
 -- the range of a token
 abbrev pub token_range : Encoding → Project → SitedToken → Range
@@ -93,13 +88,19 @@ definition_at encoding project name position =
     option_and_then (λ details. declared_place encoding project details name position)
     (details_with project name)
 
--- what is told of that place: the range of the name in its file
-abbrev pub definition_json : Workspace → Option DeclaredPlace → Data
-definition_json w place = elim place [
-  | None ↦ null
-  | Some declared ↦ location_json (uri_for w declared.name.place.file)
-      (token_range w.encoding w.session.project declared.name)
-]
+-- what is told of such a place: the range of the name in its file
+abbrev pub place_json : Workspace → DeclaredPlace → Data
+place_json w declared = location_json (uri_for w declared.name.place.file)
+    (token_range w.encoding w.session.project declared.name)
+
+-- what is told of a file: where it begins
+abbrev pub file_json : Workspace → List ℕ → Data
+file_json w name = location_json (uri_for w name) file_start
+
+-- what is told of a definition: of that place, and else of the file that an include finds
+abbrev pub definition_json : Workspace → Option DeclaredPlace → Option (List ℕ) → Data
+definition_json w place included = unwrap_or
+    (option_or (option_map (place_json w) place) (option_map (file_json w) included)) null
 
 -- what is shown of an entry: `struct M::S`, and its id
 abbrev pub entry_text : DetailedEntry → List ℕ

@@ -6,7 +6,8 @@
 //! `server.rt` is a step, `beginning.rt` and `notices.rt` its parts; `edits.rt`, `closing.rt`, `loading.rt`, `roots.rt`
 //! change the workspace. Each file of the session is an open document's or the loader's, by two clauses for each
 //! operation: what it does to a name, and nothing beside. `found.rt`, `publishing.rt` tell findings; `named.rt`,
-//! `declarations.rt`, `symbols.rt` answer of names; `service.rt` is the loop. What names no session stands in `idl_editor`.
+//! `includes.rt`, `references.rt`, `declarations.rt`, `symbols.rt` answer of names; `service.rt` is the loop. What names
+//! no session stands in `idl_editor`.
 #![tactic(auto)]
 
 mod beginning;
@@ -15,11 +16,13 @@ mod declarations;
 mod diagnostics;
 mod edits;
 mod found;
+mod includes;
 mod loading;
 mod named;
 mod notices;
 mod places;
 mod publishing;
+mod references;
 mod requests;
 mod roots;
 mod server;

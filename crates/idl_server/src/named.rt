@@ -1,17 +1,21 @@
 //! Names at a position: where what they denote is declared, and what it is.
 
-ghost use Rattle.std.specs.Prelude.{◌≡◌, IfOk};
+ghost use Rattle.std.specs.Prelude.{◌≡◌, IfOk, option_and_then};
 ghost use Rattle.std.specs.Option.{option_copied, option_map};
 ghost use Rattle.serde_json.specs.View.{view};
 ghost use Rattle.idl_server.specs.Places.{lines_of};
-ghost use Rattle.idl_server.specs.Named.{declared_at, declared_place, definition_at, definition_json, details_with, entry_of, entry_text, has_path, last_declared, path_at, stands_at, used_at};
+ghost use Rattle.idl_editor.specs.told.Json.{location_json};
+ghost use Rattle.idl_server.specs.Includes.{included_at};
+ghost use Rattle.idl_server.specs.Named.{declared_at, declared_place, definition_at, definition_json, details_with, entry_of, entry_text, file_json, has_path, last_declared, path_at, stands_at, token_range, used_at};
+ghost use Rattle.idl_server.specs.Uris.{uri_for};
 
 use crate::declarations::push_declaration;
-use crate::places::{CountedFile, LocatedToken, range_near, range_of};
+use crate::includes::included_at;
+use crate::places::{CountedFile, DocumentPosition, LocatedToken, is_at, range_near, range_of};
 use crate::workspace::Workspace;
 use idl_editor::documents::uri_for;
 use idl_editor::told::{hover_value, location_value};
-use idl_editor::{Encoding, Position, is_up_to};
+use idl_editor::{Encoding, Position, Range};
 use idl_entity::Path;
 use idl_project::{
     DeclaredPlace, DetailedEntry, Details, PlacedName, Session, SitedToken, UsedName,
@@ -38,48 +42,46 @@ impl Drop for RootDetails {
     }
 }
 
-// A position in a file.
-#[derive(Clone, Copy)]
-struct DocumentPosition<'a> {
-    file: &'a CountedFile<'a>,
-    position: Position,
-}
-
 impl Workspace {
-    /// Where what the name at a position of a file denotes is declared, and else nothing.
+    /// Where what the name at a position of a file denotes is declared, the file that an include there finds, and else nothing.
     pub fn definition_at(&self, name: &Name, position: Position) -> Result<Value, AllocError>
         ensures { IfOk result (λ value. view value ≡ definition_json self.now
-            (definition_at self.now.encoding self.now.session.project name.now position)) }
-    {
-        match self.details_with(name)? {
-            Some(told) => self.definition_in(&told.details, name, position),
-            None => Ok(Value::Null),
-        }
-    }
-
-    // The same by what is told of a root.
-    fn definition_in(
-        &self,
-        details: &Details,
-        name: &Name,
-        position: Position,
-    ) -> Result<Value, AllocError>
-        ensures { IfOk result (λ value. view value ≡ definition_json self.now
-            (declared_place self.now.encoding self.now.session.project details.now
-            name.now position)) }
+            (definition_at self.now.encoding self.now.session.project name.now position)
+            (included_at self.now.encoding self.now.session.project name.now position)) }
     {
         let file = CountedFile::new(&self.session, name)?;
         let spot = DocumentPosition {
             file: &file,
             position,
         };
-        let Some(declared) = declared_place(&self.session, self.encoding, details, spot) else {
-            return Ok(Value::Null);
-        };
-        let token = &declared.name;
+        let told = self.details_with(name)?;
+        if let Some(declared) = defined_at(&self.session, self.encoding, &told, spot) {
+            return self.place_value(&declared.name);
+        }
+        match included_at(&self.session, self.encoding, spot) {
+            Some(name) => self.file_value(&name),
+            None => Ok(Value::Null),
+        }
+    }
+
+    // What is told of a token.
+    fn place_value(&self, token: &SitedToken) -> Result<Value, AllocError>
+        ensures { IfOk result (λ value. view value
+            ≡ location_json (uri_for self.now token.now.place.file)
+            (token_range self.now.encoding self.now.session.project token.now)) }
+    {
         let uri = uri_for(&self.documents, &self.folders, &token.place.file.name())?;
         let range = range_of(&self.session, self.encoding, LocatedToken::of(token));
         location_value(self.session.allocator(), &uri, range)
+    }
+
+    // What is told of a file: where it begins.
+    fn file_value(&self, name: &Name) -> Result<Value, AllocError>
+        ensures { IfOk result (λ value. view value ≡ file_json self.now name.now) }
+    {
+        let uri = uri_for(&self.documents, &self.folders, name)?;
+        let start = Position { line: 0, column: 0 };
+        location_value(self.session.allocator(), &uri, Range { start, end: start })
     }
 
     /// What the name at a position of a file denotes, and how that is declared; and else nothing.
@@ -159,6 +161,24 @@ fn hover_text(
     Ok(text)
 }
 
+// Where what the name at a position denotes is declared, by what is told of a root, if there is one.
+fn defined_at<'d>(
+    session: &Session,
+    encoding: Encoding,
+    told: &'d Option<RootDetails>,
+    spot: DocumentPosition<'_>,
+) -> Option<&'d DeclaredPlace>
+    requires { spot.file.now.lines ≡ lines_of session.now.project
+        spot.file.now.name.now }
+    ensures { option_copied result ≡ option_and_then (λ told. declared_place encoding
+        session.now.project told.details spot.entry.file.now.name.now spot.entry.position) told.now }
+{
+    match told {
+        Some(told) => declared_place(session, encoding, &told.details, spot),
+        None => None,
+    }
+}
+
 // The last place where what the name at a position denotes is declared.
 fn declared_place<'d>(
     session: &Session,
@@ -174,8 +194,8 @@ fn declared_place<'d>(
     last_declared(details, path_at(session, encoding, details, spot)?)
 }
 
-// The last place where the name at a path is declared.
-fn last_declared<'d>(details: &'d Details, path: &Path) -> Option<&'d DeclaredPlace>
+/// The last place where the name at a path is declared.
+pub(crate) fn last_declared<'d>(details: &'d Details, path: &Path) -> Option<&'d DeclaredPlace>
     ensures { option_copied result ≡ last_declared details.now path.now }
 {
     let declared = details.declared.as_slice();
@@ -189,8 +209,8 @@ fn last_declared<'d>(details: &'d Details, path: &Path) -> Option<&'d DeclaredPl
     last
 }
 
-// The path of what the name at a position denotes: of what is declared there, and else of what the first name denotes that is used there.
-fn path_at<'d>(
+/// The path of what the name at a position denotes: of what is declared there, and else of what the first name denotes that is used there.
+pub(crate) fn path_at<'d>(
     session: &Session,
     encoding: Encoding,
     details: &'d Details,
@@ -295,7 +315,7 @@ fn stands_at(
         return false;
     }
     let range = range_near(session, encoding, LocatedToken::of(token), spot.file);
-    is_up_to(range.start, spot.position) && is_up_to(spot.position, range.end)
+    is_at(spot.position, range)
 }
 
 // What is shown of an entry.

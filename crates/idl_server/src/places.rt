@@ -1,16 +1,18 @@
 //! Places in files of a session as positions of an editor.
 
-ghost use Rattle.std.specs.Prelude.{◌≡◌, ◌+◌, ◌*◌, ◌<◌, ◌≤◌, [], IfOk, IfSome, length, slice_get, take, unwrap_or};
+ghost use Rattle.std.specs.Prelude.{◌≡◌, ◌+◌, ◌*◌, ◌^◌, ◌<◌, ◌≤◌, [], IfOk, IfSome, length, slice_get, suc, take, unwrap_or};
 ghost use Rattle.std.specs.List.{sum_by};
+ghost use Rattle.std.specs.Option.{option_copied};
 ghost use Rattle.idl_source.specs.Limits.{longest_line, most_lines};
 ghost use Rattle.idl_inputs.specs.WithinLimits.{IsAllowedFile};
-ghost use Rattle.idl_editor.specs.Places.{line_range, position_in, returns};
-ghost use Rattle.idl_server.specs.Places.{lines_of, range_of};
+ghost use Rattle.idl_editor.specs.Places.{line_range, position_in, range_between, returns};
+ghost use Rattle.idl_server.specs.Places.{is_at, lines_of, range_of};
 
-use idl_editor::{Encoding, Position, Range, position_behind, returns_in};
-use idl_fault::Place;
+use idl_editor::{Encoding, Position, Range, is_up_to, position_behind, returns_in};
+use idl_fault::{FileName, Place};
 use idl_project::{Session, SitedToken};
 use idl_source::{Line, Name};
+use indexmap::IndexMap;
 use std::alloc::{AllocError, Global};
 use std::marker::Model;
 
@@ -132,11 +134,86 @@ fn lines_named<'a>(session: &'a Session, name: &[u8]) -> &'a [Line]
     }
 }
 
+/// Whether a range goes from a position or from before through it.
+pub(crate) fn is_at(position: Position, range: Range) -> bool
+    ensures { result ≡ is_at position range }
+{
+    is_up_to(range.start, position) && is_up_to(position, range.end)
+}
+
+/// A position in a file.
+#[derive(Clone, Copy)]
+pub(crate) struct DocumentPosition<'a> {
+    pub file: &'a CountedFile<'a>,
+    pub position: Position,
+}
+
 /// A file of which many places are asked for.
 #[derive(Drop)]
 pub(crate) struct CountedFile<'a> {
     name: &'a Name,
     lines: CountedLines<'a>,
+}
+
+/// Files of a session of which many places are asked for. The lines of a file are counted when the first of its places is asked for, and
+/// once. To every contract it is the session.
+pub(crate) struct CountedFiles<'a> {
+    session: &'a Session,
+    files: IndexMap<FileName, CountedLines<'a>>,
+}
+
+impl<'a> Model for CountedFiles<'a> {
+    ghost use Rattle.idl_project.specs.UpToDate.{State, state_code};
+    ghost use Rattle.idl_server.specs.Places.{AreOfProject};
+
+    ghost Value = { State };
+
+    ghost coded = { state_code };
+
+    ghost view = { λ counted. counted.session.now };
+
+    ghost invariant = { λ counted. AreOfProject counted.session.now.project counted.files.entries };
+}
+
+impl<'a> Drop for CountedFiles<'a> {
+    fn drop(self) {
+        let CountedFiles {
+            session: _session,
+            files: _files,
+        } = self;
+    }
+}
+
+impl<'a> CountedFiles<'a> {
+    /// Before the first is counted.
+    pub fn new(session: &'a Session) -> CountedFiles<'a>
+        ensures { result ≡ session.now }
+    {
+        CountedFiles {
+            session,
+            files: IndexMap::new(session.allocator()),
+        }
+    }
+
+    /// The range of a token, or of its whole line where it isn't known where it begins.
+    pub fn range_of(
+        &mut self,
+        encoding: Encoding,
+        token: LocatedToken<'_>,
+    ) -> Result<Range, AllocError>
+        ensures range { IfOk result (λ range. range ≡ range_of encoding self.old.project
+            token.entry.place.now token.entry.number token.entry.text.now) }
+        ensures same { self.new ≡ self.old }
+    {
+        let session = self.session;
+        if let Some(lines) = self.files.get(&token.place.file) {
+            return Ok(token_range(session, encoding, token, lines));
+        }
+        let lines = CountedLines::new(session.allocator(), lines_of(session, token.place))?;
+        let range = token_range(session, encoding, token, &lines);
+        self.files.insert(token.place.file.clone()?, lines)?;
+        Ok(range)
+    }
 }
 
 impl<'a> CountedFile<'a> {
@@ -156,6 +233,28 @@ impl<'a> CountedFile<'a> {
         ensures { result.now ≡ self.now.name.now }
     {
         self.name
+    }
+
+    /// The line with this index, if it is there.
+    pub fn line_at(&self, index: usize) -> Option<&[u8]>
+        ensures { option_copied result ≡ slice_get self.now.lines index }
+    {
+        match self.lines.lines.get(index) {
+            Some(line) => Some(line.as_bytes()),
+            None => None,
+        }
+    }
+
+    /// From behind so many bytes up to behind so many of the line with this index, which is there.
+    pub fn range_on(&self, encoding: Encoding, index: usize, columns: (usize, usize)) -> Range
+        requires { index < length self.now.lines }
+        ensures { result ≡ range_between encoding self.now.lines (suc index) columns.0 columns.1 }
+    {
+        self.lines.keeps_form();
+        Range {
+            start: self.lines.position_on(encoding, index, columns.0),
+            end: self.lines.position_on(encoding, index, columns.1),
+        }
     }
 
     // Its lines, if a place is in it.
@@ -246,9 +345,17 @@ impl<'a> CountedLines<'a> {
     fn position(&self, encoding: Encoding, number: u32, column: usize) -> Position
         ensures { result ≡ position_in encoding self.now number column }
     {
-        let Some(index) = (number as usize).checked_sub(1) else {
-            return Position { line: 0, column: 0 };
-        };
+        match (number as usize).checked_sub(1) {
+            Some(index) => self.position_on(encoding, index, column),
+            None => Position { line: 0, column: 0 },
+        }
+    }
+
+    // The position behind so many bytes of the line with this index.
+    fn position_on(&self, encoding: Encoding, index: usize, column: usize) -> Position
+        requires { index < 2 ^ 32 }
+        ensures { result ≡ position_in encoding self.now (suc index) column }
+    {
         let before = index + self.returns_before(index);
         let bytes = self.bytes_of(index);
         position_behind(encoding, before, &bytes[..column.min(bytes.len())])

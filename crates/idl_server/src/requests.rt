@@ -17,7 +17,11 @@ impl Workspace {
     /// What comes of a request about a document. Of a document that has no name nothing is told.
     pub fn answer(&self, method: Method, params: &Value) -> Result<RequestOutcome, AllocError> {
         match method {
-            Method::DocumentSymbol | Method::Definition | Method::Hover => {}
+            Method::DocumentSymbol
+            | Method::Definition
+            | Method::Hover
+            | Method::References
+            | Method::DocumentHighlight => {}
             _ => return Ok(RequestOutcome::Refused(ErrorCode::UnknownMethod)),
         }
         let Some(name) = name_in(self.session.allocator(), &self.folders, params)? else {
@@ -29,9 +33,23 @@ impl Workspace {
         let Some(position) = position_at(params, "position") else {
             return Ok(RequestOutcome::Refused(ErrorCode::BadParams));
         };
-        if method == Method::Hover {
-            return Ok(RequestOutcome::Done(self.hover_at(&name, position)?));
-        }
-        Ok(RequestOutcome::Done(self.definition_at(&name, position)?))
+        let value = match method {
+            Method::Hover => self.hover_at(&name, position)?,
+            Method::References => self.references_at(&name, position, wants_declared(params))?,
+            Method::DocumentHighlight => self.highlights_at(&name, position)?,
+            _ => self.definition_at(&name, position)?,
+        };
+        Ok(RequestOutcome::Done(value))
+    }
+}
+
+// Whether references are to have where the name is declared.
+fn wants_declared(params: &Value) -> bool {
+    let Some(context) = params.get("context") else {
+        return false;
+    };
+    match context.get("includeDeclaration") {
+        Some(Value::Bool(declared)) => *declared,
+        _ => false,
     }
 }

@@ -1,5 +1,5 @@
 -- What `check` tells of files.
-use Rattle.std.specs.Prelude.{◌≡◌, ◌&&◌, ◌||◌, ◌++◌, ◌∷◌, ℕ, zero, suc, Bool, List, [], All, Contains, Option, None, flat_map, fold, length, map, nat_eq, not, option_and_then, slice_get, if◌then◌else◌}
+use Rattle.std.specs.Prelude.{◌≡◌, ◌&&◌, ◌||◌, ◌++◌, ◌∷◌, ℕ, zero, suc, Bool, List, [], All, Contains, Option, None, false, flat_map, fold, length, map, nat_eq, not, option_and_then, slice_get, true, if◌then◌else◌}
 use Rattle.std.specs.FinMap as finite
 use Rattle.std.specs.List.{AllZip, filter, list_any, zip}
 use Rattle.std.specs.Map.{keys_of}

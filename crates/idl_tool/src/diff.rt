@@ -10,7 +10,7 @@ ghost use Rattle.idl_driver.specs.Compilations.{HasCompiled};
 ghost use Rattle.idl_driver.specs.Rows.{are_faulty};
 ghost use Rattle.idl_driver.specs.Written.{WritesSome};
 ghost use Rattle.idl_json.specs.Listed.{place_of, row_of};
-ghost use Rattle.idl_tool.specs.Json.{rows_of};
+ghost use Rattle.idl_tool.specs.Json.{row_in, rows_of};
 ghost use Rattle.idl_tool.specs.Sides.{AreSides};
 ghost use Rattle.idl_tool.specs.Compared.{AreCompared, IsCompared, all_rows, are_failing, change_lines, changes_of, ending_by, ending_of, grade, has_error, lines_between, place_at, object_line, place_before, seen, shown_between, shown_place, told_line, trees_of};
 
@@ -21,8 +21,9 @@ use crate::once::each_once;
 use crate::report::push_place;
 use crate::request::Diff;
 use idl_changes::{Change, Weights, changes, entry_of, push_change};
-use idl_driver::idl_sources::{CompiledRoot, Details, Sources};
+use idl_driver::idl_sources::{CompiledRoot, DetailedEntry, Details, Sources};
 use idl_driver::{Compilation, Devices, compile_files};
+use idl_inputs::Columns;
 use idl_json::{ChangeTold, ListedRow, NamePlace, change_line};
 use idl_loader::{Loader, Status};
 use idl_repo::details::RowTree;
@@ -302,10 +303,24 @@ fn rows_of_all<'d>(
     let mut rows = Vec::new(sources.allocator());
     'roots: for index in 0..roots.len() {
         let entries = all[index].entries.as_slice();
-        let listed = rows_of(&mut columns, &roots[index], entries)?;
-        rows.extend_from_slice(&listed)?;
+        push_rows(&mut columns, &roots[index], entries, &mut rows)?;
     }
     Ok(rows)
+}
+
+// Puts in the rows of a root's entries.
+fn push_rows<'d>(
+    columns: &mut Columns<'_>,
+    root: &Name,
+    entries: &'d [DetailedEntry],
+    rows: &mut Vec<ListedRow<'d>>,
+) -> Result<(), AllocError>
+    ensures rows { OnOk result (map row_of rows.new.items
+        ≡ map row_of rows.old.items ++ map (row_in columns.old root.now) entries.entry.now) }
+    ensures same { columns.new ≡ columns.old }
+{
+    let listed = rows_of(columns, root, entries)?;
+    rows.extend_from_slice(&listed)
 }
 
 // The trees of rows.

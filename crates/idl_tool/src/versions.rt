@@ -123,6 +123,7 @@ fn below<'a>(alloc: Global, directory: &str, path: &'a str) -> Result<&'a str, A
     let mut whole = String::from_str(alloc, directory)?;
     whole.push_str("/")?;
     whole.push_str(path)?;
-    let kept: &'a mut String = Box::leak(Box::new(alloc, whole)?);
+    let boxed = Box::new(alloc, whole)?;
+    let kept: &'a mut String = Box::leak(boxed);
     Ok(kept.as_str())
 }

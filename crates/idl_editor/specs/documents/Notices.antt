@@ -7,7 +7,7 @@ use Rattle.serde_json.specs.Read.{read}
 use Rattle.idl_editor.specs.messages.Message.{id_in, method_in, params_in}
 use Rattle.idl_editor.specs.messages.Params.{both, changes_in, told_in, uri_in}
 use Rattle.idl_editor.specs.declared.messages.method.Method.{Method}
-use Rattle.idl_editor.specs.declared.messages.method.Method.TheVariants.{Initialize, Initialized, Shutdown, Exit, Cancel, DidOpen, DidChange, DidClose, DidSave, DidChangeWatchedFiles, DocumentSymbol, Definition, Hover, Unknown}
+use Rattle.idl_editor.specs.declared.messages.method.Method.TheVariants.{Initialize, Initialized, Shutdown, Exit, Cancel, DidOpen, DidChange, DidClose, DidSave, DidChangeWatchedFiles, DocumentSymbol, Definition, Hover, References, DocumentHighlight, Unknown}
 use Rattle.idl_editor.specs.uris.Folders.{FolderNamed}
 use Rattle.idl_editor.specs.documents.Documents.{Changed, Closed, Opened, TextChange, Told}
 use Rattle.idl_editor.specs.documents.Uris.{name_for}
@@ -41,6 +41,8 @@ told_by_notice folders Cancel params = None
 told_by_notice folders DocumentSymbol params = None
 told_by_notice folders Definition params = None
 told_by_notice folders Hover params = None
+told_by_notice folders References params = None
+told_by_notice folders DocumentHighlight params = None
 told_by_notice folders Unknown params = None
 
 -- what a message does: a notice has no id

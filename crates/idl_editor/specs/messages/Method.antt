@@ -19,4 +19,6 @@ method_of name =
     else if bytes_eq name (codes "textDocument/documentSymbol") then method.DocumentSymbol
     else if bytes_eq name (codes "textDocument/definition") then method.Definition
     else if bytes_eq name (codes "textDocument/hover") then method.Hover
+    else if bytes_eq name (codes "textDocument/references") then method.References
+    else if bytes_eq name (codes "textDocument/documentHighlight") then method.DocumentHighlight
     else method.Unknown

@@ -21,3 +21,7 @@ range_json range = object (member (codes "end") (position_json range.end)
 abbrev pub location_json : List ℕ → Range → Data
 location_json uri range = object (member (codes "range") (range_json range)
     (member (codes "uri") (string uri) no_members))
+
+-- a range of the document that is asked of
+abbrev pub highlight_json : Range → Data
+highlight_json range = object (member (codes "range") (range_json range) no_members)

@@ -32,6 +32,10 @@ pub enum Method {
     Definition,
     /// `textDocument/hover`
     Hover,
+    /// `textDocument/references`
+    References,
+    /// `textDocument/documentHighlight`
+    DocumentHighlight,
     /// Any other.
     Unknown,
 }
@@ -55,6 +59,8 @@ pub fn method_of(name: &str) -> Method
         "textDocument/documentSymbol" => Method::DocumentSymbol,
         "textDocument/definition" => Method::Definition,
         "textDocument/hover" => Method::Hover,
+        "textDocument/references" => Method::References,
+        "textDocument/documentHighlight" => Method::DocumentHighlight,
         _ => Method::Unknown,
     }
 }

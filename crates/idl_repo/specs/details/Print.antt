@@ -20,15 +20,9 @@ use Rattle.idl_repo.specs.declared.details.type_tree.LayeredType.{LayeredType}
 use Rattle.idl_entity.specs.Kind.{kind_eq}
 use Rattle.idl_entity.specs.declared.kind.Kind.{Kind}
 use Rattle.idl_entity.specs.declared.kind.Kind.TheVariants as kind
+use Rattle.idl_repo.specs.Pieces.{with_commas}
 use Rattle.idl_repo.specs.Row.{direction_word, flag, kind_word}
-use Rattle.idl_repo.specs.TypeCode.{code_word, default_word, enumerator_word, layer_end, layers_begin, target_word, unvalued_word}
-use Rattle.idl_repo.specs.declared.type_code.TypeCodeKind.{TypeCodeKind}
-use Rattle.idl_repo.specs.declared.type_code.TypeCodeKind.TheVariants as code
-
--- the text of each, with commas between
-abbrev pub with_commas : {X : Type 0} → (X → List ℕ) → List X → List ℕ
-with_commas text [] = []
-with_commas text (x ∷ xs) = text x ++ flat_map (λ y. codes "," ++ text y) xs
+use Rattle.idl_repo.specs.TypeCode.{default_word, enumerator_word, layer_end, layers_begin, target_word, unvalued_word}
 
 -- a reference: `@` and the id
 abbrev pub reference_text : Reference → List ℕ
@@ -72,21 +66,21 @@ parts_text (parts.Union u) =
 parts_text (parts.Enumeration names) = flat_map enumerator_word names
 parts_text (parts.Alias t) = codes "," ++ type_text t
 
--- what a TypeCode is of
-abbrev pub parts_kind : TypeCodeParts → TypeCodeKind
-parts_kind parts.ObjectReference = code.ObjectReference
-parts_kind parts.LocalInterface = code.LocalInterface
-parts_kind parts.Native = code.Native
-parts_kind (parts.Structure members) = code.Structure
-parts_kind (parts.Exception members) = code.Exception
-parts_kind (parts.Union u) = code.Union
-parts_kind (parts.Enumeration names) = code.Enumeration
-parts_kind (parts.Alias t) = code.Alias
+-- the word of a TypeCode that has these parts
+abbrev pub code_word : TypeCodeParts → List ℕ
+code_word parts.ObjectReference = codes "tk_objref"
+code_word parts.LocalInterface = codes "tk_local_interface"
+code_word parts.Native = codes "tk_native"
+code_word (parts.Structure members) = codes "tk_struct"
+code_word (parts.Exception members) = codes "tk_except"
+code_word (parts.Union u) = codes "tk_union"
+code_word (parts.Enumeration names) = codes "tk_enum"
+code_word (parts.Alias t) = codes "tk_alias"
 
 -- WORD(ID,NAME..)
 abbrev pub type_code_text : TypeCodeTree → List ℕ
 type_code_text c =
-    code_word (parts_kind c.parts)
+    code_word c.parts
     ++ (codes "(" ++ (c.id ++ (codes "," ++ (c.name ++ (parts_text c.parts ++ codes ")")))))
 
 -- of an interface bases(REF,..), and of a struct with a base base(REF)

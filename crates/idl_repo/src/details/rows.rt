@@ -1,19 +1,21 @@
 //! The trees of rows.
 
 ghost use Rattle.std.specs.Prelude.{◌≡◌, IfOk, map};
-ghost use Rattle.idl_repo.specs.details.Tree.{attribute_over, coded_over, constant_over, details_over, operation_over, parameter_over, tree_over};
+ghost use Rattle.idl_repo.specs.details.Tree.{attribute_over, constant_over, declared_over, details_over, operation_over, parameter_over, tree_over};
 ghost use Rattle.idl_env.specs.Facts.{answers};
 ghost use Rattle.std.specs.Option.{option_copied};
-ghost use Rattle.idl_repo.specs.Referred.{listed_bases};
 ghost use Rattle.idl_repo.specs.Row.{context_word};
 
 use crate::details::row_tree::{
     AttributeTree, ConstantTree, DeclaredType, OperationTree, ParameterTree, RowDetails, RowTree,
 };
-use crate::details::type_code_tree::TypeCodeTree;
-use crate::details::type_codes::parts_of;
-use crate::details::types::{id_at, listed, member_of, path_text, references_at, type_of};
-use crate::{contexts_of, members_of, push_context, raised_by_set_of, raised_of};
+use crate::details::type_code_tree::{TypeCodeParts, TypeCodeTree};
+use crate::details::type_codes::union_of;
+use crate::details::types::{
+    id_at, listed, member_of, member_trees, path_text, references_at, type_of,
+};
+use crate::shown::{contexts_of, members_of, raised_by_set_of, raised_of};
+use crate::words::push_context;
 use idl_base::{Bytes, Seq};
 use idl_entity::{Entity, Kind, Member, Path};
 use idl_env::Env;
@@ -37,38 +39,59 @@ pub fn tree_of(env: &Env, entity: &Entity) -> Result<RowTree, AllocError>
 
 // What its row tells behind the id.
 fn details_of(env: &Env, entity: &Entity) -> Result<RowDetails, AllocError>
-    ensures { IfOk result (λ details. details ≡ details_over (answers env.now) entity.now) }
-{
-    Ok(match entity.kind() {
-        Kind::Constant => RowDetails::Constant(constant_of(env, entity)?),
-        Kind::Attribute => RowDetails::Attribute(attribute_of(env, entity)?),
-        Kind::Operation => RowDetails::Operation(operation_of(env, entity)?),
-        _ => coded_of(env, entity)?,
-    })
-}
-
-// The same, of what has a TypeCode, or nothing there.
-fn coded_of(env: &Env, entity: &Entity) -> Result<RowDetails, AllocError>
-    ensures { IfOk result (λ details. details ≡ coded_over (answers env.now) entity.now) }
-{
-    let Some(parts) = parts_of(env, entity)? else {
-        return Ok(RowDetails::Nothing);
-    };
-    let id = id_at(env, entity.path())?;
-    let name = Bytes::from_slice(env.alloc(), entity.path().name())?;
-    let bases = references_at(env, listed_bases(entity))?;
-    let code = TypeCodeTree { id, name, parts };
-    Ok(RowDetails::Type(DeclaredType { code, bases }))
-}
-
-// The bases that are listed: an interface's, and that of a struct.
-fn listed_bases(entity: &Entity) -> &[Path]
-    ensures { result.now ≡ listed_bases entity.now }
+    ensures { IfOk result (λ details.
+        details ≡ details_over (answers env.now) entity.now.kind entity.now) }
 {
     match entity.kind() {
-        Kind::Interface | Kind::Structure => entity.bases(),
-        _ => &[],
+        Kind::Interface if entity.is_local() => {
+            declared_of(env, entity, entity.bases(), TypeCodeParts::LocalInterface)
+        }
+        Kind::Interface => {
+            declared_of(env, entity, entity.bases(), TypeCodeParts::ObjectReference)
+        }
+        Kind::Structure => {
+            let parts = TypeCodeParts::Structure(member_trees(env, members_of(entity))?);
+            declared_of(env, entity, entity.bases(), parts)
+        }
+        Kind::Union => {
+            let parts = TypeCodeParts::Union(union_of(env, entity)?);
+            declared_of(env, entity, &[], parts)
+        }
+        Kind::Exception => {
+            let parts = TypeCodeParts::Exception(member_trees(env, members_of(entity))?);
+            declared_of(env, entity, &[], parts)
+        }
+        Kind::Enumeration => {
+            let names = Seq::from_vec(Vec::from_clones(env.alloc(), entity.enumerators())?);
+            declared_of(env, entity, &[], TypeCodeParts::Enumeration(names))
+        }
+        Kind::Alias => {
+            let parts = TypeCodeParts::Alias(type_of(env, entity.data_type())?);
+            declared_of(env, entity, &[], parts)
+        }
+        Kind::Native => declared_of(env, entity, &[], TypeCodeParts::Native),
+        Kind::Constant => Ok(RowDetails::Constant(constant_of(env, entity)?)),
+        Kind::Attribute => Ok(RowDetails::Attribute(attribute_of(env, entity)?)),
+        Kind::Operation => Ok(RowDetails::Operation(operation_of(env, entity)?)),
+        Kind::Module | Kind::Enumerator | Kind::Parameter | Kind::Member => Ok(RowDetails::Nothing),
     }
+}
+
+// The same of a name that has a TypeCode, with these parts, and of these bases.
+fn declared_of(
+    env: &Env,
+    entity: &Entity,
+    bases: &[Path],
+    parts: TypeCodeParts,
+) -> Result<RowDetails, AllocError>
+    ensures { IfOk result (λ details.
+        details ≡ declared_over (answers env.now) entity.now bases.now parts) }
+{
+    let id = id_at(env, entity.path())?;
+    let name = Bytes::from_slice(env.alloc(), entity.path().name())?;
+    let bases = references_at(env, bases)?;
+    let code = TypeCodeTree { id, name, parts };
+    Ok(RowDetails::Type(DeclaredType { code, bases }))
 }
 
 // A constant.

@@ -1,5 +1,8 @@
 //! TypeCodes as trees.
 
+ghost use Rattle.std.specs.Prelude.{◌≡◌};
+ghost use Rattle.idl_repo.specs.details.Print.{code_word};
+
 use crate::details::type_tree::LayeredType;
 use idl_base::{Bytes, Seq};
 
@@ -96,5 +99,21 @@ impl Drop for TypeCodeTree {
             name: _name,
             parts: _parts,
         } = self;
+    }
+}
+
+/// The word of a TypeCode that has these parts.
+pub fn code_word(parts: &TypeCodeParts) -> &'static [u8]
+    ensures { result.now ≡ code_word parts.now }
+{
+    match parts {
+        TypeCodeParts::ObjectReference => b"tk_objref",
+        TypeCodeParts::LocalInterface => b"tk_local_interface",
+        TypeCodeParts::Native => b"tk_native",
+        TypeCodeParts::Structure(_members) => b"tk_struct",
+        TypeCodeParts::Exception(_members) => b"tk_except",
+        TypeCodeParts::Union(_parts) => b"tk_union",
+        TypeCodeParts::Enumeration(_names) => b"tk_enum",
+        TypeCodeParts::Alias(_data_type) => b"tk_alias",
     }
 }

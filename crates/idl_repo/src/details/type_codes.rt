@@ -1,54 +1,33 @@
 //! The trees of TypeCodes.
 
 ghost use Rattle.std.specs.Prelude.{◌≡◌, ◌++◌, IfOk, OnOk};
-ghost use Rattle.std.specs.Option.{option_map};
-ghost use Rattle.idl_repo.specs.details.Tree.{case_over, cases_of, default_in, parts_over, union_over};
+ghost use Rattle.idl_repo.specs.details.Tree.{case_over, cases_of, union_over};
 ghost use Rattle.idl_env.specs.Facts.{answers};
-ghost use Rattle.idl_repo.specs.TypeCode.{kind_in};
 
-use crate::details::type_code_tree::{CaseTree, TypeCodeParts, UnionTree};
-use crate::details::types::{listed, member_of, member_trees, type_of};
-use crate::members_of;
+use crate::details::type_code_tree::{CaseTree, UnionTree};
+use crate::details::types::{listed, member_of, type_of};
+use crate::shown::members_of;
+use crate::type_code::default_at;
 use idl_base::Seq;
-use idl_entity::{Entity, Kind, Member};
+use idl_entity::{Entity, Member};
 use idl_env::Env;
 use idl_value::Value;
 use std::alloc::AllocError;
 
-/// What the TypeCode of a declared name has behind the name, if it has one.
-pub fn parts_of(env: &Env, entity: &Entity) -> Result<Option<TypeCodeParts>, AllocError>
-    ensures { IfOk result (λ parts.
-        parts ≡ option_map (λ k. parts_over (answers env.now) k entity.now) (kind_in entity.now)) }
-{
-    Ok(Some(match entity.kind() {
-        Kind::Interface if entity.is_local() => TypeCodeParts::LocalInterface,
-        Kind::Interface => TypeCodeParts::ObjectReference,
-        Kind::Native => TypeCodeParts::Native,
-        Kind::Structure => TypeCodeParts::Structure(member_trees(env, members_of(entity))?),
-        Kind::Exception => TypeCodeParts::Exception(member_trees(env, members_of(entity))?),
-        Kind::Union => TypeCodeParts::Union(union_of(env, entity)?),
-        Kind::Enumeration => {
-            let names = Vec::from_clones(env.alloc(), entity.enumerators())?;
-            TypeCodeParts::Enumeration(Seq::from_vec(names))
-        }
-        Kind::Alias => TypeCodeParts::Alias(type_of(env, entity.data_type())?),
-        _ => return Ok(None),
-    }))
-}
-
-// That of a union: the type of its labels, and an entry for each label of each member.
-fn union_of(env: &Env, entity: &Entity) -> Result<UnionTree, AllocError>
+/// What the TypeCode of a union has behind the name: the type of its labels, and an entry for each label of each member.
+pub fn union_of(env: &Env, entity: &Entity) -> Result<UnionTree, AllocError>
     ensures { IfOk result (λ tree. tree ≡ union_over (answers env.now) entity.now) }
 {
     let members = members_of(entity);
     let discriminator = type_of(env, entity.data_type())?;
+    let default = default_at(members)?;
     let mut cases = Vec::new(env.alloc());
     for member in members {
         push_cases(&mut cases, env, member)?;
     }
     Ok(UnionTree {
         discriminator,
-        default: default_in(&cases),
+        default,
         cases: Seq::from_vec(cases),
     })
 }
@@ -71,16 +50,4 @@ fn case_of(env: &Env, member: &Member, label: &Option<Value>) -> Result<CaseTree
     let label = listed(env.alloc(), label.as_ref())?;
     let member = member_of(env, member)?;
     Ok(CaseTree { label, member })
-}
-
-// The number of the first case of `default`, if there is one.
-fn default_in(cases: &[CaseTree]) -> Option<usize>
-    ensures { result ≡ default_in 0 cases.now }
-{
-    for number in 0..cases.len() {
-        if cases[number].label.is_none() {
-            return Some(number);
-        }
-    }
-    None
 }

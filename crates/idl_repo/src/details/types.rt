@@ -10,7 +10,8 @@ ghost use Rattle.idl_repo.specs.TypeCode.{listed_value};
 use crate::details::reference::Reference;
 use crate::details::type_code_tree::MemberTree;
 use crate::details::type_tree::{ElementTree, LayeredType};
-use crate::{RowWriter, push_listed, push_path};
+use crate::piece::id_of;
+use crate::words::{push_listed, push_path};
 use idl_base::{Bytes, Seq, Shared};
 use idl_entity::{DataType, Element, Member, Path};
 use idl_env::Env;
@@ -23,10 +24,8 @@ pub fn id_at(env: &Env, path: &Path) -> Result<Bytes, AllocError>
     ensures { IfOk result (λ id. id ≡ id_over (answers env.now) path.now) }
 {
     let mut text = Vec::new(env.alloc());
-    let mut log = Journal::told();
-    let mut writer = RowWriter::taking(&mut text, env, &mut log);
-    writer.push_id(path)?;
-    writer.give_back(&mut text, &mut log);
+    let id = id_of(env, &mut Journal::told(), path)?;
+    id.write(&mut text)?;
     Bytes::from_slice(env.alloc(), text.as_slice())
 }
 

@@ -1,27 +1,31 @@
 //! The laws of what is told.
 
-ghost use Rattle.std.specs.Prelude.{◌≡◌, ◌↔◌, ◌<◌, ◌≤◌, ◌^◌, ◌++◌, [], ℕ, All, List, Result, false, filter, length, map, nat_eq};
-ghost use Rattle.std.specs.List.{enumerate_from};
+ghost use Rattle.std.specs.Prelude.{◌≡◌, ◌↔◌, ◌<◌, ◌≤◌, ◌^◌, ◌++◌, ◌∷◌, [], ℕ, All, List, None, Result, false, filter, flat_map, length, map, nat_eq, nat_lt, if◌then◌else◌};
+ghost use Rattle.std.specs.List.{enumerate_from, list_any};
 ghost use Rattle.idl_block.specs.Blocks.{walk};
-ghost use Rattle.idl_env.specs.Facts.{UnitFacts, answers};
-ghost use Rattle.idl_env.specs.Turns.{turns_for};
+ghost use Rattle.idl_env.specs.Facts.{UnitFacts, answers, scopes_in};
+ghost use Rattle.idl_env.specs.Turns.{most_turns, turns_for};
+ghost use Rattle.idl_env.specs.declared.keys.key.Key.TheVariants.{Cursor};
 ghost use Rattle.idl_event.specs.Apart.{tokens_in};
 ghost use Rattle.idl_event.specs.declared.told.event.Event.{Event};
+ghost use Rattle.idl_fault.specs.Code.{is_error};
+ghost use Rattle.idl_fault.specs.declared.code.Code.TheVariants.{OpenScope};
 ghost use Rattle.idl_fault.specs.declared.place.Place.{Place};
 ghost use Rattle.idl_lex.specs.tokens.Tokens.{Token};
 ghost use Rattle.idl_memo.specs.Query.{outcome};
 ghost use Rattle.idl_root_blocks.specs.idl_check.walk.Judging.{FitsMemory};
-ghost use Rattle.idl_root_blocks.specs.idl_check.walk.Verdict.{tree_of, verdict};
+ghost use Rattle.idl_root_blocks.specs.idl_check.walk.Verdict.{tree_of, verdict, verdict_over};
 ghost use Rattle.idl_root_blocks.specs.idl_check.declared.walk.verdict.Verdict.{Verdict};
 ghost use Rattle.idl_root_blocks.specs.idl_check_laws.Closing.{AreTold};
 ghost use Rattle.idl_root.specs.Closing.{ClosesAtFirst};
-ghost use Rattle.idl_root.specs.Compile.{compile, outcome_of};
+ghost use Rattle.idl_root.specs.Compile.{Outcome, compile, outcome_of, told};
 ghost use Rattle.idl_root.specs.Compiled.{CompilesTo};
 ghost use Rattle.idl_root.specs.Details.{details, printed};
-ghost use Rattle.idl_root.specs.Judged.{HasTurns, facts_after, judged_after};
+ghost use Rattle.idl_root.specs.Judged.{HasTurns, Judged, facts_after, judged_after};
 ghost use Rattle.idl_root.specs.Named.{named_after};
 ghost use Rattle.idl_root.specs.NamePlaces.{declared_names};
 ghost use Rattle.idl_root.specs.Places.{root_pieces};
+ghost use Rattle.idl_root.specs.Printed.{closing_finding, entry_row, first_path, listed_in};
 ghost use Rattle.idl_root_blocks.specs.Blocks.{parts_of};
 ghost use Rattle.idl_root_blocks.specs.Places.{AreStandingOver, facts_over, unit_ways};
 ghost use Rattle.idl_root_blocks.specs.Units.{text_of};
@@ -34,7 +38,7 @@ ghost use Rattle.idl_root.specs.Verdict.{IsRead, IsVerdict};
 ghost use Rattle.idl_root.specs.declared.compiling.compiled.Compiled.{Compiled};
 ghost use Rattle.idl_unit.specs.Units.{units_of};
 ghost use Rattle.std.specs.List.Sorted.{IsNonDecreasingBy};
-ghost use Rattle.idl_finding.specs.Findings.{finding_row, in_order};
+ghost use Rattle.idl_finding.specs.Findings.{finding_row, in_order, numbered};
 ghost use Rattle.idl_finding.specs.declared.finding.EventFinding.{EventFinding};
 
 use idl_repo::details::printing;
@@ -174,4 +178,31 @@ pub fn compiled()
     judging();
     // It does nothing: it carries a law of units.
     nothing_lost();
+}
+
+/// What comes of a root is told in one: the verdict of a unit, which look-ups have turns enough for; the names that a unit declares first;
+/// and the rows, none of a listing or a dump beside an error. This does nothing: it carries the laws.
+pub fn outline()
+    ensures verdict { (facts : List UnitFacts) (text : UnitText) (v : Verdict)
+        → turns_for facts ≤ most_turns → FitsMemory text
+        → (verdict_over facts text ≡ v) ↔ IsVerdict facts text v }
+    ensures listed { (j : Judged) → listed_in j
+        ≡ map (λ path. record { path = path; text = j.text; sites = j.sites })
+        (flat_map first_path j.verdict.writes.additions) }
+    ensures rows { (end : Place) (events : List Event) (o : Outcome) → told end events o ≡ (
+        let is_open = nat_lt 1 (length (scopes_in (answers o.facts Cursor))) in
+        let found = (map (numbered events) (in_order o.found) ++ (if is_open
+        then record { place = end; code = OpenScope; text = None; number = None } ∷ [] else []))
+        ++ map (numbered events) (flat_map (closing_finding o.facts) o.listed) in
+        let is_faulty = list_any (λ f. is_error f.code) found in
+        record {
+          findings = found;
+          diagnostics = map finding_row found;
+          listing = if is_faulty then [] else flat_map (entry_row o.facts) o.listed;
+          dump = if is_faulty then [] else o.rows;
+          is_faulty = is_faulty;
+          is_open = is_open;
+        }) }
+{
+    judging();
 }

@@ -1,18 +1,18 @@
 //! The names of a root's units, and where what they declare ends.
 
-ghost use Rattle.std.specs.Prelude.{◌≡◌, ◌++◌, IfOk, List, OnOk, map, reverse};
+ghost use Rattle.std.specs.Prelude.{◌≡◌, ◌++◌, IfOk, List, OnOk, filter, map, reverse};
 ghost use Rattle.idl_env.specs.Facts.{UnitFacts};
 ghost use Rattle.idl_root.specs.Added.{told_by};
 ghost use Rattle.idl_root.specs.Held.{with_gathered, with_units};
 ghost use Rattle.idl_root.specs.Judged.{judged_at};
 ghost use Rattle.idl_root_blocks.specs.idl_check.walk.Verdict.{added, verdict_over};
-ghost use Rattle.idl_root.specs.Named.{AreNumbersIn, closings_from, end_before, ends_of, named_as, named_at, names_over};
+ghost use Rattle.idl_root.specs.Named.{AreNumbersIn, closings_from, end_before, ends_of, is_used, named_as, named_at, names_over};
 
 use crate::compiling::judging::{Accumulator, RootState, verdict_over};
 use crate::kept::added::Added;
 use idl_env::{Env, Step};
 use idl_finding::Spelled;
-use idl_root_blocks::idl_check::{NamedSite, Scratch, names_of};
+use idl_root_blocks::idl_check::{NameRole, NamedSite, Scratch, names_of};
 use idl_unit::{Fault, Unit, UnitText};
 use std::alloc::{AllocError, Global};
 
@@ -80,7 +80,7 @@ impl<'a> Accumulator<'a> {
     }
 }
 
-// The names of a text over facts, where this is its fault.
+// The names of a text over facts, where this is its fault: of one with a fault, which declares nothing, those that are used.
 fn names_over(
     scratch: &mut Scratch,
     env: &Env,
@@ -90,10 +90,26 @@ fn names_over(
     requires { fault ≡ (verdict_over env.now text.now).fault }
     ensures { IfOk result (λ names. names.items ≡ names_over env.now text.now) }
 {
+    let names = names_of(scratch, env, text)?;
     match fault {
-        None => names_of(scratch, env, text),
-        Some(_fault) => Ok(Vec::new(env.alloc())),
+        None => Ok(names),
+        Some(_fault) => Ok(used_among(names)),
     }
+}
+
+// Those that are used, in order.
+fn used_among(mut names: Vec<NamedSite>) -> Vec<NamedSite>
+    ensures { result.items ≡ filter is_used names.items }
+{
+    names.retain(|name| is_used(name));
+    names
+}
+
+// Whether a name is used.
+fn is_used(name: &NamedSite) -> bool
+    ensures { result ≡ is_used name.now }
+{
+    matches!(name.role, NameRole::Used)
 }
 
 /// The numbers of the units in which what these declare ends: of an opening its closing, if it is closed, and else its own.

@@ -22,14 +22,15 @@ fn is_served(alloc: Global, text: &str, input: &str, code: u8, want: &str) -> Re
 }
 
 // A status, files, messages, and behind a `=` what is written. A line that begins with blanks goes on with the one before it.
-static SCRIPTS: [&str; 7] = [
+static SCRIPTS: [&str; 8] = [
     // A document is opened beside a header of the disk, in units of UTF-16, mended, and asked about.
     r##"0 /p/b.idl: typedef long Money;
 {"id":1,"method":"textDocument/hover"}
 ={"error":{"code":-32002,"message":"not initialized"},"id":1,"jsonrpc":"2.0"}
 {"id":"a","method":"initialize","params":{"rootUri":"file:///p"}}
-={"id":"a","jsonrpc":"2.0","result":{"capabilities":{"definitionProvider":true,"documentSymbolProvider":true,"hoverProvider":true,
-    "positionEncoding":"utf-16","textDocumentSync":{"change":2,"openClose":true,"save":true}},
+={"id":"a","jsonrpc":"2.0","result":{"capabilities":{"definitionProvider":true,"documentHighlightProvider":true,
+    "documentSymbolProvider":true,"hoverProvider":true,
+    "positionEncoding":"utf-16","referencesProvider":true,"textDocumentSync":{"change":2,"openClose":true,"save":true}},
     "serverInfo":{"name":"idltool","version":"0.1.0"}}}
 {"method":"textDocument/didOpen","params":{"textDocument":{"uri":"file:///p/%c3%bc.idl",
     "text":"#include \"b.idl\"\n\r/* é😀 */ module M { struct S { Mony x; }; };\n"}}}
@@ -68,8 +69,9 @@ static SCRIPTS: [&str; 7] = [
     r##"1 /p/q/a.idl: typedef No T;
 {"id":1,"method":"initialize","params":{"capabilities":{"general":{"positionEncodings":["utf-16","utf-8"]}},
     "workspaceFolders":[{"uri":"file:///p/q/"}]}}
-={"id":1,"jsonrpc":"2.0","result":{"capabilities":{"definitionProvider":true,"documentSymbolProvider":true,"hoverProvider":true,
-    "positionEncoding":"utf-8","textDocumentSync":{"change":2,"openClose":true,"save":true}},
+={"id":1,"jsonrpc":"2.0","result":{"capabilities":{"definitionProvider":true,"documentHighlightProvider":true,
+    "documentSymbolProvider":true,"hoverProvider":true,
+    "positionEncoding":"utf-8","referencesProvider":true,"textDocumentSync":{"change":2,"openClose":true,"save":true}},
     "serverInfo":{"name":"idltool","version":"0.1.0"}}}
 {"method":"textDocument/didOpen","params":{"textDocument":{"uri":"file:///p/q/a.idl","text":""}}}
 {"method":"textDocument/didChange","params":{"textDocument":{"uri":"file:///p/q/a.idl"},"contentChanges":[
@@ -89,8 +91,9 @@ static SCRIPTS: [&str; 7] = [
     // A header is found in a directory that is named by its whole path, and opened. What a message tells of is in its own letters.
     r##"0 /p/inc/b.idl: typedef long Money;
 {"id":1,"method":"initialize","params":{"rootUri":"file:///p","initializationOptions":{"search":["/p/inc"]}}}
-={"id":1,"jsonrpc":"2.0","result":{"capabilities":{"definitionProvider":true,"documentSymbolProvider":true,"hoverProvider":true,
-    "positionEncoding":"utf-16","textDocumentSync":{"change":2,"openClose":true,"save":true}},
+={"id":1,"jsonrpc":"2.0","result":{"capabilities":{"definitionProvider":true,"documentHighlightProvider":true,
+    "documentSymbolProvider":true,"hoverProvider":true,
+    "positionEncoding":"utf-16","referencesProvider":true,"textDocumentSync":{"change":2,"openClose":true,"save":true}},
     "serverInfo":{"name":"idltool","version":"0.1.0"}}}
 {"method":"textDocument/didOpen","params":{"textDocument":{"uri":"file:///p/a.idl",
     "text":"#include \"b.idl\"\nconst char C = 'é';\ntypedef Money X;\n"}}}
@@ -113,8 +116,9 @@ static SCRIPTS: [&str; 7] = [
     // Of several second places three are told, and how many more there are.
     r##"1
 {"id":1,"method":"initialize","params":{"rootUri":"file:///p"}}
-={"id":1,"jsonrpc":"2.0","result":{"capabilities":{"definitionProvider":true,"documentSymbolProvider":true,"hoverProvider":true,
-    "positionEncoding":"utf-16","textDocumentSync":{"change":2,"openClose":true,"save":true}},
+={"id":1,"jsonrpc":"2.0","result":{"capabilities":{"definitionProvider":true,"documentHighlightProvider":true,
+    "documentSymbolProvider":true,"hoverProvider":true,
+    "positionEncoding":"utf-16","referencesProvider":true,"textDocumentSync":{"change":2,"openClose":true,"save":true}},
     "serverInfo":{"name":"idltool","version":"0.1.0"}}}
 {"method":"textDocument/didOpen","params":{"textDocument":{"uri":"file:///p/a.idl",
     "text":"interface A { typedef long T; };\ninterface B { typedef long T; };\ninterface C { typedef long T; };\n
@@ -133,8 +137,9 @@ static SCRIPTS: [&str; 7] = [
     r##"1 /w/q/inc/b.idl: typedef long Money;
 {"id":1,"method":"initialize","params":{"workspaceFolders":[{"uri":"file:///w/p"},{"uri":"file:///w/q"}],
     "initializationOptions":{"search":["inc",7],"define":"X"}}}
-={"id":1,"jsonrpc":"2.0","result":{"capabilities":{"definitionProvider":true,"documentSymbolProvider":true,"hoverProvider":true,
-    "positionEncoding":"utf-16","textDocumentSync":{"change":2,"openClose":true,"save":true}},
+={"id":1,"jsonrpc":"2.0","result":{"capabilities":{"definitionProvider":true,"documentHighlightProvider":true,
+    "documentSymbolProvider":true,"hoverProvider":true,
+    "positionEncoding":"utf-16","referencesProvider":true,"textDocumentSync":{"change":2,"openClose":true,"save":true}},
     "serverInfo":{"name":"idltool","version":"0.1.0"}}}
 ={"jsonrpc":"2.0","method":"window/showMessage","params":{"message":"define: a list of texts is wanted, and what is none is left out",
     "type":1}}
@@ -146,8 +151,9 @@ static SCRIPTS: [&str; 7] = [
     // A file beside the only folder is what an include of it finds, and has a plain path. What is found is told with the version.
     r##"1 /w/c/b.idl: typedef long Money;
 {"id":1,"method":"initialize","params":{"rootUri":"file:///w/p"}}
-={"id":1,"jsonrpc":"2.0","result":{"capabilities":{"definitionProvider":true,"documentSymbolProvider":true,"hoverProvider":true,
-    "positionEncoding":"utf-16","textDocumentSync":{"change":2,"openClose":true,"save":true}},
+={"id":1,"jsonrpc":"2.0","result":{"capabilities":{"definitionProvider":true,"documentHighlightProvider":true,
+    "documentSymbolProvider":true,"hoverProvider":true,
+    "positionEncoding":"utf-16","referencesProvider":true,"textDocumentSync":{"change":2,"openClose":true,"save":true}},
     "serverInfo":{"name":"idltool","version":"0.1.0"}}}
 {"method":"textDocument/didOpen","params":{"textDocument":{"uri":"file:///w/p/a.idl","text":"#include \"../c/b.idl\"\ntypedef Money T;\n"}}}
 {"id":2,"method":"textDocument/definition","params":{"textDocument":{"uri":"file:///w/p/a.idl"},"position":{"line":1,"character":9}}}
@@ -167,8 +173,9 @@ static SCRIPTS: [&str; 7] = [
     // Enumerators and members are declared somewhere, too; a hover shows the lines of a declaration, and the comment above it.
     r##"1
 {"id":1,"method":"initialize","params":{"rootUri":"file:///p"}}
-={"id":1,"jsonrpc":"2.0","result":{"capabilities":{"definitionProvider":true,"documentSymbolProvider":true,"hoverProvider":true,
-    "positionEncoding":"utf-16","textDocumentSync":{"change":2,"openClose":true,"save":true}},
+={"id":1,"jsonrpc":"2.0","result":{"capabilities":{"definitionProvider":true,"documentHighlightProvider":true,
+    "documentSymbolProvider":true,"hoverProvider":true,
+    "positionEncoding":"utf-16","referencesProvider":true,"textDocumentSync":{"change":2,"openClose":true,"save":true}},
     "serverInfo":{"name":"idltool","version":"0.1.0"}}}
 {"method":"textDocument/didOpen","params":{"textDocument":{"uri":"file:///p/a.idl",
     "text":"/* Colors\n   of a lamp. */\r\nenum Color { red, green };\r\n\n// No comment\n\n// of this.\nconst Color C =\n  green;\n
@@ -185,6 +192,35 @@ static SCRIPTS: [&str; 7] = [
     "value":"green\n/* Colors\n   of a lamp. */\nenum Color { red, green };"}}}
 {"id":6,"method":"textDocument/hover","params":{"textDocument":{"uri":"file:///p/a.idl"},"position":{"line":11,"character":8}}}
 ={"id":6,"jsonrpc":"2.0","result":{"contents":{"kind":"plaintext","value":"S::low\n  long low;"}}}"##,
+    // From an include to its file; where a name is declared and used; and what stands before a fault.
+    r##"1 /p/b.idl: typedef long Money;
+{"id":1,"method":"initialize","params":{"rootUri":"file:///p"}}
+={"id":1,"jsonrpc":"2.0","result":{"capabilities":{"definitionProvider":true,"documentHighlightProvider":true,
+    "documentSymbolProvider":true,"hoverProvider":true,
+    "positionEncoding":"utf-16","referencesProvider":true,"textDocumentSync":{"change":2,"openClose":true,"save":true}},
+    "serverInfo":{"name":"idltool","version":"0.1.0"}}}
+{"method":"textDocument/didOpen","params":{"textDocument":{"uri":"file:///p/a.idl",
+    "text":"# include  \"b.idl\" // b\nstruct S { Money x; };\nstruct T { Money y; No z; };\n"}}}
+={"jsonrpc":"2.0","method":"textDocument/publishDiagnostics","params":{"diagnostics":[{"code":"E30",
+    "message":"`No` isn't declared here or in a scope around\n
+    Look at the spelling, at a missing include, and at rows above: a declaration with an error declares nothing. Names are declared before use.",
+    "range":{"end":{"character":22,"line":2},"start":{"character":20,"line":2}},
+    "relatedInformation":[],"severity":1,"source":"idltool"}],"uri":"file:///p/a.idl"}}
+{"id":2,"method":"textDocument/definition","params":{"textDocument":{"uri":"file:///p/a.idl"},"position":{"line":0,"character":14}}}
+={"id":2,"jsonrpc":"2.0","result":{"range":{"end":{"character":0,"line":0},"start":{"character":0,"line":0}},"uri":"file:///p/b.idl"}}
+{"id":3,"method":"textDocument/definition","params":{"textDocument":{"uri":"file:///p/a.idl"},"position":{"line":0,"character":4}}}
+={"id":3,"jsonrpc":"2.0","result":null}
+{"id":4,"method":"textDocument/references","params":{"textDocument":{"uri":"file:///p/a.idl"},"position":{"line":1,"character":13},
+    "context":{"includeDeclaration":true}}}
+={"id":4,"jsonrpc":"2.0","result":[{"range":{"end":{"character":18,"line":0},"start":{"character":13,"line":0}},"uri":"file:///p/b.idl"},
+    {"range":{"end":{"character":16,"line":1},"start":{"character":11,"line":1}},"uri":"file:///p/a.idl"},
+    {"range":{"end":{"character":16,"line":2},"start":{"character":11,"line":2}},"uri":"file:///p/a.idl"}]}
+{"id":5,"method":"textDocument/documentHighlight","params":{"textDocument":{"uri":"file:///p/a.idl"},"position":{"line":1,"character":13}}}
+={"id":5,"jsonrpc":"2.0","result":[{"range":{"end":{"character":16,"line":1},"start":{"character":11,"line":1}}},
+    {"range":{"end":{"character":16,"line":2},"start":{"character":11,"line":2}}}]}
+{"id":6,"method":"textDocument/references","params":{"textDocument":{"uri":"file:///p/a.idl"},"position":{"line":1,"character":8},
+    "context":{"includeDeclaration":false}}}
+={"id":6,"jsonrpc":"2.0","result":[]}"##,
 ];
 
 #[test]

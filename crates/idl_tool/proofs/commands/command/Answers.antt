@@ -10,6 +10,8 @@ use Rattle.idl_tool.proofs.commands.command.Goals as goal
 added : (old new : Command) (subs : List Command) (shapes : List Shape) → AllZip IsSubcommand subs shapes → AddsInTurn AddsSubcommand old subs new
     → app_of new ≡ fold with_subcommand (app_of old) shapes
 added old new [] [] are adds = ap app_of (sym adds)
+added old new [] (shape ∷ shapes) are adds = absurd are
+added old new (sub ∷ subs) [] are adds = absurd are
 added old new (sub ∷ subs) (shape ∷ shapes) are adds =
     let one = adds.1.shape are.0.1 ∙ ap (with_subcommand (app_of old)) are.0.0 in
     added adds.0 new subs shapes are.1 adds.2 ∙ ap (λ (a : App). fold with_subcommand a shapes) one
@@ -17,6 +19,6 @@ added old new (sub ∷ subs) (shape ∷ shapes) are adds =
 pub returns : goal.returns
 unfolding idltool
 returns c =
-    IfOk-weaker c.subcommands.result _ _
+    IfOk-weaker c.subcommands-2.result _ _
     (λ all adds. added c.bare.result all c.in_ok-subcommands.subcommands.items subcommand_shapes c.in_ok-subcommands.ensures adds
-    ∙ ap (λ (a : App). fold with_subcommand a subcommand_shapes) c.bare.ensures) c.subcommands.ensures
+    ∙ ap (λ (a : App). fold with_subcommand a subcommand_shapes) c.bare.ensures) c.subcommands-2.ensures

@@ -22,12 +22,5 @@ returns c =
     let of_json = c.in_ok-json_command.ensures in
     let of_diff = c.in_ok-diff_command.ensures in
     let of_lsp = c.in_ok-lsp_command.ensures in
-    subst (λ (all : List Command). AllZip IsSubcommand all subcommand_shapes) (sym lsp) (
-      (of_explain.shape, of_explain.local),
-      (of_deps.shape, of_deps.local),
-      (of_check.shape, of_check.local),
-      (of_json.shape, of_json.local),
-      (of_diff.shape, of_diff.local),
-      (of_lsp.shape, of_lsp.local),
-      tt,
-    )
+    subst (λ (all : List Command). AllZip IsSubcommand all subcommand_shapes) (sym lsp)
+    ((of_explain.shape, of_explain.local), ((of_deps.shape, of_deps.local), ((of_check.shape, of_check.local), ((of_json.shape, of_json.local), ((of_diff.shape, of_diff.local), ((of_lsp.shape, of_lsp.local), tt))))))

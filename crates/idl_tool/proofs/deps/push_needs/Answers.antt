@@ -1,4 +1,4 @@
-use Rattle.std.proofs.Common.{◌∙◌, ◌++◌, ◌∷◌, [], ℕ, List, ap, append_assoc, flat_map, if◌then◌else◌, is_ok, map, sym}
+use Rattle.std.proofs.Common.{◌∙◌, ◌++◌, ◌∷◌, [], ℕ, List, ap, flat_map, if◌then◌else◌, is_ok, map, sym}
 use Rattle.std.proofs.lemmas.List.Folds.{flat_map-map}
 use Rattle.idl_tool.specs.Deps.{need_of}
 use Rattle.idl_tool.specs.make_rules.Make.{need_text}
@@ -26,6 +26,5 @@ returns c =
     let after = c.names.out.items in
     let pushed = c.extend_from_slice.result in
     let all = pushed-all (λ (name : List ℕ). need_text (need name)) asked c.names.name-index before after c.names-test.false c.names.invariant ∙ ap (λ t. before ++ t) (sym (flat_map-map need_text need asked)) in
-    let whole = ap (λ t. t ++ 10 ∷ []) all ∙ append_assoc before (flat_map need_text (map need asked)) (10 ∷ []) in
-    grown-on_ok (before ++ (flat_map need_text (map need asked) ++ 10 ∷ [])) after pushed
-    (c.extend_from_slice.ensures.items ∙ ap (λ t. if is_ok pushed then t else after) whole)
+    let whole = ap (λ t. t ++ 10 ∷ []) all in
+    grown-on_ok (before ++ flat_map need_text (map need asked) ++ 10 ∷ []) after pushed (c.extend_from_slice.ensures.items ∙ ap (λ t. if is_ok pushed then t else after) whole)

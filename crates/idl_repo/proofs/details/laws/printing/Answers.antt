@@ -1,4 +1,4 @@
-use Rattle.idl_repo.proofs.PrintLemmas.{row-printed}
+use Rattle.idl_repo.proofs.ToldLemmas.{row-printed}
 use Rattle.idl_repo.proofs.details.laws.printing.Goals as goal
 
 pub returns : goal.returns

@@ -1,7 +1,7 @@
 use Rattle.std.proofs.Common.{◌∙◌, ap, codes}
 use Rattle.idl_repo.proofs.WriteLemmas.{grows-as, grows-text, grows-then, says-as, says-then}
-use Rattle.idl_repo.specs.Pieces.{commas}
-use Rattle.idl_repo.specs.Row.{contexts_word, flag, parameter_pieces, references}
+use Rattle.idl_repo.specs.Pieces.{commas, with_commas}
+use Rattle.idl_repo.specs.Row.{context_word, flag, parameter_pieces, references}
 use Rattle.idl_repo.specs.TypeCode.{type_pieces}
 use Rattle.idl_repo.proofs.row_writer.RowWriter.push_operation.Goals as goal
 
@@ -14,5 +14,5 @@ returns c =
     (says-then c.in_ok-extend_from_slice-3.ensures.items
     (grows-then (grows-as (ap references c.raised_of.ensures) c.in_ok-push_references.ensures)
     (says-then c.in_ok-extend_from_slice-4.ensures.items
-    (says-as c.in_ok-push_contexts.ensures (ap contexts_word c.contexts_of.ensures)
+    (says-as c.in_ok-push_contexts.ensures (ap (with_commas context_word) c.contexts_of.ensures)
     (grows-text c.in_ok-extend_from_slice-5.ensures.items))))))))

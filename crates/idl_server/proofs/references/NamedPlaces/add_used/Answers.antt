@@ -1,0 +1,32 @@
+use Rattle.std.proofs.Common.{List, map, not, subst, sym, ◌∙◌}
+use Rattle.std.proofs.lemmas.Bool.{not-false, not-true}
+use Rattle.std.proofs.lemmas.List.{take_all}
+use Rattle.std.specs.List.{filter}
+use Rattle.idl_entity.specs.Path.{path_eq}
+use Rattle.idl_project.specs.idl_sources.idl_root.declared.compiling.places.UsedName.{UsedName}
+use Rattle.idl_server.specs.References.{AreAdded}
+use Rattle.idl_server.proofs.ReferenceLemmas.{added-here, added-none, added-past}
+use Rattle.idl_server.proofs.references.NamedPlaces.add_used.Goals as goal
+
+pub each-init : goal.each-init
+each-init c = added-none c.args.self.now
+
+pub each-preserved-then-ne : goal.each-preserved-then-ne
+each-preserved-then-ne c =
+    let path = c.args.path.now in
+    let one = c.used-item.result in
+    added-past (λ (one : UsedName). one.name) (λ (one : UsedName). path_eq path one.path) c.as_slice-names.result.now c.each.used-index one c.each-test.true c.used-item.is c.args.self.now c.each.self c.each.invariant
+    (not-true (path_eq path one.path) (sym c.ne.ensures ∙ c.if-ne.true))
+
+pub each-preserved : goal.each-preserved
+each-preserved c =
+    let path = c.args.path.now in
+    let one = c.used-item.result in
+    added-here (λ (one : UsedName). one.name) (λ (one : UsedName). path_eq path one.path) c.as_slice-names.result.now c.each.used-index one c.each-test.true c.used-item.is c.args.self.now c.each.self c.each.invariant
+    c.add.new.self (not-false (path_eq path one.path) (sym c.ne.ensures ∙ c.if-ne.false)) c.in_ok-add.ensures
+
+pub returns : goal.returns
+returns c =
+    let path = c.args.path.now in
+    subst (λ (names : List UsedName). AreAdded (map (λ (one : UsedName). one.name) (filter (λ (one : UsedName). path_eq path one.path) names)) c.args.self.now c.each.self)
+    (take_all c.each.used-index c.as_slice-names.result.now c.each-test.false ∙ c.as_slice-names.ensures) c.each.invariant
