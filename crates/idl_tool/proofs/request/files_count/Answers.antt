@@ -1,12 +1,21 @@
-use Rattle.std.proofs.Common.{◌≡◌, ◌∙◌, ap, codes, length, length-map, sym}
+use Rattle.std.proofs.Common.{Bor, ◌≡◌, ◌∙◌, [], ℕ, List, Option, ap, codes, length, map, sym, unwrap_or}
+use Rattle.std.specs.Option.{option_map}
+use Rattle.std.proofs.lemmas.List.{length-map}
+use Rattle.clap.proofs.WalkLemmas.{raw_values-rows}
 use Rattle.clap.specs.Words.{found_of}
-use Rattle.idl_driver.proofs.ValueLemmas.{none_given, some_given}
 use Rattle.idl_tool.proofs.request.files_count.Goals as goal
+
+-- the values that are given
+abbrev given_in : Option (Bor (List (Bor (List ℕ)))) → List (List ℕ)
+given_in given = unwrap_or (option_map (λ s. map (λ v. v.now) s.now) given) []
 
 pub returns-in-Some : goal.returns-in-Some
 returns-in-Some c =
-    let given = some_given (found_of c.args.matches.now) (codes "file") c.get_strs.result c.in-Some.given c.in-Some.is c.get_strs.ensures in
-    c.len.ensures ∙ sym (length-map (λ v. v.now) c.in-Some.given.now) ∙ ap length given
+    let found = found_of c.args.matches.now in
+    let given = sym (ap given_in c.in-Some.is) ∙ ap (λ (o : Option (List (List ℕ))). unwrap_or o []) (c.get_strs.ensures ∙ raw_values-rows found (codes "file")) in
+    c.len.ensures ∙ sym (length-map (λ (v : Bor (List ℕ)). v.now) c.in-Some.given.now) ∙ ap length given
 
 pub returns-in-None : goal.returns-in-None
-returns-in-None c = ap length (none_given (found_of c.args.matches.now) (codes "file") c.get_strs.result c.in-None.is c.get_strs.ensures)
+returns-in-None c =
+    let found = found_of c.args.matches.now in
+    ap length (sym (ap given_in c.in-None.is) ∙ ap (λ (o : Option (List (List ℕ))). unwrap_or o []) (c.get_strs.ensures ∙ raw_values-rows found (codes "file")))
