@@ -208,7 +208,7 @@ fn files_count(matches: &ArgMatches<'_>) -> usize
 // What is told where one of them can't be read.
 fn wrong_forms(matches: &ArgMatches<'_>) -> &'static str {
     if !has_versions(matches) {
-        return "diff: OLD and NEW, or --old DIR and FILEs";
+        return "error: OLD and NEW are wanted, or --old DIR and FILEs\n\nUsage: idltool diff [OPTIONS] OLD NEW\n       idltool diff [OPTIONS] --old DIR FILE..\n";
     }
     if fails_of(matches).is_none() {
         return "--fail-on: never, or of wire, client, servant, names and new, with commas between";
