@@ -23,11 +23,12 @@ pub fn old_side<'a>(alloc: Global, matches: &ArgMatches<'a>) -> Result<Options<'
         (AreSideOf (old_files (below_in rows) (files_in rows)) (old_directories rows) rows) }
 {
     let below = below_of(matches);
-    let files = values_of(alloc, matches, "file")?;
-    let files = old_files(alloc, below, &files)?;
+    let given = values_of(alloc, matches, "file")?;
+    let files = old_files(alloc, below, &given)?;
     let mut directories = values_of(alloc, matches, "old-directory")?;
     let shared = values_of(alloc, matches, "directory")?;
-    directories.extend_from_slice(&all_below(alloc, below, &shared)?)?;
+    let others = all_below(alloc, below, &shared)?;
+    directories.extend_from_slice(&others)?;
     side_of(alloc, matches, files, directories)
 }
 
@@ -36,10 +37,11 @@ pub fn new_side<'a>(alloc: Global, matches: &ArgMatches<'a>) -> Result<Options<'
     ensures { let rows = rows_of (found_of matches.now) in IfOk result
         (AreSideOf (new_files (below_in rows) (files_in rows)) (new_directories rows) rows) }
 {
-    let files = values_of(alloc, matches, "file")?;
-    let files = new_files(alloc, below_of(matches), &files)?;
+    let given = values_of(alloc, matches, "file")?;
+    let files = new_files(alloc, below_of(matches), &given)?;
     let mut directories = values_of(alloc, matches, "new-directory")?;
-    directories.extend_from_slice(&values_of(alloc, matches, "directory")?)?;
+    let shared = values_of(alloc, matches, "directory")?;
+    directories.extend_from_slice(&shared)?;
     side_of(alloc, matches, files, directories)
 }
 
