@@ -126,6 +126,7 @@ fn below<'a>(alloc: Global, directory: &str, path: &'a str) -> Result<&'a str, A
     whole.push_str("/")?;
     whole.push_str(path)?;
     let boxed = Box::new(alloc, whole)?;
-    let kept: &'a mut String = Box::leak(boxed);
-    Ok(kept.as_str())
+    let kept: &'a String = Box::leak(boxed);
+    let text = kept.as_str();
+    Ok(text)
 }
