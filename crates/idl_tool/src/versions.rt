@@ -110,7 +110,8 @@ fn all_below<'a>(
     };
     let mut all = Vec::new(alloc);
     'paths: for path in paths {
-        all.push(below(alloc, directory, path)?)?;
+        let whole = below(alloc, directory, path)?;
+        all.push(whole)?;
     }
     Ok(all)
 }

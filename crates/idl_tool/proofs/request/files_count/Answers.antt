@@ -13,7 +13,7 @@ pub returns-in-Some : goal.returns-in-Some
 returns-in-Some c =
     let found = found_of c.args.matches.now in
     let given = sym (ap given_in c.in-Some.is) ∙ ap (λ (o : Option (List (List ℕ))). unwrap_or o []) (c.get_strs.ensures ∙ raw_values-rows found (codes "file")) in
-    sym (length-map (λ (v : Bor (List ℕ)). v.now) c.in-Some.given.now) ∙ ap length given
+    sym (length-map c.in-Some.given.now (λ (v : Bor (List ℕ)). v.now)) ∙ ap length given
 
 pub returns-in-None : goal.returns-in-None
 returns-in-None c =

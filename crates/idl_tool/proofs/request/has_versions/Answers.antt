@@ -12,7 +12,7 @@ pub returns-then-is_some : goal.returns-then-is_some
 returns-then-is_some c =
     let rows = rows_of (found_of c.args.matches.now) in
     let known : is_some (below_in rows) ≡ true = sym (ap is_some c.below_of.ensures) ∙ sym (mapped c.below_of.result) ∙ sym c.is_some.ensures ∙ c.if-is_some.true in
-    sym (ap (λ (b : Bool). b || nat_eq (length (files_in rows)) 2) known)
+    c.if-is_some.true ∙ sym (ap (λ (b : Bool). b || nat_eq (length (files_in rows)) 2) known)
 
 pub returns-else-is_some : goal.returns-else-is_some
 returns-else-is_some c =
