@@ -1,8 +1,13 @@
 mod AdditionLaws
 mod AnswerLaws
+mod CodeLaws
 mod ConditionLaws
+mod DirectiveLaws
 mod EndingLaws
 mod FormLaws
 mod PragmaLaws
+mod RankLaws
 mod SameLaws
+mod SpellingLaws
 mod TableLaws
+mod VisitLaws

@@ -33,7 +33,7 @@ use crate::work::Work;
 use idl_base::{Bytes, Seq};
 use idl_event::{Expansion, RootAnswer, RootKey};
 use idl_fault::Place;
-use idl_inputs::{MacroBody, SessionBank, causes_by, directories};
+use idl_inputs::{Columns, MacroBody, SessionBank, causes_by, directories};
 use idl_macro::is_macro_word;
 use idl_memo::{Edited, Meter, freshness, one_bank};
 use idl_prep::RootTask;
@@ -270,6 +270,13 @@ impl Session {
         ensures { result ≡ column_of self.now.project place.now number text.now }
     {
         self.bank.column(place, number, text)
+    }
+
+    /// Where tokens begin that are found in files, as `column` tells it, for who asks for many: each chunk of a file is gone through once.
+    pub fn columns(&self) -> Columns<'_>
+        ensures { result ≡ self.now.project.inputs.files }
+    {
+        Columns::new(self.allocator(), &self.bank)
     }
 
     /// The diagnostics of a root, or nothing where the name isn't one of a root. It takes no memory.

@@ -96,9 +96,9 @@ pub fn untouched_roots_stay()
     ensures files { (old new : Project) (root name : List ℕ) → IsPassedOver old new root
         → Contains (asked_of old root) name
         → finite.get new.inputs.files name ≡ finite.get old.inputs.files name }
-    ensures related { (old new : Project) (root : List ℕ) (related : Option (List (List Related)))
-        → IsPassedOver old new root
-        → AreRelatedIn new root related ↔ AreRelatedIn old root related }
+    ensures related { (old new : Project) (root : List ℕ) (count : ℕ)
+        → (related : Option (List (List Related))) → IsPassedOver old new root
+        → AreRelatedIn new root count related ↔ AreRelatedIn old root count related }
     ensures count { (old new : Project) → IsDistinct bytes_eq new.roots
         → length (touched_of old new) ≡ (work_of old new).expanded }
 {

@@ -43,8 +43,8 @@ abbrev pub HasRedeclaration : List Finding → Type 0
 HasRedeclaration findings = list_any (λ f. is_redeclaration f.code) findings ≡ true
 
 -- Those of findings of that root, a list for each. Where one is a redeclaration, they are to be all
--- that is found in the root, in order: which places are whose is told by where they stand among
--- these.
+-- that is found in the root, in order, or the first of it: which places are whose is told by where
+-- they stand among these.
 pub record AreRelated (events : List Event) (findings : List Finding)
     (related : List (List Related)) : Type 0 where
   pub count : length related ≡ length findings

@@ -1,24 +1,24 @@
 //! The units of a root, judged one after another, and what is told of them.
 
-ghost use Rattle.std.specs.Prelude.{◌≡◌, ◌≤◌, ◌+◌, ◌++◌, ◌∷◌, [], true, IfOk, IfSome, None, OnOk, flat_map, length, map, option_to_list, reverse, slice_get};
+ghost use Rattle.std.specs.Prelude.{◌≡◌, ◌≤◌, ◌+◌, ◌++◌, ◌∷◌, [], false, true, IfOk, IfSome, IsTrue, None, OnOk, flat_map, length, map, option_to_list, reverse};
 ghost use Rattle.std.specs.List.{list_any};
 ghost use Rattle.std.specs.List.Sorted.{IsNonDecreasingBy, IsPermutation};
-ghost use Rattle.std.specs.Option.{option_copied};
 ghost use Rattle.idl_related.specs.FirstDeclared.{KeepsOrder, first_declaration_over, names_behind, related_at, seconds_at, told_after, told_for, without_other_places};
 ghost use Rattle.idl_env.specs.Facts.{boundary};
 ghost use Rattle.idl_check.specs.walk.Verdict.{added, verdict_over};
 ghost use Rattle.idl_related.specs.Related.{AreAtTokens, AreOfFinding, IsAtToken};
 ghost use Rattle.idl_related.specs.Judged.{AreOfFindings, IsBehind, IsOfRoot, before_spelled, text_and_sites, units_before};
 ghost use Rattle.idl_related.specs.Told.{AreFew, has_second, is_redeclaration};
-ghost use Rattle.idl_finding.specs.Findings.{site_of, tokens_of};
 ghost use Rattle.idl_unit.specs.Units.{units_of};
 ghost use Rattle.idl_unit.specs.declared.unit.Unit.TheVariants.{Spelled};
 
 use crate::about::About;
 use crate::first_declared::{add_names, first_declaration, names_in, seconds_at};
 use crate::known::KnownUnits;
-use crate::second::{Reason, Related, Second, TokenPosition};
-use crate::told::{RelatedPlaces, has_second, is_redeclaration};
+use crate::second::{Reason, Related, Second, TokenPosition, site_of, token_of};
+use crate::told::{
+    RelatedPlaces, count_with_second, has_redeclaration, has_second, is_redeclaration,
+};
 use idl_base::{Bytes, Seq};
 use idl_check::{Scratch, verdict_of};
 use idl_env::{DigestedKey, Env, Facts, Step, Writes};
@@ -50,6 +50,8 @@ struct SpelledUnit<'a> {
 pub struct JudgedUnits<'a> {
     expansion: &'a Expansion,
     known: KnownUnits<'a>,
+    /// How many findings are asked for that may have second places.
+    asked: usize,
     /// Whether anything asks where names are declared first.
     asks_first: bool,
     /// The names that the units declare, each at its key with where it is declared first, if that is asked.
@@ -62,6 +64,7 @@ impl<'a> Drop for JudgedUnits<'a> {
         let JudgedUnits {
             expansion: _expansion,
             known: _known,
+            asked: _asked,
             asks_first: _asks_first,
             first: _first,
             told: _told,
@@ -91,13 +94,14 @@ impl<'a> JudgedUnits<'a> {
         Ok(JudgedUnits {
             expansion,
             known,
+            asked: count_with_second(findings),
             asks_first: has_redeclaration(findings),
             first: Table::new(alloc),
             told: Vec::new(alloc),
         })
     }
 
-    /// Behind all units, before the first of them.
+    /// Behind all units, before the first of them; where no redeclaration is asked for, behind as many as tell what is.
     pub fn pass_all(&mut self) -> Result<(), AllocError>
         requires { IsOfRoot self.old }
         ensures root { OnOk result (IsOfRoot self.new) }
@@ -116,9 +120,20 @@ impl<'a> JudgedUnits<'a> {
                 number,
                 unit: &units[number],
             };
+            if self.has_told(unit.unit) {
+                return Ok(());
+            }
             env = self.pass(env, &mut scratch, unit)?;
         }
         Ok(())
+    }
+
+    // Whether all that is asked for is told before a unit, and none is a redeclaration: of those all are told. What stands inside of a unit of
+    // tokens is behind it, and may tell of an event before it.
+    fn has_told(&self, next: &Unit) -> bool
+        ensures { IsTrue result → self.now.asks_first ≡ false }
+    {
+        !self.asks_first && self.told.len() >= self.asked && is_of_tokens(next)
     }
 
     // Behind a unit, which is next: the environment with what it adds.
@@ -438,6 +453,7 @@ impl<'a> JudgedUnits<'a> {
         let JudgedUnits {
             expansion: _expansion,
             known: _known,
+            asked: _asked,
             asks_first: _asks_first,
             first: _first,
             mut told,
@@ -465,31 +481,10 @@ fn boundary(alloc: Global, step: Step) -> Result<Writes, AllocError>
     Writes::new(alloc, facts)
 }
 
-// Where the token of a unit with this number stands; of a pragma there is one place.
-fn site_of(text: &UnitText, sites: &SiteRun, index: usize) -> Result<Option<Site>, AllocError>
-    ensures { IfOk result (λ site. site ≡ site_of text.now sites.now index) }
-{
-    match text {
-        UnitText::Tokens(_run) => sites.site(index),
-        UnitText::Pragma(_tokens, _inside) => sites.site(0),
+// Whether a unit is one of tokens.
+fn is_of_tokens(unit: &Unit) -> bool {
+    match unit {
+        Unit::Spelled(UnitText::Tokens(_run), _sites) => true,
+        _ => false,
     }
-}
-
-// How it is spelled.
-fn token_of(text: &UnitText, index: usize) -> Option<&[u8]>
-    ensures { option_copied result ≡ slice_get (tokens_of text.now) index }
-{
-    match text {
-        UnitText::Tokens(run) => Some(run.as_slice().get(index)?.as_bytes()),
-        UnitText::Pragma(tokens, _inside) => Some(tokens.as_slice().get(index)?.as_bytes()),
-    }
-}
-
-// Whether any of them is a redeclaration.
-fn has_redeclaration(findings: &[Finding]) -> bool
-    ensures { result ≡ list_any (λ f. is_redeclaration f.code) findings.now }
-{
-    findings
-        .iter()
-        .any(|finding| is_redeclaration(finding.code))
 }

@@ -17,10 +17,11 @@ use idl_finding::Finding;
 use idl_unit::split;
 use std::alloc::{AllocError, Global};
 
-/// For each of these findings of what a root expands to, in order, its second places. They are to be all that is found in the root: where
-/// one is a redeclaration the places are those of all, one after another, and of some of them alone each may have another one's.
+/// For each of these findings of what a root expands to, in order, its second places. They are to be all that is found in the root, or the
+/// first of it: where one is a redeclaration the places are those of all, one after another, and of others alone each may have another one's.
 ///
-/// The units are judged for it, and nothing of that is kept. Where no finding has second places none is judged.
+/// The units are judged for it, up to the last of which is told, or all where one is a redeclaration; and nothing of that is kept. Where no
+/// finding has second places none is judged.
 pub fn related_of(
     alloc: Global,
     expansion: &Expansion,

@@ -1,11 +1,16 @@
 //! Second places.
 
-ghost use Rattle.std.specs.Prelude.{◌≡◌};
+ghost use Rattle.std.specs.Prelude.{◌≡◌, IfOk, slice_get};
+ghost use Rattle.std.specs.Option.{option_copied};
+ghost use Rattle.idl_finding.specs.Findings.{site_of, tokens_of};
 ghost use Rattle.idl_related.specs.Follows.{follows, is_faulty};
 ghost use Rattle.idl_related.specs.Reasons.{reason_words};
 
 use idl_base::Bytes;
+use idl_event::Site;
 use idl_fault::Place;
+use idl_unit::{SiteRun, UnitText};
+use std::alloc::AllocError;
 
 /// Why a second place is told.
 #[derive(Clone, Copy, PartialEq, Eq, Debug)]
@@ -101,4 +106,24 @@ pub struct Second {
     pub spot: TokenPosition,
     /// How many more were found than are told, behind the last of several.
     pub more: usize,
+}
+
+/// Where the token of a unit with this number stands; of a pragma there is one place.
+pub fn site_of(text: &UnitText, sites: &SiteRun, index: usize) -> Result<Option<Site>, AllocError>
+    ensures { IfOk result (λ site. site ≡ site_of text.now sites.now index) }
+{
+    match text {
+        UnitText::Tokens(_run) => sites.site(index),
+        UnitText::Pragma(_tokens, _inside) => sites.site(0),
+    }
+}
+
+/// How it is spelled.
+pub fn token_of(text: &UnitText, index: usize) -> Option<&[u8]>
+    ensures { option_copied result ≡ slice_get (tokens_of text.now) index }
+{
+    match text {
+        UnitText::Tokens(run) => Some(run.as_slice().get(index)?.as_bytes()),
+        UnitText::Pragma(tokens, _inside) => Some(tokens.as_slice().get(index)?.as_bytes()),
+    }
 }

@@ -1,6 +1,7 @@
 //! Second places as they are told, and the findings to which they go.
 
 ghost use Rattle.std.specs.Prelude.{◌≡◌, ◌∷◌, All, IfOk, List, None, length, reverse};
+ghost use Rattle.std.specs.List.{list_any};
 ghost use Rattle.idl_event.specs.declared.told.event.Event.{Event};
 ghost use Rattle.idl_related.specs.FirstDeclared.{assigned};
 ghost use Rattle.idl_related.specs.Related.{AreOfFinding};
@@ -84,6 +85,26 @@ pub fn is_redeclaration(code: Code) -> bool
         Code::AlreadyDeclared => true,
         _ => false,
     }
+}
+
+/// Whether any of them is a redeclaration.
+pub fn has_redeclaration(findings: &[Finding]) -> bool
+    ensures { result ≡ list_any (λ f. is_redeclaration f.code) findings.now }
+{
+    findings
+        .iter()
+        .any(|finding| is_redeclaration(finding.code))
+}
+
+/// How many of these findings may have second places.
+pub fn count_with_second(findings: &[Finding]) -> usize {
+    let mut count = 0_usize;
+    for finding in findings {
+        if has_second(finding.code) {
+            count = count.saturating_add(1);
+        }
+    }
+    count
 }
 
 /// For each finding, in order, what is told of it: of those that may have second places one after another, from the last on.

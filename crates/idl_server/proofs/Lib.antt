@@ -13,3 +13,4 @@ pub mod IncludeLemmas
 pub mod ReferenceLemmas
 pub mod PublishedLemmas
 pub mod ServingLemmas
+pub mod LateLemmas

@@ -16,13 +16,13 @@ use Rattle.idl_editor.specs.documents.Documents.{AreSameBeside, HaveTexts, Told,
 use Rattle.idl_editor.specs.messages.Params.{both}
 use Rattle.idl_server.specs.Files.{IsKept}
 use Rattle.idl_editor.specs.documents.Notices.{json_of, told_by_message, told_by_notice}
-use Rattle.idl_server.specs.Server.{HasTaken, OnlySets, if_running, told_to}
+use Rattle.idl_server.specs.Server.{HasTaken, IsLate, OnlySets, if_running, told_to}
 use Rattle.idl_editor.specs.declared.documents.document.Document.{Document}
 use Rattle.idl_server.specs.declared.server.Phase.{Phase}
 use Rattle.idl_server.specs.declared.server.Phase.TheVariants.{Running, ShutDown, Waiting}
 use Rattle.idl_server.specs.declared.server.Server.{Server}
 use Rattle.idl_editor.specs.uris.Folders.{FolderNamed}
-use Rattle.idl_server.proofs.HeldLemmas.{held-after, held-same}
+use Rattle.idl_server.proofs.HeldLemmas.{held-late, held-same, late-after}
 use Rattle.idl_server.proofs.WorkspaceLemmas.{set-both, set-kept}
 
 -- one document's text is this one, and the others' are as they were
@@ -93,23 +93,23 @@ params-given params nothing given is seen-null = ap (λ (b : Bor Value). view b.
 -- ---- a server
 
 -- nothing was taken in
-pub taken-kept : (old new : Server) → IsKept old.workspace new.workspace → HasTaken None old new
-taken-kept old new kept = record {
+pub taken-kept : (old new : Server) → ((name : List ℕ) → IsLate old name → IsLate new name) → IsKept old.workspace new.workspace → HasTaken None old new
+taken-kept old new late kept = record {
   texts = λ name i. texts_of (kept.documents i).entries name;
-  held = held-same old.workspace.session.project _ _ (λ i. (kept.documents i).entries);
+  held = held-late old new late (held-same old.workspace.session.project _ _ (λ i. (kept.documents i).entries));
   set = λ runs. set-kept old.workspace new.workspace kept;
 }
 
 pub taken-same : (told : Option Told) (server : Server) → told ≡ None → HasTaken told server server
 taken-same told server none =
     subst (λ (t : Option Told). HasTaken t server server) (sym none)
-    (taken-kept server server (record { encoding = refl; folders = refl; session = refl; documents = refl; tried = refl; unread = refl }))
+    (taken-kept server server (λ name is. is) (record { encoding = refl; folders = refl; session = refl; documents = refl; tried = refl; unread = refl }))
 
 -- an editor set what it sets when the server begins
 pub taken-set : (old new : Server) → OnlySets old.workspace new.workspace → old.phase ≡ Waiting → HasTaken None old new
 taken-set old new sets waiting = record {
   texts = λ name i. texts_of (sets.documents i).entries name;
-  held = held-same old.workspace.session.project _ _ (λ i. (sets.documents i).entries);
+  held = held-late old new (λ name was. absurd (apart (sym waiting ∙ was.0))) (held-same old.workspace.session.project _ _ (λ i. (sets.documents i).entries));
   set = λ runs. absurd (apart (sym waiting ∙ runs));
 }
   where
@@ -117,9 +117,9 @@ taken-set old new sets waiting = record {
     apart h = absurd (cc)
 
 -- what is shown of it changes nothing
-pub taken-before : (told : Option Told) (old mid new : Server) → IsKept mid.workspace new.workspace → HasTaken told old mid → HasTaken told old new
-taken-before told old mid new kept has = record {
+pub taken-before : (told : Option Told) (old mid new : Server) → new.phase ≡ mid.phase → new.late ≡ mid.late → IsKept mid.workspace new.workspace → HasTaken told old mid → HasTaken told old new
+taken-before told old mid new phase late kept has = record {
   texts = λ name. (λ i. texts_of (kept.documents i).entries name) ∙ has.texts name;
-  held = held-after old.workspace.session.project _ _ _ (λ i. (kept.documents i).entries) has.held;
+  held = late-after old mid new phase late (λ i. (kept.documents i).entries) has.held;
   set = λ runs. set-both old.workspace mid.workspace new.workspace (has.set runs) (set-kept mid.workspace new.workspace kept);
 }

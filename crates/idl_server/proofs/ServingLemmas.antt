@@ -1,5 +1,5 @@
 -- What a server says and is told, message after message.
-use Rattle.std.proofs.Common.{◌≡◌, ◌≢◌, ◌∙◌, ◌⊎◌, ◌+◌, ◌<◌, ◌++◌, ◌∷◌, [], ℕ, All, List, None, Ok, Err, Option, Result, Some, ap, append_assoc, append-nil, get_or, inl, inr, length, map, refl, subst, sym, take}
+use Rattle.std.proofs.Common.{◌≡◌, ◌≢◌, ◌∙◌, ◌⊎◌, ◌+◌, ◌<◌, ◌++◌, ◌∷◌, [], ℕ, List, None, Ok, Err, Option, Result, Some, ap, append_assoc, append-nil, get_or, inl, inr, length, map, refl, subst, sym, take}
 use Rattle.std.proofs.lemmas.Grind.{flat_map-append}
 use Rattle.std.proofs.lemmas.List.{map-append, take_more}
 use Rattle.std.proofs.lemmas.List.Elements.{Contains-append_left, Contains-push}
@@ -29,8 +29,9 @@ use Rattle.idl_editor.specs.declared.messages.method.Method.TheVariants.{Exit, I
 use Rattle.idl_editor.specs.uris.Folders.{FolderNamed}
 use Rattle.idl_loader.specs.Holding.{Holding}
 use Rattle.idl_server.specs.Messages.{IsAnswered, IsMessageOf, answered, answered_by, next_by, outcome_by}
-use Rattle.idl_server.specs.Published.{ArePublished, IsPublished}
-use Rattle.idl_server.specs.Server.{HasTaken, IsSettled, told_to}
+use Rattle.idl_server.specs.Published.{ArePublished}
+use Rattle.idl_server.specs.Late.{TakesIn}
+use Rattle.idl_server.specs.Server.{IsSettled}
 use Rattle.idl_server.specs.Serving.{AreServed, AreWritten, HasStepped, IsNoBody, IsServed, IsWritten, Serves, TakesMessages, status_by}
 use Rattle.idl_server.specs.declared.server.Phase.{Phase}
 use Rattle.idl_server.specs.declared.server.Phase.TheVariants.{Running, ShutDown, Waiting}
@@ -123,14 +124,13 @@ takes-more [] body old mid new before one = (new, subst (λ (stream : Option (Li
 takes-more (first ∷ bodies) body old mid new before one = (before.0, before.1, takes-more bodies body before.0 mid new before.2 one)
 
 -- what a step comes to, where nothing was to be said before
-pub steps-said : (told : List ℕ → Holding) (body : List ℕ) (old new : Server) (before said : List Data) (outcome : StepOutcome) → before ≡ [] → HasTaken (told_to old body) old new → IsSettled told new
-    → ArePublished new.workspace before said → (message : Message) × IsMessageOf body message × IsAnswered message old.phase new.phase before said outcome → HasStepped told body old said new outcome
-steps-said told body old new before said outcome none taken settled more answers = record {
+pub steps-said : (told : List ℕ → Holding) (body : List ℕ) (old new : Server) (before said : List Data) (outcome : StepOutcome) → before ≡ [] → TakesIn body old new before said → IsSettled told new
+    → (message : Message) × IsMessageOf body message × IsAnswered message old.phase new.phase before said outcome → HasStepped told body old said new outcome
+steps-said told body old new before said outcome none taken settled answers = record {
   message = answers.0;
   is_message = answers.1;
-  taken = taken;
+  taken = subst (λ (b : List Data). TakesIn body old new b said) none taken;
   settled = settled;
-  published = subst (All (IsPublished new.workspace)) (sym (more.1 ∙ ap (λ (b : List Data). b ++ more.0) none)) more.2;
   answered = subst (λ (b : List Data). IsAnswered answers.0 old.phase new.phase b said outcome) none answers.2;
 }
 
@@ -169,6 +169,15 @@ pub prepend-none : (o : Option (List ℕ)) → o ≡ prepend [] o
 prepend-none None = refl
 prepend-none (Some bytes) = refl
 
+-- nothing is held where nothing is to come
+pub held-none : (held : List ℕ) (o : Option (List ℕ)) → prepend held o ≡ Some [] → held ≡ []
+held-none [] o over = refl
+held-none (b ∷ held) o over = absurd (more b held o over)
+  where
+    more : (b : ℕ) (held : List ℕ) (o : Option (List ℕ)) → prepend (b ∷ held) o ≡ Some [] → ⊥
+    more b held None h = absurd (cc)
+    more b held (Some bytes) h = absurd (cc)
+
 pub append-none : (o : Option (List ℕ)) → o ≡ append o []
 append-none None = refl
 append-none (Some bytes) = ap (λ (b : List ℕ). Some b) (sym (append-nil bytes))
@@ -176,20 +185,21 @@ append-none (Some bytes) = ap (λ (b : List ℕ). Some b) (sym (append-nil bytes
 -- ---- a session
 
 -- none came yet
-pub served-none : (told : List ℕ → Holding) (server : Server) (stream left written : Option (List ℕ)) → stream ≡ left → AreServed told server stream left written written server
-served-none told server stream left written same =
-    record { bodies = []; said = []; text = []; taken = same; served = (refl, refl); texts = refl; written = append-none written }
+pub served-none : (told : List ℕ → Holding) (server : Server) (stream left written : Option (List ℕ)) → stream ≡ left → server.late ≡ None → AreServed told server stream left written written server
+served-none told server stream left written same none =
+    record { bodies = []; said = []; text = []; taken = same; served = (refl, refl); on_time = λ over. none; texts = refl; written = append-none written }
 
 -- one more came
 pub served-more : (told : List ℕ → Holding) (old mid new : Server) (stream left rest before written after : Option (List ℕ)) (body : List ℕ) (said : List Data) (text : List ℕ)
-    → AreServed told old stream left before written mid → TakesMessage body left rest → HasStepped told body mid said new Goes → AreWritten said text → after ≡ append written text
-    → AreServed told old stream rest before after new
-served-more told old mid new stream left rest before written after body said text are one steps texts next = record {
+    → AreServed told old stream left before written mid → TakesMessage body left rest → HasStepped told body mid said new Goes → (rest ≡ Some [] → new.late ≡ None) → AreWritten said text
+    → after ≡ append written text → AreServed told old stream rest before after new
+served-more told old mid new stream left rest before written after body said text are one steps on_time texts next = record {
   bodies = are.bodies ++ body ∷ [];
   said = are.said ++ said;
   text = are.text ++ text;
   taken = takes-more are.bodies body stream left rest are.taken one;
   served = serves-more told old mid new are.bodies body are.said said are.served steps;
+  on_time = on_time;
   texts = written-both are.said said are.text text are.texts texts;
   written = next ∙ ap (λ (o : Option (List ℕ)). append o text) are.written ∙ append-append before are.text text;
 }

@@ -111,6 +111,15 @@ pub record StaysFiled (old new : Workspace) : Type 0 where
   pub tried : new.tried ≡ old.tried
   pub unread : new.unread ≡ old.unread
 
+-- nothing but the text of the document of this name is another
+pub record StaysButText (name : List ℕ) (old new : Workspace) : Type 0 where
+  pub encoding : new.encoding ≡ old.encoding
+  pub folders : new.folders ≡ old.folders
+  pub session : new.session ≡ old.session
+  pub documents : AreSameBeside name old.documents.entries new.documents.entries
+  pub tried : new.tried ≡ old.tried
+  pub unread : new.unread ≡ old.unread
+
 -- nothing but the document and the file of this name is another, and no file has become a root
 pub record StaysBeside (name : List ℕ) (old new : Workspace) : Type 0 where
   pub set : StaysSet old new

@@ -13,6 +13,7 @@ pub mod References
 pub mod Roots
 pub mod Server
 pub mod Published
+pub mod Late
 pub mod Messages
 pub mod Serving
 pub use Rattle.idl_loader.specs as idl_loader

@@ -1,11 +1,12 @@
 -- What one message of an editor comes to.
-use Rattle.std.specs.Prelude.{◌≡◌, ◌⊎◌, ◌++◌, ℕ, List, [], ◌∷◌, Contains, None, Some, flat_map}
+use Rattle.std.specs.Prelude.{◌≡◌, ◌⊎◌, ◌++◌, ℕ, List, [], ◌∷◌, Contains, Option, None, Some, flat_map}
 use Rattle.serde_json.specs.Data.{Data, null}
 use Rattle.serde_json.specs.View.{view}
+use Rattle.serde_json.specs.declared.value.Value.{Value}
 use Rattle.idl_editor.specs.documents.Notices.{json_of}
 use Rattle.idl_editor.specs.messages.Answers.{error_json}
 use Rattle.idl_editor.specs.messages.Message.{IsMessage, id_in}
-use Rattle.idl_editor.specs.declared.messages.answer.ErrorCode.TheVariants.{Internal}
+use Rattle.idl_editor.specs.declared.messages.answer.ErrorCode.TheVariants.{Internal, NoJson}
 use Rattle.idl_editor.specs.declared.messages.message.Message.{Message}
 use Rattle.idl_editor.specs.declared.messages.message.Message.TheVariants.{Request, Notice, Invalid}
 use Rattle.idl_editor.specs.declared.messages.method.Method.{Method}
@@ -19,6 +20,12 @@ use Rattle.idl_server.specs.declared.server.StepOutcome.TheVariants.{Goes, Ends,
 abbrev pub IsMessageOf : List ℕ → Message → Type 0
 IsMessageOf body message =
     elim (json_of body) [ None ↦ message ≡ Invalid | Some json ↦ IsMessage json message ]
+
+-- the JSON of a body, or that it is none, which is told
+abbrev pub IsRead : List ℕ → Option Value → List Data → List Data → Type 0
+IsRead body (Some value) before after = (json_of body ≡ Some (view value)) × (after ≡ before)
+IsRead body None before after =
+    (json_of body ≡ None) × (after ≡ before ++ error_json null NoJson ∷ [])
 
 -- under which ids a message is answered: a request under its own, what is no message under `null`
 -- (JSON-RPC 2.0, 5), and nothing else

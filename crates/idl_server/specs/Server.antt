@@ -1,9 +1,11 @@
 -- What holds of a server between messages.
-use Rattle.std.specs.Prelude.{◌≡◌, ℕ, List, [], Option, None, option_and_then}
+use Rattle.std.specs.Prelude.{◌≡◌, ◌⊎◌, ℕ, List, [], Option, None, Some, option_and_then}
 use Rattle.std.specs.FinMap as finite
+use Rattle.std.specs.Map.{lookup}
+use Rattle.std.specs.Str.{bytes_eq}
 use Rattle.idl_loader.specs.Holding.{Holding}
 use Rattle.idl_editor.specs.documents.Documents.{HaveTexts, Open, Told, open_after_told, texts_of}
-use Rattle.idl_server.specs.Documents.{OnlyRefusedAreBehind}
+use Rattle.idl_server.specs.Documents.{OnlyRefusedIsBehind}
 use Rattle.idl_server.specs.Files.{AreFiled, AreTried, StaysSet, told_by}
 use Rattle.idl_editor.specs.documents.Notices.{json_of, told_by_message}
 use Rattle.idl_server.specs.Roots.{AreCovered, AreRooted}
@@ -53,16 +55,29 @@ told_to server body =
 abbrev pub open_in : Server → Open
 open_in server = texts_of server.workspace.documents.entries
 
+-- the session gets the text of this document later
+abbrev pub IsLate : Server → List ℕ → Type 0
+IsLate server name = (server.phase ≡ Running) × (server.late ≡ Some name)
+
+-- a document is as it was, and late if it was; or it is late, or behind only where the project refuses
+-- its text
+abbrev pub OnlyLateIsBehind : Server → Server → List ℕ → Type 0
+OnlyLateIsBehind old new name =
+    ((lookup (bytes_eq name) new.workspace.documents.entries
+    ≡ lookup (bytes_eq name) old.workspace.documents.entries) × (IsLate old name → IsLate new name))
+    ⊎ IsLate new name
+    ⊎ OnlyRefusedIsBehind old.workspace.session.project name new.workspace.documents.entries
+
 -- a server took this in: its documents have the texts that it makes of them; none that isn't as it was is
--- behind, unless the project refuses its text; and what was set when the server began stays
+-- behind, unless it is late or the project refuses its text; and what was set when the server began stays
 pub record HasTaken (told : Option Told) (old new : Server) : Type 0 where
   pub texts : HaveTexts new.workspace.documents.entries
       (open_after_told old.workspace.encoding (open_in old) told)
-  pub held : OnlyRefusedAreBehind old.workspace.session.project
-      old.workspace.documents.entries new.workspace.documents.entries
+  pub held : (name : List ℕ) → OnlyLateIsBehind old new name
   pub set : old.phase ≡ Running → StaysSet old.workspace new.workspace
 
 -- a server that was told nothing
 pub record IsNew (server : Server) : Type 0 where
   pub waits : server.phase ≡ Waiting
+  pub on_time : server.late ≡ None
   pub blank : IsBlank server.workspace

@@ -1,5 +1,5 @@
 -- What a server does from the first message to the last.
-use Rattle.std.specs.Prelude.{◌≡◌, ◌≢◌, ◌≤◌, ◌⊎◌, ◌++◌, ℕ, List, [], ◌∷◌, All, Option, Some}
+use Rattle.std.specs.Prelude.{◌≡◌, ◌≢◌, ◌≤◌, ◌⊎◌, ◌++◌, ℕ, List, [], ◌∷◌, Option, None, Some}
 use Rattle.std.specs.Str.{IsUtf8}
 use Rattle.serde_json.specs.Data.{Data, depth}
 use Rattle.serde_json.specs.Read.{max_depth, read}
@@ -14,8 +14,8 @@ use Rattle.idl_loader.specs.Holding.{Holding}
 use Rattle.idl_loader.specs.declared.status.Status.{Status}
 use Rattle.idl_loader.specs.declared.status.Status.TheVariants.{Faulty, Sound}
 use Rattle.idl_server.specs.Messages.{IsAnswered, IsMessageOf}
-use Rattle.idl_server.specs.Published.{IsPublished}
-use Rattle.idl_server.specs.Server.{HasTaken, IsSettled, told_to}
+use Rattle.idl_server.specs.Late.{TakesIn}
+use Rattle.idl_server.specs.Server.{IsSettled}
 use Rattle.idl_server.specs.declared.server.Server.{Server}
 use Rattle.idl_server.specs.declared.server.StepOutcome.{StepOutcome}
 use Rattle.idl_server.specs.declared.server.StepOutcome.TheVariants.{Ends, Goes}
@@ -25,9 +25,8 @@ pub record HasStepped (told : List ℕ → Holding) (body : List ℕ) (old : Ser
     (new : Server) (outcome : StepOutcome) : Type 0 where
   pub message : Message
   pub is_message : IsMessageOf body message
-  pub taken : HasTaken (told_to old body) old new
+  pub taken : TakesIn body old new [] said
   pub settled : IsSettled told new
-  pub published : All (IsPublished new.workspace) said
   pub answered : IsAnswered message old.phase new.phase [] said outcome
 
 -- a server took in one body after another, and said this
@@ -75,7 +74,7 @@ IsEnded told server stream said status =
     × IsNoBody received × (said ≡ []) × (status ≡ Faulty))
 
 -- messages of a stream were served from the first one on: each was taken in and answered once, in
--- order, and what was said is what was written
+-- order, and what was said is what was written. Where no more is to come no document is late
 pub record AreServed (told : List ℕ → Holding) (old : Server)
     (stream left before after : Option (List ℕ)) (new : Server) : Type 0 where
   pub bodies : List (List ℕ)
@@ -83,6 +82,7 @@ pub record AreServed (told : List ℕ → Holding) (old : Server)
   pub text : List ℕ
   pub taken : TakesMessages bodies stream left
   pub served : Serves told old bodies said new
+  pub on_time : left ≡ Some [] → new.late ≡ None
   pub texts : AreWritten said text
   pub written : after ≡ append before text
 

@@ -1,6 +1,6 @@
 //! What is found, as an editor is told.
 
-ghost use Rattle.std.specs.Prelude.{◌≡◌, ◌<◌, ◌++◌, [], IfOk, OnOk, length, map, take};
+ghost use Rattle.std.specs.Prelude.{◌≡◌, ◌++◌, [], IfOk, OnOk, map, take};
 ghost use Rattle.std.specs.List.{AllZip};
 ghost use Rattle.serde_json.specs.View.{view};
 ghost use Rattle.idl_editor.specs.told.Found.{findings_in, most_told};
@@ -8,7 +8,7 @@ ghost use Rattle.idl_server.specs.Diagnostics.{AreDiagnostics, IsToldOf, finding
 ghost use Rattle.idl_server.specs.Places.{lines_of};
 
 use crate::found::found_in;
-use crate::places::{CountedFile, LocatedToken, line_near, line_of, range_near, range_of};
+use crate::places::{CountedFile, LocatedToken, line_near, line_of, range_of};
 use crate::workspace::Workspace;
 use idl_base::Seq;
 use idl_editor::documents::uri_for;
@@ -17,28 +17,36 @@ use idl_editor::told::{
     more_value, second_value,
 };
 use idl_editor::{Encoding, Range};
+use idl_inputs::Columns;
 use idl_project::{Finding, Session, related_in};
 use idl_related::Related;
 use idl_source::Name;
 use serde_json::Value;
 use std::alloc::AllocError;
 
-// The second places of all that a root finds.
+// The second places of the first findings of a root.
 #[derive(Drop)]
 struct RootRelated {
     root: usize,
     related: Option<Seq<Seq<Related>>>,
 }
 
-// The second places of a finding among those of a root.
-fn related_of(root: &RootRelated, index: usize) -> &[Related] {
-    match &root.related {
-        Some(related) => match related.as_slice().get(index) {
-            Some(related) => related.as_slice(),
-            None => &[],
-        },
-        None => &[],
+// The second places of a finding, if its root is one of these.
+fn related_of<'a>(roots: &'a [RootRelated], one: RootFinding<'_>) -> Option<&'a [Related]> {
+    let root = roots.iter().find(|root| root.root == one.root)?;
+    let related = root.related.as_ref()?;
+    Some(related.as_slice().get(one.index)?.as_slice())
+}
+
+// How many of a root's findings there are up to the last of these of a file.
+fn count_up_to(found: &[RootFinding<'_>], root: usize) -> usize {
+    let mut count = 0_usize;
+    for one in found {
+        if one.root == root {
+            count = count.max(one.index.saturating_add(1));
+        }
     }
+    count
 }
 
 impl Workspace {
@@ -62,54 +70,81 @@ impl Workspace {
     {
         let alloc = self.session.allocator();
         let file = CountedFile::new(&self.session, name)?;
-        let mut roots = Vec::new(alloc);
+        let mut columns = self.session.columns();
+        let roots = self.related_roots(found)?;
         let held = first_told(found);
         let mut list = Vec::with_capacity(alloc, held.len())?;
         'each: for index in 0..held.len() {
             let one = held[index];
-            let related = self.seconds_of(&mut roots, index, one)?;
+            let related = self.seconds_of(&roots, index, one)?;
             let message = message_of(alloc, one.finding)?;
             let said = message.as_slice();
-            let range = finding_range(&self.session, self.encoding, one.finding, &file);
+            let range = self.finding_range(&mut columns, one.finding, &file)?;
             list.push(diagnostic_value(alloc, range, one.finding, said, related)?)?;
         }
         Ok(list)
     }
 
+    // The second places of those findings of a file of which they are told, and of what their roots find before them.
+    fn related_roots(&self, found: &[RootFinding<'_>]) -> Result<Vec<RootRelated>, AllocError> {
+        let first = found.get(..MOST_RELATED).unwrap_or(found);
+        let mut roots = Vec::new(self.session.allocator());
+        for one in first {
+            if related_of(&roots, *one).is_some() {
+                continue;
+            }
+            let Some(name) = self.session.root(one.root) else {
+                continue;
+            };
+            let count = count_up_to(first, one.root);
+            let related = related_in(&self.session, name.as_bytes(), count)?;
+            roots.push(RootRelated {
+                root: one.root,
+                related,
+            })?;
+        }
+        Ok(roots)
+    }
+
     // The second places of the finding of this number, as they are told: of many findings those of the first ones.
     fn seconds_of(
         &self,
-        roots: &mut Vec<RootRelated>,
+        roots: &[RootRelated],
         number: usize,
         one: RootFinding<'_>,
     ) -> Result<Value, AllocError> {
-        if number >= MOST_RELATED {
-            return Ok(Value::Array(Vec::new(self.session.allocator())));
+        match related_of(roots, one) {
+            Some(related) if number < MOST_RELATED => self.related_value(related),
+            _ => Ok(Value::Array(Vec::new(self.session.allocator()))),
         }
-        let at = self.place_of_related(roots, one.root)?;
-        self.related_value(related_of(&roots[at], one.index))
     }
 
-    // At which place the second places of a root are, which are put there if they aren't.
-    fn place_of_related(
+    // The range of what a finding is about, by the lines of a file, if it is in that.
+    fn finding_range(
         &self,
-        roots: &mut Vec<RootRelated>,
-        root: usize,
-    ) -> Result<usize, AllocError>
-        ensures { IfOk result (λ at. at < length roots.new.items) }
+        columns: &mut Columns<'_>,
+        finding: &Finding,
+        file: &CountedFile<'_>,
+    ) -> Result<Range, AllocError>
+        requires lines { file.now.lines ≡ lines_of self.now.session.project file.now.name.now }
+        requires columns { columns.old ≡ self.now.session.project.inputs.files }
+        ensures range { IfOk result (λ range.
+            range ≡ finding_range self.now.encoding self.now.session.project finding.now) }
+        ensures same { columns.new ≡ columns.old }
     {
-        for (at, one) in roots.iter().enumerate() {
-            if one.root == root {
-                return Ok(at);
-            }
-        }
-        let related = match self.session.root(root) {
-            Some(name) => related_in(&self.session, name.as_bytes())?,
-            None => None,
+        let Some(text) = &finding.text else {
+            return Ok(line_near(&self.session, self.encoding, &finding.place, file));
         };
-        let at = roots.len();
-        roots.push(RootRelated { root, related })?;
-        Ok(at)
+        let token = LocatedToken {
+            place: &finding.place,
+            number: finding.number,
+            text: text.as_bytes(),
+        };
+        let column = columns.column(token.place, token.number, token.text)?;
+        match file.range(self.encoding, token, column) {
+            Some(range) => Ok(range),
+            None => Ok(range_of(&self.session, self.encoding, token)),
+        }
     }
 
     // Second places, as they are told.
@@ -154,27 +189,4 @@ fn push_rest(
     let range = line_of(session, encoding, &last.finding.place);
     let more = more_value(session.allocator(), range, left)?;
     Ok(list.push(more)?)
-}
-
-// The range of what a finding is about, by the lines of a file, if it is in that.
-fn finding_range(
-    session: &Session,
-    encoding: Encoding,
-    finding: &Finding,
-    file: &CountedFile<'_>,
-) -> Range
-    requires { file.now.lines ≡ lines_of session.now.project file.now.name.now }
-    ensures { result ≡ finding_range encoding session.now.project finding.now }
-{
-    match &finding.text {
-        Some(text) => {
-            let token = LocatedToken {
-                place: &finding.place,
-                number: finding.number,
-                text: text.as_bytes(),
-            };
-            range_near(session, encoding, token, file)
-        }
-        None => line_near(session, encoding, &finding.place, file),
-    }
 }

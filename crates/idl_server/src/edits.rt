@@ -1,6 +1,6 @@
 //! Documents that are opened, changed and closed.
 
-ghost use Rattle.std.specs.Prelude.{◌≡◌, ℕ, List, IsSome, OnOk, Some, map};
+ghost use Rattle.std.specs.Prelude.{◌≡◌, ℕ, List, IsSome, None, OnOk, Some, map};
 ghost use Rattle.std.specs.FinMap as finite;
 ghost use Rattle.std.specs.Map.{lookup};
 ghost use Rattle.std.specs.Option.{option_map};
@@ -10,7 +10,7 @@ ghost use Rattle.idl_editor.specs.Splices.{IsSplice};
 ghost use Rattle.idl_loader.specs.Holding.{Holding};
 ghost use Rattle.idl_editor.specs.documents.Documents.{change_told, text_after_all, texts_of};
 ghost use Rattle.idl_server.specs.Documents.{OnlyRefusedIsBehind};
-ghost use Rattle.idl_server.specs.Files.{IsFiled, StaysBeside};
+ghost use Rattle.idl_server.specs.Files.{IsFiled, StaysBeside, StaysButText};
 ghost use Rattle.idl_editor.specs.declared.documents.document.Document.{Document};
 
 use crate::workspace::{Workspace, keep_all};
@@ -87,6 +87,34 @@ impl Workspace {
         self.put_whole(name)
     }
 
+    /// The same, but the session gets the text later.
+    pub fn put_off(
+        &mut self,
+        name: &Name,
+        version: Option<u64>,
+        changes: &[ContentChange<'_>],
+    ) -> Result<(), AllocError>
+        ensures stays { StaysButText name.now self.old self.new }
+        ensures filed { (told : List ℕ → Holding) → IsFiled told self.old name.now
+            → OnOk result (IsFiled told self.new name.now) }
+        ensures text { OnOk result (texts_of self.new.documents.entries name.now
+            ≡ option_map
+            (λ text. text_after_all self.old.encoding text (map change_told changes.now))
+            (texts_of self.old.documents.entries name.now)) }
+    {
+        let Some(document) = self.documents.get(name) else {
+            return Ok(());
+        };
+        let text = text_after_all(
+            self.session.allocator(),
+            self.encoding,
+            &document.text,
+            changes,
+        )?;
+        set_text(&mut self.documents, name, version, text);
+        Ok(())
+    }
+
     // Splices the lines of a document's file. Where that is refused, puts its whole text. So where the splice makes its text the file, it is filed.
     fn splice(&mut self, name: &Name, splice: LineSplice) -> Result<(), AllocError>
         requires { IsSome (lookup (bytes_eq name.now) self.old.documents.entries) }
@@ -113,13 +141,15 @@ impl Workspace {
         }
     }
 
-    // Puts the whole text of a document into the session. Where that is refused, the document is behind.
-    fn put_whole(&mut self, name: &Name) -> Result<(), AllocError>
+    /// Puts the whole text of a document into the session. Where that is refused, the document is behind.
+    pub fn put_whole(&mut self, name: &Name) -> Result<(), AllocError>
         ensures beside { OnOk result (StaysBeside name.now self.old self.new) }
         ensures text { OnOk result (texts_of self.new.documents.entries name.now
             ≡ texts_of self.old.documents.entries name.now) }
         ensures filed { IsSome (lookup (bytes_eq name.now) self.old.documents.entries)
             → OnOk result ((told : List ℕ → Holding) → IsFiled told self.new name.now) }
+        ensures absent { lookup (bytes_eq name.now) self.old.documents.entries ≡ None
+            → self.new ≡ self.old }
         ensures held { OnOk result (OnlyRefusedIsBehind self.old.session.project name.now
             self.new.documents.entries) }
     {

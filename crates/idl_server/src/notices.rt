@@ -1,6 +1,6 @@
 //! What an editor tells: documents that are opened, changed, saved and closed, and files that became others.
 
-ghost use Rattle.std.specs.Prelude.{◌≡◌, ℕ, All, List, IfOk, IsSome, None, OnOk};
+ghost use Rattle.std.specs.Prelude.{◌≡◌, ℕ, All, List, IfOk, IfSome, IsSome, None, OnOk};
 ghost use Rattle.std.specs.Map.{lookup};
 ghost use Rattle.std.specs.Str.{bytes_eq};
 ghost use Rattle.serde_json.specs.View.{view};
@@ -13,6 +13,7 @@ ghost use Rattle.idl_editor.specs.declared.documents.refused.RefusedReason.TheVa
 ghost use Rattle.idl_editor.specs.documents.Notices.{told_by_notice};
 ghost use Rattle.idl_editor.specs.documents.Refused.{IsAdded};
 ghost use Rattle.idl_server.specs.Roots.{AreRooted};
+ghost use Rattle.idl_server.specs.Late.{IsChangeOf};
 
 use crate::workspace::Workspace;
 use idl_editor::documents::{RefusedReason, changes_told, name_for, name_in, push_reason};
@@ -94,8 +95,22 @@ impl Workspace {
         }
     }
 
-    // Keeps, to show it, that a change of an open document makes no sense.
-    fn keep_bad_change(&mut self, name: &Name) -> Result<(), AllocError>
+    /// The open document that parameters are about.
+    pub fn open_in(&self, params: &Value) -> Result<Option<Name>, AllocError>
+        ensures { IfOk result (λ found.
+            IfSome found (λ name. IsChangeOf self.now name (view params.now))) }
+    {
+        let Some(name) = name_in(self.session.allocator(), &self.folders, params)? else {
+            return Ok(None);
+        };
+        if self.documents.contains_key(&name) {
+            return Ok(Some(name));
+        }
+        Ok(None)
+    }
+
+    /// Keeps, to show it, that a change of an open document makes no sense.
+    pub fn keep_bad_change(&mut self, name: &Name) -> Result<(), AllocError>
         ensures kept { IsKept self.old self.new }
         ensures told { IsSome (lookup (bytes_eq name.now) self.old.documents.entries)
             → OnOk result (IsAdded name.now BadChange

@@ -5,7 +5,7 @@ ghost use Rattle.std.specs.List.{sum_by};
 ghost use Rattle.std.specs.Option.{option_copied};
 ghost use Rattle.idl_source.specs.Limits.{longest_line, most_lines};
 ghost use Rattle.idl_inputs.specs.WithinLimits.{IsAllowedFile};
-ghost use Rattle.idl_editor.specs.Places.{line_range, position_in, range_between, returns};
+ghost use Rattle.idl_editor.specs.Places.{line_range, position_in, range_between, range_in, returns};
 ghost use Rattle.idl_server.specs.Places.{is_at, lines_of, range_of};
 
 use idl_editor::{Encoding, Position, Range, is_up_to, position_behind, returns_in};
@@ -77,14 +77,8 @@ fn token_range(
     ensures { result ≡ range_of encoding session.now.project
         token.entry.place.now token.entry.number token.entry.text.now }
 {
-    lines.keeps_form();
-    match session.column(token.place, token.number, token.text) {
-        Some(column) => {
-            let end = column.saturating_add(token.text.len());
-            lines.between(encoding, token.place.line, (column, end))
-        }
-        None => lines.line(encoding, token.place.line),
-    }
+    let column = session.column(token.place, token.number, token.text);
+    lines.range(encoding, token, column)
 }
 
 /// The range of the line of a place.
@@ -257,6 +251,21 @@ impl<'a> CountedFile<'a> {
         }
     }
 
+    /// The range of a token of it behind so many bytes of its line, or of that line where this isn't known.
+    pub fn range(
+        &self,
+        encoding: Encoding,
+        token: LocatedToken<'_>,
+        column: Option<usize>,
+    ) -> Option<Range>
+        ensures { IfSome result (λ range. (token.entry.place.now.file ≡ self.now.name.now)
+            × (range ≡ range_in encoding self.now.lines token.entry.place.now.line column
+            (length token.entry.text.now))) }
+    {
+        let lines = self.lines_at(token.place)?;
+        Some(lines.range(encoding, token, column))
+    }
+
     // Its lines, if a place is in it.
     fn lines_at(&self, place: &Place) -> Option<&CountedLines<'a>>
         ensures { IfSome result (λ lines. (place.now.file ≡ self.now.name.now)
@@ -320,6 +329,21 @@ impl<'a> CountedLines<'a> {
         ensures { IsAllowedFile self.now }
     {
         let _lines = &self.lines;
+    }
+
+    // The range of a token behind so many bytes of its line, or of that line where this isn't known.
+    fn range(&self, encoding: Encoding, token: LocatedToken<'_>, column: Option<usize>) -> Range
+        ensures { result ≡ range_in encoding self.now token.entry.place.now.line column
+            (length token.entry.text.now) }
+    {
+        self.keeps_form();
+        match column {
+            Some(column) => {
+                let end = column.saturating_add(token.text.len());
+                self.between(encoding, token.place.line, (column, end))
+            }
+            None => self.line(encoding, token.place.line),
+        }
     }
 
     // The range of a line, by its number from 1 on.

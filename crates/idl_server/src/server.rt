@@ -1,6 +1,6 @@
 //! The server: a step of it for each message.
 
-ghost use Rattle.std.specs.Prelude.{◌≡◌, ◌⊎◌, ◌++◌, ◌∷◌, [], ℕ, List, Contains, None, IfOk, IsErr, OnErr, OnOk};
+ghost use Rattle.std.specs.Prelude.{◌≡◌, ◌⊎◌, ◌++◌, ◌∷◌, [], ℕ, List, Contains, None, Some, IfOk, IfSome, IsErr, OnErr, OnOk, true};
 ghost use Rattle.serde_json.specs.View.{view};
 ghost use Rattle.idl_loader.specs.Holding.{Holding};
 ghost use Rattle.idl_editor.specs.messages.Said.{said_by};
@@ -9,20 +9,24 @@ ghost use Rattle.idl_editor.specs.messages.Answers.{error_json};
 ghost use Rattle.idl_editor.specs.messages.Message.{IsMessage};
 ghost use Rattle.idl_editor.specs.declared.messages.answer.ErrorCode.TheVariants.{Internal};
 ghost use Rattle.idl_editor.specs.declared.messages.message.Message.{Message};
-ghost use Rattle.idl_server.specs.Messages.{IsAnswered, IsMessageOf, answered, next_by, outcome_by};
+ghost use Rattle.idl_server.specs.Messages.{IsAnswered, IsMessageOf, IsRead, answered, next_by, outcome_by};
 ghost use Rattle.idl_server.specs.Published.{ArePublished};
-ghost use Rattle.idl_server.specs.Server.{HasTaken, IsNew, IsSettled, if_running, told_to};
+ghost use Rattle.idl_editor.specs.declared.messages.method.Method.TheVariants.{DidChange};
+ghost use Rattle.idl_server.specs.Late.{CatchesUp, IsChange, IsChangeOf, TakesIn};
+ghost use Rattle.idl_server.specs.Server.{HasTaken, IsNew, IsSettled, if_running};
+ghost use Rattle.idl_server.specs.declared.server.Phase.TheVariants.{Running};
 ghost use Rattle.idl_server.specs.declared.workspace.Workspace.{Workspace};
 
 use crate::publishing::PublishedDiagnostics;
 use crate::requests::RequestOutcome;
 use crate::workspace::Workspace;
 use idl_editor::Encoding;
-use idl_editor::documents::{RefusedEdit, shown_params};
-use idl_editor::messages::{ErrorCode, Message, Method, Outbox, message_of};
+use idl_editor::documents::{RefusedEdit, changes_told, shown_params};
+use idl_editor::messages::{ErrorCode, Message, Method, Outbox, message_of, version_of};
 use idl_editor::uris::Folders;
 use idl_loader::PathLoader;
 use idl_project::Session;
+use idl_source::Name;
 use indexmap::{IndexMap, IndexSet};
 use serde_json::Value;
 use std::alloc::{AllocError, Global};
@@ -67,6 +71,8 @@ pub struct Server {
     phase: Phase,
     pub(crate) workspace: Workspace,
     told: PublishedDiagnostics,
+    // The document that changed while more was there to be taken in: the session gets its text later.
+    late: Option<Name>,
 }
 
 impl Server {
@@ -94,10 +100,11 @@ impl Server {
             phase: Phase::Waiting,
             workspace,
             told: PublishedDiagnostics::new(alloc),
+            late: None,
         }
     }
 
-    /// Does what a message asks for, and gathers what is to be said.
+    /// Does what a message asks for, and gathers what is to be said. After it no document is late.
     pub fn step<L: PathLoader>(
         &mut self,
         loader: &mut L,
@@ -106,24 +113,154 @@ impl Server {
     ) -> Result<StepOutcome, AllocError>
         ensures settled { IsSettled (L.told_of loader.old) self.old
             → OnOk result (IsSettled (L.told_of loader.old) self.new) }
-        ensures taken { OnOk result (HasTaken (told_to self.old body.now) self.old self.new) }
-        ensures published { OnOk result (ArePublished self.new.workspace
+        ensures taken { OnOk result (TakesIn body.now self.old self.new
+            (said_by out.old) (said_by out.new)) }
+        ensures on_time { OnOk result (self.new.late ≡ None) }
+        ensures answered { IfOk result (λ outcome. (message : Message)
+            × IsMessageOf body.now message × IsAnswered message self.old.phase self.new.phase
+            (said_by out.old) (said_by out.new) outcome) }
+        ensures stays { L.told_of loader.new ≡ L.told_of loader.old }
+    {
+        let Some(value) = value_of(body, out)? else {
+            self.catch_up(loader, out)?;
+            return Ok(StepOutcome::Goes);
+        };
+        let Some((name, params)) = self.late_change(&value)? else {
+            self.catch_up(loader, out)?;
+            return self.take_value(loader, &value, out);
+        };
+        self.put_off(&name, params, out)?;
+        self.catch_up(loader, out)?;
+        Ok(StepOutcome::Goes)
+    }
+
+    /// The same for a message behind which more has come: after a change of a document that may be late.
+    pub fn step_early<L: PathLoader>(
+        &mut self,
+        loader: &mut L,
+        body: &[u8],
+        out: &mut Outbox,
+    ) -> Result<StepOutcome, AllocError>
+        ensures settled { IsSettled (L.told_of loader.old) self.old
+            → OnOk result (IsSettled (L.told_of loader.old) self.new) }
+        ensures taken { OnOk result (TakesIn body.now self.old self.new
             (said_by out.old) (said_by out.new)) }
         ensures answered { IfOk result (λ outcome. (message : Message)
             × IsMessageOf body.now message × IsAnswered message self.old.phase self.new.phase
             (said_by out.old) (said_by out.new) outcome) }
         ensures stays { L.told_of loader.new ≡ L.told_of loader.old }
     {
-        match Value::from_slice(out.alloc(), body) {
-            Ok(value) => self.take_value(loader, &value, out),
-            Err(error) => {
-                if error.is_memory() {
-                    return Err(AllocError);
-                }
-                out.refuse(&Value::Null, ErrorCode::NoJson)?;
-                Ok(StepOutcome::Goes)
-            }
+        let Some(value) = value_of(body, out)? else {
+            return Ok(StepOutcome::Goes);
+        };
+        let Some((name, params)) = self.changed_by(&value)? else {
+            self.catch_up(loader, out)?;
+            return self.take_value(loader, &value, out);
+        };
+        if self.is_late(&name) {
+            self.put_off(&name, params, out)?;
+            return Ok(StepOutcome::Goes);
         }
+        self.catch_up(loader, out)?;
+        self.put_off(&name, params, out)?;
+        Ok(StepOutcome::Goes)
+    }
+
+    // The open document that a message changes, where a server runs, and the parameters that tell the change.
+    fn changed_by<'v>(&self, value: &'v Value) -> Result<Option<(Name, &'v Value)>, AllocError>
+        ensures { IfOk result (λ found. IfSome found (λ change. (self.now.phase ≡ Running)
+            × IsChange (view value.now) (view change.1.now)
+            × IsChangeOf self.now.workspace change.0 (view change.1.now))) }
+    {
+        let Phase::Running = self.phase else {
+            return Ok(None);
+        };
+        let Some(params) = change_in(value) else {
+            return Ok(None);
+        };
+        match self.workspace.open_in(params)? {
+            Some(name) => Ok(Some((name, params))),
+            None => Ok(None),
+        }
+    }
+
+    // The same of the document that is late.
+    fn late_change<'v>(&self, value: &'v Value) -> Result<Option<(Name, &'v Value)>, AllocError>
+        ensures { IfOk result (λ found. IfSome found (λ change. (self.now.phase ≡ Running)
+            × IsChange (view value.now) (view change.1.now)
+            × IsChangeOf self.now.workspace change.0 (view change.1.now)
+            × (self.now.late ≡ Some change.0))) }
+    {
+        let Some((name, params)) = self.changed_by(value)? else {
+            return Ok(None);
+        };
+        if !self.is_late(&name) {
+            return Ok(None);
+        }
+        Ok(Some((name, params)))
+    }
+
+    // Whether this document is late.
+    fn is_late(&self, name: &Name) -> bool
+        ensures { result ≡ true → self.now.late ≡ Some name.now }
+    {
+        match &self.late {
+            Some(late) => late == name,
+            None => false,
+        }
+    }
+
+    // Changes the text of an open document, of which the session gets it later. Nothing of it is said before that.
+    fn put_off(&mut self, name: &Name, params: &Value, out: &mut Outbox) -> Result<(), AllocError>
+        requires change { IsChangeOf self.old.workspace name.now (view params.now) }
+        requires runs { self.old.phase ≡ Running }
+        requires alone { (self.old.late ≡ None) ⊎ (self.old.late ≡ Some name.now) }
+        ensures settled { (told : List ℕ → Holding)
+            → IsSettled told self.old → OnOk result (IsSettled told self.new) }
+        ensures taken { OnOk result (HasTaken (told_by_notice self.old.workspace.folders
+            DidChange (view params.now)) self.old self.new) }
+        ensures published { (w : Workspace)
+            → OnOk result (ArePublished w (said_by out.old) (said_by out.new)) }
+        ensures answers { OnOk result (answered (said_by out.new) ≡ answered (said_by out.old)) }
+        ensures phase { self.new.phase ≡ self.old.phase }
+    {
+        let Some(changes) = changes_told(out.alloc(), params)? else {
+            self.workspace.keep_bad_change(name)?;
+            return show_refused(&mut self.workspace.refused, out);
+        };
+        self.late = Some(name.copied());
+        self.workspace.put_off(name, version_of(params), &changes)
+    }
+
+    // Hands the session the text of the document that is late, and tells what is found then.
+    fn catch_up<L: PathLoader>(
+        &mut self,
+        loader: &mut L,
+        out: &mut Outbox,
+    ) -> Result<(), AllocError>
+        ensures settled { IsSettled (L.told_of loader.old) self.old
+            → OnOk result (IsSettled (L.told_of loader.old) self.new) }
+        ensures caught { OnOk result (CatchesUp self.old self.new) }
+        ensures on_time { OnOk result (self.new.late ≡ None) }
+        ensures published { OnOk result (ArePublished self.new.workspace
+            (said_by out.old) (said_by out.new)) }
+        ensures answers { OnOk result (answered (said_by out.new) ≡ answered (said_by out.old)) }
+        ensures phase { self.new.phase ≡ self.old.phase }
+        ensures stays { L.told_of loader.new ≡ L.told_of loader.old }
+    {
+        // A text is put off only where the server runs.
+        let Phase::Running = self.phase else {
+            self.late = None;
+            return Ok(());
+        };
+        let Some(name) = &self.late else {
+            return Ok(());
+        };
+        self.workspace.put_whole(name)?;
+        self.workspace.settle(loader)?;
+        self.late = None;
+        show_refused(&mut self.workspace.refused, out)?;
+        self.told.publish(&mut self.workspace, out)
     }
 
     // The same for the JSON that the message is.
@@ -133,6 +270,7 @@ impl Server {
         value: &Value,
         out: &mut Outbox,
     ) -> Result<StepOutcome, AllocError>
+        requires on_time { self.old.late ≡ None }
         ensures settled { IsSettled (L.told_of loader.old) self.old
             → OnOk result (IsSettled (L.told_of loader.old) self.new) }
         ensures taken { OnOk result (HasTaken (if_running self.old.phase
@@ -142,6 +280,7 @@ impl Server {
         ensures answered { IfOk result (λ outcome. (message : Message)
             × IsMessage (view value.now) message × IsAnswered message self.old.phase self.new.phase
             (said_by out.old) (said_by out.new) outcome) }
+        ensures late { self.new.late ≡ self.old.late }
         ensures stays { L.told_of loader.new ≡ L.told_of loader.old }
     {
         let nothing = Value::Null;
@@ -173,6 +312,7 @@ impl Server {
         params: &Value,
         out: &mut Outbox,
     ) -> Result<(), AllocError>
+        requires on_time { self.old.late ≡ None }
         ensures settled { (told : List ℕ → Holding)
             → IsSettled told self.old → OnOk result (IsSettled told self.new) }
         ensures taken { OnOk result (HasTaken None self.old self.new) }
@@ -183,6 +323,7 @@ impl Server {
         ensures led { OnOk result ((self.new.phase ≡ next_by self.old.phase method)
             ⊎ ((self.new.phase ≡ self.old.phase)
             × Contains (said_by out.new) (error_json (view id.now) Internal))) }
+        ensures late { self.new.late ≡ self.old.late }
     {
         say_outcome(id, self.outcome(method, params), out)?;
         show_refused(&mut self.workspace.refused, out)
@@ -190,11 +331,13 @@ impl Server {
 
     // What comes of a request.
     fn outcome(&mut self, method: Method, params: &Value) -> Result<RequestOutcome, AllocError>
+        requires on_time { self.old.late ≡ None }
         ensures settled { (told : List ℕ → Holding)
             → IsSettled told self.old → IsSettled told self.new }
         ensures taken { HasTaken None self.old self.new }
         ensures led { OnOk result (self.new.phase ≡ next_by self.old.phase method) }
         ensures kept { OnErr result (self.new.phase ≡ self.old.phase) }
+        ensures late { self.new.late ≡ self.old.late }
     {
         match self.phase {
             Phase::Waiting => match method {
@@ -225,6 +368,7 @@ impl Server {
         params: &Value,
         out: &mut Outbox,
     ) -> Result<(), AllocError>
+        requires on_time { self.old.late ≡ None }
         ensures settled { IsSettled (L.told_of loader.old) self.old
             → OnOk result (IsSettled (L.told_of loader.old) self.new) }
         ensures taken { OnOk result (HasTaken (if_running self.old.phase
@@ -234,6 +378,7 @@ impl Server {
             (said_by out.old) (said_by out.new)) }
         ensures answers { OnOk result (answered (said_by out.new) ≡ answered (said_by out.old)) }
         ensures phase { self.new.phase ≡ self.old.phase }
+        ensures late { self.new.late ≡ self.old.late }
         ensures stays { L.told_of loader.new ≡ L.told_of loader.old }
     {
         let Phase::Running = self.phase else {
@@ -243,6 +388,33 @@ impl Server {
         self.workspace.settle(loader)?;
         show_refused(&mut self.workspace.refused, out)?;
         self.told.publish(&mut self.workspace, out)
+    }
+}
+
+// The JSON that a body is. Of one that is none that is told.
+fn value_of(body: &[u8], out: &mut Outbox) -> Result<Option<Value>, AllocError>
+    ensures { IfOk result (λ found.
+        IsRead body.now found (said_by out.old) (said_by out.new)) }
+{
+    match Value::from_slice(out.alloc(), body) {
+        Ok(value) => Ok(Some(value)),
+        Err(error) => {
+            if error.is_memory() {
+                return Err(AllocError);
+            }
+            out.refuse(&Value::Null, ErrorCode::NoJson)?;
+            Ok(None)
+        }
+    }
+}
+
+// The parameters by which a message changes a document.
+fn change_in(value: &Value) -> Option<&Value>
+    ensures { IfSome result (λ params. IsChange (view value.now) (view params.now)) }
+{
+    match message_of(value) {
+        Message::Notice(method, params) if method == Method::DidChange => params,
+        _ => None,
     }
 }
 

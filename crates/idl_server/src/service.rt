@@ -1,10 +1,14 @@
 //! The language server over its streams: messages of an editor are read, and what is to be said is written.
 
-ghost use Rattle.std.specs.Prelude.{◌≡◌, ◌<◌, ◌≤◌, ◌-◌, ◌^◌, ℕ, List, [], map, Option, IfOk, OnOk};
+ghost use Rattle.std.specs.Prelude.{◌≡◌, ◌<◌, ◌≤◌, ◌-◌, ◌^◌, ℕ, List, [], map, Option, None, IfOk, OnOk, false};
 ghost use Rattle.serde_json.specs.Data.{Data};
 ghost use Rattle.serde_json.specs.View.{view};
 ghost use Rattle.idl_source.specs.devices.Device.{append, prepend};
 ghost use Rattle.idl_editor.specs.frames.Reading.{IsNearer, Receives, fuel};
+ghost use Rattle.idl_editor.specs.messages.Said.{said_by};
+ghost use Rattle.idl_editor.specs.declared.messages.message.Message.{Message};
+ghost use Rattle.idl_server.specs.Late.{TakesIn};
+ghost use Rattle.idl_server.specs.Messages.{IsAnswered, IsMessageOf};
 ghost use Rattle.idl_server.specs.Server.{IsNew, IsSettled};
 ghost use Rattle.idl_server.specs.Serving.{AreWritten, HasStepped, IsServed};
 ghost use Rattle.idl_server.specs.declared.server.Server.{Server};
@@ -16,7 +20,7 @@ use idl_loader::{PathLoader, Service, ServiceFault, Status};
 use idl_source::devices::write_all;
 use idl_source::{Sink, Source};
 use serde_json::Value;
-use std::alloc::Global;
+use std::alloc::{AllocError, Global};
 
 /// Serves each editor by a [`Server`] of its own.
 #[derive(Drop)]
@@ -61,6 +65,7 @@ fn answer_messages<L: PathLoader, S: Source, O: Sink>(
     requires reads { S.failures source.old < 2 ^ 64 - 1 }
     requires writes { O.failures output.old < 2 ^ 64 - 1 }
     requires settled { IsSettled (L.told_of loader.old) server.old }
+    requires on_time { server.old.late ≡ None }
     ensures well { OnOk result (O.failures output.new ≡ O.failures output.old) }
     ensures served { IfOk result (λ status. IsServed (L.told_of loader.old) server.old
         (S.remaining source.old) (O.written output.old) (O.written output.new) status) }
@@ -70,7 +75,8 @@ fn answer_messages<L: PathLoader, S: Source, O: Sink>(
         let Received::Body(body) = received(&mut reader, source)? else {
             return Ok(Status::Faulty);
         };
-        match answer_message(server, loader, &body, output)? {
+        let message = (body.as_slice(), !reader.is_empty());
+        match answer_message(server, loader, message, output)? {
             StepOutcome::Goes => {}
             StepOutcome::Ends => return Ok(Status::Sound),
             StepOutcome::BreaksOff => return Ok(Status::Faulty),
@@ -97,23 +103,49 @@ fn received<S: Source>(reader: &mut Reader, source: &mut S) -> Result<Received, 
     }
 }
 
-// Does what a message asks for, and writes what is to be said.
+// A step by a message, and whether more has come behind it.
+fn step_by<L: PathLoader>(
+    server: &mut Server,
+    loader: &mut L,
+    message: (&[u8], bool),
+    out: &mut Outbox,
+) -> Result<StepOutcome, AllocError>
+    ensures settled { IsSettled (L.told_of loader.old) server.old
+        → OnOk result (IsSettled (L.told_of loader.old) server.new) }
+    ensures taken { OnOk result (TakesIn message.entry.0.now server.old server.new
+        (said_by out.old) (said_by out.new)) }
+    ensures on_time { message.entry.1 ≡ false → OnOk result (server.new.late ≡ None) }
+    ensures answered { IfOk result (λ outcome. (asked : Message)
+        × IsMessageOf message.entry.0.now asked
+        × IsAnswered asked server.old.phase server.new.phase
+        (said_by out.old) (said_by out.new) outcome) }
+    ensures stays { L.told_of loader.new ≡ L.told_of loader.old }
+{
+    let (body, is_followed) = message;
+    if is_followed {
+        return server.step_early(loader, body, out);
+    }
+    server.step(loader, body, out)
+}
+
+// Does what a message asks for, by whether more has come behind it, and writes what is to be said.
 fn answer_message<L: PathLoader, O: Sink>(
     server: &mut Server,
     loader: &mut L,
-    body: &[u8],
+    message: (&[u8], bool),
     output: &mut O,
 ) -> Result<StepOutcome, ServiceFault>
     requires writes { O.failures output.old < 2 ^ 64 - 1 }
     requires settled { IsSettled (L.told_of loader.old) server.old }
     ensures ok { OnOk result (O.failures output.new ≡ O.failures output.old) }
     ensures stepped { IfOk result (λ outcome. (said : List Data) × (text : List ℕ)
-        × HasStepped (L.told_of loader.old) body.now server.old said server.new outcome
+        × HasStepped (L.told_of loader.old) message.entry.0.now server.old said server.new outcome
         × AreWritten said text × (O.written output.new ≡ append (O.written output.old) text)) }
+    ensures on_time { message.entry.1 ≡ false → OnOk result (server.new.late ≡ None) }
     ensures stays { L.told_of loader.new ≡ L.told_of loader.old }
 {
     let mut out = Outbox::new(server.workspace.session.allocator());
-    let next = server.step(loader, body, &mut out)?;
+    let next = step_by(server, loader, message, &mut out)?;
     write_messages(server.workspace.session.allocator(), out.messages(), output)?;
     Ok(next)
 }

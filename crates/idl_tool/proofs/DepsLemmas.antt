@@ -1,5 +1,5 @@
 -- Rules of roots, one after another.
-use Rattle.std.proofs.Common.{◌≡◌, ◌∙◌, ◌+◌, ◌-◌, ◌<◌, ◌≤◌, ◌++◌, ◌∷◌, [], ℕ, ◌||◌, All, Bool, IsTrue, List, ap, ap₂, append_assoc, filter, flat_map, get_or, length, map, refl, sym, take, if◌then◌else◌, true, false}
+use Rattle.std.proofs.Common.{◌≡◌, ◌∙◌, ◌+◌, ◌<◌, ◌≤◌, ◌++◌, ◌∷◌, [], ℕ, ◌||◌, All, Bool, IsTrue, List, ap, ap₂, append_assoc, filter, flat_map, get_or, length, map, refl, sym, take, if◌then◌else◌, true, false}
 use Rattle.std.proofs.lemmas.List.{append-nil, take_all, take_more}
 use Rattle.std.proofs.lemmas.List.Concat.{flat_map-append}
 use Rattle.std.proofs.lemmas.List.Elements.{All-cons, All-filter, All-head, All-nil, All-tail}

@@ -1,6 +1,6 @@
 //! Messages one after another, of a source that gives its bytes in any pieces.
 
-ghost use Rattle.std.specs.Prelude.{◌≡◌, ◌≤◌, ◌<◌, ◌+◌, ◌-◌, ◌^◌, ◌++◌, [], List, ℕ, Option, IfOk, OnOk, OnErr, length, true, false};
+ghost use Rattle.std.specs.Prelude.{◌≡◌, ◌≤◌, ◌<◌, ◌+◌, ◌-◌, ◌^◌, ◌++◌, ◌↔◌, [], List, ℕ, Option, IfOk, OnOk, OnErr, IsTrue, length, true, false};
 ghost use Rattle.idl_source.specs.devices.Device.{prepend};
 ghost use Rattle.idl_editor.specs.frames.Heads.{HasNoHead, IsHeadAt};
 ghost use Rattle.idl_editor.specs.frames.Message.{longest_body};
@@ -50,6 +50,13 @@ impl Reader {
         Reader {
             held: Vec::new(alloc),
         }
+    }
+
+    /// Whether nothing is held: else more of the stream has come than the messages that were taken.
+    pub fn is_empty(&self) -> bool
+        ensures { IsTrue result ↔ (self.now ≡ []) }
+    {
+        self.held.is_empty()
     }
 
     /// Takes the next message. Where there is none, or a read or memory failed, nothing is taken.

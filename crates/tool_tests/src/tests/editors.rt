@@ -65,7 +65,8 @@ static SCRIPTS: [&str; 8] = [
 {"id":7,"method":"shutdown"}
 ={"id":7,"jsonrpc":"2.0","result":null}
 {"method":"exit"}"##,
-    // A document in units of UTF-8, changed as a whole and closed; a change of it makes no sense, and one of none. No further message comes.
+    // A document in units of UTF-8, changed as a whole and closed; a change of it that waits makes no sense, and one is of none. No further
+    // message comes.
     r##"1 /p/q/a.idl: typedef No T;
 {"id":1,"method":"initialize","params":{"capabilities":{"general":{"positionEncodings":["utf-16","utf-8"]}},
     "workspaceFolders":[{"uri":"file:///p/q/"}]}}
@@ -76,15 +77,15 @@ static SCRIPTS: [&str; 8] = [
 {"method":"textDocument/didOpen","params":{"textDocument":{"uri":"file:///p/q/a.idl","text":""}}}
 {"method":"textDocument/didChange","params":{"textDocument":{"uri":"file:///p/q/a.idl"},"contentChanges":[
     {"range":null,"text":"/* é😀 */ interface F;\n"}]}}
+{"method":"textDocument/didChange","params":{"textDocument":{"uri":"file:///p/q/a.idl"},"contentChanges":[
+    {"text":"interface G;\n"},{"range":{"start":{"line":0,"character":0}},"text":"x"}]}}
+={"jsonrpc":"2.0","method":"window/showMessage","params":{"message":"a.idl: a change makes no sense, so the text stays as it was",
+    "type":1}}
 ={"jsonrpc":"2.0","method":"textDocument/publishDiagnostics","params":{"diagnostics":[{"code":"W80",
     "message":"the interface `F` is declared forward and never defined\n
     It may stay so: no code can call it through this file. Include the file that defines it.",
     "range":{"end":{"character":24,"line":0},"start":{"character":23,"line":0}},"relatedInformation":[],"severity":2,
     "source":"idltool"}],"uri":"file:///p/q/a.idl"}}
-{"method":"textDocument/didChange","params":{"textDocument":{"uri":"file:///p/q/a.idl"},"contentChanges":[
-    {"text":"interface G;\n"},{"range":{"start":{"line":0,"character":0}},"text":"x"}]}}
-={"jsonrpc":"2.0","method":"window/showMessage","params":{"message":"a.idl: a change makes no sense, so the text stays as it was",
-    "type":1}}
 {"method":"textDocument/didChange","params":{"textDocument":{"uri":"file:///p/q/b.idl"},"contentChanges":[{}]}}
 {"method":"textDocument/didClose","params":{"textDocument":{"uri":"file:///p/q/a.idl"}}}
 ={"jsonrpc":"2.0","method":"textDocument/publishDiagnostics","params":{"diagnostics":[],"uri":"file:///p/q/a.idl"}}"##,

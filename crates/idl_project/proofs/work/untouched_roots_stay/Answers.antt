@@ -1,5 +1,5 @@
 -- What asks for the same and is answered the same comes to the same.
-use Rattle.std.proofs.Common.{◌≡◌, ◌∙◌, ◌↔◌, ◌+◌, ◌++◌, ℕ, All, Bool, true, List, [], ◌∷◌, Option, None, Some, if◌then◌else◌, append-nil, refl, sym, subst, ap}
+use Rattle.std.proofs.Common.{◌≡◌, ◌∙◌, ◌↔◌, ◌+◌, ◌++◌, ℕ, All, Bool, true, List, [], ◌∷◌, Option, None, Some, if◌then◌else◌, append-nil, refl, sym, subst, take, ap}
 use Rattle.std.proofs.lemmas.List.Elements.{All-contains}
 use Rattle.std.specs.FinMap as finite
 use Rattle.std.specs.List.{Contains, list_any}
@@ -87,12 +87,14 @@ module _ (class : (here task : RootPlace) → is_alike bytes_eq (option_eq ghost
       let all : All P (asked_over was root) = files-alike old.inputs new.inputs (expanded root was).1 (answers root was) now in
       All-contains P (asked_over was root) name all (subst (λ b. Contains (if b then asked_over was root else []) name) passed.before asks)
 
-  related-same : (related : Option (List (List Related))) → AreRelatedIn new root related ↔ AreRelatedIn old root related
-  related-same related =
-      let found : findings_of new root ≡ findings_of old root = ap (option_map (λ (r : CompiledRoot). r.rows.findings)) compiled-same in
+  related-same : (count : ℕ) (related : Option (List (List Related))) → AreRelatedIn new root count related ↔ AreRelatedIn old root count related
+  related-same count related =
+      let asked : Option (List Finding) = option_map (take count) (findings_of old root) in
+      let found : option_map (take count) (findings_of new root) ≡ asked =
+      ap (λ (c : Option CompiledRoot). option_map (take count) (option_map (λ (r : CompiledRoot). r.rows.findings) c)) compiled-same in
       let events : (expanded root bank).0 ≡ (expanded root was).0 = ap (λ (p : Run). p.0) run-same in (
-        (λ h. related-over new old root (findings_of old root) related events (subst (λ (f : Option (List Finding)). AreRelatedTo new root f related) found h)),
-        (λ h. subst (λ (f : Option (List Finding)). AreRelatedTo new root f related) (sym found) (related-over old new root (findings_of old root) related (sym events) h)),
+        (λ h. related-over new old root asked related events (subst (λ (f : Option (List Finding)). AreRelatedTo new root f related) found h)),
+        (λ h. subst (λ (f : Option (List Finding)). AreRelatedTo new root f related) (sym found) (related-over old new root asked related (sym events) h)),
       )
 
 pub returns-clause-compiled : goal.returns-clause-compiled
@@ -111,7 +113,7 @@ pub returns-clause-files : goal.returns-clause-files
 returns-clause-files c = λ old new root name passed asks. file-same c.freshness.ensures.class (λ name b. (c.reliance.ensures.log name b).answers) c.reliance.ensures.again old new root passed name asks
 
 pub returns-clause-related : goal.returns-clause-related
-returns-clause-related c = λ old new root related passed. related-same c.freshness.ensures.class (λ name b. (c.reliance.ensures.log name b).answers) c.reliance.ensures.again old new root passed related
+returns-clause-related c = λ old new root count related passed. related-same c.freshness.ensures.class (λ name b. (c.reliance.ensures.log name b).answers) c.reliance.ensures.again old new root passed count related
 
 pub returns-clause-count : goal.returns-clause-count
 returns-clause-count c = λ old new once.

@@ -1,4 +1,4 @@
-use Rattle.std.proofs.Common.{◌≡◌, ◌∙◌, ◌++◌, ◌∷◌, [], ℕ, Bool, List, Option, ap, ap₂, if◌then◌else◌, is_ok, map, refl, sym}
+use Rattle.std.proofs.Common.{◌∙◌, ◌++◌, ◌∷◌, [], ℕ, Bool, List, Option, ap, ap₂, if◌then◌else◌, is_ok, map, refl, sym}
 use Rattle.std.proofs.lemmas.Result.{on_ok_weaker}
 use Rattle.idl_changes.specs.Changes.{entry_in, row_text}
 use Rattle.idl_json.specs.Listed.{NamePlace, row_of}

@@ -1,8 +1,8 @@
-use Rattle.std.proofs.Common.{◌≡◌, ◌∙◌, ◌++◌, [], ℕ, List, ap, ap₂, flat_map, get_or, map, sym}
+use Rattle.std.proofs.Common.{◌∙◌, ◌++◌, [], ℕ, List, ap, ap₂, flat_map, get_or, map, sym}
 use Rattle.std.proofs.lemmas.List.{get_or-map, take_all}
 use Rattle.idl_inputs.specs.Bank.{bank_of}
 use Rattle.idl_driver.specs.idl_sources.Details.{details_over}
-use Rattle.idl_json.specs.Listed.{LocatedRow, row_of}
+use Rattle.idl_json.specs.Listed.{row_of}
 use Rattle.idl_driver.specs.idl_sources.idl_root.declared.compiling.detailing.DetailedEntry.{DetailedEntry}
 use Rattle.idl_driver.specs.idl_sources.idl_root.declared.compiling.detailing.Details.{Details}
 use Rattle.idl_source.specs.texts.Texts.{Texts}

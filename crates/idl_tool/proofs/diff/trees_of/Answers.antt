@@ -1,4 +1,4 @@
-use Rattle.std.proofs.Common.{Bor, ◌∙◌, ◌++◌, ◌∷◌, [], ℕ, List, ap, ap₂, map, sym, take}
+use Rattle.std.proofs.Common.{Bor, ◌∙◌, ◌++◌, ◌∷◌, [], List, ap, map, sym, take}
 use Rattle.std.proofs.lemmas.List.{map-append, take_all, take_more}
 use Rattle.idl_json.specs.Listed.{LocatedRow, row_of}
 use Rattle.idl_json.specs.declared.listed.ListedRow.{ListedRow}

@@ -11,7 +11,7 @@ use Rattle.idl_editor.specs.messages.Said.{said_by}
 use Rattle.idl_server.proofs.PublishedLemmas.{then-published}
 use Rattle.idl_server.proofs.NoticeLemmas.{taken-before}
 use Rattle.idl_server.proofs.ServerLemmas.{settled-kept, told-settled}
-use Rattle.idl_server.proofs.HeldLemmas.{held-after}
+use Rattle.idl_server.proofs.HeldLemmas.{held-after, held-late, none-late}
 use Rattle.idl_server.proofs.WorkspaceLemmas.{on_ok, set-both}
 use Rattle.std.proofs.lemmas.Result.{on_ok_weaker}
 use Rattle.idl_server.proofs.server.Server.take_notice.Goals as goal
@@ -46,11 +46,11 @@ returns-clause-taken g c =
     let told = told_by_notice old.workspace.folders c.args.method (view c.args.params.now) in
     let runs : old.phase ≡ Running = cc in
     on_ok c.publish.result
-    (taken-before (if_running old.phase told) old shown _ c.publish.ensures.kept
-    (taken-before (if_running old.phase told) old settled shown (record { encoding = refl; folders = refl; session = refl; documents = refl; tried = refl; unread = refl })
+    (taken-before (if_running old.phase told) old shown _ refl refl c.publish.ensures.kept
+    (taken-before (if_running old.phase told) old settled shown refl refl (record { encoding = refl; folders = refl; session = refl; documents = refl; tried = refl; unread = refl })
     (subst (λ (phase : Phase). HasTaken (if_running phase told) old settled) (sym runs) (record {
       texts = λ name. (λ i. texts_of (c.in_ok-settle.ensures.documents i).entries name) ∙ c.in_ok-take_told.ensures.texts name;
-      held = held-after old.workspace.session.project _ _ _ (λ i. (c.in_ok-settle.ensures.documents i).entries) c.in_ok-take_told.ensures.held;
+      held = held-late old settled (none-late old settled c.requires.on_time) (held-after old.workspace.session.project _ _ _ (λ i. (c.in_ok-settle.ensures.documents i).entries) c.in_ok-take_told.ensures.held);
       set = λ is. set-both old.workspace mid w c.in_ok-take_told.ensures.set c.in_ok-settle.ensures.set;
     }))))
 

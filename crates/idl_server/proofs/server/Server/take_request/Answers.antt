@@ -21,7 +21,7 @@ returns-clause-taken c =
     let mid = c.outcome.new.self in
     let new = record mid { workspace = record mid.workspace { refused = c.show_refused.new.refused } } in
     on_ok c.show_refused.result
-    (taken-before None c.args.self.now mid new (record { encoding = refl; folders = refl; session = refl; documents = refl; tried = refl; unread = refl }) c.outcome.ensures.taken)
+    (taken-before None c.args.self.now mid new refl refl (record { encoding = refl; folders = refl; session = refl; documents = refl; tried = refl; unread = refl }) c.outcome.ensures.taken)
 
 pub returns-clause-published : goal.returns-clause-published
 returns-clause-published c = λ w.

@@ -48,6 +48,7 @@ returns-in-Goes g c =
         c.in-Notice.ensures,
         record { answers = c.in_ok-take_notice-in-Goes.ensures.answers ∙ sym (append-nil (answered (said_by c.args.out.now))); led = c.take_notice.ensures.phase; ends = sym c.in-Goes.is ∙ c.outcome_by.ensures },
       );
+      late = c.take_notice.ensures.late;
       stays = c.take_notice.ensures.stays;
     }
 

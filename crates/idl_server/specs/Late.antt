@@ -1,0 +1,57 @@
+-- Texts that the session gets later.
+use Rattle.std.specs.Prelude.{◌≡◌, ◌⊎◌, ℕ, List, Option, None, Some}
+use Rattle.serde_json.specs.Data.{Data}
+use Rattle.idl_editor.specs.documents.Documents.{HaveTexts}
+use Rattle.idl_editor.specs.documents.Notices.{json_of, name_in}
+use Rattle.idl_editor.specs.messages.Message.{id_in, method_in, params_in}
+use Rattle.idl_editor.specs.declared.messages.method.Method.TheVariants.{DidChange}
+use Rattle.idl_server.specs.Files.{StaysSet}
+use Rattle.idl_server.specs.Published.{ArePublished}
+use Rattle.idl_server.specs.Roots.{IsOpen}
+use Rattle.idl_server.specs.Server.{HasTaken, OnlyLateIsBehind, open_in, told_to}
+use Rattle.idl_server.specs.declared.server.Server.{Server}
+use Rattle.idl_server.specs.declared.workspace.Workspace.{Workspace}
+
+-- a message changes a document, by these parameters
+abbrev pub IsChange : Data → Data → Type 0
+IsChange json params =
+    (id_in json ≡ None) × (method_in json ≡ Some DidChange) × (params_in json ≡ Some params)
+
+-- parameters are about this open document
+abbrev pub IsChangeOf : Workspace → List ℕ → Data → Type 0
+IsChangeOf w name params = (name_in w.folders params ≡ Some name) × IsOpen w name
+
+-- the session got the text of the document that was late, or refused it, and all is as it was else
+pub record HasCaughtUp (old new : Server) : Type 0 where
+  pub texts : HaveTexts new.workspace.documents.entries (open_in old)
+  pub held : (name : List ℕ) → OnlyLateIsBehind old new name
+  pub set : StaysSet old.workspace new.workspace
+  pub phase : new.phase ≡ old.phase
+  pub none : new.late ≡ None
+
+-- no document was late, or the session caught up
+abbrev pub CatchesUp : Server → Server → Type 0
+CatchesUp old new = (new ≡ old) ⊎ HasCaughtUp old new
+
+-- a request finds no document late
+abbrev pub FindsNoneLate : List ℕ → Server → Type 0
+FindsNoneLate body server =
+    (json id : Data) → json_of body ≡ Some json → id_in json ≡ Some id → server.late ≡ None
+
+-- what is published since is what roots find where no document is late, or nothing is
+abbrev pub ArePublishedOnTime : Server → List Data → List Data → Type 0
+ArePublishedOnTime server before after =
+    ((server.late ≡ None) × ArePublished server.workspace before after)
+    ⊎ ((w : Workspace) → ArePublished w before after)
+
+-- a server took this body in, and the session may have caught up before, or after
+pub record TakesIn (body : List ℕ) (old new : Server) (before after : List Data) : Type 0 where
+  pub caught : Server
+  pub moved : Server
+  pub between : List Data
+  pub first : CatchesUp old caught
+  pub on_time : FindsNoneLate body caught
+  pub taken : HasTaken (told_to old body) caught moved
+  pub last : CatchesUp moved new
+  pub early : ArePublishedOnTime caught before between
+  pub later : ArePublishedOnTime new between after
