@@ -1,11 +1,13 @@
 -- What the words behind the program's name ask for: the options that there are, and what each word
 -- is to them by clap's `subcommand_of`, or what is wrong with the words by its `fault_of`.
-use Rattle.std.specs.Prelude.{◌≡◌, ◌≢◌, ◌⊎◌, Bool, List, [], ◌∷◌, ◌++◌, Option, None, Some, codes, false, if◌then◌else◌, map, true}
+use Rattle.std.specs.Prelude.{◌≡◌, ◌≢◌, ◌⊎◌, Bool, List, [], ◌∷◌, ◌++◌, Option, None, Some, codes, false, fold, if◌then◌else◌, map, true}
 use Rattle.std.specs.Option.{option_map, option_to_list}
 use Rattle.std.specs.Str.{bytes_eq}
-use Rattle.clap.specs.Words.{App, Kinds, Row, Rule, Shape, Text, fault_of, first_of, new_app, new_rule, subcommand_of, with_subcommand}
+use Rattle.clap.specs.Words.{App, Kinds, Row, Rule, Shape, Text, fault_of, first_of, new_app, new_rule, shape_of, subcommand_of, with_subcommand}
 use Rattle.clap.specs.Simple.{new_shape, on_top}
 use Rattle.clap.specs.declared.builder.action.ArgAction.TheVariants.{Append, Set}
+use Rattle.clap.specs.declared.builder.command.Command.{Command}
+use Rattle.clap.specs.declared.builder.command.Command.TheViews.{out-Command as fields_of}
 use Rattle.idl_driver.specs.Parsed.{IsDisplay, IsRefusal, Tells}
 use Rattle.idl_driver.specs.Words.{AreOptionsOf, file_rule, flag_rule, option_rules, stands, values_of}
 use Rattle.idl_driver.specs.declared.options.Options.{Options}
@@ -109,16 +111,18 @@ bare = on_top (λ top. record top {
   arg_required_else_help = true;
 }) (new_app (codes "idltool"))
 
+abbrev pub subcommand_shapes : List Shape
+subcommand_shapes =
+    explain_shape ∷ deps_shape ∷ check_shape ∷ json_shape ∷ diff_shape ∷ lsp_shape ∷ []
+
 -- the program
 unfoldable pub idltool : App
-idltool =
-    with_subcommand
-    (with_subcommand
-    (with_subcommand
-    (with_subcommand (with_subcommand (with_subcommand bare explain_shape) deps_shape) check_shape)
-    json_shape)
-    diff_shape)
-    lsp_shape
+idltool = fold with_subcommand bare subcommand_shapes
+
+-- a command has this shape, and its arguments are its own
+abbrev pub IsSubcommand : Command → Shape → Type 0
+IsSubcommand command shape =
+    (shape_of command ≡ shape) × ((fields_of command).has_globals ≡ false)
 
 -- the subcommand that words name and what clap finds for its options, and what it tells of words
 -- that it doesn't take

@@ -5,6 +5,7 @@
 #![tactic(auto)]
 
 mod check;
+mod commands;
 mod deps;
 mod diff;
 mod explain;
