@@ -5,6 +5,8 @@ mod ConditionLaws
 mod DirectiveLaws
 mod EndingLaws
 mod FormLaws
+mod OutwardLaws
+mod PairLaws
 mod PragmaLaws
 mod RankLaws
 mod SameLaws

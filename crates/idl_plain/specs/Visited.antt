@@ -75,6 +75,7 @@ unfound AsOperand w = record w { values = with_operand None w.values }
 unfound AsDiscriminator w = record w { unions = no_labels None 0 ∷ w.unions }
 unfound other w = w
 
+-- the same, with its fault at the part that has it
 abbrev pub unfound_at : Walk → Use → ScopedName → NameFault → Visit
 unfound_at w way name (At why part) = record {
   faults = fault_at (part_at w.at name part) (name_code why) ∷ [];

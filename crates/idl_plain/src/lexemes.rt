@@ -1,9 +1,10 @@
 //! The laws of tokens by how they are spelled.
 
-ghost use Rattle.std.specs.Prelude.{◌≡◌, ◌∷◌, Bool, List, None, Option, Some, is_some, map, nat_eq, ℕ, if◌then◌else◌};
+ghost use Rattle.std.specs.Prelude.{◌≡◌, ◌∷◌, [], Bool, List, None, Option, Some, is_some, map, nat_eq, ℕ, if◌then◌else◌};
 ghost use Rattle.std.specs.List.{list_all};
 ghost use Rattle.std.specs.Option.{unwrap_or};
 ghost use Rattle.std.specs.Str.{bytes_eq};
+ghost use Rattle.idl_lex.specs.bytes.Piece.{is_pair};
 ghost use Rattle.idl_lex.specs.kinds.Keywords.{like_keyword};
 ghost use Rattle.idl_lex.specs.kinds.Kind.{is_fraction, other_kind, unmarked_kind, word_kind};
 ghost use Rattle.idl_lex.specs.kinds.Literal.{all_good, body_of, characters, literal_kind};
@@ -28,5 +29,6 @@ pub fn spellings()
         ] }
     ensures values { (cs : List (Option ℕ)) → all_good cs
         ≡ (if list_all is_some cs then Some (map (λ c. unwrap_or c 0) cs) else None) }
+    ensures pairs { (a b : ℕ) → is_pair a b ≡ is_some (mark_kind (a ∷ b ∷ [])) }
     ensures lone { (text : Option (List ℕ)) → one_character text ≡ lone_in text }
 {}

@@ -9,6 +9,7 @@ mod directives;
 mod forms;
 mod laws;
 mod lexemes;
+mod paths;
 mod tables;
 mod visits;
 
@@ -16,6 +17,7 @@ pub use directives::{files, macros};
 pub use forms::{beginnings, kinds, tests};
 pub use laws::{additions, answers, conditions, pragmas, sameness, units};
 pub use lexemes::spellings;
+pub use paths::outward;
 pub use tables::{
     allowances, codes, declarations, expressions, literals, marks, numbers, operators, ranks,
     steps, tokens, types, uses,

@@ -1,3 +1,4 @@
+use Rattle.idl_plain.proofs.PairLaws.{pairs-told}
 use Rattle.idl_plain.proofs.SpellingLaws.{good-told, literals-told, lone-told, others-told, words-told}
 use Rattle.idl_plain.proofs.lexemes.spellings.Goals as goal
 
@@ -15,3 +16,6 @@ returns-clause-values c = good-told
 
 pub returns-clause-lone : goal.returns-clause-lone
 returns-clause-lone c = lone-told
+
+pub returns-clause-pairs : goal.returns-clause-pairs
+returns-clause-pairs c = pairs-told
